@@ -1,7 +1,7 @@
 -- Which faults are those of a call of the input or the output. They come just where one failed.
 use Rattle.std.specs.Prelude.{◌≡◌, ◌⊎◌, Result, Err}
 use Rattle.streams.specs.Tally.{Exhausts, IsServed}
-use Rattle.streams.specs.declared.patience.TheConstants.{INTERRUPTIONS}
+use Rattle.streams.specs.declared.retry_budget.TheConstants.{INTERRUPTIONS}
 use Rattle.streams.specs.declared.tally.Tally.{Tally}
 use Rattle.trace_read.specs.declared.fault.TraceFault.TheVariants as trace
 use Rattle.debug_commands.specs.declared.fault.DebugFault.TheVariants as debug

@@ -3,7 +3,7 @@ use Rattle.std.specs.Prelude.{◌⊎◌, ℕ, List, ◌++◌, Option, codes}
 use Rattle.std.specs.Io.KnownBytes.{Appends}
 use Rattle.streams.specs.Part.{AppendsPart}
 use Rattle.streams.specs.Tally.{Exhausts}
-use Rattle.streams.specs.declared.patience.TheConstants.{INTERRUPTIONS}
+use Rattle.streams.specs.declared.retry_budget.TheConstants.{INTERRUPTIONS}
 use Rattle.streams.specs.declared.tally.Tally.{Tally}
 use Rattle.trace_read.specs.FaultText.{trace_fault_text}
 use Rattle.journal_text.specs.FaultText.{journal_fault_text}

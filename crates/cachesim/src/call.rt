@@ -2,7 +2,7 @@
 ghost use Rattle.std.specs.Prelude.{◌≡◌, ◌≢◌, ◌≤◌, ◌⊎◌, map, true};
 ghost use Rattle.clap.specs.Words.{kind_of};
 ghost use Rattle.streams.specs.Tally.{Exhausts, IsServed};
-ghost use Rattle.streams.specs.declared.patience.TheConstants.{INTERRUPTIONS};
+ghost use Rattle.streams.specs.declared.retry_budget.TheConstants.{INTERRUPTIONS};
 ghost use Rattle.cachesim.specs.CallFaults.{AreServed, BlamesCalls};
 ghost use Rattle.cachesim.specs.FaultLine.{IsReported};
 ghost use Rattle.cachesim.specs.FaultCauses.{EndsInFault};

@@ -19,7 +19,7 @@ use crate::grammar;
 use crate::text::{push_counts_line, push_pieces};
 use crate::timeline::Timeline;
 use std::alloc::{AllocError, Global};
-use streams::{CountedRead, CountedWrite, Patience, WriteAllFault, flush, read_some, write_some};
+use streams::{CountedRead, CountedWrite, RetryBudget, WriteAllFault, flush, read_some, write_some};
 
 /// The most bytes of commands that are read, line feeds included: 2^20.
 pub const MAX_COMMAND_BYTES: usize = 1 << 20;
@@ -61,8 +61,8 @@ pub fn answer_commands<T: Timeline, R: CountedRead, W: CountedWrite>(
     let mut line = Vec::new(alloc);
     let mut text = Vec::new(alloc);
     let mut room = MAX_COMMAND_BYTES;
-    let mut reads = Patience::new();
-    let mut writes = Patience::new();
+    let mut reads = RetryBudget::new();
+    let mut writes = RetryBudget::new();
     'lines: loop {
         line.clear();
         text.clear();
@@ -90,7 +90,7 @@ fn read_line<R: CountedRead>(
     input: &mut R,
     text: &mut Vec<u8>,
     room: &mut usize,
-    patience: &mut Patience,
+    budget: &mut RetryBudget,
 ) -> Result<bool, DebugFault>
     requires { text.old.items ≡ [] }
     ensures read { IfOk result (λ fed.
@@ -103,13 +103,13 @@ fn read_line<R: CountedRead>(
     ensures config { (i : ℕ) → result ≡ Err (DebugFault.Config i) → ⊥ }
     ensures unwritten { result ≢ Err DebugFault.Write }
     ensures spent { result ≢ Err DebugFault.Read
-        → Spends patience.old patience.new (R.tally input.old) (R.tally input.new) }
+        → Spends budget.old budget.new (R.tally input.old) (R.tally input.new) }
     ensures exhausted { result ≡ Err DebugFault.Read
-        → Exhausts patience.old (R.tally input.old) (R.tally input.new) }
+        → Exhausts budget.old (R.tally input.old) (R.tally input.new) }
 {
     let mut byte = [0u8; 1];
     'bytes: loop {
-        let count = read_some(input, &mut byte, patience)?;
+        let count = read_some(input, &mut byte, budget)?;
         if count == 0 {
             return Ok(false);
         }
@@ -124,19 +124,19 @@ fn read_line<R: CountedRead>(
     }
 }
 
-// Writes an answer and flushes. Both share the patience.
+// Writes an answer and flushes. Both share the budget.
 fn send<W: CountedWrite>(
     out: &mut W,
     text: &[u8],
-    patience: &mut Patience,
+    budget: &mut RetryBudget,
 ) -> Result<(), WriteAllFault>
     ensures bytes { OnOk result (Appends (W.contents out.old) (W.contents out.new) text.now) }
     ensures flushed { OnOk result (W.is_flushed out.new ≡ true) }
-    ensures spent { OnOk result (Spends patience.old patience.new (W.tally out.old) (W.tally out.new)) }
-    ensures exhausted { OnErr result (Exhausts patience.old (W.tally out.old) (W.tally out.new)) }
+    ensures spent { OnOk result (Spends budget.old budget.new (W.tally out.old) (W.tally out.new)) }
+    ensures exhausted { OnErr result (Exhausts budget.old (W.tally out.old) (W.tally out.new)) }
 {
-    write_some(out, text, patience)?;
-    flush(out, patience)
+    write_some(out, text, budget)?;
+    flush(out, budget)
 }
 
 // Adds the answer to a line.

@@ -15,7 +15,7 @@ use super::line_text::{MAX_LINE, push_bytes, push_count_line, push_entry_line};
 use journal::Session;
 use std::alloc::Global;
 use step_record::{Engine, Reply, Step};
-use streams::{CountedWrite, Patience, WriteAllFault, flush, write_some};
+use streams::{CountedWrite, RetryBudget, WriteAllFault, flush, write_some};
 
 // How many bytes are gathered before they are written.
 const BUFFER: usize = 65_536;
@@ -41,12 +41,12 @@ pub fn write_journal<E: Engine<Step = Step, Reply = Reply>, W: CountedWrite>(
     ensures tally { FailsWhere (result ≡ Err WriteFault.Write) (W.tally writer.old) (W.tally writer.new) }
 {
     let mut text = Vec::with_capacity(alloc, BUFFER)?;
-    let mut patience = Patience::new();
-    write_entries(session, writer, &mut text, &mut patience)?;
-    make_room_for_line(writer, &mut text, &mut patience)?;
+    let mut budget = RetryBudget::new();
+    write_entries(session, writer, &mut text, &mut budget)?;
+    make_room_for_line(writer, &mut text, &mut budget)?;
     push_count_line(&mut text, session.len() as u64);
-    write_some(writer, text.as_slice(), &mut patience)?;
-    flush(writer, &mut patience)?;
+    write_some(writer, text.as_slice(), &mut budget)?;
+    flush(writer, &mut budget)?;
     Ok(())
 }
 
@@ -55,7 +55,7 @@ fn write_entries<E: Engine<Step = Step, Reply = Reply>, W: CountedWrite>(
     session: &Session<E>,
     writer: &mut W,
     text: &mut Vec<u8>,
-    patience: &mut Patience,
+    budget: &mut RetryBudget,
 ) -> Result<(), WriteAllFault>
     requires empty { text.old.items ≡ [] }
     requires room { BUFFER ≤ vec_capacity text.old }
@@ -65,12 +65,12 @@ fn write_entries<E: Engine<Step = Step, Reply = Reply>, W: CountedWrite>(
         (begun Two session.now.kept)) }
     ensures room { OnOk result (BUFFER ≤ vec_capacity text.new) }
     ensures fit { OnOk result (AreFit session.now.kept) }
-    ensures spent { OnOk result (Spends patience.old patience.new (W.tally writer.old) (W.tally writer.new)) }
-    ensures exhausted { OnErr result (Exhausts patience.old (W.tally writer.old) (W.tally writer.new)) }
+    ensures spent { OnOk result (Spends budget.old budget.new (W.tally writer.old) (W.tally writer.new)) }
+    ensures exhausted { OnErr result (Exhausts budget.old (W.tally writer.old) (W.tally writer.new)) }
 {
     push_bytes(text, b"cachesim journal 2\n");
     for n in 0..session.len() {
-        make_room_for_line(writer, text, patience)?;
+        make_room_for_line(writer, text, budget)?;
         match session.entry(n + 1) {
             Some(entry) => push_entry_line(text, entry),
             None => unreachable!(),
@@ -83,7 +83,7 @@ fn write_entries<E: Engine<Step = Step, Reply = Reply>, W: CountedWrite>(
 fn make_room_for_line<W: CountedWrite>(
     writer: &mut W,
     text: &mut Vec<u8>,
-    patience: &mut Patience,
+    budget: &mut RetryBudget,
 ) -> Result<(), WriteAllFault>
     requires { BUFFER ≤ vec_capacity text.old }
     ensures room { OnOk result (vec_len text.new + MAX_LINE ≤ vec_capacity text.new) }
@@ -91,11 +91,11 @@ fn make_room_for_line<W: CountedWrite>(
     ensures written { OnOk result (IsTextWritten (W.contents writer.old) (W.contents writer.new) text.new.items
         text.old.items) }
     ensures part { OnErr result (AppendsPart (W.contents writer.old) (W.contents writer.new) text.old.items) }
-    ensures spent { OnOk result (Spends patience.old patience.new (W.tally writer.old) (W.tally writer.new)) }
-    ensures exhausted { OnErr result (Exhausts patience.old (W.tally writer.old) (W.tally writer.new)) }
+    ensures spent { OnOk result (Spends budget.old budget.new (W.tally writer.old) (W.tally writer.new)) }
+    ensures exhausted { OnErr result (Exhausts budget.old (W.tally writer.old) (W.tally writer.new)) }
 {
     if text.len() > BUFFER - MAX_LINE {
-        write_some(writer, text.as_slice(), patience)?;
+        write_some(writer, text.as_slice(), budget)?;
         text.clear();
     }
     Ok(())

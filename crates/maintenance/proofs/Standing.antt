@@ -1,17 +1,14 @@
 -- What the core's step ensures gives what the engine promises of every reachable state.
-use Rattle.std.proofs.Common.{◌≡◌, ◌+◌, Some, ap, subst, sym, ◌∙◌, Ok, Err, Result}
+use Rattle.std.proofs.Common.{◌≡◌, ◌+◌, Some, subst, sym, Ok, Err, Result}
 use Rattle.std.specs.Prelude.{IfOk, OnErr}
 use Rattle.step_record.specs.declared.engine.StepFault.{StepFault}
 use Rattle.step_record.specs.declared.step.Step.{Step}
 use Rattle.step_record.specs.declared.step.Reply.{Reply}
 use Rattle.step_record.specs.Pace.{words_of_halvings}
 use Rattle.admission.specs.Frequency.{pace_of}
-use Rattle.shell_model.specs.declared.stats.Counted.{Counted}
-use Rattle.shell_model.specs.declared.record.Change.{Change}
 use Rattle.shell_model.specs.declared.record.ShellRecord.{ShellRecord}
 use Rattle.shell_model.specs.Shell.{Shell, act}
-use Rattle.shell_model.specs.ShellStats.{counted_of}
-use Rattle.shell_model.specs.Records.{undone_step, change_of, count_in, shell_record_of, record_size}
+use Rattle.shell_model.specs.Records.{undone_step, shell_record_of, record_size}
 use Rattle.shell_model.specs.ReachableShell.{IsReachable, ShellFits}
 use Rattle.shell_model.proofs.Reached.{record-law, reached-on}
 use Rattle.shell_model.proofs.Engines.{step_weighs}
@@ -22,15 +19,6 @@ Answer = Result (Reply × ShellRecord) StepFault
 pub stands-after : (x y : Shell) (s : Step) (o : Answer) → IsReachable x → IfOk o (λ r. act x s ≡ Some (r.0, y)) → OnErr o (y ≡ x) → IsReachable y
 stands-after x y s (Err f) h some err = subst IsReachable (sym err) h
 stands-after x y s (Ok r) h some err = reached-on x y s r.0 h some
-
-same-record : (m : ShellRecord) (n : Counted) (c : Change) → m.counted ≡ n → m.change ≡ c → m ≡ (let d : ShellRecord = record { counted = n; change = c } in d)
-same-record m n c e f =
-    ap (λ (q : Counted). let k : ShellRecord = record { counted = q; change = m.change } in k) e ∙ ap (λ (d : Change). let k : ShellRecord = record { counted = n; change = d } in k) f
-
--- the record that is returned is that of the definition
-pub record-after : (x y : Shell) (s : Step) (o : Answer) → IfOk o (λ r. act x s ≡ Some (r.0, y)) → IfOk o (λ r. r.1.counted ≡ counted_of r.0) → IfOk o (λ r. r.1.change ≡ change_of s.worker s.act x) → IfOk o (λ r. r.1 ≡ shell_record_of s x)
-record-after x y s (Err f) some counted change = tt
-record-after x y s (Ok r) some counted change = same-record r.1 (count_in (act x s)) (change_of s.worker s.act x) (counted ∙ sym (ap count_in some)) change
 
 pub fits-after : (x y : Shell) (s : Step) (o : Answer) → IsReachable x → IfOk o (λ r. act x s ≡ Some (r.0, y)) → IfOk o (λ r. r.1 ≡ shell_record_of s x) → IfOk o (λ r. ShellFits r.1 y)
 fits-after x y s (Err f) h some is = tt

@@ -1,14 +1,15 @@
--- The oldest task of the write queue: what applying it comes to, whatever queue and holder stand round it.
-use Rattle.std.proofs.Common.{arith, ◌≡◌, ℕ, ◌≤◌, ◌-◌, false, eqb, Option, Some, None, List, [], ◌∷◌, length, refl, sym, ◌∙◌, inl, inr}
+-- The oldest task of the write queue: what applying it comes to.
+use Rattle.std.proofs.Common.{arith, ◌≡◌, ℕ, ◌≤◌, true, false, eqb, Option, Some, None, List, [], ◌∷◌, length, drop, refl, sym, ◌∙◌, inl, inr}
 use Rattle.std.proofs.lemmas.Bool.{cases_Bool, eqb-true}
 use Rattle.std.specs.Prelude.{IfNone, IfSome, get_or}
-use Rattle.step_record.specs.declared.step.Reply.{Reply}
-use Rattle.step_record.specs.declared.drain.Phase.TheVariants.{Writes}
+use Rattle.step_record.specs.declared.step.Act.TheVariants.{DrainWrite}
+use Rattle.step_record.specs.declared.drain.Phase.{Phase}
 use Rattle.shell_buffers.specs.declared.task.Task.{Task}
 use Rattle.shell_buffers.specs.declared.task.Task.TheVariants.{Add, Update, Remove}
 use Rattle.shell_model.specs.declared.holder.Holder.{Holder}
-use Rattle.shell_model.specs.Shell.{Shell, apply_task, drain_write, held_by}
-use Rattle.shell_model.specs.Records.{if_held, task_change, write_change}
+use Rattle.shell_model.specs.Changes.{after_change, shell_after_task, without_task}
+use Rattle.shell_model.specs.Shell.{Shell, act_reply, held_by, may_write, task_reply}
+use Rattle.maintenance.specs.Performing.{HasTask}
 
 pub held-is : (w : ℕ) (o : Option Holder) (h : Holder) → held_by w o ≡ Some h → o ≡ Some h
 held-is w None h e = absurd (cc e)
@@ -18,33 +19,35 @@ held-is w (Some k) h e =
       | inr q ↦ absurd (let no : None ≡ Some h = rw q at e in cc no)
     ]
 
-task-frame : (t : Task) (x : Shell) (ts : List Task) (h : Option Holder)
-    → apply_task t (record x { writes = ts; holder = h }) ≡ ((apply_task t x).0, record (apply_task t x).1 { writes = ts; holder = h })
-task-frame (Add i) x ts h = refl
-task-frame (Update i) x ts h = refl
-task-frame (Remove i) x ts h = refl
+pub has-task : (o : Option Holder) (h : Holder) → o ≡ Some h → (h.left ≡ 0 → ⊥) → HasTask o
+has-task o h e l = rw e (some h.left l)
+  where
+    some : (n : ℕ) → (n ≡ 0 → ⊥) → 1 ≤ n
+    some n l = elim (cases_Bool (eqb n 0)) as (λ _. 1 ≤ n) [ inl q ↦ absurd (l (eqb-true n 0 q)) | inr q ↦ omega (arith, l) ]
 
-pub task-writes : (t : Task) (x : Shell) → (apply_task t x).1.writes ≡ x.writes
-task-writes (Add i) x = refl
-task-writes (Update i) x = refl
-task-writes (Remove i) x = refl
+-- the queue without its oldest
+pub oldest-taken : (o : Option Task) (ws ts : List Task) → IfNone o (ws ≡ [] × ts ≡ []) → IfSome o (λ t. ws ≡ t ∷ ts) → ts ≡ drop 1 ws
+oldest-taken None ws ts n s = rw (n.0, n.1) refl
+oldest-taken (Some t) ws ts n s = rw s refl
 
-pub oldest-task : (o : Option Task) (ws vs ts : List Task) (d : Task) → ws ≡ vs → 1 ≤ length vs → IfNone o (ws ≡ [] × ts ≡ [])
-    → IfSome o (λ t. ws ≡ t ∷ ts) → vs ≡ get_or vs 0 d ∷ ts
-oldest-task None ws vs ts d e l n s = absurd (let z : vs ≡ [] = sym e ∙ n.0 in let no : 1 ≤ 0 = rw z at l in omega (arith, no))
-oldest-task (Some t) ws vs ts d e l n s = let k : vs ≡ t ∷ ts = rw e at s in rw k refl
-
-left-some : (n : ℕ) → (n ≡ 0 → ⊥) → eqb n 0 ≡ false
-left-some n h = elim (cases_Bool (eqb n 0)) as (λ _. eqb n 0 ≡ false) [ inl q ↦ absurd (h (eqb-true n 0 q)) | inr q ↦ q ]
+pub with-oldest : (l : List Task) (d : Task) → 1 ≤ length l → l ≡ get_or l 0 d ∷ drop 1 l
+with-oldest [] d n = absurd (omega (arith, n))
+with-oldest (t ∷ ts) d n = refl
 
 -- it is the definition's
-pub task-applies : (x y : Shell) (h : Holder) (t : Task) (ts : List Task) (r : Reply) → x.writes ≡ t ∷ ts → (h.left ≡ 0 → ⊥)
-    → r ≡ (apply_task t x).0 → y ≡ (apply_task t x).1
-    → drain_write h x.writes x ≡ (r, record y { writes = ts; holder = Some record { worker = h.worker; phase = Writes; left = h.left - 1 } })
-task-applies x y h t ts r w l hr hy =
-    rw (w, left-some h.left l, hr, hy) (task-frame t x ts (Some record { worker = h.worker; phase = Writes; left = h.left - 1 }))
+pub task-replies : (w : ℕ) (x : Shell) (h : Holder) (t : Task) (ts : List Task) → held_by w x.holder ≡ Some h → may_write h.phase ≡ true → x.writes ≡ t ∷ ts → (h.left ≡ 0 → ⊥)
+    → act_reply w DrainWrite x ≡ Some (task_reply h.phase t x)
+task-replies w x h t ts e m q l = rw (e, m, q, left-some h.left l) refl
+  where
+    left-some : (n : ℕ) → (n ≡ 0 → ⊥) → eqb n 0 ≡ false
+    left-some n h = elim (cases_Bool (eqb n 0)) as (λ _. eqb n 0 ≡ false) [ inl q ↦ absurd (h (eqb-true n 0 q)) | inr q ↦ q ]
 
--- and so is its record
-pub task-changes : (x : Shell) (h : Holder) (t : Task) (ts : List Task) → x.holder ≡ Some h → x.writes ≡ t ∷ ts → (h.left ≡ 0 → ⊥)
-    → if_held (λ k. write_change k x.writes x) x.holder ≡ task_change h.phase t x
-task-changes x h t ts e w l = rw (e, w, left-some h.left l) refl
+pub task-leaves : (t : Task) (p : Phase) (x : Shell) → without_task (shell_after_task t x) ≡ after_change (task_reply p t x).1 x
+task-leaves (Add i) p x = refl
+task-leaves (Update i) p x = refl
+task-leaves (Remove i) p x = refl
+
+pub task-holder : (t : Task) (x : Shell) → (shell_after_task t x).holder ≡ x.holder
+task-holder (Add i) x = refl
+task-holder (Update i) x = refl
+task-holder (Remove i) x = refl

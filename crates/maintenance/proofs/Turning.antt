@@ -1,14 +1,18 @@
--- An act leaves the statistics and the count of steps to what comes round it.
-use Rattle.std.proofs.Common.{◌≡◌, ℕ, Some}
-use Rattle.step_record.specs.declared.step.Act.{Act}
-use Rattle.step_record.specs.declared.step.Reply.{Reply}
-use Rattle.shell_model.specs.Shell.{Shell, act_effect}
-use Rattle.shell_model.proofs.Making.{MakesTo, perform-makes}
-use Rattle.shell_model.proofs.Histories.{stats-step}
-use Rattle.shell_model.proofs.Bounding.{applied-step}
+-- A change leaves the statistics and the count of steps to what comes round it.
+use Rattle.std.proofs.Common.{◌≡◌, true, false, refl}
+use Rattle.shell_model.specs.declared.record.Change.{Change}
+use Rattle.shell_model.specs.declared.record.Change.TheVariants.{Nothing, Applied}
+use Rattle.shell_model.specs.Changes.{after_change}
+use Rattle.shell_model.specs.Shell.{Shell}
 
-pub perform-stats : (w : ℕ) (b : Act) (x : Shell) (p : Reply × Shell) → act_effect w b x ≡ Some p → p.1.stats ≡ x.stats
-perform-stats w b x p e = let m : MakesTo w x b (Some p) = rw e at (perform-makes w x b) in stats-step x w b p.0 p.1 m
+pub same-stats : (c : Change) (x : Shell) → (after_change c x).stats ≡ x.stats
+same-stats Nothing x = refl
+same-stats (Applied p true i u) x = refl
+same-stats (Applied p false i u) x = refl
+same-stats c x = refl
 
-pub perform-applied : (w : ℕ) (b : Act) (x : Shell) (p : Reply × Shell) → act_effect w b x ≡ Some p → p.1.applied ≡ x.applied
-perform-applied w b x p e = let m : MakesTo w x b (Some p) = rw e at (perform-makes w x b) in applied-step x w b p.0 p.1 m
+pub same-applied : (c : Change) (x : Shell) → (after_change c x).applied ≡ x.applied
+same-applied Nothing x = refl
+same-applied (Applied p true i u) x = refl
+same-applied (Applied p false i u) x = refl
+same-applied c x = refl

@@ -1,16 +1,26 @@
 -- What performing an act makes, and which acts may be out of memory.
-use Rattle.std.specs.Prelude.{◌≡◌, ℕ, Option, Some, None}
+use Rattle.std.specs.Prelude.{◌≡◌, ℕ, ◌≤◌, Option, Some, None}
 use Rattle.step_record.specs.declared.step.Act.{Act}
 use Rattle.step_record.specs.declared.step.Act.TheVariants.{Put, DrainRead, DrainWrite}
 use Rattle.step_record.specs.declared.step.Reply.{Reply}
+use Rattle.shell_model.specs.declared.holder.Holder.{Holder}
 use Rattle.shell_model.specs.declared.record.Change.{Change}
-use Rattle.shell_model.specs.Shell.{Shell, act_effect}
-use Rattle.shell_model.specs.Records.{change_of}
+use Rattle.shell_model.specs.Changes.{after_change}
+use Rattle.shell_model.specs.Shell.{Shell, act_reply}
 
--- the reply of worker w's act and what it changed; none where it may not come now, and then nothing has changed
+-- what the change leaves; the shell as it was where the act may not come now
+abbrev pub after_reply : Option (Reply × Change) → Shell → Shell
+after_reply None x = x
+after_reply (Some p) x = after_change p.1 x
+
+-- the reply of worker w's act and what it changed
 abbrev pub IsPerformed : ℕ → Act → Shell → Option (Reply × Change) → Shell → Type 0
-IsPerformed w a old None new = (act_effect w a old ≡ None) × (new ≡ old)
-IsPerformed w a old (Some r) new = (act_effect w a old ≡ Some (r.0, new)) × (r.1 ≡ change_of w a old)
+IsPerformed w a old o new = (act_reply w a old ≡ o) × (new ≡ after_reply o old)
+
+-- a task more may be applied
+abbrev pub HasTask : Option Holder → Type 0
+HasTask None = Unit {0}
+HasTask (Some h) = 1 ≤ h.left
 
 -- the act may be out of memory: it takes room for a node of the table, for an item of the queues, or for what a halving
 -- of the sketch lost

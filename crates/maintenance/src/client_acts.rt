@@ -1,12 +1,10 @@
 //! What readers and writers do.
-ghost use Rattle.std.specs.Prelude.{◌≡◌, ◌<◌, nat_lt, cond, length, Some, None, IfOk, OnOk, OnErr};
+ghost use Rattle.std.specs.Prelude.{◌≡◌, ◌<◌, length, Some, None, IfOk, OnErr};
 ghost use Rattle.step_record.specs.declared.limits.TheConstants.{MAX_STEPS};
-ghost use Rattle.shell_buffers.specs.declared.stripes.TheConstants.{MAX_ITEMS};
-ghost use Rattle.shell_buffers.specs.Buffers.{stripe_at};
-ghost use Rattle.shell_model.specs.declared.record.Change.TheVariants.{Nothing, Offered, Requested};
-ghost use Rattle.shell_model.specs.Shell.{look_reply, node_of, put_effect, remove_effect, begin_effect, offer_effect};
+ghost use Rattle.shell_model.specs.declared.record.Change.TheVariants.{Requested};
+ghost use Rattle.shell_model.specs.Changes.{after_change};
+ghost use Rattle.shell_model.specs.Shell.{look_reply, node_of, put_reply, remove_at, begin_reply, offer_reply};
 ghost use Rattle.shell_model.specs.Shell.{after_write, after_read, held_by};
-ghost use Rattle.shell_model.specs.Records.{put_change, remove_change, begin_change};
 
 use crate::shell_core::ShellCore;
 use shell_buffers::{MAX_TASKS, Task};
@@ -26,10 +24,8 @@ impl ShellCore {
 
     pub(crate) fn offer(&mut self, stripe: u8, item: Item) -> (Reply, Change)
         requires { stripe < length self.old.stripes }
-        ensures reply { result.0 ≡ (offer_effect stripe item self.old).0 }
-        ensures state { self.new ≡ (offer_effect stripe item self.old).1 }
-        ensures change { result.1
-            ≡ cond (nat_lt (length (stripe_at stripe self.old.stripes)) MAX_ITEMS) (Offered stripe item) Nothing }
+        ensures made { result ≡ offer_reply stripe item self.old }
+        ensures state { self.new ≡ after_change result.1 self.old }
     {
         if self.stripes.offer(stripe, item) {
             (Reply::Kept, Change::Offered { stripe, item })
@@ -40,10 +36,8 @@ impl ShellCore {
 
     pub(crate) fn put(&mut self, key: Key) -> Result<(Reply, Change), AllocError>
         requires { self.old.next < MAX_STEPS }
-        ensures made { IfOk result (λ r. (r.0 ≡ (put_effect key self.old).0) × (r.1
-            ≡ cond (nat_lt (length self.old.writes) MAX_TASKS) (put_change key (node_of key self.old.table) self.old)
-            Nothing)) }
-        ensures state { OnOk result (self.new ≡ (put_effect key self.old).1) }
+        ensures made { IfOk result (λ r. r ≡ put_reply key self.old) }
+        ensures state { IfOk result (λ r. self.new ≡ after_change r.1 self.old) }
         ensures err { OnErr result (self.new ≡ self.old) }
     {
         if self.writes.tasks().len() >= MAX_TASKS {
@@ -67,9 +61,8 @@ impl ShellCore {
     }
 
     pub(crate) fn remove(&mut self, key: Key) -> (Reply, Change)
-        ensures made { (result.0 ≡ (remove_effect key self.old).0)
-            × (result.1 ≡ remove_change key (node_of key self.old.table) self.old) }
-        ensures state { self.new ≡ (remove_effect key self.old).1 }
+        ensures made { result ≡ remove_at key (node_of key self.old.table) self.old }
+        ensures state { self.new ≡ after_change result.1 self.old }
     {
         match self.table.node_of(key) {
             None => (Reply::Absent, Change::Nothing),
@@ -100,9 +93,9 @@ impl ShellCore {
     }
 
     pub(crate) fn after_write(&mut self) -> (Reply, Change)
-        ensures reply { result.0 ≡ (after_write self.old.drain).0 }
-        ensures state { self.new ≡ record self.old { drain = (after_write self.old.drain).1 } }
-        ensures change { result.1 ≡ Requested self.old.drain (after_write self.old.drain).1 }
+        ensures made { result
+            ≡ ((after_write self.old.drain).0, Requested self.old.drain (after_write self.old.drain).1) }
+        ensures state { self.new ≡ after_change result.1 self.old }
     {
         let before = self.drain;
         let (reply, now) = match before {
@@ -116,9 +109,8 @@ impl ShellCore {
     }
 
     pub(crate) fn begin(&mut self, worker: Worker) -> (Reply, Change)
-        ensures reply { result.0 ≡ (begin_effect worker self.old.holder self.old).0 }
-        ensures state { self.new ≡ (begin_effect worker self.old.holder self.old).1 }
-        ensures change { result.1 ≡ begin_change worker self.old.holder self.old }
+        ensures made { result ≡ begin_reply worker self.old.holder self.old }
+        ensures state { self.new ≡ after_change result.1 self.old }
     {
         if self.holder.is_some() {
             return (Reply::Busy, Change::Nothing);

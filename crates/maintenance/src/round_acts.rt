@@ -4,8 +4,6 @@ ghost use Rattle.std.specs.Prelude.{IfOk, IsSome, OnOk, OnErr};
 ghost use Rattle.step_record.specs.declared.item.Item.{Item as ItemValue};
 ghost use Rattle.step_record.specs.declared.limits.TheConstants.{MAX_STEPS};
 ghost use Rattle.step_record.specs.declared.step.Act.TheVariants as act;
-ghost use Rattle.step_record.specs.declared.drain.Phase.TheVariants as phase;
-ghost use Rattle.shell_buffers.specs.declared.write_tasks.TheConstants.{MAX_TASKS};
 ghost use Rattle.shell_buffers.specs.declared.task.Task.TheVariants.{Add};
 ghost use Rattle.shell_buffers.specs.Buffers.{stripe_at};
 ghost use Rattle.segments.specs.Queues.{IsDistinct, queue_holding};
@@ -14,15 +12,14 @@ ghost use Rattle.replacement.specs.Rules.{three_queues};
 ghost use Rattle.replacement.specs.PlanMoves.{queues_after, moves_of};
 ghost use Rattle.replacement.specs.KeptMoves.{IsKeepable};
 ghost use Rattle.shell_model.specs.Frequency.{frequency_recorded, shell_frequency_record};
-ghost use Rattle.shell_model.specs.Shell.{act_effect, apply_task, drain_at_end, drain_read, end_effect, evict_effect};
-ghost use Rattle.shell_model.specs.Shell.{in_phase, is_over};
-ghost use Rattle.shell_model.specs.Shell.{queues_cleared, reply_by, shell_after_touch, unlisted_by};
-ghost use Rattle.shell_model.specs.Records.{added_of, cleared_of, evict_change, leaves_table};
-ghost use Rattle.shell_model.specs.Records.{task_change, touched_of};
+ghost use Rattle.shell_model.specs.ShellState.{in_phase, is_over, queues_cleared, unlisted_by};
+ghost use Rattle.shell_model.specs.Changes.{after_change, shell_after_task, shell_after_touch, without_task};
+ghost use Rattle.shell_model.specs.Shell.{act_reply, added_of, cleared_of, end_reply, evict_change, evict_effect};
+ghost use Rattle.shell_model.specs.Shell.{leaves_table, read_reply, reply_by, task_reply, touched_of};
 ghost use Rattle.shell_model.specs.Consistency.{IsConsistent};
-ghost use Rattle.shell_model.specs.declared.record.Change.TheVariants.{Nothing, Passed, Ended};
 ghost use Rattle.maintenance.specs.EvictionPlan.{planned, item_out};
-ghost use Rattle.maintenance.specs.Performing.{IsPerformed};
+ghost use Rattle.shell_model.specs.declared.record.Change.TheVariants.{Passed};
+ghost use Rattle.maintenance.specs.Performing.{HasTask, IsPerformed};
 
 use crate::shell_core::ShellCore;
 use admission::{FreqRecord, Frequency};
@@ -42,7 +39,7 @@ impl ShellCore {
     ) -> Result<Option<(Reply, Change)>, AllocError>
         requires few { self.old.frequency.halvings ≤ MAX_STEPS }
         ensures performed { IfOk result (λ o. IsPerformed worker (act.DrainRead stripe) self.old o self.new) }
-        ensures err { OnErr result (IsSome (act_effect worker (act.DrainRead stripe) self.old) × (self.new ≡ self.old)) }
+        ensures err { OnErr result (IsSome (act_reply worker (act.DrainRead stripe) self.old) × (self.new ≡ self.old)) }
     {
         if !self.reads_stripe(worker, stripe) {
             return Ok(None);
@@ -64,51 +61,34 @@ impl ShellCore {
         requires sound { IsConsistent self.old }
         requires few { self.old.frequency.halvings ≤ MAX_STEPS }
         ensures performed { IfOk result (λ o. IsPerformed worker act.DrainWrite self.old o self.new) }
-        ensures err { OnErr result (IsSome (act_effect worker act.DrainWrite self.old) × (self.new ≡ self.old)) }
+        ensures err { OnErr result (IsSome (act_reply worker act.DrainWrite self.old) × (self.new ≡ self.old)) }
     {
         let holder = match self.held_by(worker) {
             Some(holder) if holder.phase != Phase::Evictions => holder,
             _ => return Ok(None),
         };
         let [task, ..] = self.writes.tasks() else {
-            return Ok(Some((Reply::Empty, self.pass_to_writes(holder))));
+            return Ok(Some((Reply::Empty, self.pass_on(holder.phase, Phase::Writes))));
         };
         if holder.left == 0 {
-            return Ok(Some((Reply::Enough, self.pass_to_writes(holder))));
+            return Ok(Some((Reply::Enough, self.pass_on(holder.phase, Phase::Writes))));
         }
         let task = *task;
         let made = self.apply_task(holder.phase, task)?;
-        let _ = self.writes.take_oldest();
-        self.holder = Some(Holder {
-            worker: holder.worker,
-            phase: Phase::Writes,
-            left: holder.left - 1,
-        });
+        self.take_task();
         Ok(Some(made))
     }
 
     /// Compares the item that has to leave the window with the victim, where the window is over its size.
     pub(crate) fn evict(&mut self, holder: Holder) -> (Reply, Change)
-        requires left { holder.left ≤ MAX_TASKS }
         requires distinct { IsDistinct self.old.queues }
-        ensures reply { result.0 ≡ (evict_effect (in_phase phase.Evictions holder self.old)).0 }
-        ensures state { self.new ≡ (evict_effect (in_phase phase.Evictions holder self.old)).1 }
-        ensures change { result.1 ≡ evict_change holder self.old }
+        ensures made { result ≡ ((evict_effect self.old).0, evict_change holder self.old) }
+        ensures state { self.new ≡ after_change result.1 self.old }
     {
         let before = holder.phase;
-        self.holder = Some(Holder {
-            worker: holder.worker,
-            phase: Phase::Evictions,
-            left: holder.left,
-        });
+        let passed = self.pass_on(before, Phase::Evictions);
         let Some(candidate) = self.candidate() else {
-            return (
-                Reply::Fits,
-                Change::Passed {
-                    before,
-                    now: Phase::Evictions,
-                },
-            );
+            return (Reply::Fits, passed);
         };
         let effect = carry_out(&mut self.queues, &self.frequency, &self.rules);
         let listed = self.unlist(effect.moves.out);
@@ -124,11 +104,8 @@ impl ShellCore {
 
     /// Ends the round, where the window is not over its size.
     pub(crate) fn end(&mut self, holder: Holder) -> (Reply, Change)
-        requires { self.old.holder ≡ Some holder }
-        ensures reply { result.0 ≡ (end_effect self.old).0 }
-        ensures state { self.new ≡ (end_effect self.old).1 }
-        ensures change { result.1
-            ≡ cond (is_over self.old) Nothing (Ended holder self.old.drain (drain_at_end self.old.drain).1) }
+        ensures made { result ≡ end_reply holder self.old }
+        ensures state { self.new ≡ after_change result.1 self.old }
     {
         if self.is_over() {
             return (Reply::NotYet, Change::Nothing);
@@ -155,9 +132,9 @@ impl ShellCore {
     // Whether the worker is in a round that still drains reads, and there is such a read buffer.
     fn reads_stripe(&self, worker: Worker, stripe: u8) -> bool
         ensures yes { result ≡ true → (stripe < length self.now.stripes)
-            × (act_effect worker (act.DrainRead stripe) self.now
-            ≡ Some (drain_read stripe (stripe_at stripe self.now.stripes) self.now)) }
-        ensures no { result ≡ false → act_effect worker (act.DrainRead stripe) self.now ≡ None }
+            × (act_reply worker (act.DrainRead stripe) self.now
+            ≡ Some (read_reply stripe (stripe_at stripe self.now.stripes) self.now)) }
+        ensures no { result ≡ false → act_reply worker (act.DrainRead stripe) self.now ≡ None }
     {
         match self.held_by(worker) {
             None => false,
@@ -189,7 +166,7 @@ impl ShellCore {
     fn enter_window(&mut self, item: Item) -> Result<UseRecord, AllocError>
         requires few { self.old.frequency.halvings ≤ MAX_STEPS }
         requires absent { queue_holding item self.old.queues ≡ None }
-        ensures state { OnOk result (self.new ≡ (apply_task (Add item) self.old).1) }
+        ensures state { OnOk result (self.new ≡ shell_after_task (Add item) self.old) }
         ensures made { IfOk result (λ r. r ≡ added_of item self.old) }
         ensures err { OnErr result (self.new ≡ self.old) }
     {
@@ -210,8 +187,8 @@ impl ShellCore {
     fn apply_task(&mut self, before: Phase, task: Task) -> Result<(Reply, Change), AllocError>
         requires few { self.old.frequency.halvings ≤ MAX_STEPS }
         requires absent { (item : ItemValue) → task ≡ Add item → queue_holding item self.old.queues ≡ None }
-        ensures made { IfOk result (λ r. (r.0 ≡ (apply_task task self.old).0) × (r.1 ≡ task_change before task self.old)) }
-        ensures state { OnOk result (self.new ≡ (apply_task task self.old).1) }
+        ensures made { IfOk result (λ r. r ≡ task_reply before task self.old) }
+        ensures state { OnOk result (self.new ≡ shell_after_task task self.old) }
         ensures err { OnErr result (self.new ≡ self.old) }
     {
         match task {
@@ -249,21 +226,25 @@ impl ShellCore {
         }
     }
 
-    // The round is at the write queue, where it applies no task.
-    fn pass_to_writes(&mut self, holder: Holder) -> Change
-        requires { holder.left ≤ MAX_TASKS }
-        ensures state { self.new ≡ in_phase phase.Writes holder self.old }
-        ensures change { result ≡ Passed holder.phase phase.Writes }
+    // The oldest task was applied.
+    fn take_task(&mut self)
+        requires { HasTask self.old.holder }
+        ensures { self.new ≡ without_task self.old }
     {
-        self.holder = Some(Holder {
-            worker: holder.worker,
-            phase: Phase::Writes,
-            left: holder.left,
-        });
-        Change::Passed {
-            before: holder.phase,
-            now: Phase::Writes,
+        let _ = self.writes.take_oldest();
+        if let Some(holder) = &mut self.holder {
+            holder.phase = Phase::Writes;
+            holder.left -= 1;
         }
+    }
+
+    // The round goes on to a phase.
+    fn pass_on(&mut self, before: Phase, now: Phase) -> Change
+        ensures made { result ≡ Passed before now }
+        ensures state { self.new ≡ in_phase now self.old }
+    {
+        self.set_phase(now);
+        Change::Passed { before, now }
     }
 
     // Whether the window is over its size.

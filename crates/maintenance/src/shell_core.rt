@@ -1,9 +1,9 @@
 //! The parts of the shell together, and one step of it.
 ghost use Rattle.std.specs.Prelude.{◌≡◌, ◌<◌, ◌≤◌, ◌↔◌, Some, None, IfOk, OnErr, Err, IsSome};
 ghost use Rattle.step_record.specs.declared.limits.TheConstants.{MAX_STEPS};
-ghost use Rattle.shell_model.specs.Shell.{act_effect, act as acted};
-ghost use Rattle.shell_model.specs.Records.{change_of};
-ghost use Rattle.shell_model.specs.ShellStats.{AreAtMost, counted_of};
+ghost use Rattle.shell_model.specs.Shell.{act as acted, act_reply, in_phase};
+ghost use Rattle.shell_model.specs.Records.{shell_record_of};
+ghost use Rattle.shell_model.specs.ShellStats.{AreAtMost};
 ghost use Rattle.shell_model.specs.Consistency.{IsConsistent};
 ghost use Rattle.maintenance.specs.Performing.{IsPerformed, MayAllocate};
 
@@ -15,7 +15,7 @@ use shell_buffers::{Stripes, WriteTasks};
 use shell_model::{Change, Counted, Holder, ShellRecord, ShellStats};
 use std::alloc::AllocError;
 use std::marker::Model;
-use step_record::{Act, Config, Drain, MAX_STEPS, Reply, Step, StepFault, Worker};
+use step_record::{Act, Config, Drain, MAX_STEPS, Phase, Reply, Step, StepFault, Worker};
 
 /// The state of a shell. Its invariant only bounds its numbers; the shell around it keeps that it is reachable.
 #[derive(Drop)]
@@ -69,8 +69,7 @@ impl ShellCore {
         requires counts { AreAtMost MAX_STEPS self.old.stats }
         requires few { self.old.frequency.halvings ≤ MAX_STEPS }
         ensures some { IfOk result (λ r. acted self.old step ≡ Some (r.0, self.new)) }
-        ensures counted { IfOk result (λ r. r.1.counted ≡ counted_of r.0) }
-        ensures change { IfOk result (λ r. r.1.change ≡ change_of step.worker step.act self.old) }
+        ensures record_is { IfOk result (λ r. r.1 ≡ shell_record_of step self.old) }
         ensures not_now { result ≡ Err StepFault.NotNow ↔ acted self.old step ≡ None }
         ensures memory { result ≡ Err StepFault.OutOfMemory → MayAllocate step.act }
         ensures err { OnErr result (self.new ≡ self.old) }
@@ -97,7 +96,7 @@ impl ShellCore {
         requires few { self.old.frequency.halvings ≤ MAX_STEPS }
         ensures performed { IfOk result (λ o. IsPerformed worker act self.old o self.new) }
         // Memory is missing only for an act that may come now, and nothing has changed then.
-        ensures err { OnErr result (IsSome (act_effect worker act self.old) × (self.new ≡ self.old)) }
+        ensures err { OnErr result (IsSome (act_reply worker act self.old) × (self.new ≡ self.old)) }
         ensures memory { OnErr result (MayAllocate act) }
     {
         match act {
@@ -131,6 +130,15 @@ impl ShellCore {
                 None => Ok(None),
                 Some(holder) => Ok(Some(self.end(holder))),
             },
+        }
+    }
+
+    // A round is at that phase.
+    pub(crate) fn set_phase(&mut self, phase: Phase)
+        ensures { self.new ≡ in_phase phase self.old }
+    {
+        if let Some(holder) = &mut self.holder {
+            holder.phase = phase;
         }
     }
 }

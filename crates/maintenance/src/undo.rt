@@ -1,8 +1,9 @@
 //! Undoing one step.
 ghost use Rattle.std.specs.Prelude.{◌≡◌, ◌≢◌, ◌<◌, Some, None, IfErr, OnOk, OnErr};
-ghost use Rattle.shell_model.specs.Records.{before_use, FitsTouched, holder_in_phase, holder_with_task, HasLeft};
-ghost use Rattle.shell_model.specs.Records.{before_change, FitsChange, undone_step, FitsStep};
-ghost use Rattle.shell_model.specs.Records.{change_asks, step_asks, written_task as task_of};
+ghost use Rattle.shell_model.specs.ShellState.{in_phase};
+ghost use Rattle.shell_model.specs.Changes.{before_change, before_use, change_asks, FitsChange, FitsTouched, HasLeft};
+ghost use Rattle.shell_model.specs.Changes.{holder_with_task, written_task as task_of};
+ghost use Rattle.shell_model.specs.Records.{FitsStep, step_asks, undone_step};
 ghost use Rattle.shell_model.specs.Consistency.{IsLeft};
 ghost use Rattle.shell_model.specs.Frequency.{FitsFrequency, frequency_unrecorded};
 ghost use Rattle.shell_model.specs.declared.record.Change.TheVariants.{Nothing, Offered, Updated, Added, Removed, Read};
@@ -62,7 +63,7 @@ impl ShellCore {
                 self.holder = None;
             }
             Change::Read { stripe, item, used } => self.undo_read(stripe, item, used),
-            Change::Passed { before, now: _ } => self.rephase(before),
+            Change::Passed { before, now: _ } => self.set_phase(before),
             Change::Applied {
                 before,
                 is_new,
@@ -98,15 +99,6 @@ impl ShellCore {
         let UseRecord { frequency, moves } = used;
         replacement::undo(&mut self.queues, moves.moves());
         unrecord_key(&mut self.frequency, frequency);
-    }
-
-    // The phase as before.
-    fn rephase(&mut self, before: Phase)
-        ensures { self.new ≡ record self.old { holder = holder_in_phase before self.old.holder } }
-    {
-        if let Some(holder) = &mut self.holder {
-            holder.phase = before;
-        }
     }
 
     // The phase as before, and a task more left.
@@ -178,7 +170,7 @@ impl ShellCore {
             }
         }
         replacement::undo(&mut self.queues, moves);
-        self.rephase(before);
+        self.set_phase(before);
         Ok(())
     }
 }

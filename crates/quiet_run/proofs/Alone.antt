@@ -15,7 +15,7 @@ use Rattle.step_record.specs.History.{Entries}
 use Rattle.shell_model.specs.declared.holder.Holder.{Holder}
 use Rattle.shell_model.specs.ReachableShell.{IsReachable, worker_of}
 use Rattle.shell_model.specs.Laws.{is_ending}
-use Rattle.shell_model.specs.Shell.{Shell, held_by, act_effect, act as acted}
+use Rattle.shell_model.specs.Shell.{Shell, held_by, act_reply, act as acted}
 use Rattle.shell_model.proofs.Engines.{hold_laws}
 use Rattle.shell_model.proofs.Reached.{reached-sound, reached-on}
 use Rattle.walks.specs.declared.place.Local.{Local}
@@ -27,8 +27,7 @@ use Rattle.walks.specs.Walks.{step_of}
 use Rattle.walks.specs.WalkPlaces.{IsAheadOf, AheadAfter, act_of_place, phase_place}
 use Rattle.walks.specs.NextActs.{IsRestOfWalk, IsAskedNext}
 use Rattle.walks.proofs.Finishing.{finish}
-use Rattle.walks.proofs.Holding.{mine}
-use Rattle.walks.proofs.Standing.{Standing, Stands, phase_of, next_of, ActFits, accepts, own_step, other_step, not_of}
+use Rattle.walks.proofs.Standing.{Standing, Stands, phase_of, next_of, ActFits, accepts, mine, own_step, other_step, not_of}
 use Rattle.walks.proofs.Asking.{follow, first_step, not_over}
 use Rattle.walks.proofs.Admitting.{at_start, no_node, starts, nobody}
 use Rattle.quiet_run.specs.QuietWalks.{reply_with_round, entry_with_round, with_rounds}
@@ -176,8 +175,8 @@ some-of : {A : Type 0} → (o : Option A) → (o ≡ None → ⊥) → IsSome o
 some-of None h = absurd (h refl)
 some-of (Some a) h = refl
 
-pub alone_takes : (w n : ℕ) (next : Next) (a : Act) (l : Local) (x : Shell) → next ≡ next_act.Do a l → IsAlone w n next x → IsSome (act_effect w a x)
-alone_takes w n next a l x d alone = some-of (act_effect w a x) (accepts w n alone.0 x a alone.1.own (subst (λ (m : Next). FitsNext n m alone.0) d alone.2))
+pub alone_takes : (w n : ℕ) (next : Next) (a : Act) (l : Local) (x : Shell) → next ≡ next_act.Do a l → IsAlone w n next x → IsSome (act_reply w a x)
+alone_takes w n next a l x d alone = some-of (act_reply w a x) (accepts w n alone.0 x a alone.1.own (subst (λ (m : Next). FitsNext n m alone.0) d alone.2))
 
 pub alone_over : (w n : ℕ) (next : Next) (x : Shell) → next ≡ next_act.Done → IsAlone w n next x → x.holder ≡ None
 alone_over w n next x d alone = alone-free w n alone.0 x alone.1 (subst (λ (m : Next). FitsNext n m alone.0) d alone.2)

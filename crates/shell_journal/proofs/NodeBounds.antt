@@ -1,5 +1,5 @@
 -- The nodes that acts and replies of the concurrent cache name are at most as many as the nodes given out.
-use Rattle.std.proofs.Common.{◌≡◌, ℕ, suc, zero, ◌+◌, ◌<◌, ◌≤◌, Bool, true, false, ◌&&◌, nat_lt, eqb, Option, Some, None, List, [], ◌∷◌, ◌++◌, length, set, replicate, ap, sym, subst, refl, arith, inl, inr}
+use Rattle.std.proofs.Common.{◌≡◌, ℕ, suc, zero, ◌+◌, ◌<◌, ◌≤◌, Bool, true, false, ◌&&◌, nat_lt, eqb, Option, Some, None, List, [], ◌∷◌, ◌++◌, length, set, drop, replicate, ap, sym, subst, refl, arith, inl, inr}
 use Rattle.std.proofs.lemmas.Bool.{and_parts, cases_Bool, eqb-true, eq-eqb}
 use Rattle.std.proofs.lemmas.Bool.Decides.{nat_tests}
 use Rattle.std.proofs.lemmas.List.{get_or-set_same, get_or-set_other}
@@ -16,7 +16,7 @@ use Rattle.segments.specs.Items.{occurrences, oldest_of}
 use Rattle.shell_buffers.specs.declared.task.Task.{Task}
 use Rattle.shell_buffers.specs.declared.task.Task.TheVariants.{Add, Update, Remove}
 use Rattle.shell_buffers.specs.Buffers.{stripe_at}
-use Rattle.shell_model.specs.Shell.{Shell, node_of, look_reply, put_effect, put_at, offer_effect, some_if, is_stripe, act_effect, counted_reply, act}
+use Rattle.shell_model.specs.Shell.{Shell, node_of, counted_up, act}
 use Rattle.replacement.specs.Counts.{queue_occurrences}
 use Rattle.shell_model.specs.Consistency.{IsConsistent}
 use Rattle.shell_model.specs.Laws.{MadeStep, empty_shell}
@@ -25,9 +25,10 @@ use Rattle.admission.specs.Shape.{Shape}
 use Rattle.shell_model.proofs.Counting.{node-listed, listed-times}
 use Rattle.shell_model.proofs.Undoing.{first-queued, shifted-queued}
 use Rattle.shell_model.proofs.Preserving.{queued-below}
-use Rattle.shell_model.proofs.Making as k
-use Rattle.shell_model.proofs.Making.{Makes}
-use Rattle.shell_model.proofs.Histories.{counted_up, Steps, stepped, after-sound}
+use Rattle.shell_model.specs.ShellSteps as k
+use Rattle.shell_model.specs.ShellSteps.{Makes, Steps}
+use Rattle.shell_model.proofs.Making.{stepped}
+use Rattle.shell_model.proofs.Histories.{after-sound}
 use Rattle.shell_model.proofs.Holding.{opened-sound}
 use Rattle.shell_model.proofs.Reached.{reached-sound}
 use Rattle.shell_model.proofs.Bounding.{bound-law, after-bound}
@@ -93,92 +94,6 @@ set-numbered n ls s l h m few j =
       | inr e ↦ let f : (j ≡ s → ⊥) = (λ (g : j ≡ s). let no : true ≡ false = rw (eq-eqb j s g) at e in cc (no)) in rw (get_or-set_other ls s j l [] f) (few j)
     ]
 
--- ---- where the nodes of acts and replies come from, as far as the step alone says it
-
-abbrev IsSourced : Shell → Act → Reply → Type 0
-IsSourced x (a.Look k) (reply.Hit n) = node_of k x.table ≡ Some n
-IsSourced x (a.Put k) (reply.Present n) = node_of k x.table ≡ Some n
-IsSourced x (a.Offer s i) r = i.node < x.next
-IsSourced x (a.Lose s i) r = i.node < x.next
-IsSourced x b r = Unit {0}
-
-abbrev SourcedTo : Shell → Act → Option (Reply × Shell) → Type 0
-SourcedTo x b None = Unit {0}
-SourcedTo x b (Some p) = IsSourced x b p.0
-
-when-sourced : (x : Shell) (b : Act) (t : Bool) (p : Reply × Shell) → (t ≡ true → IsSourced x b p.0) → SourcedTo x b (some_if t p)
-when-sourced x b true p h = h refl
-when-sourced x b false p h = tt
-
-look-sourced : (x : Shell) (k : ℕ) (o : Option ℕ) → node_of k x.table ≡ o → IsSourced x (a.Look k) (look_reply o)
-look-sourced x k None e = tt
-look-sourced x k (Some n) e = e
-
-put_at-sourced : (x : Shell) (k : ℕ) (o : Option ℕ) → node_of k x.table ≡ o → IsSourced x (a.Put k) (put_at k o x).0
-put_at-sourced x k None e = tt
-put_at-sourced x k (Some n) e = e
-
-put-sourced : (x : Shell) (k : ℕ) → IsSourced x (a.Put k) (put_effect k x).0
-put-sourced x k =
-    elim (cases_Bool (nat_lt (length x.writes) 128)) as (λ _. IsSourced x (a.Put k) (put_effect k x).0) [
-      | inl e ↦ rw e (put_at-sourced x k (node_of k x.table) refl)
-      | inr e ↦ rw e tt
-    ]
-
-below-next : (x : Shell) (s : ℕ) (i : Item) → (is_stripe s x && nat_lt i.node x.next) ≡ true → i.node < x.next
-below-next x s i h =
-    let p = and_parts (is_stripe s x) (nat_lt i.node x.next) h in
-    let q = p.1 in
-    grind (arith, nat_tests, q)
-
-read-sourced : (x : Shell) (s : ℕ) (o : Option (Reply × Shell)) → SourcedTo x (a.DrainRead s) o
-read-sourced x s None = tt
-read-sourced x s (Some p) = tt
-
-write-sourced : (x : Shell) (o : Option (Reply × Shell)) → SourcedTo x a.DrainWrite o
-write-sourced x None = tt
-write-sourced x (Some p) = tt
-
-evict-sourced : (x : Shell) (o : Option (Reply × Shell)) → SourcedTo x a.Evict o
-evict-sourced x None = tt
-evict-sourced x (Some p) = tt
-
-end-sourced : (x : Shell) (o : Option (Reply × Shell)) → SourcedTo x a.End o
-end-sourced x None = tt
-end-sourced x (Some p) = tt
-
-performed : (w : ℕ) (b : Act) (x : Shell) → SourcedTo x b (act_effect w b x)
-performed w (a.Look k) x = look-sourced x k (node_of k x.table) refl
-performed w (a.Offer s i) x = when-sourced x (a.Offer s i) (is_stripe s x && nat_lt i.node x.next) (offer_effect s i x) (below-next x s i)
-performed w (a.Lose s i) x = when-sourced x (a.Lose s i) (is_stripe s x && nat_lt i.node x.next) (reply.Lost, x) (below-next x s i)
-performed w (a.Put k) x = put-sourced x k
-performed w (a.Remove k) x = tt
-performed w (a.AfterRead b) x = tt
-performed w a.AfterWrite x = tt
-performed w a.Begin x = tt
-performed w (a.DrainRead s) x = read-sourced x s (act_effect w (a.DrainRead s) x)
-performed w a.DrainWrite x = write-sourced x (act_effect w a.DrainWrite x)
-performed w a.Evict x = evict-sourced x (act_effect w a.Evict x)
-performed w a.End x = end-sourced x (act_effect w a.End x)
-
-reply_of : Reply → Option (Reply × Shell) → Reply
-reply_of r None = r
-reply_of r (Some p) = p.0
-
-tallied-sourced : (x z : Shell) (b : Act) (r : Reply) (o : Option (Reply × Shell)) → SourcedTo x b o → counted_reply o ≡ Some (r, z) → IsSourced x b r
-unfolding reply_of
-tallied-sourced x z b r None h e = absurd (cc e)
-tallied-sourced x z b r (Some p) h e =
-    let same : p.0 ≡ r = ap (reply_of p.0) e in
-    subst (λ q. IsSourced x b q) same h
-
-sourced : (x : Shell) (e : MadeStep) (z : Shell) → act x e.step ≡ Some (e.reply, z) → IsSourced x e.step.act e.reply
-sourced x e z h =
-    elim (cases_Bool (nat_lt x.applied 4294967296)) [
-      | inl t ↦ tallied-sourced x z e.step.act e.reply (act_effect e.step.worker e.step.act x) (performed e.step.worker e.step.act x) (rw t at h)
-      | inr t ↦ absurd (let no : None ≡ Some (e.reply, z) = rw t at h in cc (no))
-    ]
-
 -- ---- one step
 
 listed-below : (x : Shell) (k n : ℕ) → IsConsistent x → node_of k x.table ≡ Some n → n < x.next
@@ -205,34 +120,34 @@ record IsLowStep (x : Shell) (b : Act) (r : Reply) (y : Shell) : Type 0 where
   pub next : x.next ≤ y.next
   pub numbered : IsNumbered y
 
-low-step : (w : ℕ) (x : Shell) (b : Act) (r : Reply) (y : Shell) → Makes w x b r y → IsConsistent x → IsNumbered x → IsSourced x b r → IsLowStep x b r y
-low-step w x b r y (k.hit j n) c v s =
-    let low = listed-below x j n c s in
+low-step : (w : ℕ) (x : Shell) (b : Act) (r : Reply) (y : Shell) → Makes w x b r y → IsConsistent x → IsNumbered x → IsLowStep x b r y
+low-step w x b r y (k.hit j n e) c v =
+    let low = listed-below x j n c e in
     record { of_act = omega arith; of_reply = omega (arith, low); next = omega arith; numbered = v }
-low-step w x b r y (k.kept t i h) c v s =
-    let low : i.node < x.next = s in
+low-step w x b r y (k.kept t i h few) c v =
+    let low : i.node < x.next = h.node in
     let on : AreNumbered x.next (stripe_at t x.stripes ++ i ∷ []) = last-item x.next (stripe_at t x.stripes) i (omega (arith, low)) (v.stripes t) in
     record {
       of_act = omega (arith, low);
       of_reply = omega arith;
       next = omega arith;
-      numbered = record { stripes = set-numbered x.next x.stripes t (stripe_at t x.stripes ++ i ∷ []) h on v.stripes; writes = v.writes };
+      numbered = record { stripes = set-numbered x.next x.stripes t (stripe_at t x.stripes ++ i ∷ []) h.stripe on v.stripes; writes = v.writes };
     }
-low-step w x b r y (k.full t i) c v s =
-    let low : i.node < x.next = s in
+low-step w x b r y (k.full t i h few) c v =
+    let low : i.node < x.next = h.node in
     record { of_act = omega (arith, low); of_reply = omega arith; next = omega arith; numbered = v }
-low-step w x b r y (k.lost t i) c v s =
-    let low : i.node < x.next = s in
+low-step w x b r y (k.lost t i h) c v =
+    let low : i.node < x.next = h.node in
     record { of_act = omega (arith, low); of_reply = omega arith; next = omega arith; numbered = v }
-low-step w x b r y (k.present j n) c v s =
-    let low = listed-below x j n c s in
+low-step w x b r y (k.present j n e h) c v =
+    let low = listed-below x j n c e in
     record {
       of_act = omega arith;
       of_reply = omega (arith, low);
       next = omega arith;
       numbered = record { stripes = v.stripes; writes = last-task x.next x.writes (Update record { key = j; node = n }) (omega (arith, low)) v.writes };
     }
-low-step w x b r y (k.added j) c v s =
+low-step w x b r y (k.added j e h) c v =
     record {
       of_act = omega arith;
       of_reply = omega arith;
@@ -242,7 +157,7 @@ low-step w x b r y (k.added j) c v s =
         writes = last-task (x.next + 1) x.writes (Add record { key = j; node = x.next }) (omega arith) (more-tasks x.next (x.next + 1) x.writes (omega arith) v.writes);
       };
     }
-low-step w x b r y (k.removed j n e) c v s =
+low-step w x b r y (k.removed j n e h) c v =
     let low = listed-below x j n c e in
     record {
       of_act = omega arith;
@@ -250,33 +165,33 @@ low-step w x b r y (k.removed j n e) c v s =
       next = omega arith;
       numbered = record { stripes = v.stripes; writes = last-task x.next x.writes (Remove record { key = j; node = n }) (omega (arith, low)) v.writes };
     }
-low-step w x b r y (k.drained t i rest h e) c v s =
+low-step w x b r y (k.drained t i rest h e) c v =
     let front = head-item x.next (stripe_at t x.stripes) rest i e (v.stripes t) in
     record {
       of_act = omega arith;
       of_reply = front.0;
       next = omega arith;
-      numbered = record { stripes = set-numbered x.next x.stripes t rest h front.1 v.stripes; writes = v.writes };
+      numbered = record { stripes = set-numbered x.next x.stripes t (drop 1 (stripe_at t x.stripes)) h.stripe (rw e front.1) v.stripes; writes = v.writes };
     }
-low-step w x b r y (k.applied_add h f g i rest e n) c v s =
+low-step w x b r y (k.applied_add h i rest f e l) c v =
     let front = head-task x.next x.writes rest (Add i) e v.writes in
-    record { of_act = omega arith; of_reply = front.0; next = omega arith; numbered = record { stripes = v.stripes; writes = front.1 } }
-low-step w x b r y (k.applied_update h f g i rest e n) c v s =
+    record { of_act = omega arith; of_reply = front.0; next = omega arith; numbered = record { stripes = v.stripes; writes = rw e front.1 } }
+low-step w x b r y (k.applied_update h i rest f e l) c v =
     let front = head-task x.next x.writes rest (Update i) e v.writes in
-    record { of_act = omega arith; of_reply = front.0; next = omega arith; numbered = record { stripes = v.stripes; writes = front.1 } }
-low-step w x b r y (k.applied_remove h f g i rest e n) c v s =
+    record { of_act = omega arith; of_reply = front.0; next = omega arith; numbered = record { stripes = v.stripes; writes = rw e front.1 } }
+low-step w x b r y (k.applied_remove h i rest f e l) c v =
     let front = head-task x.next x.writes rest (Remove i) e v.writes in
-    record { of_act = omega arith; of_reply = front.0; next = omega arith; numbered = record { stripes = v.stripes; writes = front.1 } }
-low-step w x b r y (k.shifted h f i e) c v s =
-    let low = (window-below x i c e).1 in
+    record { of_act = omega arith; of_reply = front.0; next = omega arith; numbered = record { stripes = v.stripes; writes = rw e front.1 } }
+low-step w x b r y (k.shifted h i f o few) c v =
+    let low = (window-below x i c o.oldest).1 in
     record { of_act = omega arith; of_reply = omega (arith, low); next = omega arith; numbered = record { stripes = v.stripes; writes = v.writes } }
-low-step w x b r y (k.evicted h f i j e g) c v s =
-    let low = queued-below j x c (shifted-queued i j x (window-below x i c e).0 g) in
+low-step w x b r y (k.evicted h i j f o g n m) c v =
+    let low = queued-below j x c (shifted-queued i j x (window-below x i c o.oldest).0 g.oldest) in
     record { of_act = omega arith; of_reply = omega (arith, low); next = omega arith; numbered = record { stripes = v.stripes; writes = v.writes } }
-low-step w x b r y (k.rejected h f i e) c v s =
-    let low = (window-below x i c e).1 in
+low-step w x b r y (k.rejected h i j f o g n) c v =
+    let low = (window-below x i c o.oldest).1 in
     record { of_act = omega arith; of_reply = omega (arith, low); next = omega arith; numbered = record { stripes = v.stripes; writes = v.writes } }
-low-step w x b r y made c v s = record { of_act = omega arith; of_reply = omega arith; next = omega arith; numbered = record { stripes = v.stripes; writes = v.writes } }
+low-step w x b r y made c v = record { of_act = omega arith; of_reply = omega arith; next = omega arith; numbered = record { stripes = v.stripes; writes = v.writes } }
 
 -- ---- all steps
 
@@ -296,7 +211,7 @@ lifted x b r y low = record {
 low-next : (x : Shell) (e : MadeStep) (z : Shell) → IsConsistent x → IsNumbered x → act x e.step ≡ Some (e.reply, z) → IsLowStep x e.step.act e.reply z
 low-next x e z c v h =
     let s : Steps x e z = stepped x e z h in
-    let low : IsLowStep x e.step.act e.reply s.left = low-step e.step.worker x e.step.act e.reply s.left s.made c v (sourced x e z h) in
+    let low : IsLowStep x e.step.act e.reply s.left = low-step e.step.worker x e.step.act e.reply s.left s.made c v in
     subst (λ u. IsLowStep x e.step.act e.reply u) (sym s.is) (lifted x e.step.act e.reply s.left low)
 
 after-numbered : (x : Shell) (es : List MadeStep) → IsConsistent x → IsNumbered x → IsLegal act x es → IsNumbered (data_after act x es)

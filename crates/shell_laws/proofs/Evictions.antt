@@ -1,20 +1,19 @@
 -- An Evict takes one item out of a window that is over its size.
-use Rattle.std.proofs.Common.{◌≡◌, ℕ, ◌+◌, ◌<◌, ◌≤◌, true, eqb, nat_lt, Option, Some, None, List, length, subst, refl, arith}
-use Rattle.std.proofs.lemmas.Bool.{cond_both, ltb-true, ltb-false}
+use Rattle.std.proofs.Common.{◌≡◌, ℕ, ◌+◌, ◌<◌, ◌≤◌, true, List, length, refl, arith}
+use Rattle.std.proofs.lemmas.Bool.{ltb-true, ltb-false}
 use Rattle.step_record.specs.declared.item.Item.{Item}
 use Rattle.step_record.specs.declared.step.Act.TheVariants as a
-use Rattle.step_record.specs.declared.step.Step.{Step}
 use Rattle.step_record.specs.declared.step.Reply.{Reply}
-use Rattle.step_record.specs.declared.drain.Phase.TheVariants.{Evictions}
 use Rattle.segments.specs.declared.records.Queue.TheVariants.{Probation}
 use Rattle.segments.specs.Items.{occurrences, items_without}
 use Rattle.segments.specs.Queues.{IsDistinct}
 use Rattle.segments.proofs.ItemLists.{times-gone, length-without}
-use Rattle.shell_model.specs.declared.holder.Holder.{Holder}
-use Rattle.shell_model.specs.Shell.{Shell, window_size, is_over, held_by, in_phase, evict_effect, hold_evict, counted_reply, act}
-use Rattle.shell_model.specs.ShellEviction.{shift_effect, IsCandidate, IsVictim, Evicts}
-use Rattle.shell_model.specs.ShellEviction as evicts
-use Rattle.shell_model.proofs.Evicting.{evictions-by-reply}
+use Rattle.shell_model.specs.Shell.{Shell, window_size, is_over}
+use Rattle.shell_model.specs.ShellEviction.{shift_effect, IsCandidate, IsVictim}
+use Rattle.shell_model.specs.ShellSteps as k
+use Rattle.shell_model.specs.ShellSteps.{Makes, Steps}
+use Rattle.shell_model.specs.Laws.{MadeStep}
+use Rattle.shell_model.proofs.Making.{stepped}
 use Rattle.replacement.proofs.Counting.{distinct-moved}
 use Rattle.shell_model.proofs.Undoing.{sound-distinct, first-queued}
 use Rattle.shell_model.proofs.Reached.{reached-sound}
@@ -41,39 +40,27 @@ victim-out c v x d k =
 not-within : (x : Shell) → is_over x ≡ true → length x.queues.window ≤ window_size x.config → ⊥
 not-within x o h = let above : window_size x.config < length x.queues.window = ltb-true (window_size x.config) (length x.queues.window) o in omega (arith, above, h)
 
-evict-step : (h : Holder) (x : Shell) → IsDistinct x.queues → (r : Reply) (y : Shell) → Evicts (in_phase Evictions h x) r y → IsEvictStep x r y
-evict-step h x d r y (evicts.fits i) = record {
+evict-step : (x : Shell) (w : ℕ) (r : Reply) (y : Shell) → IsDistinct x.queues → Makes w x a.Evict r y → IsEvictStep x r y
+evict-step x w r y d (k.fits h f i) = record {
   over = λ n. (let within : length x.queues.window ≤ window_size x.config = ltb-false (window_size x.config) (length x.queues.window) i in absurd (omega (arith, within, n)));
   fits = λ n. (refl, refl);
 }
-evict-step h x d r y (evicts.shifted c k i) = record {
-  over = λ n. ((λ f. cc f), shifted-shorter c (in_phase Evictions h x) d k);
-  fits = λ n. absurd (not-within x k.over n);
+evict-step x w r y d (k.shifted h c f o i) = record {
+  over = λ n. ((λ f. cc f), shifted-shorter c x d o);
+  fits = λ n. absurd (not-within x o.over n);
 }
-evict-step h x d r y (evicts.evicted c v k l i g) = record {
-  over = λ n. ((λ f. cc f), leave-shorter v (items_without c x.queues.window) (length x.queues.window) (victim-out c v (in_phase Evictions h x) d l) (shifted-shorter c (in_phase Evictions h x) d k));
-  fits = λ n. absurd (not-within x k.over n);
+evict-step x w r y d (k.evicted h c v f o l i g) = record {
+  over = λ n. ((λ f. cc f), leave-shorter v (items_without c x.queues.window) (length x.queues.window) (victim-out c v x d l) (shifted-shorter c x d o));
+  fits = λ n. absurd (not-within x o.over n);
 }
-evict-step h x d r y (evicts.rejected c v k l i) = record {
-  over = λ n. ((λ f. cc f), leave-shorter c (items_without c x.queues.window) (length x.queues.window) (times-gone c x.queues.window) (shifted-shorter c (in_phase Evictions h x) d k));
-  fits = λ n. absurd (not-within x k.over n);
+evict-step x w r y d (k.rejected h c v f o l i) = record {
+  over = λ n. ((λ f. cc f), leave-shorter c (items_without c x.queues.window) (length x.queues.window) (times-gone c x.queues.window) (shifted-shorter c x d o));
+  fits = λ n. absurd (not-within x o.over n);
 }
-
-abbrev StepTo : Shell → Option (Reply × Shell) → Type 0
-StepTo x None = Unit {0}
-StepTo x (Some p) = IsEvictStep x p.0 p.1
-
-held-step : (w : ℕ) (o : Option Holder) (x : Shell) → IsDistinct x.queues → StepTo x (hold_evict (held_by w o) x)
-held-step w None x d = tt
-held-step w (Some h) x d = cond_both (eqb w h.worker) (Some h) None (λ o. StepTo x (hold_evict o x)) (λ e. evict-step h x d (evict_effect (in_phase Evictions h x)).0 (evict_effect (in_phase Evictions h x)).1 (evictions-by-reply (in_phase Evictions h x))) (λ e. tt)
-
-counted-step : (x : Shell) (p : Option (Reply × Shell)) → StepTo x p → StepTo x (counted_reply p)
-counted-step x None v = tt
-counted-step x (Some p) v = record { over = v.over; fits = v.fits }
 
 pub eviction-law : EvictionLaw
 eviction-law x y w r h e =
-    let s : Step = record { worker = w; act = a.Evict } in
-    let t : StepTo x (act x s) = cond_both (nat_lt x.applied 4294967296) (counted_reply (hold_evict (held_by w x.holder) x)) None (StepTo x)
-    (λ f. counted-step x (hold_evict (held_by w x.holder) x) (held-step w x.holder x (sound-distinct x (reached-sound x h)))) (λ f. tt) in
-    subst (StepTo x) e t
+    let s : MadeStep = record { step = record { worker = w; act = a.Evict }; reply = r } in
+    let t : Steps x s y = stepped x s y e in
+    let v : IsEvictStep x r t.left = evict-step x w r t.left (sound-distinct x (reached-sound x h)) t.made in
+    rw t.is record { over = v.over; fits = v.fits }

@@ -1,16 +1,20 @@
 -- A worker holds the maintenance exactly where the drain state is ToIdle or ToRequired.
-use Rattle.std.proofs.Common.{◌≡◌, ◌∙◌, ℕ, true, Option, Some, None, is_some, List, [], ◌∷◌, ap, sym, subst, refl}
+use Rattle.std.proofs.Common.{◌≡◌, ◌∙◌, ℕ, Option, Some, None, is_some, List, [], ◌∷◌, ap, sym, subst, refl}
 use Rattle.step_record.specs.declared.step.Act.{Act}
 use Rattle.step_record.specs.declared.drain.Drain.{Drain}
 use Rattle.step_record.specs.declared.drain.Drain.TheVariants.{Idle, Required, ToIdle, ToRequired}
 use Rattle.step_record.specs.declared.step.Reply.{Reply}
 use Rattle.step_record.specs.History.{next_data, data_after, IsLegal}
 use Rattle.shell_model.specs.declared.holder.Holder.{Holder}
+use Rattle.step_record.specs.declared.drain.Phase.{Phase}
+use Rattle.step_record.specs.declared.drain.Phase.TheVariants.{Writes, Evictions}
+use Rattle.shell_model.specs.ShellState.{holder_in_phase}
+use Rattle.shell_model.specs.Changes.{holder_after_task}
 use Rattle.shell_model.specs.Shell.{Shell, act, after_write, drain_at_end}
 use Rattle.shell_model.specs.Laws.{MadeStep, empty_shell}
-use Rattle.shell_model.proofs.Making as k
-use Rattle.shell_model.proofs.Making.{Makes}
-use Rattle.shell_model.proofs.Histories.{Steps, stepped}
+use Rattle.shell_model.specs.ShellSteps as k
+use Rattle.shell_model.specs.ShellSteps.{Makes, Steps}
+use Rattle.shell_model.proofs.Making.{stepped}
 use Rattle.shell_laws.specs.Holding.{is_draining, HolderLaw}
 
 abbrev IsHeldWhileDraining : Option Holder → Drain → Type 0
@@ -28,24 +32,29 @@ left-side Required = refl
 left-side ToIdle = refl
 left-side ToRequired = refl
 
-still-held : (h : Holder) (o : Option Holder) (d : Drain) → o ≡ Some h → IsHeldWhileDraining o d → true ≡ is_draining d
-still-held h o d e v = ap is_some (sym e) ∙ v
+same-held : (p : Phase) (o : Option Holder) → is_some (holder_in_phase p o) ≡ is_some o
+same-held p None = refl
+same-held p (Some h) = refl
+
+same-after : (o : Option Holder) → is_some (holder_after_task o) ≡ is_some o
+same-after None = refl
+same-after (Some h) = refl
 
 held-step : (x : Shell) (w : ℕ) (b : Act) (r : Reply) (y : Shell) → Makes w x b r y → IsHeldWhileDraining x.holder x.drain → IsHeldWhileDraining y.holder y.drain
-held-step x w b r y (k.write_go d e) v = rw e (same-side x.holder x.drain v)
-held-step x w b r y (k.write_drain d e) v = rw e (same-side x.holder x.drain v)
+held-step x w b r y (k.write_go d e) v = subst (λ (p : Reply × Drain). IsHeldWhileDraining x.holder p.1) e (same-side x.holder x.drain v)
+held-step x w b r y (k.write_drain d e) v = subst (λ (p : Reply × Drain). IsHeldWhileDraining x.holder p.1) e (same-side x.holder x.drain v)
 held-step x w b r y (k.began e) v = refl
-held-step x w b r y (k.write_empty h f g) v = still-held h x.holder x.drain f v
-held-step x w b r y (k.enough h f g) v = still-held h x.holder x.drain f v
-held-step x w b r y (k.applied_add h f g i rest e n) v = still-held h x.holder x.drain f v
-held-step x w b r y (k.applied_update h f g i rest e n) v = still-held h x.holder x.drain f v
-held-step x w b r y (k.applied_remove h f g i rest e n) v = still-held h x.holder x.drain f v
-held-step x w b r y (k.fits h f) v = still-held h x.holder x.drain f v
-held-step x w b r y (k.shifted h f c i) v = still-held h x.holder x.drain f v
-held-step x w b r y (k.evicted h f c u i j) v = still-held h x.holder x.drain f v
-held-step x w b r y (k.rejected h f c i) v = still-held h x.holder x.drain f v
-held-step x w b r y (k.idle h f d e) v = rw e (left-side x.drain)
-held-step x w b r y (k.again h f d e) v = rw e (left-side x.drain)
+held-step x w b r y (k.write_empty h f e) v = same-held Writes x.holder ∙ v
+held-step x w b r y (k.enough h t rest f e l) v = same-held Writes x.holder ∙ v
+held-step x w b r y (k.applied_add h i rest f e l) v = same-after x.holder ∙ v
+held-step x w b r y (k.applied_update h i rest f e l) v = same-after x.holder ∙ v
+held-step x w b r y (k.applied_remove h i rest f e l) v = same-after x.holder ∙ v
+held-step x w b r y (k.fits h f o) v = same-held Evictions x.holder ∙ v
+held-step x w b r y (k.shifted h c f o i) v = same-held Evictions x.holder ∙ v
+held-step x w b r y (k.evicted h c u f o i n g) v = same-held Evictions x.holder ∙ v
+held-step x w b r y (k.rejected h c u f o i n) v = same-held Evictions x.holder ∙ v
+held-step x w b r y (k.idle h d f o e) v = subst (λ (p : Reply × Drain). IsHeldWhileDraining None p.1) e (left-side x.drain)
+held-step x w b r y (k.again h d f o e) v = subst (λ (p : Reply × Drain). IsHeldWhileDraining None p.1) e (left-side x.drain)
 held-step x w b r y made v = v
 
 held-after : (x : Shell) (es : List MadeStep) → IsHeldWhileDraining x.holder x.drain → IsLegal act x es → IsHeldWhileDraining (data_after act x es).holder (data_after act x es).drain

@@ -21,11 +21,15 @@ use Rattle.shell_buffers.specs.declared.task.Task.{Task}
 use Rattle.shell_buffers.specs.declared.task.Task.TheVariants.{Add, Update, Remove}
 use Rattle.shell_model.specs.declared.holder.Holder.{Holder}
 use Rattle.shell_model.specs.Frequency.{frequency_recorded}
-use Rattle.shell_model.specs.Shell.{Shell, node_of, table_with, window_size, in_phase, drain_at_end, may_write, act_effect, act}
-use Rattle.shell_model.specs.ShellEviction.{shift_effect}
+use Rattle.replacement.specs.Rules.{three_queues}
+use Rattle.replacement.specs.Plan.{candidate_of}
+use Rattle.replacement.specs.Table.{kept_in}
+use Rattle.shell_model.specs.ShellState.{holder_in_phase}
+use Rattle.shell_model.specs.Changes.{shell_eviction}
+use Rattle.shell_model.proofs.Making.{evict-is}
+use Rattle.shell_model.specs.Shell.{Shell, held_by, in_phase, evicted_by, node_of, table_with, window_size, drain_at_end, may_write, act_effect, counted_up, act}
 use Rattle.shell_model.specs.Laws.{IsShapeOf, empty_shell}
 use Rattle.shell_model.specs.ReachableShell.{IsReachable}
-use Rattle.shell_model.proofs.Histories.{counted_up}
 use Rattle.shell_model.proofs.Undoing.{sound-distinct, first-queued}
 use Rattle.shell_model.proofs.Reached.{reached-sound, reached-on}
 use Rattle.shell_laws.specs.Capacity.{tasks_applied, items_added, items_removed, IsNearCapacity}
@@ -191,17 +195,29 @@ module _ (c : Config) where
       let more = length-append (items_without i q.probation) (i ∷ []) in
       (omega (arith, h, once, w), omega (arith, h, once, w, p, t, more))
 
+  shifts : (p : Phase) (l : ℕ) (i : Item) (x : Shell) → x.holder ≡ Some record { worker = 0; phase = p; left = l } → nat_lt (window_size x.config) (length x.queues.window) ≡ true → oldest_of x.queues.window ≡ Some i
+      → nat_lt x.config.capacity (total_items (queues_after_move i Probation x.queues)) ≡ false
+      → act_effect 0 a.Evict x ≡ Some (reply.Shifted i, record x { queues = queues_after_move i Probation x.queues; holder = Some record { worker = 0; phase = Evictions; left = l } })
+  shifts p l i x held over oldest fits =
+      let mine : held_by 0 x.holder ≡ Some record { worker = 0; phase = p; left = l } = rw held refl in
+      let one : candidate_of (three_queues x.config) x.queues ≡ Some i = rw (over, oldest) refl in
+      let none : shell_eviction x ≡ kept_in (queues_after_move i Probation x.queues) = rw (over, oldest, fits) refl in
+      let now : holder_in_phase Evictions x.holder ≡ Some record { worker = 0; phase = Evictions; left = l } = rw held refl in
+      evict-is 0 record { worker = 0; phase = p; left = l } x mine
+      ∙ ap (λ o. Some (evicted_by o (shell_eviction x) (in_phase Evictions x))) one
+      ∙ ap (λ r. Some (evicted_by (Some i) r (in_phase Evictions x))) none
+      ∙ ap (λ h. Some (reply.Shifted i, record x { queues = queues_after_move i Probation x.queues; holder = h })) now
+
   evict-leads : (k b n : ℕ) (ts : List Task) (p : Phase) (l : ℕ) (x : Shell) → IsOnTheWay c k b ts (Some record { worker = 0; phase = p; left = l }) n x → b < 4294967296 → window_size x.config < length x.queues.window → n ≤ c.capacity
       → (y : Shell) × IsOnTheWay c k (suc b) ts (Some record { worker = 0; phase = Evictions; left = l }) n y × (length x.queues.window ≡ length y.queues.window + 1)
   evict-leads k b n ts p l x at few above room =
       let o = some-oldest x.queues.window (omega (arith, above)) in
       let i : Item = o.0 in
       let m = moved-total o.0 x.queues (sound-distinct x (reached-sound x at.reached)) (first-queued o.0 x.queues.window o.1) in
-      let h : Holder = record { worker = 0; phase = p; left = l } in
-      let z : Shell = shift_effect o.0 (in_phase Evictions h x) in
+      let z : Shell = record x { queues = queues_after_move o.0 Probation x.queues; holder = Some record { worker = 0; phase = Evictions; left = l } } in
       let over : nat_lt (window_size x.config) (length x.queues.window) ≡ true = lt-ltb (window_size x.config) (length x.queues.window) above in
       let fits : nat_lt x.config.capacity (total_items (queues_after_move o.0 Probation x.queues)) ≡ false = le-ltb x.config.capacity (total_items (queues_after_move o.0 Probation x.queues)) (let s = ap (λ (d : Config). d.capacity) at.config in let t = at.total in omega (arith, m.1, room, s, t)) in
-      let e : act x (step_of a.Evict) ≡ Some (reply.Shifted o.0, counted_up (reply.Shifted o.0) z) = acted x z a.Evict (reply.Shifted o.0) (omega (arith, at.applied, few)) (rw (at.holder, over, o.1, fits) refl) in (
+      let e : act x (step_of a.Evict) ≡ Some (reply.Shifted o.0, counted_up (reply.Shifted o.0) z) = acted x z a.Evict (reply.Shifted o.0) (omega (arith, at.applied, few)) (shifts p l o.0 x at.holder over o.1 fits) in (
         counted_up (reply.Shifted o.0) z,
         record {
           reached = reached-on x (counted_up (reply.Shifted o.0) z) (step_of a.Evict) (reply.Shifted o.0) at.reached e;

@@ -1,6 +1,6 @@
 -- The record of a step fits what it left, and undoes it.
 use Rattle.std.proofs.Common.{◌≡◌, ℕ, ◌+◌, ◌-◌, cond, nat_lt, Option, Some, None, ◌∙◌, refl, arith, inl, inr}
-use Rattle.std.proofs.lemmas.Bool.{cases_Bool}
+use Rattle.std.proofs.lemmas.Bool.{cond_both}
 use native.Mathlib.Numerals.{unary_clauses}
 use Rattle.step_record.specs.declared.step.Reply.{Reply}
 use Rattle.step_record.specs.declared.step.Reply.TheVariants as reply
@@ -9,11 +9,12 @@ use Rattle.shell_model.specs.declared.stats.ShellStats.{ShellStats}
 use Rattle.shell_model.specs.declared.record.ShellRecord.{ShellRecord}
 use Rattle.shell_model.specs.declared.record.Change.{Change}
 use Rattle.shell_model.specs.declared.record.Change.TheVariants.{Nothing, Offered, Updated, Added, Removed, Requested, Began, Read, Passed, Applied, Cleared, Evicted, Ended}
-use Rattle.shell_model.specs.Shell.{Shell, act_effect, counted_reply, act}
+use Rattle.shell_model.specs.Changes.{after_change, before_change, FitsChange}
+use Rattle.shell_model.specs.Shell.{Shell, act_reply, with_shell, act_effect, counted_reply, act}
 use Rattle.shell_model.specs.ShellStats.{shell_stats_after, shell_stats_before, counted_of, IsCounted}
-use Rattle.shell_model.specs.Records.{before_change, FitsChange, undone_step, FitsStep, change_of}
+use Rattle.shell_model.specs.Records.{record_by, shell_record_of, undone_step, FitsStep}
 use Rattle.shell_model.specs.Consistency.{IsConsistent}
-use Rattle.shell_model.proofs.Undoing.{GoesTo, perform-goes}
+use Rattle.shell_model.proofs.Undoing.{GoesTo, reply-goes}
 
 plus-less : (a b : ℕ) → a + b - b ≡ a
 plus-less a b = omega arith
@@ -53,26 +54,24 @@ pub same-tally : (c : Change) (y : Shell) → record (before_change c y) { stats
 same-tally Nothing y = refl
 same-tally _ y = refl
 
-abbrev pub IsUndone : Change → Shell → Option (Reply × Shell) → Type 0
-IsUndone c x None = Unit {0}
-IsUndone c x (Some p) = let r : ShellRecord = record { counted = counted_of p.0; change = c } in FitsStep r p.1 × (undone_step r p.1 ≡ x)
+abbrev pub IsUndone : ShellRecord → Shell → Option (Reply × Shell) → Type 0
+IsUndone r x None = Unit {0}
+IsUndone r x (Some p) = FitsStep r p.1 × (undone_step r p.1 ≡ x)
 
-tallied-undone : (c : Change) (x : Shell) (p : Option (Reply × Shell)) → GoesTo c x p → IsUndone c x (counted_reply p)
-tallied-undone c x None g = tt
-tallied-undone c x (Some p) g =
-    let y : Shell = p.1 in (
+counted-undone : (x : Shell) (o : Option (Reply × Change)) → GoesTo x o → IsUndone (record_by o) x (counted_reply (with_shell x o))
+counted-undone x None g = tt
+counted-undone x (Some p) g =
+    let y : Shell = after_change p.1 x in (
       record {
         stats = counted-fits p.0 y.stats;
         applied = omega arith;
-        change = tallied-fits c p.1 (shell_stats_after p.0 y.stats) (y.applied + 1) g.fits;
+        change = tallied-fits p.1 (after_change p.1 x) (shell_stats_after p.0 y.stats) (y.applied + 1) g.fits;
       },
-      rw (tallied-back c p.1 (shell_stats_after p.0 y.stats) (y.applied + 1), uncounted-counted p.0 y.stats, plus-less y.applied 1) (same-tally c p.1 ∙ g.back),
+      rw (tallied-back p.1 (after_change p.1 x) (shell_stats_after p.0 y.stats) (y.applied + 1), uncounted-counted p.0 y.stats, plus-less y.applied 1) (same-tally p.1 (after_change p.1 x) ∙ g.back),
     )
 
 -- the record of a step of the shell leads back from what the step left
-pub act-undone : (x : Shell) (s : Step) → IsConsistent x → IsUndone (change_of s.worker s.act x) x (act x s)
+pub act-undone : (x : Shell) (s : Step) → IsConsistent x → IsUndone (shell_record_of s x) x (act x s)
 act-undone x s w =
-    elim (cases_Bool (nat_lt x.applied 4294967296)) as (λ _. IsUndone (change_of s.worker s.act x) x (cond (nat_lt x.applied 4294967296) (counted_reply (act_effect s.worker s.act x)) None)) [
-      | inl e ↦ rw e (tallied-undone (change_of s.worker s.act x) x (act_effect s.worker s.act x) (perform-goes s.worker s.act x w))
-      | inr e ↦ rw e tt
-    ]
+    cond_both (nat_lt x.applied 4294967296) (counted_reply (act_effect s.worker s.act x)) None (IsUndone (shell_record_of s x) x)
+    (λ e. counted-undone x (act_reply s.worker s.act x) (reply-goes s.worker s.act x w)) (λ e. tt)

@@ -17,16 +17,17 @@ use Rattle.step_record.specs.Stats.{one_if}
 use Rattle.shell_model.specs.Shell.{Shell, act}
 use Rattle.shell_model.specs.Laws.{MadeStep, IsShapeOf, empty_shell}
 use Rattle.shell_model.specs.ReachableShell.{IsBounded, BoundLaw}
-use Rattle.shell_model.proofs.Making as k
-use Rattle.shell_model.proofs.Making.{Makes}
-use Rattle.shell_model.proofs.Histories.{Steps, stepped, stats-step}
+use Rattle.shell_model.specs.ShellSteps as k
+use Rattle.shell_model.specs.ShellSteps.{Makes, Steps}
+use Rattle.shell_model.proofs.Making.{stepped}
+use Rattle.shell_model.proofs.Histories.{stats-step}
 
 pub applied-step : (x : Shell) (w : ℕ) (b : Act) (r : Reply) (y : Shell) → Makes w x b r y → y.applied ≡ x.applied
-applied-step x w b r y k.busy = refl
+applied-step x w b r y (k.busy h e) = refl
 applied-step x w b r y made = refl
 
 next-step : (x : Shell) (w : ℕ) (b : Act) (r : Reply) (y : Shell) → Makes w x b r y → y.next ≤ x.next + 1
-next-step x w b r y k.busy = omega arith
+next-step x w b r y (k.busy h e) = omega arith
 next-step x w b r y made = omega arith
 
 -- a key more brings one halving at most
@@ -40,8 +41,8 @@ halvings-recorded f k =
 
 halvings-step : (x : Shell) (w : ℕ) (b : Act) (r : Reply) (y : Shell) → Makes w x b r y → y.frequency.halvings ≤ x.frequency.halvings + 1
 halvings-step x w b r y (k.drained s i rest h e) = halvings-recorded x.frequency i.key
-halvings-step x w b r y (k.applied_add h f g i rest e n) = halvings-recorded x.frequency i.key
-halvings-step x w b r y (k.applied_update h f g i rest e n) = halvings-recorded x.frequency i.key
+halvings-step x w b r y (k.applied_add h i rest f e l) = halvings-recorded x.frequency i.key
+halvings-step x w b r y (k.applied_update h i rest f e l) = halvings-recorded x.frequency i.key
 halvings-step x w b r y made = omega arith
 
 none : (s : Shape) → IsShape s → (frequency_of s []).halvings ≤ 0

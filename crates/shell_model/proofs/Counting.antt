@@ -9,7 +9,7 @@ use Rattle.segments.specs.Queues.{Queues, queue_holding, queues_without, IsDisti
 use Rattle.segments.proofs.ItemLists.{same-true, same-refl, without-none}
 use Rattle.segments.proofs.MoveLaws.{Stands, in_window, in_probation, in_protected, nowhere, stands, taken-none}
 use Rattle.replacement.proofs.Counting.{once}
-use Rattle.shell_model.specs.Shell.{table_with, node_of, is_listed, unlisted, queues_cleared, cleared_from}
+use Rattle.shell_model.specs.ShellState.{table_with, node_of, is_listed, unlisted, queues_cleared, cleared_from}
 use Rattle.shell_model.specs.Consistency.{AreAbove, IsAscending}
 
 -- the table

@@ -5,6 +5,8 @@ use Rattle.std.proofs.lemmas.Bool.{cases_Bool, eqb-true}
 use Rattle.step_record.specs.declared.step.Act.{Act}
 use Rattle.step_record.specs.declared.step.Act.TheVariants as a
 use Rattle.step_record.specs.declared.step.Step.{Step}
+use Rattle.step_record.specs.declared.drain.Phase.{Phase}
+use Rattle.step_record.specs.declared.drain.Phase.TheVariants.{Writes, Evictions}
 use Rattle.step_record.specs.declared.step.Reply.{Reply}
 use Rattle.step_record.specs.declared.step.Reply.TheVariants as reply
 use Rattle.step_record.specs.Answers.{is_answer, AnswersItsActs}
@@ -18,13 +20,15 @@ use Rattle.shell_model.specs.declared.record.ShellRecord.{ShellRecord}
 use Rattle.shell_model.specs.declared.record.Change.{Change}
 use Rattle.shell_model.specs.declared.record.Change.TheVariants.{Nothing, Read, Applied}
 use Rattle.shell_model.specs.Frequency.{frequency_recorded, frequency_unrecorded, FitsFrequency}
-use Rattle.shell_model.specs.Shell.{Shell, act_effect, act, held_by, hold_end}
-use Rattle.shell_model.specs.Records.{before_change, undone_step, FitsChange, FitsStep, change_size, record_size}
+use Rattle.shell_model.specs.ShellState.{Shell, holder_in_phase}
+use Rattle.shell_model.specs.Shell.{act}
+use Rattle.shell_model.specs.Changes.{holder_after_task, before_change, FitsChange, change_size}
+use Rattle.shell_model.specs.Records.{undone_step, FitsStep, record_size}
 use Rattle.shell_model.specs.Laws.{MadeStep, is_ending}
 use Rattle.shell_model.specs.ReachableShell.{worker_of, HoldLaws}
-use Rattle.shell_model.proofs.Making as k
-use Rattle.shell_model.proofs.Making.{Makes}
-use Rattle.shell_model.proofs.Histories.{Steps, stepped}
+use Rattle.shell_model.specs.ShellSteps as k
+use Rattle.shell_model.specs.ShellSteps.{Holds, Makes, Steps}
+use Rattle.shell_model.proofs.Making.{stepped}
 use Rattle.shell_model.proofs.Bounding.{applied-step}
 
 abbrev made_of : Step → Reply → MadeStep
@@ -33,7 +37,7 @@ made_of s r = record { step = s; reply = r }
 -- replies
 
 made-answers : (x : Shell) (w : ℕ) (b : Act) (r : Reply) (y : Shell) → Makes w x b r y → is_answer b r ≡ true
-made-answers x w b r y k.busy = refl
+made-answers x w b r y (k.busy h e) = refl
 made-answers x w b r y made = refl
 
 pub answers_law : AnswersItsActs act
@@ -61,8 +65,8 @@ key-paced f n = recorded_paced f n
 
 made-paced : (x : Shell) (w : ℕ) (b : Act) (r : Reply) (y : Shell) → Makes w x b r y → IsPaced (pace_of x.frequency) (pace_of y.frequency)
 made-paced x w b r y (k.drained s i rest h e) = key-paced x.frequency i.key
-made-paced x w b r y (k.applied_add h f g i rest e n) = key-paced x.frequency i.key
-made-paced x w b r y (k.applied_update h f g i rest e n) = key-paced x.frequency i.key
+made-paced x w b r y (k.applied_add h i rest f e l) = key-paced x.frequency i.key
+made-paced x w b r y (k.applied_update h i rest f e l) = key-paced x.frequency i.key
 made-paced x w b r y made = same-paced (pace_of x.frequency)
 
 pub act_paced : (x : Shell) (s : Step) (r : Reply) (y : Shell) → act x s ≡ Some (r, y) → IsPaced (pace_of x.frequency) (pace_of y.frequency)
@@ -88,67 +92,40 @@ step_weighs r x h = change-weighs r.change x h.change
 
 -- the holder
 
-worn-by : (o : Option Holder) (h : Holder) (n : ℕ) → o ≡ Some h → worker_of o ≡ Some n → Some h.worker ≡ Some n
-worn-by o h n f g = let i : worker_of (Some h) ≡ Some n = rw f at g in i
+same-worker : (p : Phase) (o : Option Holder) → worker_of (holder_in_phase p o) ≡ worker_of o
+same-worker p None = refl
+same-worker p (Some h) = refl
 
-made-holds : (x : Shell) (w : ℕ) (b : Act) (r : Reply) (y : Shell) → Makes w x b r y → (n : ℕ) → worker_of x.holder ≡ Some n → is_ending r ≡ false → worker_of y.holder ≡ Some n
+same-after : (o : Option Holder) → worker_of (holder_after_task o) ≡ worker_of o
+same-after None = refl
+same-after (Some h) = refl
+
+own : (x : Shell) (w : ℕ) (h : Holder) → Holds w h x → (n : ℕ) → worker_of x.holder ≡ Some n → w ≡ n
+own x w h f n g = f.by ∙ (let s : Some h.worker ≡ Some n = sym (ap worker_of f.is) ∙ g in cc)
+
+made-holds : (x : Shell) (w : ℕ) (b : Act) (r : Reply) (y : Shell) → Makes w x b r y → (n : ℕ) → worker_of x.holder ≡ Some n → (w ≡ n → is_ending r ≡ false) → worker_of y.holder ≡ Some n
 made-holds x w b r y (k.began e) n g i = absurd (let no : None ≡ Some n = rw e at g in cc (no))
-made-holds x w b r y (k.write_empty h f m) n g i = worn-by x.holder h n f g
-made-holds x w b r y (k.enough h f m) n g i = worn-by x.holder h n f g
-made-holds x w b r y (k.applied_add h f m j rest e c) n g i = worn-by x.holder h n f g
-made-holds x w b r y (k.applied_update h f m j rest e c) n g i = worn-by x.holder h n f g
-made-holds x w b r y (k.applied_remove h f m j rest e c) n g i = worn-by x.holder h n f g
-made-holds x w b r y (k.fits h f) n g i = worn-by x.holder h n f g
-made-holds x w b r y (k.shifted h f c j) n g i = worn-by x.holder h n f g
-made-holds x w b r y (k.evicted h f c v j m) n g i = worn-by x.holder h n f g
-made-holds x w b r y (k.rejected h f c j) n g i = worn-by x.holder h n f g
-made-holds x w b r y (k.idle h f d e) n g i = absurd (cc (i))
-made-holds x w b r y (k.again h f d e) n g i = absurd (cc (i))
+made-holds x w b r y (k.write_empty h f e) n g i = same-worker Writes x.holder ∙ g
+made-holds x w b r y (k.enough h t rest f e l) n g i = same-worker Writes x.holder ∙ g
+made-holds x w b r y (k.applied_add h j rest f e l) n g i = same-after x.holder ∙ g
+made-holds x w b r y (k.applied_update h j rest f e l) n g i = same-after x.holder ∙ g
+made-holds x w b r y (k.applied_remove h j rest f e l) n g i = same-after x.holder ∙ g
+made-holds x w b r y (k.fits h f o) n g i = same-worker Evictions x.holder ∙ g
+made-holds x w b r y (k.shifted h c f o j) n g i = same-worker Evictions x.holder ∙ g
+made-holds x w b r y (k.evicted h c v f o j m q) n g i = same-worker Evictions x.holder ∙ g
+made-holds x w b r y (k.rejected h c v f o j m) n g i = same-worker Evictions x.holder ∙ g
+made-holds x w b r y (k.idle h d f o e) n g i = absurd (let no : true ≡ false = i (own x w h f n g) in cc no)
+made-holds x w b r y (k.again h d f o e) n g i = absurd (let no : true ≡ false = i (own x w h f n g) in cc no)
 made-holds x w b r y made n g i = g
 
 made-begins : (x : Shell) (w : ℕ) (b : Act) (r : Reply) (y : Shell) → Makes w x b r y → r ≡ reply.Began → worker_of y.holder ≡ Some w
 made-begins x w b r y (k.began e) h = refl
 made-begins x w b r y made h = absurd (cc (h))
 
--- who ends the maintenance holds it
-made-ends : (x : Shell) (w : ℕ) (b : Act) (r : Reply) (y : Shell) → Makes w x b r y → is_ending r ≡ true → b ≡ a.End
-made-ends x w b r y (k.idle h f d e) i = refl
-made-ends x w b r y (k.again h f d e) i = refl
-made-ends x w b r y made i = absurd (cc (i))
-
-number_in : ℕ → Option ℕ → ℕ
-number_in d None = d
-number_in d (Some n) = n
-
-not-refused : (x : Shell) (s : Step) (p : Reply × Shell) → act x s ≡ Some p → act_effect s.worker s.act x ≡ None → ⊥
-not-refused x s p h e =
-    elim (cases_Bool (nat_lt x.applied 4294967296)) [
-      | inl t ↦ (let no : None ≡ Some p = rw (t, e) at h in cc (no))
-      | inr t ↦ (let no : None ≡ Some p = rw t at h in cc (no))
-    ]
-
-end-own : (w n : ℕ) (o : Option Holder) (x : Shell) → worker_of o ≡ Some n → (hold_end (held_by w o) x ≡ None → ⊥) → w ≡ n
-unfolding number_in
-end-own w n None x g i = absurd (cc (g))
-end-own w n (Some h) x g i =
-    elim (cases_Bool (eqb w h.worker)) [
-      | inl e ↦ eqb-true w h.worker e ∙ ap (number_in n) g
-      | inr e ↦ absurd (i (rw e refl))
-    ]
-
-ends-own : (x y : Shell) (s : Step) (r : Reply) (n : ℕ) → worker_of x.holder ≡ Some n → act x s ≡ Some (r, y) → is_ending r ≡ true → s.worker ≡ n
-ends-own x y s r n g h i =
-    let t : Steps x (made_of s r) y = stepped x (made_of s r) y h in
-    let b : s.act ≡ a.End = made-ends x s.worker s.act r t.left t.made i in
-    end-own s.worker n x.holder x g (λ none. not-refused x s (r, y) h (ap (λ (c : Act). act_effect s.worker c x) b ∙ none))
-
 pub hold_laws : HoldLaws
 hold_laws = record {
   begins = λ x y s h. (let t : Steps x (made_of s reply.Began) y = stepped x (made_of s reply.Began) y h in
       ap (λ (z : Shell). worker_of z.holder) t.is ∙ made-begins x s.worker s.act reply.Began t.left t.made refl);
   holds = λ x y s r n g h i. (let t : Steps x (made_of s r) y = stepped x (made_of s r) y h in
-      ap (λ (z : Shell). worker_of z.holder) t.is ∙ made-holds x s.worker s.act r t.left t.made n g (going r (λ e. i (ends-own x y s r n g h e))));
+      ap (λ (z : Shell). worker_of z.holder) t.is ∙ made-holds x s.worker s.act r t.left t.made n g i);
 }
-  where
-    going : (r : Reply) → (is_ending r ≡ true → is_ending r ≡ false) → is_ending r ≡ false
-    going r f = elim (cases_Bool (is_ending r)) [ inl e ↦ f e | inr e ↦ e ]

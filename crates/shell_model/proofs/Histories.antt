@@ -18,62 +18,18 @@ use Rattle.shell_model.specs.Frequency.{frequency_recorded}
 use Rattle.shell_model.specs.ShellStats.{shell_stats_after}
 use Rattle.step_record.specs.Stats.{one_if}
 use Rattle.shell_buffers.specs.Buffers.{stripe_at}
-use Rattle.shell_model.specs.Shell.{Shell, shell_after_touch, act_effect, counted_reply, act}
+use Rattle.shell_model.specs.Changes.{shell_after_touch}
+use Rattle.shell_model.specs.Shell.{Shell, act}
 use Rattle.replacement.specs.Counts.{queue_occurrences}
 use Rattle.shell_model.specs.Consistency.{IsConsistent}
 use Rattle.shell_model.specs.Laws.{MadeStep, collect, tally, offered, drained, asked, done, added, evicted_items, removed_items, keyed}
 use Rattle.replacement.proofs.Counting.{once, unless-same}
 use Rattle.shell_model.proofs.Counting.{times-placed, listed-times, node-listed, unlisted-is}
 use Rattle.shell_model.proofs.Undoing.{first-queued, shifted-queued}
-use Rattle.shell_model.proofs.Preserving.{SoundTo, act-sound, queued-below}
-use Rattle.shell_model.proofs.Making as k
-use Rattle.shell_model.proofs.Making.{Makes, MakesTo, perform-makes}
-
-abbrev pub counted_up : Reply → Shell → Shell
-counted_up r y = record y { stats = shell_stats_after r y.stats; applied = y.applied + 1 }
-
--- one accepted step
-pub record Steps (x : Shell) (e : MadeStep) (z : Shell) : Type 0 where
-  pub left : Shell
-  pub made : Makes e.step.worker x e.step.act e.reply left
-  pub is : z ≡ counted_up e.reply left
-
-reply_in : Reply → Option (Reply × Shell) → Reply
-reply_in r None = r
-reply_in r (Some p) = p.0
-
-shell_in : Shell → Option (Reply × Shell) → Shell
-shell_in x None = x
-shell_in x (Some p) = p.1
-
--- what a tallied reply and shell come from
-pub record IsTallied (p : Option (Reply × Shell)) (r : Reply) (z : Shell) : Type 0 where
-  pub left : Shell
-  pub made : p ≡ Some (r, left)
-  pub is : z ≡ counted_up r left
-
-pub tallied-from : (x : Shell) (p : Option (Reply × Shell)) (r : Reply) (z : Shell) → counted_reply p ≡ Some (r, z) → IsTallied p r z
-unfolding reply_in shell_in
-tallied-from x None r z i = absurd (cc (i))
-tallied-from x (Some p) r z i =
-    let e : p.0 ≡ r = ap (reply_in p.0) i in
-    let y : counted_up p.0 p.1 ≡ z = ap (shell_in x) i in
-    record { left = p.1; made = ap (λ (s : Reply). Some (s, p.1)) e; is = sym (rw e at y) }
-
-acted : (x : Shell) (e : MadeStep) (z : Shell) (p : Option (Reply × Shell)) → MakesTo e.step.worker x e.step.act p → counted_reply p ≡ Some (e.reply, z) → Steps x e z
-acted x e z p h i =
-    let t = tallied-from x p e.reply z i in
-    record { left = t.left; made = subst (MakesTo e.step.worker x e.step.act) t.made h; is = t.is }
-
-pub stepped : (x : Shell) (e : MadeStep) (z : Shell) → act x e.step ≡ Some (e.reply, z) → Steps x e z
-stepped x e z h =
-    elim (cases_Bool (nat_lt x.applied 4294967296)) [
-      | inl t ↦ acted x e z (act_effect e.step.worker e.step.act x) (perform-makes e.step.worker x e.step.act) (rw t at h)
-      | inr t ↦ absurd (let no : None ≡ Some (e.reply, z) = rw t at h in cc (no))
-    ]
-
-sound-next : (x : Shell) (e : MadeStep) (z : Shell) → IsConsistent x → act x e.step ≡ Some (e.reply, z) → IsConsistent z
-sound-next x e z v h = let s : SoundTo (act x e.step) = act-sound x e.step v in let t : SoundTo (Some (e.reply, z)) = rw h at s in t
+use Rattle.shell_model.proofs.Preserving.{sound-next, queued-below}
+use Rattle.shell_model.specs.ShellSteps as k
+use Rattle.shell_model.specs.ShellSteps.{Makes, Steps}
+use Rattle.shell_model.proofs.Making.{stepped}
 
 pub after-sound : (x : Shell) (es : List MadeStep) → IsConsistent x → IsLegal act x es → IsConsistent (data_after act x es)
 after-sound x [] v l = v
@@ -103,12 +59,12 @@ same-fifo view ins outs x b r y i o v = record { within = rw o (omega arith); gi
 
 -- the write queue
 writes-step : (x : Shell) (w : ℕ) (b : Act) (r : Reply) (y : Shell) → Makes w x b r y → IsFifo (λ z. z.writes) asked done x b r y
-writes-step x w b r y (k.present j n) = record { within = omega arith; gives = refl }
-writes-step x w b r y (k.added j) = record { within = omega arith; gives = refl }
-writes-step x w b r y (k.removed j n e) = record { within = omega arith; gives = refl }
-writes-step x w b r y (k.applied_add h f g i rest e n) = rw e record { within = omega arith; gives = sym (append-nil rest) }
-writes-step x w b r y (k.applied_update h f g i rest e n) = rw e record { within = omega arith; gives = sym (append-nil rest) }
-writes-step x w b r y (k.applied_remove h f g i rest e n) = rw e record { within = omega arith; gives = sym (append-nil rest) }
+writes-step x w b r y (k.present j n e h) = record { within = omega arith; gives = refl }
+writes-step x w b r y (k.added j e h) = record { within = omega arith; gives = refl }
+writes-step x w b r y (k.removed j n e h) = record { within = omega arith; gives = refl }
+writes-step x w b r y (k.applied_add h i rest f e l) = rw e record { within = omega arith; gives = sym (append-nil rest) }
+writes-step x w b r y (k.applied_update h i rest f e l) = rw e record { within = omega arith; gives = sym (append-nil rest) }
+writes-step x w b r y (k.applied_remove h i rest f e l) = rw e record { within = omega arith; gives = sym (append-nil rest) }
 writes-step x w b r y made = same-fifo (λ z. z.writes) asked done x b r y refl refl refl
 
 writes-next : (x : Shell) (e : MadeStep) (z : Shell) → Steps x e z → IsFifo (λ z. z.writes) asked done x e.step.act e.reply z
@@ -123,22 +79,23 @@ apart : (a b : ℕ) → eqb a b ≡ false → (a ≡ b → ⊥)
 apart a b e g = let no : true ≡ false = rw (eq-eqb a b g) at e in cc (no)
 
 stripes-step : (j : ℕ) (x : Shell) (w : ℕ) (b : Act) (r : Reply) (y : Shell) → Makes w x b r y → IsFifo (λ z. stripe_at j z.stripes) (offered j) (drained j) x b r y
-stripes-step j x w b r y (k.kept s i h) =
+stripes-step j x w b r y (k.kept s i h few) =
     elim (cases_Bool (eqb j s)) as (λ _. IsFifo (λ z. stripe_at j z.stripes) (offered j) (drained j) x (a.Offer s i) reply.Kept record x { stripes = set x.stripes s (stripe_at s x.stripes ++ i ∷ []) }) [
-      | inl e ↦ let t : j ≡ s = eqb-true j s e in record { within = omega arith; gives = rw (e, t) (get_or-set_same x.stripes s (stripe_at s x.stripes ++ i ∷ []) [] h) }
+      | inl e ↦ let t : j ≡ s = eqb-true j s e in record { within = omega arith; gives = rw (e, t) (get_or-set_same x.stripes s (stripe_at s x.stripes ++ i ∷ []) [] h.stripe) }
       | inr e ↦ record { within = omega arith; gives = rw (e, append-nil) (get_or-set_other x.stripes s j (stripe_at s x.stripes ++ i ∷ []) [] (apart j s e)) }
     ]
 stripes-step j x w b r y (k.drained s i rest h e) =
-    elim (cases_Bool (eqb j s)) as (λ _. IsFifo (λ z. stripe_at j z.stripes) (offered j) (drained j) x (a.DrainRead s) (reply.Drained i) (shell_after_touch i record x { stripes = set x.stripes s rest })) [
+    let oldest : drop 1 (stripe_at s x.stripes) ≡ rest = rw e refl in
+    rw oldest (elim (cases_Bool (eqb j s)) as (λ _. IsFifo (λ z. stripe_at j z.stripes) (offered j) (drained j) x (a.DrainRead s) (reply.Drained i) (shell_after_touch i record x { stripes = set x.stripes s rest })) [
       | inl f ↦
           let t : j ≡ s = eqb-true j s f in
           let l : stripe_at j x.stripes ≡ i ∷ rest = rw t e in
           record {
             within = rw (f, l) (omega arith);
-            gives = rw (f, l) (rw t (get_or-set_same x.stripes s rest [] h) ∙ sym (append-nil rest));
+            gives = rw (f, l) (rw t (get_or-set_same x.stripes s rest [] h.stripe) ∙ sym (append-nil rest));
           }
       | inr f ↦ record { within = rw f (omega arith); gives = rw (f, append-nil) (get_or-set_other x.stripes s j rest [] (apart j s f)) }
-    ]
+    ])
 stripes-step j x w b r y made = same-fifo (λ z. stripe_at j z.stripes) (offered j) (drained j) x b r y refl refl refl
 
 stripes-next : (j : ℕ) (x : Shell) (e : MadeStep) (z : Shell) → Steps x e z → IsFifo (λ z. stripe_at j z.stripes) (offered j) (drained j) x e.step.act e.reply z
@@ -150,7 +107,7 @@ stripes-law j x es l = fifo (λ z. stripe_at j z.stripes) (offered j) (drained j
 -- statistics: f is one of them, which p counts
 
 pub stats-step : (x : Shell) (w : ℕ) (b : Act) (r : Reply) (y : Shell) → Makes w x b r y → y.stats ≡ x.stats
-stats-step x w b r y k.busy = refl
+stats-step x w b r y (k.busy h e) = refl
 stats-step x w b r y made = refl
 
 pub stats-law : (f : ShellStats → ℕ) (p : Reply → Bool) → ((r : Reply) (s : ShellStats) → f (shell_stats_after r s) ≡ f s + one_if (p r)) → (x : Shell) (es : List MadeStep) → IsLegal act x es → f (data_after act x es).stats ≡ f x.stats + tally (λ b r. one_if (p r)) es
@@ -173,7 +130,7 @@ recorded_all f (k ∷ ks) = recorded_all (frequency_recorded f k) ks
 
 frequency-step : (x : Shell) (w : ℕ) (b : Act) (r : Reply) (y : Shell) → Makes w x b r y → y.frequency ≡ recorded_all x.frequency (keyed b r)
 unfolding recorded_all
-frequency-step x w b r y k.busy = refl
+frequency-step x w b r y (k.busy h e) = refl
 frequency-step x w b r y made = refl
 
 recorded-keys : (s : Shape) → IsShape s → (past keys : List ℕ) → recorded_all (frequency_of s past) keys ≡ frequency_of s (past ++ keys)
@@ -194,7 +151,7 @@ frequency-law sh k past x (e ∷ es) f l =
 -- nodes are given once
 
 given-step : (i : Item) (x : Shell) (w : ℕ) (b : Act) (r : Reply) (y : Shell) → Makes w x b r y → (x.next ≤ y.next) × (1 ≤ occurrences i (added b r) → x.next ≤ i.node)
-given-step i x w b r y (k.added j) = (omega arith, λ h. node j x.next (times-one-of i record { key = j; node = x.next } h))
+given-step i x w b r y (k.added j e h) = (omega arith, λ h. node j x.next (times-one-of i record { key = j; node = x.next } h))
   where
     times-one-of : (i u : Item) → 1 ≤ occurrences i (u ∷ []) → i ≡ u
     times-one-of i u h =
@@ -246,19 +203,19 @@ comes-out i u t lost come next below l c =
     ]
 
 table-step : (i : Item) (x : Shell) → IsConsistent x → (w : ℕ) (b : Act) (r : Reply) (y : Shell) → Makes w x b r y → Comes i (occurrences i x.table) (occurrences i y.table) (occurrences i (evicted_items b r) + occurrences i (removed_items b r)) (occurrences i (added b r)) y.next
-table-step i x v w b r y (k.added j) = record {
+table-step i x v w b r y (k.added j e f) = record {
   kept = λ h. rw (times-placed i record { key = j; node = x.next } x.table) (omega arith);
   left = λ h. absurd (omega arith);
 }
-table-step i x v w b r y (k.removed j n e) =
+table-step i x v w b r y (k.removed j n e f) =
     let u : Item = record { key = j; node = n } in
     let h : 1 ≤ occurrences record { key = j; node = n } x.table = listed-times record { key = j; node = n } x.table (node-listed record { key = j; node = n } x.table e) in
     comes-out i record { key = j; node = n } x.table _ _ x.next (v.placed.below record { key = j; node = n } (omega (arith, h))) (omega arith) refl
-table-step i x v w b r y (k.evicted h f c u g n) =
-    let q : 1 ≤ queue_occurrences c x.queues = (let o = first-queued c x.queues.window g in omega (arith, o)) in
-    rw (unlisted-is u x.table v.placed.ascending) (comes-out i u x.table _ _ x.next (queued-below u x v (shifted-queued c u x q n)) (omega arith) refl)
-table-step i x v w b r y (k.rejected h f c g) =
-    let q : 1 ≤ queue_occurrences c x.queues = (let o = first-queued c x.queues.window g in omega (arith, o)) in
+table-step i x v w b r y (k.evicted h c u f g n o p) =
+    let q : 1 ≤ queue_occurrences c x.queues = (let o = first-queued c x.queues.window g.oldest in omega (arith, o)) in
+    rw (unlisted-is u x.table v.placed.ascending) (comes-out i u x.table _ _ x.next (queued-below u x v (shifted-queued c u x q n.oldest)) (omega arith) refl)
+table-step i x v w b r y (k.rejected h c u f g n o) =
+    let q : 1 ≤ queue_occurrences c x.queues = (let o = first-queued c x.queues.window g.oldest in omega (arith, o)) in
     rw (unlisted-is c x.table v.placed.ascending) (comes-out i c x.table _ _ x.next (queued-below c x v q) (omega arith) refl)
 table-step i x v w b r y made = record { kept = λ h. omega arith; left = λ h. absurd (omega arith) }
 

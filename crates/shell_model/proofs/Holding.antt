@@ -19,12 +19,15 @@ use Rattle.shell_model.specs.declared.stats.ShellStats.{ShellStats}
 use Rattle.shell_model.specs.declared.stats.Counted.TheVariants as counted
 use Rattle.shell_model.specs.ShellStats.{count_of, raises, shell_stats_after}
 use Rattle.shell_buffers.specs.Buffers.{stripe_at}
+use Rattle.shell_model.specs.ShellState.{holder_in_phase}
+use Rattle.shell_model.specs.Changes.{holder_after_task}
 use Rattle.shell_model.specs.Shell.{Shell, may_write, act}
 use Rattle.shell_model.specs.Consistency.{IsConsistent}
 use Rattle.shell_model.specs.Laws.{MadeStep, collect, IsShapeOf, empty_shell, added, is_ending, is_drain_write, is_evict, some_end, some_act, phase_after, open_from, open_began, seat_of, seat_from, AreReplies, HistoryLaws}
-use Rattle.shell_model.proofs.Making as k
-use Rattle.shell_model.proofs.Making.{Makes}
-use Rattle.shell_model.proofs.Histories.{Steps, stepped, after-sound, writes-law, stripes-law, stats-law, frequency-law, table-law}
+use Rattle.shell_model.specs.ShellSteps as k
+use Rattle.shell_model.specs.ShellSteps.{Makes, Steps}
+use Rattle.shell_model.proofs.Making.{stepped}
+use Rattle.shell_model.proofs.Histories.{after-sound, writes-law, stripes-law, stats-law, frequency-law, table-law}
 use Rattle.shell_model.proofs.Preserving.{ordered-behind}
 
 -- a phase that stood does not go back
@@ -59,26 +62,33 @@ same-seat : (o : Option (ℕ × Phase)) (w : ℕ) (b : Act) (r : Reply) (es : Li
 same-seat None w b r es e f = refl
 same-seat (Some s) w b r es e f = rw (e, f) refl
 
-write-seat : (w : ℕ) (r : Reply) (h : Holder) (o : Option Holder) (es : List MadeStep) → o ≡ Some h → may_write h.phase ≡ true → later None false (Some (h.worker, Writes)) es ≡ later None false (seat_of o) (made_of w a.DrainWrite r ∷ es)
-write-seat w r h o es f g = rw f (ap (λ (p : Phase). Some (h.worker, p)) (from-writes h.phase (some_act is_evict es) (some_act is_drain_write es) g))
+write-seat : (w : ℕ) (r : Reply) (h : Holder) (o u : Option Holder) (es : List MadeStep) → o ≡ Some h → may_write h.phase ≡ true → seat_of u ≡ Some (h.worker, Writes)
+    → later None false (seat_of u) es ≡ later None false (seat_of o) (made_of w a.DrainWrite r ∷ es)
+write-seat w r h o u es f g q = rw (q, f) (ap (λ (p : Phase). Some (h.worker, p)) (from-writes h.phase (some_act is_evict es) (some_act is_drain_write es) g))
 
-evict-seat : (w : ℕ) (r : Reply) (h : Holder) (o : Option Holder) (es : List MadeStep) → o ≡ Some h → later None false (Some (h.worker, Evictions)) es ≡ later None false (seat_of o) (made_of w a.Evict r ∷ es)
+evict-seat : (w : ℕ) (r : Reply) (h : Holder) (o : Option Holder) (es : List MadeStep) → o ≡ Some h → later None false (seat_of (holder_in_phase Evictions o)) es ≡ later None false (seat_of o) (made_of w a.Evict r ∷ es)
 evict-seat w r h o es f = rw f (ap (λ (p : Phase). Some (h.worker, p)) (from-evictions Reads Reads (some_act is_evict es)))
+
+passed-seat : (p : Phase) (h : Holder) (o : Option Holder) → o ≡ Some h → seat_of (holder_in_phase p o) ≡ Some (h.worker, p)
+passed-seat p h o f = rw f refl
+
+task-seat : (h : Holder) (o : Option Holder) → o ≡ Some h → seat_of (holder_after_task o) ≡ Some (h.worker, Writes)
+task-seat h o f = rw f refl
 
 holder-step : (x : Shell) (w : ℕ) (b : Act) (r : Reply) (y : Shell) → Makes w x b r y → (es : List MadeStep)
     → later None false (seat_of y.holder) es ≡ later (cond (raises counted.Began r) (Some (w, es)) None) (is_ending r) (seat_of x.holder) (made_of w b r ∷ es)
 holder-step x w b r y (k.began e) es = ap (λ (p : Phase). Some (w, p)) refl
-holder-step x w b r y (k.write_empty h f g) es = write-seat w reply.Empty h x.holder es f g
-holder-step x w b r y (k.enough h f g) es = write-seat w reply.Enough h x.holder es f g
-holder-step x w b r y (k.applied_add h f g i rest e n) es = write-seat w (reply.Applied i) h x.holder es f g
-holder-step x w b r y (k.applied_update h f g i rest e n) es = write-seat w (reply.Applied i) h x.holder es f g
-holder-step x w b r y (k.applied_remove h f g i rest e n) es = write-seat w (reply.Cleared i) h x.holder es f g
-holder-step x w b r y (k.fits h f) es = evict-seat w reply.Fits h x.holder es f
-holder-step x w b r y (k.shifted h f c i) es = evict-seat w (reply.Shifted c) h x.holder es f
-holder-step x w b r y (k.evicted h f c v i j) es = evict-seat w (reply.Evicted v) h x.holder es f
-holder-step x w b r y (k.rejected h f c i) es = evict-seat w (reply.Rejected c) h x.holder es f
-holder-step x w b r y (k.idle h f d e) es = refl
-holder-step x w b r y (k.again h f d e) es = refl
+holder-step x w b r y (k.write_empty h f e) es = write-seat w reply.Empty h x.holder _ es f.holds.is f.phase (passed-seat Writes h x.holder f.holds.is)
+holder-step x w b r y (k.enough h t rest f e l) es = write-seat w reply.Enough h x.holder _ es f.holds.is f.phase (passed-seat Writes h x.holder f.holds.is)
+holder-step x w b r y (k.applied_add h i rest f e l) es = write-seat w (reply.Applied i) h x.holder _ es f.holds.is f.phase (task-seat h x.holder f.holds.is)
+holder-step x w b r y (k.applied_update h i rest f e l) es = write-seat w (reply.Applied i) h x.holder _ es f.holds.is f.phase (task-seat h x.holder f.holds.is)
+holder-step x w b r y (k.applied_remove h i rest f e l) es = write-seat w (reply.Cleared i) h x.holder _ es f.holds.is f.phase (task-seat h x.holder f.holds.is)
+holder-step x w b r y (k.fits h f o) es = evict-seat w reply.Fits h x.holder es f.is
+holder-step x w b r y (k.shifted h c f o i) es = evict-seat w (reply.Shifted c) h x.holder es f.is
+holder-step x w b r y (k.evicted h c v f o i n g) es = evict-seat w (reply.Evicted v) h x.holder es f.is
+holder-step x w b r y (k.rejected h c v f o i n) es = evict-seat w (reply.Rejected c) h x.holder es f.is
+holder-step x w b r y (k.idle h d f o e) es = refl
+holder-step x w b r y (k.again h d f o e) es = refl
 holder-step x w b r y made es = same-seat (seat_of x.holder) w b r es refl refl
 
 -- what came before the entries follows from what they say of a holder

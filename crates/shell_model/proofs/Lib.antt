@@ -1,10 +1,10 @@
 pub mod Counting
 pub mod Frequency
 pub mod Evicting
+pub mod Making
 pub mod Undoing
 pub mod Acting
 pub mod Preserving
-pub mod Making
 pub mod Histories
 pub mod Holding
 pub mod Reached

@@ -1,5 +1,5 @@
 -- What holds of the shell before a step holds after it.
-use Rattle.std.proofs.Common.{◌≡◌, ℕ, suc, zero, ◌+◌, ◌<◌, ◌≤◌, Bool, true, false, cond, ◌&&◌, eqb, nat_lt, Option, Some, None, List, [], ◌∷◌, ◌++◌, length, set, ap, ◌∙◌, refl, arith, inl, inr, length-append}
+use Rattle.std.proofs.Common.{◌≡◌, ℕ, suc, zero, ◌+◌, ◌<◌, ◌≤◌, Bool, true, false, cond, ◌&&◌, eqb, nat_lt, Option, Some, None, List, [], ◌∷◌, ◌++◌, length, set, drop, ap, ◌∙◌, refl, arith, inl, inr, length-append}
 use Rattle.std.proofs.lemmas.Bool.{eqb-true, eq-eqb, and_parts, cases_Bool, cond_both}
 use Rattle.std.proofs.lemmas.Bool.Decides.{nat_tests}
 use Rattle.std.proofs.lemmas.List.{get_or-set_same, get_or-set_other}
@@ -23,25 +23,21 @@ use Rattle.shell_buffers.specs.declared.task.Task.{Task}
 use Rattle.shell_buffers.specs.declared.task.Task.TheVariants.{Add, Update, Remove}
 use Rattle.shell_model.specs.declared.holder.Holder.{Holder}
 use Rattle.shell_buffers.specs.Buffers.{stripe_at}
-use Rattle.shell_model.specs.Shell.{Shell, node_of, table_with, queues_cleared, window_size, shell_protected_size, offer_effect, put_effect, put_at, removing, remove_at, begin_effect, is_over, held_by, in_phase, drain_read, drain_write, apply_task, evict_effect, end_effect, some_if, may_read, may_write, is_stripe, hold_read, hold_write, hold_evict, hold_end, act_effect, counted_reply, act}
-use Rattle.shell_model.specs.ShellEviction.{shift_effect, leave, IsCandidate, Evicts}
-use Rattle.shell_model.specs.ShellEviction as evicts
-use Rattle.shell_model.proofs.Evicting.{evictions-by-reply}
+use Rattle.shell_model.specs.ShellState.{Shell, node_of, table_with, queues_cleared, window_size, shell_protected_size, holder_in_phase, in_phase}
+use Rattle.shell_model.specs.Changes.{holder_after_task}
+use Rattle.shell_model.specs.Shell.{act}
+use Rattle.shell_model.specs.ShellEviction.{shift_effect, leave, IsCandidate}
+use Rattle.shell_model.specs.ShellSteps.{MayWrite, Makes, Steps}
+use Rattle.shell_model.specs.ShellSteps as k
+use Rattle.shell_model.specs.Laws.{MadeStep}
+use Rattle.shell_model.proofs.Making.{stepped}
 use Rattle.replacement.specs.Counts.{main_length, queue_occurrences}
 use Rattle.shell_model.specs.Consistency.{IsConsistent, IsPlaced, waiting_adds, leaving, IsOrdered, AreAbove, IsAscending, IsLeft}
 use Rattle.admission.specs.Frequency.{IsFrequency}
 use Rattle.shell_model.proofs.Frequency.{recorded-whole}
 use Rattle.replacement.proofs.Counting.{once, unless-same, queued-kept, queued-taken, queued-pushed, distinct-moved}
 use Rattle.shell_model.proofs.Counting.{times-placed, listed-times, node-listed, unlisted-is, cleared-is}
-use Rattle.shell_model.proofs.Undoing.{sound-distinct, first-queued, worn}
-
-abbrev pub SoundTo : Option (Reply × Shell) → Type 0
-SoundTo None = Unit {0}
-SoundTo (Some p) = IsConsistent p.1
-
-when-sound : (b : Bool) (p : Reply × Shell) → (b ≡ true → IsConsistent p.1) → SoundTo (some_if b p)
-when-sound true p h = h refl
-when-sound false p h = tt
+use Rattle.shell_model.proofs.Undoing.{sound-distinct, first-queued}
 
 -- stripes
 
@@ -299,136 +295,24 @@ placed-leave t n q l v h p = record {
 
 -- the acts
 
-offer-sound : (s : ℕ) (i : Item) (x : Shell) → s < length x.stripes → IsConsistent x → IsConsistent (offer_effect s i x).1
-offer-sound s i x h v =
-    elim (cases_Bool (nat_lt (length (stripe_at s x.stripes)) 16)) as (λ _. IsConsistent (offer_effect s i x).1) [
-      | inl e ↦
-          let lt : length (stripe_at s x.stripes) < 16 = grind (arith, nat_tests) in
-          rw e record {
-            placed = v.placed;
-            writes = v.writes;
-            left = v.left;
-            main = v.main;
-            frequency = v.frequency;
-            stripes = set-short x.stripes s (stripe_at s x.stripes ++ i ∷ []) h (omega (arith, lt, length-append (stripe_at s x.stripes) (i ∷ []))) v.stripes;
-          }
-      | inr e ↦ rw e v
-    ]
+-- where a task is applied
+record IsTaken (rest : List Task) (x : Shell) : Type 0 where
+  writes : length (drop 1 x.writes) ≤ 128
+  left : IsLeft (holder_after_task x.holder)
+  behind : drop 1 x.writes ≡ rest
 
-put_at-sound : (k : ℕ) (o : Option ℕ) (x : Shell) → node_of k x.table ≡ o → length x.writes < 128 → IsConsistent x → IsConsistent (put_at k o x).1
-put_at-sound k (Some n) x e h v = record {
-  placed = placed-update x.table x.next x.queues x.writes record { key = k; node = n } v.placed;
-  writes = omega (arith, h, length-append x.writes (Update record { key = k; node = n } ∷ []));
-  stripes = v.stripes;
-  left = v.left;
-  main = v.main;
-  frequency = v.frequency;
-}
-put_at-sound k None x e h v = record {
-  placed = placed-add x.table x.next k x.queues x.writes e v.placed record { key = k; node = x.next } refl;
-  writes = omega (arith, h, length-append x.writes (Add record { key = k; node = x.next } ∷ []));
-  stripes = v.stripes;
-  left = v.left;
-  main = v.main;
-  frequency = v.frequency;
-}
-
-put-sound : (k : ℕ) (x : Shell) → IsConsistent x → IsConsistent (put_effect k x).1
-put-sound k x v =
-    elim (cases_Bool (nat_lt (length x.writes) 128)) as (λ _. IsConsistent (put_effect k x).1) [
-      | inl e ↦ let lt : length x.writes < 128 = grind (arith, nat_tests) in rw e (put_at-sound k (node_of k x.table) x refl lt v)
-      | inr e ↦ rw e v
-    ]
-
-remove_at-sound : (k : ℕ) (o : Option ℕ) (x : Shell) → node_of k x.table ≡ o → IsConsistent x → IsConsistent (remove_at k o x).1
-remove_at-sound k None x e v = v
-remove_at-sound k (Some n) x e v =
-    let h : 1 ≤ occurrences record { key = k; node = n } x.table = listed-times record { key = k; node = n } x.table (node-listed record { key = k; node = n } x.table e) in
-    elim (cases_Bool (nat_lt (length x.writes) 128)) as (λ _. IsConsistent (cond {A = Reply × Shell} (nat_lt (length x.writes) 128) (reply.Removed n, removing record { key = k; node = n } x) (reply.WritesFull, x)).1) [
-      | inl t ↦
-          let lt : length x.writes < 128 = grind (arith, nat_tests) in
-          rw t record {
-            placed = placed-remove x.table x.next x.queues x.writes record { key = k; node = n } h v.placed;
-            writes = omega (arith, lt, length-append x.writes (Remove record { key = k; node = n } ∷ []));
-            stripes = v.stripes;
-            left = v.left;
-            main = v.main;
-            frequency = v.frequency;
-          }
-      | inr t ↦ rw t v
-    ]
-
-begin-sound : (w : ℕ) (o : Option Holder) (x : Shell) → IsConsistent x → IsConsistent (begin_effect w o x).1
-begin-sound w (Some h) x v = v
-begin-sound w None x v = record { placed = v.placed; stripes = v.stripes; writes = v.writes; main = v.main; frequency = v.frequency; left = omega arith }
-
-read-sound : (s : ℕ) (l : List Item) (x : Shell) → stripe_at s x.stripes ≡ l → s < length x.stripes → IsConsistent x → IsConsistent (drain_read s l x).1
-read-sound s [] x e h v = v
-read-sound s (i ∷ rest) x e h v =
-    let k = hit-is-kept (shell_protected_size x.config) i x.queues (sound-distinct x v) in
-    let few : suc (length rest) ≤ 16 = rw e at (v.stripes s) in
-    record {
-      placed = placed-hit x.table x.next x.queues (after_hit (shell_protected_size x.config) i x.queues) x.writes k v.placed;
-      stripes = set-short x.stripes s rest h (omega (arith, few)) v.stripes;
-      writes = v.writes;
-      left = v.left;
-      main = omega (arith, k.main, v.main);
-      frequency = recorded-whole x.frequency i.key v.frequency;
-    }
-
--- whoever is w: the holder that stands, or none
-pub held-any : (P : Option (Reply × Shell) → Type 0) (w : ℕ) (o : Option Holder) (u : Option Holder → Option (Reply × Shell)) → P (u None) → ((h : Holder) → o ≡ Some h → P (u (Some h))) → P (u (held_by w o))
-held-any P w None u n k = n
-held-any P w (Some h) u n k = cond_both (eqb w h.worker) (Some h) None (λ o. P (u o)) (λ e. k h refl) (λ e. n)
-
-phase-sound : (p : Phase) (h : Holder) (x : Shell) → x.holder ≡ Some h → IsConsistent x → IsConsistent (in_phase p h x)
-phase-sound p h x f v = record { placed = v.placed; stripes = v.stripes; writes = v.writes; main = v.main; frequency = v.frequency; left = rw f at v.left }
-
-applied-sound : (t : Task) (rest : List Task) (h : Holder) (x : Shell) → x.writes ≡ t ∷ rest → h.left ≤ 128 → IsConsistent x → IsConsistent (apply_task t record x { writes = rest; holder = Some h }).1
-applied-sound (Add i) rest h x e n v =
+is-taken : (w : ℕ) (h : Holder) (t : Task) (rest : List Task) (x : Shell) → MayWrite w h x → x.writes ≡ t ∷ rest → IsConsistent x → IsTaken rest x
+is-taken w h t rest x f e v =
     let few : suc (length rest) ≤ 128 = rw e at v.writes in
-    let p : IsPlaced x.table x.next x.queues (Add i ∷ rest) = rw e at v.placed in
-    record {
-      placed = placed-add-done x.table x.next x.queues rest i p;
-      writes = omega (arith, few);
-      stripes = v.stripes;
-      left = n;
-      main = v.main;
-      frequency = recorded-whole x.frequency i.key v.frequency;
-    }
-applied-sound (Update i) rest h x e n v =
-    let few : suc (length rest) ≤ 128 = rw e at v.writes in
-    let p : IsPlaced x.table x.next x.queues (Update i ∷ rest) = rw e at v.placed in
-    let k = hit-is-kept (shell_protected_size x.config) i x.queues (sound-distinct x v) in
-    record {
-      placed = placed-hit x.table x.next x.queues (after_hit (shell_protected_size x.config) i x.queues) rest k (placed-update-done x.table x.next x.queues rest i p);
-      writes = omega (arith, few);
-      stripes = v.stripes;
-      left = n;
-      main = omega (arith, k.main, v.main);
-      frequency = recorded-whole x.frequency i.key v.frequency;
-    }
-applied-sound (Remove i) rest h x e n v =
-    let few : suc (length rest) ≤ 128 = rw e at v.writes in
-    let p : IsPlaced x.table x.next x.queues (Remove i ∷ rest) = rw e at v.placed in
-    let c : queues_cleared i x.queues ≡ queues_without i x.queues = cleared-is i x.queues (sound-distinct x v) in
-    record {
-      placed = rw c (placed-clear x.table x.next x.queues rest i p);
-      writes = omega (arith, few);
-      stripes = v.stripes;
-      left = n;
-      main = rw c (omega (arith, v.main, length-without i x.queues.probation, length-without i x.queues.protected));
-      frequency = v.frequency;
-    }
+    let most : h.left ≤ 128 = (let g = f.holds.is in rw g at v.left) in
+    record { writes = rw e (omega (arith, few)); left = (let g = f.holds.is in rw g (omega (arith, most))); behind = rw e refl }
 
-write-sound : (h : Holder) (l : List Task) (x : Shell) → x.writes ≡ l → x.holder ≡ Some h → IsConsistent x → IsConsistent (drain_write h l x).1
-write-sound h [] x e f v = phase-sound Writes h x f v
-write-sound h (t ∷ rest) x e f v =
-    let n : h.left ≤ 128 = rw f at v.left in
-    elim (cases_Bool (eqb h.left 0)) as (λ _. IsConsistent (cond {A = Reply × Shell} (eqb h.left 0) (reply.Enough, in_phase Writes h x) (apply_task t (record x { writes = rest; holder = Some (worn h) }))).1) [
-      | inl g ↦ rw g (phase-sound Writes h x f v)
-      | inr g ↦ rw g (applied-sound t rest (worn h) x e (omega arith) v)
-    ]
+phase-sound : (p : Phase) (x : Shell) → IsConsistent x → IsConsistent (in_phase p x)
+phase-sound p x v = record { placed = v.placed; stripes = v.stripes; writes = v.writes; main = v.main; frequency = v.frequency; left = left x.holder v.left }
+  where
+    left : (o : Option Holder) → IsLeft o → IsLeft (holder_in_phase p o)
+    left None l = l
+    left (Some h) l = l
 
 -- evictions: all but the sizes
 pub record IsLoose (x : Shell) : Type 0 where
@@ -455,11 +339,11 @@ record IsShifted (c : Item) (x : Shell) : Type 0 where
   main : main_length (shift_effect c x).queues ≤ main_size x.config + 1
   window : window_size x.config ≤ length (shift_effect c x).queues.window
 
-is-shifted : (c : Item) (x : Shell) → IsCandidate c x → IsConsistent x → IsShifted c x
+is-shifted : (c : Item) (x : Shell) → IsCandidate c x → IsConsistent (in_phase Evictions x) → IsShifted c (in_phase Evictions x)
 is-shifted c x h v =
     let lt : window_size x.config < length x.queues.window = (let o = h.over in grind (arith, nat_tests, o)) in
     let n : 1 ≤ occurrences c x.queues.window = first-queued c x.queues.window h.oldest in
-    let d = sound-distinct x v c in
+    let d = sound-distinct (in_phase Evictions x) v c in
     let one : queue_occurrences c x.queues ≡ 1 = omega (arith, n, d) in
     record {
       loose = record {
@@ -474,46 +358,108 @@ is-shifted c x h v =
       window = omega (arith, lt, n, d, length-without c x.queues.window);
     }
 
-evict-sound : (x : Shell) (r : Reply) (y : Shell) → Evicts x r y → IsConsistent x → IsConsistent y
-evict-sound x r y (evicts.fits i) v = v
-evict-sound x r y (evicts.shifted c h i) v =
-    let s = is-shifted c x h v in
+pub made-sound : (x : Shell) (w : ℕ) (b : Act) (r : Reply) (y : Shell) → Makes w x b r y → IsConsistent x → IsConsistent y
+made-sound x w b r y (k.kept s i h few) v = record {
+  placed = v.placed;
+  writes = v.writes;
+  left = v.left;
+  main = v.main;
+  frequency = v.frequency;
+  stripes = set-short x.stripes s (stripe_at s x.stripes ++ i ∷ []) h.stripe (omega (arith, few, length-append (stripe_at s x.stripes) (i ∷ []))) v.stripes;
+}
+made-sound x w b r y (k.present j n e h) v = record {
+  placed = placed-update x.table x.next x.queues x.writes record { key = j; node = n } v.placed;
+  writes = omega (arith, h, length-append x.writes (Update record { key = j; node = n } ∷ []));
+  stripes = v.stripes;
+  left = v.left;
+  main = v.main;
+  frequency = v.frequency;
+}
+made-sound x w b r y (k.added j e h) v = record {
+  placed = placed-add x.table x.next j x.queues x.writes e v.placed record { key = j; node = x.next } refl;
+  writes = omega (arith, h, length-append x.writes (Add record { key = j; node = x.next } ∷ []));
+  stripes = v.stripes;
+  left = v.left;
+  main = v.main;
+  frequency = v.frequency;
+}
+made-sound x w b r y (k.removed j n e h) v = record {
+  placed = placed-remove x.table x.next x.queues x.writes record { key = j; node = n } (listed-times record { key = j; node = n } x.table (node-listed record { key = j; node = n } x.table e)) v.placed;
+  writes = omega (arith, h, length-append x.writes (Remove record { key = j; node = n } ∷ []));
+  stripes = v.stripes;
+  left = v.left;
+  main = v.main;
+  frequency = v.frequency;
+}
+made-sound x w b r y (k.began e) v = record { placed = v.placed; stripes = v.stripes; writes = v.writes; main = v.main; frequency = v.frequency; left = omega arith }
+made-sound x w b r y (k.drained s i rest h e) v =
+    let kept = hit-is-kept (shell_protected_size x.config) i x.queues (sound-distinct x v) in
+    let few : suc (length rest) ≤ 16 = rw e at (v.stripes s) in
+    record {
+      placed = placed-hit x.table x.next x.queues (after_hit (shell_protected_size x.config) i x.queues) x.writes kept v.placed;
+      stripes = set-short x.stripes s (drop 1 (stripe_at s x.stripes)) h.stripe (rw e (omega (arith, few))) v.stripes;
+      writes = v.writes;
+      left = v.left;
+      main = omega (arith, kept.main, v.main);
+      frequency = recorded-whole x.frequency i.key v.frequency;
+    }
+made-sound x w b r y (k.write_empty h f e) v = phase-sound Writes x v
+made-sound x w b r y (k.enough h t rest f e l) v = phase-sound Writes x v
+made-sound x w b r y (k.applied_add h i rest f e l) v =
+    let t = is-taken w h (Add i) rest x f e v in
+    let p : IsPlaced x.table x.next x.queues (Add i ∷ rest) = rw e at v.placed in
+    record {
+      placed = rw t.behind (placed-add-done x.table x.next x.queues rest i p);
+      writes = t.writes;
+      stripes = v.stripes;
+      left = t.left;
+      main = v.main;
+      frequency = recorded-whole x.frequency i.key v.frequency;
+    }
+made-sound x w b r y (k.applied_update h i rest f e l) v =
+    let t = is-taken w h (Update i) rest x f e v in
+    let p : IsPlaced x.table x.next x.queues (Update i ∷ rest) = rw e at v.placed in
+    let kept = hit-is-kept (shell_protected_size x.config) i x.queues (sound-distinct x v) in
+    record {
+      placed = rw t.behind (placed-hit x.table x.next x.queues (after_hit (shell_protected_size x.config) i x.queues) rest kept (placed-update-done x.table x.next x.queues rest i p));
+      writes = t.writes;
+      stripes = v.stripes;
+      left = t.left;
+      main = omega (arith, kept.main, v.main);
+      frequency = recorded-whole x.frequency i.key v.frequency;
+    }
+made-sound x w b r y (k.applied_remove h i rest f e l) v =
+    let t = is-taken w h (Remove i) rest x f e v in
+    let p : IsPlaced x.table x.next x.queues (Remove i ∷ rest) = rw e at v.placed in
+    let c : queues_cleared i x.queues ≡ queues_without i x.queues = cleared-is i x.queues (sound-distinct x v) in
+    record {
+      placed = rw (c, t.behind) (placed-clear x.table x.next x.queues rest i p);
+      writes = t.writes;
+      stripes = v.stripes;
+      left = t.left;
+      main = rw c (omega (arith, v.main, length-without i x.queues.probation, length-without i x.queues.protected));
+      frequency = v.frequency;
+    }
+made-sound x w b r y (k.fits h f o) v = phase-sound Evictions x v
+made-sound x w b r y (k.shifted h c f o i) v =
+    let s = is-shifted c x o (phase-sound Evictions x v) in
     let few : total_items (shift_effect c x).queues ≤ x.config.capacity = grind (arith, nat_tests, i) in
     record { placed = s.loose.placed; stripes = s.loose.stripes; writes = s.loose.writes; left = s.loose.left; main = omega (arith, few, s.window); frequency = s.loose.frequency }
-evict-sound x r y (evicts.evicted c o h k i g) v = let s = is-shifted c x h v in leave-sound o (shift_effect c x) s.loose (first-queued o (shift_effect c x).queues.probation k.oldest) s.main
-evict-sound x r y (evicts.rejected c o h k i) v = let s = is-shifted c x h v in leave-sound c (shift_effect c x) s.loose s.queued s.main
+made-sound x w b r y (k.evicted h c o f i l n g) v =
+    let s = is-shifted c x i (phase-sound Evictions x v) in leave-sound o (shift_effect c (in_phase Evictions x)) s.loose (first-queued o (shift_effect c x).queues.probation l.oldest) s.main
+made-sound x w b r y (k.rejected h c o f i l n) v =
+    let s = is-shifted c x i (phase-sound Evictions x v) in leave-sound c (shift_effect c (in_phase Evictions x)) s.loose s.queued s.main
+made-sound x w b r y (k.idle h d f o e) v = record { placed = v.placed; stripes = v.stripes; writes = v.writes; main = v.main; frequency = v.frequency; left = tt }
+made-sound x w b r y (k.again h d f o e) v = record { placed = v.placed; stripes = v.stripes; writes = v.writes; main = v.main; frequency = v.frequency; left = tt }
+made-sound x w b r y (k.write_go d e) v = record { placed = v.placed; stripes = v.stripes; writes = v.writes; main = v.main; frequency = v.frequency; left = v.left }
+made-sound x w b r y (k.write_drain d e) v = record { placed = v.placed; stripes = v.stripes; writes = v.writes; main = v.main; frequency = v.frequency; left = v.left }
+made-sound x w b r y made v = v
 
-end-sound : (x : Shell) → IsConsistent x → IsConsistent (end_effect x).1
-end-sound x v =
-    elim (cases_Bool (is_over x)) as (λ _. IsConsistent (end_effect x).1) [
-      | inl e ↦ rw e v
-      | inr e ↦ rw e record { placed = v.placed; stripes = v.stripes; writes = v.writes; main = v.main; frequency = v.frequency; left = tt }
-    ]
-
-pub perform-sound : (w : ℕ) (b : Act) (x : Shell) → IsConsistent x → SoundTo (act_effect w b x)
-perform-sound w (a.Look k) x v = v
-perform-sound w (a.Offer s i) x v = when-sound (is_stripe s x && nat_lt i.node x.next) (offer_effect s i x) (λ t. offer-sound s i x (grind (arith, nat_tests, (and_parts (is_stripe s x) (nat_lt i.node x.next) t).0)) v)
-perform-sound w (a.Lose s i) x v = when-sound (is_stripe s x && nat_lt i.node x.next) (reply.Lost, x) (λ t. v)
-perform-sound w (a.Put k) x v = put-sound k x v
-perform-sound w (a.Remove k) x v = remove_at-sound k (node_of k x.table) x refl v
-perform-sound w (a.AfterRead b) x v = v
-perform-sound w a.AfterWrite x v = record { placed = v.placed; stripes = v.stripes; writes = v.writes; main = v.main; frequency = v.frequency; left = v.left }
-perform-sound w a.Begin x v = begin-sound w x.holder x v
-perform-sound w (a.DrainRead s) x v = held-any SoundTo w x.holder (λ o. hold_read s o x) tt (λ h f. when-sound (is_stripe s x && may_read h.phase) (drain_read s (stripe_at s x.stripes) x) (λ t. read-sound s (stripe_at s x.stripes) x refl (grind (arith, nat_tests, (and_parts (is_stripe s x) (may_read h.phase) t).0)) v))
-perform-sound w a.DrainWrite x v = held-any SoundTo w x.holder (λ o. hold_write o x) tt (λ h f. when-sound (may_write h.phase) (drain_write h x.writes x) (λ t. write-sound h x.writes x refl f v))
-perform-sound w a.Evict x v = held-any SoundTo w x.holder (λ o. hold_evict o x) tt (λ h f. evict-sound (in_phase Evictions h x) (evict_effect (in_phase Evictions h x)).0 (evict_effect (in_phase Evictions h x)).1 (evictions-by-reply (in_phase Evictions h x)) (phase-sound Evictions h x f v))
-perform-sound w a.End x v = held-any SoundTo w x.holder (λ o. hold_end o x) tt (λ h f. end-sound x v)
-
-tallied-sound : (p : Option (Reply × Shell)) → SoundTo p → SoundTo (counted_reply p)
-tallied-sound None v = tt
-tallied-sound (Some p) v = record { placed = v.placed; stripes = v.stripes; writes = v.writes; main = v.main; frequency = v.frequency; left = v.left }
-
-pub act-sound : (x : Shell) (s : Step) → IsConsistent x → SoundTo (act x s)
-act-sound x s v =
-    elim (cases_Bool (nat_lt x.applied 4294967296)) as (λ _. SoundTo (cond (nat_lt x.applied 4294967296) (counted_reply (act_effect s.worker s.act x)) None)) [
-      | inl e ↦ rw e (tallied-sound (act_effect s.worker s.act x) (perform-sound s.worker s.act x v))
-      | inr e ↦ rw e tt
-    ]
+pub sound-next : (x : Shell) (e : MadeStep) (z : Shell) → IsConsistent x → act x e.step ≡ Some (e.reply, z) → IsConsistent z
+sound-next x e z v h =
+    let s : Steps x e z = stepped x e z h in
+    let u : IsConsistent s.left = made-sound x e.step.worker e.step.act e.reply s.left s.made v in
+    rw s.is record { placed = u.placed; stripes = u.stripes; writes = u.writes; main = u.main; frequency = u.frequency; left = u.left }
 
 -- what is queued was given a node
 pub queued-below : (i : Item) (x : Shell) → IsConsistent x → 1 ≤ queue_occurrences i x.queues → i.node < x.next

@@ -8,13 +8,14 @@ use Rattle.step_record.specs.declared.step.Step.{Step}
 use Rattle.step_record.specs.declared.step.Reply.{Reply}
 use Rattle.shell_model.specs.Shell.{Shell, act}
 use Rattle.shell_model.specs.Consistency.{IsConsistent}
-use Rattle.shell_model.specs.Records.{change_of}
+use Rattle.shell_model.specs.Records.{shell_record_of}
 use Rattle.shell_model.specs.Laws.{MadeStep, IsShapeOf, empty_shell, some_end, open_began}
 use Rattle.shell_model.specs.ReachableShell.{IsReachable, RecordLaw, LaterLaws}
 use Rattle.shell_model.proofs.Acting.{IsUndone, act-undone}
-use Rattle.shell_model.proofs.Making as k
-use Rattle.shell_model.proofs.Making.{Makes}
-use Rattle.shell_model.proofs.Histories.{Steps, stepped, after-sound}
+use Rattle.shell_model.specs.ShellSteps as k
+use Rattle.shell_model.specs.ShellSteps.{Makes, Steps}
+use Rattle.shell_model.proofs.Making.{stepped}
+use Rattle.shell_model.proofs.Histories.{after-sound}
 use Rattle.shell_model.proofs.Holding.{opened-sound, holder-law, from-none}
 
 pub reached-sound : (x : Shell) → IsReachable x → IsConsistent x
@@ -22,9 +23,9 @@ reached-sound x r = rw r.gives (after-sound (empty_shell x.config r.shape) r.ent
 
 pub record-law : RecordLaw
 record-law x y s r h e =
-    let u : IsUndone (change_of s.worker s.act x) x (act x s) = act-undone x s (reached-sound x h) in
-    let v : IsUndone (change_of s.worker s.act x) x (Some (r, y)) = rw e at u in
-    rw e (record { step = v.0; reached = rw v.1 h }, v.1)
+    let u : IsUndone (shell_record_of s x) x (act x s) = act-undone x s (reached-sound x h) in
+    let v : IsUndone (shell_record_of s x) x (Some (r, y)) = rw e at u in
+    (record { step = v.0; reached = rw v.1 h }, v.1)
 
 pub later-laws : LaterLaws
 later-laws x es h n l = record {
@@ -43,7 +44,7 @@ legal-append x [] fs l m = m
 legal-append x (e ∷ es) fs l m = (l.0, legal-append (next_data (act x e.step) x) es fs l.1 m)
 
 config-step : (x : Shell) (w : ℕ) (b : Act) (r : Reply) (y : Shell) → Makes w x b r y → y.config ≡ x.config
-config-step x w b r y k.busy = refl
+config-step x w b r y (k.busy h i) = refl
 config-step x w b r y made = refl
 
 abbrev made_of : Step → Reply → MadeStep

@@ -13,17 +13,17 @@ use Rattle.step_record.specs.History.{next_data, data_after, IsLegal}
 use Rattle.shell_model.specs.Shell.{Shell, act}
 use Rattle.shell_model.specs.Laws.{MadeStep, empty_shell}
 use Rattle.shell_model.specs.ReachableShell.{IsReachable}
-use Rattle.shell_model.proofs.Making as k
-use Rattle.shell_model.proofs.Making.{Makes}
-use Rattle.shell_model.proofs.Histories.{Steps, stepped}
+use Rattle.shell_model.specs.ShellSteps as k
+use Rattle.shell_model.specs.ShellSteps.{Makes, Steps}
+use Rattle.shell_model.proofs.Making.{stepped}
 
 -- the buffers are as many as the configuration says
 abbrev IsStriped : Shell → Type 0
 IsStriped x = length x.stripes ≡ x.config.stripes
 
 striped-step : (x : Shell) (w : ℕ) (b : Act) (r : Reply) (y : Shell) → Makes w x b r y → IsStriped x → IsStriped y
-striped-step x w b r y (k.kept s i h) v = length-set x.stripes s _ ∙ v
-striped-step x w b r y (k.drained s i rest h e) v = length-set x.stripes s rest ∙ v
+striped-step x w b r y (k.kept s i h few) v = length-set x.stripes s _ ∙ v
+striped-step x w b r y (k.drained s i rest h e) v = length-set x.stripes s _ ∙ v
 striped-step x w b r y made v = v
 
 after-striped : (x : Shell) (es : List MadeStep) → IsStriped x → IsLegal act x es → IsStriped (data_after act x es)

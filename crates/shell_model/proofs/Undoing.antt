@@ -1,11 +1,12 @@
 -- Each step's change fits what the step left, and undoes it.
-use Rattle.std.proofs.Common.{◌≡◌, ℕ, suc, zero, ◌+◌, ◌-◌, ◌<◌, ◌≤◌, Bool, true, false, cond, ◌&&◌, eqb, nat_lt, Option, Some, None, List, [], ◌∷◌, ◌++◌, length, set, ap, sym, subst, refl, arith, inl, inr, length-append}
-use Rattle.std.proofs.lemmas.Bool.{and_parts, cases_Bool}
+use Rattle.std.proofs.Common.{◌≡◌, ℕ, suc, zero, ◌+◌, ◌-◌, ◌<◌, ◌≤◌, Bool, true, false, cond, ◌&&◌, eqb, nat_lt, Option, Some, None, List, [], ◌∷◌, ◌++◌, length, set, drop, ap, sym, subst, refl, arith, inl, inr, length-append}
+use Rattle.std.proofs.lemmas.Bool.{and_parts, cases_Bool, cond_both, eqb-false, ltb-true}
 use Rattle.std.proofs.lemmas.Bool.Decides.{nat_tests}
 use Rattle.std.proofs.lemmas.List.{take_at, get_or-set_same, set-set, set-get_or, length-set}
 use Rattle.step_record.specs.declared.item.Item.{Item}
 use Rattle.step_record.specs.declared.step.Act.{Act}
 use Rattle.step_record.specs.declared.step.Act.TheVariants as a
+use Rattle.step_record.specs.declared.drain.Phase.{Phase}
 use Rattle.step_record.specs.declared.drain.Phase.TheVariants.{Writes, Evictions}
 use Rattle.step_record.specs.declared.step.Reply.{Reply}
 use Rattle.step_record.specs.declared.step.Reply.TheVariants as reply
@@ -22,7 +23,7 @@ use Rattle.replacement.specs.Table.{hit_in}
 use Rattle.replacement.specs.Plan.{Plan, hit_plan, stay_plan, candidate_of, eviction_plan}
 use Rattle.replacement.specs.PlanMoves.{queues_after_transfer, queues_after, response_of_plan, removal_record, moves_of, undone_by, undone_moves, FitsBy, FitsMoves}
 use Rattle.replacement.proofs.Carrying.{carries}
-use Rattle.replacement.proofs.Planned.{hits-planned}
+use Rattle.replacement.proofs.Planned.{hits-planned, evictions-planned}
 use Rattle.shell_buffers.specs.declared.task.Task.{Task}
 use Rattle.shell_buffers.specs.declared.task.Task.TheVariants.{Add, Update, Remove}
 use Rattle.shell_model.specs.declared.holder.Holder.{Holder}
@@ -31,27 +32,27 @@ use Rattle.shell_model.specs.declared.record.Change.{Change}
 use Rattle.shell_model.specs.declared.record.Change.TheVariants.{Nothing, Offered, Removed, Passed, Ended}
 use Rattle.shell_model.specs.Frequency.{frequency_unrecorded, admits}
 use Rattle.shell_buffers.specs.Buffers.{stripe_at, all_but_newest}
-use Rattle.shell_model.specs.Shell.{Shell, node_of, is_listed, unlisted, shell_protected_size, cleared_from, offer_effect, put_effect, put_at, removing, remove_at, begin_effect, is_over, held_by, in_phase, drain_at_end, shell_after_touch, drain_read, drain_write, apply_task, unlisted_by, evicted_by, evict_effect, end_effect, some_if, may_read, may_write, is_stripe, hold_read, hold_write, hold_evict, hold_end, act_effect}
-use Rattle.shell_model.specs.Records.{IsNewest, FitsTouched, entered, IsOut, before_change, FitsChange, hit_moves, touched_of, added_of, cleared_of, task_change, put_change, remove_change, begin_change, read_change, write_change, leaves_table, planned_change, evict_change, if_held, change_of}
+use Rattle.shell_model.specs.ShellState.{Shell, shell_protected_size, is_over, node_of, is_listed, unlisted, unlisted_by, cleared_from, holder_in_phase}
+use Rattle.shell_model.specs.Changes.{shell_after_touch, shell_after_task, holder_after_task, shell_eviction, after_change, holder_with_task, entered, before_change, IsNewest, FitsTouched, IsInPhase, HasLeft, IsOut, FitsChange}
+use Rattle.shell_model.specs.Shell.{offer_reply, put_at, put_reply, remove_at, begin_reply, hit_moves, touched_of, added_of, cleared_of, read_reply, task_reply, write_reply, evict_effect, leaves_table, planned_change, evict_change, drain_at_end, end_reply, may_read, may_write, is_stripe, some_if, act_reply}
 use Rattle.replacement.specs.Counts.{queue_occurrences}
 use Rattle.shell_model.specs.Consistency.{IsConsistent, waiting_adds, leaving, IsAscending}
 use Rattle.replacement.proofs.Counting.{queued-moved}
 use Rattle.shell_model.proofs.Counting.{without-placed, node_of-placed, placed-without, node_of-without, listed-times, node-listed}
-use Rattle.shell_model.proofs.Evicting.{evictions-by-plan}
+use Rattle.shell_model.proofs.Making.{when-held}
 use Rattle.shell_model.proofs.Frequency.{fits_recorded, unrecorded-recorded}
 
--- the change leads from x to y
-pub record Goes (c : Change) (x y : Shell) : Type 0 where
-  pub fits : FitsChange c y
-  pub back : before_change c y ≡ x
+-- the change fits what it leaves, and leads back
+pub record Goes (x : Shell) (c : Change) : Type 0 where
+  pub fits : FitsChange c (after_change c x)
+  pub back : before_change c (after_change c x) ≡ x
 
-abbrev pub GoesTo : Change → Shell → Option (Reply × Shell) → Type 0
-GoesTo c x None = Unit {0}
-GoesTo c x (Some p) = Goes c x p.1
+abbrev pub GoesTo : Shell → Option (Reply × Change) → Type 0
+GoesTo x None = Unit {0}
+GoesTo x (Some p) = Goes x p.1
 
-when-goes : (c : Change) (x : Shell) (b : Bool) (p : Reply × Shell) → (b ≡ true → Goes c x p.1) → GoesTo c x (some_if b p)
-when-goes c x true p h = h refl
-when-goes c x false p h = tt
+nothing-goes : (x : Shell) → Goes x Nothing
+nothing-goes x = record { fits = tt; back = refl }
 
 pub but_newest-push : {A : Type 0} → (l : List A) (e : A) → all_but_newest (l ++ e ∷ []) ≡ l
 but_newest-push l e =
@@ -63,17 +64,14 @@ newest-push l e = rw (but_newest-push l e) refl
 
 -- offers
 
-offer-goes : (s : ℕ) (i : Item) (x : Shell) → s < length x.stripes → Goes (cond (nat_lt (length (stripe_at s x.stripes)) 16) (Offered s i) Nothing) x (offer_effect s i x).1
+offer-goes : (s : ℕ) (i : Item) (x : Shell) → s < length x.stripes → Goes x (offer_reply s i x).1
 offer-goes s i x h =
-    elim (cases_Bool (nat_lt (length (stripe_at s x.stripes)) 16)) as (λ _. Goes (cond (nat_lt (length (stripe_at s x.stripes)) 16) (Offered s i) Nothing) x (offer_effect s i x).1) [
-      | inl e ↦
-          let is_same_item : stripe_at s (set x.stripes s (stripe_at s x.stripes ++ i ∷ [])) ≡ stripe_at s x.stripes ++ i ∷ [] = get_or-set_same x.stripes s (stripe_at s x.stripes ++ i ∷ []) [] h in
-          rw e record {
-            fits = (omega (arith, h, length-set x.stripes s (stripe_at s x.stripes ++ i ∷ [])), rw is_same_item (newest-push (stripe_at s x.stripes) i));
-            back = rw (is_same_item, but_newest-push (stripe_at s x.stripes) i, set-set x.stripes s (stripe_at s x.stripes ++ i ∷ []) (stripe_at s x.stripes), set-get_or x.stripes s []) refl;
-          }
-      | inr e ↦ rw e record { fits = tt; back = refl }
-    ]
+    let same : stripe_at s (set x.stripes s (stripe_at s x.stripes ++ i ∷ [])) ≡ stripe_at s x.stripes ++ i ∷ [] = get_or-set_same x.stripes s (stripe_at s x.stripes ++ i ∷ []) [] h in
+    cond_both (nat_lt (length (stripe_at s x.stripes)) 16) (reply.Kept, Offered s i) (reply.Full, Nothing) (λ (p : Reply × Change). Goes x p.1)
+    (λ e. record {
+      fits = (omega (arith, h, length-set x.stripes s (stripe_at s x.stripes ++ i ∷ [])), rw same (newest-push (stripe_at s x.stripes) i));
+      back = rw (same, but_newest-push (stripe_at s x.stripes) i, set-set x.stripes s (stripe_at s x.stripes ++ i ∷ []) (stripe_at s x.stripes), set-get_or x.stripes s []) refl;
+    }) (λ e. nothing-goes x)
 
 -- puts
 
@@ -84,7 +82,7 @@ fresh-none x k w = let n : occurrences record { key = k; node = x.next } x.table
     none zero f = refl
     none (suc n) f = absurd (let no : x.next < x.next = f (omega arith) in omega arith)
 
-put_at-goes : (k : ℕ) (o : Option ℕ) (x : Shell) → node_of k x.table ≡ o → IsConsistent x → Goes (put_change k o x) x (put_at k o x).1
+put_at-goes : (k : ℕ) (o : Option ℕ) (x : Shell) → node_of k x.table ≡ o → IsConsistent x → Goes x (put_at k o x).1
 put_at-goes k (Some n) x e w =
     let i : Item = record { key = k; node = n } in
     record { fits = newest-push x.writes (Update i); back = rw (but_newest-push x.writes (Update i)) refl }
@@ -96,28 +94,23 @@ put_at-goes k None x e w =
           rw (but_newest-push x.writes (Add record { key = k; node = x.next }), without-placed record { key = k; node = x.next } x.table (fresh-none x k w), n) refl;
     }
 
-put-goes : (k : ℕ) (x : Shell) → IsConsistent x → Goes (cond (nat_lt (length x.writes) 128) (put_change k (node_of k x.table) x) Nothing) x (put_effect k x).1
+put-goes : (k : ℕ) (x : Shell) → IsConsistent x → Goes x (put_reply k x).1
 put-goes k x w =
-    elim (cases_Bool (nat_lt (length x.writes) 128)) as (λ _. Goes (cond (nat_lt (length x.writes) 128) (put_change k (node_of k x.table) x) Nothing) x (put_effect k x).1) [
-      | inl e ↦ rw e (put_at-goes k (node_of k x.table) x refl w)
-      | inr e ↦ rw e record { fits = tt; back = refl }
-    ]
+    cond_both (nat_lt (length x.writes) 128) (put_at k (node_of k x.table) x) (reply.WritesFull, Nothing) (λ (p : Reply × Change). Goes x p.1)
+    (λ e. put_at-goes k (node_of k x.table) x refl w) (λ e. nothing-goes x)
 
-remove_at-goes : (k : ℕ) (o : Option ℕ) (x : Shell) → node_of k x.table ≡ o → IsConsistent x → Goes (remove_change k o x) x (remove_at k o x).1
-remove_at-goes k None x e w = record { fits = tt; back = refl }
-remove_at-goes k (Some n) x e w =
-    let i : Item = record { key = k; node = n } in
+remove-goes : (k : ℕ) (o : Option ℕ) (x : Shell) → node_of k x.table ≡ o → IsConsistent x → Goes x (remove_at k o x).1
+remove-goes k None x e w = nothing-goes x
+remove-goes k (Some n) x e w =
     let h : 1 ≤ occurrences record { key = k; node = n } x.table = listed-times record { key = k; node = n } x.table (node-listed record { key = k; node = n } x.table e) in
-    elim (cases_Bool (nat_lt (length x.writes) 128)) as (λ _. Goes (cond (nat_lt (length x.writes) 128) (Removed record { key = k; node = n }) Nothing) x (cond {A = Reply × Shell} (nat_lt (length x.writes) 128) (reply.Removed n, removing record { key = k; node = n } x) (reply.WritesFull, x)).1) [
-      | inl t ↦ rw t record {
-        fits = (newest-push x.writes (Remove record { key = k; node = n }), node_of-without record { key = k; node = n } x.table w.placed.ascending h);
-        back = rw (but_newest-push x.writes (Remove record { key = k; node = n }), placed-without record { key = k; node = n } x.table w.placed.ascending h) refl;
-      }
-      | inr t ↦ rw t record { fits = tt; back = refl }
-    ]
+    cond_both (nat_lt (length x.writes) 128) (reply.Removed n, Removed record { key = k; node = n }) (reply.WritesFull, Nothing) (λ (p : Reply × Change). Goes x p.1)
+    (λ t. record {
+      fits = (newest-push x.writes (Remove record { key = k; node = n }), node_of-without record { key = k; node = n } x.table w.placed.ascending h);
+      back = rw (but_newest-push x.writes (Remove record { key = k; node = n }), placed-without record { key = k; node = n } x.table w.placed.ascending h) refl;
+    }) (λ t. nothing-goes x)
 
-begin-goes : (w : ℕ) (o : Option Holder) (x : Shell) → x.holder ≡ o → Goes (begin_change w o x) x (begin_effect w o x).1
-begin-goes w (Some h) x e = record { fits = tt; back = refl }
+begin-goes : (w : ℕ) (o : Option Holder) (x : Shell) → x.holder ≡ o → Goes x (begin_reply w o x).1
+begin-goes w (Some h) x e = nothing-goes x
 begin-goes w None x e = record { fits = (refl, refl); back = rw (← e) refl }
 
 -- hits
@@ -164,26 +157,18 @@ touch-back i x w =
 
 -- reads
 
-read-goes : (s : ℕ) (l : List Item) (x : Shell) → stripe_at s x.stripes ≡ l → s < length x.stripes → IsConsistent x → Goes (read_change s l x) x (drain_read s l x).1
-read-goes s [] x e h w = record { fits = tt; back = refl }
+read-goes : (s : ℕ) (l : List Item) (x : Shell) → stripe_at s x.stripes ≡ l → s < length x.stripes → IsConsistent x → Goes x (read_reply s l x).1
+read-goes s [] x e h w = nothing-goes x
 read-goes s (i ∷ rest) x e h w =
     let b = touch-back i x w in
-    let is_same_item : stripe_at s (set x.stripes s rest) ≡ rest = get_or-set_same x.stripes s rest [] h in
-    let few : length (stripe_at s x.stripes) ≤ 16 = w.stripes s in
-    let few2 : suc (length rest) ≤ 16 = rw e at few in
+    let oldest : drop 1 (stripe_at s x.stripes) ≡ rest = rw e refl in
+    let same : stripe_at s (set x.stripes s rest) ≡ rest = get_or-set_same x.stripes s rest [] h in
+    let few : suc (length rest) ≤ 16 = rw e at (w.stripes s) in
     let whole : set x.stripes s (i ∷ rest) ≡ x.stripes = rw (← e) (set-get_or x.stripes s []) in
     record {
-      fits = (record { moves = b.fits.moves; frequency = b.fits.frequency; stays = b.fits.stays }, omega (arith, h, length-set x.stripes s rest), rw is_same_item (omega (arith, few2)));
-      back = rw (b.queues, b.frequency, is_same_item, set-set x.stripes s rest (i ∷ rest), whole) refl;
+      fits = (record { moves = b.fits.moves; frequency = b.fits.frequency; stays = b.fits.stays }, omega (arith, h, length-set x.stripes s (drop 1 (stripe_at s x.stripes))), rw (oldest, same) (omega (arith, few)));
+      back = rw (b.queues, b.frequency, oldest, same, set-set x.stripes s rest (i ∷ rest), whole) refl;
     }
-
-hold_read-goes : (s : ℕ) (w : ℕ) (o : Option Holder) (x : Shell) → IsConsistent x → GoesTo (read_change s (stripe_at s x.stripes) x) x (hold_read s (held_by w o) x)
-hold_read-goes s w None x v = tt
-hold_read-goes s w (Some h) x v =
-    elim (cases_Bool (eqb w h.worker)) as (λ _. GoesTo (read_change s (stripe_at s x.stripes) x) x (hold_read s (cond (eqb w h.worker) (Some h) None) x)) [
-      | inl e ↦ rw e (when-goes (read_change s (stripe_at s x.stripes) x) x (is_stripe s x && may_read h.phase) (drain_read s (stripe_at s x.stripes) x) (λ t. read-goes s (stripe_at s x.stripes) x refl (grind (arith, nat_tests, (and_parts (is_stripe s x) (may_read h.phase) t).0)) v))
-      | inr e ↦ rw e tt
-    ]
 
 -- writes
 
@@ -194,7 +179,7 @@ queued-waits i rest x e w =
     let c : queue_occurrences i x.queues + (1 + waiting_adds i rest) ≤ 1 = rw (same-refl i) at b in
     omega (arith, c)
 
-added-back : (i : Item) (rest : List Task) (x : Shell) → x.writes ≡ Add i ∷ rest → IsConsistent x → TouchBack (added_of i x) x (apply_task (Add i) x).1
+added-back : (i : Item) (rest : List Task) (x : Shell) → x.writes ≡ Add i ∷ rest → IsConsistent x → TouchBack (added_of i x) x (shell_after_task (Add i) x)
 added-back i rest x e w =
     let n : queues_without i x.queues ≡ x.queues = taken-none i x.queues (queued-waits i rest x e w) in
     let m : queues_after_move i Window x.queues ≡ queues_after_push Window i x.queues = ap (λ r. queues_after_push Window i r) n in
@@ -215,60 +200,49 @@ pub cleared-back : (i : Item) (q : Queues) (p : Option Queue) → IsDistinct q �
 cleared-back i q None d = record { fits = tt; back = refl }
 cleared-back i q (Some p) d = let l = out_leads i q d in record { fits = l.fits; back = l.back }
 
--- the holder with a task less left
-abbrev pub worn : Holder → Holder
-worn h = record { worker = h.worker; phase = Writes; left = h.left - 1 }
+-- where a task is applied, a task fits before the rest again, and another one is left to the holder
+record IsTaken (h : Holder) (t : Task) (x : Shell) : Type 0 where
+  room : length (drop 1 x.writes) < 128
+  phase : IsInPhase Writes (holder_after_task x.holder)
+  left : HasLeft (holder_after_task x.holder)
+  writes : t ∷ drop 1 x.writes ≡ x.writes
+  holder : holder_with_task h.phase (holder_after_task x.holder) ≡ x.holder
 
--- where a task is applied, a task fits behind the rest again, and another one is left to the holder
-record IsWorn (h : Holder) (rest : List Task) : Type 0 where
-  room : length rest < 128
-  left : h.left - 1 < 128
-  again : h.left - 1 + 1 ≡ h.left
-
-is-worn : (t : Task) (rest : List Task) (h : Holder) (x : Shell) → x.writes ≡ t ∷ rest → x.holder ≡ Some h → 1 ≤ h.left → IsConsistent x → IsWorn h rest
-is-worn t rest h x e f more w =
+is-taken : (t : Task) (rest : List Task) (h : Holder) (x : Shell) → x.writes ≡ t ∷ rest → x.holder ≡ Some h → 1 ≤ h.left → IsConsistent x → IsTaken h t x
+is-taken t rest h x e f more w =
     let few : suc (length rest) ≤ 128 = rw e at w.writes in
     let left : h.left ≤ 128 = rw f at w.left in
-    record { room = omega (arith, few); left = omega (arith, left, more); again = omega arith }
+    let again : h.left - 1 + 1 ≡ h.left = omega (arith, more) in
+    record { room = rw e (omega (arith, few)); phase = rw f refl; left = rw f (omega (arith, left, more)); writes = rw e refl; holder = rw f (rw again refl) }
 
-task-goes : (t : Task) (rest : List Task) (h : Holder) (x : Shell) → x.writes ≡ t ∷ rest → x.holder ≡ Some h → 1 ≤ h.left → IsConsistent x → Goes (task_change h.phase t x) x (apply_task t record x { writes = rest; holder = Some (worn h) }).1
+task-goes : (t : Task) (rest : List Task) (h : Holder) (x : Shell) → x.writes ≡ t ∷ rest → x.holder ≡ Some h → 1 ≤ h.left → IsConsistent x → Goes x (task_reply h.phase t x).1
 task-goes (Add i) rest h x e f more w =
     let b = added-back i rest x e w in
-    let t = is-worn (Add i) rest h x e f more w in
+    let t = is-taken (Add i) rest h x e f more w in
     record {
-      fits = (record { moves = b.fits.moves; frequency = b.fits.frequency; stays = b.fits.stays }, t.room, refl, t.left);
-      back = let again = t.again in rw (b.queues, b.frequency, again, ← e, ← f) refl;
+      fits = (record { moves = b.fits.moves; frequency = b.fits.frequency; stays = b.fits.stays }, t.room, t.phase, t.left);
+      back = rw (b.queues, b.frequency, t.writes, t.holder) refl;
     }
 task-goes (Update i) rest h x e f more w =
     let b = touch-back i x w in
-    let t = is-worn (Update i) rest h x e f more w in
+    let t = is-taken (Update i) rest h x e f more w in
     record {
-      fits = (record { moves = b.fits.moves; frequency = b.fits.frequency; stays = b.fits.stays }, t.room, refl, t.left);
-      back = let again = t.again in rw (b.queues, b.frequency, again, ← e, ← f) refl;
+      fits = (record { moves = b.fits.moves; frequency = b.fits.frequency; stays = b.fits.stays }, t.room, t.phase, t.left);
+      back = rw (b.queues, b.frequency, t.writes, t.holder) refl;
     }
 task-goes (Remove i) rest h x e f more w =
     let b = cleared-back i x.queues (queue_holding i x.queues) (sound-distinct x w) in
-    let t = is-worn (Remove i) rest h x e f more w in
-    record {
-      fits = (b.fits, t.room, refl, t.left);
-      back = let again = t.again in rw (b.back, again, ← e, ← f) refl;
-    }
+    let t = is-taken (Remove i) rest h x e f more w in
+    record { fits = (b.fits, t.room, t.phase, t.left); back = rw (b.back, t.writes, t.holder) refl }
 
-write-goes : (h : Holder) (l : List Task) (x : Shell) → x.writes ≡ l → x.holder ≡ Some h → IsConsistent x → Goes (write_change h l x) x (drain_write h l x).1
-write-goes h [] x e f w = record { fits = refl; back = rw (← f) refl }
+passed-goes : (p : Phase) (h : Holder) (x : Shell) → x.holder ≡ Some h → Goes x (Passed h.phase p)
+passed-goes p h x f = let same : holder_in_phase h.phase (holder_in_phase p x.holder) ≡ x.holder = rw f refl in record { fits = rw f refl; back = rw same refl }
+
+write-goes : (h : Holder) (l : List Task) (x : Shell) → x.writes ≡ l → x.holder ≡ Some h → IsConsistent x → Goes x (write_reply h l x).1
+write-goes h [] x e f w = passed-goes Writes h x f
 write-goes h (t ∷ rest) x e f w =
-    elim (cases_Bool (eqb h.left 0)) as (λ _. Goes (cond (eqb h.left 0) (Passed h.phase Writes) (task_change h.phase t x)) x (cond (eqb h.left 0) (reply.Enough, in_phase Writes h x) (apply_task t (record x { writes = rest; holder = Some (worn h) }))).1) [
-      | inl g ↦ rw g record { fits = refl; back = rw (← f) refl }
-      | inr g ↦ let more : 1 ≤ h.left = grind (arith, nat_tests) in rw g (task-goes t rest h x e f more w)
-    ]
-
-if_held-goes : (f : Holder → Change) (g : Holder → Option (Reply × Shell)) (w : ℕ) (o : Option Holder) (x : Shell) (u : Option Holder → Option (Reply × Shell)) → u None ≡ None → ((h : Holder) → u (Some h) ≡ g h) → ((h : Holder) → o ≡ Some h → GoesTo (f h) x (g h)) → GoesTo (if_held f o) x (u (held_by w o))
-if_held-goes f g w None x u n s k = rw n tt
-if_held-goes f g w (Some h) x u n s k =
-    elim (cases_Bool (eqb w h.worker)) as (λ _. GoesTo (f h) x (u (cond (eqb w h.worker) (Some h) None))) [
-      | inl e ↦ rw (e, s h) (k h refl)
-      | inr e ↦ rw (e, n) tt
-    ]
+    cond_both (eqb h.left 0) (reply.Enough, Passed h.phase Writes) (task_reply h.phase t x) (λ (p : Reply × Change). Goes x p.1)
+    (λ g. passed-goes Writes h x f) (λ g. task-goes t rest h x e f (let n = eqb-false h.left 0 g in omega (arith, n)) w)
 
 -- evictions
 
@@ -313,49 +287,43 @@ table-back (Some i) s t a =
       | inr e ↦ rw e record { out = tt; back = refl }
     ]
 
-planned-goes : (h : Holder) (o : Option Item) (p : Plan) (x : Shell) → x.holder ≡ Some h → IsConsistent x
-    → Goes (planned_change h o p x) x (evicted_by o (response_of_plan p x.queues) (in_phase Evictions h x)).1
-planned-goes h None p x f w = record { fits = refl; back = rw (← f) refl }
-planned-goes h (Some c) p x f w =
+planned-goes : (h : Holder) (o : Option Item) (p : Plan) (x : Shell) → x.holder ≡ Some h → shell_eviction x ≡ response_of_plan p x.queues → IsConsistent x
+    → Goes x (planned_change h o p x)
+planned-goes h None p x f r w = passed-goes Evictions h x f
+planned-goes h (Some c) p x f r w =
     let m = plan-back p x.queues (sound-distinct x w) in
     let t = table-back p.leaves (queues_after_transfer p.first x.queues) x.table w.placed.ascending in
-    record { fits = (record { moves = m.fits; table = t.out }, refl); back = rw (m.back, t.back) (rw (← f) refl) }
+    let same : holder_in_phase h.phase (holder_in_phase Evictions x.holder) ≡ x.holder = rw f refl in
+    record { fits = (rw r record { moves = m.fits; table = t.out }, rw f refl); back = rw (r, m.back, t.back, same) refl }
 
-evict-goes : (h : Holder) (x : Shell) → x.holder ≡ Some h → IsConsistent x
-    → Goes (evict_change h x) x (evict_effect (in_phase Evictions h x)).1
+evict-goes : (h : Holder) (x : Shell) → x.holder ≡ Some h → IsConsistent x → Goes x (evict_change h x)
 evict-goes h x f w =
-    subst (λ (r : Reply × Shell). Goes (evict_change h x) x r.1)
-    (sym (evictions-by-plan (in_phase Evictions h x) (sound-distinct x w)))
-    (planned-goes h
-    (candidate_of (three_queues x.config) x.queues)
-    (eviction_plan (three_queues x.config) (admits x.frequency) x.queues)
-    x f w)
+    planned-goes h (candidate_of (three_queues x.config) x.queues) (eviction_plan (three_queues x.config) (admits x.frequency) x.queues) x f
+    (evictions-planned (three_queues x.config) (admits x.frequency) x.queues (sound-distinct x w)) w
 
-end-goes : (w : ℕ) (x : Shell) → GoesTo (cond (is_over x) Nothing (if_held (λ h. Ended h x.drain (drain_at_end x.drain).1) x.holder)) x (hold_end (held_by w x.holder) x)
-end-goes w x =
-    elim (cases_Bool (is_over x)) as (λ _. GoesTo (cond (is_over x) Nothing (if_held (λ h. Ended h x.drain (drain_at_end x.drain).1) x.holder)) x (hold_end (held_by w x.holder) x)) [
-      | inl e ↦ rw e (over (held_by w x.holder) e)
-      | inr e ↦ rw e (if_held-goes (λ h. Ended h x.drain (drain_at_end x.drain).1) (λ h. Some (end_effect x)) w x.holder x (λ o. hold_end o x) refl (λ h. refl) (λ h f. rw e record { fits = (refl, refl); back = rw (← f) refl }))
-    ]
-  where
-    over : (o : Option Holder) → is_over x ≡ true → GoesTo Nothing x (hold_end o x)
-    over None e = tt
-    over (Some h) e = rw e record { fits = tt; back = refl }
+end-goes : (h : Holder) (x : Shell) → x.holder ≡ Some h → Goes x (end_reply h x).1
+end-goes h x f =
+    cond_both (is_over x) (reply.NotYet, Nothing) ((drain_at_end x.drain).0, Ended h x.drain (drain_at_end x.drain).1) (λ (p : Reply × Change). Goes x p.1)
+    (λ e. nothing-goes x) (λ e. record { fits = (refl, refl); back = rw (← f) refl })
 
--- every accepted act's change leads from the state before to the state after
-pub perform-goes : (w : ℕ) (b : Act) (x : Shell) → IsConsistent x → GoesTo (change_of w b x) x (act_effect w b x)
-perform-goes w (a.Look k) x v = record { fits = tt; back = refl }
-perform-goes w (a.Offer s i) x v = when-goes (change_of w (a.Offer s i) x) x (is_stripe s x && nat_lt i.node x.next) (offer_effect s i x) (λ t. offer-goes s i x (grind (arith, nat_tests, (and_parts (is_stripe s x) (nat_lt i.node x.next) t).0)))
-perform-goes w (a.Lose s i) x v = when-goes Nothing x (is_stripe s x && nat_lt i.node x.next) (reply.Lost, x) (λ t. record { fits = tt; back = refl })
-perform-goes w (a.Put k) x v = put-goes k x v
-perform-goes w (a.Remove k) x v = remove_at-goes k (node_of k x.table) x refl v
-perform-goes w (a.AfterRead b) x v = record { fits = tt; back = refl }
-perform-goes w a.AfterWrite x v = record { fits = refl; back = refl }
-perform-goes w a.Begin x v = begin-goes w x.holder x refl
-perform-goes w (a.DrainRead s) x v = hold_read-goes s w x.holder x v
-perform-goes w a.DrainWrite x v =
-    if_held-goes (λ h. write_change h x.writes x) (λ h. some_if (may_write h.phase) (drain_write h x.writes x)) w x.holder x (λ o. hold_write o x) refl (λ h. refl)
-    (λ h f. when-goes (write_change h x.writes x) x (may_write h.phase) (drain_write h x.writes x) (λ t. write-goes h x.writes x refl f v))
-perform-goes w a.Evict x v =
-    if_held-goes (λ h. evict_change h x) (λ h. Some (evict_effect (in_phase Evictions h x))) w x.holder x (λ o. hold_evict o x) refl (λ h. refl) (λ h f. evict-goes h x f v)
-perform-goes w a.End x v = end-goes w x
+-- every accepted act's change leads back from what it leaves
+pub reply-goes : (w : ℕ) (b : Act) (x : Shell) → IsConsistent x → GoesTo x (act_reply w b x)
+reply-goes w (a.Look k) x v = nothing-goes x
+reply-goes w (a.Offer s i) x v =
+    cond_both (is_stripe s x && nat_lt i.node x.next) (Some (offer_reply s i x)) None (GoesTo x)
+    (λ t. offer-goes s i x (ltb-true s (length x.stripes) (and_parts (is_stripe s x) (nat_lt i.node x.next) t).0)) (λ t. tt)
+reply-goes w (a.Lose s i) x v = cond_both (is_stripe s x && nat_lt i.node x.next) (Some (reply.Lost, Nothing)) None (GoesTo x) (λ t. nothing-goes x) (λ t. tt)
+reply-goes w (a.Put k) x v = put-goes k x v
+reply-goes w (a.Remove k) x v = remove-goes k (node_of k x.table) x refl v
+reply-goes w (a.AfterRead b) x v = nothing-goes x
+reply-goes w a.AfterWrite x v = record { fits = refl; back = refl }
+reply-goes w a.Begin x v = begin-goes w x.holder x refl
+reply-goes w (a.DrainRead s) x v =
+    when-held (GoesTo x) (λ h. some_if (is_stripe s x && may_read h.phase) (read_reply s (stripe_at s x.stripes) x)) w x tt
+    (λ h f. cond_both (is_stripe s x && may_read h.phase) (Some (read_reply s (stripe_at s x.stripes) x)) None (GoesTo x)
+    (λ t. read-goes s (stripe_at s x.stripes) x refl (ltb-true s (length x.stripes) (and_parts (is_stripe s x) (may_read h.phase) t).0) v) (λ t. tt))
+reply-goes w a.DrainWrite x v =
+    when-held (GoesTo x) (λ h. some_if (may_write h.phase) (write_reply h x.writes x)) w x tt
+    (λ h f. cond_both (may_write h.phase) (Some (write_reply h x.writes x)) None (GoesTo x) (λ t. write-goes h x.writes x refl f.is v) (λ t. tt))
+reply-goes w a.Evict x v = when-held (GoesTo x) (λ h. Some ((evict_effect x).0, evict_change h x)) w x tt (λ h f. evict-goes h x f.is v)
+reply-goes w a.End x v = when-held (GoesTo x) (λ h. Some (end_reply h x)) w x tt (λ h f. end-goes h x f.is)

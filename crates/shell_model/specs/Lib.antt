@@ -1,8 +1,11 @@
-pub mod Frequency
 pub mod ShellStats
+pub mod Frequency
+pub mod ShellState
+pub mod Changes
 pub mod Shell
+pub mod ShellEviction
 pub mod Records
 pub mod Consistency
-pub mod ShellEviction
 pub mod Laws
+pub mod ShellSteps
 pub mod ReachableShell

@@ -3,6 +3,7 @@ ghost use Rattle.shell_model.specs.ShellEviction.{EvictionsByReply};
 ghost use Rattle.shell_model.specs.Laws.{HistoryLaws};
 ghost use Rattle.shell_model.specs.ReachableShell.{RecordLaw, LaterLaws, BoundLaw, HoldLaws};
 ghost use Rattle.shell_model.specs.Shell.{act};
+ghost use Rattle.shell_model.specs.ShellSteps.{StepsByReply};
 ghost use Rattle.step_record.specs.Answers.{AnswersItsActs};
 
 /// The replies so far determine the state of a shell that was opened empty: each read buffer is the offers kept less those
@@ -37,6 +38,11 @@ pub fn replies_belong()
 /// A worker holds the maintenance from its Began to its own End.
 pub fn holder_stays()
     ensures { HoldLaws }
+{}
+
+/// Each accepted step is one of the cases by its reply: when that reply is given, and what the step changes.
+pub fn steps_by_reply()
+    ensures { StepsByReply }
 {}
 
 /// An eviction, which is that of the policies' table of moves, in the words of the maintenance: what it makes of the

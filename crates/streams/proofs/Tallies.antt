@@ -4,7 +4,7 @@ use Rattle.std.specs.IoError.{error_kind}
 use Rattle.std.specs.declared.io.Error.{Error}
 use Rattle.std.specs.declared.io.ErrorKind.TheVariants.{Interrupted}
 use Rattle.streams.specs.Tally.{CountsError, Exhausts, IsServed, Spends}
-use Rattle.streams.specs.declared.patience.TheConstants.{INTERRUPTIONS}
+use Rattle.streams.specs.declared.retry_budget.TheConstants.{INTERRUPTIONS}
 use Rattle.streams.specs.declared.tally.Tally.{Tally}
 
 -- a call that is not made again

@@ -1,14 +1,17 @@
 -- Several jobs at the same capacities.
-use Rattle.std.proofs.Common.{◌≡◌, ℕ, zero, suc, ◌+◌, ◌*◌, ◌<◌, ◌≤◌, min, Bool, true, false, if◌then◌else◌, ⊎_elim, Option, Some, None, List, [], ◌∷◌, ◌++◌, length, map, take, slice_index_or, get_or, ap, ◌∙◌, sym, refl, arith, append-nil, append_assoc}
+use Rattle.std.proofs.Common.{◌≡◌, ℕ, zero, suc, ◌+◌, ◌*◌, ◌<◌, ◌≤◌, min, Bool, true, false, if◌then◌else◌, ⊎_elim, Option, Some, None, Ok, List, [], ◌∷◌, ◌++◌, length, map, take, slice_index_or, get_or, ap, ◌∙◌, sym, refl, arith, append-nil, append_assoc}
 use Rattle.std.proofs.lemmas.Bool.{cases_lt}
 use Rattle.std.proofs.lemmas.List.{take_more, map-append}
+use Rattle.std.proofs.lemmas.List.Elements.{All-append}
 use Rattle.std.proofs.Math.Nat.{mul-suc}
 use Rattle.std.specs.Option.{option_or}
+use Rattle.step_record.specs.Config.{config_fault}
 use Rattle.step_record.specs.declared.job.Job.{Job}
 use Rattle.policies.specs.declared.actor_fault.ActorFault.{ActorFault}
 use Rattle.policies.specs.FaultyJobs.{at_capacity, faulty_in}
 use Rattle.policies.specs.Reports.{report_on}
-use Rattle.sweeps.specs.Sweep.{gated_jobs, is_gated_policy, jobs_over, sweep_fault}
+use Rattle.policies.proofs.Accepted.{accepted}
+use Rattle.sweeps.specs.Sweep.{AreAccepted, first_config_fault, gated_jobs, is_gated_policy, jobs_over, sweep_fault}
 
 -- ---- one job
 
@@ -22,6 +25,17 @@ one-reports j cs trace = ap (map (λ k. report_on k trace)) (append-nil (map (at
 or-none : (o : Option ActorFault) → option_or o None ≡ o
 or-none None = refl
 or-none (Some f) = refl
+
+-- jobs without a fault at the capacities are accepted at each of them
+or-parts : (o rest : Option ActorFault) → option_or o rest ≡ None → (o ≡ None) × (rest ≡ None)
+or-parts None rest e = (refl, e)
+or-parts (Some f) rest e = absurd (cc e)
+
+pub rows_accepted : (jobs : List Job) (cs : List ℕ) → first_config_fault jobs cs ≡ None → AreAccepted (jobs_over jobs cs)
+rows_accepted [] cs e = λ k d lt. absurd (omega (arith, lt))
+rows_accepted (j ∷ js) cs e =
+    let parts = or-parts (faulty_in (map (at_capacity j) cs)) (first_config_fault js cs) e in
+    All-append (λ (k : Job). config_fault k.config ≡ Ok tt) (map (at_capacity j) cs) (jobs_over js cs) (λ k d lt. accepted 0 (map (at_capacity j) cs) k d parts.0 lt) (rows_accepted js cs parts.1)
 
 pub one-fault : (j : Job) (cs : List ℕ) → sweep_fault (j ∷ []) cs ≡ faulty_in (map (at_capacity j) cs)
 one-fault j cs = or-none (faulty_in (map (at_capacity j) cs))

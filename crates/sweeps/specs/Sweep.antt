@@ -1,7 +1,8 @@
 -- Several jobs at the same capacities.
 use Rattle.std.specs.Int.{div_ceil}
 use Rattle.std.specs.Option.{option_or}
-use Rattle.std.specs.Prelude.{ℕ, ◌+◌, ◌*◌, Bool, true, false, if◌then◌else◌, cond, nat_le, Option, Some, None, List, [], ◌∷◌, ◌++◌, length, map}
+use Rattle.std.specs.Prelude.{◌≡◌, ℕ, ◌+◌, ◌*◌, All, Ok, Bool, true, false, if◌then◌else◌, cond, nat_le, Option, Some, None, List, [], ◌∷◌, ◌++◌, length, map}
+use Rattle.step_record.specs.Config.{config_fault}
 use Rattle.step_record.specs.declared.job.Job.{Job}
 use Rattle.step_record.specs.declared.job.Policy.{Policy}
 use Rattle.step_record.specs.declared.job.Policy.TheVariants.{Lru}
@@ -10,6 +11,10 @@ use Rattle.policies.specs.declared.job_checks.TheConstants.{MAX_ACTORS}
 use Rattle.policies.specs.declared.actor_fault.ActorFault.{ActorFault}
 use Rattle.policies.specs.declared.actor_fault.ActorFault.TheVariants.{Actors}
 use Rattle.policies.specs.FaultyJobs.{at_capacity, faulty_in}
+
+-- `Config::check` accepts the configuration of each job
+abbrev pub AreAccepted : List Job → Type 0
+AreAccepted jobs = All (λ job. config_fault job.config ≡ Ok tt) jobs
 
 -- the first job at each of the capacities, then the second, and so on
 abbrev pub jobs_over : List Job → List ℕ → List Job

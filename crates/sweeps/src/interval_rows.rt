@@ -1,11 +1,12 @@
 //! What jobs make of each interval of a trace, side by side.
-ghost use Rattle.std.specs.Prelude.{◌≡◌, ◌≤◌, IfOk, flat_map, map};
-ghost use Rattle.policies.specs.FaultyJobs.{ReturnsFault};
+ghost use Rattle.std.specs.Prelude.{◌≡◌, ◌≤◌, None, Ok, IfOk, flat_map};
+ghost use Rattle.step_record.specs.Config.{config_fault};
+ghost use Rattle.policies.specs.FaultyJobs.{faulty_in, ReturnsFault};
 ghost use Rattle.sweeps.specs.Intervals.{intervals_fault, intervals_on};
 
 use crate::interval_run::{CutTrace, intervals_of};
+use crate::side_by_side::made_by_each;
 use policies::{ActorFault, Interval, MAX_ACTORS, check_jobs};
-use rayon::prelude::*;
 use std::alloc::{AllocError, Global};
 use std::thread::Threads;
 use step_record::{Gate, Job, Trace};
@@ -33,12 +34,11 @@ pub fn intervals<R: Threads + Sync, G: Gate>(
         return Err(ActorFault::Actors);
     }
     check_jobs(jobs)?;
-    let cut = CutTrace::new(trace, every);
-    let rows = rows(rt, alloc, &cut, jobs, gate)?;
+    let rows = rows(rt, alloc, &CutTrace { trace, every }, jobs, gate)?;
     Ok(rows)
 }
 
-// The rows of jobs that were checked before, so that out of memory is the one error.
+// The rows of jobs none of which is faulty. The one error is out of memory.
 fn rows<R: Threads + Sync, G: Gate>(
     rt: &R,
     alloc: Global,
@@ -46,38 +46,21 @@ fn rows<R: Threads + Sync, G: Gate>(
     jobs: &[Job],
     gate: &G,
 ) -> Result<Vec<Interval>, AllocError>
+    requires { faulty_in jobs.now ≡ None }
     ensures { IfOk result (λ rows.
         rows.items ≡ flat_map (λ j. intervals_on j cut.now.every cut.now.trace.now) jobs.now) }
 {
-    let lists = rows_of_each(rt, alloc, cut, jobs, gate)?;
+    let lists = made_by_each(
+        rt,
+        alloc,
+        jobs,
+        |job: &Job| -> Result<Vec<Interval>, AllocError>
+            requires { config_fault job.now.config ≡ Ok tt }
+            ensures { IfOk result (λ rows. rows.items
+                ≡ intervals_on job.now cut.entry.now.every cut.entry.now.trace.now) }
+        { intervals_of(alloc, cut, job, gate) },
+    )?;
     joined(alloc, lists.as_slice())
-}
-
-// The rows of each of the jobs, side by side.
-fn rows_of_each<R: Threads + Sync, G: Gate>(
-    rt: &R,
-    alloc: Global,
-    cut: &CutTrace<'_>,
-    jobs: &[Job],
-    gate: &G,
-) -> Result<Vec<Vec<Interval>>, AllocError>
-    ensures { IfOk result (λ lists. map (λ rows. rows.items) lists.items
-        ≡ map (λ j. intervals_on j cut.now.every cut.now.trace.now) jobs.now) }
-{
-    jobs.par_iter()
-        .with_min_len(1)
-        .map(
-            |job: &Job| -> Result<Vec<Interval>, AllocError>
-                ensures { IfOk result (λ rows. rows.items
-                    ≡ intervals_on job.now cut.entry.now.every cut.entry.now.trace.now) }
-            {
-                match intervals_of(alloc, cut, job, gate) {
-                    Ok(rows) => Ok(rows),
-                    Err(_) => Err(AllocError),
-                }
-            },
-        )
-        .collect::<Result<Vec<_>, _>>(rt, alloc)?
 }
 
 // All rows of the lists, one list after the other.

@@ -1,15 +1,14 @@
 //! What one job makes of each interval of a trace, on this thread.
-ghost use Rattle.std.specs.Prelude.{◌≡◌, ◌≤◌, Ok, IfOk, [], ◌∷◌};
+ghost use Rattle.std.specs.Prelude.{◌≡◌, ◌≤◌, Ok, IfOk, []};
 ghost use Rattle.step_record.specs.Config.{config_fault};
 ghost use Rattle.policies.specs.AnyPolicy.{HasAccessed};
-ghost use Rattle.policies.specs.FaultyJobs.{faulty_in, ReturnsFault};
 ghost use Rattle.sweeps.specs.Intervals.{between, intervals_on, IsLater};
 
-use policies::{ActorFault, AnyPolicy, Interval, Report, access_in_batches};
+use policies::{AnyPolicy, Interval, Report, access_in_batches};
 use std::alloc::{AllocError, Global};
 use step_record::{Gate, Job, Stats, Trace};
 
-// A trace, cut into intervals of `every` accesses.
+// A trace, cut into intervals of `every` accesses, of which the last may be shorter.
 #[derive(Drop)]
 pub(crate) struct CutTrace<'a> {
     pub(crate) trace: &'a Trace,
@@ -17,38 +16,9 @@ pub(crate) struct CutTrace<'a> {
     pub(crate) ghost some: { 1 ≤ every },
 }
 
-impl<'a> CutTrace<'a> {
-    // The trace, cut into intervals of `every` accesses, of which the last may be shorter.
-    pub(crate) fn new(trace: &'a Trace, every: usize) -> CutTrace<'a>
-        requires { 1 ≤ every }
-        ensures trace { result.trace.now ≡ trace.now }
-        ensures every { result.every ≡ every }
-    {
-        CutTrace { trace, every }
-    }
-}
-
-// A row for each interval, in order, of the job over the whole trace. The gate is called around each batch.
-//
-// Errors: `Config` with index 0 exactly where `Config::check` refuses the job's configuration, and `OutOfMemory`.
+// A row for each interval, in order, of a job over the whole trace, whose configuration `Config::check` accepts. The gate
+// is called around each batch. The one error is out of memory.
 pub(crate) fn intervals_of<G: Gate>(
-    alloc: Global,
-    cut: &CutTrace<'_>,
-    job: &Job,
-    gate: &G,
-) -> Result<Vec<Interval>, ActorFault>
-    ensures rows { IfOk result (λ rows. rows.items ≡ intervals_on job.now cut.now.every cut.now.trace.now) }
-    ensures fault { ReturnsFault (faulty_in (job.now ∷ [])) result }
-{
-    if job.config.check().is_err() {
-        return Err(ActorFault::Config { index: 0 });
-    }
-    let rows = open_and_walk(alloc, cut, job, gate)?;
-    Ok(rows)
-}
-
-// The same of a job whose configuration `Config::check` accepts. The one error is out of memory.
-fn open_and_walk<G: Gate>(
     alloc: Global,
     cut: &CutTrace<'_>,
     job: &Job,
@@ -58,11 +28,11 @@ fn open_and_walk<G: Gate>(
     ensures { IfOk result (λ rows. rows.items ≡ intervals_on job.now cut.now.every cut.now.trace.now) }
 {
     let mut cache = AnyPolicy::open(alloc, job, cut.trace)?;
-    walk(alloc, cut, job, &mut cache, gate)
+    count_intervals(alloc, cut, job, &mut cache, gate)
 }
 
 // The same by an empty cache of the job, one interval at a time: a row is the difference of the counts before and after.
-fn walk<G: Gate>(
+fn count_intervals<G: Gate>(
     alloc: Global,
     cut: &CutTrace<'_>,
     job: &Job,

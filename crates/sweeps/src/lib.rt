@@ -11,6 +11,8 @@
 mod capacities;
 mod interval_rows;
 mod interval_run;
+mod prepared_trace;
+mod side_by_side;
 mod single_run;
 pub mod theorems;
 

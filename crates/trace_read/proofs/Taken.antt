@@ -1,11 +1,17 @@
 -- What a scan that took the lines before a place of some bytes comes to.
-use Rattle.std.proofs.Common.{◌≡◌, ◌∙◌, ◌<◌, ◌≤◌, ◌+◌, ◌-◌, ℕ, List, [], ◌++◌, length, drop, take, get_or, sym, ap, subst, arith, inl, inr, Some, None, length-drop, drop-drop}
+use Rattle.std.proofs.Common.{◌≡◌, ◌∙◌, ◌<◌, ◌≤◌, ◌+◌, ◌-◌, ℕ, zero, suc, List, [], ◌∷◌, ◌++◌, length, drop, take, get_or, refl, sym, ap, subst, arith, inl, inr, Some, None, Ok, length-drop, drop-drop}
+use Rattle.std.proofs.lemmas.Bool.{cond-false, le-ltb}
+use Rattle.std.proofs.lemmas.List.{append-nil}
+use Rattle.step_record.specs.declared.limits.TheConstants.{MAX_ACCESSES}
 use Rattle.streams.proofs.Feeds.{cut_line}
 use Rattle.trace_read.proofs.LineFeeds.{feed_at}
 use Rattle.trace_read.specs.DigitRuns.{NoFeedBetween}
 use Rattle.streams.specs.Feeds.{feed_in}
 use Rattle.trace_read.proofs.Steps.{ended_ahead, of_line, refused_here}
-use Rattle.trace_read.specs.Lines.{line_of, run_of}
+use Rattle.trace_read.specs.Lines.{is_feed, line_of, run_of}
+use Rattle.trace_read.specs.UsualLine.{IsStarLine}
+use Rattle.streams.specs.Blanks.{trimmed_text}
+use Rattle.trace_read.specs.declared.format.Format.TheVariants.{Lirs}
 use Rattle.trace_read.specs.TraceText.{fault_after, keys_or_none, IsRead, IsStopped, IsTraceRefused}
 use Rattle.trace_read.specs.declared.format.Format.{Format}
 use Rattle.trace_read.specs.ScanState.{fault_ahead, keys_ahead, IsEnded, IsRefusedFrom, IsScan, IsTakenUpTo}
@@ -15,9 +21,9 @@ use Rattle.trace_read.specs.declared.scan.Scan.{Scan}
 pub taken_then : (first mid last : Scan) (bytes : List ℕ) (start middle end : ℕ) → IsTakenUpTo first bytes start middle mid → IsTakenUpTo mid bytes middle end last → IsTakenUpTo first bytes start end last
 taken_then first mid last bytes start middle end one two = record {
   scan = two.scan;
-  cut = two.cut;
+  partial_line = two.partial_line;
   format = two.format ∙ one.format;
-  given = two.given ∙ one.given;
+  handed_on = two.handed_on ∙ one.handed_on;
   order = (omega (arith, one.order, two.order), two.order.1);
   lines = omega (arith, one.lines, two.lines);
   fault = λ more. two.fault more ∙ one.fault more;
@@ -31,7 +37,7 @@ refused_then first mid bytes start middle e one refused = elim refused [
 ]
 
 -- a line between two places
-module _ (now : Scan) (bytes : List ℕ) (start end : ℕ) (scan : IsScan now) (none : now.cut.items ≡ []) (order : start ≤ end) (within : end < length bytes)
+module _ (now : Scan) (bytes : List ℕ) (start end : ℕ) (scan : IsScan now) (none : now.partial_line.items ≡ []) (order : start ≤ end) (within : end < length bytes)
     (no_feed : NoFeedBetween bytes start end) (here : get_or bytes end 0 ≡ 10) where
   abbrev rest : List ℕ
   rest = drop start bytes
@@ -48,43 +54,71 @@ module _ (now : Scan) (bytes : List ℕ) (start end : ℕ) (scan : IsScan now) (
   pub line_taken : (next : Scan) → IsScan next → IsEnded now (take (end - start) rest) next → IsTakenUpTo now bytes start (end + 1) next
   line_taken next kept ended =
       let step = λ (more : List ℕ). ended_ahead now _ _ (rest ++ more) (drop (end - start + 1) rest ++ more) ended
-      (cut_line now.cut.items rest more (end - start) scan.cut feed lt) in
+      (cut_line now.partial_line.items rest more (end - start) scan.partial_line feed lt) in
       record {
         scan = kept;
-        cut = ended.cut;
+        partial_line = ended.partial_line;
         format = ended.format;
-        given = ended.given;
+        handed_on = ended.handed_on;
         order = (omega arith, omega arith);
         lines = omega (arith, ended.line);
         fault = λ more. ap (λ l. fault_ahead next (l ++ more)) (sym behind) ∙ (step more).0;
         keys = λ more. ap (λ l. keys_ahead next (l ++ more)) (sym behind) ∙ (step more).1;
       }
 
-  pub line_refused : (e : TraceFault) → IsStopped now.format now.line now.given now.keys.items (now.cut.items ++ take (end - start) rest) e → IsRefusedFrom now bytes start e
+  pub line_refused : (e : TraceFault) → IsStopped now.format now.line now.handed_on now.keys.items (now.partial_line.items ++ take (end - start) rest) e → IsRefusedFrom now bytes start e
   line_refused e stopped = elim stopped [
     | inl memory ↦ inl memory
     | inr fault ↦
         let refused : (more : List ℕ) → fault_ahead now (rest ++ more) ≡ Some e = λ more.
-        let is = cut_line now.cut.items rest more (end - start) scan.cut feed lt in
-        refused_here now.format now.line now.given now.keys.items _ [] (now.cut.items ++ (rest ++ more)) _ _ is fault in
+        let is = cut_line now.partial_line.items rest more (end - start) scan.partial_line feed lt in
+        refused_here now.format now.line now.handed_on now.keys.items _ [] (now.partial_line.items ++ (rest ++ more)) _ _ is fault in
         inr (of_line now.format _ now.line _ _ (refused []), refused)
   ]
 
--- what a line without a cut part comes to
-pub whole_read : (format : Format) (n given : ℕ) (old cut text new : List ℕ) → cut ≡ [] → IsRead format n given old text new → IsRead format n given old (cut ++ text) new
-whole_read format n given old cut text new none read = subst (λ c. IsRead format n given old (c ++ text) new) (sym none) read
+-- what a line comes to that no piece cut
+pub whole_read : (format : Format) (n handed_on : ℕ) (old partial_line text new : List ℕ) → partial_line ≡ [] → IsRead format n handed_on old text new → IsRead format n handed_on old (partial_line ++ text) new
+whole_read format n handed_on old partial_line text new none read = subst (λ c. IsRead format n handed_on old (c ++ text) new) (sym none) read
 
-pub whole_stopped : (format : Format) (n given : ℕ) (old cut text : List ℕ) (e : TraceFault) → cut ≡ [] → IsTraceRefused format n given old text e → IsStopped format n given old (cut ++ text) e
-whole_stopped format n given old cut text e none refused = subst (λ c. IsStopped format n given old (c ++ text) e) (sym none) (elim refused [
+pub whole_stopped : (format : Format) (n handed_on : ℕ) (old partial_line text : List ℕ) (e : TraceFault) → partial_line ≡ [] → IsTraceRefused format n handed_on old text e → IsStopped format n handed_on old (partial_line ++ text) e
+whole_stopped format n handed_on old partial_line text e none refused = subst (λ c. IsStopped format n handed_on old (c ++ text) e) (sym none) (elim refused [
   | inl memory ↦ inl memory.0
   | inr fault ↦ inr fault
 ])
 
 -- a line that stands for a run
-pub run_read : (format : Format) (n given start count : ℕ) (old cut text new : List ℕ) → cut ≡ [] → line_of format text ≡ run_of (Some start) (Some count)
-    → fault_after n (given + length old) (run_of (Some start) (Some count)) ≡ None → new ≡ old ++ keys_or_none (run_of (Some start) (Some count))
-    → IsRead format n given old (cut ++ text) new
-run_read format n given start count old cut text new none is sound added = whole_read format n given old cut text new none (record {
-  sound = ap (fault_after n (given + length old)) is ∙ sound;
+pub run_read : (format : Format) (n handed_on start count : ℕ) (old partial_line text new : List ℕ) → partial_line ≡ [] → line_of format text ≡ run_of (Some start) (Some count)
+    → fault_after n (handed_on + length old) (run_of (Some start) (Some count)) ≡ None → new ≡ old ++ keys_or_none (run_of (Some start) (Some count))
+    → IsRead format n handed_on old (partial_line ++ text) new
+run_read format n handed_on start count old partial_line text new none is sound added = whole_read format n handed_on old partial_line text new none (record {
+  sound = ap (fault_after n (handed_on + length old)) is ∙ sound;
   added = added ∙ ap (λ r. old ++ keys_or_none r) (sym is);
 })
+
+-- a line of a lone `*`, which gives nothing
+star_gives : line_of Lirs (42 ∷ []) ≡ Ok []
+unfolding trimmed_text
+star_gives = refl
+
+pub star_taken : (now : Scan) (bytes : List ℕ) (place : ℕ) → IsScan now → now.format ≡ Lirs → now.partial_line.items ≡ [] → place + 2 ≤ length bytes → IsStarLine bytes place
+    → IsTakenUpTo now bytes place (place + 2) (record { alloc = now.alloc; format = now.format; keys = now.keys; handed_on = now.handed_on; line = now.line + 1; partial_line = now.partial_line })
+star_taken now bytes place scan lirs none room star =
+    let next : Scan = record { alloc = now.alloc; format = now.format; keys = now.keys; handed_on = now.handed_on; line = now.line + 1; partial_line = now.partial_line } in
+    let text = take (place + 1 - place) (drop place bytes) in
+    let lone : text ≡ 42 ∷ [] = ap (λ k. take k (drop place bytes)) {y = 1} (omega arith) ∙ first_of bytes place (omega arith) ∙ ap (λ b. b ∷ []) star.0 in
+    let gives : line_of now.format text ≡ Ok [] = ap (λ f. line_of f text) lirs ∙ ap (line_of Lirs) lone ∙ star_gives in
+    let few : now.handed_on + length now.keys.items + 0 ≤ MAX_ACCESSES = omega (arith, scan.few) in
+    let read = whole_read now.format now.line now.handed_on now.keys.items now.partial_line.items text now.keys.items none (record {
+      sound = ap (fault_after now.line (now.handed_on + length now.keys.items)) gives ∙ cond-false _ _ _ (le-ltb MAX_ACCESSES _ few);
+      added = sym (append-nil now.keys.items) ∙ ap (λ r. now.keys.items ++ keys_or_none r) (sym gives);
+    }) in
+    subst (λ n. IsTakenUpTo now bytes place n next) {x = place + 1 + 1} (omega arith) (line_taken now bytes place (place + 1) scan none (omega arith) (omega arith) before star.1 next (record { few = scan.few; partial_line = scan.partial_line })
+    (record { read = read; partial_line = none; line = refl; format = refl; handed_on = refl }))
+  where
+    first_of : (xs : List ℕ) (i : ℕ) → i < length xs → take 1 (drop i xs) ≡ get_or xs i 0 ∷ []
+    first_of [] i l = absurd (omega arith)
+    first_of (x ∷ xs) zero l = refl
+    first_of (x ∷ xs) (suc i) l = first_of xs i (omega arith)
+
+    before : NoFeedBetween bytes place (place + 1)
+    before k low high = ap (λ j. is_feed (get_or bytes j 0)) {y = place} (omega arith) ∙ ap is_feed star.0

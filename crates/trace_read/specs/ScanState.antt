@@ -1,5 +1,6 @@
 -- What a scan of the lines comes to, whatever bytes still follow.
-use Rattle.std.specs.Prelude.{◌≡◌, ℕ, ◌+◌, ◌-◌, ◌^◌, ◌≤◌, ◌<◌, ◌⊎◌, List, [], ◌++◌, Option, Some, None, IfSome, length, drop}
+use Rattle.std.specs.Prelude.{◌≡◌, ℕ, ◌+◌, ◌-◌, ◌^◌, ◌≤◌, ◌<◌, ◌⊎◌}
+use Rattle.std.specs.Prelude.{List, [], ◌++◌, Option, Some, None, IfSome, length, drop}
 use Rattle.step_record.specs.declared.limits.TheConstants.{MAX_ACCESSES}
 use Rattle.streams.specs.Feeds.{lines_of, HasNoFeed}
 use Rattle.trace_read.specs.DigitRuns.{IsDigitRuns, IsNextRun}
@@ -10,45 +11,45 @@ use Rattle.trace_read.specs.declared.fault.TraceFault.{TraceFault}
 use Rattle.trace_read.specs.declared.fault.TraceFault.TheVariants.{OutOfMemory}
 use Rattle.trace_read.specs.declared.scan.Scan.{Scan}
 
--- the fault of the whole file, and its accesses but for those that were given away, where these bytes still follow
+-- the fault of the whole file, and its accesses but for those that were handed on, where these bytes still follow
 abbrev pub fault_ahead : Scan → List ℕ → Option TraceFault
-fault_ahead s rest = first_fault s.format s.line (s.given + length s.keys.items) (lines_of (s.cut.items ++ rest))
+fault_ahead s rest = first_fault s.format s.line (s.handed_on + length s.keys.items) (lines_of (s.partial_line.items ++ rest))
 
 abbrev pub keys_ahead : Scan → List ℕ → List ℕ
-keys_ahead s rest = s.keys.items ++ all_keys s.format (lines_of (s.cut.items ++ rest))
+keys_ahead s rest = s.keys.items ++ all_keys s.format (lines_of (s.partial_line.items ++ rest))
 
 -- what every scan keeps to
 pub record IsScan (s : Scan) : Type 0 where
-  pub few : s.given + length s.keys.items ≤ MAX_ACCESSES
-  pub cut : HasNoFeed s.cut.items
+  pub few : s.handed_on + length s.keys.items ≤ MAX_ACCESSES
+  pub partial_line : HasNoFeed s.partial_line.items
 
 -- the scan that took a piece comes to what the piece and the rest came to before
 pub record IsPieceTaken (old : Scan) (piece : List ℕ) (new : Scan) : Type 0 where
   pub fault : (rest : List ℕ) → fault_ahead new rest ≡ fault_ahead old (piece ++ rest)
   pub keys : (rest : List ℕ) → keys_ahead new rest ≡ keys_ahead old (piece ++ rest)
-  pub given : new.given ≡ old.given
+  pub handed_on : new.handed_on ≡ old.handed_on
 
--- the scan gave some of its accesses away, from the first on
-pub record IsGiven (old new : Scan) : Type 0 where
-  pub order : (old.given ≤ new.given) × (new.given ≤ old.given + length old.keys.items)
+-- the scan handed some of its accesses on, from the first on
+pub record IsHandedOn (old new : Scan) : Type 0 where
+  pub order : (old.handed_on ≤ new.handed_on) × (new.handed_on ≤ old.handed_on + length old.keys.items)
   pub fault : (rest : List ℕ) → fault_ahead new rest ≡ fault_ahead old rest
-  pub keys : (rest : List ℕ) → keys_ahead new rest ≡ drop (new.given - old.given) (keys_ahead old rest)
+  pub keys : (rest : List ℕ) → keys_ahead new rest ≡ drop (new.handed_on - old.handed_on) (keys_ahead old rest)
 
 -- a line came to its end with this text
 pub record IsEnded (old : Scan) (text : List ℕ) (new : Scan) : Type 0 where
-  pub read : IsRead old.format old.line old.given old.keys.items (old.cut.items ++ text) new.keys.items
-  pub cut : new.cut.items ≡ []
+  pub read : IsRead old.format old.line old.handed_on old.keys.items (old.partial_line.items ++ text) new.keys.items
+  pub partial_line : new.partial_line.items ≡ []
   pub line : new.line ≡ old.line + 1
   pub format : new.format ≡ old.format
-  pub given : new.given ≡ old.given
+  pub handed_on : new.handed_on ≡ old.handed_on
 
 -- the scan took the lines between two places of these bytes, and comes with the rest to what all from the first place
 -- on came to before
 pub record IsTakenUpTo (old : Scan) (bytes : List ℕ) (start place : ℕ) (new : Scan) : Type 0 where
   pub scan : IsScan new
-  pub cut : new.cut.items ≡ []
+  pub partial_line : new.partial_line.items ≡ []
   pub format : new.format ≡ old.format
-  pub given : new.given ≡ old.given
+  pub handed_on : new.handed_on ≡ old.handed_on
   pub order : (start ≤ place) × (place ≤ length bytes)
   pub lines : new.line + start ≤ old.line + place
   pub fault : (more : List ℕ)
@@ -64,12 +65,13 @@ IsRefusedFrom old bytes start e = (e ≡ OutOfMemory)
 -- lines may be taken from these runs of digits on
 pub record CanTakeFrom (s : Scan) (bytes : List ℕ) (ahead : DigitRuns) : Type 0 where
   pub scan : IsScan s
-  pub cut : s.cut.items ≡ []
+  pub partial_line : s.partial_line.items ≡ []
   pub runs : IsDigitRuns ahead × (ahead.bytes.now ≡ bytes)
   pub lines : s.line + length bytes < 2 ^ 64 + ahead.start
 
 -- the lines were taken up to the one that begins with the run that was found, or up to the runs that are left
-pub record AreLinesTaken (old new : Scan) (bytes : List ℕ) (ahead left : DigitRuns) (found : Option DigitRun) : Type 0 where
+pub record AreLinesTaken (old new : Scan) (bytes : List ℕ) (ahead left : DigitRuns)
+    (found : Option DigitRun) : Type 0 where
   pub all : found ≡ None → IsTakenUpTo old bytes ahead.start left.start new
   pub some : IfSome found (λ run. IsTakenUpTo old bytes ahead.start run.start new)
   pub next : IfSome found (λ run. IsNextRun bytes run left)

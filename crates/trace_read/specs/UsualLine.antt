@@ -1,5 +1,5 @@
 -- A line of a format's usual form, which is read without a call.
-use Rattle.std.specs.Prelude.{◌≡◌, ℕ, ◌+◌, ◌-◌, ◌^◌, ◌≤◌, List, Some, take, drop}
+use Rattle.std.specs.Prelude.{◌≡◌, ℕ, ◌+◌, ◌-◌, ◌^◌, ◌≤◌, List, Some, get_or, take, drop}
 use Rattle.trace_read.specs.DigitRuns.{IsLineEnd}
 use Rattle.trace_read.specs.Lines.{line_of, run_of}
 use Rattle.trace_read.specs.declared.arc.UsualLine.{UsualLine}
@@ -7,9 +7,14 @@ use Rattle.trace_read.specs.declared.digit_runs.DigitRun.{DigitRun}
 use Rattle.trace_read.specs.declared.format.Format.{Format}
 
 -- the line that begins with a run of digits, and stands for at most `room` accesses
-pub record IsUsualLine (format : Format) (bytes : List ℕ) (first : DigitRun) (room : ℕ) (line : UsualLine) : Type 0 where
+pub record IsUsualLine (format : Format) (bytes : List ℕ) (first : DigitRun) (room : ℕ)
+    (line : UsualLine) : Type 0 where
   pub end : IsLineEnd bytes first.start line.end
   pub fits : line.run.start + line.run.count ≤ 2 ^ 64
   pub few : line.run.count ≤ room
   pub is : line_of format (take (line.end.end - first.start) (drop first.start bytes))
       ≡ run_of (Some line.run.start) (Some line.run.count)
+
+-- a lone `*` (42) and a line feed stand at a place
+abbrev pub IsStarLine : List ℕ → ℕ → Type 0
+IsStarLine bytes place = (get_or bytes place 0 ≡ 42) × (get_or bytes (place + 1) 0 ≡ 10)

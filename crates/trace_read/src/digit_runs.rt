@@ -1,5 +1,5 @@
 //! Runs of digits and what ends them, 64 bytes at a time.
-ghost use Rattle.std.specs.Prelude.{◌≡◌, ◌≤◌, ◌+◌, ◌-◌, IfSome, IsTrue, None, length, map, take};
+ghost use Rattle.std.specs.Prelude.{◌≡◌, ◌≤◌, ◌+◌, ◌-◌, IfSome, IsTrue, None, get_or, length, map, take};
 ghost use Rattle.std.specs.Simd.Lanes.{mask_l};
 ghost use Rattle.trace_read.specs.DigitRuns.{is_other, DigitsBetween, IsDigitRuns, IsNextRun, IsLineEnd};
 
@@ -114,6 +114,15 @@ impl<'a> DigitRuns<'a> {
         }
         Some(LineEnd { end, runs })
     }
+}
+
+/// Whether these two bytes stand at this place.
+#[inline(always)]
+pub fn are_at(bytes: &[u8], place: usize, first: u8, second: u8) -> bool
+    requires { place + 2 ≤ length bytes.now }
+    ensures { IsTrue result → (get_or bytes.now place 0 ≡ first) × (get_or bytes.now (place + 1) 0 ≡ second) }
+{
+    u16::from_le_bytes([bytes[place], bytes[place + 1]]) == u16::from_le_bytes([first, second])
 }
 
 // The bytes that are not digits among the first 64: a bit for each byte, the lowest for the first.

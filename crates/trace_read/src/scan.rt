@@ -1,18 +1,18 @@
 //! The lines of a trace file, one after another, as its bytes come in.
 ghost use Rattle.std.specs.Prelude.{◌≡◌, ◌≤◌, ◌<◌, ◌+◌, ◌-◌, ◌^◌, ◌++◌, ◌⊎◌, ℕ, List, [], Some, None, OnOk};
-ghost use Rattle.std.specs.Prelude.{IfOk, IfErr, IfSome, MatchOption, length, take, drop, vec_len};
+ghost use Rattle.std.specs.Prelude.{IfOk, IfErr, IfSome, IsTrue, MatchOption, length, take, drop, vec_len};
 ghost use Rattle.trace_read.specs.DigitRuns.{IsNextRun};
-ghost use Rattle.trace_read.specs.UsualLine.{IsUsualLine};
+ghost use Rattle.trace_read.specs.UsualLine.{IsStarLine, IsUsualLine};
 ghost use Rattle.step_record.specs.declared.limits.TheConstants.{MAX_ACCESSES};
 ghost use Rattle.trace_read.specs.TraceText.{fault_in, keys_in, IsOfLine, IsRead, IsTraceRefused, IsStopped};
-ghost use Rattle.trace_read.specs.ScanState.{fault_ahead, keys_ahead, AreLinesTaken, CanTakeFrom, IsEnded, IsGiven, IsScan, IsPieceTaken, IsRefusedFrom, IsTakenUpTo};
+ghost use Rattle.trace_read.specs.ScanState.{fault_ahead, keys_ahead, AreLinesTaken, CanTakeFrom, IsEnded, IsHandedOn, IsScan, IsPieceTaken, IsRefusedFrom, IsTakenUpTo};
 ghost use Rattle.streams.specs.Feeds.{feed_in};
 
-use super::arc::{UsualLine, add_arc, push_reserved_run, usual_run};
-use super::digit_runs::{DigitRun, DigitRuns};
+use super::arc::{UsualLine, add_arc_line, push_reserved_run, usual_run};
+use super::digit_runs::{DigitRun, DigitRuns, are_at};
 use super::follower::Follower;
 use super::format::Format;
-use super::lirs::{add_lirs, usual_number};
+use super::lirs::{add_lirs_line, usual_number};
 use super::{Trace, TraceFault};
 use std::alloc::Global;
 use std::mem;
@@ -28,13 +28,13 @@ use streams::place_of;
 pub struct Scan {
     alloc: Global,
     format: Format,
-    // The accesses that were read and not handed over yet; how many were handed over.
+    // The accesses that were read and not handed on yet; how many were handed on.
     keys: Vec<Key>,
-    given: usize,
+    handed_on: usize,
     // The number of the line that comes to its end next.
     line: u64,
     // What is there of that line.
-    cut: Vec<u8>,
+    partial_line: Vec<u8>,
 }
 
 impl Scan {
@@ -44,20 +44,20 @@ impl Scan {
         ensures fault { (rest : List ℕ) → fault_ahead result rest ≡ fault_in format rest }
         ensures keys { (rest : List ℕ) → keys_ahead result rest ≡ keys_in format rest }
         ensures line { result.line ≡ 1 }
-        ensures given { result.given ≡ 0 }
+        ensures handed_on { result.handed_on ≡ 0 }
     {
         Scan {
             alloc,
             format,
             keys: Vec::new(alloc),
-            given: 0,
+            handed_on: 0,
             line: 1,
-            cut: Vec::new(alloc),
+            partial_line: Vec::new(alloc),
         }
     }
 
     /// Takes the next bytes: adds the accesses of each line that ends in them. `OutOfMemory` comes
-    /// where there is none for the accesses or the line that is cut, and the fault of a line at
+    /// where there is none for the accesses or for what is there of a line, and the fault of a line at
     /// the first faulty line, whatever follows it. After either the scan is of no more use.
     pub fn take(&mut self, piece: &[u8]) -> Result<(), TraceFault>
         requires scan { IsScan self.old }
@@ -72,7 +72,7 @@ impl Scan {
         let mut rest = piece;
         'lines: loop {
             let Some(end) = self.end_next(rest)? else {
-                self.cut.extend_from_slice(rest)?;
+                self.partial_line.extend_from_slice(rest)?;
                 return Ok(());
             };
             rest = &rest[end + 1..];
@@ -81,43 +81,43 @@ impl Scan {
         }
     }
 
-    /// The accesses that the bytes name and that were not handed over, where no more bytes come. The faults are those
+    /// The accesses that the bytes name and that were not handed on, where no more bytes come. The faults are those
     /// of `take`, of the last line.
     pub fn end(self) -> Result<Trace, TraceFault>
         requires { IsScan self }
         ensures ok { IfOk result (λ t.
             (fault_ahead self [] ≡ None) × (t ≡ keys_ahead self [])) }
-        ensures few { IfOk result (λ t. self.given + length t ≤ MAX_ACCESSES) }
+        ensures few { IfOk result (λ t. self.handed_on + length t ≤ MAX_ACCESSES) }
         ensures err { IfErr result (λ e. ((e ≡ TraceFault.OutOfMemory) × (fault_ahead self [] ≡ None))
             ⊎ (IsOfLine e × (fault_ahead self [] ≡ Some e))) }
     {
         let Scan {
             format,
             mut keys,
-            given,
+            handed_on,
             line,
-            cut,
+            partial_line,
             ..
         } = self;
-        add_line(format, cut.as_slice(), line, given, &mut keys)?;
+        add_line(format, partial_line.as_slice(), line, handed_on, &mut keys)?;
         Ok(Trace::new(keys))
     }
 
     /// Lets the follower take accesses, which are no longer in the scan then.
     pub fn give<F: Follower>(&mut self, follower: &mut F)
         requires scan { IsScan self.old }
-        requires given { F.taken follower.old ≡ self.old.given }
+        requires handed_on { F.taken follower.old ≡ self.old.handed_on }
         requires next { IfSome (F.file follower.old) (λ all.
-            self.old.keys.items ≡ take (length self.old.keys.items) (drop self.old.given all)) }
+            self.old.keys.items ≡ take (length self.old.keys.items) (drop self.old.handed_on all)) }
         ensures scan { IsScan self.new }
-        ensures given { F.taken follower.new ≡ self.new.given }
-        ensures left { IsGiven self.old self.new }
+        ensures handed_on { F.taken follower.new ≡ self.new.handed_on }
+        ensures left { IsHandedOn self.old self.new }
         ensures line { self.new.line ≡ self.old.line }
         ensures file { F.file follower.new ≡ F.file follower.old }
     {
         let held = self.keys.len();
         follower.follow(&mut self.keys);
-        self.given += held - self.keys.len();
+        self.handed_on += held - self.keys.len();
     }
 
     // Adds the accesses of the next line, where it ends in these bytes, and returns the place of its end.
@@ -129,14 +129,18 @@ impl Scan {
             ((feed_in bytes.now ≡ length bytes.now) × (self.new ≡ self.old))
             (λ k. (k ≡ feed_in bytes.now) × (k < length bytes.now) × IsEnded self.old (take k bytes.now) self.new)) }
         ensures err { IfErr result (λ e. (feed_in bytes.now < length bytes.now)
-            × IsStopped self.old.format self.old.line self.old.given self.old.keys.items
-            (self.old.cut.items ++ take (feed_in bytes.now) bytes.now) e) }
+            × IsStopped self.old.format self.old.line self.old.handed_on self.old.keys.items
+            (self.old.partial_line.items ++ take (feed_in bytes.now) bytes.now) e) }
     {
         let end = place_of(bytes, b'\n');
         if end == bytes.len() {
             return Ok(None);
         }
-        self.end_line(&bytes[..end])?;
+        self.partial_line.extend_from_slice(&bytes[..end])?;
+        let text = self.partial_line.as_slice();
+        add_line(self.format, text, self.line, self.handed_on, &mut self.keys)?;
+        self.partial_line.clear();
+        self.line += 1;
         Ok(Some(end))
     }
 
@@ -145,22 +149,51 @@ impl Scan {
     #[inline(never)]
     fn take_lines(&mut self, bytes: &[u8]) -> Result<usize, TraceFault>
         requires scan { IsScan self.old }
-        requires cut { self.old.cut.items ≡ [] }
+        requires partial_line { self.old.partial_line.items ≡ [] }
         requires lines { self.old.line + length bytes.now < 2 ^ 64 }
         ensures taken { IfOk result (λ n. IsTakenUpTo self.old bytes.now 0 n self.new) }
         ensures err { IfErr result (IsRefusedFrom self.old bytes.now 0) }
     {
         let mut runs = DigitRuns::at(bytes, 0);
         'lines: while let Some(first) = self.next_other(bytes, &mut runs) {
+            if begins_star_line(self.format, bytes, first) {
+                runs = DigitRuns::at(bytes, self.take_star_lines(bytes, first.start));
+                continue;
+            }
             let Some(line) = runs.line_end(first) else {
                 return Ok(first.start);
             };
             let text = &bytes[first.start..line.end];
-            add_line(self.format, text, self.line, self.given, &mut self.keys)?;
+            add_line(self.format, text, self.line, self.handed_on, &mut self.keys)?;
             self.line += 1;
             runs = line.runs;
         }
         Ok(runs.start)
+    }
+
+    // Takes this line of a lone `*` and all such lines after it, of which some traces have long runs, and returns where
+    // they end.
+    #[cold]
+    #[inline(never)]
+    fn take_star_lines(&mut self, bytes: &[u8], start: usize) -> usize
+        requires scan { IsScan self.old }
+        requires format { self.old.format ≡ Format.Lirs }
+        requires partial_line { self.old.partial_line.items ≡ [] }
+        requires lines { self.old.line + length bytes.now < 2 ^ 64 + start }
+        requires within { start + 2 ≤ length bytes.now }
+        requires star { IsStarLine bytes.now start }
+        ensures taken { IsTakenUpTo self.old bytes.now start result self.new }
+        ensures some { start < result }
+    {
+        // The loop changes locals alone, so that they are in registers.
+        let mut line = self.line + 1;
+        let mut end = start + 2;
+        'stars: while bytes.len() - end >= 2 && are_at(bytes, end, b'*', b'\n') {
+            line += 1;
+            end += 2;
+        }
+        self.line = line;
+        end
     }
 
     // Takes usual lines where one begins here, and returns the run that the next other line begins with: to call the
@@ -217,7 +250,7 @@ impl Scan {
         requires format { self.old.format ≡ format }
         ensures { AreLinesTaken self.old self.new bytes.now runs.old runs.new result }
     {
-        let limit = MAX_ACCESSES - self.given;
+        let limit = MAX_ACCESSES - self.handed_on;
         // The loop changes locals alone, so that they are in registers.
         let mut keys = mem::replace(&mut self.keys, Vec::new(self.alloc));
         let mut line = self.line;
@@ -239,53 +272,24 @@ impl Scan {
         *runs = ahead;
         None
     }
-
-    // Adds the accesses of the line that ends with the text.
-    fn end_line(&mut self, text: &[u8]) -> Result<(), TraceFault>
-        requires scan { IsScan self.old }
-        requires line { self.old.line < 2 ^ 64 - 1 }
-        ensures scan { OnOk result (IsScan self.new) }
-        ensures ended { OnOk result (IsEnded self.old text.now self.new) }
-        ensures err { IfErr result (IsStopped self.old.format self.old.line self.old.given self.old.keys.items
-            (self.old.cut.items ++ text.now)) }
-        // A line that no piece cut takes no memory but for its accesses.
-        ensures whole { self.old.cut.items ≡ [] → IfErr result (IsTraceRefused self.old.format
-            self.old.line self.old.given self.old.keys.items text.now) }
-    {
-        if self.cut.is_empty() {
-            add_line(self.format, text, self.line, self.given, &mut self.keys)?;
-        } else {
-            self.cut.extend_from_slice(text)?;
-            add_line(
-                self.format,
-                self.cut.as_slice(),
-                self.line,
-                self.given,
-                &mut self.keys,
-            )?;
-            self.cut.clear();
-        }
-        self.line += 1;
-        Ok(())
-    }
 }
 
-// Adds the accesses of a line to those of the lines before it, `given` of which were handed over already.
+// Adds the accesses of a line to those of the lines before it, of which `handed_on` are with the follower already.
 fn add_line(
     format: Format,
     text: &[u8],
     line: u64,
-    given: usize,
+    handed_on: usize,
     keys: &mut Vec<Key>,
 ) -> Result<(), TraceFault>
-    requires { given + vec_len keys.old ≤ MAX_ACCESSES }
-    ensures ok { OnOk result (IsRead format line given keys.old.items text.now keys.new.items) }
-    ensures within { OnOk result (given + vec_len keys.new ≤ MAX_ACCESSES) }
-    ensures err { IfErr result (IsTraceRefused format line given keys.old.items text.now) }
+    requires { handed_on + vec_len keys.old ≤ MAX_ACCESSES }
+    ensures ok { OnOk result (IsRead format line handed_on keys.old.items text.now keys.new.items) }
+    ensures within { OnOk result (handed_on + vec_len keys.new ≤ MAX_ACCESSES) }
+    ensures err { IfErr result (IsTraceRefused format line handed_on keys.old.items text.now) }
 {
     match format {
-        Format::Lirs => add_lirs(text, line, given, keys),
-        Format::Arc => add_arc(text, line, given, keys),
+        Format::Lirs => add_lirs_line(text, line, handed_on, keys),
+        Format::Arc => add_arc_line(text, line, handed_on, keys),
     }
 }
 
@@ -300,6 +304,16 @@ fn begins_usual_line(format: Format, bytes: &[u8], first: DigitRun) -> bool
         Format::Arc => bytes[first.end + 1].is_ascii_digit(),
     };
     first.is_short() && is_followed
+}
+
+// Whether a line that begins with this run of digits is a lone `*` of the LIRS format.
+#[inline(always)]
+fn begins_star_line(format: Format, bytes: &[u8], first: DigitRun) -> bool
+    requires { first.start + 2 ≤ length bytes.now }
+    ensures format { IsTrue result → format ≡ Format.Lirs }
+    ensures line { IsTrue result → IsStarLine bytes.now first.start }
+{
+    matches!(format, Format::Lirs) && are_at(bytes, first.start, b'*', b'\n')
 }
 
 // The line that begins with this run of digits, the one before `runs`, where it has the format's usual form and at most

@@ -1,7 +1,6 @@
 pub mod Finishing
 pub mod Walking
 pub mod Joining
-pub mod Holding
 pub mod Standing
 pub mod Asking
 pub mod Admitting

@@ -9,9 +9,9 @@ pub record Trying (A B C : Type 0) : Type 0 where
   pub spent : C
 
 abbrev pub invariant-flushes : goal.invariant-flushes
-invariant-flushes g l = Trying (l.patience ≤ l.initial.patience)
+invariant-flushes g l = Trying (l.budget ≤ l.initial.budget)
     (Keeps (g.W.CountedWrite.contents l.initial.writer) (g.W.CountedWrite.contents l.writer))
-    (Spends l.initial.patience l.patience (g.W.CountedWrite.tally l.initial.writer) (g.W.CountedWrite.tally l.writer))
+    (Spends l.initial.budget l.budget (g.W.CountedWrite.tally l.initial.writer) (g.W.CountedWrite.tally l.writer))
 
 abbrev pub decreases-flushes : goal.decreases-flushes
-decreases-flushes g l = l.patience
+decreases-flushes g l = l.budget

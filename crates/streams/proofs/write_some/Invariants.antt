@@ -12,8 +12,8 @@ pub record Writing (A B C D : Type 0) : Type 0 where
 abbrev pub invariant-writes : goal.invariant-writes
 invariant-writes g l = Writing (l.sent ≤ length l.bytes)
     (Appends (g.W.CountedWrite.contents l.initial.writer) (g.W.CountedWrite.contents l.writer) (take l.sent l.bytes))
-    (l.patience ≤ l.initial.patience)
-    (Spends l.initial.patience l.patience (g.W.CountedWrite.tally l.initial.writer) (g.W.CountedWrite.tally l.writer))
+    (l.budget ≤ l.initial.budget)
+    (Spends l.initial.budget l.budget (g.W.CountedWrite.tally l.initial.writer) (g.W.CountedWrite.tally l.writer))
 
 abbrev pub decreases-writes : goal.decreases-writes
-decreases-writes g l = (length l.bytes - l.sent) + l.patience
+decreases-writes g l = (length l.bytes - l.sent) + l.budget

@@ -1,6 +1,6 @@
 use Rattle.std.proofs.Common.{◌≡◌}
 use Rattle.streams.specs.Tally.{Spends}
-use Rattle.streams.specs.declared.patience.TheConstants.{INTERRUPTIONS}
+use Rattle.streams.specs.declared.retry_budget.TheConstants.{INTERRUPTIONS}
 use Rattle.debug_commands.proofs.Ahead.{IsAhead}
 use Rattle.debug_commands.proofs.dialogue.answer_commands.Given as goal
 

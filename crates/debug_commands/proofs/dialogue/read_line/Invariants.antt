@@ -9,7 +9,7 @@ invariant-bytes g l = record {
   read : Consumes (g.R.CountedRead.remaining l.initial.input) (g.R.CountedRead.remaining l.input) l.text.items;
   feeds : HasNoFeed l.text.items;
   room : l.room + length l.text.items ≡ l.initial.room;
-  spent : Spends l.initial.patience l.patience (g.R.CountedRead.tally l.initial.input) (g.R.CountedRead.tally l.input);
+  spent : Spends l.initial.budget l.budget (g.R.CountedRead.tally l.initial.input) (g.R.CountedRead.tally l.input);
 }
 
 abbrev pub decreases-bytes : goal.decreases-bytes

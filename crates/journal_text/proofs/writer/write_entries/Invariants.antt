@@ -11,5 +11,5 @@ invariant-loop-n g l = record {
   written : IsTextWritten (g.W.CountedWrite.contents l.fn.writer) (g.W.CountedWrite.contents l.writer) l.text.items (begun Two (take l.n l.session.kept));
   room : BUFFER ≤ vec_capacity l.text;
   fit : AreFit (take l.n l.session.kept);
-  spent : Spends l.fn.patience l.patience (g.W.CountedWrite.tally l.fn.writer) (g.W.CountedWrite.tally l.writer);
+  spent : Spends l.fn.budget l.budget (g.W.CountedWrite.tally l.fn.writer) (g.W.CountedWrite.tally l.writer);
 }

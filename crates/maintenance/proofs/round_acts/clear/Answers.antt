@@ -5,8 +5,8 @@ use Rattle.segments.specs.declared.records.Queue.{Queue}
 use Rattle.segments.specs.declared.records.MoveRecord.{MoveRecord}
 use Rattle.segments.specs.Queues.{Queues, queues_without}
 use Rattle.segments.specs.Moves.{move_record}
-use Rattle.shell_model.specs.Shell.{cleared_from}
-use Rattle.shell_model.specs.Records.{cleared_of}
+use Rattle.shell_model.specs.ShellState.{cleared_from}
+use Rattle.shell_model.specs.Shell.{cleared_of}
 use Rattle.maintenance.proofs.round_acts.clear.Goals as goal
 
 lists-by : (i : Item) (p : Option Queue) (o : Option MoveRecord) (q q' : Queues) → (o ≡ None ↔ p ≡ None)

@@ -1,9 +1,7 @@
-use Rattle.std.proofs.Common.{◌≡◌, arith}
-use Rattle.std.specs.Prelude.{IfOk}
-use Rattle.shell_model.specs.Records.{shell_record_of}
+use Rattle.std.proofs.Common.{arith}
 use Rattle.shell_model.proofs.Reached.{reached-sound}
 use Rattle.shell_model.proofs.Bounding.{bound-law, most-more}
-use Rattle.maintenance.proofs.Standing.{stands-after, record-after, fits-after, undone-after, words-after}
+use Rattle.maintenance.proofs.Standing.{stands-after, fits-after, undone-after, words-after}
 use Rattle.maintenance.proofs.shell.ShellEngine.apply.Goals as goal
 
 pub apply-requires-clause-sound : goal.apply-requires-clause-sound
@@ -21,17 +19,14 @@ apply-requires-clause-few c = let b = bound-law c.self.inside.core c.self.invari
 pub invariant_of-self : goal.invariant_of-self
 invariant_of-self c = stands-after c.self.inside.core _ c.args.step.now _ c.self.invariant c.apply.ensures.some c.apply.ensures.err
 
-the-record : (c : goal.After-apply) → IfOk c.apply.result (λ r. r.1 ≡ shell_record_of c.args.step.now c.self.inside.core)
-the-record c = record-after c.self.inside.core _ c.args.step.now _ c.apply.ensures.some c.apply.ensures.counted c.apply.ensures.change
-
 pub returns-clause-fits : goal.returns-clause-fits
-returns-clause-fits c = fits-after c.self.inside.core _ c.args.step.now _ c.self.invariant c.apply.ensures.some (the-record c)
+returns-clause-fits c = fits-after c.self.inside.core _ c.args.step.now _ c.self.invariant c.apply.ensures.some c.apply.ensures.record_is
 
 pub returns-clause-undone : goal.returns-clause-undone
-returns-clause-undone c = rw (← c.self.view_is) (undone-after c.self.inside.core _ c.args.step.now _ c.self.invariant c.apply.ensures.some (the-record c))
+returns-clause-undone c = rw (← c.self.view_is) (undone-after c.self.inside.core _ c.args.step.now _ c.self.invariant c.apply.ensures.some c.apply.ensures.record_is)
 
 pub returns-clause-words : goal.returns-clause-words
-returns-clause-words c = words-after c.self.inside.core _ c.args.step.now _ c.self.invariant c.apply.ensures.some (the-record c)
+returns-clause-words c = words-after c.self.inside.core _ c.args.step.now _ c.self.invariant c.apply.ensures.some c.apply.ensures.record_is
 
 pub returns-clause-record_is : goal.returns-clause-record_is
-returns-clause-record_is c = rw (← c.self.view_is) (the-record c)
+returns-clause-record_is c = rw (← c.self.view_is) c.apply.ensures.record_is

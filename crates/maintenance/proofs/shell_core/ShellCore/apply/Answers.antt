@@ -1,16 +1,16 @@
 use Rattle.std.proofs.Common.{ap, ◌∙◌, arith}
 use Rattle.shell_model.specs.Shell.{Shell}
-use Rattle.maintenance.proofs.Turning.{perform-stats, perform-applied}
+use Rattle.maintenance.proofs.Turning.{same-stats, same-applied}
 use Rattle.maintenance.proofs.shell_core.ShellCore.apply.Goals as goal
 
 pub count-requires : goal.count-requires
 count-requires c =
-    let made = (rw c.in-Ok-Some.field-0-is at c.in-Ok-Some.ensures.performed).0 in
-    rw (ap (λ (x : Shell). x.stats) c.self-2.view_is ∙ perform-stats c.args.step.worker c.args.step.act _ _ made) c.requires.counts
+    let made = (rw c.in-Ok-Some.field-0-is at c.in-Ok-Some.ensures.performed).1 in
+    rw (ap (λ (x : Shell). x.stats) (c.self-2.view_is ∙ made) ∙ same-stats c.in-Ok-Some.change c.args.self.now) c.requires.counts
 
 pub invariant_of-self : goal.invariant_of-self
 invariant_of-self c =
-    let made = (rw c.in-Ok-Some.field-0-is at c.in-Ok-Some.ensures.performed).0 in
-    let e = ap (λ (x : Shell). x.applied) c.self-2.view_is ∙ perform-applied c.args.step.worker c.args.step.act _ _ made in
+    let made = (rw c.in-Ok-Some.field-0-is at c.in-Ok-Some.ensures.performed).1 in
+    let e = ap (λ (x : Shell). x.applied) (c.self-2.view_is ∙ made) ∙ same-applied c.in-Ok-Some.change c.args.self.now in
     let f = ap (λ (x : Shell). x.applied) c.self.view_is in
     (c.self-2.invariant.0, omega (arith, e, f, c.if-self-ge-MAX_STEPS.false), c.self-2.invariant.2, c.self-2.invariant.3)

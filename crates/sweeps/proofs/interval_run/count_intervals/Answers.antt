@@ -7,8 +7,8 @@ use Rattle.sweeps.specs.Intervals.{first_intervals, intervals_on}
 use Rattle.policies.specs.declared.report.Interval.{Interval}
 use Rattle.policies.proofs.FirstAccesses.{first-counts}
 use Rattle.sweeps.proofs.Pieces.{cut-piece, cut-rest, piece-begins, next-interval, next-later}
-use Rattle.sweeps.proofs.interval_run.walk.Goals.{After-stats-after}
-use Rattle.sweeps.proofs.interval_run.walk.Goals as goal
+use Rattle.sweeps.proofs.interval_run.count_intervals.Goals.{After-stats-after}
+use Rattle.sweeps.proofs.interval_run.count_intervals.Goals as goal
 
 pub access_in_batches-requires : goal.access_in_batches-requires
 access_in_batches-requires g c =

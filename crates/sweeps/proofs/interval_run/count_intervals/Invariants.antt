@@ -1,7 +1,7 @@
 use Rattle.std.proofs.Common.{◌≡◌, ◌*◌, drop, take}
 use Rattle.policies.specs.AnyPolicy.{HasAccessed, outcomes_on}
 use Rattle.sweeps.specs.Intervals.{first_intervals}
-use Rattle.sweeps.proofs.interval_run.walk.Given as goal
+use Rattle.sweeps.proofs.interval_run.count_intervals.Given as goal
 
 abbrev pub invariant-loop-number : goal.invariant-loop-number
 invariant-loop-number g l = (l.rest ≡ drop (l._number * l.cut.every) l.cut.trace.now)

@@ -1,6 +1,6 @@
 use Rattle.std.proofs.Common.{arith}
 use Rattle.std.proofs.lemmas.Grind.{common_steps}
-use Rattle.trace_read.proofs.arc.add_arc.Goals as goal
+use Rattle.trace_read.proofs.arc.add_arc_line.Goals as goal
 
 pub returns-clause-err : goal.returns-clause-err
 returns-clause-err c = grind (arith, common_steps)

@@ -1,0 +1,121 @@
+//! A trace with what its reports at several capacities go by.
+ghost use Rattle.std.specs.Prelude.{◌≡◌, Ok, IfOk, IfSome};
+ghost use Rattle.std.proofs.Props.{props};
+ghost use Rattle.step_record.specs.Config.{config_fault};
+ghost use Rattle.policies.specs.Reports.{report_on};
+ghost use Rattle.stack_distances.specs.Curve.{curve_of};
+
+use clairvoyant::NextUse;
+use policies::{Report, report_over};
+use stack_distances::{Curve, Reuses};
+use std::alloc::{AllocError, Global};
+use step_record::{Gate, Job, Policy, Trace};
+
+// From this number of capacities on, the reports of Lru are read off the curve of the trace. Finding the curve takes the
+// processor as long as finding the reuses and passing over them at some seven capacities; but passes go side by side, so
+// on four threads they are done first up to some 26.
+const CURVE_FROM: usize = 16;
+
+/// A trace, with what several reports need, computed once: the next uses of its keys, and for Lru the reuses or the curve.
+#[derive(Drop)]
+pub struct PreparedTrace<'a> {
+    pub trace: &'a Trace,
+    uses: Option<NextUse>,
+    reuses: Option<Reuses<'a>>,
+    curve: Option<Curve>,
+    ghost known: { IfSome uses (λ u. u ≡ trace.now) } by { Prim.hlevel props },
+    ghost noted: { IfSome reuses (λ r. r ≡ trace.now) } by { Prim.hlevel props },
+    ghost found: { IfSome curve (λ c. c ≡ curve_of trace.now) } by { Prim.hlevel props },
+}
+
+impl<'a> PreparedTrace<'a> {
+    /// The trace, with what the jobs need at so many capacities.
+    pub fn of(
+        alloc: Global,
+        trace: &'a Trace,
+        jobs: &[Job],
+        capacities: usize,
+    ) -> Result<PreparedTrace<'a>, AllocError>
+        ensures { IfOk result (λ p. p.trace.now ≡ trace.now) }
+    {
+        let uses = next_uses(alloc, trace, jobs)?;
+        let reuses = reuses(alloc, trace, jobs, capacities)?;
+        let curve = curve(alloc, trace, jobs, capacities)?;
+        Ok(PreparedTrace {
+            trace,
+            uses,
+            reuses,
+            curve,
+        })
+    }
+
+    /// The report of a job, whose configuration `Config::check` accepts. The gate is called before and after each batch of
+    /// `MAX_BATCH` accesses, unless the report is made from the reuses or the curve. The one error is out of memory.
+    pub fn report<G: Gate>(&self, alloc: Global, job: &Job, gate: &G) -> Result<Report, AllocError>
+        requires { config_fault job.now.config ≡ Ok tt }
+        ensures { IfOk result (λ r. r ≡ report_on job.now self.now.trace.now) }
+    {
+        if job.policy == Policy::Lru {
+            if let Some(curve) = &self.curve {
+                return Ok(Report::of(job, curve.stats(job.config.capacity)));
+            }
+            if let Some(reuses) = &self.reuses {
+                return Ok(Report::of(job, reuses.stats(alloc, job.config.capacity)?));
+            }
+        }
+        report_over(alloc, self.trace, self.uses.as_ref(), job, gate)
+    }
+}
+
+// The next uses of the trace, where a job's policy goes by them.
+fn next_uses(alloc: Global, trace: &Trace, jobs: &[Job]) -> Result<Option<NextUse>, AllocError>
+    ensures { IfOk result (λ uses. IfSome uses (λ u. u ≡ trace.now)) }
+{
+    if !any_is_of(jobs, Policy::Clairvoyant) {
+        return Ok(None);
+    }
+    let uses = NextUse::build(alloc, trace)?;
+    Ok(Some(uses))
+}
+
+// The reuses of the trace, where the reports of a job are to be made from them.
+fn reuses<'a>(
+    alloc: Global,
+    trace: &'a Trace,
+    jobs: &[Job],
+    capacities: usize,
+) -> Result<Option<Reuses<'a>>, AllocError>
+    ensures { IfOk result (λ reuses. IfSome reuses (λ r. r ≡ trace.now)) }
+{
+    if capacities >= CURVE_FROM || !any_is_of(jobs, Policy::Lru) {
+        return Ok(None);
+    }
+    let reuses = Reuses::of_trace(alloc, trace)?;
+    Ok(Some(reuses))
+}
+
+// The curve of the trace, where the reports of a job are to be read off it.
+fn curve(
+    alloc: Global,
+    trace: &Trace,
+    jobs: &[Job],
+    capacities: usize,
+) -> Result<Option<Curve>, AllocError>
+    ensures { IfOk result (λ curve. IfSome curve (λ c. c ≡ curve_of trace.now)) }
+{
+    if capacities < CURVE_FROM || !any_is_of(jobs, Policy::Lru) {
+        return Ok(None);
+    }
+    let curve = Curve::of_trace(alloc, trace)?;
+    Ok(Some(curve))
+}
+
+// Whether one of the jobs is of the policy.
+fn any_is_of(jobs: &[Job], policy: Policy) -> bool {
+    for job in jobs {
+        if job.policy == policy {
+            return true;
+        }
+    }
+    false
+}
