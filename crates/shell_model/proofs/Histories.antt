@@ -1,5 +1,5 @@
 -- What the replies so far say of the state.
-use Rattle.std.proofs.Common.{◌≡◌, ℕ, suc, zero, ◌+◌, ◌<◌, ◌≤◌, ◌↔◌, Bool, true, false, eqb, nat_lt, Option, Some, None, List, [], ◌∷◌, ◌++◌, length, set, drop, subst, ap, ◌∙◌, sym, refl, arith, inl, inr, append-nil, append_assoc}
+use Rattle.std.proofs.Common.{◌≡◌, ℕ, suc, zero, ◌+◌, ◌<◌, ◌≤◌, ◌↔◌, Bool, true, false, eqb, List, [], ◌∷◌, ◌++◌, length, set, drop, ap, ◌∙◌, sym, refl, arith, inl, inr, append-nil, append_assoc}
 use Rattle.std.proofs.lemmas.Bool.{cases_Bool, eqb-true, eq-eqb}
 use Rattle.std.proofs.lemmas.List.{drop-append-le, drop-drop, get_or-set_same, get_or-set_other}
 use Rattle.step_record.specs.declared.item.Item.{Item}
