@@ -13,11 +13,8 @@ use Rattle.admission.specs.Shape.{Shape, IsShape}
 use Rattle.admission.proofs.Doors.{part_16}
 use Rattle.admission.proofs.Weighing.{frequency_is}
 use Rattle.shell_model.specs.declared.holder.Holder.{Holder}
-use Rattle.step_record.specs.Stats.{one_if}
-use Rattle.shell_model.specs.declared.stats.Counted.{Counted}
-use Rattle.shell_model.specs.declared.stats.ShellStats.{ShellStats}
 use Rattle.shell_model.specs.declared.stats.Counted.TheVariants as counted
-use Rattle.shell_model.specs.ShellStats.{count_of, raises, shell_stats_after}
+use Rattle.shell_model.specs.ShellStats.{raises}
 use Rattle.shell_buffers.specs.Buffers.{stripe_at}
 use Rattle.shell_model.specs.ShellState.{holder_in_phase}
 use Rattle.shell_model.specs.Changes.{holder_after_task}
@@ -27,7 +24,7 @@ use Rattle.shell_model.specs.Laws.{MadeStep, collect, IsShapeOf, empty_shell, ad
 use Rattle.shell_model.specs.ShellSteps as k
 use Rattle.shell_model.specs.ShellSteps.{Makes, Steps}
 use Rattle.shell_model.proofs.Making.{stepped}
-use Rattle.shell_model.proofs.Histories.{after-sound, writes-law, stripes-law, stats-law, frequency-law, table-law}
+use Rattle.shell_model.proofs.Histories.{after-sound, none-counted, writes-law, stripes-law, stats-law, frequency-law, table-law}
 use Rattle.shell_model.proofs.Preserving.{ordered-behind}
 
 -- a phase that stood does not go back
@@ -157,17 +154,9 @@ opened-sound c sh k = record {
   frequency = frequency_is sh [] (omega (arith, k.is.width.1)) (sixteenths sh k.is) (omega (arith, k.is.size.1));
 }
 
-count-raised : (k : Counted) (r : Reply) (s : ShellStats) → count_of k (shell_stats_after r s) ≡ count_of k s + one_if (raises k r)
-count-raised counted.Nothing r s = refl
-count-raised _ r s = refl
-
-none-counted : (c : Config) (sh : Shape) (k : Counted) → count_of k (empty_shell c sh).stats ≡ 0
-none-counted c sh counted.Nothing = refl
-none-counted c sh _ = refl
-
 pub replies-law : (c : Config) (sh : Shape) (es : List MadeStep) → IsLegal act (empty_shell c sh) es → AreReplies (data_after act (empty_shell c sh) es).stats es
 replies-law c sh es l k =
-    let counted = stats-law (count_of k) (raises k) (count-raised k) (empty_shell c sh) es l in
+    let counted = stats-law k (empty_shell c sh) es l in
     omega (arith, counted, none-counted c sh k)
 
 pub history-laws : HistoryLaws

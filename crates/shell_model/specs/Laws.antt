@@ -20,6 +20,7 @@ use Rattle.segments.specs.Queues.{empty_queues}
 use Rattle.admission.specs.Shape.{Shape, IsShape}
 use Rattle.admission.specs.Frequency.{frequency_of}
 use Rattle.shell_model.specs.declared.stats.ShellStats.{ShellStats}
+use Rattle.shell_model.specs.declared.stats.TheConstants.ShellStats.{NONE}
 use Rattle.shell_buffers.specs.declared.task.Task.{Task}
 use Rattle.shell_buffers.specs.declared.task.Task.TheVariants.{Add, Update, Remove}
 use Rattle.shell_model.specs.declared.holder.Holder.{Holder}
@@ -66,21 +67,7 @@ empty_shell c s = record {
   drain = drain.Idle;
   holder = None;
   applied = 0;
-  stats = record {
-    hits = 0;
-    misses = 0;
-    kept = 0;
-    full = 0;
-    lost = 0;
-    added = 0;
-    updated = 0;
-    refused = 0;
-    evictions = 0;
-    rejections = 0;
-    begun = 0;
-    busy = 0;
-    removed = 0;
-  };
+  stats = NONE;
 }
 
 -- the items that steps put into read buffer k, and how many they took out
