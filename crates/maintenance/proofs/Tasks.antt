@@ -1,7 +1,7 @@
 -- The oldest task of the write queue: what applying it comes to.
-use Rattle.std.proofs.Common.{arith, ◌≡◌, ℕ, ◌≤◌, true, false, eqb, Option, Some, None, List, [], ◌∷◌, length, drop, refl, sym, ◌∙◌, inl, inr}
+use Rattle.std.proofs.Common.{arith, ◌≡◌, ℕ, ◌≤◌, true, false, eqb, Option, Some, None, List, [], ◌∷◌, length, drop, refl, inl, inr}
 use Rattle.std.proofs.lemmas.Bool.{cases_Bool, eqb-true}
-use Rattle.std.specs.Prelude.{IfNone, IfSome, get_or}
+use Rattle.std.specs.Prelude.{get_or}
 use Rattle.step_record.specs.declared.step.Act.TheVariants.{DrainWrite}
 use Rattle.step_record.specs.declared.drain.Phase.{Phase}
 use Rattle.shell_buffers.specs.declared.task.Task.{Task}
