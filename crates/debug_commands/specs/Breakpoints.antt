@@ -13,7 +13,7 @@ is_key (Some other) key = other == key
 -- whether a breakpoint holds after a step
 abbrev pub holds_after : StepFacts → Breakpoint → Bool
 holds_after f (Hit key) = is_key f.hit key
-holds_after f (Evict key) = is_key f.left key || is_key f.also_left key
+holds_after f (Evict key) = is_key f.evicted key || is_key f.evicted_too key
 holds_after f Halve = f.halved
 holds_after f Part = f.parted
 holds_after f Drop = f.dropped

@@ -26,9 +26,9 @@ pub struct StepFacts {
     /// The key that a cache hit.
     pub hit: Option<Key>,
     /// The key that left the cache; of two caches, the first.
-    pub left: Option<Key>,
+    pub evicted: Option<Key>,
     /// The key that left the second cache.
-    pub also_left: Option<Key>,
+    pub evicted_too: Option<Key>,
     /// The age of a sketch fell.
     pub halved: bool,
     /// Exactly one of two policies hit.
@@ -58,7 +58,7 @@ impl Breakpoint {
     {
         match self {
             Breakpoint::Hit(key) => is_key(facts.hit, key),
-            Breakpoint::Evict(key) => is_key(facts.left, key) || is_key(facts.also_left, key),
+            Breakpoint::Evict(key) => is_key(facts.evicted, key) || is_key(facts.evicted_too, key),
             Breakpoint::Halve => facts.halved,
             Breakpoint::Part => facts.parted,
             Breakpoint::Drop => facts.dropped,

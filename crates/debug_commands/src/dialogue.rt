@@ -38,7 +38,7 @@ pub fn answer_commands<T: Timeline, R: CountedRead, W: CountedWrite>(
     input: &mut R,
     out: &mut W,
 ) -> Result<(), DebugFault>
-    requires { T.IsWhole timeline.old }
+    requires { T.IsUsable timeline.old }
     // With its end it has written what the definition gives for the bytes of the input.
     ensures done { OnOk result (IfSome (R.remaining input.old) (λ bytes.
         WritesDialogue (dialogue_of (T.timeline timeline.old) (T.position timeline.old) bytes) true
@@ -49,7 +49,7 @@ pub fn answer_commands<T: Timeline, R: CountedRead, W: CountedWrite>(
         (W.contents out.old) (W.contents out.new) (T.position timeline.new)) }
     // The timeline's source never changes, also on errors.
     ensures source { T.source timeline.new ≡ T.source timeline.old }
-    ensures whole { OnOk result (T.IsWhole timeline.new) }
+    ensures usable { OnOk result (T.IsUsable timeline.new) }
     ensures same { OnOk result (T.timeline timeline.new ≡ T.timeline timeline.old) }
     ensures config { (i : ℕ) → result ≡ Err (DebugFault.Config i) → ⊥ }
     ensures flushed { OnOk result (W.is_flushed out.new ≡ true) }
@@ -66,21 +66,21 @@ pub fn answer_commands<T: Timeline, R: CountedRead, W: CountedWrite>(
     'lines: loop {
         line.clear();
         text.clear();
-        let fed = read_line(input, &mut line, &mut room, &mut reads)?;
-        let said = grammar::line(timeline.dialect(), line.as_slice());
-        answer(alloc, timeline, &mut breaks, said, &mut text)?;
+        let ended = read_line(input, &mut line, &mut room, &mut reads)?;
+        let input_line = grammar::line(timeline.dialect(), line.as_slice());
+        answer(alloc, timeline, &mut breaks, input_line, &mut text)?;
         send(out, text.as_slice(), &mut writes)?;
-        if is_last(fed, said) {
+        if is_last(ended, input_line) {
             return Ok(());
         }
     }
 }
 
 // Whether the dialogue ends with this line, which had a line feed or not.
-fn is_last(fed: bool, said: InputLine) -> bool
-    ensures { result ≡ is_last fed said }
+fn is_last(ended: bool, input_line: InputLine) -> bool
+    ensures { result ≡ is_last ended input_line }
 {
-    !fed || matches!(said, InputLine::Known(Command::Quit))
+    !ended || matches!(input_line, InputLine::Known(Command::Quit))
 }
 
 // Reads the next line into an empty buffer, without its line feed, and returns whether it had one: the last line may
@@ -93,10 +93,10 @@ fn read_line<R: CountedRead>(
     budget: &mut RetryBudget,
 ) -> Result<bool, DebugFault>
     requires { text.old.items ≡ [] }
-    ensures read { IfOk result (λ fed.
-        Consumes (R.remaining input.old) (R.remaining input.new) (text.new.items ++ feed fed)) }
+    ensures read { IfOk result (λ ended.
+        Consumes (R.remaining input.old) (R.remaining input.new) (text.new.items ++ feed ended)) }
     ensures feeds { OnOk result (HasNoFeed text.new.items) }
-    ensures room { IfOk result (λ fed. room.new + length text.new.items + length (feed fed) ≡ room.old) }
+    ensures room { IfOk result (λ ended. room.new + length text.new.items + length (feed ended) ≡ room.old) }
     ensures end { result ≡ Ok false → IsAtEnd (R.remaining input.new) }
     ensures large { result ≡ Err DebugFault.TooLarge
         → IsTooLarge room.old (R.remaining input.old) (R.remaining input.new) }
@@ -148,9 +148,9 @@ fn answer<T: Timeline>(
     line: InputLine,
     text: &mut Vec<u8>,
 ) -> Result<(), AllocError>
-    requires { T.IsWhole timeline.old }
+    requires { T.IsUsable timeline.old }
     ensures source { T.source timeline.new ≡ T.source timeline.old }
-    ensures kept { OnOk result ((T.IsWhole timeline.new) × (T.timeline timeline.new ≡ T.timeline timeline.old)) }
+    ensures kept { OnOk result ((T.IsUsable timeline.new) × (T.timeline timeline.new ≡ T.timeline timeline.old)) }
     ensures answer { OnOk result (IsAnswer
         (answer_to (T.timeline timeline.old) (record { at = T.position timeline.old; breaks = breaks.old.items }) line)
         text.old.items text.new.items (T.position timeline.new) breaks.new.items) }
@@ -163,22 +163,22 @@ fn answer<T: Timeline>(
             if n > (timeline.end() - at) as u64 {
                 return text.extend_from_slice(b"fault: PastEnd\n");
             }
-            go(alloc, timeline, at + n as usize, text)
+            go(timeline, at + n as usize, text)
         }
         InputLine::Known(Command::Back(n)) => {
             let at = timeline.position();
             if n > at as u64 {
                 return text.extend_from_slice(b"fault: PastStart\n");
             }
-            go(alloc, timeline, at - n as usize, text)
+            go(timeline, at - n as usize, text)
         }
         InputLine::Known(Command::Goto(n)) => {
             if n > timeline.end() as u64 {
                 return text.extend_from_slice(b"fault: PastEnd\n");
             }
-            go(alloc, timeline, n as usize, text)
+            go(timeline, n as usize, text)
         }
-        InputLine::Known(Command::Run) => run(alloc, timeline, breaks.as_slice(), text),
+        InputLine::Known(Command::Run) => run(timeline, breaks.as_slice(), text),
         InputLine::Known(Command::Break(point)) => set(breaks, point, text),
         InputLine::Known(Command::Clear) => {
             breaks.clear();
@@ -190,24 +190,19 @@ fn answer<T: Timeline>(
 }
 
 // Goes to a position: the number of steps that are made there.
-fn go<T: Timeline>(
-    alloc: Global,
-    timeline: &mut T,
-    n: usize,
-    text: &mut Vec<u8>,
-) -> Result<(), AllocError>
-    requires whole { T.IsWhole timeline.old }
+fn go<T: Timeline>(timeline: &mut T, n: usize, text: &mut Vec<u8>) -> Result<(), AllocError>
+    requires usable { T.IsUsable timeline.old }
     requires within { n ≤ (T.timeline timeline.old).end }
     ensures source { T.source timeline.new ≡ T.source timeline.old }
-    ensures kept { OnOk result ((T.IsWhole timeline.new) × (T.timeline timeline.new ≡ T.timeline timeline.old)) }
+    ensures kept { OnOk result ((T.IsUsable timeline.new) × (T.timeline timeline.new ≡ T.timeline timeline.old)) }
     ensures position { OnOk result (T.position timeline.new ≡ n) }
     ensures text { OnOk result (text.new.items ≡ text.old.items ++ position_line n) }
 {
     let at = timeline.position();
     if n < at {
-        timeline.back(alloc, at - n)?;
+        timeline.back(at - n)?;
     } else {
-        timeline.forward(alloc, n - at)?;
+        timeline.forward(n - at)?;
     }
     push_at(text, n)
 }
@@ -215,14 +210,13 @@ fn go<T: Timeline>(
 // Goes onward to a breakpoint or the end.
 #[tactic(auto, unfolding(crate::specs::Answers::response_to))]
 fn run<T: Timeline>(
-    alloc: Global,
     timeline: &mut T,
     breaks: &[Breakpoint],
     text: &mut Vec<u8>,
 ) -> Result<(), AllocError>
-    requires { T.IsWhole timeline.old }
+    requires { T.IsUsable timeline.old }
     ensures source { T.source timeline.new ≡ T.source timeline.old }
-    ensures kept { OnOk result ((T.IsWhole timeline.new) × (T.timeline timeline.new ≡ T.timeline timeline.old)) }
+    ensures kept { OnOk result ((T.IsUsable timeline.new) × (T.timeline timeline.new ≡ T.timeline timeline.old)) }
     ensures answer { OnOk result (IsAnswer
         (response_to (T.timeline timeline.old)
         (record { at = T.position timeline.old; breaks = breaks.now }) command.Run)
@@ -231,7 +225,7 @@ fn run<T: Timeline>(
     if timeline.position() == timeline.end() {
         return text.extend_from_slice(b"fault: PastEnd\n");
     }
-    let stop = next_stop(alloc, timeline, breaks)?;
+    let stop = next_stop(timeline, breaks)?;
     push_stop(text, stop)?;
     push_at(text, timeline.position())
 }
@@ -248,18 +242,17 @@ fn push_stop(text: &mut Vec<u8>, stop: Option<Breakpoint>) -> Result<(), AllocEr
 
 // Makes steps until a breakpoint holds, or to the end.
 fn next_stop<T: Timeline>(
-    alloc: Global,
     timeline: &mut T,
     breaks: &[Breakpoint],
 ) -> Result<Option<Breakpoint>, AllocError>
-    requires { T.IsWhole timeline.old }
+    requires { T.IsUsable timeline.old }
     ensures source { T.source timeline.new ≡ T.source timeline.old }
-    ensures kept { OnOk result ((T.IsWhole timeline.new) × (T.timeline timeline.new ≡ T.timeline timeline.old)) }
+    ensures kept { OnOk result ((T.IsUsable timeline.new) × (T.timeline timeline.new ≡ T.timeline timeline.old)) }
     ensures stop { IfOk result (λ stop. stop_after (T.timeline timeline.old).facts breaks.now (T.position timeline.old)
         ((T.timeline timeline.old).end - T.position timeline.old) ≡ (T.position timeline.new, stop)) }
 {
     'steps: while timeline.position() < timeline.end() {
-        let facts = timeline.next(alloc)?;
+        let facts = timeline.next()?;
         if let Some(point) = first_holding(breaks, &facts) {
             return Ok(Some(point));
         }

@@ -21,7 +21,7 @@ pub trait Timeline {
     ghost position: { Self → ℕ };
 
     /// No call on it was out of memory.
-    ghost IsWhole: { Self → Type 0 };
+    ghost IsUsable: { Self → Type 0 };
 
     /// Which commands it has.
     fn dialect(&self) -> Dialect
@@ -29,50 +29,50 @@ pub trait Timeline {
 
     /// How many steps there are.
     fn end(&self) -> usize
-        requires { IsWhole self.now }
+        requires { IsUsable self.now }
         ensures { result ≡ (timeline self.now).end };
 
     /// How many steps are made.
     fn position(&self) -> usize
-        requires { IsWhole self.now }
+        requires { IsUsable self.now }
         ensures position { result ≡ position self.now }
         ensures within { result ≤ (timeline self.now).end };
 
     /// Undoes the last `n` of the steps that are made.
-    fn back(&mut self, alloc: Global, n: usize) -> Result<(), AllocError>
-        requires whole { IsWhole self.old }
+    fn back(&mut self, n: usize) -> Result<(), AllocError>
+        requires usable { IsUsable self.old }
         requires within { n ≤ position self.old }
         ensures source { source self.new ≡ source self.old }
-        ensures whole { OnOk result (IsWhole self.new) }
+        ensures usable { OnOk result (IsUsable self.new) }
         ensures same { OnOk result (timeline self.new ≡ timeline self.old) }
         ensures position { OnOk result (position self.new ≡ position self.old - n) };
 
     /// Makes the next `n` steps.
-    fn forward(&mut self, alloc: Global, n: usize) -> Result<(), AllocError>
-        requires whole { IsWhole self.old }
+    fn forward(&mut self, n: usize) -> Result<(), AllocError>
+        requires usable { IsUsable self.old }
         requires within { position self.old + n ≤ (timeline self.old).end }
         ensures source { source self.new ≡ source self.old }
-        ensures whole { OnOk result (IsWhole self.new) }
+        ensures usable { OnOk result (IsUsable self.new) }
         ensures same { OnOk result (timeline self.new ≡ timeline self.old) }
         ensures position { OnOk result (position self.new ≡ position self.old + n) };
 
     /// Makes the next step, and returns what breakpoints look at in it.
-    fn next(&mut self, alloc: Global) -> Result<StepFacts, AllocError>
-        requires whole { IsWhole self.old }
+    fn next(&mut self) -> Result<StepFacts, AllocError>
+        requires usable { IsUsable self.old }
         requires within { position self.old < (timeline self.old).end }
         ensures source { source self.new ≡ source self.old }
-        ensures whole { OnOk result (IsWhole self.new) }
+        ensures usable { OnOk result (IsUsable self.new) }
         ensures same { OnOk result (timeline self.new ≡ timeline self.old) }
         ensures position { OnOk result (position self.new ≡ position self.old + 1) }
         ensures facts { IfOk result (λ facts. facts ≡ (timeline self.old).facts (position self.old + 1)) };
 
     /// Adds what `show` prints.
     fn show(&self, alloc: Global, text: &mut Vec<u8>) -> Result<(), AllocError>
-        requires { IsWhole self.now }
+        requires { IsUsable self.now }
         ensures { OnOk result (text.new.items ≡ text.old.items ++ (timeline self.now).shown (position self.now)) };
 
     /// Adds what the dialect's own command prints.
     fn own(&self, alloc: Global, text: &mut Vec<u8>) -> Result<(), AllocError>
-        requires { IsWhole self.now }
+        requires { IsUsable self.now }
         ensures { OnOk result (text.new.items ≡ text.old.items ++ (timeline self.now).own (position self.now)) };
 }

@@ -27,8 +27,8 @@ just_one a b = if a then not b else b
 abbrev pub access_facts : ℕ → Outcome → Outcome → Bool → Bool → StepFacts
 access_facts key a b a_halved b_halved = record {
   hit = if is_hit a || is_hit b then Some key else None;
-  left = left_on_access a;
-  also_left = left_on_access b;
+  evicted = left_on_access a;
+  evicted_too = left_on_access b;
   halved = a_halved || b_halved;
   parted = just_one (is_hit a) (is_hit b);
   dropped = false;

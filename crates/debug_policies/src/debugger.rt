@@ -119,7 +119,7 @@ impl<'a, T: Threads> Timeline for TwoPolicies<'a, T> {
 
     ghost position = { λ w. w.first.at };
 
-    ghost IsWhole = { λ w. IsPartWalk w.trace.now w.first_job w.second_job w.first w.second };
+    ghost IsUsable = { λ w. IsPartWalk w.trace.now w.first_job w.second_job w.first w.second };
 
     fn dialect(&self) -> Dialect {
         Dialect::Policies
@@ -133,17 +133,17 @@ impl<'a, T: Threads> Timeline for TwoPolicies<'a, T> {
         self.first.position()
     }
 
-    fn back(&mut self, _alloc: Global, n: usize) -> Result<(), AllocError> {
+    fn back(&mut self, n: usize) -> Result<(), AllocError> {
         self.first.back(n)?;
         self.second.back(n)
     }
 
-    fn forward(&mut self, _alloc: Global, n: usize) -> Result<(), AllocError> {
+    fn forward(&mut self, n: usize) -> Result<(), AllocError> {
         self.first.forward(n)?;
         self.second.forward(n)
     }
 
-    fn next(&mut self, _alloc: Global) -> Result<StepFacts, AllocError> {
+    fn next(&mut self) -> Result<StepFacts, AllocError> {
         let key = self.trace.keys()[self.first.position()];
         let first_age = self.first.age();
         let second_age = self.second.age();
@@ -190,8 +190,8 @@ fn access_facts(
         } else {
             None
         },
-        left: left_on_access(first),
-        also_left: left_on_access(second),
+        evicted: left_on_access(first),
+        evicted_too: left_on_access(second),
         halved: first_halved || second_halved,
         parted: just_one(hits(first), hits(second)),
         dropped: false,

@@ -38,8 +38,8 @@ is_dropped r = false
 abbrev pub step_facts : Act → Reply → Bool → StepFacts
 step_facts a r halved = record {
   hit = hit_key a r;
-  left = left_on_step r;
-  also_left = None;
+  evicted = left_on_step r;
+  evicted_too = None;
   halved = halved;
   parted = false;
   dropped = is_dropped r;
@@ -56,7 +56,7 @@ halves_on_step opening steps n =
 
 abbrev pub entry_facts : Option (Entry Step Reply) → Bool → StepFacts
 entry_facts None halved =
-    record { hit = None; left = None; also_left = None; halved = halved; parted = false; dropped = false }
+    record { hit = None; evicted = None; evicted_too = None; halved = halved; parted = false; dropped = false }
 entry_facts (Some e) halved = step_facts e.step.act e.reply halved
 
 abbrev pub replay_timeline : Shell → Entries → TimelineData

@@ -66,7 +66,7 @@ impl<'a> Timeline for Replay<'a> {
 
     ghost position = { λ w. length w.session.now.kept };
 
-    ghost IsWhole = { λ w. ⊤ };
+    ghost IsUsable = { λ w. ⊤ };
 
     fn dialect(&self) -> Dialect {
         Dialect::Journal
@@ -80,21 +80,21 @@ impl<'a> Timeline for Replay<'a> {
         self.session.len()
     }
 
-    fn back(&mut self, _alloc: Global, n: usize) -> Result<(), AllocError> {
+    fn back(&mut self, n: usize) -> Result<(), AllocError> {
         match self.session.back(n) {
             Ok(()) => Ok(()),
             Err(_) => Err(AllocError),
         }
     }
 
-    fn forward(&mut self, _alloc: Global, n: usize) -> Result<(), AllocError> {
+    fn forward(&mut self, n: usize) -> Result<(), AllocError> {
         match self.session.forward(n) {
             Ok(()) => Ok(()),
             Err(_) => Err(AllocError),
         }
     }
 
-    fn next(&mut self, _alloc: Global) -> Result<StepFacts, AllocError> {
+    fn next(&mut self) -> Result<StepFacts, AllocError> {
         let age = self.session.engine().frequency().age();
         if self.session.forward(1).is_err() {
             return Err(AllocError);
@@ -125,8 +125,8 @@ fn step_facts(act: &Act, reply: &Reply, halved: bool) -> StepFacts
 {
     StepFacts {
         hit: hit_key(act, reply),
-        left: left_on_step(reply),
-        also_left: None,
+        evicted: left_on_step(reply),
+        evicted_too: None,
         halved,
         parted: false,
         dropped: is_dropped(reply),

@@ -4,4 +4,3 @@ pub mod Lumps
 pub mod Moves
 pub mod Pieces
 pub mod ReadTo
-pub mod Turns

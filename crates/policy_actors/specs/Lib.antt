@@ -3,5 +3,4 @@ pub mod Lumps
 pub mod CacheRuns
 pub mod ReadRun
 pub mod ChannelProtocol
-pub mod Rounds
 pub mod Actors

@@ -15,7 +15,7 @@ use step_record::{Gate, Job};
 /// Takes batches up to the last one, and counts each batch before that in `finished`. With `Some`, the report is that of
 /// all that was fed, where that was known. An actor that ran out of memory goes on taking batches, so that its feeder is
 /// not held up, and has no report; nor has one whose feeder ended early.
-pub fn act<S: FedTrace, R: Wait, G: Gate>(
+pub fn run_actor<S: FedTrace, R: Wait, G: Gate>(
     rt: &R,
     alloc: Global,
     mut inbox: Inbox<S>,

@@ -35,9 +35,9 @@ impl<S: FedTrace> Protocol<Batch, ChannelLog> for BatchesInOrder<S> {
     ghost first = { channel_log true true 0 0 };
 }
 
-pub struct Roles;
+pub struct Ends;
 
-impl Split<ChannelLog> for Roles {
+impl Split<ChannelLog> for Ends {
     ghost use Rattle.std.specs.Prelude.{true, false};
     ghost use Rattle.policy_actors.specs.ChannelProtocol.{channel_log};
 
@@ -46,31 +46,31 @@ impl Split<ChannelLog> for Roles {
     ghost right = { λ v. channel_log false true 0 v.taken };
 }
 
-pub struct Gave;
+pub struct Sent;
 
-impl Outcome<Batch, ChannelLog> for Gave {
+impl Outcome<Batch, ChannelLog> for Sent {
     ghost use Rattle.std.specs.Prelude.{◌≡◌, ◌+◌};
     ghost use Rattle.policy_actors.specs.ChannelProtocol.{channel_log};
 
     ghost then = { λ v x w. w ≡ channel_log v.gives v.takes (v.given + 1) v.taken };
 }
 
-impl Lesson<Batch, ChannelLog> for Gave {
+impl Lesson<Batch, ChannelLog> for Sent {
     ghost fact = { λ v items. ⊤ };
 }
 
-pub struct Took<S> {
+pub struct Received<S> {
     marker: PhantomData<S>,
 }
 
-impl<S: FedTrace> Outcome<Batch, ChannelLog> for Took<S> {
+impl<S: FedTrace> Outcome<Batch, ChannelLog> for Received<S> {
     ghost use Rattle.std.specs.Prelude.{◌≡◌, ◌+◌};
     ghost use Rattle.policy_actors.specs.ChannelProtocol.{channel_log, IsBatch};
 
     ghost then = { λ v x w. (w ≡ channel_log v.gives v.takes v.given (v.taken + 1)) × IsBatch S.known S.size v.taken x };
 }
 
-impl<S: FedTrace> Lesson<Batch, ChannelLog> for Took<S> {
+impl<S: FedTrace> Lesson<Batch, ChannelLog> for Received<S> {
     ghost fact = { λ v items. ⊤ };
 }
 
@@ -78,4 +78,4 @@ pub type Sender<S> = RuledSender<Batch, ChannelLog, BatchesInOrder<S>>;
 
 pub type Receiver<S> = RuledReceiver<Batch, ChannelLog, BatchesInOrder<S>>;
 
-pub type Token = Pass<Batch, ChannelLog>;
+pub type ChannelPass = Pass<Batch, ChannelLog>;

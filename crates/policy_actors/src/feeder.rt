@@ -1,12 +1,10 @@
 //! What feeds the actors of a run, and how far they are.
-ghost use Rattle.std.specs.Prelude.{◌≡◌, ◌+◌, ◌-◌, ◌*◌, ◌<◌, ◌≤◌, IfOk, IfSome, IsTrue, OnErr, OnOk, length, map, take, drop};
+ghost use Rattle.std.specs.Prelude.{◌≡◌, ◌+◌, ◌-◌, ◌*◌, ◌<◌, ◌≤◌, IfOk, IfSome, IsTrue, OnErr, OnOk, length, take, drop};
 ghost use Rattle.step_record.specs.declared.limits.TheConstants.{MAX_ACCESSES};
 ghost use Rattle.policy_actors.specs.Lumps.{AreAt, batches_of};
-ghost use Rattle.policy_actors.specs.Rounds.{AreSentInTurn};
 
 use crate::lump::{BatchSize, FedTrace, Lump};
-use crate::mail::Outbox;
-use crate::rounds::{BatchEnds, feed_in_rounds};
+use crate::mail::Outboxes;
 use std::alloc::{AllocError, Global};
 use std::mem;
 use std::sync::Wait;
@@ -31,14 +29,12 @@ const LUMP_ROOM: usize = 65_536;
 pub struct Feeder<'b, S: FedTrace, W: Wait> {
     rt: &'b W,
     pub alloc: Global,
-    ends: Vec<Outbox<S>>,
+    ends: Outboxes<S>,
     size: BatchSize<S>,
     // Batches finished by all actors together. It only paces the feeding.
     finished: &'b AtomicU64,
     // How many accesses were taken.
     pub place: usize,
-    // How many batches went to the ends in all.
-    sent: u64,
     // No actor is gone, and nothing was out of memory.
     is_open: bool,
 }
@@ -49,11 +45,11 @@ impl<'b, S: FedTrace, W: Wait> Follower for Feeder<'b, S, W> {
     ghost taken = { λ f. f.place };
 
     fn follow(&mut self, keys: &mut Vec<Key>) {
-        let rounds = self.rounds(keys.len());
-        if rounds == 0 {
+        let batches = self.batches_due(keys.len());
+        if batches == 0 {
             return;
         }
-        match take_front(self.alloc, keys, rounds * self.size.accesses) {
+        match take_front(self.alloc, keys, batches * self.size.accesses) {
             Ok(front) => self.give(Trace::new(front), false),
             Err(_) => self.is_open = false,
         }
@@ -65,7 +61,7 @@ impl<'b, S: FedTrace, W: Wait> Feeder<'b, S, W> {
     pub fn new(
         rt: &'b W,
         alloc: Global,
-        ends: Vec<Outbox<S>>,
+        ends: Outboxes<S>,
         size: BatchSize<S>,
         finished: &'b AtomicU64,
     ) -> Feeder<'b, S, W>
@@ -78,7 +74,6 @@ impl<'b, S: FedTrace, W: Wait> Feeder<'b, S, W> {
             size,
             finished,
             place: 0,
-            sent: 0,
             is_open: true,
         }
     }
@@ -89,36 +84,28 @@ impl<'b, S: FedTrace, W: Wait> Feeder<'b, S, W> {
         requires few { self.old.place + length accesses ≤ MAX_ACCESSES }
         requires next { IfSome S.known (λ all. AreAt all self.old.place is_end accesses) }
         ensures place { self.new.place ≡ self.old.place + length accesses }
-        ensures turn { IsTrue self.new.is_open → AreSentInTurn (batches_of (length accesses) self.old.size.accesses)
-            (map (λ o. o.sent) self.old.ends.items) (map (λ o. o.sent) self.new.ends.items) }
+        ensures sent { IsTrue self.new.is_open → self.new.ends.sent
+            ≡ self.old.ends.sent + batches_of (length accesses) self.old.size.accesses }
     {
         let place = self.place;
         self.place += accesses.len();
         if !self.is_open {
             return;
         }
-        let rounds = self.size.batches(accesses.len()) as u64;
-        let Ok(lump) = Lump::new(self.alloc, accesses, place, is_end, self.size) else {
-            self.is_open = false;
-            return;
+        let batches = self.size.batches(accesses.len());
+        self.is_open = match Lump::new(self.alloc, accesses, place, is_end, self.size) {
+            Ok(lump) => send_lump(self.rt, &mut self.ends, &lump, batches),
+            Err(_) => false,
         };
-        let batches = rounds.saturating_mul(self.ends.len() as u64);
-        self.sent = self.sent.saturating_add(batches);
-        let mut fed = LumpEnds {
-            lump,
-            ends: mem::replace(&mut self.ends, Vec::new(self.alloc)),
-        };
-        self.is_open = feed_in_rounds(self.rt, &mut fed, rounds);
-        let LumpEnds { lump: _, ends } = fed;
-        self.ends = ends;
     }
 
     // How many batches to give now of the accesses that were read: whole ones, with an access after them.
-    fn rounds(&self, read: usize) -> usize
+    fn batches_due(&self, read: usize) -> usize
         ensures { 0 < result → result * self.now.size.accesses < read }
     {
         let size = self.size.accesses;
-        let waiting = self.sent.saturating_sub(self.finished.load(Relaxed));
+        let sent = self.ends.sent.saturating_mul(self.ends.len() as u64);
+        let waiting = sent.saturating_sub(self.finished.load(Relaxed));
         let is_behind = waiting.saturating_mul(size as u64) > LONG_LUMP as u64;
         let least = if is_behind { LONG_LUMP } else { MIN_LUMP };
         if !self.is_open || read <= least {
@@ -126,6 +113,23 @@ impl<'b, S: FedTrace, W: Wait> Feeder<'b, S, W> {
         }
         (read - 1) / size
     }
+}
+
+// Sends each end so many batches of the lump, in turn. False where not all of them could be sent.
+fn send_lump<S: FedTrace, W: Wait>(
+    rt: &W,
+    ends: &mut Outboxes<S>,
+    lump: &Lump<S>,
+    batches: usize,
+) -> bool
+    ensures { IsTrue result → ends.new.sent ≡ ends.old.sent + batches }
+{
+    for _number in 0..batches {
+        if !ends.send(rt, lump) {
+            return false;
+        }
+    }
+    true
 }
 
 // Takes accesses off the front. Those after them are copied to a new vector, with room for a lump.
@@ -140,32 +144,4 @@ fn take_front(alloc: Global, keys: &mut Vec<Key>, len: usize) -> Result<Vec<Key>
     let mut front = mem::replace(keys, rest);
     front.truncate(len);
     Ok(front)
-}
-
-// The ends, with the lump from which they are given their next batches.
-#[derive(Drop)]
-struct LumpEnds<S: FedTrace> {
-    lump: Lump<S>,
-    ends: Vec<Outbox<S>>,
-}
-
-impl<S: FedTrace> BatchEnds for LumpEnds<S> {
-    ghost use Rattle.std.specs.Prelude.{length, map};
-    ghost use Rattle.policy_actors.specs.Rounds.{IsSentOne};
-
-    ghost ends = { λ e. length e.ends.items };
-
-    ghost given = { λ e i f. IsSentOne (map (λ o. o.sent) e.ends.items) i (map (λ o. o.sent) f.ends.items) };
-
-    fn count(&self) -> usize {
-        self.ends.len()
-    }
-
-    fn give<R: Wait>(&mut self, rt: &R, end: usize) -> bool {
-        let outbox = &mut self.ends[end];
-        match self.lump.batch(outbox.sent) {
-            Some(batch) => outbox.send(rt, batch),
-            None => false,
-        }
-    }
 }

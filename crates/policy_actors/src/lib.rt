@@ -1,6 +1,5 @@
 //! Jobs on threads of their own, fed in batches, also while the trace is read. They make reports of a whole trace:
-//! `run_actors` of one that is there, `run_reading` while it is read. `feed_in_rounds` is the order in which the actors
-//! are fed.
+//! `run_actors` of one that is there, `run_reading` while it is read. `Outboxes` is how the actors are fed in turn.
 //!
 //! Both promise the same: with `Ok`, each report is `report_on` of its job and the trace, in the order of the jobs. So a
 //! policy's report does not depend on how many actors there are, on the size of a batch, or on how the trace came in.
@@ -11,10 +10,8 @@ mod channel_protocol;
 mod feeder;
 mod lump;
 mod mail;
-mod rounds;
 mod run;
 mod source;
 
 pub use policies::{ActorFault, MAX_ACTORS};
-pub use rounds::{BatchEnds, feed_in_rounds};
 pub use run::{check_run, run_actors, run_reading};

@@ -11,10 +11,10 @@ ghost use Rattle.policies.specs.Reports.{report_on};
 ghost use Rattle.streams.specs.Tally.{FailsWhere};
 ghost use Rattle.trace_read.specs.TraceText.{keys_in};
 
-use crate::actor::act;
+use crate::actor::run_actor;
 use crate::feeder::Feeder;
 use crate::lump::{BatchSize, FedTrace};
-use crate::mail::{Inbox, Outbox, channel};
+use crate::mail::Outboxes;
 use crate::source::{AccessSource, ReaderSource, TraceSource};
 use policies::{ActorFault, MAX_ACTORS, Report, check_jobs};
 use std::alloc::{AllocError, Global};
@@ -28,10 +28,10 @@ use streams::CountedRead;
 use trace_read::{Format, TraceFault};
 
 /// The reports of the jobs over the trace, in the order of the jobs. Each job is an actor on a thread of its own, fed
-/// through a channel by `feed_in_rounds`: batch j goes to every actor before batch j + 1 goes to any. A batch is `batch`
-/// accesses of the trace, the last one may be shorter, and an empty trace is one empty batch. The gate is called before
-/// and after each batch of an actor, with the actor's index and the batch's number; an actor of Belady's policy, which
-/// has to know the whole trace, makes all its accesses in the last batch. No jobs: no reports.
+/// through a channel: batch j goes to every actor before batch j + 1 goes to any. A batch is `batch` accesses of the
+/// trace, the last one may be shorter, and an empty trace is one empty batch. The gate is called before and after each
+/// batch of an actor, with the actor's index and the batch's number; an actor of Belady's policy, which has to know the
+/// whole trace, makes all its accesses in the last batch. No jobs: no reports.
 ///
 /// Errors: `Batch`, `Actors` and `Config`, exactly where their causes stand, in this order, before any thread is
 /// started; then `OutOfMemory`.
@@ -125,8 +125,8 @@ impl<S: FedTrace> Promise<Option<Report>> for Promised<S> {
 
 type Handle<S> = thread::PromisedHandle<Option<Report>, Promised<S>>;
 
-// Starts an actor for each job, has them fed from the source in batches of `size` accesses, and joins them: what there
-// is to say of the source, and the reports.
+// Starts an actor for each job, has them fed from the source in batches of `size` accesses, and joins them: the source's
+// result, and the reports.
 fn run_actors_from<
     S: FedTrace + Send + Sync + 'static,
     R: Threads + Wait + Sync,
@@ -161,14 +161,14 @@ fn run_actors_from<
                 → IfOk result.1 (λ v. v.items ≡ map (λ j. report_on j all) jobs.entry.now)) }
         {
             let size = BatchSize::<S>::new(size);
-            let batches = size.batches(source.most());
+            let batches = size.batches(source.max_accesses());
             let mut handles = Vec::new(alloc);
-            let mut ends = Vec::new(alloc);
+            let mut ends = Outboxes::new(alloc);
             for i in 0..jobs.len() {
                 let job = jobs[i];
                 let who = i as u8;
-                let Ok(inbox) = add_channel(alloc, &mut ends, batches) else {
-                    return (source.leave(), Err(AllocError));
+                let Ok(inbox) = ends.add(alloc, batches) else {
+                    return (source.cancel(), Err(AllocError));
                 };
                 let promised: Promised<S> = Promised {
                     job,
@@ -179,30 +179,16 @@ fn run_actors_from<
                     move || -> Option<Report>
                         requires { (inbox.taken ≡ 0) × (config_fault job.config ≡ Ok tt) }
                         ensures { (all : List ℕ) → S.known ≡ Some all → IfSome result (λ x. x ≡ report_on job all) }
-                    { act::<S, R, G>(rt, alloc, inbox, job, who, gate, finished) },
+                    { run_actor::<S, R, G>(rt, alloc, inbox, job, who, gate, finished) },
                 );
                 let Ok(()) = push_handle(&mut handles, started) else {
-                    return (source.leave(), Err(AllocError));
+                    return (source.cancel(), Err(AllocError));
                 };
             }
             let outcome = source.feed(Feeder::new(rt, alloc, ends, size, finished));
             (outcome, join_all(rt, alloc, handles))
         },
     )
-}
-
-// Makes a channel with room for this number of batches, and appends its sending end to the others.
-fn add_channel<S: FedTrace>(
-    alloc: Global,
-    ends: &mut Vec<Outbox<S>>,
-    batches: usize,
-) -> Result<Inbox<S>, AllocError>
-    requires { 0 < batches }
-    ensures { IfOk result (λ inbox. inbox.taken ≡ 0) }
-{
-    let (outbox, inbox) = channel(alloc, batches)?;
-    ends.push(outbox)?;
-    Ok(inbox)
 }
 
 // Appends the handle of an actor, if its thread was started.

@@ -25,7 +25,7 @@ pub trait AccessSource: Drop {
     ghost becomes: { Self → Self.Outcome → Type 0 };
 
     /// The most accesses that it may give.
-    fn most(&self) -> usize;
+    fn max_accesses(&self) -> usize;
 
     /// Gives the feeder all accesses, in order.
     fn feed<S: FedTrace, W: Wait>(self, feeder: Feeder<'_, S, W>) -> Self::Outcome
@@ -34,7 +34,7 @@ pub trait AccessSource: Drop {
         ensures { becomes self result };
 
     /// Gives nothing, where the actors could not be started.
-    fn leave(self) -> Self::Outcome
+    fn cancel(self) -> Self::Outcome
         ensures { becomes self result };
 }
 
@@ -53,7 +53,7 @@ impl<'t> AccessSource for TraceSource<'t> {
 
     ghost becomes = { λ s o. ⊤ };
 
-    fn most(&self) -> usize {
+    fn max_accesses(&self) -> usize {
         self.trace.len()
     }
 
@@ -61,7 +61,7 @@ impl<'t> AccessSource for TraceSource<'t> {
         let _ = feed_trace(&mut feeder, self.trace);
     }
 
-    fn leave(self) {}
+    fn cancel(self) {}
 }
 
 /// A trace that a reader gives.
@@ -84,7 +84,7 @@ impl<'r, R: CountedRead> AccessSource for ReaderSource<'r, R> {
         × IsReadTo s.format (R.remaining s.reader.now) (R.remaining o.0.now) o.1
         × FailsAsRead o.1 (R.tally s.reader.now) (R.tally o.0.now) };
 
-    fn most(&self) -> usize {
+    fn max_accesses(&self) -> usize {
         MAX_ACCESSES
     }
 
@@ -100,7 +100,7 @@ impl<'r, R: CountedRead> AccessSource for ReaderSource<'r, R> {
         (reader, read)
     }
 
-    fn leave(self) -> (&'r mut R, Result<(), TraceFault>) {
+    fn cancel(self) -> (&'r mut R, Result<(), TraceFault>) {
         let ReaderSource { reader, format: _ } = self;
         (reader, Err(TraceFault::OutOfMemory))
     }

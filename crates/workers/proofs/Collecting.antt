@@ -1,6 +1,7 @@
 -- What the workers brought back from their places.
 use Rattle.std.proofs.Common.{◌≡◌, ℕ, zero, suc, ◌+◌, ◌<◌, ◌≤◌, List, [], ◌∷◌, ◌++◌, map, length, get_or, length-append, Option, Some, None, refl, sym, ap, ◌∙◌, subst, arith}
 use Rattle.std.specs.Prelude.{IfSome}
+use Rattle.std.specs.Option.{IsSome}
 use Rattle.std.proofs.lemmas.List.{append_assoc, append_cancel_left, append-nil}
 use Rattle.std.proofs.lemmas.List.Elements.{filter-append}
 use Rattle.step_record.specs.declared.entry.Entry.{Entry}
@@ -62,6 +63,18 @@ every_map P Q (x ∷ xs) f h = (f x h.0, every_map P Q xs f h.1)
 pub came_back : (b : BookId ShellSession) (n : ℕ) (s : ShellSession) (calls : ℕ → List Call) (ds : List WorkerState) (ps : List ShellPass) → map (λ p. Some p) ps ≡ map (λ d. d.pass) ds
     → Every (λ d. HoldsPass b d × HasWorked n s calls d) ds → AreNumbered 0 ds → Collected b 0 ds ps
 came_back b n s calls ds ps e h c = collected b ds ps 0 e (every_map _ _ ds (λ d h. h.0) h) c
+
+-- workers that were given the passes of a book, in order, hold them
+pub hold_passes : (b : BookId ShellSession) (Q : ShellPass → Type 0) (ds : List WorkerState) (ps : List ShellPass) (lo : ℕ) → map (λ d. d.pass) ds ≡ map (λ p. Some p) ps
+    → InOrder lo ps → AreNumbered lo ds → Every (λ p. p.book ≡ b) ps → Every Q ps → Every (λ d. HoldsPass b d × IfSome d.pass Q) ds
+hold_passes b Q [] ps lo e o c own fresh = tt
+hold_passes b Q (d ∷ ds) [] lo e o c own fresh = absurd (cc)
+hold_passes b Q (d ∷ ds) (p ∷ ps) lo e o c own fresh =
+    let first : Some p ≡ d.pass = cc in
+    let rest : map (λ d. d.pass) ds ≡ map (λ p. Some p) ps = cc in (
+      (record { has = subst IsSome first refl; own = subst (λ x. IfSome x (IsHis b d)) first (own.0, o.0 ∙ sym c.0) }, subst (λ x. IfSome x Q) first fresh.0),
+      hold_passes b Q ds ps (suc lo) rest o.1 c.1 own.1 fresh.1,
+    )
 
 pub every_both : {X : Type 0} (P Q R : X → Type 0) (xs : List X) → ((x : X) → P x → Q x → R x) → Every P xs → Every Q xs → Every R xs
 every_both P Q R [] f h k = tt

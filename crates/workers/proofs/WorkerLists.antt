@@ -7,13 +7,6 @@ use Rattle.workers.specs.declared.run.WorkerState.{WorkerState}
 use Rattle.workers.specs.WorkerStates.{AreNumbered}
 
 module _ {X : Type 0} (P : X → Type 0) where
-  pub every_more : (xs ys : List X) (x : X) → ys ≡ xs ++ x ∷ [] → Every P xs → P x → Every P ys
-  every_more xs ys x is h p = subst (Every P) (sym is) (go xs h)
-    where
-      go : (xs : List X) → Every P xs → Every P (xs ++ x ∷ [])
-      go [] h = (p, tt)
-      go (y ∷ xs) h = (h.0, go xs h.1)
-
   pub all_of_every : (xs : List X) → Every P xs → All P xs
   all_of_every [] h = λ k d lt. absurd (omega arith)
   all_of_every (x ∷ xs) h = λ k d lt. at xs x h.0 (all_of_every xs h.1) k d lt

@@ -8,7 +8,7 @@ ghost use Rattle.step_record.specs.Answers.{AnswersItsActs, is_answer};
 ghost use Rattle.step_record.specs.History.{IsLegal, data_after};
 ghost use Rattle.shell_model.specs.Shell.{act};
 ghost use Rattle.turn_book.specs.Turns.{Every};
-ghost use Rattle.turn_book.specs.Passes.{InOrder, id_of};
+ghost use Rattle.turn_book.specs.Passes.{id_of};
 ghost use Rattle.walks.specs.Walks.{IsWalk, AreWalks};
 ghost use Rattle.walks.specs.AdmittedSteps.{AdmitsNext};
 ghost use Rattle.walks.specs.WorkerEntries.{Made, IsUnfinished};
@@ -124,12 +124,12 @@ fn run_workers<G: Gate, R: Threads + Wait + Sync>(
 {
     let stripes = session.engine().stripes();
     let workers = pieces.len();
-    let Ok((states, room)) = rooms(alloc, workers) else {
+    let Ok((states, room)) = reserve_states(alloc, workers) else {
         return Err(session);
     };
     match TurnBook::open(alloc, session, workers as u8, MAX_TURNS) {
         Ok((book, passes)) => {
-            let states = assign_passes(&book, passes, states);
+            let states = assign_passes(passes, states);
             let states = work_all(rt, gate, &book, pieces, stripes, states);
             let (passes, cause) = collect_passes(states, room);
             let session = book.close(passes);
@@ -143,7 +143,7 @@ fn run_workers<G: Gate, R: Threads + Wait + Sync>(
 }
 
 // Room for the states of the workers, and for their passes.
-fn rooms(
+fn reserve_states(
     alloc: Global,
     workers: usize,
 ) -> Result<(Vec<WorkerState>, Vec<Pass<Session<Shell>>>), AllocError>
@@ -165,16 +165,12 @@ struct WorkerState {
 
 // The state of each worker, with its pass, without allocating.
 fn assign_passes(
-    book: &TurnBook<Session<Shell>>,
     passes: Vec<Pass<Session<Shell>>>,
     mut states: Vec<WorkerState>,
 ) -> Vec<WorkerState>
-    requires order { InOrder 0 passes.items × (length passes.items ≤ MAX_WORKERS) }
-    requires own { Every (λ p. p.book ≡ id_of book.now) passes.items }
-    requires empty { Every (λ p. (p.own ≡ []) × IsWithin book.now.opening.limit p) passes.items }
+    requires few { length passes.items ≤ MAX_WORKERS }
     requires room { (states.items ≡ []) × (length passes.items ≤ vec_capacity states) }
-    ensures holds { Every (λ d. HoldsPass (id_of book.now) d
-        × IfSome d.pass (λ p. (p.own ≡ []) × IsWithin book.now.opening.limit p)) result.items }
+    ensures passes { map (λ d. d.pass) result.items ≡ map (λ p. Some p) passes.items }
     ensures counts { AreNumbered 0 result.items × (length result.items ≡ length passes.items) }
 {
     for pass in passes {
@@ -284,7 +280,7 @@ fn walk_in_turns<E: Engine<Step = Step, Reply = Reply> + Drop, R: Wait>(
         let Next::Do(act, local) = next else {
             return (pass, Ok(()));
         };
-        let (given, answer) = turn(rt, book, pass, Step { worker, act });
+        let (given, answer) = step_in_turn(rt, book, pass, Step { worker, act });
         pass = given;
         match answer {
             Ok(reply) => next = next_step(local, Some(reply)),
@@ -296,7 +292,7 @@ fn walk_in_turns<E: Engine<Step = Step, Reply = Reply> + Drop, R: Wait>(
 
 // Makes one step in a turn. It is refused where the session refuses it, for memory only where the journal is not full. A
 // pass that has drawn all of its turns made an entry in each of them, and these fill the journal.
-fn turn<E: Engine<Step = Step, Reply = Reply> + Drop, R: Wait>(
+fn step_in_turn<E: Engine<Step = Step, Reply = Reply> + Drop, R: Wait>(
     rt: &R,
     book: &TurnBook<Session<E>>,
     pass: Pass<Session<E>>,

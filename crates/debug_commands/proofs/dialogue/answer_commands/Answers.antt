@@ -13,7 +13,7 @@ use Rattle.debug_commands.proofs.dialogue.answer_commands.Goals as goal
 pub lines-init : goal.lines-init
 lines-init g c = record {
   source = refl;
-  whole = c.requires;
+  usable = c.requires;
   same = refl;
   ahead = begins (g.T.Timeline.timeline c.args.timeline.now) (g.T.Timeline.position c.args.timeline.now) 1048576 c.new-breaks.result.items
       (g.R.CountedRead.remaining c.args.input.now) (g.W.CountedWrite.contents c.args.out.now) c.new-breaks.ensures.items refl;
@@ -21,38 +21,38 @@ lines-init g c = record {
   writes = rw c.new-writes.ensures (unspent _ _);
 }
 
-pub returns-in_err-fed-clause-large : goal.returns-in_err-fed-clause-large
-returns-in_err-fed-clause-large g c e =
-    let gives : IsErrAnd {T = Unit {0}} {E = DebugFault} (Err TooLarge) (λ f. f ≡ c.in_err-fed.field-0.0) = subst (λ r. IsErrAnd r (λ f. f ≡ c.in_err-fed.field-0.0)) e c.from_residual.ensures.1 in
-    let fault : c.in_err-fed.field-0.0 ≡ TooLarge = sym gives in
-    ends_at_large c.lines.invariant.ahead (c.in_err-fed.ensures.large (ap Err fault))
+pub returns-in_err-ended-clause-large : goal.returns-in_err-ended-clause-large
+returns-in_err-ended-clause-large g c e =
+    let gives : IsErrAnd {T = Unit {0}} {E = DebugFault} (Err TooLarge) (λ f. f ≡ c.in_err-ended.field-0.0) = subst (λ r. IsErrAnd r (λ f. f ≡ c.in_err-ended.field-0.0)) e c.from_residual.ensures.1 in
+    let fault : c.in_err-ended.field-0.0 ≡ TooLarge = sym gives in
+    ends_at_large c.lines.invariant.ahead (c.in_err-ended.ensures.large (ap Err fault))
 
 pub returns-then-is_last-clause-done : goal.returns-then-is_last-clause-done
 returns-then-is_last-clause-done g c =
     let t : TimelineData = g.T.Timeline.timeline c.args.timeline.now in
-    let said : c.line-said.result ≡ command_line_of t.dialect c.read_line.new.text.items =
-    said_is c.lines.invariant.same c.dialect.ensures c.as_slice.ensures.value c.line-said.ensures in
+    let said : c.line-input_line.result ≡ command_line_of t.dialect c.read_line.new.text.items =
+    said_is c.lines.invariant.same c.dialect.ensures c.as_slice.ensures.value c.line-input_line.ensures in
     ends_here
     (a_round (g.R.CountedRead.remaining c.read_line.new.input) (g.W.CountedWrite.contents c.send.new.out) c.lines.invariant.ahead c.lines.invariant.same
-    c.dialect.ensures c.as_slice.ensures.value c.line-said.ensures c.clear-in-lines.ensures.items c.in_ok-answer.ensures.answer
-    c.in_ok-fed.ensures.read c.in_ok-fed.ensures.feeds c.in_ok-fed.ensures.room c.as_slice-in-lines.ensures.value c.in_ok-send.ensures.bytes)
-    (sym (c.is_last.ensures ∙ ap (is_last c.in_ok-fed.fed) said) ∙ c.if-is_last.true) (λ none. c.in_ok-fed.ensures.end (ap Ok none))
+    c.dialect.ensures c.as_slice.ensures.value c.line-input_line.ensures c.clear-in-lines.ensures.items c.in_ok-answer.ensures.answer
+    c.in_ok-ended.ensures.read c.in_ok-ended.ensures.feeds c.in_ok-ended.ensures.room c.as_slice-in-lines.ensures.value c.in_ok-send.ensures.bytes)
+    (sym (c.is_last.ensures ∙ ap (is_last c.in_ok-ended.ended) said) ∙ c.if-is_last.true) (λ none. c.in_ok-ended.ensures.end (ap Ok none))
 
 pub lines-preserved : goal.lines-preserved
 lines-preserved g c =
     let t : TimelineData = g.T.Timeline.timeline c.args.timeline.now in
-    let said : c.line-said.result ≡ command_line_of t.dialect c.read_line.new.text.items =
-    said_is c.lines.invariant.same c.dialect.ensures c.as_slice.ensures.value c.line-said.ensures in
+    let said : c.line-input_line.result ≡ command_line_of t.dialect c.read_line.new.text.items =
+    said_is c.lines.invariant.same c.dialect.ensures c.as_slice.ensures.value c.line-input_line.ensures in
     record {
       source = c.answer.ensures.source ∙ c.lines.invariant.source;
-      whole = c.in_ok-answer.ensures.kept.0;
+      usable = c.in_ok-answer.ensures.kept.0;
       same = c.in_ok-answer.ensures.kept.1 ∙ c.lines.invariant.same;
       ahead = goes_on
           (a_round (g.R.CountedRead.remaining c.read_line.new.input) (g.W.CountedWrite.contents c.send.new.out) c.lines.invariant.ahead c.lines.invariant.same
-          c.dialect.ensures c.as_slice.ensures.value c.line-said.ensures c.clear-in-lines.ensures.items c.in_ok-answer.ensures.answer
-          c.in_ok-fed.ensures.read c.in_ok-fed.ensures.feeds c.in_ok-fed.ensures.room c.as_slice-in-lines.ensures.value c.in_ok-send.ensures.bytes)
-          (sym (c.is_last.ensures ∙ ap (is_last c.in_ok-fed.fed) said) ∙ c.if-is_last.false);
-      reads = further _ _ _ _ _ _ c.lines.invariant.reads (c.in_ok-fed.ensures.spent (λ same. absurd (cc same)));
+          c.dialect.ensures c.as_slice.ensures.value c.line-input_line.ensures c.clear-in-lines.ensures.items c.in_ok-answer.ensures.answer
+          c.in_ok-ended.ensures.read c.in_ok-ended.ensures.feeds c.in_ok-ended.ensures.room c.as_slice-in-lines.ensures.value c.in_ok-send.ensures.bytes)
+          (sym (c.is_last.ensures ∙ ap (is_last c.in_ok-ended.ended) said) ∙ c.if-is_last.false);
+      reads = further _ _ _ _ _ _ c.lines.invariant.reads (c.in_ok-ended.ensures.spent (λ same. absurd (cc same)));
       writes = further _ _ _ _ _ _ c.lines.invariant.writes c.in_ok-send.ensures.spent;
     }
 
@@ -65,8 +65,8 @@ returns-in_err-answer-clause-writes g c = grind (arith, common_steps)
 pub returns-in_err-send-clause-source : goal.returns-in_err-send-clause-source
 returns-in_err-send-clause-source g c = grind (arith, common_steps)
 
-pub returns-in_err-send-clause-whole : goal.returns-in_err-send-clause-whole
-returns-in_err-send-clause-whole g c = grind (arith, common_steps)
+pub returns-in_err-send-clause-usable : goal.returns-in_err-send-clause-usable
+returns-in_err-send-clause-usable g c = grind (arith, common_steps)
 
 pub returns-in_err-send-clause-writes : goal.returns-in_err-send-clause-writes
 returns-in_err-send-clause-writes g c = grind (arith, common_steps)

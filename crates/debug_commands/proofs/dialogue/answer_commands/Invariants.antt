@@ -7,7 +7,7 @@ use Rattle.debug_commands.proofs.dialogue.answer_commands.Given as goal
 abbrev pub invariant-lines : goal.invariant-lines
 invariant-lines g l = record {
   source : g.T.Timeline.source l.timeline ≡ g.T.Timeline.source l.initial.timeline;
-  whole : g.T.Timeline.IsWhole l.timeline;
+  usable : g.T.Timeline.IsUsable l.timeline;
   same : g.T.Timeline.timeline l.timeline ≡ g.T.Timeline.timeline l.initial.timeline;
   ahead : IsAhead (g.T.Timeline.timeline l.initial.timeline) (g.T.Timeline.position l.initial.timeline)
       (record { at = g.T.Timeline.position l.timeline; breaks = l.breaks.items }) l.room

@@ -23,7 +23,7 @@ steps-preserved g c =
     let facts : c.in_ok-facts.facts ≡ t.facts (at + 1) = c.in_ok-facts.ensures.facts ∙ ap (λ (x : TimelineData). x.facts (at + 1)) c.steps.invariant.same in
     record {
       source = c.next.ensures.source ∙ c.steps.invariant.source;
-      whole = c.in_ok-facts.ensures.whole;
+      usable = c.in_ok-facts.ensures.usable;
       same = c.in_ok-facts.ensures.same ∙ c.steps.invariant.same;
       stop = stops_later t.facts c.args.breaks.now at t.end (g.T.Timeline.position c.next.new.self) c.in_ok-facts.facts lt
           c.in_ok-facts.ensures.position facts (sym c.first_holding.ensures ∙ c.in_default.is)

@@ -5,7 +5,7 @@ use Rattle.debug_commands.proofs.dialogue.next_stop.Given as goal
 abbrev pub invariant-steps : goal.invariant-steps
 invariant-steps g l = record {
   source : g.T.Timeline.source l.timeline ≡ g.T.Timeline.source l.initial.timeline;
-  whole : g.T.Timeline.IsWhole l.timeline;
+  usable : g.T.Timeline.IsUsable l.timeline;
   same : g.T.Timeline.timeline l.timeline ≡ g.T.Timeline.timeline l.initial.timeline;
   stop : stop_after (g.T.Timeline.timeline l.initial.timeline).facts l.breaks (g.T.Timeline.position l.timeline)
       ((g.T.Timeline.timeline l.initial.timeline).end - g.T.Timeline.position l.timeline)

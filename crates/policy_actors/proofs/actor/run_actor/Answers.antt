@@ -1,7 +1,7 @@
 use Rattle.std.proofs.Common.{ℕ, sym, subst}
 use Rattle.policy_actors.specs.CacheRuns.{IsAfter}
 use Rattle.policy_actors.proofs.CacheRuns.{begun, ready, moved, ended}
-use Rattle.policy_actors.proofs.actor.act.Goals as goal
+use Rattle.policy_actors.proofs.actor.run_actor.Goals as goal
 
 pub take-requires-in-loop : goal.take-requires-in-loop
 take-requires-in-loop g c = rw c.as_slice.ensures (ready g.S.FedTrace.known c.args.job g.S.FedTrace.size c.loop.inbox.taken c.in-Some-take.batch c.in-Some-take.ensures.batch c.loop.run c.loop.invariant)

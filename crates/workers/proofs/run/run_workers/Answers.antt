@@ -8,7 +8,7 @@ use Rattle.shell_model.specs.Shell.{act}
 use Rattle.shell_model.specs.ReachableShell.{IsReachable}
 use Rattle.walks.specs.AdmittedSteps.{AdmitsWalks}
 use Rattle.walks.proofs.Admitting.{shell_admits}
-use Rattle.workers.proofs.Collecting.{came_back, every_map, run_up_to}
+use Rattle.workers.proofs.Collecting.{came_back, every_map, hold_passes, run_up_to}
 use Rattle.workers.proofs.Freeing.{run_frees}
 use Rattle.workers.proofs.RunResults.{moved_run}
 use Rattle.workers.proofs.Turning.{within_first}
@@ -38,11 +38,13 @@ returns-in-Ok-open-clause-free g c =
     (ap (λ x. length x.stripes) (sym shell) ∙ stripes.count ∙ stripes.stripes ∙ ap (λ x. x.config.stripes) shell) c.engine.ensures.sound.stands
     (run-of g (goal.at.returns-in-Ok-open-clause-free g c).After-sound) c.sound.ensures.legal c.sound.ensures.stands
 
-pub assign_passes-states-requires-clause-empty : goal.assign_passes-states-requires-clause-empty
-assign_passes-states-requires-clause-empty g c =
+pub work_all-states-requires-clause-holds : goal.work_all-states-requires-clause-holds
+work_all-states-requires-clause-holds g c κs within =
     let room = c.engine.ensures.sound.room in
     let limit = ap (λ s. s.limit) c.in-Ok-open.ensures.opens.0 in
-    every_map _ _ _ (λ p h. (h.0, within_first _ p c.args.session.kept h.0 h.1 h.2 (omega (arith, room, limit)))) c.in-Ok-open.ensures.fresh
+    let passes = c.assign_passes-states.ensures in
+    hold_passes _ _ _ _ 0 passes.passes c.in-Ok-open.ensures.all.0 passes.counts.0 c.in-Ok-open.ensures.own
+    (every_map _ _ _ (λ p h. (h.0, within_first _ p c.args.session.kept h.0 h.1 h.2 (omega (arith, room, limit)))) c.in-Ok-open.ensures.fresh)
 
 pub work_all-states-requires-clause-turns : goal.work_all-states-requires-clause-turns
 work_all-states-requires-clause-turns g c κs within =

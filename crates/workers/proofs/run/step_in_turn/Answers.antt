@@ -6,7 +6,7 @@ use Rattle.step_record.specs.declared.step.Reply.{Reply}
 use Rattle.step_record.specs.declared.step.Step.{Step}
 use Rattle.walks.specs.WorkerEntries.{entries_of}
 use Rattle.workers.proofs.Turning.{gained, leaves_same, not_refused, few_made, within_more, within_spent}
-use Rattle.workers.proofs.run.turn.Goals as goal
+use Rattle.workers.proofs.run.step_in_turn.Goals as goal
 
 pub returns-in-Ok-step-clause-same : goal.returns-in-Ok-step-clause-same
 returns-in-Ok-step-clause-same g c = let took = c.in-Ok.ensures.took in let gave = c.give.ensures.gave in

@@ -24,12 +24,12 @@ returns-in_default-clause-ok g c =
 pub loop-preserved : goal.loop-preserved
 loop-preserved g c =
     let asked = asked_of c.args.worker c.args.stripes c.args.call c.loop.next c.in-Do.act c.in-Do.local c.in-Do.is c.loop.invariant.asks in
-    let step = if_ok_at _ _ _ c.in-Ok.is c.turn-given.ensures.ok in
+    let step = if_ok_at _ _ _ c.in-Ok.is c.step_in_turn-given.ensures.ok in
     record {
       can = tt;
       finite = tt;
-      same = c.turn-given.ensures.same.0 ∙ c.loop.invariant.same;
-      worker = c.turn-given.ensures.same.1 ∙ c.loop.invariant.worker;
+      same = c.step_in_turn-given.ensures.same.0 ∙ c.loop.invariant.same;
+      worker = c.step_in_turn-given.ensures.same.1 ∙ c.loop.invariant.worker;
       within = step.2;
       made = stepped c.args.worker c.args.stripes c.args.call c.loop.next c.next_step-next-in-Ok.result c.in-Do.act c.in-Do.local c.in-Ok.reply c.in-Do.is c.loop.invariant.asks
           (λ rest left. (c.next_step-next-in-Ok.ensures.left rest).1 left) _ _ _ step.0
@@ -39,18 +39,18 @@ loop-preserved g c =
 
 pub returns-in-Err-clause-err : goal.returns-in-Err-clause-err
 returns-in-Err-clause-err g c =
-    let refused = if_err_at _ _ _ c.in-Err.is c.turn-given.ensures.err in (
+    let refused = if_err_at _ _ _ c.in-Err.is c.step_in_turn-given.ensures.err in (
       stopped c.args.worker c.args.stripes c.args.call _ _ _ c.in-Do.is c.in-Do.local.placed _ _ _ refused.0 c.loop.invariant.made,
       refused.1,
     )
 
-pub turn-given-requires-clause-takes : goal.turn-given-requires-clause-takes
-turn-given-requires-clause-takes g c = λ es legal own below.
+pub step_in_turn-given-requires-clause-takes : goal.step_in_turn-given-requires-clause-takes
+step_in_turn-given-requires-clause-takes g c = λ es legal own below.
     c.requires.walker.admits es legal c.in-Do.act (subst (λ l. MayMake c.args.worker c.args.stripes l c.in-Do.act) (sym own)
     (may_make c.args.worker c.args.stripes c.args.call c.requires.walker.walks.0 _ _ c.loop.next c.in-Do.act c.in-Do.local c.requires.walker.walks.1 c.loop.invariant.made c.in-Do.is c.loop.invariant.asks c.in-Do.local.placed)) below
 
 pub returns-in-Err-clause-same : goal.returns-in-Err-clause-same
-returns-in-Err-clause-same g c = (c.turn-given.ensures.same.0 ∙ c.loop.invariant.same, c.turn-given.ensures.same.1 ∙ c.loop.invariant.worker)
+returns-in-Err-clause-same g c = (c.step_in_turn-given.ensures.same.0 ∙ c.loop.invariant.same, c.step_in_turn-given.ensures.same.1 ∙ c.loop.invariant.worker)
 
-pub turn-given-requires-clause-own : goal.turn-given-requires-clause-own
-turn-given-requires-clause-own g c = grind (arith, common_steps)
+pub step_in_turn-given-requires-clause-own : goal.step_in_turn-given-requires-clause-own
+step_in_turn-given-requires-clause-own g c = grind (arith, common_steps)
