@@ -1,5 +1,5 @@
 -- An eviction that was carried out by its plan is the definition's.
-use Rattle.std.proofs.Common.{◌≡◌, Bool, Option, Some, None, List, ap, subst, sym, ◌∙◌, refl}
+use Rattle.std.proofs.Common.{◌≡◌, Bool, Option, Some, None, ap, subst, sym, ◌∙◌, refl}
 use Rattle.step_record.specs.declared.item.Item.{Item}
 use Rattle.step_record.specs.declared.outcome.Outcome.{Outcome}
 use Rattle.step_record.specs.declared.step.Reply.{Reply}

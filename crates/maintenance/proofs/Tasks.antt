@@ -1,7 +1,7 @@
 -- The oldest task of the write queue: what applying it comes to.
-use Rattle.std.proofs.Common.{arith, ◌≡◌, ℕ, ◌≤◌, true, false, eqb, Option, Some, None, List, [], ◌∷◌, length, drop, refl, sym, ◌∙◌, inl, inr}
+use Rattle.std.proofs.Common.{arith, ◌≡◌, ℕ, ◌≤◌, true, false, eqb, Option, Some, None, List, [], ◌∷◌, length, drop, refl, inl, inr}
 use Rattle.std.proofs.lemmas.Bool.{cases_Bool, eqb-true}
-use Rattle.std.specs.Prelude.{IfNone, IfSome, get_or}
+use Rattle.std.specs.Prelude.{get_or}
 use Rattle.step_record.specs.declared.step.Act.TheVariants.{DrainWrite}
 use Rattle.step_record.specs.declared.drain.Phase.{Phase}
 use Rattle.shell_buffers.specs.declared.task.Task.{Task}
@@ -24,11 +24,6 @@ has-task o h e l = rw e (some h.left l)
   where
     some : (n : ℕ) → (n ≡ 0 → ⊥) → 1 ≤ n
     some n l = elim (cases_Bool (eqb n 0)) as (λ _. 1 ≤ n) [ inl q ↦ absurd (l (eqb-true n 0 q)) | inr q ↦ omega (arith, l) ]
-
--- the queue without its oldest
-pub oldest-taken : (o : Option Task) (ws ts : List Task) → IfNone o (ws ≡ [] × ts ≡ []) → IfSome o (λ t. ws ≡ t ∷ ts) → ts ≡ drop 1 ws
-oldest-taken None ws ts n s = rw (n.0, n.1) refl
-oldest-taken (Some t) ws ts n s = rw s refl
 
 pub with-oldest : (l : List Task) (d : Task) → 1 ≤ length l → l ≡ get_or l 0 d ∷ drop 1 l
 with-oldest [] d n = absurd (omega (arith, n))

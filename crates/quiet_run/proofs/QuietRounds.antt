@@ -1,5 +1,5 @@
 -- A round of maintenance, read from its end.
-use Rattle.std.proofs.Common.{◌≡◌, ℕ, suc, zero, ◌+◌, ◌<◌, ◌≤◌, Bool, true, false, nat_lt, Option, Some, None, List, [], ◌∷◌, length, refl, arith, inl, inr}
+use Rattle.std.proofs.Common.{◌≡◌, ℕ, suc, zero, ◌+◌, ◌<◌, ◌≤◌, Bool, true, false, nat_lt, Option, Some, None, List, [], ◌∷◌, length, ◌∙◌, refl, arith, inl, inr}
 use Rattle.std.specs.Prelude.{MatchBool, ◌==◌}
 use Rattle.std.proofs.lemmas.Bool.{cases_Bool, eq-eqb}
 use Rattle.std.proofs.lemmas.Bool.Decides.{nat_tests}
@@ -27,6 +27,7 @@ use Rattle.shell_buffers.specs.Buffers.{stripe_at}
 use Rattle.shell_model.specs.declared.stats.ShellStats.{ShellStats}
 use Rattle.shell_model.specs.ShellStats.{shell_stats_after}
 use Rattle.shell_model.specs.Shell.{Shell, window_size, reply_by, unlisted_by, may_write}
+use Rattle.shell_model.proofs.Making.{evict-is}
 use Rattle.shell_model.proofs.Undoing.{first-queued}
 use Rattle.walks.specs.Walks.{Opens, IsEnding, FollowsEnd, IsEvicting, FollowsEvict, IsWriting, FollowsDrainWrite, IsReading, FollowsDrainRead}
 use Rattle.quiet_run.specs.Outcomes.{outcome_with_reply}
@@ -126,7 +127,8 @@ evicts c t n q l f p left s m Q v k =
           fits c (unlisted_by r.left t) n r.queues l f Evictions left (shell_stats_after b s) (m + 1) r.outcome Q (let d = g.shorter in omega (arith, d, v)) k2 in
           rw is (evicting-opens c.stripes (state c t n q l [] f drain.ToIdle (held p left) s m) outcome.Kept r.outcome Q
           (opens c.stripes a.Evict (λ r es. FollowsEvict 0 c.stripes (IsEvicting 0 c.stripes es) r es) (state c t n q l [] f drain.ToIdle (held p left) s m) outcome.Kept r.outcome Q b (state c (unlisted_by r.left t) n r.queues l [] f drain.ToIdle (held Evictions left) s m)
-          (rw (evictions-law (state c t n q l [] f drain.ToIdle (held Evictions left) s m), e, o.1) refl)
+          (evict-is 0 record { worker = 0; phase = p; left = left } (state c t n q l [] f drain.ToIdle (held p left) s m) refl
+          ∙ (rw (evictions-law (state c t n q l [] f drain.ToIdle (held Evictions left) s m), e, o.1) refl))
           (rw g.outcome_is (λ es w. next es (g.more (IsEvicting 0 c.stripes es) es w)))))
       | inr e ↦
           let small : length q.window ≤ window_size c = grind (arith, nat_tests) in

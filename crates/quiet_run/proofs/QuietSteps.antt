@@ -15,9 +15,8 @@ use Rattle.segments.specs.Queues.{Queues}
 use Rattle.shell_buffers.specs.declared.task.Task.{Task}
 use Rattle.shell_model.specs.declared.holder.Holder.{Holder}
 use Rattle.shell_model.specs.declared.stats.ShellStats.{ShellStats}
-use Rattle.shell_model.specs.Shell.{Shell, act_effect, act}
+use Rattle.shell_model.specs.Shell.{Shell, act_effect, counted_up, act}
 use Rattle.shell_model.specs.Laws.{MadeStep}
-use Rattle.shell_model.proofs.Histories.{counted_up}
 use Rattle.walks.specs.Walks.{Opens, step_of}
 use Rattle.quiet_run.specs.Outcomes.{outcome_with_reply, outcome_from}
 use Rattle.quiet_run.specs.QuietWalks.{reply_with_round, with_rounds}

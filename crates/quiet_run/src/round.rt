@@ -2,7 +2,7 @@
 ghost use Rattle.std.specs.Prelude.{◌≡◌, ◌≤◌, ℕ, None, Some, Err, IsSome, IfOk, IfErr, OnOk, OnErr, length};
 ghost use Rattle.std.specs.Prelude.{◌∷◌, ◌++◌, []};
 ghost use Rattle.journal.specs.Session.{IsSameSession};
-ghost use Rattle.shell_model.specs.Shell.{act_effect, act as acted};
+ghost use Rattle.shell_model.specs.Shell.{act_reply, act as acted};
 ghost use Rattle.shell_model.specs.ReachableShell.{IsReachable, worker_of};
 ghost use Rattle.walks.specs.Walks.{step_of};
 ghost use Rattle.walks.specs.WalkPlaces.{IsAheadOf};
@@ -117,7 +117,7 @@ fn with_round(reply: Reply) -> Reply
 
 // Makes a step that the shell takes.
 fn make_step(session: &mut Session<Shell>, worker: Worker, act: Act) -> Result<Reply, Refusal>
-    requires { IsSome (act_effect worker act session.old.engine) }
+    requires { IsSome (act_reply worker act session.old.engine) }
     ensures opening { session.new.opening ≡ session.old.opening }
     ensures limit { session.new.limit ≡ session.old.limit }
     ensures ok { IfOk result (λ r. session.new.kept

@@ -1,23 +1,21 @@
 -- A record of fields that want no quotes is written as they are, between commas.
-use Rattle.std.proofs.Common.{◌≡◌, ◌∙◌, ◌<◌, ◌≤◌, ◌^◌, ◌/◌, ◌%◌, ◌==◌, ℕ, false, List, [], ◌∷◌, ◌++◌, Option, Some, refl, ap, subst, arith}
+use Rattle.std.proofs.Common.{◌≡◌, ◌∙◌, ◌<◌, ◌≤◌, ◌^◌, ◌/◌, ◌%◌, ◌==◌, ℕ, suc, false, List, [], ◌∷◌, ◌++◌, Option, Some, refl, ap, get_or, map, subst, arith}
 use Rattle.std.proofs.lemmas.List.{append-nil}
 use Rattle.std.proofs.lemmas.List.Folds.{list_any-append}
 use Rattle.std.proofs.lemmas.Bool.{ne_eqb, or_from}
 use Rattle.std.proofs.lemmas.Str.Parse.{digit_from_value}
 use Rattle.std.proofs.lemmas.Fmt.{decimal_is_IsNumeral_wide}
-use Rattle.std.specs.Io.KnownBytes.{Keeps}
+use Rattle.std.specs.Io.KnownBytes.{Appends}
 use Rattle.std.specs.List.{join_with_byte, list_any}
 use Rattle.std.specs.Fmt.{decimal}
 use Rattle.std.specs.Str.Parse.{AllDigits}
 use Rattle.csv.specs.Writing.{default_writer, field_text, fields_text, is_blank, needs_byte, row_body, row_text}
 use Rattle.policies.specs.Reports.{rate_of}
-use Rattle.report.specs.Text.{line_text, rate_text_of, report_fields}
+use Rattle.report.specs.Text.{line_text, rate_text_of, row_fields}
 use Rattle.step_record.specs.Job.{word_of}
 use Rattle.step_record.specs.declared.job.Policy.{Policy}
 use Rattle.step_record.specs.declared.job.Policy.TheVariants.{Lru}
 use Rattle.policies.specs.declared.report.Report.{Report}
-use Rattle.policies.specs.declared.report.Interval.{Interval}
-use Rattle.report.specs.IntervalText.{interval_fields}
 
 abbrev pub IsPlain : List ℕ → Type 0
 IsPlain field = list_any (needs_byte default_writer) field ≡ false
@@ -37,10 +35,6 @@ body f (g ∷ gs) h = ap (λ t. t ++ (44 ∷ row_body default_writer (g ∷ gs))
 pub plain_row : (f g : List ℕ) (fs : List (List ℕ)) → AllPlain (f ∷ g ∷ fs) → row_text default_writer (f ∷ g ∷ fs) ≡ line_text (f ∷ g ∷ fs)
 unfolding line_text is_blank
 plain_row f g fs h = ap (λ t. t ++ 10 ∷ []) (body f (g ∷ fs) h)
-
--- what a writer kept of known bytes
-pub kept : (old : Option (List ℕ)) (x y : List ℕ) → old ≡ Some x → Keeps old (Some y) → y ≡ x
-kept old x y is h = let k : Keeps (Some x) (Some y) = subst (λ (o : Option (List ℕ)). Keeps o (Some y)) is h in k
 
 -- ---- which fields want no quotes
 
@@ -77,18 +71,17 @@ pub word_plain : (p : Policy) → IsPlain (word_of p)
 word_plain Lru = refl
 word_plain _ = refl
 
--- the fields of a report of machine numbers
-pub report_plain : (r : Report) → r.capacity < 10 ^ 64 → r.accesses < 10 ^ 64 → r.hits < 10 ^ 64 → r.misses < 10 ^ 64
-    → r.evictions < 10 ^ 64 → r.rejections < 10 ^ 64 → rate_of r < 10 ^ 64 → AllPlain (report_fields r)
-report_plain r c a h m e j rate = (
-  word_plain r.policy,
-  (decimal_plain _ c, (decimal_plain _ a, (decimal_plain _ h, (decimal_plain _ m, (decimal_plain _ e, (decimal_plain _ j, (rate_plain _ rate, tt))))))),
-)
+numbers_plain : (numbers : List ℕ) (rate : ℕ) → ((k : ℕ) → get_or numbers k 0 < 2 ^ 64) → rate < 10 ^ 64 → AllPlain (map decimal numbers ++ rate_text_of rate ∷ [])
+numbers_plain [] rate small few = (rate_plain rate few, tt)
+numbers_plain (n ∷ numbers) rate small few = (decimal_plain n (omega (arith, small 0)), numbers_plain numbers rate (λ k. small (suc k)) few)
 
--- and those of an interval
-pub interval_plain : (i : Interval) → i.report.capacity < 10 ^ 64 → i.first < 10 ^ 64 → i.last < 10 ^ 64 → i.report.hits < 10 ^ 64
-    → i.report.misses < 10 ^ 64 → i.report.evictions < 10 ^ 64 → i.report.rejections < 10 ^ 64 → rate_of i.report < 10 ^ 64 → AllPlain (interval_fields i)
-interval_plain i c f l h m e j rate = (
-  word_plain i.report.policy,
-  (decimal_plain _ c, (decimal_plain _ f, (decimal_plain _ l, (decimal_plain _ h, (decimal_plain _ m, (decimal_plain _ e, (decimal_plain _ j, (rate_plain _ rate, tt)))))))),
-)
+-- a row is written as it is
+pub row_plain : (r : Report) (numbers : List ℕ) → ((k : ℕ) → get_or numbers k 0 < 2 ^ 64) → rate_of r < 10 ^ 64 → row_text default_writer (row_fields r numbers) ≡ line_text (row_fields r numbers)
+row_plain r [] small few = plain_row _ _ _ (word_plain r.policy, numbers_plain [] _ small few)
+row_plain r (n ∷ numbers) small few = plain_row _ _ _ (word_plain r.policy, numbers_plain (n ∷ numbers) _ small few)
+
+-- what a writer of known bytes wrote besides
+pub appended : (old : Option (List ℕ)) (x y z w : List ℕ) → old ≡ Some x → Appends old (Some y) z → z ≡ w → Some y ≡ Some (x ++ w)
+appended old x y z w is h e =
+    let k : Appends (Some x) (Some y) z = subst (λ o. Appends o (Some y) z) is h in
+    ap Some (k ∙ ap (λ l. x ++ l) e)

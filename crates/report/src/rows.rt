@@ -1,17 +1,17 @@
 //! The rows of reports.
-ghost use Rattle.std.specs.Prelude.{◌≡◌, Err, IfOk, OnOk, map, string_bytes, true};
-ghost use Rattle.std.specs.Fmt.{decimal};
+ghost use Rattle.std.specs.Prelude.{◌≡◌, ◌<◌, ◌^◌, ◌++◌, [], ℕ, List, Err, IfOk, OnOk, string_bytes, true};
 ghost use Rattle.std.specs.Io.KnownBytes.{Appends};
-ghost use Rattle.csv.specs.Writing.{default_writer, row_text, text_written};
-ghost use Rattle.report.specs.ReadyWriter.{IsWriterReady};
-ghost use Rattle.report.specs.Text.{rate_text_of, report_line, reports_text};
+ghost use Rattle.csv.specs.Records.{fields_of, partial_of};
+ghost use Rattle.policies.specs.Reports.{rate_of};
+ghost use Rattle.report.specs.RowWriter.{HasWritten};
+ghost use Rattle.report.specs.Text.{line_text, rate_text_of, reports_text, row_fields};
 ghost use Rattle.streams.specs.Part.{AppendsPart};
 ghost use Rattle.streams.specs.Tally.{FailsWhere};
 
 use super::{Report, WriteFault};
-use csv::{Writer, WriterBuilder};
+use csv::{ByteRecord, Writer, WriterBuilder};
+use itoa::Buffer;
 use std::alloc::{AllocError, Global};
-use std::io::Write;
 use streams::CountedWrite;
 
 /// Writes the text of the reports, and flushes. The writes and flushes of one call share its interruptions, of which the
@@ -38,85 +38,77 @@ pub fn write_reports<W: CountedWrite>(
 pub fn reports_text(alloc: Global, reports: &[Report]) -> Result<Vec<u8>, AllocError>
     ensures { IfOk result (λ v. v.items ≡ reports_text reports.now) }
 {
-    let mut writer = WriterBuilder::new().from_writer(Vec::new(alloc));
-    let names = [
-        "policy".as_bytes(),
-        "capacity".as_bytes(),
-        "accesses".as_bytes(),
-        "hits".as_bytes(),
-        "misses".as_bytes(),
-        "evictions".as_bytes(),
-        "rejections".as_bytes(),
-        "rate".as_bytes(),
-    ];
-    write_row(&mut writer, names.as_slice())?;
+    let header = b"policy,capacity,accesses,hits,misses,evictions,rejections,rate\n";
+    let mut writer = WriterBuilder::new().from_writer(Vec::from_slice(alloc, header)?);
     for report in reports {
-        write_report(alloc, &mut writer, report)?;
+        let numbers = [
+            u64::from(report.capacity),
+            report.accesses,
+            report.hits,
+            report.misses,
+            report.evictions,
+            report.rejections,
+        ];
+        write_row(alloc, &mut writer, report, numbers.as_slice())?;
     }
+    written_text(writer)
+}
+
+/// Writes a row: the policy of the report, these numbers, and its rate.
+pub fn write_row(
+    alloc: Global,
+    writer: &mut Writer<Vec<u8>>,
+    report: &Report,
+    numbers: &[u64],
+) -> Result<(), AllocError>
+    ensures { (text : List ℕ) → HasWritten text writer.old
+        → OnOk result (HasWritten (text ++ line_text (row_fields report.now numbers.now)) writer.new) }
+{
+    let mut row = ByteRecord::new(alloc);
+    push_fields(alloc, &mut row, report, numbers)?;
+    match writer.write_byte_record(&row) {
+        Ok(()) => Ok(()),
+        Err(_) => Err(AllocError),
+    }
+}
+
+/// The text that was written. Into memory that fails only where the allocation failed.
+pub fn written_text(writer: Writer<Vec<u8>>) -> Result<Vec<u8>, AllocError>
+    ensures { (text : List ℕ) → HasWritten text writer → IfOk result (λ v. v.items ≡ text) }
+{
     match writer.into_inner() {
         Ok(text) => Ok(text),
         Err(_) => Err(AllocError),
     }
 }
 
-/// The rate in percent, with two decimals.
-pub fn rate_text(alloc: Global, rate: u128) -> Result<String, AllocError>
+// Adds the fields of a row to a record that is empty.
+fn push_fields(
+    alloc: Global,
+    row: &mut ByteRecord,
+    report: &Report,
+    numbers: &[u64],
+) -> Result<(), AllocError>
+    requires fields { fields_of row.old ≡ [] }
+    requires partial { partial_of row.old ≡ [] }
+    ensures fields { OnOk result (fields_of row.new ≡ row_fields report.now numbers.now) }
+    ensures rate { OnOk result (rate_of report.now < 2 ^ 128) }
+{
+    row.push_field(report.policy.word().as_bytes())?;
+    let mut digits = Buffer::new();
+    for number in numbers {
+        row.push_field(digits.format(*number).as_bytes())?;
+    }
+    let rate = rate_text(alloc, report.rate())?;
+    row.push_field(rate.as_bytes())
+}
+
+// The rate in percent, with two decimals.
+fn rate_text(alloc: Global, rate: u128) -> Result<String, AllocError>
     ensures { IfOk result (λ s. string_bytes s ≡ rate_text_of rate) }
 {
     let whole = rate / 100;
     let tens = rate % 100 / 10;
     let ones = rate % 10;
     format!(in alloc; "{whole}.{tens}{ones}")
-}
-
-/// The number in digits.
-pub fn number_text(alloc: Global, n: u64) -> Result<String, AllocError>
-    ensures { IfOk result (λ s. string_bytes s ≡ decimal n) }
-{
-    n.to_string(alloc)
-}
-
-/// Writes a record. Into memory that fails only where the allocation failed.
-pub fn write_row<W: Write + Drop>(
-    writer: &mut Writer<W>,
-    fields: &[&[u8]],
-) -> Result<(), AllocError>
-    ensures ready { IsWriterReady writer.old → OnOk result (IsWriterReady writer.new) }
-    ensures text { IsWriterReady writer.old → OnOk result (Appends (text_written W.contents writer.old)
-        (text_written W.contents writer.new) (row_text default_writer (map (λ f. f.now) fields.now))) }
-{
-    match writer.write_fields(fields) {
-        Ok(()) => Ok(()),
-        Err(_) => Err(AllocError),
-    }
-}
-
-// Writes the fields of a report.
-fn write_report<W: Write + Drop>(
-    alloc: Global,
-    writer: &mut Writer<W>,
-    report: &Report,
-) -> Result<(), AllocError>
-    ensures ready { IsWriterReady writer.old → OnOk result (IsWriterReady writer.new) }
-    ensures text { IsWriterReady writer.old → OnOk result (Appends (text_written W.contents writer.old)
-        (text_written W.contents writer.new) (report_line report.now)) }
-{
-    let capacity = number_text(alloc, u64::from(report.capacity))?;
-    let accesses = number_text(alloc, report.accesses)?;
-    let hits = number_text(alloc, report.hits)?;
-    let misses = number_text(alloc, report.misses)?;
-    let evictions = number_text(alloc, report.evictions)?;
-    let rejections = number_text(alloc, report.rejections)?;
-    let rate = rate_text(alloc, report.rate())?;
-    let fields = [
-        report.policy.word().as_bytes(),
-        capacity.as_bytes(),
-        accesses.as_bytes(),
-        hits.as_bytes(),
-        misses.as_bytes(),
-        evictions.as_bytes(),
-        rejections.as_bytes(),
-        rate.as_bytes(),
-    ];
-    write_row(writer, fields.as_slice())
 }

@@ -1,5 +1,5 @@
 -- The record of a step fits what it left, and undoes it.
-use Rattle.std.proofs.Common.{◌≡◌, ℕ, ◌+◌, ◌-◌, cond, nat_lt, Option, Some, None, ◌∙◌, refl, arith, inl, inr}
+use Rattle.std.proofs.Common.{◌≡◌, ℕ, ◌+◌, ◌-◌, nat_lt, Option, Some, None, ◌∙◌, refl, arith}
 use Rattle.std.proofs.lemmas.Bool.{cond_both}
 use native.Mathlib.Numerals.{unary_clauses}
 use Rattle.step_record.specs.declared.step.Reply.{Reply}
@@ -8,7 +8,7 @@ use Rattle.step_record.specs.declared.step.Step.{Step}
 use Rattle.shell_model.specs.declared.stats.ShellStats.{ShellStats}
 use Rattle.shell_model.specs.declared.record.ShellRecord.{ShellRecord}
 use Rattle.shell_model.specs.declared.record.Change.{Change}
-use Rattle.shell_model.specs.declared.record.Change.TheVariants.{Nothing, Offered, Updated, Added, Removed, Requested, Began, Read, Passed, Applied, Cleared, Evicted, Ended}
+use Rattle.shell_model.specs.declared.record.Change.TheVariants.{Nothing, Read, Applied, Evicted}
 use Rattle.shell_model.specs.Changes.{after_change, before_change, FitsChange}
 use Rattle.shell_model.specs.Shell.{Shell, act_reply, with_shell, act_effect, counted_reply, act}
 use Rattle.shell_model.specs.ShellStats.{shell_stats_after, shell_stats_before, counted_of, IsCounted}

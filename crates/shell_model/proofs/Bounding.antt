@@ -12,7 +12,8 @@ use Rattle.admission.specs.Frequency.{FrequencyData, frequency_of, frequency_wit
 use Rattle.shell_model.specs.Frequency.{frequency_recorded}
 use Rattle.shell_model.specs.declared.stats.Counted.TheVariants as counted
 use Rattle.shell_model.specs.declared.stats.ShellStats.{ShellStats}
-use Rattle.shell_model.specs.ShellStats.{shell_stats_after, AreAtMost, raises}
+use Rattle.shell_model.specs.declared.stats.Counted.{Counted}
+use Rattle.shell_model.specs.ShellStats.{count_of, shell_stats_after, AreAtMost, raises}
 use Rattle.step_record.specs.Stats.{one_if}
 use Rattle.shell_model.specs.Shell.{Shell, act}
 use Rattle.shell_model.specs.Laws.{MadeStep, IsShapeOf, empty_shell}
@@ -20,7 +21,7 @@ use Rattle.shell_model.specs.ReachableShell.{IsBounded, BoundLaw}
 use Rattle.shell_model.specs.ShellSteps as k
 use Rattle.shell_model.specs.ShellSteps.{Makes, Steps}
 use Rattle.shell_model.proofs.Making.{stepped}
-use Rattle.shell_model.proofs.Histories.{stats-step}
+use Rattle.shell_model.proofs.Histories.{stats-step, count-raised, none-counted}
 
 pub applied-step : (x : Shell) (w : ℕ) (b : Act) (r : Reply) (y : Shell) → Makes w x b r y → y.applied ≡ x.applied
 applied-step x w b r y (k.busy h e) = refl
@@ -53,38 +54,25 @@ up : (b : Bool) (m n : ℕ) → m ≤ n → m + one_if b ≤ n + 1
 up true m n h = omega (arith, h)
 up false m n h = omega (arith, h)
 
-counted-most : (r : Reply) (s : ShellStats) (n : ℕ) → AreAtMost n s → AreAtMost (n + 1) (shell_stats_after r s)
-counted-most r s n h = record {
-  hits = up (raises counted.Hit r) s.hits n h.hits;
-  misses = up (raises counted.Miss r) s.misses n h.misses;
-  kept = up (raises counted.Kept r) s.kept n h.kept;
-  full = up (raises counted.Full r) s.full n h.full;
-  lost = up (raises counted.Lost r) s.lost n h.lost;
-  added = up (raises counted.Added r) s.added n h.added;
-  updated = up (raises counted.Updated r) s.updated n h.updated;
-  refused = up (raises counted.Refused r) s.refused n h.refused;
-  evictions = up (raises counted.Evicted r) s.evictions n h.evictions;
-  rejections = up (raises counted.Rejected r) s.rejections n h.rejections;
-  begun = up (raises counted.Began r) s.begun n h.begun;
-  busy = up (raises counted.Busy r) s.busy n h.busy;
-  removed = up (raises counted.Removed r) s.removed n h.removed;
-}
+counted-most : (c : Counted) (r : Reply) (s : ShellStats) (n : ℕ) → count_of c s ≤ n → count_of c (shell_stats_after r s) ≤ n + 1
+counted-most c r s n h = rw (count-raised c r s) (up (raises c r) (count_of c s) n h)
 
-pub most-more : (m n : ℕ) (s : ShellStats) → m ≤ n → AreAtMost m s → AreAtMost n s
-most-more m n s u h = record {
-  hits = omega (arith, u, h.hits);
-  misses = omega (arith, u, h.misses);
-  kept = omega (arith, u, h.kept);
-  full = omega (arith, u, h.full);
-  lost = omega (arith, u, h.lost);
-  added = omega (arith, u, h.added);
-  updated = omega (arith, u, h.updated);
-  refused = omega (arith, u, h.refused);
-  evictions = omega (arith, u, h.evictions);
-  rejections = omega (arith, u, h.rejections);
-  begun = omega (arith, u, h.begun);
-  busy = omega (arith, u, h.busy);
-  removed = omega (arith, u, h.removed);
+-- each of the counts
+pub at-most : (n : ℕ) (s : ShellStats) → ((c : Counted) → count_of c s ≤ n) → AreAtMost n s
+at-most n s h = record {
+  hits = h counted.Hit;
+  misses = h counted.Miss;
+  kept = h counted.Kept;
+  full = h counted.Full;
+  lost = h counted.Lost;
+  added = h counted.Added;
+  updated = h counted.Updated;
+  refused = h counted.Refused;
+  evictions = h counted.Evicted;
+  rejections = h counted.Rejected;
+  begun = h counted.Began;
+  busy = h counted.Busy;
+  removed = h counted.Removed;
 }
 
 accepted : (x : Shell) (s : Step) (p : Reply × Shell) → act x s ≡ Some p → x.applied < 4294967296
@@ -110,7 +98,7 @@ bound-next x e z v h =
     record {
       next = omega (arith, n, m, w, v.next);
       halvings = omega (arith, g, j, w, v.halvings);
-      counts = rw (w, d) (counted-most e.reply x.stats x.applied v.counts);
+      counts = λ k. rw (w, d) (counted-most k e.reply x.stats x.applied (v.counts k));
       applied = omega (arith, w, few);
     }
 
@@ -123,21 +111,7 @@ opened-bound c sh k = record {
   halvings = none sh k.is;
   next = omega arith;
   applied = omega arith;
-  counts = record {
-    hits = omega arith;
-    misses = omega arith;
-    kept = omega arith;
-    full = omega arith;
-    lost = omega arith;
-    added = omega arith;
-    updated = omega arith;
-    refused = omega arith;
-    evictions = omega arith;
-    rejections = omega arith;
-    begun = omega arith;
-    busy = omega arith;
-    removed = omega arith;
-  };
+  counts = λ k. rw (none-counted c sh k) (omega arith);
 }
 
 pub bound-law : BoundLaw

@@ -1,9 +1,7 @@
 -- What the shell keeps as an engine: its replies belong to their acts, it counts its steps, its frequency ages as a
 -- sketch does, and a record's words are those of its halving.
-use Rattle.std.proofs.Common.{◌≡◌, ℕ, ◌+◌, ◌^◌, true, false, eqb, nat_lt, Option, Some, None, ap, subst, sym, ◌∙◌, refl, arith, inl, inr}
-use Rattle.std.proofs.lemmas.Bool.{cases_Bool, eqb-true}
+use Rattle.std.proofs.Common.{◌≡◌, ℕ, ◌+◌, ◌^◌, true, false, Option, Some, None, ap, subst, sym, ◌∙◌, refl, arith, inl}
 use Rattle.step_record.specs.declared.step.Act.{Act}
-use Rattle.step_record.specs.declared.step.Act.TheVariants as a
 use Rattle.step_record.specs.declared.step.Step.{Step}
 use Rattle.step_record.specs.declared.drain.Phase.{Phase}
 use Rattle.step_record.specs.declared.drain.Phase.TheVariants.{Writes, Evictions}

@@ -1,5 +1,5 @@
 -- What the replies so far say of the state.
-use Rattle.std.proofs.Common.{◌≡◌, ℕ, suc, zero, ◌+◌, ◌<◌, ◌≤◌, ◌↔◌, Bool, true, false, eqb, nat_lt, Option, Some, None, List, [], ◌∷◌, ◌++◌, length, set, drop, subst, ap, ◌∙◌, sym, refl, arith, inl, inr, append-nil, append_assoc}
+use Rattle.std.proofs.Common.{◌≡◌, ℕ, suc, zero, ◌+◌, ◌<◌, ◌≤◌, ◌↔◌, true, false, eqb, List, [], ◌∷◌, ◌++◌, length, set, drop, ap, ◌∙◌, sym, refl, arith, inl, inr, append-nil, append_assoc}
 use Rattle.std.proofs.lemmas.Bool.{cases_Bool, eqb-true, eq-eqb}
 use Rattle.std.proofs.lemmas.List.{drop-append-le, drop-drop, get_or-set_same, get_or-set_other}
 use Rattle.step_record.specs.declared.item.Item.{Item}
@@ -13,16 +13,19 @@ use Rattle.segments.proofs.ItemLists.{same-true, times-append}
 use Rattle.admission.specs.Shape.{Shape, IsShape}
 use Rattle.admission.specs.Frequency.{FrequencyData, frequency_of}
 use Rattle.admission.proofs.Recording.{recorded_freq}
+use Rattle.step_record.specs.declared.config.Config.{Config}
 use Rattle.shell_model.specs.declared.stats.ShellStats.{ShellStats}
+use Rattle.shell_model.specs.declared.stats.Counted.{Counted}
+use Rattle.shell_model.specs.declared.stats.Counted.TheVariants as counted
 use Rattle.shell_model.specs.Frequency.{frequency_recorded}
-use Rattle.shell_model.specs.ShellStats.{shell_stats_after}
+use Rattle.shell_model.specs.ShellStats.{count_of, raises, shell_stats_after}
 use Rattle.step_record.specs.Stats.{one_if}
 use Rattle.shell_buffers.specs.Buffers.{stripe_at}
 use Rattle.shell_model.specs.Changes.{shell_after_touch}
 use Rattle.shell_model.specs.Shell.{Shell, act}
 use Rattle.replacement.specs.Counts.{queue_occurrences}
 use Rattle.shell_model.specs.Consistency.{IsConsistent}
-use Rattle.shell_model.specs.Laws.{MadeStep, collect, tally, offered, drained, asked, done, added, evicted_items, removed_items, keyed}
+use Rattle.shell_model.specs.Laws.{MadeStep, empty_shell, collect, tally, offered, drained, asked, done, added, evicted_items, removed_items, keyed}
 use Rattle.replacement.proofs.Counting.{once, unless-same}
 use Rattle.shell_model.proofs.Counting.{times-placed, listed-times, node-listed, unlisted-is}
 use Rattle.shell_model.proofs.Undoing.{first-queued, shifted-queued}
@@ -104,21 +107,29 @@ stripes-next j x e z s = let f = stripes-step j x e.step.worker e.step.act e.rep
 pub stripes-law : (j : ℕ) (x : Shell) (es : List MadeStep) → IsLegal act x es → stripe_at j (data_after act x es).stripes ≡ drop (tally (drained j) es) (stripe_at j x.stripes ++ collect (offered j) es)
 stripes-law j x es l = fifo (λ z. stripe_at j z.stripes) (offered j) (drained j) (stripes-next j) x es l
 
--- statistics: f is one of them, which p counts
+-- statistics
+
+pub count-raised : (k : Counted) (r : Reply) (s : ShellStats) → count_of k (shell_stats_after r s) ≡ count_of k s + one_if (raises k r)
+count-raised counted.Nothing r s = refl
+count-raised _ r s = refl
+
+pub none-counted : (c : Config) (sh : Shape) (k : Counted) → count_of k (empty_shell c sh).stats ≡ 0
+none-counted c sh counted.Nothing = refl
+none-counted c sh _ = refl
 
 pub stats-step : (x : Shell) (w : ℕ) (b : Act) (r : Reply) (y : Shell) → Makes w x b r y → y.stats ≡ x.stats
 stats-step x w b r y (k.busy h e) = refl
 stats-step x w b r y made = refl
 
-pub stats-law : (f : ShellStats → ℕ) (p : Reply → Bool) → ((r : Reply) (s : ShellStats) → f (shell_stats_after r s) ≡ f s + one_if (p r)) → (x : Shell) (es : List MadeStep) → IsLegal act x es → f (data_after act x es).stats ≡ f x.stats + tally (λ b r. one_if (p r)) es
-stats-law f p q x [] l = omega arith
-stats-law f p q x (e ∷ es) l =
+pub stats-law : (c : Counted) (x : Shell) (es : List MadeStep) → IsLegal act x es → count_of c (data_after act x es).stats ≡ count_of c x.stats + tally (λ b r. one_if (raises c r)) es
+stats-law c x [] l = omega arith
+stats-law c x (e ∷ es) l =
     let z : Shell = next_data (act x e.step) x in
     let s : Steps x e (next_data (act x e.step) x) = stepped x e (next_data (act x e.step) x) l.0 in
-    let i : f (data_after act (next_data (act x e.step) x) es).stats ≡ f (next_data (act x e.step) x).stats + tally (λ b r. one_if (p r)) es = stats-law f p q (next_data (act x e.step) x) es l.1 in
+    let i : count_of c (data_after act (next_data (act x e.step) x) es).stats ≡ count_of c (next_data (act x e.step) x).stats + tally (λ b r. one_if (raises c r)) es = stats-law c (next_data (act x e.step) x) es l.1 in
     let g : (next_data (act x e.step) x).stats ≡ shell_stats_after e.reply s.left.stats = ap (λ (y : Shell). y.stats) s.is in
     let h : s.left.stats ≡ x.stats = stats-step x e.step.worker e.step.act e.reply s.left s.made in
-    let n : f (next_data (act x e.step) x).stats ≡ f x.stats + one_if (p e.reply) = ap f (g ∙ ap (shell_stats_after e.reply) h) ∙ q e.reply x.stats in
+    let n : count_of c (next_data (act x e.step) x).stats ≡ count_of c x.stats + one_if (raises c e.reply) = ap (count_of c) (g ∙ ap (shell_stats_after e.reply) h) ∙ count-raised c e.reply x.stats in
     omega (arith, i, n)
 
 -- the recorded keys

@@ -13,21 +13,18 @@ use Rattle.admission.specs.Shape.{Shape, IsShape}
 use Rattle.admission.proofs.Doors.{part_16}
 use Rattle.admission.proofs.Weighing.{frequency_is}
 use Rattle.shell_model.specs.declared.holder.Holder.{Holder}
-use Rattle.step_record.specs.Stats.{one_if}
-use Rattle.shell_model.specs.declared.stats.Counted.{Counted}
-use Rattle.shell_model.specs.declared.stats.ShellStats.{ShellStats}
 use Rattle.shell_model.specs.declared.stats.Counted.TheVariants as counted
-use Rattle.shell_model.specs.ShellStats.{count_of, raises, shell_stats_after}
+use Rattle.shell_model.specs.ShellStats.{raises}
 use Rattle.shell_buffers.specs.Buffers.{stripe_at}
 use Rattle.shell_model.specs.ShellState.{holder_in_phase}
 use Rattle.shell_model.specs.Changes.{holder_after_task}
 use Rattle.shell_model.specs.Shell.{Shell, may_write, act}
 use Rattle.shell_model.specs.Consistency.{IsConsistent}
-use Rattle.shell_model.specs.Laws.{MadeStep, collect, IsShapeOf, empty_shell, added, is_ending, is_drain_write, is_evict, some_end, some_act, phase_after, open_from, open_began, seat_of, seat_from, AreReplies, HistoryLaws}
+use Rattle.shell_model.specs.Laws.{MadeStep, collect, IsShapeOf, empty_shell, added, is_ending, is_drain_write, is_evict, some_end, some_act, phase_after, open_from, open_began, holding_of, holding_from, AreReplies, HistoryLaws}
 use Rattle.shell_model.specs.ShellSteps as k
 use Rattle.shell_model.specs.ShellSteps.{Makes, Steps}
 use Rattle.shell_model.proofs.Making.{stepped}
-use Rattle.shell_model.proofs.Histories.{after-sound, writes-law, stripes-law, stats-law, frequency-law, table-law}
+use Rattle.shell_model.proofs.Histories.{after-sound, none-counted, writes-law, stripes-law, stats-law, frequency-law, table-law}
 use Rattle.shell_model.proofs.Preserving.{ordered-behind}
 
 -- a phase that stood does not go back
@@ -58,38 +55,38 @@ from-evictions p q false = refl
 abbrev made_of : ℕ → Act → Reply → MadeStep
 made_of w b r = record { step = record { worker = w; act = b }; reply = r }
 
-same-seat : (o : Option (ℕ × Phase)) (w : ℕ) (b : Act) (r : Reply) (es : List MadeStep) → is_evict b ≡ false → is_drain_write b ≡ false → later None false o es ≡ later None false o (made_of w b r ∷ es)
-same-seat None w b r es e f = refl
-same-seat (Some s) w b r es e f = rw (e, f) refl
+same-holding : (o : Option (ℕ × Phase)) (w : ℕ) (b : Act) (r : Reply) (es : List MadeStep) → is_evict b ≡ false → is_drain_write b ≡ false → later None false o es ≡ later None false o (made_of w b r ∷ es)
+same-holding None w b r es e f = refl
+same-holding (Some s) w b r es e f = rw (e, f) refl
 
-write-seat : (w : ℕ) (r : Reply) (h : Holder) (o u : Option Holder) (es : List MadeStep) → o ≡ Some h → may_write h.phase ≡ true → seat_of u ≡ Some (h.worker, Writes)
-    → later None false (seat_of u) es ≡ later None false (seat_of o) (made_of w a.DrainWrite r ∷ es)
-write-seat w r h o u es f g q = rw (q, f) (ap (λ (p : Phase). Some (h.worker, p)) (from-writes h.phase (some_act is_evict es) (some_act is_drain_write es) g))
+write-holding : (w : ℕ) (r : Reply) (h : Holder) (o u : Option Holder) (es : List MadeStep) → o ≡ Some h → may_write h.phase ≡ true → holding_of u ≡ Some (h.worker, Writes)
+    → later None false (holding_of u) es ≡ later None false (holding_of o) (made_of w a.DrainWrite r ∷ es)
+write-holding w r h o u es f g q = rw (q, f) (ap (λ (p : Phase). Some (h.worker, p)) (from-writes h.phase (some_act is_evict es) (some_act is_drain_write es) g))
 
-evict-seat : (w : ℕ) (r : Reply) (h : Holder) (o : Option Holder) (es : List MadeStep) → o ≡ Some h → later None false (seat_of (holder_in_phase Evictions o)) es ≡ later None false (seat_of o) (made_of w a.Evict r ∷ es)
-evict-seat w r h o es f = rw f (ap (λ (p : Phase). Some (h.worker, p)) (from-evictions Reads Reads (some_act is_evict es)))
+evict-holding : (w : ℕ) (r : Reply) (h : Holder) (o : Option Holder) (es : List MadeStep) → o ≡ Some h → later None false (holding_of (holder_in_phase Evictions o)) es ≡ later None false (holding_of o) (made_of w a.Evict r ∷ es)
+evict-holding w r h o es f = rw f (ap (λ (p : Phase). Some (h.worker, p)) (from-evictions Reads Reads (some_act is_evict es)))
 
-passed-seat : (p : Phase) (h : Holder) (o : Option Holder) → o ≡ Some h → seat_of (holder_in_phase p o) ≡ Some (h.worker, p)
-passed-seat p h o f = rw f refl
+passed-holding : (p : Phase) (h : Holder) (o : Option Holder) → o ≡ Some h → holding_of (holder_in_phase p o) ≡ Some (h.worker, p)
+passed-holding p h o f = rw f refl
 
-task-seat : (h : Holder) (o : Option Holder) → o ≡ Some h → seat_of (holder_after_task o) ≡ Some (h.worker, Writes)
-task-seat h o f = rw f refl
+task-holding : (h : Holder) (o : Option Holder) → o ≡ Some h → holding_of (holder_after_task o) ≡ Some (h.worker, Writes)
+task-holding h o f = rw f refl
 
 holder-step : (x : Shell) (w : ℕ) (b : Act) (r : Reply) (y : Shell) → Makes w x b r y → (es : List MadeStep)
-    → later None false (seat_of y.holder) es ≡ later (cond (raises counted.Began r) (Some (w, es)) None) (is_ending r) (seat_of x.holder) (made_of w b r ∷ es)
+    → later None false (holding_of y.holder) es ≡ later (cond (raises counted.Began r) (Some (w, es)) None) (is_ending r) (holding_of x.holder) (made_of w b r ∷ es)
 holder-step x w b r y (k.began e) es = ap (λ (p : Phase). Some (w, p)) refl
-holder-step x w b r y (k.write_empty h f e) es = write-seat w reply.Empty h x.holder _ es f.holds.is f.phase (passed-seat Writes h x.holder f.holds.is)
-holder-step x w b r y (k.enough h t rest f e l) es = write-seat w reply.Enough h x.holder _ es f.holds.is f.phase (passed-seat Writes h x.holder f.holds.is)
-holder-step x w b r y (k.applied_add h i rest f e l) es = write-seat w (reply.Applied i) h x.holder _ es f.holds.is f.phase (task-seat h x.holder f.holds.is)
-holder-step x w b r y (k.applied_update h i rest f e l) es = write-seat w (reply.Applied i) h x.holder _ es f.holds.is f.phase (task-seat h x.holder f.holds.is)
-holder-step x w b r y (k.applied_remove h i rest f e l) es = write-seat w (reply.Cleared i) h x.holder _ es f.holds.is f.phase (task-seat h x.holder f.holds.is)
-holder-step x w b r y (k.fits h f o) es = evict-seat w reply.Fits h x.holder es f.is
-holder-step x w b r y (k.shifted h c f o i) es = evict-seat w (reply.Shifted c) h x.holder es f.is
-holder-step x w b r y (k.evicted h c v f o i n g) es = evict-seat w (reply.Evicted v) h x.holder es f.is
-holder-step x w b r y (k.rejected h c v f o i n) es = evict-seat w (reply.Rejected c) h x.holder es f.is
+holder-step x w b r y (k.write_empty h f e) es = write-holding w reply.Empty h x.holder _ es f.holds.is f.phase (passed-holding Writes h x.holder f.holds.is)
+holder-step x w b r y (k.enough h t rest f e l) es = write-holding w reply.Enough h x.holder _ es f.holds.is f.phase (passed-holding Writes h x.holder f.holds.is)
+holder-step x w b r y (k.applied_add h i rest f e l) es = write-holding w (reply.Applied i) h x.holder _ es f.holds.is f.phase (task-holding h x.holder f.holds.is)
+holder-step x w b r y (k.applied_update h i rest f e l) es = write-holding w (reply.Applied i) h x.holder _ es f.holds.is f.phase (task-holding h x.holder f.holds.is)
+holder-step x w b r y (k.applied_remove h i rest f e l) es = write-holding w (reply.Cleared i) h x.holder _ es f.holds.is f.phase (task-holding h x.holder f.holds.is)
+holder-step x w b r y (k.fits h f o) es = evict-holding w reply.Fits h x.holder es f.is
+holder-step x w b r y (k.shifted h c f o i) es = evict-holding w (reply.Shifted c) h x.holder es f.is
+holder-step x w b r y (k.evicted h c v f o i n g) es = evict-holding w (reply.Evicted v) h x.holder es f.is
+holder-step x w b r y (k.rejected h c v f o i n) es = evict-holding w (reply.Rejected c) h x.holder es f.is
 holder-step x w b r y (k.idle h d f o e) es = refl
 holder-step x w b r y (k.again h d f o e) es = refl
-holder-step x w b r y made es = same-seat (seat_of x.holder) w b r es refl refl
+holder-step x w b r y made es = same-holding (holding_of x.holder) w b r es refl refl
 
 -- what came before the entries follows from what they say of a holder
 join : (e : MadeStep) (es : List MadeStep) (q : Option (ℕ × List MadeStep)) (t : Bool) (o u : Option (ℕ × Phase)) → t ≡ some_end es
@@ -111,10 +108,10 @@ join e es None false o u h i = i ∙ rw (← h) (over (raises counted.Began e.re
     over false true = refl
     over false false = refl
 
-pub holder-law : (x : Shell) (es : List MadeStep) → IsLegal act x es → seat_of (data_after act x es).holder ≡ later (open_began es) (some_end es) (seat_of x.holder) es
+pub holder-law : (x : Shell) (es : List MadeStep) → IsLegal act x es → holding_of (data_after act x es).holder ≡ later (open_began es) (some_end es) (holding_of x.holder) es
 holder-law x [] l = begin x.holder
   where
-    begin : (o : Option Holder) → seat_of o ≡ later None false (seat_of o) []
+    begin : (o : Option Holder) → holding_of o ≡ later None false (holding_of o) []
     begin None = refl
     begin (Some h) = ap (λ (p : Phase). Some (h.worker, p)) (phase h.phase)
       where
@@ -125,11 +122,11 @@ holder-law x [] l = begin x.holder
 holder-law x (e ∷ es) l =
     let s : Steps x e (next_data (act x e.step) x) = stepped x e (next_data (act x e.step) x) l.0 in
     let i = holder-law (next_data (act x e.step) x) es l.1 in
-    let g : seat_of (next_data (act x e.step) x).holder ≡ seat_of s.left.holder = ap (λ (y : Shell). seat_of y.holder) s.is in
+    let g : holding_of (next_data (act x e.step) x).holder ≡ holding_of s.left.holder = ap (λ (y : Shell). holding_of y.holder) s.is in
     let h = holder-step x e.step.worker e.step.act e.reply s.left s.made es in
-    i ∙ ap (λ u. later (open_began es) (some_end es) u es) g ∙ join e es (open_began es) (some_end es) (seat_of x.holder) (seat_of s.left.holder) refl h
+    i ∙ ap (λ u. later (open_began es) (some_end es) u es) g ∙ join e es (open_began es) (some_end es) (holding_of x.holder) (holding_of s.left.holder) refl h
 
-pub from-none : (q : Option (ℕ × List MadeStep)) (t : Bool) (es : List MadeStep) → later q t None es ≡ seat_from q
+pub from-none : (q : Option (ℕ × List MadeStep)) (t : Bool) (es : List MadeStep) → later q t None es ≡ holding_from q
 from-none (Some p) t es = refl
 from-none None true es = refl
 from-none None false es = refl
@@ -157,17 +154,9 @@ opened-sound c sh k = record {
   frequency = frequency_is sh [] (omega (arith, k.is.width.1)) (sixteenths sh k.is) (omega (arith, k.is.size.1));
 }
 
-count-raised : (k : Counted) (r : Reply) (s : ShellStats) → count_of k (shell_stats_after r s) ≡ count_of k s + one_if (raises k r)
-count-raised counted.Nothing r s = refl
-count-raised _ r s = refl
-
-none-counted : (c : Config) (sh : Shape) (k : Counted) → count_of k (empty_shell c sh).stats ≡ 0
-none-counted c sh counted.Nothing = refl
-none-counted c sh _ = refl
-
 pub replies-law : (c : Config) (sh : Shape) (es : List MadeStep) → IsLegal act (empty_shell c sh) es → AreReplies (data_after act (empty_shell c sh) es).stats es
 replies-law c sh es l k =
-    let counted = stats-law (count_of k) (raises k) (count-raised k) (empty_shell c sh) es l in
+    let counted = stats-law k (empty_shell c sh) es l in
     omega (arith, counted, none-counted c sh k)
 
 pub history-laws : HistoryLaws

@@ -21,7 +21,7 @@ use Rattle.shell_model.specs.declared.record.Change.{Change}
 use Rattle.shell_model.specs.declared.record.Change.TheVariants as change
 use Rattle.shell_model.specs.Frequency.{admits}
 use Rattle.shell_model.specs.Changes.{after_change, shell_eviction}
-use Rattle.shell_model.specs.Shell.{Shell, node_of, held_by, in_phase, is_over, look_reply, offer_reply, put_at, put_reply, remove_at, after_read, after_write, begin_reply, read_reply, write_reply, task_reply, evict_effect, evicted_by, planned_change, evict_change, end_reply, drain_at_end, may_read, may_write, is_stripe, some_if, if_held, act_reply, with_shell, act_effect, counted_up, counted_reply, act}
+use Rattle.shell_model.specs.Shell.{Shell, node_of, held_by, in_phase, is_over, look_reply, offer_reply, put_at, put_reply, remove_at, after_read, after_write, begin_reply, read_reply, write_reply, task_reply, evict_effect, evicted_by, planned_change, evict_change, end_reply, drain_at_end, may_read, may_write, is_stripe, some_if, if_held, act_reply, with_shell, act_effect, counted_up, counted_reply}
 use Rattle.shell_model.specs.ShellEviction.{Evicts}
 use Rattle.shell_model.specs.ShellEviction as evicts
 use Rattle.shell_model.specs.ShellSteps.{MayOffer, Holds, MayRead, MayWrite, Makes, Steps, StepsByReply}
@@ -148,7 +148,7 @@ reply-makes w x (a.DrainRead s) =
     when-held (MakesTo w x (a.DrainRead s)) (λ h. some_if (is_stripe s x && may_read h.phase) (read_reply s (stripe_at s x.stripes) x)) w x tt
     (λ h f. cond_both (is_stripe s x && may_read h.phase) (Some (read_reply s (stripe_at s x.stripes) x)) None (MakesTo w x (a.DrainRead s))
     (λ t. (let p = and_parts (is_stripe s x) (may_read h.phase) t in
-        read-makes w x s (stripe_at s x.stripes) record { holder = h; holds = f; phase = p.1; stripe = ltb-true s (length x.stripes) p.0 } refl)) (λ t. tt))
+    read-makes w x s (stripe_at s x.stripes) record { holder = h; holds = f; phase = p.1; stripe = ltb-true s (length x.stripes) p.0 } refl)) (λ t. tt))
 reply-makes w x a.DrainWrite =
     when-held (MakesTo w x a.DrainWrite) (λ h. some_if (may_write h.phase) (write_reply h x.writes x)) w x tt
     (λ h f. cond_both (may_write h.phase) (Some (write_reply h x.writes x)) None (MakesTo w x a.DrainWrite)

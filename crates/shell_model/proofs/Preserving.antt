@@ -1,16 +1,13 @@
 -- What holds of the shell before a step holds after it.
-use Rattle.std.proofs.Common.{◌≡◌, ℕ, suc, zero, ◌+◌, ◌<◌, ◌≤◌, Bool, true, false, cond, ◌&&◌, eqb, nat_lt, Option, Some, None, List, [], ◌∷◌, ◌++◌, length, set, drop, ap, ◌∙◌, refl, arith, inl, inr, length-append}
-use Rattle.std.proofs.lemmas.Bool.{eqb-true, eq-eqb, and_parts, cases_Bool, cond_both}
+use Rattle.std.proofs.Common.{◌≡◌, ℕ, suc, zero, ◌+◌, ◌<◌, ◌≤◌, true, false, cond, eqb, nat_lt, Option, Some, None, List, [], ◌∷◌, ◌++◌, length, set, drop, ap, ◌∙◌, refl, arith, inl, inr, length-append}
+use Rattle.std.proofs.lemmas.Bool.{eqb-true, eq-eqb, cases_Bool}
 use Rattle.std.proofs.lemmas.Bool.Decides.{nat_tests}
 use Rattle.std.proofs.lemmas.List.{get_or-set_same, get_or-set_other}
 use Rattle.step_record.specs.declared.item.Item.{Item}
 use Rattle.step_record.specs.declared.step.Act.{Act}
-use Rattle.step_record.specs.declared.step.Act.TheVariants as a
-use Rattle.step_record.specs.declared.step.Step.{Step}
 use Rattle.step_record.specs.declared.drain.Phase.TheVariants.{Writes, Evictions}
 use Rattle.step_record.specs.declared.drain.Phase.{Phase}
 use Rattle.step_record.specs.declared.step.Reply.{Reply}
-use Rattle.step_record.specs.declared.step.Reply.TheVariants as reply
 use Rattle.segments.specs.declared.records.Queue.{Queue}
 use Rattle.segments.specs.declared.records.Queue.TheVariants.{Window, Probation, Protected}
 use Rattle.segments.specs.Items.{is_same_item, occurrences, items_without, oldest_of}

@@ -1,5 +1,5 @@
--- What a step changes: what the change makes of the state, where it fits, and how it is undone. The parts of a change that
--- only undoing needs make no difference to the state after it.
+-- What a step changes: what the change makes of the state, how it is undone, and where it can be. Some parts of a change
+-- are there for undoing alone.
 use Rattle.std.specs.Prelude.{◌≡◌, ◌≢◌, ℕ, ◌+◌, ◌-◌, ◌<◌, Bool, true, false, Option, Some, None}
 use Rattle.std.specs.Prelude.{List, [], ◌∷◌, ◌++◌, drop, length, set}
 use Rattle.step_record.specs.declared.item.Item.{Item}

@@ -1,5 +1,6 @@
 -- What holds of the shell after any steps.
-use Rattle.std.specs.Prelude.{◌≡◌, ℕ, ◌+◌, ◌<◌, ◌≤◌, cond, Option, Some, None, List, [], ◌∷◌, length}
+use Rattle.std.specs.Prelude.{◌≡◌, ℕ, ◌+◌, ◌<◌, ◌≤◌, if◌then◌else◌, Option, Some, None, List}
+use Rattle.std.specs.Prelude.{[], ◌∷◌, length}
 use Rattle.shell_buffers.specs.declared.stripes.TheConstants.{MAX_ITEMS}
 use Rattle.shell_buffers.specs.declared.write_tasks.TheConstants.{MAX_TASKS}
 use Rattle.step_record.specs.declared.item.Item.{Item}
@@ -17,7 +18,7 @@ use Rattle.shell_model.specs.declared.holder.Holder.{Holder}
 -- how often an Add of the item waits
 abbrev pub waiting_adds : Item → List Task → ℕ
 waiting_adds i [] = 0
-waiting_adds i (Add j ∷ ts) = cond (is_same_item i j) 1 0 + waiting_adds i ts
+waiting_adds i (Add j ∷ ts) = (if is_same_item i j then 1 else 0) + waiting_adds i ts
 waiting_adds i (Update j ∷ ts) = waiting_adds i ts
 waiting_adds i (Remove j ∷ ts) = waiting_adds i ts
 
@@ -26,7 +27,7 @@ abbrev pub leaving : Item → List Task → ℕ
 leaving i [] = 0
 leaving i (Add j ∷ ts) = leaving i ts
 leaving i (Update j ∷ ts) = leaving i ts
-leaving i (Remove j ∷ ts) = cond (is_same_item i j) 1 0 + leaving i ts
+leaving i (Remove j ∷ ts) = (if is_same_item i j then 1 else 0) + leaving i ts
 
 -- after a Remove no Add of its item waits
 abbrev pub IsOrdered : List Task → Type 0

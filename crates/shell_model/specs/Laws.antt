@@ -1,6 +1,6 @@
 -- What the replies so far say of the shell's state.
-use Rattle.std.specs.Prelude.{◌≡◌, ℕ, ◌+◌, ◌<◌, ◌≤◌, ◌↔◌, Bool, true, false, cond, eqb, Option, Some, None, List, []}
-use Rattle.std.specs.Prelude.{◌∷◌, ◌++◌, drop, replicate}
+use Rattle.std.specs.Prelude.{◌≡◌, ℕ, ◌+◌, ◌<◌, ◌≤◌, ◌↔◌, Bool, true, false, eqb, if◌then◌else◌, Option, Some, None, List}
+use Rattle.std.specs.Prelude.{[], ◌∷◌, ◌++◌, drop, replicate}
 use Rattle.step_record.specs.declared.item.Item.{Item}
 use Rattle.step_record.specs.declared.config.Config.{Config}
 use Rattle.step_record.specs.declared.step.Act.{Act}
@@ -20,6 +20,7 @@ use Rattle.segments.specs.Queues.{empty_queues}
 use Rattle.admission.specs.Shape.{Shape, IsShape}
 use Rattle.admission.specs.Frequency.{frequency_of}
 use Rattle.shell_model.specs.declared.stats.ShellStats.{ShellStats}
+use Rattle.shell_model.specs.declared.stats.TheConstants.ShellStats.{NONE}
 use Rattle.shell_buffers.specs.declared.task.Task.{Task}
 use Rattle.shell_buffers.specs.declared.task.Task.TheVariants.{Add, Update, Remove}
 use Rattle.shell_model.specs.declared.holder.Holder.{Holder}
@@ -66,27 +67,13 @@ empty_shell c s = record {
   drain = drain.Idle;
   holder = None;
   applied = 0;
-  stats = record {
-    hits = 0;
-    misses = 0;
-    kept = 0;
-    full = 0;
-    lost = 0;
-    added = 0;
-    updated = 0;
-    refused = 0;
-    evictions = 0;
-    rejections = 0;
-    begun = 0;
-    busy = 0;
-    removed = 0;
-  };
+  stats = NONE;
 }
 
 -- the items that steps put into read buffer k, and how many they took out
 
 abbrev pub offered : ℕ → Act → Reply → List Item
-offered k (Offer s i) Kept = cond (eqb k s) (i ∷ []) []
+offered k (Offer s i) Kept = if eqb k s then i ∷ [] else []
 offered k b r = []
 
 abbrev pub drained : ℕ → Act → Reply → ℕ
@@ -145,35 +132,34 @@ is_evict b = false
 
 abbrev pub some_end : List MadeStep → Bool
 some_end [] = false
-some_end (e ∷ es) = cond (is_ending e.reply) true (some_end es)
+some_end (e ∷ es) = if is_ending e.reply then true else some_end es
 
 abbrev pub some_act : (Act → Bool) → List MadeStep → Bool
 some_act p [] = false
-some_act p (e ∷ es) = cond (p e.step.act) true (some_act p es)
+some_act p (e ∷ es) = if p e.step.act then true else some_act p es
 
 -- the phase, from those that came since
 abbrev pub phase_after : Phase → List MadeStep → Phase
-phase_after p es = cond (some_act is_evict es) Evictions (cond (some_act is_drain_write es) Writes p)
+phase_after p es = if some_act is_evict es then Evictions else if some_act is_drain_write es then Writes else p
 
 -- the worker whose Began is the last that no Idle or Again follows, and what came since
 abbrev pub open_from : MadeStep → List MadeStep → Option (ℕ × List MadeStep) → Option (ℕ × List MadeStep)
 open_from e es (Some p) = Some p
-open_from e es None = cond (raises counted.Began e.reply) (cond (some_end es) None (Some (e.step.worker, es))) None
+open_from e es None =
+    if raises counted.Began e.reply then if some_end es then None else Some (e.step.worker, es) else None
 
 abbrev pub open_began : List MadeStep → Option (ℕ × List MadeStep)
 open_began [] = None
 open_began (e ∷ es) = open_from e es (open_began es)
 
-abbrev pub seat : Holder → ℕ × Phase
-seat h = (h.worker, h.phase)
+-- the holder's worker and phase
+abbrev pub holding_of : Option Holder → Option (ℕ × Phase)
+holding_of None = None
+holding_of (Some h) = Some (h.worker, h.phase)
 
-abbrev pub seat_of : Option Holder → Option (ℕ × Phase)
-seat_of None = None
-seat_of (Some h) = Some (seat h)
-
-abbrev pub seat_from : Option (ℕ × List MadeStep) → Option (ℕ × Phase)
-seat_from None = None
-seat_from (Some p) = Some (p.0, phase_after Reads p.1)
+abbrev pub holding_from : Option (ℕ × List MadeStep) → Option (ℕ × Phase)
+holding_from None = None
+holding_from (Some p) = Some (p.0, phase_after Reads p.1)
 
 -- the laws
 
@@ -197,7 +183,7 @@ pub record IsHistory (s : Shape) (es : List MadeStep) (x : Shell) : Type 0 where
   pub main : main_length x.queues ≤ main_size x.config
   pub frequency : x.frequency ≡ frequency_of s (collect keyed es)
   pub below : (i : Item) → 1 ≤ occurrences i x.table → i.node < x.next
-  pub holder : seat_of x.holder ≡ seat_from (open_began es)
+  pub holder : holding_of x.holder ≡ holding_from (open_began es)
 
 abbrev pub HistoryLaws : Type 0
 HistoryLaws = (c : Config) (s : Shape) (es : List MadeStep) → IsShapeOf c s

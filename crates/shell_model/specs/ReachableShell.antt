@@ -9,10 +9,11 @@ use Rattle.step_record.specs.declared.step.Reply.TheVariants.{Began}
 use Rattle.shell_model.specs.declared.holder.Holder.{Holder}
 use Rattle.admission.specs.Shape.{Shape}
 use Rattle.shell_model.specs.declared.record.ShellRecord.{ShellRecord}
-use Rattle.shell_model.specs.ShellStats.{AreAtMost}
+use Rattle.shell_model.specs.declared.stats.Counted.{Counted}
+use Rattle.shell_model.specs.ShellStats.{count_of}
 use Rattle.shell_model.specs.Shell.{Shell, act}
 use Rattle.shell_model.specs.Records.{undone_step, FitsStep, shell_record_of}
-use Rattle.shell_model.specs.Laws.{MadeStep, IsShapeOf, empty_shell, is_ending, seat_of, seat_from, open_began}
+use Rattle.shell_model.specs.Laws.{MadeStep, IsShapeOf, empty_shell, is_ending, holding_of, holding_from, open_began}
 use Rattle.step_record.specs.declared.item.Item.{Item}
 use Rattle.segments.specs.Items.{occurrences}
 
@@ -36,7 +37,7 @@ RecordLaw = (x y : Shell) (s : Step) (r : Reply) → IsReachable x → act x s �
 -- from any state that a shell stands for and that no one holds
 pub record IsLaterHistory (es : List MadeStep) (y : Shell) : Type 0 where
   pub below : (i : Item) → 1 ≤ occurrences i y.table → i.node < y.next
-  pub holder : seat_of y.holder ≡ seat_from (open_began es)
+  pub holder : holding_of y.holder ≡ holding_from (open_began es)
 
 abbrev pub LaterLaws : Type 0
 LaterLaws = (x : Shell) (es : List MadeStep) → IsReachable x → x.holder ≡ None
@@ -45,7 +46,7 @@ LaterLaws = (x : Shell) (es : List MadeStep) → IsReachable x → x.holder ≡ 
 -- no count passes the number of applied steps, which has a limit
 pub record IsBounded (x : Shell) : Type 0 where
   pub next : x.next ≤ x.applied
-  pub counts : AreAtMost x.applied x.stats
+  pub counts : (c : Counted) → count_of c x.stats ≤ x.applied
   pub halvings : x.frequency.halvings ≤ x.applied
   pub applied : x.applied ≤ MAX_STEPS
 

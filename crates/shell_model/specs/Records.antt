@@ -15,8 +15,8 @@ abbrev pub record_by : Option (Reply × Change) → ShellRecord
 record_by None = record { counted = counted.Nothing; change = change.Nothing }
 record_by (Some p) = record { counted = counted_of p.0; change = p.1 }
 
--- The record of a step, from the shell before it. It is this and nothing beside: its only list is that of a halving that
--- the recording of a key brought.
+-- The record of a step, from the shell before it. It is this and nothing beside: its only list is that of a halving
+-- that the recording of a key brought.
 abbrev pub shell_record_of : Step → Shell → ShellRecord
 shell_record_of s x = record_by (act_reply s.worker s.act x)
 

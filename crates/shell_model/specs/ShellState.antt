@@ -1,5 +1,6 @@
 -- The state of the concurrent cache, and what steps look up in it.
-use Rattle.std.specs.Prelude.{ℕ, nat_lt, Bool, true, false, eqb, if◌then◌else◌, Option, Some, None, List, [], ◌∷◌, length}
+use Rattle.std.specs.Prelude.{ℕ, nat_lt, Bool, false, eqb, if◌then◌else◌, Option, Some, None}
+use Rattle.std.specs.Prelude.{List, [], ◌∷◌, length}
 use Rattle.step_record.specs.declared.item.Item.{Item}
 use Rattle.step_record.specs.declared.config.Config.{Config}
 use Rattle.step_record.specs.declared.drain.Drain.{Drain}

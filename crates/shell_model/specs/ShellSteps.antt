@@ -1,5 +1,5 @@
 -- What a step makes of the state, one case for each reply.
-use Rattle.std.specs.Prelude.{◌≡◌, ℕ, ◌<◌, ◌≤◌, Bool, true, false, Option, Some, None, List, [], ◌∷◌, length}
+use Rattle.std.specs.Prelude.{◌≡◌, ℕ, ◌<◌, ◌≤◌, true, false, Some, None, List, [], ◌∷◌, length}
 use Rattle.step_record.specs.declared.item.Item.{Item}
 use Rattle.step_record.specs.declared.step.Answer.{Answer}
 use Rattle.step_record.specs.declared.step.Act.{Act}
@@ -44,9 +44,9 @@ pub record MayWrite (w : ℕ) (h : Holder) (x : Shell) : Type 0 where
   pub holds : Holds w h x
   pub phase : may_write h.phase ≡ true
 
--- the state after a task
-abbrev pub after_task : Holder → Task → Shell → Shell
-after_task h t x = after_change (task_reply h.phase t x).1 x
+-- the state after a DrainWrite that applies the task
+abbrev pub shell_after_drain : Holder → Task → Shell → Shell
+shell_after_drain h t x = after_change (task_reply h.phase t x).1 x
 
 pub data Makes (w : ℕ) (x : Shell) : Act → Reply → Shell → Type 0 where
   hit : (k n : ℕ) → node_of k x.table ≡ Some n → Makes w x (a.Look k) (reply.Hit n) x
@@ -81,11 +81,11 @@ pub data Makes (w : ℕ) (x : Shell) : Act → Reply → Shell → Type 0 where
   enough : (h : Holder) (t : Task) (rest : List Task) → MayWrite w h x → x.writes ≡ t ∷ rest → h.left ≡ 0
       → Makes w x a.DrainWrite reply.Enough (in_phase Writes x)
   applied_add : (h : Holder) (i : Item) (rest : List Task) → MayWrite w h x → x.writes ≡ Add i ∷ rest → 1 ≤ h.left
-      → Makes w x a.DrainWrite (reply.Applied i) (after_task h (Add i) x)
+      → Makes w x a.DrainWrite (reply.Applied i) (shell_after_drain h (Add i) x)
   applied_update : (h : Holder) (i : Item) (rest : List Task) → MayWrite w h x → x.writes ≡ Update i ∷ rest
-      → 1 ≤ h.left → Makes w x a.DrainWrite (reply.Applied i) (after_task h (Update i) x)
+      → 1 ≤ h.left → Makes w x a.DrainWrite (reply.Applied i) (shell_after_drain h (Update i) x)
   applied_remove : (h : Holder) (i : Item) (rest : List Task) → MayWrite w h x → x.writes ≡ Remove i ∷ rest
-      → 1 ≤ h.left → Makes w x a.DrainWrite (reply.Cleared i) (after_task h (Remove i) x)
+      → 1 ≤ h.left → Makes w x a.DrainWrite (reply.Cleared i) (shell_after_drain h (Remove i) x)
   fits : (h : Holder) → Holds w h x → is_over x ≡ false → Makes w x a.Evict reply.Fits (in_phase Evictions x)
   shifted : (h : Holder) (c : Item) → Holds w h x → IsCandidate c x → is_too_much (shift_effect c x) ≡ false
       → Makes w x a.Evict (reply.Shifted c) (shift_effect c (in_phase Evictions x))

@@ -8,8 +8,10 @@ ghost use Rattle.turn_book.specs.declared.book.TheConstants.{MAX_TURNS};
 ghost use Rattle.turn_book.specs.Faults.{value_in, IsOpenCause};
 ghost use Rattle.turn_book.specs.Passes.{book_id, id_of, InOrder, Takes, Gives, Ends};
 ghost use Rattle.turn_book.specs.Seats.{IsBoard, part_of, pass_view};
-ghost use Rattle.turn_book.specs.Turns.{AddsInTurn, Every, Waits, Comes, Rests};
-ghost use Rattle.turn_book.specs.Turns.{parts_from, beginner};
+ghost use Rattle.turn_book.specs.Turns.{AddsInTurn, Every, Comes};
+ghost use Rattle.turn_book.specs.Views.{Waits, Rests};
+ghost use Rattle.turn_book.specs.Turns.{beginner};
+ghost use Rattle.turn_book.specs.Views.{parts_from};
 
 use crate::fault::OpenFault;
 use crate::rule::{Draw, Look, PassOn, PassParts, Turns};

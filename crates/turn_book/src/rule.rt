@@ -45,7 +45,7 @@ impl<T: Kept> Play<Option<T>, View<T, T::Entry>> for PassOn {
 pub struct PassParts;
 
 impl<T, E> Split<View<T, E>> for PassParts {
-    ghost use Rattle.turn_book.specs.Turns.{left_of, right_of};
+    ghost use Rattle.turn_book.specs.Views.{left_of, right_of};
 
     ghost left = { left_of };
 
@@ -53,7 +53,7 @@ impl<T, E> Split<View<T, E>> for PassParts {
 }
 
 impl<T, E> Join<View<T, E>> for PassParts {
-    ghost use Rattle.turn_book.specs.Turns.{both_of, spent};
+    ghost use Rattle.turn_book.specs.Views.{both_of, spent};
 
     ghost both = { both_of };
 

@@ -1,5 +1,6 @@
 use Rattle.std.proofs.Common.{◌≡◌, ◌++◌, map}
-use Rattle.turn_book.specs.Turns.{Every, Rests}
+use Rattle.turn_book.specs.Turns.{Every}
+use Rattle.turn_book.specs.Views.{Rests}
 use Rattle.turn_book.specs.Passes.{book_id}
 use Rattle.turn_book.specs.Seats.{part_of}
 use Rattle.turn_book.proofs.book.gather.Given as goal
