@@ -6,11 +6,11 @@ use Rattle.step_record.specs.declared.item.Item.{Item}
 use Rattle.queue_table.specs.declared.records.Entry.{Entry}
 use Rattle.queue_table.specs.declared.slot.Slot.{Slot}
 use Rattle.queue_table.specs.declared.lengths.Lengths.{Lengths}
-use Rattle.queue_table.specs.Entries.{is_same_item, first_item, IsGap}
+use Rattle.queue_table.specs.Entries.{is_same_item, entry, first_item, IsGap}
 use Rattle.queue_table.specs.Queues.{QUEUES, Queues, queue_holding, after_push, after_removal, after_return, IsDistinct}
 use Rattle.queue_table.proofs.EntryLists.{same-refl}
 use Rattle.queue_table.proofs.QueueLists.{IsAbsent}
-use Rattle.queue_table.specs.Ring.{entry_in, entries, olders, newers, tags, slot_entry, slot_item, count, IsRing, put_before, SECTIONS, Order, ring, used, order_of, order_without, sent, lists, lists_of, IsNewer, IsPlace, IsQueued}
+use Rattle.queue_table.specs.Ring.{entries, olders, newers, tags, slot_entry, slot_item, count, IsRing, put_before, SECTIONS, Order, ring, used, order_of, order_without, sent, lists, lists_of, IsNewer, IsPlace, IsQueued}
 use Rattle.step_record.specs.Keys.{keys_without}
 use Rattle.queue_table.specs.QueueTable.{IsCounted}
 use Rattle.queue_table.proofs.Splices.{count-append, count-here}
@@ -105,7 +105,7 @@ closing-without q k o w u = let c = closing-none (suc q) (suc q) o (omega (arith
 
 module _ (slots slots2 : List Slot) (o : Order) (h : IsQueued slots o) (k q b : ℕ) (low : q < QUEUES) (e : Entry) (within : k < length slots) (es : entries slots2 ≡ set (entries slots) k e) where
   here : slot_entry (entries slots2) k ≡ e
-  here = (let l = length-map slots entry_in in ap (λ (s : List Entry). slot_entry s k) es ∙ get_or-set_same (entries slots) k e _ (omega (arith, within, l)))
+  here = (let l = length-map slots (λ (s : Slot). entry s.item s.count) in ap (λ (s : List Entry). slot_entry s k) es ∙ get_or-set_same (entries slots) k e _ (omega (arith, within, l)))
 
   rest : lists_of (order_without k o) (entries slots2) ≡ lists_of (order_without k o) (entries slots)
   rest = ap (lists_of (order_without k o)) es ∙ lists-kept (order_without k o) (entries slots) k e (short-without k o h.short) (used-gone k o)

@@ -6,9 +6,9 @@ use Rattle.queue_table.specs.declared.records.Entry.{Entry}
 use Rattle.queue_table.specs.declared.slot_index.SlotIndex.{SlotIndex}
 use Rattle.queue_table.specs.declared.lengths.Lengths.{Lengths}
 use Rattle.queue_table.specs.declared.slot.Slot.{Slot}
-use Rattle.queue_table.specs.Entries.{items_of}
+use Rattle.queue_table.specs.Entries.{entry, items_of}
 use Rattle.queue_table.specs.Queues.{QUEUES, items_below, IsDistinct}
-use Rattle.queue_table.specs.Ring.{entry_in, item_in, entries, newers, olders, slot_entry, slot_item, count, walk, used, SECTIONS, FIRST, Order, ring, ring_from, ring_of, order_in, IsRing, order_of, lists_of, lists, IsQueued}
+use Rattle.queue_table.specs.Ring.{entries, newers, olders, slot_entry, slot_item, count, walk, used, SECTIONS, FIRST, Order, ring, ring_from, ring_of, order_in, IsRing, order_of, lists_of, lists, IsQueued}
 use Rattle.queue_table.specs.Index.{capacity, HasSlot}
 use Rattle.queue_table.specs.QueueTable.{IsLoaded, IsCounted, IsInSlots, IsKept}
 use Rattle.queue_table.proofs.Splices.{walked}
@@ -129,17 +129,17 @@ used-slot slots k h u =
     let l = slots-length slots in
     (r, omega (arith, w, l))
 
-pub item_at : (slots : List Slot) (k : ℕ) (i : Item) → i ≡ item_in (get_or slots k no_slot) → slot_item (entries slots) k ≡ i
-item_at slots k i e = ap (λ (x : Entry). x.item) (field_at entry_in slots k no_slot) ∙ sym e
+pub item_at : (slots : List Slot) (k : ℕ) → slot_item (entries slots) k ≡ (get_or slots k no_slot).item
+item_at slots k = ap (λ (e : Entry). e.item) (field_at (λ (s : Slot). entry s.item s.count) slots k no_slot)
 
 -- and the index knows it, with its item
-pub known : (slots : List Slot) (index : SlotIndex) (k : ℕ) (i : Item) → i ≡ item_in (get_or slots k no_slot) → IsInSlots slots index (order_of slots) → 1 ≤ count k (used (order_of slots)) → HasSlot k i index
-known slots index k i e h u = record {
+pub known : (slots : List Slot) (index : SlotIndex) (k : ℕ) → IsInSlots slots index (order_of slots) → 1 ≤ count k (used (order_of slots)) → HasSlot k (get_or slots k no_slot).item index
+known slots index k h u = record {
   item_of = slot_item (entries slots);
   used = λ j. count j (used (order_of slots));
   indexed = h.indexed;
   there = u;
-  its = item_at slots k i e;
+  its = item_at slots k;
 }
 
 -- the items of a queue, slot by slot

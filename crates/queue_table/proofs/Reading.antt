@@ -6,7 +6,7 @@ use Rattle.queue_table.specs.declared.records.Entry.{Entry}
 use Rattle.queue_table.specs.declared.slot.Slot.{Slot}
 use Rattle.queue_table.specs.Entries.{entry}
 use Rattle.queue_table.specs.Queues.{QUEUES, queue_holding}
-use Rattle.queue_table.specs.Ring.{entry_in, entries, tags, slot_entry, order_of, lists, tag_at}
+use Rattle.queue_table.specs.Ring.{entries, tags, slot_entry, order_of, lists, tag_at}
 use Rattle.queue_table.specs.QueueTable.{IsSlotOf}
 use Rattle.queue_table.proofs.SlotWrites.{no_slot, field_at}
 use Rattle.queue_table.proofs.Contents.{placed-at, has-entry}
@@ -19,8 +19,8 @@ module _ (slots inside : List Slot) (k : ℕ) (r : Slot) (same : inside ≡ slot
   slot-read : r ≡ get_or slots k no_slot
   slot-read = read ∙ (ap (λ l. get_or l k r) same ∙ read_slot slots k r no_slot within)
 
-  pub entry-read : slot_entry (entries slots) k ≡ entry_in r
-  entry-read = field_at entry_in slots k no_slot ∙ ap entry_in (sym slot-read)
+  pub entry-read : slot_entry (entries slots) k ≡ entry r.item r.count
+  entry-read = field_at (λ (s : Slot). entry s.item s.count) slots k no_slot ∙ ap (λ (s : Slot). entry s.item s.count) (sym slot-read)
 
   pub tag-read : tag_at (tags slots) k ≡ r.queue
   tag-read = field_at (λ (s : Slot). s.queue) slots k no_slot ∙ ap (λ (s : Slot). s.queue) (sym slot-read)

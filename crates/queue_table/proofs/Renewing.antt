@@ -6,8 +6,9 @@ use Rattle.step_record.specs.declared.item.Item.{Item}
 use Rattle.queue_table.specs.declared.records.Entry.{Entry}
 use Rattle.queue_table.specs.declared.slot_index.SlotIndex.{SlotIndex}
 use Rattle.queue_table.specs.declared.slot.Slot.{Slot}
+use Rattle.queue_table.specs.Entries.{entry}
 use Rattle.queue_table.specs.Queues.{QUEUES}
-use Rattle.queue_table.specs.Ring.{entry_in, entries, slot_item, count, Order, used, sent, IsQueued}
+use Rattle.queue_table.specs.Ring.{entries, slot_item, count, Order, used, sent, IsQueued}
 use Rattle.queue_table.specs.Index.{IsAdded, IsRemoved}
 use Rattle.queue_table.specs.QueueTable.{IsIndexOf}
 use Rattle.queue_table.proofs.Indexing.{same-map}
@@ -28,7 +29,7 @@ pub other-item : (es fs : List Entry) (k j : ℕ) (e : Entry) → fs ≡ set es 
 other-item es fs k j e h d = ap (λ (s : List Entry). slot_item s j) h ∙ ap (λ (x : Entry). x.item) (get_or-set_other es k j e _ d)
 
 pub entries-length : (slots : List Slot) → length (entries slots) ≡ length slots
-entries-length slots = length-map slots entry_in
+entries-length slots = length-map slots (λ (s : Slot). entry s.item s.count)
 
 -- a free slot comes into the index
 pub comes : (slots slots2 : List Slot) (o : Order) (k q b : ℕ) (e : Entry) → q < QUEUES → count k (used o) ≡ 0 → entries slots2 ≡ set (entries slots) k e → k < length slots →

@@ -5,7 +5,7 @@ use Rattle.queue_table.proofs.Splices.{field_kept}
 
 -- the slot that stands for one past the last
 abbrev pub no_slot : Slot
-no_slot = record { key = 0; node = 0; older = 0; newer = 0; queue = 0; count = 0 }
+no_slot = record { item = record { key = 0; node = 0 }; older = 0; newer = 0; queue = 0; count = 0 }
 
 -- a field that the new slot has from the old one
 pub kept : {X : Type 0} (f : Slot → X) (slots : List Slot) (at : ℕ) (slot : Slot) → f slot ≡ f (get_or slots at no_slot) → map f (set slots at slot) ≡ map f slots

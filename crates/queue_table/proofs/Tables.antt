@@ -8,7 +8,7 @@ use Rattle.queue_table.specs.declared.slot_index.SlotIndex.{SlotIndex}
 use Rattle.queue_table.specs.Entries.{entry}
 use Rattle.queue_table.specs.Queues.{QUEUES, IsDistinct}
 use Rattle.queue_table.specs.declared.slot.Slot.{Slot}
-use Rattle.queue_table.specs.Ring.{entry_in, entries, olders, newers, tags, slot_entry, count, IsLinked, IsRing, FIRST, Order, ring, ring_from, used, order_of, order_without, more_free, lists_of, lists, IsPlace, IsQueued}
+use Rattle.queue_table.specs.Ring.{entries, olders, newers, tags, slot_entry, count, IsLinked, IsRing, FIRST, Order, ring, ring_from, used, order_of, order_without, more_free, lists_of, lists, IsPlace, IsQueued}
 use Rattle.queue_table.specs.Index.{capacity}
 use Rattle.queue_table.proofs.Indexing.{same-map}
 use Rattle.queue_table.specs.QueueTable.{from_first, IsIndexOf, IsInSlots}
@@ -224,7 +224,7 @@ held-grown slots slots2 index n o h r it tg room = record {
     distinct = subst IsDistinct (sym (ap (lists_of (more_free n o)) it ∙ lists-more n o (entries slots))) h.queued.distinct;
   };
   indexed = rw it (same-map _ _ _ _ _ _ (λ k. ap (λ (e : Entry). e.item) (get-more nothing (entries slots) k)) (λ k. ap (count k) (used-free k (o 0 ++ n ∷ []) o)) h.indexed);
-  room = (let a = length-map slots2 entry_in in let b = length-map slots entry_in in let c = ap length it in let d = length-append (entries slots) (nothing ∷ []) in omega (arith, a, b, c, d, room));
+  room = (let a = length-map slots2 (λ (s : Slot). entry s.item s.count) in let b = length-map slots (λ (s : Slot). entry s.item s.count) in let c = ap length it in let d = length-append (entries slots) (nothing ∷ []) in omega (arith, a, b, c, d, room));
 }
 
 pub lists-grown : (slots slots2 : List Slot) (n : ℕ) → order_of slots2 ≡ more_free n (order_of slots) → entries slots2 ≡ entries slots ++ nothing ∷ [] → lists slots2 ≡ lists slots

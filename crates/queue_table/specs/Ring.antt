@@ -10,14 +10,8 @@ use Rattle.queue_table.specs.Queues.{QUEUES, Queues, IsDistinct}
 
 -- the fields of the slots, as lists by slot number
 
-abbrev pub item_in : Slot → Item
-item_in s = record { key = s.key; node = s.node }
-
-abbrev pub entry_in : Slot → Entry
-entry_in s = entry (item_in s) s.count
-
 abbrev pub entries : List Slot → List Entry
-entries slots = map entry_in slots
+entries slots = map (λ (s : Slot). entry s.item s.count) slots
 
 abbrev pub olders : List Slot → List ℕ
 olders slots = map (λ (s : Slot). s.older) slots
@@ -45,7 +39,7 @@ tag_at tags k = slice_index_or tags k 0
 -- a slot that holds no item
 abbrev pub bare_slot : ℕ → ℕ → Slot
 bare_slot older newer =
-    record { key = 0; node = 0; older = older; newer = newer; queue = 0; count = 0 }
+    record { item = record { key = 0; node = 0 }; older = older; newer = newer; queue = 0; count = 0 }
 
 -- how often the number stands in the list
 abbrev pub count : ℕ → List ℕ → ℕ

@@ -11,6 +11,7 @@ use crate::links::{FIRST_SLOT, link};
 use crate::slot::Slot;
 use crate::slot_index::SlotIndex;
 use std::alloc::{AllocError, Global};
+use step_record::Item;
 
 /// The most slots: the largest index, of 2^31 buckets, has branches for them.
 const MAX_SLOTS: usize = 1 << 30;
@@ -26,8 +27,7 @@ fn bare(older: u32, newer: u32) -> Slot
     ensures { result ≡ bare_slot older newer }
 {
     Slot {
-        key: 0,
-        node: 0,
+        item: Item { key: 0, node: 0 },
         older,
         newer,
         queue: 0,
@@ -113,7 +113,7 @@ fn fill(slots: &[Slot], index: &mut SlotIndex)
     ensures bits { index.new.bits ≡ index.old.bits }
 {
     for at in FIRST_SLOT as usize..slots.len() {
-        index.insert(at as u32, slots[at].item());
+        index.insert(at as u32, slots[at].item);
     }
 }
 

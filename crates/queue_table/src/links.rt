@@ -143,7 +143,7 @@ pub(crate) fn items_in(
     let mut at = slot_before(queue);
     for step in 0..len {
         at = slots[at as usize].newer;
-        list.push(slots[at as usize].item())?;
+        list.push(slots[at as usize].item)?;
     }
     Ok(list)
 }
@@ -157,7 +157,7 @@ fn item_of(slots: &[Slot], at: u32) -> Option<Item>
     if at < FIRST_SLOT {
         return None;
     }
-    Some(slots[at as usize].item())
+    Some(slots[at as usize].item)
 }
 
 /// Moves the slot to the place before another one in a queue.

@@ -78,7 +78,7 @@ impl QueueTable {
         for key in keys {
             let at = self.index.first_slot(Item { key: *key, node }) as usize;
             if at < self.slots.len() {
-                read ^= self.slots[at].key ^ self.slots[at].newer as u64;
+                read ^= self.slots[at].item.key ^ self.slots[at].newer as u64;
             }
         }
         read
@@ -194,7 +194,10 @@ impl QueueTable {
         }
         let at = oldest_slot(&self.slots, queue);
         let slot = &self.slots[at as usize];
-        let entry = slot.entry();
+        let entry = Entry {
+            item: slot.item,
+            count: slot.count,
+        };
         Some((at, entry))
     }
 
@@ -212,7 +215,10 @@ impl QueueTable {
         }
         let at = newest_slot(&self.slots, queue);
         let slot = &self.slots[at as usize];
-        let entry = slot.entry();
+        let entry = Entry {
+            item: slot.item,
+            count: slot.count,
+        };
         Some((at, entry))
     }
 
@@ -357,7 +363,7 @@ impl QueueTable {
         let slots: &mut [Slot] = &mut self.slots;
         let from = place_of_slot(slots, at);
         self.lengths.pass(section(from.queue), section(queue));
-        let old = slots[at as usize].item();
+        let old = slots[at as usize].item;
         self.index.remove(at, old);
         set_entry(slots, at as usize, entry);
         self.index.insert(at, entry.item);
@@ -377,7 +383,7 @@ impl QueueTable {
         let slots: &mut [Slot] = &mut self.slots;
         let from = place_of_slot(slots, at);
         self.lengths.pass(section(from.queue), 0);
-        let item = slots[at as usize].item();
+        let item = slots[at as usize].item;
         self.index.remove(at, item);
         release(slots, at);
         from

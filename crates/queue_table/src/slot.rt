@@ -5,45 +5,18 @@ ghost use Rattle.queue_table.specs.Ring.{entries, olders, newers, tags, slot_ite
 
 use crate::records::Entry;
 use crate::slot_index::SlotItems;
-use step_record::{Item, Key, Node};
+use step_record::Item;
 
-/// A place for one item, with its neighbours in the ring of all slots: 24 bytes, since key and node stand apart.
+/// A place for one item, with its neighbours in the ring of all slots.
 #[derive(Clone, Copy)]
 pub(crate) struct Slot {
-    pub(crate) key: Key,
-    pub(crate) node: Node,
+    pub(crate) item: Item,
     pub(crate) older: u32,
     pub(crate) newer: u32,
     /// The queue of a slot in use.
     pub(crate) queue: u8,
     /// The count beside the item.
     pub(crate) count: u8,
-}
-
-impl Slot {
-    ghost use Rattle.queue_table.specs.Ring.{item_in, entry_in};
-
-    /// The item that it holds.
-    #[inline(always)]
-    pub(crate) fn item(&self) -> Item
-        ensures { result ≡ item_in self.now }
-    {
-        Item {
-            key: self.key,
-            node: self.node,
-        }
-    }
-
-    /// The item, with its count.
-    #[inline(always)]
-    pub(crate) fn entry(&self) -> Entry
-        ensures { result ≡ entry_in self.now }
-    {
-        Entry {
-            item: self.item(),
-            count: self.count,
-        }
-    }
 }
 
 /// The items of the slots, as a search of the index reads them.
@@ -59,7 +32,7 @@ impl SlotItems for RingItems<'_> {
 
     #[inline(always)]
     fn item(&self, at: u32) -> Item {
-        self.slots[at as usize].item()
+        self.slots[at as usize].item
     }
 }
 
@@ -106,8 +79,7 @@ pub(crate) fn set_entry(slots: &mut [Slot], at: usize, to: Entry)
     ensures tags { tags slots.new ≡ tags slots.old }
 {
     let slot = &mut slots[at];
-    slot.key = to.item.key;
-    slot.node = to.item.node;
+    slot.item = to.item;
     slot.count = to.count;
 }
 

@@ -1,6 +1,8 @@
-use Rattle.std.proofs.Common.{◌∙◌, ◌+◌, ◌-◌, refl, ap, sym, arith}
+use Rattle.std.proofs.Common.{◌∙◌, ◌+◌, ◌-◌, refl, ap, arith}
 use Rattle.queue_table.specs.declared.records.Entry.{Entry}
-use Rattle.queue_table.specs.Ring.{entry_in, FIRST, entries, slot_item, count}
+use Rattle.queue_table.specs.Entries.{entry}
+use Rattle.queue_table.specs.declared.slot.Slot.{Slot}
+use Rattle.queue_table.specs.Ring.{FIRST, entries, slot_item, count}
 use Rattle.queue_table.specs.QueueTable.{from_first}
 use Rattle.queue_table.proofs.SlotWrites.{no_slot, field_at}
 use Rattle.queue_table.proofs.Finding.{count-from_first, from_first-next}
@@ -24,7 +26,7 @@ loop-at-preserved c =
     record {
       indexed = e.indexed (slot_item (entries c.args.slots.now)) (slot_item (entries c.args.slots.now)) (λ k. count k (from_first (c.loop-at.at - FIRST))) (λ k. count k (from_first (c.loop-at.at + 1 - FIRST))) v.indexed record {
         absent = count-from_first (c.loop-at.at - FIRST) c.loop-at.at (omega arith);
-        its = ap (λ (e : Entry). e.item) (field_at entry_in c.args.slots.now c.loop-at.at no_slot) ∙ sym c.item.ensures;
+        its = ap (λ (e : Entry). e.item) (field_at (λ (s : Slot). entry s.item s.count) c.args.slots.now c.loop-at.at no_slot);
         others = λ j _. refl;
         counted = from_first-next c.loop-at.at (c.loop-at.at - FIRST) (c.loop-at.at + 1 - FIRST) (omega arith) refl refl;
       };

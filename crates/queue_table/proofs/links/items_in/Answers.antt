@@ -1,7 +1,8 @@
 use Rattle.std.proofs.lemmas.Grind.{elements}
 use Rattle.std.proofs.Common.{◌≡◌, ◌≤◌, ◌+◌, ◌-◌, ◌∙◌, ◌++◌, ◌∷◌, [], get_or, refl, ap, arith}
 use Rattle.queue_table.specs.declared.records.Entry.{Entry}
-use Rattle.queue_table.specs.Ring.{entry_in, slot_item, entries, newers, order_of}
+use Rattle.queue_table.specs.Entries.{entry}
+use Rattle.queue_table.specs.Ring.{slot_item, entries, newers, order_of}
 use Rattle.queue_table.specs.declared.slot.Slot.{Slot}
 use Rattle.queue_table.proofs.SlotWrites.{no_slot, field_at}
 use Rattle.queue_table.proofs.Ends.{newer-in, walk-on}
@@ -17,8 +18,8 @@ pub loop-step-preserved : goal.loop-step-preserved
 loop-step-preserved c =
     let some : 1 ≤ c.args.len = omega arith in
     let f = field_at (λ (s : Slot). s.newer) c.args.slots.now c.loop-step.at no_slot in
-    let g = ap (λ (x : Entry). x.item) (field_at entry_in c.args.slots.now (get_or (newers c.args.slots.now) c.loop-step.at 0) no_slot) in
-    let e : c.push.new.self.items ≡ c.loop-step.list.items ++ slot_item (entries c.args.slots.now) (get_or (newers c.args.slots.now) c.loop-step.at 0) ∷ [] = c.in_ok-push.ensures.items ∙ rw (c.item.ensures, ← f, g) refl in
+    let g = ap (λ (x : Entry). x.item) (field_at (λ (s : Slot). entry s.item s.count) c.args.slots.now (get_or (newers c.args.slots.now) c.loop-step.at 0) no_slot) in
+    let e : c.push.new.self.items ≡ c.loop-step.list.items ++ slot_item (entries c.args.slots.now) (get_or (newers c.args.slots.now) c.loop-step.at 0) ∷ [] = c.in_ok-push.ensures.items ∙ rw (← f, g) refl in
     record {
       within = λ _. rw (← f) (newer-in c.args.slots.now (order_of c.args.slots.now) (c.requires.ring some) c.loop-step.at (c.loop-step.invariant.within some));
       whole = rw (← f) (walk-on (newers c.args.slots.now) (entries c.args.slots.now) c.loop-step.at (c.args.len - c.loop-step.step) (c.args.len - (c.loop-step.step + 1)) c.loop-step.list.items c.push.new.self.items (omega arith) e ∙ c.loop-step.invariant.whole);

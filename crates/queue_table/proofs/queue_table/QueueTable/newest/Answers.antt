@@ -1,7 +1,7 @@
 use Rattle.std.proofs.Common.{◌≡◌, ◌≤◌, ◌∙◌, List, length, Some, suc, sym, ap, subst, arith}
-use Rattle.queue_table.specs.Entries.{newest_of}
+use Rattle.queue_table.specs.Entries.{entry, newest_of}
 use Rattle.queue_table.specs.declared.slot.Slot.{Slot}
-use Rattle.queue_table.specs.Ring.{entry_in, entries, slot_entry, order_of, lists, count, used, IsQueued}
+use Rattle.queue_table.specs.Ring.{entries, slot_entry, order_of, lists, count, used, IsQueued}
 use Rattle.queue_table.proofs.Orders.{section-used}
 use Rattle.queue_table.proofs.Calls.{slot-within}
 use Rattle.queue_table.proofs.Ends.{last-stands, last-entry}
@@ -31,7 +31,7 @@ used-there c = section-used c.args.queue c.newest_slot-at.result (order_of c.der
 
 -- what is read there is its entry
 entry-there : (c : goal.After-index-slot) → IsQueued c.deref.result.now (order_of c.deref.result.now) → 1 ≤ count c.newest_slot-at.result (used (order_of c.deref.result.now))
-    → slot_entry (entries c.deref.result.now) c.newest_slot-at.result ≡ entry_in c.index-slot.result.now
+    → slot_entry (entries c.deref.result.now) c.newest_slot-at.result ≡ entry c.index-slot.result.now.item c.index-slot.result.now.count
 entry-there c q u =
     entry-read c.deref.result.now c.self.inside.slots.items c.newest_slot-at.result c.index-slot.result.now (sym c.deref.ensures.value) (slot-within c.deref.result.now (order_of c.deref.result.now) q c.newest_slot-at.result u) c.index-slot.ensures
 
@@ -57,11 +57,11 @@ pub returns-clause-entry : goal.returns-clause-entry
 returns-clause-entry c =
     let at = goal.at.returns-clause-entry c in
     let e : c.deref.result.now ≡ c.args.self.now = c.deref.ensures.value ∙ c.self.view_is in
-    subst (λ (s : List Slot). slot_entry (entries s) c.newest_slot-at.result ≡ entry_in c.index-slot.result.now) e (entry-there at.After-index-slot (queued-there at.After-deref) (used-there at.After-newest_slot-at)) ∙ sym c.entry-entry.ensures
+    subst (λ (s : List Slot). slot_entry (entries s) c.newest_slot-at.result ≡ entry c.index-slot.result.now.item c.index-slot.result.now.count) e (entry-there at.After-index-slot (queued-there at.After-deref) (used-there at.After-newest_slot-at))
 
 pub returns-clause-last : goal.returns-clause-last
 returns-clause-last c =
     let at = goal.at.returns-clause-last c in
     let i = entry-there at.After-index-slot (queued-there at.After-deref) (used-there at.After-newest_slot-at) in
     let e : c.deref.result.now ≡ c.args.self.now = c.deref.ensures.value ∙ c.self.view_is in
-    subst (λ (s : List Slot). newest_of (lists s c.args.queue) ≡ Some (entry_in c.index-slot.result.now)) e (last-entry (entries c.deref.result.now) c.newest_slot-at.result (order_of c.deref.result.now (suc c.args.queue)) c.newest_slot-at.ensures ∙ ap Some i) ∙ ap Some (sym c.entry-entry.ensures)
+    subst (λ (s : List Slot). newest_of (lists s c.args.queue) ≡ Some (entry c.index-slot.result.now.item c.index-slot.result.now.count)) e (last-entry (entries c.deref.result.now) c.newest_slot-at.result (order_of c.deref.result.now (suc c.args.queue)) c.newest_slot-at.ensures ∙ ap Some i)

@@ -44,7 +44,7 @@ bounds-slots-at c =
 pub remove-requires : goal.remove-requires
 remove-requires c =
     let a = (goal.at.remove-requires c).After-deref_mut-slots in
-    known c.deref_mut-slots.result.now c.self.inside.index c.args.at _ c.item-item.ensures (held-there a) (used-there a)
+    known c.deref_mut-slots.result.now c.self.inside.index c.args.at (held-there a) (used-there a)
 
 pub release-requires-clause-ring : goal.release-requires-clause-ring
 release-requires-clause-ring c = (held-there ((goal.at.release-requires-clause-ring c).After-deref_mut-slots)).queued.linked
@@ -79,7 +79,7 @@ invariant_of-self c =
     let whole : take c.self.inside.slots.len (c.release.new.slots ++ drop (length c.release.new.slots) c.self.inside.slots.items) ≡ c.release.new.slots = take-front _ _ _ (omega arith) in
     let out = used-lists slots o h.queued k u ∙ sym (lists-freed k 1 o (entries slots)) in
     let queued = queued-freed slots c.release.new.slots o h.queued k 1 c.release.ensures.ring c.release.ensures.only.tags es (subst IsDistinct out (distinct-taken (slot_item (entries slots) k) (lists_of o (entries slots)) h.queued.distinct)) in
-    let y : IsIndexOf c.remove.new.self (entries c.release.new.slots) (used (sent k 0 1 o)) = rw es (c.remove.ensures.indexed (slot_item (entries slots)) (λ j. count j (used o)) _ h.indexed (leaves slots o k 1 u _ (item_at slots k _ c.item-item.ensures))) in
+    let y : IsIndexOf c.remove.new.self (entries c.release.new.slots) (used (sent k 0 1 o)) = rw es (c.remove.ensures.indexed (slot_item (entries slots)) (λ j. count j (used o)) _ h.indexed (leaves slots o k 1 u _ (item_at slots k))) in
     let room = room-kept slots c.release.new.slots c.self.inside.index c.remove.new.self _ h (omega arith) c.remove.ensures.bits in
     let held = subst (IsInSlots c.release.new.slots c.remove.new.self) (sym eo) record { queued = queued; indexed = y; room = room } in
     let from = c.place_of_slot-from.ensures.low in

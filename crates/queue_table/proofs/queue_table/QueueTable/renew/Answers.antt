@@ -52,7 +52,7 @@ bounds-slots-at c =
 pub remove-requires : goal.remove-requires
 remove-requires c =
     let a = (goal.at.remove-requires c).After-deref_mut-slots in
-    known c.deref_mut-slots.result.now c.self.inside.index c.args.at _ c.item-old.ensures (held-there a) (used-there a)
+    known c.deref_mut-slots.result.now c.self.inside.index c.args.at (held-there a) (used-there a)
 
 pub insert-requires-clause-at : goal.insert-requires-clause-at
 insert-requires-clause-at c =
@@ -72,7 +72,7 @@ insert-requires-clause-absent c =
       item_of = slot_item (entries slots);
       used = λ k. count k (used (sent c.args.at 0 1 o));
       indexed = c.remove.ensures.indexed (slot_item (entries slots)) (λ k. count k (used o)) _ (held-there a).indexed
-          (leaves slots o c.args.at 1 (used-there a) _ (item_at slots c.args.at _ c.item-old.ensures));
+          (leaves slots o c.args.at 1 (used-there a) _ (item_at slots c.args.at));
       absent = unused c.args.at 1 o;
     }
 
@@ -131,7 +131,7 @@ invariant_of-self c =
     let queued = written-queued slots c.send.new.slots o h.queued k q c.slot_behind.result low c.args.entry w es (ring-after at.After-send)
     (c.send.ensures.tags ∙ ap (λ l. set l k q) c.set_entry.ensures.tags) (subst IsDistinct out (distinct-taken i (lists_of o (entries slots)) h.queued.distinct)) (subst (IsAbsent c.args.entry.item) out (still-absent c.args.entry.item i (lists_of o (entries slots)) away)) in
     let room = room-kept slots c.send.new.slots c.self.inside.index c.insert.new.self _ h (omega arith) (c.insert.ensures.bits ∙ c.remove.ensures.bits) in
-    let x = c.remove.ensures.indexed (slot_item (entries slots)) (λ j. count j (used o)) (λ j. count j (used (sent k 0 1 o))) h.indexed (leaves slots o k 1 u _ (item_at slots k _ c.item-old.ensures)) in
+    let x = c.remove.ensures.indexed (slot_item (entries slots)) (λ j. count j (used o)) (λ j. count j (used (sent k 0 1 o))) h.indexed (leaves slots o k 1 u _ (item_at slots k)) in
     let y : IsIndexOf c.insert.new.self (entries c.send.new.slots) (used (sent k (suc q) c.slot_behind.result o)) =
     c.insert.ensures.indexed (slot_item (entries slots)) _ _ _ x (joins slots c.send.new.slots o h.queued k q c.slot_behind.result 1 c.args.entry low u es w) in
     let held = subst (IsInSlots c.send.new.slots c.insert.new.self) (sym eo) record { queued = queued; indexed = y; room = room } in
