@@ -133,7 +133,7 @@ fn step(
             Ok((Outcome::Hit, S3FifoRecord::Hit(key, found.count)))
         }
         Some((QueueName::EntryGhost, _)) => missed(queues, capacity, key, true),
-        Some((QueueName::MainGhost, _)) => missed(queues, capacity, key, false),
+        Some((QueueName::MainGhost, _)) => unreachable!(),
         None => missed(queues, capacity, key, false),
     }
 }

@@ -124,7 +124,7 @@ fn step(
         }
         Some((QueueName::Entry, _)) => Ok((Outcome::Hit, TwoQRecord::Unmoved)),
         Some((QueueName::EntryGhost, _)) => missed(queues, capacity, key, true),
-        Some((QueueName::MainGhost, _)) => missed(queues, capacity, key, false),
+        Some((QueueName::MainGhost, _)) => unreachable!(),
         None => missed(queues, capacity, key, false),
     }
 }

@@ -1,9 +1,17 @@
-use Rattle.std.proofs.Common.{◌≡◌, true, false, eqb, IfSome, ap, subst, ◌∙◌}
+use Rattle.std.proofs.Common.{◌≡◌, true, false, eqb, IfSome, ap, subst, sym, ◌∙◌}
 use Rattle.step_record.specs.Keys.{has_key}
-use Rattle.ghost_caches.specs.declared.queue_name.QueueName.TheVariants.{Entry, Main, EntryGhost}
+use Rattle.queue_policies.specs.CountedKeys.{keys_of}
+use Rattle.ghost_caches.specs.declared.queue_name.QueueName.TheVariants.{Entry, Main, EntryGhost, MainGhost}
 use Rattle.ghost_caches.specs.QueueLists.{keys_in, lists_after_push, lists_without_key, number_of, is_found_in}
 use Rattle.ghost_caches.proofs.TwoQ.{main-acts, entry-acts, entry-record}
 use Rattle.ghost_caches.proofs.two_q_cache.step.Goals as goal
+
+-- the second ghost is not used
+pub unreachable-requires : goal.unreachable-requires
+unreachable-requires c =
+    let there : has_key c.args.key (keys_in MainGhost c.args.queues.now.lists) ≡ true = c.find.ensures.there MainGhost ∙ ap (is_found_in MainGhost) c.in-Some-MainGhost-default.is ∙ ap (λ x. eqb (number_of MainGhost) (number_of x)) c.in-Some-MainGhost-default.field-0-0-is in
+    let no : false ≡ true = ap (λ l. has_key c.args.key (keys_of l)) (sym c.requires.unused) ∙ there in
+    cc (no)
 
 pub missed-requires-clause-entry : goal.missed-requires-clause-entry
 missed-requires-clause-entry c = c.find.ensures.there Entry ∙ ap (is_found_in Entry) c.in-Some-EntryGhost-default.is ∙ ap (λ x. eqb (number_of Entry) (number_of x)) c.in-Some-EntryGhost-default.field-0-0-is
