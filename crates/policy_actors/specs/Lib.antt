@@ -1,7 +1,6 @@
 pub mod Faults
 pub mod Lumps
 pub mod CacheRuns
-pub mod ReadRun
 pub mod ChannelProtocol
 pub mod Rounds
 pub mod Actors
