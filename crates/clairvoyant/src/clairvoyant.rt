@@ -7,7 +7,7 @@ ghost use Rattle.clairvoyant.specs.RankSet.{IsTied};
 ghost use Rattle.clairvoyant.specs.Belady.{belady_residents};
 ghost use Rattle.clairvoyant.specs.OptimalRecord.{record_at};
 
-use crate::Ranks;
+use crate::BitSet;
 use crate::optimal_record::{EvictedKey, OptimalRecord};
 use std::alloc::{AllocError, Global};
 use std::marker::Model;
@@ -21,7 +21,7 @@ use trace_index::NextUse;
 #[derive(Drop)]
 pub struct Clairvoyant {
     core: OptimalCore,
-    ranks: Ranks,
+    ranks: BitSet,
     stats: Stats,
 }
 
@@ -48,7 +48,7 @@ impl OptimalCore {
     // returns its undo record. Part of its caller, as `apply` is: out of line it would write the record and look up the
     // key that left, whoever calls it.
     #[inline(always)]
-    fn serve(&self, ranks: &mut Ranks, held: usize, place: usize) -> OptimalRecord
+    fn serve(&self, ranks: &mut BitSet, held: usize, place: usize) -> OptimalRecord
         requires place { place < length self.now.uses }
         requires tied { IsTied self.now.uses place (belady_residents self.now.capacity self.now.uses place) ranks.old }
         requires held { held ≡ length (belady_residents self.now.capacity self.now.uses place) }
@@ -81,7 +81,7 @@ impl OptimalCore {
     }
 
     // Takes back what the access at a place did to the ranks that are held.
-    fn unserve(&self, ranks: &mut Ranks, place: usize, done: OptimalRecord)
+    fn unserve(&self, ranks: &mut BitSet, place: usize, done: OptimalRecord)
         requires place { place < length self.now.uses }
         requires tied { IsTied self.now.uses (suc place)
             (belady_residents self.now.capacity self.now.uses (suc place)) ranks.old }
@@ -156,7 +156,7 @@ impl Clairvoyant {
         requires { (1 ≤ capacity) × (capacity ≤ MAX_CAPACITY) }
         ensures { IfOk result (λ l. l ≡ clairvoyant_at capacity uses 0) }
     {
-        let ranks = Ranks::new(alloc, 2 * uses.len())?;
+        let ranks = BitSet::new(alloc, 2 * uses.len())?;
         let capacity = capacity as usize;
         Ok(Clairvoyant {
             core: OptimalCore { uses, capacity },

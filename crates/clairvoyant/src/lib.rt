@@ -7,22 +7,22 @@
 //! that neither an access nor undoing one asks for memory; and that each access can be undone from
 //! its record and what the cache shows.
 //!
-//! `Ranks` is a set of numbers below a size: bits in words, under bits that show which of those words are not 0, and so on
+//! `BitSet` is a set of numbers below a size: bits in words, under bits that show which of those words are not 0, and so on
 //! up. What was put into it and not taken out is in it, and nothing else, and `least_below` answers the least of its numbers
 //! below a bound. Each call costs a fixed number of words, and only `new` asks for memory.
 #![tactic(auto)]
 
+mod bit_layer;
+mod bit_set;
 mod clairvoyant;
-mod layer;
 mod limits;
+mod number_set;
 mod optimal_record;
-mod places;
-mod ranks;
-mod single;
 pub mod theorems;
+mod top_bit;
 
+pub use bit_set::BitSet;
 pub use clairvoyant::Clairvoyant;
 pub use limits::MAX_SIZE;
 pub use optimal_record::{EvictedKey, OptimalRecord};
-pub use ranks::Ranks;
 pub use trace_index::{NextUse, NextUseFinder};

@@ -1,11 +1,11 @@
 //! A set of ranks, filled and emptied.
 use super::assertions::assert_equal;
-use clairvoyant::Ranks;
+use clairvoyant::BitSet;
 use std::test::Fail;
 
 #[test]
 fn the_least_number_below_a_bound(rt: HostRuntime) -> Result<(), Fail> {
-    let mut ranks = Ranks::new(rt.alloc(), 300_000)?;
+    let mut ranks = BitSet::new(rt.alloc(), 300_000)?;
     assert_equal(&rt, ranks.least_below(300_000), None);
     ranks.put(299_999);
     ranks.put(4_096);

@@ -19,7 +19,8 @@ use Rattle.streams.specs.Feeds.{HasNoFeed}
 
 -- Reading leaves where the session was opened, its limit, no undone step where there was none, and applied steps that
 -- are legal and within the limit.
-pub record KeepsSession {E D S R : Type 0} (act : D → S → Option (R × D)) (old new : SessionState E D S R) : Type 0 where
+pub record KeepsSession {E D S R : Type 0} (act : D → S → Option (R × D))
+    (old new : SessionState E D S R) : Type 0 where
   pub opening : new.opening ≡ old.opening
   pub limit : new.limit ≡ old.limit
   pub tail : old.tail ≡ [] → new.tail ≡ []

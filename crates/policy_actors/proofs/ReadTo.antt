@@ -4,7 +4,7 @@ use Rattle.trace_read.specs.declared.format.Format.{Format}
 use Rattle.trace_read.specs.declared.fault.TraceFault.{TraceFault}
 use Rattle.trace_read.specs.declared.fault.TraceFault.TheVariants.{OutOfMemory, TooLarge}
 use Rattle.trace_read.specs.TraceText.{keys_in, keys_of_file}
-use Rattle.policy_actors.specs.ReadRun.{IsReadTo}
+use Rattle.trace_read.specs.ReadTrace.{IsReadTo}
 
 module _ {T U : Type 0} (format : Format) (old new : Option (List ℕ)) where
   -- the fault of the reading is that of the run

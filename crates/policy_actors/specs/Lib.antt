@@ -1,6 +1,5 @@
 pub mod Faults
 pub mod Lumps
 pub mod CacheRuns
-pub mod ReadRun
 pub mod ChannelProtocol
 pub mod Actors

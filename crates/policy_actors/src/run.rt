@@ -5,7 +5,7 @@ ghost use Rattle.step_record.specs.Config.{config_fault};
 ghost use Rattle.policies.specs.declared.job_checks.TheConstants.{MAX_ACTORS};
 ghost use Rattle.policy_actors.specs.Actors.{jobs_of};
 ghost use Rattle.policy_actors.specs.Faults.{actor_fault};
-ghost use Rattle.policy_actors.specs.ReadRun.{IsReadTo};
+ghost use Rattle.trace_read.specs.ReadTrace.{IsReadTo};
 ghost use Rattle.policies.specs.FaultyJobs.{faulty_in, ReturnsFault};
 ghost use Rattle.policies.specs.Reports.{report_on};
 ghost use Rattle.streams.specs.Tally.{FailsWhere};

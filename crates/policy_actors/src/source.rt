@@ -1,7 +1,6 @@
 //! Where the accesses of a run come from.
 ghost use Rattle.std.specs.Prelude.{◌≡◌, ℕ, List, Option, IfSome, length};
 ghost use Rattle.trace_read.specs.TraceText.{AreOfFile};
-ghost use Rattle.policy_actors.specs.ReadRun.{IsReadTo};
 
 use crate::feeder::Feeder;
 use crate::lump::FedTrace;
@@ -74,15 +73,17 @@ pub struct ReaderSource<'r, R> {
 impl<'r, R: CountedRead> AccessSource for ReaderSource<'r, R> {
     type Outcome = (&'r mut R, Result<(), TraceFault>);
 
-    ghost use Rattle.std.specs.Prelude.{◌≡◌};
+    ghost use Rattle.std.specs.Prelude.{◌≡◌, Err};
+    ghost use Rattle.streams.specs.Tally.{FailsWhere};
+    ghost use Rattle.trace_read.specs.declared.fault.TraceFault.TheVariants.{Read};
+    ghost use Rattle.trace_read.specs.ReadTrace.{IsReadTo};
     ghost use Rattle.trace_read.specs.TraceText.{AreOfFile};
-    ghost use Rattle.policy_actors.specs.ReadRun.{FailsAsRead, IsReadTo};
 
     ghost gives = { λ s known. AreOfFile s.format (R.remaining s.reader.now) known };
 
     ghost becomes = { λ s o. (o.0.ghost_name ≡ s.reader.ghost_name)
         × IsReadTo s.format (R.remaining s.reader.now) (R.remaining o.0.now) o.1
-        × FailsAsRead o.1 (R.tally s.reader.now) (R.tally o.0.now) };
+        × FailsWhere (o.1 ≡ Err Read) (R.tally s.reader.now) (R.tally o.0.now) };
 
     fn max_accesses(&self) -> usize {
         MAX_ACCESSES

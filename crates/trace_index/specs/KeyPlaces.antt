@@ -19,9 +19,9 @@ number_or zero other = other
 number_or (suc p) other = suc p
 
 -- the number kept for k: the table's, where it has one for k, else the map's
-abbrev pub kept_number : KeyPlaces → ℕ → ℕ
-kept_number p k = number_or (slice_index p.low.items k) (number_in (get nat_eq p.high k))
+abbrev pub number_of_key : KeyPlaces → ℕ → ℕ
+number_of_key p k = number_or (slice_index p.low.items k) (number_in (get nat_eq p.high k))
 
 -- the place kept for k
 abbrev pub place_of : KeyPlaces → ℕ → Option ℕ
-place_of p k = place_at (kept_number p k)
+place_of p k = place_at (number_of_key p k)

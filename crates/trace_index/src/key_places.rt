@@ -2,7 +2,7 @@
 ghost use Rattle.std.specs.Prelude.{◌≡◌, ℕ, suc, ◌<◌, ◌≤◌, cond, nat_eq, Some, None, IfOk, IfSome, OnOk, length, slice_index, ◌^◌};
 ghost use Rattle.std.specs.HashMap.{get};
 ghost use Rattle.step_record.specs.declared.limits.TheConstants.{MAX_ACCESSES};
-ghost use Rattle.trace_index.specs.KeyPlaces.{place_of, kept_number, number_in};
+ghost use Rattle.trace_index.specs.KeyPlaces.{place_of, number_of_key, number_in};
 
 use std::alloc::{AllocError, Global};
 use std::collections::HashMap;
@@ -23,8 +23,8 @@ pub struct KeyPlaces {
     high: HashMap<Key, u32>,
 }
 
-// The table takes keys below so many times the place of an access, and so many more, and is no longer than that: 16 bytes
-// an access and 4 MB, where keys are that high.
+// The table takes keys below TABLE_SHARE * place + TABLE_START, `place` that of the access, and is no longer than that:
+// 16 bytes an access and 4 MB, where keys are that high.
 const TABLE_SHARE: u64 = 4;
 
 const TABLE_START: u64 = 1 << 20;
@@ -68,9 +68,9 @@ impl KeyPlaces {
     #[inline(always)]
     pub(crate) fn put_number(&mut self, key: Key, place: u32) -> Result<u32, AllocError>
         requires { place < MAX_ACCESSES }
-        ensures old { IfOk result (λ n. n ≡ kept_number self.old key) }
+        ensures old { IfOk result (λ n. n ≡ number_of_key self.old key) }
         ensures updates { OnOk result ((k : ℕ) →
-            kept_number self.new k ≡ cond (nat_eq key k) (suc place) (kept_number self.old k)) }
+            number_of_key self.new k ≡ cond (nat_eq key k) (suc place) (number_of_key self.old k)) }
     {
         if key >= self.low.len() as u64 {
             return self.put_past(key, place);
@@ -88,9 +88,9 @@ impl KeyPlaces {
     fn put_past(&mut self, key: Key, place: u32) -> Result<u32, AllocError>
         requires few { place < MAX_ACCESSES }
         requires past { length self.old.low.items ≤ key }
-        ensures old { IfOk result (λ n. n ≡ kept_number self.old key) }
+        ensures old { IfOk result (λ n. n ≡ number_of_key self.old key) }
         ensures updates { OnOk result ((k : ℕ) →
-            kept_number self.new k ≡ cond (nat_eq key k) (suc place) (kept_number self.old k)) }
+            number_of_key self.new k ≡ cond (nat_eq key k) (suc place) (number_of_key self.old k)) }
     {
         let reach = TABLE_SHARE * place as u64 + TABLE_START;
         if key >= reach {

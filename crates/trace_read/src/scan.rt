@@ -156,7 +156,7 @@ impl Scan {
     {
         let mut runs = DigitRuns::at(bytes, 0);
         'lines: while let Some(first) = self.next_other(bytes, &mut runs) {
-            if begins_star_line(self.format, bytes, first) {
+            if begins_star_lines(self.format, bytes, first) {
                 runs = DigitRuns::at(bytes, self.take_star_lines(bytes, first.start));
                 continue;
             }
@@ -306,14 +306,17 @@ fn begins_usual_line(format: Format, bytes: &[u8], first: DigitRun) -> bool
     first.is_short() && is_followed
 }
 
-// Whether a line that begins with this run of digits is a lone `*` of the LIRS format.
+// Whether two lines of a lone `*` of the LIRS format begin with this run of digits. One between numbers is read sooner as
+// any other line, since the runs of digits need not be found anew after it.
 #[inline(always)]
-fn begins_star_line(format: Format, bytes: &[u8], first: DigitRun) -> bool
-    requires { first.start + 2 ≤ length bytes.now }
+fn begins_star_lines(format: Format, bytes: &[u8], first: DigitRun) -> bool
+    requires { first.start + 4 ≤ length bytes.now }
     ensures format { IsTrue result → format ≡ Format.Lirs }
     ensures line { IsTrue result → IsStarLine bytes.now first.start }
 {
-    matches!(format, Format::Lirs) && are_at(bytes, first.start, b'*', b'\n')
+    matches!(format, Format::Lirs)
+        && are_at(bytes, first.start, b'*', b'\n')
+        && are_at(bytes, first.start + 2, b'*', b'\n')
 }
 
 // The line that begins with this run of digits, the one before `runs`, where it has the format's usual form and at most

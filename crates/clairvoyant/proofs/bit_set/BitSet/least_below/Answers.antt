@@ -1,7 +1,7 @@
 use Rattle.std.proofs.Common.{arith, ◌∙◌, sym}
 use Rattle.step_record.specs.Bits.{bit_of}
 use Rattle.clairvoyant.proofs.Shown.{view-long, view-holds, view-none}
-use Rattle.clairvoyant.proofs.ranks.Ranks.least_below.Goals as goal
+use Rattle.clairvoyant.proofs.bit_set.BitSet.least_below.Goals as goal
 
 pub returns-in-None : goal.returns-in-None
 returns-in-None c =

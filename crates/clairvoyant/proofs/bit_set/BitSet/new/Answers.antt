@@ -1,6 +1,6 @@
 use Rattle.step_record.proofs.Places.{length-by_place}
 use Rattle.clairvoyant.proofs.Shown.{listed-none}
-use Rattle.clairvoyant.proofs.ranks.Ranks.new.Goals as goal
+use Rattle.clairvoyant.proofs.bit_set.BitSet.new.Goals as goal
 
 pub returns-clause-size : goal.returns-clause-size
 returns-clause-size c = length-by_place _ _

@@ -1,7 +1,7 @@
 use Rattle.std.proofs.Common.{◌<◌, ◌/◌, length, arith}
 use Rattle.std.proofs.lemmas.List.{get_or_read}
 use Rattle.clairvoyant.proofs.Words.{take-bit-of}
-use Rattle.clairvoyant.proofs.layer.LayerNumberSet.take.Goals as goal
+use Rattle.clairvoyant.proofs.bit_layer.BitLayerNumberSet.take.Goals as goal
 
 pub returns-then-left-eq0-clause-takes : goal.returns-then-left-eq0-clause-takes
 returns-then-left-eq0-clause-takes g c =

@@ -5,31 +5,31 @@ ghost use Rattle.clairvoyant.specs.declared.limits.TheConstants.{WORD_BITS, MAX_
 ghost use Rattle.clairvoyant.specs.Bits.{IsBitLayer};
 
 use crate::limits::WORD_BITS;
-use crate::places::NumberSet;
+use crate::number_set::NumberSet;
 use std::alloc::{AllocError, Global};
 use step_record::bits;
 
 /// Words of bits, under a set of the places of those that are not 0.
 #[derive(Drop)]
-pub(crate) struct Layer<U: NumberSet> {
+pub(crate) struct BitLayer<U: NumberSet> {
     words: Vec<u64>,
     upper: U,
     ghost above: { IsBitLayer words.items (U.size upper) (U.held upper) },
     ghost few: { length words.items ≤ MAX_SET_WORDS },
 }
 
-impl<U: NumberSet> NumberSet for Layer<U> {
+impl<U: NumberSet> NumberSet for BitLayer<U> {
     ghost most = { WORD_BITS * U.most };
 
     ghost size = { λ l. WORD_BITS * length l.words.items };
 
     ghost held = { λ l. bit_of l.words.items };
 
-    fn new(alloc: Global, len: usize) -> Result<Layer<U>, AllocError> {
+    fn new(alloc: Global, len: usize) -> Result<BitLayer<U>, AllocError> {
         let count = len.div_ceil(WORD_BITS);
         let words = vec![in alloc; 0; count]?;
         let upper = U::new(alloc, count)?;
-        Ok(Layer { words, upper })
+        Ok(BitLayer { words, upper })
     }
 
     fn put(&mut self, place: usize) {
@@ -58,7 +58,7 @@ impl<U: NumberSet> NumberSet for Layer<U> {
     }
 }
 
-impl<U: NumberSet> Layer<U> {
+impl<U: NumberSet> BitLayer<U> {
     ghost use Rattle.std.specs.Prelude.{◌<◌};
 
     /// Whether a number is in the set.

@@ -4,7 +4,7 @@ use Rattle.std.specs.Int.{trailing_zeros}
 use Rattle.std.proofs.lemmas.List.{get_or_read}
 use Rattle.std.proofs.lemmas.Nat.Bits.{bit_at-trailing_zeros}
 use Rattle.clairvoyant.proofs.Words.{above-some, above-none, word-there, least-held, none-held}
-use Rattle.clairvoyant.proofs.layer.LayerNumberSet.least.Goals as goal
+use Rattle.clairvoyant.proofs.bit_layer.BitLayerNumberSet.least.Goals as goal
 
 pub returns-in-Some : goal.returns-in-Some
 returns-in-Some g c =

@@ -1,24 +1,24 @@
 //! The set at the top.
 ghost use Rattle.std.specs.Prelude.{◌&&◌, eqb};
 
-use crate::places::NumberSet;
+use crate::number_set::NumberSet;
 use std::alloc::{AllocError, Global};
 
 /// A set of the number 0 alone.
 #[derive(Drop)]
-pub(crate) struct Single {
+pub(crate) struct TopBit {
     any: bool,
 }
 
-impl NumberSet for Single {
+impl NumberSet for TopBit {
     ghost most = { 1 };
 
     ghost size = { λ s. 1 };
 
     ghost held = { λ s q. s.any && eqb q 0 };
 
-    fn new(_alloc: Global, _len: usize) -> Result<Single, AllocError> {
-        Ok(Single { any: false })
+    fn new(_alloc: Global, _len: usize) -> Result<TopBit, AllocError> {
+        Ok(TopBit { any: false })
     }
 
     fn put(&mut self, _place: usize) {

@@ -3,7 +3,7 @@ use Rattle.std.proofs.Math.ListN.{length-set}
 use Rattle.std.proofs.lemmas.Bool.{ne_eqb}
 use Rattle.std.proofs.lemmas.List.{get_or_read}
 use Rattle.clairvoyant.proofs.Words.{put-bit-of, set-some-of, above-still}
-use Rattle.clairvoyant.proofs.layer.LayerNumberSet.put.Goals as goal
+use Rattle.clairvoyant.proofs.bit_layer.BitLayerNumberSet.put.Goals as goal
 
 pub invariant_of-self-else-old-eq0 : goal.invariant_of-self-else-old-eq0
 invariant_of-self-else-old-eq0 g c =

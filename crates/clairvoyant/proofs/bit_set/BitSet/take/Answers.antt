@@ -1,7 +1,7 @@
 use Rattle.std.proofs.Common.{false, arith}
 use Rattle.step_record.specs.Bits.{bit_of}
 use Rattle.clairvoyant.proofs.Shown.{view-long, view-changed}
-use Rattle.clairvoyant.proofs.ranks.Ranks.take.Goals as goal
+use Rattle.clairvoyant.proofs.bit_set.BitSet.take.Goals as goal
 
 pub take-requires : goal.take-requires
 take-requires c =
@@ -11,4 +11,4 @@ take-requires c =
 pub returns-clause-takes : goal.returns-clause-takes
 returns-clause-takes c =
     let s = c.self.inside in
-    view-changed s.size (bit_of s.tree.words.items) c.args.self.now c.self.view_is (bit_of c.take.new.self.words.items) false c.args.rank c.requires c.take.ensures.takes
+    view-changed s.size (bit_of s.tree.words.items) c.args.self.now c.self.view_is (bit_of c.take.new.self.words.items) false c.args.number c.requires c.take.ensures.takes
