@@ -81,7 +81,7 @@ pub fn command<
         Err(ParseFault::OutOfMemory) => {
             return report_fault(alloc, Fault::OutOfMemory, fault_out);
         }
-        Err(ParseFault::Refused(error)) => return answer(alloc, &error, out, fault_out),
+        Err(ParseFault::Refused(error)) => return answer_help(alloc, &error, out, fault_out),
         Err(ParseFault::Stripes) => return report_usage_error(STRIPES, fault_out),
         Err(ParseFault::Incomplete) => return report_usage_error(INCOMPLETE, fault_out),
     };
@@ -94,7 +94,7 @@ pub fn command<
 }
 
 // Writes help or the version to the output, and what else clap answers to the fault output.
-fn answer<W: CountedWrite, X: CountedWrite>(
+fn answer_help<W: CountedWrite, X: CountedWrite>(
     alloc: Global,
     error: &Error,
     out: &mut W,

@@ -9,7 +9,7 @@ ghost use Rattle.cachesim.specs.DriveOutput.{IsEmptySession};
 ghost use Rattle.cachesim.specs.FaultCauses.{IsDue, Leaves};
 ghost use Rattle.cachesim.specs.Outcome.{IsDone};
 
-use crate::drive::open;
+use crate::drive::open_session;
 use crate::fault::Fault;
 use crate::files::Files;
 use command_line::{DebugArguments, ReplayArguments};
@@ -77,7 +77,7 @@ pub fn replay<R: CountedRead, W: CountedWrite, F: Files>(
     ensures writes { FailsWhere (IsOfWrite result) (W.tally out.old) (W.tally out.new) }
     ensures flushed { OnOk result (W.is_flushed out.new ≡ true) }
 {
-    let mut session = open(alloc, &arguments.config)?;
+    let mut session = open_session(alloc, &arguments.config)?;
     let answered = replay_in(alloc, arguments, &mut session, input, out, files);
     drop(session);
     answered

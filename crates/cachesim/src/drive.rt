@@ -29,7 +29,7 @@ use trace_read::read_trace;
 use workers::{Cause, DriveFault, Driven};
 
 /// A session of no step over an empty cache. The one error is out of memory.
-pub fn open(alloc: Global, config: &Config) -> Result<Session<Shell>, AllocError>
+pub fn open_session(alloc: Global, config: &Config) -> Result<Session<Shell>, AllocError>
     requires { config_fault config.now ≡ Ok tt }
     ensures { IfOk result (IsEmptySession config.now) }
 {
@@ -61,7 +61,7 @@ pub fn drive<T: Threads + Wait + Sync, R: CountedRead, W: CountedWrite, P: Watch
     let trace = read_trace(alloc, input, arguments.format)?;
     let accesses = trace.len() as u64;
     let pieces = deal(alloc, trace, arguments.workers)?;
-    let session = open(alloc, &arguments.config)?;
+    let session = open_session(alloc, &arguments.config)?;
     watch.begin("drive", Some(accesses));
     let run = workers::drive(rt, alloc, session, pieces, watch);
     watch.end();

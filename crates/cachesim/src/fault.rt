@@ -34,7 +34,7 @@ pub enum Fault {
 }
 
 /// The result of jobs that were checked: the only fault is out of memory.
-pub fn accepted<A>(made: Result<A, ActorFault>) -> Result<A, Fault>
+pub fn only_memory<A>(made: Result<A, ActorFault>) -> Result<A, Fault>
     requires { IfErr made (λ fault. fault ≡ ActorFault.OutOfMemory) }
     ensures { MatchResult result (λ value. made ≡ Ok value) (λ fault. fault ≡ Fault.OutOfMemory) }
 {

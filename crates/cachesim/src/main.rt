@@ -15,9 +15,9 @@ mod files;
 mod host;
 mod limits;
 mod perform;
+mod reports;
 #[cfg(test)]
 mod tests;
-mod texts;
 
 pub use call::command;
 pub use fault::Fault;

@@ -12,7 +12,7 @@ use crate::debug::{debug, replay};
 use crate::drive::drive;
 use crate::fault::Fault;
 use crate::files::Files;
-use crate::texts::{compare, intervals, part, run, sweep};
+use crate::reports::{compare, intervals, part, run, sweep};
 use command_line::Arguments;
 use progress::Watch;
 use std::alloc::Global;

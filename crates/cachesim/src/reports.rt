@@ -9,7 +9,7 @@ ghost use Rattle.cachesim.specs.CallFaults.{IsOfRead, IsOfWrite};
 ghost use Rattle.cachesim.specs.FaultCauses.{IsDue, IsTooMany};
 ghost use Rattle.cachesim.specs.TraceOutput.{IsText, IsTextOf, compared_text, jobs_by_policy};
 
-use crate::fault::{Fault, accepted};
+use crate::fault::{Fault, only_memory};
 use command_line::{
     CompareArguments, IntervalsArguments, PartArguments, PolicyList, RunArguments, SweepArguments,
 };
@@ -75,7 +75,7 @@ pub fn sweep<T: Threads + Sync, P: Watch>(
     );
     let reports = sweep_each(rt, alloc, trace, jobs.as_slice(), capacities, watch);
     watch.end();
-    Ok(reports_text(alloc, accepted(reports)?.as_slice())?)
+    Ok(reports_text(alloc, only_memory(reports)?.as_slice())?)
 }
 
 /// The rows of the policies that the arguments name, one for each interval, as text: all of the first policy, then
@@ -97,7 +97,7 @@ pub fn intervals<T: Threads + Sync, P: Watch>(
     watch.begin("intervals", Some(batches as u64));
     let rows = sweeps::intervals(rt, alloc, trace, jobs.as_slice(), every, watch);
     watch.end();
-    Ok(intervals_text(alloc, accepted(rows)?.as_slice())?)
+    Ok(intervals_text(alloc, only_memory(rows)?.as_slice())?)
 }
 
 /// One line: the first access at which just one of the two policies hits, counted from 1, or `none`.
@@ -117,7 +117,7 @@ pub fn part<R: Threads, P: Watch>(
     let found = part_watched(rt, alloc, trace, &arguments.first, &arguments.second, watch);
     watch.end();
     let mut line = Vec::new(alloc);
-    push_part(&mut line, accepted(found)?)?;
+    push_part(&mut line, only_memory(found)?)?;
     Ok(line)
 }
 
@@ -157,7 +157,7 @@ fn compare_whole<R: Threads, P: Watch>(
     ensures fault { IfErr result (λ fault. fault ≡ Fault.OutOfMemory) }
 {
     let (first, second) = (&pair.first, &pair.second);
-    let counts = accepted(debug_policies::compare(rt, alloc, trace, first, second, watch))?;
+    let counts = only_memory(debug_policies::compare(rt, alloc, trace, first, second, watch))?;
     let mut text = Vec::new(alloc);
     push_comparison(&mut text, first, second, &counts)?;
     Ok(text)
@@ -180,7 +180,7 @@ fn compare_intervals<R: Threads, P: Watch>(
 {
     let (first, second, every) = (&pair.first, &pair.second, every as usize);
     let rows = debug_policies::compare_intervals(rt, alloc, trace, first, second, every, watch);
-    let rows = accepted(rows)?;
+    let rows = only_memory(rows)?;
     let mut text = Vec::new(alloc);
     push_compared_intervals(&mut text, first, second, rows.as_slice())?;
     Ok(text)

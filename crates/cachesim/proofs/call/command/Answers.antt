@@ -62,12 +62,12 @@ helped_by words e p h = record { lists = p.lists; are = p.are; refused = (kind_o
 pub returns-in-Err-Refused-clause-done : goal.returns-in-Err-Refused-clause-done
 returns-in-Err-Refused-clause-done g c zero =
     let p = parsed _ _ _ (c.in-Err-Refused.is ∙ ap Err c.in-Err-Refused.field-0-is) c.parse.ensures.parsed in
-    inr (helped_by _ c.in-Err-Refused.error p (c.answer.ensures.done zero))
+    inr (helped_by _ c.in-Err-Refused.error p (c.answer_help.ensures.done zero))
 
 pub returns-in-Err-Refused-clause-refused : goal.returns-in-Err-Refused-clause-refused
 returns-in-Err-Refused-clause-refused g c two =
     let p = parsed _ _ _ (c.in-Err-Refused.is ∙ ap Err c.in-Err-Refused.field-0-is) c.parse.ensures.parsed in
-    let a = c.answer.ensures.refused two in
+    let a = c.answer_help.ensures.refused two in
     (inl (refused_by _ c.in-Err-Refused.error p a.0 a.1), refl, a.2)
 
 pub returns-in-Err-Stripes-clause-refused : goal.returns-in-Err-Stripes-clause-refused
@@ -83,7 +83,7 @@ returns-in-Err-Incomplete-clause-refused g c two =
 pub returns-in-Err-Refused-clause-faulted : goal.returns-in-Err-Refused-clause-faulted
 returns-in-Err-Refused-clause-faulted g c one =
     let p = parsed _ _ _ (c.in-Err-Refused.is ∙ ap Err c.in-Err-Refused.field-0-is) c.parse.ensures.parsed in
-    elim (c.answer.ensures.faulted one) [
+    elim (c.answer_help.ensures.faulted one) [
       | inl h ↦ record {
         fault = OutOfMemory;
         reported = h.0;
@@ -118,7 +118,7 @@ returns-in-Err-clause-faulted g c one =
 
 pub returns-in-Err-Refused-clause-served : goal.returns-in-Err-Refused-clause-served
 returns-in-Err-Refused-clause-served g c zero =
-    let done = c.answer.ensures.served zero in
+    let done = c.answer_help.ensures.served zero in
     ((uncalled _, done.0), done.1)
 
 pub returns-in-Ok-done-clause-served : goal.returns-in-Ok-done-clause-served

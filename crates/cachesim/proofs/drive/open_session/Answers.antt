@@ -2,7 +2,7 @@ use Rattle.std.proofs.Common.{rules, ◌≡◌, ◌≤◌, Ok}
 use Rattle.step_record.specs.Config.{config_fault}
 use Rattle.step_record.specs.declared.config.Config.{Config}
 use Rattle.step_record.specs.declared.limits.TheConstants.{MAX_JOURNAL_LIMIT}
-use Rattle.cachesim.proofs.drive.open.Goals as goal
+use Rattle.cachesim.proofs.drive.open_session.Goals as goal
 
 -- an accepted configuration has a journal limit in its range
 limit_within : (config : Config) → config_fault config ≡ Ok tt → (1 ≤ config.journal_limit) × (config.journal_limit ≤ MAX_JOURNAL_LIMIT)

@@ -8,7 +8,7 @@ use Rattle.policy_actors.specs.Faults.{actor_fault}
 use Rattle.report.specs.Text.{reports_text}
 use Rattle.cachesim.specs.TraceOutput.{reports_on}
 use Rattle.cachesim.proofs.Accepting.{can_run}
-use Rattle.cachesim.proofs.texts.run.Goals as goal
+use Rattle.cachesim.proofs.reports.run.Goals as goal
 
 pub run_reading-reports-requires : goal.run_reading-reports-requires
 run_reading-reports-requires g c =
