@@ -19,7 +19,9 @@ use crate::grammar;
 use crate::text::{push_counts_line, push_pieces};
 use crate::timeline::Timeline;
 use std::alloc::{AllocError, Global};
-use streams::{CountedRead, CountedWrite, RetryBudget, WriteAllFault, flush, read_some, write_some};
+use streams::{
+    CountedRead, CountedWrite, RetryBudget, WriteAllFault, flush, read_some, write_some,
+};
 
 /// The most bytes of commands that are read, line feeds included: 2^20.
 pub const MAX_COMMAND_BYTES: usize = 1 << 20;
