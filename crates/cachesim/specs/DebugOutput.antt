@@ -17,7 +17,8 @@ use Rattle.cachesim.specs.TraceOutput.{IfFaultless}
 abbrev pub KnownFiles : Type 0
 KnownFiles = List ℕ → Option (List ℕ)
 
--- the bytes written answer the commands of the input about the timeline, from a position on: all of them, or those before
+-- the bytes written answer the commands of the input about the timeline, from a position on: all of them, or those
+-- before
 -- a line that is too large
 abbrev pub Answering : Bool → TimelineData → ℕ → Option (List ℕ) → Option (List ℕ) → Option (List ℕ) → Type 0
 Answering all t at input before after =
@@ -32,7 +33,8 @@ Debugging all format first second file input before after =
 
 -- the bytes are a journal of steps from the empty cache of the configuration on, and the answers are about them, all of
 -- them made at first
-pub record IsReplayed (all : Bool) (config : Config) (bytes : List ℕ) (input before after : Option (List ℕ)) : Type 0 where
+pub record IsReplayed (all : Bool) (config : Config) (bytes : List ℕ) (input before after : Option (List ℕ))
+    : Type 0 where
   pub opening : Shell
   pub opened : IsOpened config opening
   pub steps : Entries

@@ -30,7 +30,8 @@ pub record IsEmptySession (config : Config) (session : SessionState Shell Shell 
   pub limit : session.limit ≡ config.journal_limit
 
 -- The bytes read have no fault, and those written are the journal of steps that the cache of the configuration accepts
--- one after another, each with its reply, from the empty state on. `Walks` holds of the accesses in the bytes read and of
+-- one after another, each with its reply, from the empty state on. `Walks` holds of the accesses in the bytes read
+-- and of
 -- the steps, and `Room` of how many these are.
 pub record IsJournalOf (Walks : List ℕ → Entries → Type 0) (Room : ℕ → Type 0) (config : Config) (format : Format)
     (input before after : Option (List ℕ)) : Type 0 where
@@ -46,7 +47,8 @@ pub record IsJournalOf (Walks : List ℕ → Entries → Type 0) (Room : ℕ →
 -- at most.
 abbrev pub IsDriven : Config → ℕ → Format → Option (List ℕ) → Option (List ℕ) → Option (List ℕ) → Type 0
 IsDriven config workers format input before after =
-    IsJournalOf (AreWalksOfReads config.stripes workers) (λ n. n ≤ config.journal_limit) config format input before after
+    IsJournalOf (AreWalksOfReads config.stripes workers) (λ n. n ≤ config.journal_limit)
+        config format input before after
 
 -- as many steps as the limit of the journal at most, and just as many where a full journal is the cause
 abbrev pub IsRoomFor : Cause → ℕ → ℕ → Type 0
@@ -59,9 +61,11 @@ IsStopped why config workers format input before after =
     IsJournalOf (AreOfReadsUpTo why config.journal_limit config.stripes workers) (IsRoomFor why config.journal_limit)
     config format input before after
 
--- What `drive` leaves at a fault. A run that was stopped is written; all else but a failed write leaves the output as it
+-- What `drive` leaves at a fault. A run that was stopped is written; all else but a failed write leaves the output
+-- as it
 -- was, out of memory at least its bytes.
-abbrev pub LeavesDrive : Config → ℕ → Format → Fault → Option (List ℕ) → Option (List ℕ) → Option (List ℕ) → Type 0 → Type 0
+abbrev pub LeavesDrive : Config → ℕ → Format → Fault → Option (List ℕ) → Option (List ℕ) → Option (List ℕ)
+    → Type 0 → Type 0
 LeavesDrive config workers format fault.JournalFull input before after Kept =
     IsStopped cause.JournalFull config workers format input before after
 LeavesDrive config workers format fault.OutOfMemory input before after Kept =

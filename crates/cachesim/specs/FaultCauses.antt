@@ -55,7 +55,8 @@ IsTooMany policies fault = (fault ≡ Actors) × (MAX_ACTORS < length policies)
 
 -- the commands are more bytes than are read of them
 abbrev pub IsOfCommands : Option (List ℕ) → Fault → Type 0
-IsOfCommands commands fault = (fault ≡ Debug large.TooLarge) × IfSome commands (λ bytes. MAX_COMMAND_BYTES < length bytes)
+IsOfCommands commands fault =
+    (fault ≡ Debug large.TooLarge) × IfSome commands (λ bytes. MAX_COMMAND_BYTES < length bytes)
 
 -- what is wrong with the bytes as a journal from the opening state on, or with the commands
 abbrev pub IsOfReplayFrom : Shell → ℕ → Option (List ℕ) → Fault → List ℕ → Type 0
@@ -98,14 +99,16 @@ IsBeforeOutput (Debug fault) = ⊥
 IsBeforeOutput Write = ⊥
 IsBeforeOutput fault = Unit {0}
 
--- What `debug` and `replay` leave at this fault, where `Answered` says that the commands before a line that is too large
+-- What `debug` and `replay` leave at this fault, where `Answered` says that the commands before a line that is too
+-- large
 -- are answered, and `Kept` that the output is as it was.
 abbrev pub LeavesAnswers : Type 0 → Fault → Type 0 → Type 0
 LeavesAnswers Answered (Debug large.TooLarge) Kept = Answered
 LeavesAnswers Answered fault Kept = IsBeforeOutput fault → Kept
 
 -- What is left at this fault of the arguments' subcommand. Those that ask for a text write once, at their end.
-abbrev pub Leaves : Arguments → KnownFiles → Fault → Option (List ℕ) → Option (List ℕ) → Option (List ℕ) → Type 0 → Type 0
+abbrev pub Leaves : Arguments → KnownFiles → Fault → Option (List ℕ) → Option (List ℕ) → Option (List ℕ)
+    → Type 0 → Type 0
 Leaves (asked.Drive drive) files fault input before after Kept =
     LeavesDrive drive.config drive.workers drive.format fault input before after Kept
 Leaves (asked.Debug debug) files fault input before after Kept = LeavesAnswers (Debugging false debug.policies.format
@@ -126,8 +129,10 @@ IsEndedEarly words OutOfMemory Kept = Kept
 IsEndedEarly words Write Kept = IsRefused words AsksHelp
 IsEndedEarly words fault Kept = ⊥
 
--- A fault ended the call, and its line was written to the fault output, from `silent` to `line`, or that of `OutOfMemory`
--- where there was no memory for it; all of it, or a beginning where the fault output failed, which counted `old` and `new`.
+-- A fault ended the call, and its line was written to the fault output, from `silent` to `line`, or that of
+-- `OutOfMemory`
+-- where there was no memory for it; all of it, or a beginning where the fault output failed, which counted `old`
+-- and `new`.
 -- `Blames` says of the fault what became of the calls of the input and the output.
 pub record EndsInFault (words : List Text) (files : KnownFiles) (old new : Tally)
     (input before after silent line : Option (List ℕ)) (Kept : Type 0) (Blames : Fault → Type 0) : Type 0 where

@@ -22,7 +22,8 @@ pub record IsDealt (workers : ℕ) (keys : List ℕ) (pieces : List (List Call))
   pub own : (w : ℕ) → w < workers → get_or pieces w [] ≡ reads_of workers w 0 keys
 
 -- the steps of each worker are as `Walks` says of its number and its reads, and nobody else made any
-pub record AreOfReads (Walks : ℕ → List Call → Entries → Type 0) (workers : ℕ) (keys : List ℕ) (steps : Entries) : Type 0 where
+pub record AreOfReads (Walks : ℕ → List Call → Entries → Type 0) (workers : ℕ) (keys : List ℕ) (steps : Entries)
+    : Type 0 where
   pub own : (w : ℕ) → w < workers → Walks w (reads_of workers w 0 keys) (entries_of w steps)
   pub no_other : (w : ℕ) → workers ≤ w → entries_of w steps ≡ []
 
@@ -30,10 +31,13 @@ pub record AreOfReads (Walks : ℕ → List Call → Entries → Type 0) (worker
 abbrev pub AreWalksOfReads : ℕ → ℕ → List ℕ → Entries → Type 0
 AreWalksOfReads stripes workers keys steps = AreOfReads (λ w. AreWalks w stripes) workers keys steps
 
--- The same of workers who were refused steps, of whom the one with the lowest number was refused for this cause: each that
--- was refused has made the first steps of its walks and not all, and each other all of them. The steps show each refusal
+-- The same of workers who were refused steps, of whom the one with the lowest number was refused for this cause:
+-- each that
+-- was refused has made the first steps of its walks and not all, and each other all of them. The steps show each
+-- refusal
 -- in a journal of this limit: it is full, or it was not full at a place after which the worker made none.
-pub record AreOfReadsUpTo (cause : Cause) (limit stripes workers : ℕ) (keys : List ℕ) (steps : Entries) : Type 0 where
+pub record AreOfReadsUpTo (cause : Cause) (limit stripes workers : ℕ) (keys : List ℕ) (steps : Entries)
+    : Type 0 where
   pub refusals : List (Option Cause)
   pub of_each : length refusals ≡ workers
   pub first : Some cause ≡ first_cause refusals

@@ -5,7 +5,8 @@ use Rattle.step_record.specs.declared.limits.TheConstants.{MAX_ACCESSES, MAX_BAT
 use Rattle.step_record.specs.declared.limits.TheConstants.{MAX_MAIN_PERCENT}
 use Rattle.step_record.specs.declared.worker.TheConstants.{MAX_WORKERS}
 use Rattle.command_line.specs.declared.options.OptionName.{OptionName}
-use Rattle.command_line.specs.declared.options.OptionName.TheVariants.{Batch, Capacities, Capacity, ComparedEvery, Every, First}
+use Rattle.command_line.specs.declared.options.OptionName.TheVariants.{Batch, Capacities, Capacity, ComparedEvery}
+use Rattle.command_line.specs.declared.options.OptionName.TheVariants.{Every, First}
 use Rattle.command_line.specs.declared.options.OptionName.TheVariants.{Format, Journal, Limit, Main, Policies, Second}
 use Rattle.command_line.specs.declared.options.OptionName.TheVariants.{Spread, Stripes, SweptPolicies, Trace, Workers}
 use Rattle.command_line.specs.declared.options.OptionRow.{OptionRow}
@@ -15,7 +16,8 @@ use Rattle.command_line.specs.declared.options.Subcommand.{Subcommand}
 use Rattle.command_line.specs.declared.options.ValueKind.{ValueKind}
 use Rattle.command_line.specs.declared.options.ValueKind.TheVariants as kind
 
--- An option: its name, what its values are, how they are given, and its default. With no default it is required, unless it
+-- An option: its name, what its values are, how they are given, and its default. With no default it is required,
+-- unless it
 -- may be given once or not at all.
 pub record OptionDefinition : Type 0 where
   pub id : Text

@@ -1,7 +1,8 @@
 -- The words of a command that are no numbers.
 use Rattle.std.specs.Prelude.{ℕ, List, Option, codes}
 use Rattle.debug_commands.specs.declared.grammar.Name.{Name}
-use Rattle.debug_commands.specs.declared.grammar.Name.TheVariants.{Step, Back, Goto, Run, Break, Clear, Show, Part, Save}
+use Rattle.debug_commands.specs.declared.grammar.Name.TheVariants.{Step, Back, Goto, Run, Break, Clear, Show, Part}
+use Rattle.debug_commands.specs.declared.grammar.Name.TheVariants.{Save}
 use Rattle.debug_commands.specs.declared.grammar.Name.TheVariants.{Quit, Hit, Evict, Halve, Drop}
 use Rattle.debug_commands.specs.declared.grammar.TheConstants.{NAMES}
 use Rattle.streams.specs.Reads.{first_named}

@@ -1,6 +1,7 @@
 -- A trace cut into intervals, and how often two policies hit at the same accesses of each.
 use Rattle.std.specs.Int.{div_ceil}
-use Rattle.std.specs.Prelude.{◌≡◌, ℕ, zero, suc, ◌+◌, ◌-◌, ◌*◌, ◌<◌, ◌≤◌, Bool, List, [], ◌∷◌, ◌++◌, codes, drop, flat_map}
+use Rattle.std.specs.Prelude.{◌≡◌, ℕ, zero, suc, ◌+◌, ◌-◌, ◌*◌, ◌<◌, ◌≤◌, Bool, List, [], ◌∷◌, ◌++◌, codes, drop}
+use Rattle.std.specs.Prelude.{flat_map}
 use Rattle.std.specs.Prelude.{length, sum_by, take}
 use Rattle.step_record.specs.declared.job.Job.{Job}
 use Rattle.step_record.specs.Job.{word_of}
@@ -28,7 +29,8 @@ first_compared every hits (suc n) = first_compared every hits n ++ compared_at e
 -- those of two jobs over the whole trace: as many as it takes to cover the accesses
 unfoldable pub compared_intervals_on : ℕ → Job → Job → List ℕ → List ComparedInterval
 compared_intervals_on every first second trace =
-    first_compared every (hits_beside (outcomes_on first trace) (outcomes_on second trace)) (div_ceil (length trace) every)
+    first_compared every (hits_beside (outcomes_on first trace) (outcomes_on second trace))
+        (div_ceil (length trace) every)
 
 -- ---- the rows sum up to the one row
 
@@ -38,13 +40,15 @@ sum_over count rows = sum_by (λ row. count row.counts) rows
 
 abbrev pub ComparedIntervalsAddUp : Type 0
 ComparedIntervalsAddUp = (every : ℕ) (first second : Job) (trace : List ℕ) → 1 ≤ every
-    → (sum_over (λ c. c.accesses) (compared_intervals_on every first second trace) ≡ (compared_on first second trace).accesses)
+    → (sum_over (λ c. c.accesses) (compared_intervals_on every first second trace)
+        ≡ (compared_on first second trace).accesses)
     × (sum_over (λ c. c.both) (compared_intervals_on every first second trace) ≡ (compared_on first second trace).both)
     × (sum_over (λ c. c.first_only) (compared_intervals_on every first second trace)
     ≡ (compared_on first second trace).first_only)
     × (sum_over (λ c. c.second_only) (compared_intervals_on every first second trace)
     ≡ (compared_on first second trace).second_only)
-    × (sum_over (λ c. c.neither) (compared_intervals_on every first second trace) ≡ (compared_on first second trace).neither)
+    × (sum_over (λ c. c.neither) (compared_intervals_on every first second trace)
+        ≡ (compared_on first second trace).neither)
 
 -- ---- between two counts of all accesses
 

@@ -40,8 +40,8 @@ LeadsBack act fits undone d (e ∷ es) [] = ⊥
 
 -- the record fits the data that its step left, is the step's from the data before, and holds the words of the step's
 -- halvings
-abbrev pub FitsItsStep : {C D S : Type 0} → (S → D → C) → (C → D → Type 0) → (C → D → D) → (C → ℕ) → (D → Pace) → S → C → D
-    → Type 0
+abbrev pub FitsItsStep : {C D S : Type 0} → (S → D → C) → (C → D → Type 0) → (C → D → D) → (C → ℕ) → (D → Pace)
+    → S → C → D → Type 0
 FitsItsStep record_of fits undone size pace s c d =
     fits c d × (words_of_halvings (pace d) ≡ words_of_halvings (pace (undone c d)) + size c)
     × (c ≡ record_of s (undone c d))

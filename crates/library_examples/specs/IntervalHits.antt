@@ -3,7 +3,8 @@ use Rattle.std.specs.Prelude.{◌≡◌, ◌≢◌, ℕ, List, [], ◌∷◌, ta
 use Rattle.step_record.specs.declared.outcome.Outcome.{Outcome}
 use Rattle.step_record.specs.Stats.{is_hit}
 
--- The numbers are the hits of each `every` outcomes, in order; after the last interval, which may be shorter, no outcome
+-- The numbers are the hits of each `every` outcomes, in order; after the last interval, which may be shorter, no
+-- outcome
 -- is left.
 abbrev pub AreHitsByInterval : ℕ → List Outcome → List ℕ → Type 0
 AreHitsByInterval every outcomes [] = outcomes ≡ []

@@ -7,7 +7,8 @@ use Rattle.policies.specs.Accesses.{IsNext}
 use Rattle.policies.specs.declared.cache_run.CacheRun.{CacheRun}
 use Rattle.policies.specs.declared.cache_run.CacheRun.TheVariants.{Cache, NextUses, OutOfMemory}
 
--- a cache made these accesses of the trace, or they are those whose next uses are found, or there was no memory for them
+-- a cache made these accesses of the trace, or they are those whose next uses are found, or there was no memory for
+-- them
 abbrev pub HasTaken : Job → List ℕ → List ℕ → CacheRun → Type 0
 HasTaken job trace done (Cache d) = HasAccessed job trace done d
 HasTaken job trace done (NextUses found) = found ≡ done

@@ -5,7 +5,8 @@ use Rattle.step_record.specs.declared.config.Config.{Config}
 use Rattle.step_record.specs.declared.job.Job.{Job}
 use Rattle.step_record.specs.declared.job.Policy.{Policy}
 use Rattle.step_record.specs.declared.job.Policy.TheVariants.{Lru, SegmentedLru, TinyLfuLru, TinyLfuSegmented}
-use Rattle.step_record.specs.declared.job.Policy.TheVariants.{WindowTinyLfu, Clairvoyant, Fifo, Clock, Sieve, S3Fifo, TwoQ, Arc}
+use Rattle.step_record.specs.declared.job.Policy.TheVariants.{WindowTinyLfu, Clairvoyant, Fifo, Clock, Sieve, S3Fifo}
+use Rattle.step_record.specs.declared.job.Policy.TheVariants.{TwoQ, Arc}
 use Rattle.segments.specs.declared.records.Queue.TheVariants.{Window, Probation}
 use Rattle.replacement.specs.declared.rules.Placement.{Placement}
 use Rattle.replacement.specs.declared.rules.Placement.TheVariants.{Direct, Windowed}

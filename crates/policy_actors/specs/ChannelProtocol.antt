@@ -1,5 +1,7 @@
--- The protocol of an actor's channel: it holds the batches from the one after the last taken to the last given, in order.
-use Rattle.std.specs.Prelude.{◌≡◌, ℕ, ◌+◌, ◌*◌, ◌<◌, ◌≤◌, ◌↔◌, IsTrue, IfSome, Bool, true, Option, List, [], ◌∷◌, length, take, drop}
+-- The protocol of an actor's channel: it holds the batches from the one after the last taken to the last given, in
+-- order.
+use Rattle.std.specs.Prelude.{◌≡◌, ℕ, ◌+◌, ◌*◌, ◌<◌, ◌≤◌, ◌↔◌, IsTrue, IfSome, Bool, true, Option, List, [], ◌∷◌}
+use Rattle.std.specs.Prelude.{length, take, drop}
 use mathlib.Core.Option.{some}
 use lib.ListN.{get_elem?}
 use Rattle.step_record.specs.declared.limits.TheConstants.{MAX_ACCESSES}
@@ -29,5 +31,6 @@ FitsRule giver taker given taken pass v =
     × (v.takes ≡ true → (pass ≡ taker) × (v.taken ≡ taken))
 
 abbrev pub AreKept : Option (List ℕ) → ℕ → List Batch → List ChannelLog → Type 0
-AreKept known size items views = (giver : ℕ) × (taker : ℕ) × (given : ℕ) × (taken : ℕ) × AreBatches known size taken items given
+AreKept known size items views =
+    (giver : ℕ) × (taker : ℕ) × (given : ℕ) × (taken : ℕ) × AreBatches known size taken items given
     × ((pass : ℕ) (v : ChannelLog) → get_elem? views pass ≡ some v → FitsRule giver taker given taken pass v)

@@ -6,7 +6,8 @@ use Rattle.queue_table.specs.declared.lengths.Lengths.{Lengths}
 use Rattle.queue_table.specs.declared.slot.Slot.{Slot}
 use Rattle.queue_table.specs.Entries.{IsGap}
 use Rattle.queue_table.specs.Queues.{Queues}
-use Rattle.queue_table.specs.Ring.{entries, count, SECTIONS, FIRST, Order, used, order_of, lists_of, lists, slot_entry, slot_item}
+use Rattle.queue_table.specs.Ring.{entries, count, SECTIONS, FIRST, Order, used, order_of, lists_of, lists}
+use Rattle.queue_table.specs.Ring.{slot_entry, slot_item}
 use Rattle.queue_table.specs.Ring.{IsNewer, IsQueued}
 use Rattle.queue_table.specs.declared.slot_index.SlotIndex.{SlotIndex}
 use Rattle.queue_table.specs.Index.{capacity, IsIndexed}

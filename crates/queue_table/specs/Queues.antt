@@ -1,9 +1,11 @@
 -- Queues by number, and what each call makes of them.
-use Rattle.std.specs.Prelude.{ℕ, suc, zero, ◌+◌, ◌≤◌, nat_lt, cond, eqb, Option, Some, None, List, [], ◌∷◌, ◌++◌, length}
+use Rattle.std.specs.Prelude.{ℕ, suc, zero, ◌+◌, ◌≤◌, nat_lt, cond, eqb, Option, Some, None, List, [], ◌∷◌, ◌++◌}
+use Rattle.std.specs.Prelude.{length}
 use Rattle.step_record.specs.declared.item.Item.{Item}
 use Rattle.queue_table.specs.declared.records.Entry.{Entry}
 use Rattle.queue_table.specs.declared.records.Place.{Place}
-use Rattle.queue_table.specs.Entries.{occurrences, entries_without, entries_counted, last_item, first_item, before, behind, put_behind}
+use Rattle.queue_table.specs.Entries.{occurrences, entries_without, entries_counted, last_item, first_item, before}
+use Rattle.queue_table.specs.Entries.{behind, put_behind}
 
 -- how many queues there are; those from QUEUES on are empty
 abbrev pub QUEUES : ℕ

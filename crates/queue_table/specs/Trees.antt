@@ -29,7 +29,8 @@ IsTree links roots place (fork i l r) =
     (slice_index links place ≡ i) × (1 ≤ i) × (branch roots i true < length links) ×
     IsTree links roots (branch roots i false) l × IsTree links roots (branch roots i true) r
 
--- which way the item goes at a depth: by the bits of its key from the lowest on, then by those of its node; true is right
+-- which way the item goes at a depth: by the bits of its key from the lowest on, then by those of its node; true is
+-- right
 abbrev pub turn : ℕ → Item → Bool
 turn depth i = eqb (cond (eqb (depth / 64 % 2) 0) i.key i.node / 2 ^ (depth % 64) % 2) 1
 

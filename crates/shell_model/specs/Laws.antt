@@ -1,5 +1,6 @@
 -- What the replies so far say of the shell's state.
-use Rattle.std.specs.Prelude.{◌≡◌, ℕ, ◌+◌, ◌<◌, ◌≤◌, ◌↔◌, Bool, true, false, eqb, if◌then◌else◌, Option, Some, None, List}
+use Rattle.std.specs.Prelude.{◌≡◌, ℕ, ◌+◌, ◌<◌, ◌≤◌, ◌↔◌, Bool, true, false, eqb, if◌then◌else◌, Option, Some, None}
+use Rattle.std.specs.Prelude.{List}
 use Rattle.std.specs.Prelude.{[], ◌∷◌, ◌++◌, drop, replicate}
 use Rattle.step_record.specs.declared.item.Item.{Item}
 use Rattle.step_record.specs.declared.config.Config.{Config}

@@ -36,4 +36,5 @@ pub record IsHistogram (keys : List ℕ) (place : ℕ) (h : Histogram) : Type 0 
   pub room : length keys ≤ 64 * length h.marks.words.items
   pub summed : length h.marks.tree.sums.items ≡ place / 64
   pub long : length h.counts.items ≡ length (distinct_keys (take place keys))
-  pub counted : (d : ℕ) → count_at h.counts.items h.noted.items d ≡ count_by (is_at (suc d)) (distances (take place keys))
+  pub counted : (d : ℕ) → count_at h.counts.items h.noted.items d
+      ≡ count_by (is_at (suc d)) (distances (take place keys))

@@ -1,7 +1,8 @@
 -- Several jobs at the same capacities.
 use Rattle.std.specs.Int.{div_ceil}
 use Rattle.std.specs.Option.{option_or}
-use Rattle.std.specs.Prelude.{◌≡◌, ℕ, ◌+◌, ◌*◌, All, Ok, Bool, true, false, if◌then◌else◌, cond, nat_le, Option, Some, None, List, [], ◌∷◌, ◌++◌, length, map}
+use Rattle.std.specs.Prelude.{◌≡◌, ℕ, ◌+◌, ◌*◌, All, Ok, Bool, true, false, if◌then◌else◌, cond, nat_le, Option, Some}
+use Rattle.std.specs.Prelude.{None, List, [], ◌∷◌, ◌++◌, length, map}
 use Rattle.step_record.specs.Config.{config_fault}
 use Rattle.step_record.specs.declared.job.Job.{Job}
 use Rattle.step_record.specs.declared.job.Policy.{Policy}

@@ -13,7 +13,8 @@ use Rattle.trace_read.specs.declared.scan.Scan.{Scan}
 
 -- the fault of the whole file, and its accesses but for those that were handed on, where these bytes still follow
 abbrev pub fault_ahead : Scan → List ℕ → Option TraceFault
-fault_ahead s rest = first_fault s.format s.line (s.handed_on + length s.keys.items) (lines_of (s.partial_line.items ++ rest))
+fault_ahead s rest =
+    first_fault s.format s.line (s.handed_on + length s.keys.items) (lines_of (s.partial_line.items ++ rest))
 
 abbrev pub keys_ahead : Scan → List ℕ → List ℕ
 keys_ahead s rest = s.keys.items ++ all_keys s.format (lines_of (s.partial_line.items ++ rest))
