@@ -18,8 +18,7 @@ abbrev pub KnownFiles : Type 0
 KnownFiles = List ℕ → Option (List ℕ)
 
 -- the bytes written answer the commands of the input about the timeline, from a position on: all of them, or those
--- before
--- a line that is too large
+-- before a line that is too large
 abbrev pub Answering : Bool → TimelineData → ℕ → Option (List ℕ) → Option (List ℕ) → Option (List ℕ) → Type 0
 Answering all t at input before after =
     IfSome input (λ commands. (position : ℕ) × WritesDialogue (dialogue_of t at commands) all before after position)

@@ -29,10 +29,9 @@ pub record IsEmptySession (config : Config) (session : SessionState Shell Shell 
   pub undone : session.tail ≡ []
   pub limit : session.limit ≡ config.journal_limit
 
--- The bytes read have no fault, and those written are the journal of steps that the cache of the configuration accepts
--- one after another, each with its reply, from the empty state on. `Walks` holds of the accesses in the bytes read
--- and of
--- the steps, and `Room` of how many these are.
+-- The bytes read have no fault, and those written are the journal of steps that the cache of the configuration
+-- accepts one after another, each with its reply, from the empty state on. `Walks` holds of the accesses in the bytes
+-- read and of the steps, and `Room` of how many these are.
 pub record IsJournalOf (Walks : List ℕ → Entries → Type 0) (Room : ℕ → Type 0) (config : Config) (format : Format)
     (input before after : Option (List ℕ)) : Type 0 where
   pub opening : Shell
@@ -61,9 +60,8 @@ IsStopped why config workers format input before after =
     IsJournalOf (AreOfReadsUpTo why config.journal_limit config.stripes workers) (IsRoomFor why config.journal_limit)
     config format input before after
 
--- What `drive` leaves at a fault. A run that was stopped is written; all else but a failed write leaves the output
--- as it
--- was, out of memory at least its bytes.
+-- What `drive` leaves at a fault. A run that was stopped is written; all else but a failed write leaves the output as
+-- it was, out of memory at least its bytes.
 abbrev pub LeavesDrive : Config → ℕ → Format → Fault → Option (List ℕ) → Option (List ℕ) → Option (List ℕ)
     → Type 0 → Type 0
 LeavesDrive config workers format fault.JournalFull input before after Kept =

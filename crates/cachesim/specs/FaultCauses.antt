@@ -100,8 +100,7 @@ IsBeforeOutput Write = ⊥
 IsBeforeOutput fault = Unit {0}
 
 -- What `debug` and `replay` leave at this fault, where `Answered` says that the commands before a line that is too
--- large
--- are answered, and `Kept` that the output is as it was.
+-- large are answered, and `Kept` that the output is as it was.
 abbrev pub LeavesAnswers : Type 0 → Fault → Type 0 → Type 0
 LeavesAnswers Answered (Debug large.TooLarge) Kept = Answered
 LeavesAnswers Answered fault Kept = IsBeforeOutput fault → Kept
@@ -130,10 +129,8 @@ IsEndedEarly words Write Kept = IsRefused words AsksHelp
 IsEndedEarly words fault Kept = ⊥
 
 -- A fault ended the call, and its line was written to the fault output, from `silent` to `line`, or that of
--- `OutOfMemory`
--- where there was no memory for it; all of it, or a beginning where the fault output failed, which counted `old`
--- and `new`.
--- `Blames` says of the fault what became of the calls of the input and the output.
+-- `OutOfMemory` where there was no memory for it; all of it, or a beginning where the fault output failed, which
+-- counted `old` and `new`. `Blames` says of the fault what became of the calls of the input and the output.
 pub record EndsInFault (words : List Text) (files : KnownFiles) (old new : Tally)
     (input before after silent line : Option (List ℕ)) (Kept : Type 0) (Blames : Fault → Type 0) : Type 0 where
   pub fault : Fault

@@ -16,9 +16,8 @@ use Rattle.cachesim.specs.DriveOutput.{IsDriven}
 use Rattle.cachesim.specs.TraceOutput.{IsTextOf}
 
 -- What these arguments ask for is done: `drive` has written the journal of its workers' walks in an empty cache;
--- `debug`
--- and `replay` have answered the commands of the input about the trace or the journal of the file; and each other has
--- written the text that it asks for.
+-- `debug` and `replay` have answered the commands of the input about the trace or the journal of the file; and each
+-- other has written the text that it asks for.
 abbrev pub IsDone : Arguments → KnownFiles → Option (List ℕ) → Option (List ℕ) → Option (List ℕ) → Type 0
 IsDone (asked.Drive drive) files input before after =
     IsDriven drive.config drive.workers drive.format input before after
@@ -54,8 +53,7 @@ usage_line parse.Stripes = codes "fault: Stripes\n"
 usage_line fault = codes "error: a policy or a number is missing\n"
 
 -- Status 2: the words are refused by clap, or taken and incomplete: they lack a number in its range or a known
--- policy, or
--- their number of read buffers is not a power of two from 1 to 64.
+-- policy, or their number of read buffers is not a power of two from 1 to 64.
 abbrev pub RefusedBy : List Text → Tally → Tally → Option (List ℕ) → Option (List ℕ) → Type 0
 RefusedBy words old new silent line = IsRefused words RefusesWords
     ⊎ ((fault : ParseFault) × AsksFor words (Err fault) × WritesLine old new silent line (usage_line fault))

@@ -31,11 +31,9 @@ pub record AreOfReads (Walks : ℕ → List Call → Entries → Type 0) (worker
 abbrev pub AreWalksOfReads : ℕ → ℕ → List ℕ → Entries → Type 0
 AreWalksOfReads stripes workers keys steps = AreOfReads (λ w. AreWalks w stripes) workers keys steps
 
--- The same of workers who were refused steps, of whom the one with the lowest number was refused for this cause:
--- each that
--- was refused has made the first steps of its walks and not all, and each other all of them. The steps show each
--- refusal
--- in a journal of this limit: it is full, or it was not full at a place after which the worker made none.
+-- The same of workers who were refused steps, of whom the one with the lowest number was refused for this cause: each
+-- that was refused has made the first steps of its walks and not all, and each other all of them. The steps show each
+-- refusal in a journal of this limit: it is full, or it was not full at a place after which the worker made none.
 pub record AreOfReadsUpTo (cause : Cause) (limit stripes workers : ℕ) (keys : List ℕ) (steps : Entries)
     : Type 0 where
   pub refusals : List (Option Cause)

@@ -17,8 +17,7 @@ use Rattle.command_line.specs.declared.options.ValueKind.{ValueKind}
 use Rattle.command_line.specs.declared.options.ValueKind.TheVariants as kind
 
 -- An option: its name, what its values are, how they are given, and its default. With no default it is required,
--- unless it
--- may be given once or not at all.
+-- unless it may be given once or not at all.
 pub record OptionDefinition : Type 0 where
   pub id : Text
   pub value : ValueKind

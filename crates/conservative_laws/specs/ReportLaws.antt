@@ -19,9 +19,8 @@ pub record AreOrdered (r s : Report) : Type 0 where
   -- a larger capacity has no fewer hits
   pub lru_grows : r.policy ≡ Lru → s.policy ≡ Lru → r.capacity ≤ s.capacity → r.hits ≤ s.hits
   pub optimal_grows : r.policy ≡ Clairvoyant → s.policy ≡ Clairvoyant → r.capacity ≤ s.capacity → r.hits ≤ s.hits
-  -- Lru, FIFO and CLOCK have at most (c + 1) / (c + 1 - h) times the misses of any policy of capacity h, where
-  -- their own
-  -- is c
+  -- Lru, FIFO and CLOCK have at most (c + 1) / (c + 1 - h) times the misses of any policy of capacity h, where their
+  -- own is c
   pub competes : IsLruFifoOrClock r.policy → (r.capacity + 1 - s.capacity) * r.misses ≤ (r.capacity + 1) * s.misses
 
 -- the reports of jobs over a trace of so many accesses

@@ -35,10 +35,9 @@ HasNoSteps _ = Unit {0}
 -- The run is one list of steps after the old ones. Of these, those of each worker are, in order, the walks of its
 -- calls, up to the step that it was refused, where it was; and nobody else made any. The cause is that of the refused
 -- worker with the lowest number: a full journal only where it is full, and memory only at a place where it was not.
--- Each
--- reply is the definition's on the steps before it. And once the last steps are undone, the state is the one that the
--- definition gives on the others. The steps that can be redone are those that were undone, and after them the ones that
--- could be before, where no step was made. Where the last k are not all undone, fewer than k are.
+-- Each reply is the definition's on the steps before it. And once the last steps are undone, the state is the one
+-- that the definition gives on the others. The steps that can be redone are those that were undone, and after them
+-- the ones that could be before, where no step was made. Where the last k are not all undone, fewer than k are.
 pub record IsRewound (n k : ℕ) (pieces : List (List Call)) (cause : Option Cause) (undone : Result (Unit {0}) BackFault)
     (old new : ShellSession) : Type 0 where
   pub run : Entries

@@ -4,8 +4,7 @@ use Rattle.step_record.specs.declared.outcome.Outcome.{Outcome}
 use Rattle.step_record.specs.Stats.{is_hit}
 
 -- The numbers are the hits of each `every` outcomes, in order; after the last interval, which may be shorter, no
--- outcome
--- is left.
+-- outcome is left.
 abbrev pub AreHitsByInterval : ℕ → List Outcome → List ℕ → Type 0
 AreHitsByInterval every outcomes [] = outcomes ≡ []
 AreHitsByInterval every outcomes (hits ∷ later) = (outcomes ≢ []) × (hits ≡ count_by is_hit (take every outcomes))

@@ -88,9 +88,8 @@ abbrev pub AnyHitsKeepAll : Type 0
 AnyHitsKeepAll = (d : AnyPolicy) (k : ℕ) (e : AnyPolicy) → any_act d k ≡ Some (Hit, e)
     → any_asks (any_record_of k d) → ⊥
 
--- Undoing an access of a cache of any policy, one that made some accesses before it, takes memory only where an
--- item left
--- in it.
+-- Undoing an access of a cache of any policy, one that made some accesses before it, takes memory only where an item
+-- left in it.
 abbrev pub AnyAsksWhereOneLeft : Type 0
 AnyAsksWhereOneLeft = (j : Job) (trace keys : List ℕ) (d : AnyPolicy) (k : ℕ) (o : Outcome) (e : AnyPolicy)
     → HasAccessed j trace keys d → any_act d k ≡ Some (o, e) → any_asks (any_record_of k d) → is_eviction o ≡ true

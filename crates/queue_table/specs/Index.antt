@@ -17,9 +17,8 @@ bucket bits i = hash i / 2 ^ (64 - bits)
 abbrev pub capacity : ℕ → ℕ
 capacity bits = 2 ^ bits / 2 + 2
 
--- each slot stands in the tree of its item's bucket as often as it is used, and in no other; one that is not used
--- has no
--- branches
+-- each slot stands in the tree of its item's bucket as often as it is used, and in no other; one that is not used has
+-- no branches
 pub record IsMapped (links : List ℕ) (bits : ℕ) (item_of : ℕ → Item) (used : ℕ → ℕ) : Type 0 where
   pub size : length links ≡ 2 ^ bits + 2 * capacity bits
   pub some : (1 ≤ bits) × (bits < 32)

@@ -43,9 +43,8 @@ IsRest n (Some h) es = IsRestOfRound h.worker n h.phase es
 abbrev pub BeginsRest : ℕ → Option Holder → Entries → Type 0
 BeginsRest n o es = IsUnfinished (IsRest n o) es
 
--- The worker stands at the first act of an access, where no one holds the maintenance, or where it is in the phase
--- of the
--- maintenance that it holds.
+-- The worker stands at the first act of an access, where no one holds the maintenance, or where it is in the phase of
+-- the maintenance that it holds.
 abbrev pub IsAtStart : Option Holder → ℕ → WalkPlace → Type 0
 IsAtStart None w p = (k : ℕ) × (p ≡ at.Look k)
 IsAtStart (Some h) w p = (h.worker ≡ w) × (p ≡ phase_place h.phase)

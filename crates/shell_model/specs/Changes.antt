@@ -1,6 +1,5 @@
 -- What a step changes: what the change makes of the state, how it is undone, and where it can be. Some parts of a
--- change
--- are there for undoing alone.
+-- change are there for undoing alone.
 use Rattle.std.specs.Prelude.{◌≡◌, ◌≢◌, ℕ, ◌+◌, ◌-◌, ◌<◌, Bool, true, false, Option, Some, None}
 use Rattle.std.specs.Prelude.{List, [], ◌∷◌, ◌++◌, drop, length, set}
 use Rattle.step_record.specs.declared.item.Item.{Item}

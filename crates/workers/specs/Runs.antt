@@ -11,8 +11,8 @@ use Rattle.workers.specs.declared.run.Cause.{Cause}
 use Rattle.workers.specs.declared.run.Cause.TheVariants.{Memory, JournalFull}
 
 -- Past the old entries, the new session has those that the workers made: those of worker w, in order, are as IsMade
--- says
--- for its calls; and nobody else made any. What was left to redo is left where no step was made, and else nothing is.
+-- says for its calls; and nobody else made any. What was left to redo is left where no step was made, and else
+-- nothing is.
 pub record IsRun {E D : Type 0} (IsMade : ℕ → List Call → Entries → Type 0) (pieces : List (List Call))
     (old new : SessionState E D Step Reply) : Type 0 where
   pub opening : new.opening ≡ old.opening
