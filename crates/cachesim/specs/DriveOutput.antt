@@ -47,7 +47,7 @@ pub record IsJournalOf (Walks : List ℕ → Entries → Type 0) (Room : ℕ →
 abbrev pub IsDriven : Config → ℕ → Format → Option (List ℕ) → Option (List ℕ) → Option (List ℕ) → Type 0
 IsDriven config workers format input before after =
     IsJournalOf (AreWalksOfReads config.stripes workers) (λ n. n ≤ config.journal_limit)
-        config format input before after
+    config format input before after
 
 -- as many steps as the limit of the journal at most, and just as many where a full journal is the cause
 abbrev pub IsRoomFor : Cause → ℕ → ℕ → Type 0

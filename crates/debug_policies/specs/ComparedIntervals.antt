@@ -30,7 +30,7 @@ first_compared every hits (suc n) = first_compared every hits n ++ compared_at e
 unfoldable pub compared_intervals_on : ℕ → Job → Job → List ℕ → List ComparedInterval
 compared_intervals_on every first second trace =
     first_compared every (hits_beside (outcomes_on first trace) (outcomes_on second trace))
-        (div_ceil (length trace) every)
+    (div_ceil (length trace) every)
 
 -- ---- the rows sum up to the one row
 
@@ -41,14 +41,14 @@ sum_over count rows = sum_by (λ row. count row.counts) rows
 abbrev pub ComparedIntervalsAddUp : Type 0
 ComparedIntervalsAddUp = (every : ℕ) (first second : Job) (trace : List ℕ) → 1 ≤ every
     → (sum_over (λ c. c.accesses) (compared_intervals_on every first second trace)
-        ≡ (compared_on first second trace).accesses)
+    ≡ (compared_on first second trace).accesses)
     × (sum_over (λ c. c.both) (compared_intervals_on every first second trace) ≡ (compared_on first second trace).both)
     × (sum_over (λ c. c.first_only) (compared_intervals_on every first second trace)
     ≡ (compared_on first second trace).first_only)
     × (sum_over (λ c. c.second_only) (compared_intervals_on every first second trace)
     ≡ (compared_on first second trace).second_only)
     × (sum_over (λ c. c.neither) (compared_intervals_on every first second trace)
-        ≡ (compared_on first second trace).neither)
+    ≡ (compared_on first second trace).neither)
 
 -- ---- between two counts of all accesses
 
