@@ -83,7 +83,7 @@ impl DemandCache {
         if self.stats.accesses == MAX_STEPS {
             return Err(StepFault::NotNow);
         }
-        let Ok((outcome, _)) = self.queues.access(key) else {
+        let Ok((outcome, _)) = self.queues.access::<Counted>(key) else {
             return Err(StepFault::OutOfMemory);
         };
         self.stats.count(outcome);
@@ -143,7 +143,7 @@ impl Engine for DemandCache {
         if self.stats.accesses == MAX_STEPS {
             return Err(StepFault::NotNow);
         }
-        let Ok((outcome, queues)) = self.queues.access(*step) else {
+        let Ok((outcome, queues)) = self.queues.access::<Recorded>(*step) else {
             return Err(StepFault::OutOfMemory);
         };
         self.stats.count(outcome);
@@ -172,3 +172,9 @@ impl Engine for DemandCache {
 
     ghost paced = { λ d s r e h. still-paced };
 }
+
+// Selects the instance of an access whose undo record is not made.
+struct Counted;
+
+// Selects the instance of an access with its undo record.
+struct Recorded;

@@ -88,8 +88,11 @@ impl DemandQueues {
 
     /// An access to a key, with the record that undoes it. The one error is that an allocation failed, for a key that is
     /// not resident; the queues are then as before.
+    ///
+    /// `C` only selects an instance: one that is called at one place is part of its caller, which makes no record where it
+    /// reads none.
     #[inline(always)]
-    pub fn access(&mut self, key: Key) -> Result<(Outcome, QueuesRecord), AllocError>
+    pub fn access<C>(&mut self, key: Key) -> Result<(Outcome, QueuesRecord), AllocError>
         ensures acts { IfOk result (λ r. (r.0, self.new) ≡ queues_act key self.old) }
         ensures record_is { IfOk result (λ r. r.1 ≡ queues_record_of key self.old) }
         ensures fits { IfOk result (λ r. QueuesFits r.1 self.new) }
