@@ -12,7 +12,7 @@ pub(crate) struct Lengths {
 }
 
 impl Lengths {
-    ghost use Rattle.std.specs.Prelude.{◌≡◌, ◌<◌, ◌≤◌, ◌+◌, ◌-◌, ◌^◌, ℕ, suc, slice_index, slice_set, eqb, cond};
+    ghost use Rattle.std.specs.Prelude.{◌≡◌, ◌<◌, ◌≤◌, ◌+◌, ◌-◌, ◌^◌, ℕ, suc, slice_index, eqb, cond};
     ghost use Rattle.queue_table.specs.Ring.{SECTIONS};
 
     /// How many slots are free.

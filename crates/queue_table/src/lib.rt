@@ -1,12 +1,13 @@
-//! Five queues of distinct items by number, a count beside each, in one ring of slots with a hash index whose buckets are
-//! search trees.
+//! Five queues of distinct items by number, a count beside each, in one ring of slots with a hash index whose buckets
+//! are search trees.
 //!
 //! Layers above see a [`QueueTable`] as a list of entries for each of its queues, oldest first, and the room that is
-//! left. Each call leaves the lists that its contract names; one that takes an item out of its place says where it stood,
-//! by the two items next to it, so that it can go back.
+//! left. Each call leaves the lists that its contract names; one that takes an item out of its place says where it
+//! stood, by the two items next to it, so that it can go back.
 //!
-//! Only `list` walks a queue: the items stand in slots that are linked into one ring, and a hash index whose buckets are
-//! search trees finds the slot of an item, in 129 slots at most whatever the keys. Only `reserve` and `list` allocate.
+//! Only `list` walks a queue: the items stand in slots that are linked into one ring, and a hash index whose buckets
+//! are search trees finds the slot of an item, in 129 slots at most whatever the keys. Only `reserve` and `list`
+//! allocate.
 //!
 //! All slots stand in one ring, linked both ways, so that no move has a case for an end. Slots 0 to 6 hold no item:
 //! slot s stands before section s, and slot s + 1 after it. Section 0 has the free slots, section q + 1 those of queue

@@ -11,10 +11,10 @@
 //!                              /       \        a bit of key and node a level says left or right
 //!                          7:A           11:D
 //! ```
-ghost use Rattle.std.specs.Prelude.{◌≡◌, ◌≢◌, ◌<◌, ◌≤◌, ℕ, suc, Some, IfOk, map, length, slice_index, slice_set};
+ghost use Rattle.std.specs.Prelude.{◌≡◌, ◌≢◌, ◌<◌, ◌≤◌, suc, Some, IfOk, map, length, slice_index, slice_set};
 ghost use Rattle.queue_table.specs.Queues.{QUEUES, place_in};
 ghost use Rattle.queue_table.specs.Ring.{slot_item, count, walk, IsRing, ring_of, moved_before, ring, used};
-ghost use Rattle.queue_table.specs.Ring.{SECTIONS, FIRST, order_of, order_without, sent, lists, item_or, first_of, last_of};
+ghost use Rattle.queue_table.specs.Ring.{FIRST, order_of, order_without, sent, lists, item_or, first_of, last_of};
 ghost use Rattle.queue_table.specs.Ring.{IsPlace, IsQueued, entries, olders, newers, tags, ChangesOnlyLinks};
 
 use crate::records::Place;

@@ -6,7 +6,7 @@ ghost use Rattle.step_record.specs.declared.item.Item.{Item};
 ghost use Rattle.queue_table.specs.Entries.{entry, items_of, oldest_of, newest_of, IsGap};
 ghost use Rattle.queue_table.specs.Queues.{QUEUES, empty_queues, queue_holding, items_below, place_in, IsDistinct};
 ghost use Rattle.queue_table.specs.Queues.{after_push, after_removal, after_send, after_count, after_return};
-ghost use Rattle.queue_table.specs.Ring.{order_of, order_without, first_of, last_of, IsPlace, IsQueued};
+ghost use Rattle.queue_table.specs.Ring.{order_of, order_without, IsPlace, IsQueued};
 ghost use Rattle.queue_table.specs.QueueTable.{queues, spare, entry_at, IsUsed, IsBehind, IsSlotOf};
 
 use crate::growth::grow;

@@ -1,6 +1,6 @@
 //! A hash index whose buckets are search trees: the slots whose items share a bucket stand in one tree, in which each
 //! bit of key and node goes left or right. So no list of keys makes a search long: it passes one slot a bit at most.
-ghost use Rattle.std.specs.Prelude.{◌≡◌, ◌≢◌, ◌<◌, ◌≤◌, ◌+◌, ◌^◌, ℕ, Bool, true, false, IfOk, length, slice_index};
+ghost use Rattle.std.specs.Prelude.{◌≡◌, ◌≢◌, ◌<◌, ◌≤◌, ◌+◌, ◌^◌, ℕ, true, false, IfOk, length, slice_index};
 ghost use Rattle.step_record.specs.declared.item.Item.{Item};
 ghost use Rattle.queue_table.specs.Trees.{Tree, branch, tally, turn, IsSorted, grafted, plucked, lowest, lifted, detached};
 ghost use Rattle.queue_table.specs.Places.{IsWhole, IsBare, IsFree, IsThere, Replaces};
@@ -123,7 +123,7 @@ impl SlotIndex {
         self.graft(below, at, item, 1);
     }
 
-    /// Forgets a slot that it knows; the item is that of the slot.
+    /// Forgets a slot that it knows; the item is that of the slot. Most buckets hold this slot alone.
     #[inline(always)]
     pub fn remove(&mut self, at: u32, item: Item)
         requires { HasSlot at item self.old }
@@ -132,6 +132,10 @@ impl SlotIndex {
         ensures bits { self.new.bits ≡ self.old.bits }
     {
         let bucket = bucket_of(self.bits, item);
+        if self.links[bucket] == at && self.is_bare(at) {
+            self.links[bucket] = 0;
+            return;
+        }
         self.detach(bucket, at, item, 0);
     }
 
