@@ -1,5 +1,5 @@
 //! Five queues by number, with a count beside each key.
-ghost use Rattle.std.specs.Prelude.{◌≡◌, ◌+◌, ◌<◌, ◌≤◌, ◌++◌, ◌∷◌, List, length, ℕ, Ok, Some, None, OnOk, IfOk};
+ghost use Rattle.std.specs.Prelude.{◌≡◌, ◌+◌, ◌<◌, ◌≤◌, ◌++◌, ◌∷◌, List, length, ℕ, Ok, Some, None, OnOk};
 ghost use Rattle.std.specs.Prelude.{IfSome, IfNone, IsTrue, false};
 ghost use Rattle.queue_policies.specs.CountedKeys.{CountedKey, count_of, keys_of};
 ghost use Rattle.counted_queues.specs.Queues.{empty_queues, queue_of, with_queue, holds, counted_key};
@@ -16,8 +16,8 @@ use std::alloc::{AllocError, Global};
 use std::marker::Model;
 use step_record::{Item, Key};
 
-// The least number of keys at which keys are prefetched. Smaller queues stay in the processor's caches, where prefetching
-// costs more than it spares.
+// The least number of keys at which keys are prefetched. Smaller queues stay in the processor's caches, where
+// prefetching costs more than it spares.
 const PREFETCH_FROM: usize = 65_536;
 
 /// A place in a queue.
@@ -94,8 +94,8 @@ impl CountedQueues {
     }
 
     /// Prefetches what a search for each of these keys reads first, where the queues are larger than the processor's
-    /// caches. Unlike the reads of a search, these do not depend on one another, so the processor overlaps them. Changes
-    /// nothing that a caller can see.
+    /// caches. Unlike the reads of a search, these do not depend on one another, so the processor overlaps them.
+    /// Changes nothing that a caller can see.
     #[inline(always)]
     pub fn prefetch(&mut self, keys: &[Key])
         ensures { self.new ≡ self.old }
@@ -266,11 +266,12 @@ impl CountedQueues {
         key_at(place.older)
     }
 
-    /// Moves a key from where it stands to the recent end of a queue, its own or another one, and gives it another count.
-    /// It needs no room.
+    /// Moves a key from where it stands to the recent end of a queue, its own or another one, and gives it another
+    /// count. It needs no room. Nothing happens where the key stands in no queue.
     pub fn send_recent_of(&mut self, key: Key, queue: u8, count: u8)
         requires { queue < 5 }
         ensures queues { IsSent key queue count self.old.queues self.new.queues }
+        ensures absent { IsAbsent key self.old.queues → self.new.queues ≡ self.old.queues }
         ensures spare { self.new.spare ≡ self.old.spare }
     {
         if let Some(found) = self.find(key) {
@@ -278,8 +279,8 @@ impl CountedQueues {
         }
     }
 
-    /// Moves the oldest key of a queue to the recent end of a queue, its own or another one, and gives it another count.
-    /// It needs no room, and no search. Nothing happens where the queue is empty.
+    /// Moves the oldest key of a queue to the recent end of a queue, its own or another one, and gives it another
+    /// count. It needs no room, and no search. Nothing happens where the queue is empty.
     #[inline(always)]
     pub fn pass_oldest(&mut self, from: u8, to: u8, count: u8)
         requires from { from < 5 }

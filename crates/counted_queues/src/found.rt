@@ -2,8 +2,8 @@
 
 use step_record::Key;
 
-/// A key that was found, with its slot, its queue and its count: what a call takes that changes them, so that it need not
-/// search again.
+/// A key that was found, with its slot, its queue and its count: what a call takes that changes them, so that it need
+/// not search again.
 #[derive(Clone, Copy)]
 pub struct FoundKey {
     /// The key.
