@@ -1,5 +1,5 @@
 -- An S3-FIFO cache: its code is its definition.
-use Rattle.std.proofs.Common.{◌≡◌, ℕ, if◌then◌else◌, ◌+◌, ◌-◌, ◌*◌, ◌<◌, ◌≤◌, true, false, eqb, nat_lt, ◌||◌, Bool, Option, Some, None, Result, Ok, Err, IfOk, OnErr, List, [], ◌∷◌, ◌++◌, length, take, drop, ap, subst, sym, ◌∙◌, refl, inl, inr, arith, length-append}
+use Rattle.std.proofs.Common.{◌≡◌, ℕ, if◌then◌else◌, ◌+◌, ◌-◌, ◌*◌, ◌<◌, ◌≤◌, true, false, eqb, nat_lt, ◌||◌, Bool, Option, Some, None, Result, Ok, Err, IfOk, OnErr, List, [], ◌∷◌, ◌++◌, length, take, drop, ap, subst, sym, ◌∙◌, refl, ◌⊎◌, inl, inr, arith, length-append}
 use Rattle.std.proofs.lemmas.Bool.{cases_Bool, eq-eqb, ne_eqb, lt-ltb, le-ltb}
 use Rattle.std.proofs.lemmas.List.{take-append-drop}
 use Rattle.step_record.specs.Keys.{has_key}
@@ -25,11 +25,14 @@ use Rattle.queue_policies.proofs.S3Fifo.{keeps, plan-made, plan-ghost, join-time
 use Rattle.queue_policies.proofs.Residents.{times-none, no-times, brought-few}
 use Rattle.queue_policies.proofs.S3FifoUndoing.{undoes}
 use Rattle.queue_policies.proofs.S3FifoPlan.{room-planned, not-promoted, has-room, one-promoted}
-use Rattle.counted_queues.specs.Queues.{counted_key, oldest_entry}
+use Rattle.counted_queues.specs.Queues.{Slots, counted_key, oldest_entry}
+use Rattle.counted_queues.specs.declared.found.FoundKey.{FoundKey}
 use Rattle.counted_queues.proofs.Once.{has-append}
 use Rattle.ghost_caches.specs.declared.queue_name.QueueName.TheVariants.{Entry, Main, EntryGhost, MainGhost}
 use Rattle.ghost_caches.specs.QueueLists.{QueueLists, keys_in, with_list, lists_after_push, lists_with_ghost_key, lists_without_oldest, lists_with_count}
-use Rattle.ghost_caches.specs.QueueLists.{IsNowhere, IsSomeOf, entries_without}
+use Rattle.ghost_caches.specs.QueueLists.{IsNowhere, IsSomeOf, entries_without, IsHit, IsLookup}
+use Rattle.ghost_caches.specs.declared.lookup.Lookup.{Lookup}
+use Rattle.ghost_caches.specs.declared.lookup.Lookup.TheVariants as lookup
 use Rattle.ghost_caches.specs.S3FifoCache.{s3_fifo_of, IsS3FifoCache, s3_fifo_outcome, all_promoted, IsPromoted, S3FifoAsks, s3_fifo_coming_back}
 use Rattle.ghost_caches.proofs.Cuts.{keys-without}
 use Rattle.ghost_caches.proofs.Behind.{taken-out}
@@ -97,6 +100,20 @@ main-there k s h g = has-append k s.entry s.main ∙ rw (h, g) refl
 
 pub main-count : (k : ℕ) (s : QueueLists) → has_key k (keys_in Entry s) ≡ false → count_of k s.main ≡ count_of k (s.entry ++ s.main)
 main-count k s h = sym (count-append k s.entry s.main ∙ rw h refl)
+
+-- the key was found in one of the two queues
+pub resident : (r : Lookup) (f : FoundKey) (k : ℕ) (s : QueueLists) (slots : Slots) → IsLookup r k s slots
+    → (r ≡ lookup.Entry f) ⊎ (r ≡ lookup.Main f)
+    → (f.key ≡ k) × (has_key k (s3_fifo_residents (s3_fifo_of s)) ≡ true) × (f.count ≡ count_of k (s.entry ++ s.main))
+resident r f k s slots seen e =
+    elim e [
+      | inl e ↦
+          let h : IsHit f k Entry Main s slots = subst (λ r. IsLookup r k s slots) e seen in
+          (h.key, small-there k s h.there, h.count ∙ small-count k s h.there)
+      | inr e ↦
+          let h : IsHit f k Main Entry s slots = subst (λ r. IsLookup r k s slots) e seen in
+          (h.key, main-there k s h.only h.there, h.count ∙ main-count k s h.only)
+    ]
 
 pub not-resident : (k : ℕ) (s : QueueLists) → has_key k (keys_in Entry s) ≡ false → has_key k (keys_in Main s) ≡ false
     → has_key k (s3_fifo_residents (s3_fifo_of s)) ≡ false

@@ -1,11 +1,14 @@
 -- The queues of a cache that remembers keys which left, by name, oldest first.
 use Rattle.std.specs.Prelude.{◌≡◌, ℕ, Bool, true, false, eqb, nat_lt, length, if◌then◌else◌, Option, Some, None, List}
-use Rattle.std.specs.Prelude.{[], ◌∷◌, ◌++◌}
+use Rattle.std.specs.Prelude.{[], ◌∷◌, ◌++◌, ◌&&◌}
 use Rattle.step_record.specs.Keys.{has_key}
-use Rattle.queue_policies.specs.CountedKeys.{CountedKey, keys_of, with_count}
+use Rattle.queue_policies.specs.CountedKeys.{CountedKey, keys_of, count_of, with_count}
 use Rattle.queue_policies.specs.Queues.{without_oldest, without_newest}
 use Rattle.counted_queues.specs.Queues.{Slots, queue_of, counted_key}
+use Rattle.counted_queues.specs.Table.{IsFound}
 use Rattle.counted_queues.specs.declared.found.FoundKey.{FoundKey}
+use Rattle.ghost_caches.specs.declared.lookup.Lookup.{Lookup}
+use Rattle.ghost_caches.specs.declared.lookup.Lookup.TheVariants as lookup
 use Rattle.ghost_caches.specs.declared.queue_name.QueueName.{QueueName}
 use Rattle.ghost_caches.specs.declared.queue_name.QueueName.TheVariants.{Entry, Main, EntryGhost, MainGhost}
 
@@ -128,3 +131,25 @@ lists_of s = record { entry = queue_of 0 s; main = queue_of 1 s; entry_ghost = q
 abbrev pub is_found_in : QueueName → Option (QueueName × FoundKey) → Bool
 is_found_in q None = false
 is_found_in q (Some found) = eqb (number_of q) (number_of found.0)
+
+-- k stands in a queue of residents, and not in the other one
+pub record IsHit (f : FoundKey) (k : ℕ) (q other : QueueName) (s : QueueLists) (slots : Slots) : Type 0 where
+  pub key : f.key ≡ k
+  pub there : has_key k (keys_in q s) ≡ true
+  pub only : has_key k (keys_in other s) ≡ false
+  pub count : f.count ≡ count_of k (list_of q s)
+  pub found : IsFound f slots
+
+-- k stands in neither; which ghost remembers it, of which one does at most
+pub record IsMiss (in_entry_ghost in_main_ghost : Bool) (k : ℕ) (s : QueueLists) : Type 0 where
+  pub entry : has_key k (keys_in Entry s) ≡ false
+  pub main : has_key k (keys_in Main s) ≡ false
+  pub entry_ghost : has_key k (keys_in EntryGhost s) ≡ in_entry_ghost
+  pub main_ghost : has_key k (keys_in MainGhost s) ≡ in_main_ghost
+  pub one : (in_entry_ghost && in_main_ghost) ≡ false
+
+-- what a search for k finds
+abbrev pub IsLookup : Lookup → ℕ → QueueLists → Slots → Type 0
+IsLookup (lookup.Entry f) k s slots = IsHit f k Entry Main s slots
+IsLookup (lookup.Main f) k s slots = IsHit f k Main Entry s slots
+IsLookup (lookup.Missed e m) k s slots = IsMiss e m k s

@@ -1,23 +1,23 @@
 //! A cache by the ARC policy.
-ghost use Rattle.std.specs.Prelude.{◌≡◌, ℕ, ◌+◌, ◌*◌, ◌/◌, ◌≤◌, max, nat_lt, ◌||◌, ◌&&◌, ◌==◌, true, false};
+ghost use Rattle.std.specs.Prelude.{◌≡◌, ℕ, ◌*◌, ◌/◌, ◌≤◌, ◌&&◌, true, false};
 ghost use Rattle.std.specs.Prelude.{Ok, Some, None, OnOk, OnErr, IfOk, IfErr};
 ghost use Rattle.step_record.specs.Keys.{has_key};
 ghost use Rattle.step_record.specs.declared.limits.TheConstants.{MAX_CAPACITY};
 ghost use Rattle.ghost_policies.specs.declared.arc.ArcRecord.TheVariants.{Missed};
 ghost use Rattle.ghost_policies.specs.Arc.{empty_arc, arc_residents, arc_act, arc_record_of, arc_undone};
-ghost use Rattle.ghost_policies.specs.Arc.{arc_target, arc_replace, plan_of_full_l1, plan_of_open_l1};
-ghost use Rattle.ghost_policies.specs.Arc.{forgotten_of_b1, forgotten_of_b2, leaver_dropped};
-ghost use Rattle.ghost_policies.specs.Arc.{plan_of_new_key, arc_total, arc_outcome, place_in, arc_after_recall};
+ghost use Rattle.ghost_policies.specs.Arc.{arc_outcome, place_in, arc_after_recall};
 ghost use Rattle.ghost_policies.specs.Arc.{arc_after_forgetting, arc_after_eviction, arc_after_join};
 ghost use Rattle.ghost_policies.specs.Arc.{arc_before_eviction, arc_before_forgetting};
 ghost use Rattle.ghost_caches.specs.declared.queue_name.QueueName.TheVariants.{Entry, Main, EntryGhost, MainGhost};
-ghost use Rattle.ghost_caches.specs.QueueLists.{keys_in, IsNowhere, IsSomeOf};
+ghost use Rattle.ghost_caches.specs.QueueLists.{QueueLists, keys_in, IsNowhere, IsSomeOf};
 ghost use Rattle.ghost_caches.specs.ArcCache.{arc_of, IsArcCache, ArcFits, ArcAsks, arc_missed, arc_miss_at};
-ghost use Rattle.ghost_caches.specs.ArcCache.{IsRecalled, HasGhost, AllFit, arc_plan_by, LeavesFirst, dropped_key};
+ghost use Rattle.ghost_caches.specs.ArcCache.{IsRecalled, LeavesFirst, dropped_key};
 ghost use Rattle.ghost_caches.specs.ArcCache.{forgotten_by, arc_coming_back, ArcMissFits, ArcLeftLast};
 ghost use Rattle.ghost_caches.specs.ArcCache.{HasGhostPlace, lists_with_place};
 
+use crate::arc_plan::{plan_of, target_of};
 use crate::ghost_queues::GhostQueues;
+use crate::lookup::Lookup;
 use crate::queue_name::QueueName;
 use ghost_policies::{ArcForgets, ArcGhost, ArcLeaver, ArcMiss, ArcPlan, ArcRecord};
 use queue_policies::GhostPlace;
@@ -69,8 +69,11 @@ impl ArcCache {
 
     /// An access to a key, with the record that undoes it. The one error is that an allocation failed; the cache is
     /// then as before.
+    ///
+    /// `C` only selects an instance: calls with different `C` are compiled apart, so that one which is called at one
+    /// place is part of its caller.
     #[inline(always)]
-    pub fn access(&mut self, key: Key) -> Result<(Outcome, ArcRecord), AllocError>
+    pub fn access<C>(&mut self, key: Key) -> Result<(Outcome, ArcRecord), AllocError>
         ensures acts { IfOk result (λ r. (r.0, self.new.state) ≡ arc_act self.old.capacity key self.old.state) }
         ensures record_is { IfOk result (λ r. r.1 ≡ arc_record_of self.old.capacity key self.old.state) }
         ensures capacity { self.new.capacity ≡ self.old.capacity }
@@ -80,7 +83,7 @@ impl ArcCache {
         ensures memory { OnErr result (has_key key (arc_residents self.old.state) ≡ false) }
         ensures err { OnErr result (self.new ≡ self.old) }
     {
-        step(&mut self.queues, self.capacity, &mut self.p, key)
+        step::<C>(&mut self.queues, self.capacity, &mut self.p, key)
     }
 
     /// Undoes the last access, by its record. An error, that an allocation failed, gives the record back and leaves the
@@ -111,7 +114,7 @@ impl ArcCache {
 
 // An access to a key.
 #[inline(always)]
-fn step(
+fn step<C>(
     queues: &mut GhostQueues,
     capacity: u32,
     p: &mut u32,
@@ -126,23 +129,42 @@ fn step(
     ensures same_p { OnErr result (p.new ≡ p.old) }
 {
     match queues.find(key) {
-        Some((QueueName::Entry, found)) => {
+        Lookup::Entry(found) => {
             let older = queues.renew(found, QueueName::Entry, QueueName::Main);
             Ok((Outcome::Hit, ArcRecord::FromT1(key, older)))
         }
-        Some((QueueName::Main, found)) => {
+        Lookup::Main(found) => {
             let older = queues.renew(found, QueueName::Main, QueueName::Main);
             Ok((Outcome::Hit, ArcRecord::FromT2(key, older)))
         }
-        Some((QueueName::EntryGhost, _)) => missed(queues, capacity, p, key, ArcGhost::InB1),
-        Some((QueueName::MainGhost, _)) => missed(queues, capacity, p, key, ArcGhost::InB2),
-        None => missed(queues, capacity, p, key, ArcGhost::NoGhost),
+        Lookup::Missed {
+            in_entry_ghost,
+            in_main_ghost,
+        } => {
+            let recalls = ghost_of(in_entry_ghost, in_main_ghost);
+            missed::<C>(queues, capacity, p, key, recalls)
+        }
+    }
+}
+
+// The ghost that remembers a key.
+fn ghost_of(in_b1: bool, in_b2: bool) -> ArcGhost
+    requires { (in_b1 && in_b2) ≡ false }
+    ensures { (k : ℕ) (s : QueueLists) → has_key k (keys_in EntryGhost s) ≡ in_b1
+        → has_key k (keys_in MainGhost s) ≡ in_b2 → IsRecalled result k s }
+{
+    if in_b1 {
+        ArcGhost::InB1
+    } else if in_b2 {
+        ArcGhost::InB2
+    } else {
+        ArcGhost::NoGhost
     }
 }
 
 // An access to a key that is not resident, which a ghost may remember. Room is made before anything moves.
 #[inline(always)]
-fn missed(
+fn missed<C>(
     queues: &mut GhostQueues,
     capacity: u32,
     p: &mut u32,
@@ -161,13 +183,13 @@ fn missed(
     ensures same_p { OnErr result (p.new ≡ p.old) }
 {
     queues.reserve()?;
-    let done = miss(queues, capacity, p, key, recalls);
+    let done = miss::<C>(queues, capacity, p, key, recalls);
     Ok((outcome_of(done.plan.leaver), ArcRecord::Missed(done)))
 }
 
 // A miss of a key, which a ghost may remember.
 #[inline(always)]
-fn miss(
+fn miss<C>(
     queues: &mut GhostQueues,
     capacity: u32,
     p: &mut u32,
@@ -184,10 +206,10 @@ fn miss(
 {
     let old = *p;
     let target = target_of(queues, capacity, old, recalls);
-    let plan = plan_of(queues, capacity, target, recalls);
-    let place = recall(queues, key, recalls);
-    forget(queues, plan.forgets);
-    evict(queues, plan.leaver);
+    let plan = plan_of::<C>(queues, capacity, target, recalls);
+    let place = recall::<C>(queues, key, recalls);
+    forget::<C>(queues, plan.forgets);
+    evict::<C>(queues, plan.leaver);
     join(queues, recalls, key);
     *p = target;
     ArcMiss {
@@ -197,174 +219,8 @@ fn miss(
     }
 }
 
-// The size that `t1` is to have after a miss.
-fn target_of(queues: &GhostQueues, capacity: u32, p: u32, recalls: ArcGhost) -> u32
-    requires few { capacity ≤ MAX_CAPACITY }
-    requires p_fits { p ≤ capacity }
-    requires all_fit { AllFit (2 * capacity) queues.now.lists }
-    requires recalled { HasGhost recalls queues.now.lists }
-    ensures { result ≡ arc_target capacity recalls (arc_of p queues.now.lists) }
-{
-    let b1 = queues.len(QueueName::EntryGhost);
-    let b2 = queues.len(QueueName::MainGhost);
-    match recalls {
-        ArcGhost::NoGhost => p,
-        ArcGhost::InB1 => capacity.min(p + step_size(b2, b1, capacity)),
-        ArcGhost::InB2 => p.saturating_sub(step_size(b1, b2, capacity)),
-    }
-}
-
-// By how much that size moves: how often the keys of the key's own ghost go into those of the other, and 1 at least.
-fn step_size(other: usize, own: usize, capacity: u32) -> u32
-    requires some { 1 ≤ own }
-    requires few { capacity ≤ MAX_CAPACITY }
-    requires fits { other ≤ 2 * capacity }
-    ensures result { result ≡ max 1 (other / own) }
-    ensures few { result ≤ 2 * MAX_CAPACITY + 1 }
-{
-    (other / own).max(1) as u32
-}
-
-// What a miss moves, where `t1` is to have `target` keys after it.
-fn plan_of(queues: &GhostQueues, capacity: u32, target: u32, recalls: ArcGhost) -> ArcPlan
-    requires few { capacity ≤ MAX_CAPACITY }
-    requires all_fit { AllFit (2 * capacity) queues.now.lists }
-    ensures { (p : ℕ) → target ≡ arc_target capacity recalls (arc_of p queues.now.lists)
-        → result ≡ arc_plan_by capacity recalls (arc_of p queues.now.lists) }
-{
-    match recalls {
-        ArcGhost::NoGhost => new_key_plan(queues, capacity, target),
-        ArcGhost::InB1 => ArcPlan {
-            recalls,
-            forgets: ArcForgets::NoneForgotten,
-            leaver: replaced(queues, target, false),
-        },
-        ArcGhost::InB2 => ArcPlan {
-            recalls,
-            forgets: ArcForgets::NoneForgotten,
-            leaver: replaced(queues, target, true),
-        },
-    }
-}
-
-// What moves where no ghost remembers the missed key.
-fn new_key_plan(queues: &GhostQueues, capacity: u32, p: u32) -> ArcPlan
-    requires few { capacity ≤ MAX_CAPACITY }
-    requires all_fit { AllFit (2 * capacity) queues.now.lists }
-    ensures { result ≡ plan_of_new_key capacity (arc_of p queues.now.lists) }
-{
-    let t1 = queues.len(QueueName::Entry);
-    let b1 = queues.len(QueueName::EntryGhost);
-    if t1 + b1 == capacity as usize {
-        return full_l1_plan(queues, capacity, p);
-    }
-    let total = t1 + b1 + queues.len(QueueName::Main) + queues.len(QueueName::MainGhost);
-    open_l1_plan(queues, capacity, p, total)
-}
-
-// The same, where `t1` and `b1` have as many keys as the cache has room for.
-fn full_l1_plan(queues: &GhostQueues, capacity: u32, p: u32) -> ArcPlan
-    ensures { result ≡ plan_of_full_l1 capacity (arc_of p queues.now.lists) }
-{
-    if queues.len(QueueName::Entry) < capacity as usize {
-        ArcPlan {
-            recalls: ArcGhost::NoGhost,
-            forgets: forgotten_in_b1(queues),
-            leaver: replaced(queues, p, false),
-        }
-    } else {
-        ArcPlan {
-            recalls: ArcGhost::NoGhost,
-            forgets: ArcForgets::NoneForgotten,
-            leaver: dropped(queues),
-        }
-    }
-}
-
-// The same, where they have fewer; all four queues have `total` keys.
-fn open_l1_plan(queues: &GhostQueues, capacity: u32, p: u32, total: usize) -> ArcPlan
-    requires few { capacity ≤ MAX_CAPACITY }
-    requires total { total ≡ arc_total (arc_of p queues.now.lists) }
-    ensures { result ≡ plan_of_open_l1 capacity (arc_of p queues.now.lists) }
-{
-    let room = capacity as usize;
-    if total < room {
-        ArcPlan {
-            recalls: ArcGhost::NoGhost,
-            forgets: ArcForgets::NoneForgotten,
-            leaver: ArcLeaver::NoLeaver,
-        }
-    } else if total == 2 * room {
-        ArcPlan {
-            recalls: ArcGhost::NoGhost,
-            forgets: forgotten_in_b2(queues),
-            leaver: replaced(queues, p, false),
-        }
-    } else {
-        ArcPlan {
-            recalls: ArcGhost::NoGhost,
-            forgets: ArcForgets::NoneForgotten,
-            leaver: replaced(queues, p, false),
-        }
-    }
-}
-
-// The oldest key of `b1`, as the one that is forgotten.
-fn forgotten_in_b1(queues: &GhostQueues) -> ArcForgets
-    ensures { result ≡ forgotten_of_b1 (keys_in EntryGhost queues.now.lists) }
-{
-    match queues.oldest(QueueName::EntryGhost) {
-        None => ArcForgets::NoneForgotten,
-        Some(key) => ArcForgets::OfB1(key),
-    }
-}
-
-// The oldest key of `b2`, as the one that is forgotten.
-fn forgotten_in_b2(queues: &GhostQueues) -> ArcForgets
-    ensures { result ≡ forgotten_of_b2 (keys_in MainGhost queues.now.lists) }
-{
-    match queues.oldest(QueueName::MainGhost) {
-        None => ArcForgets::NoneForgotten,
-        Some(key) => ArcForgets::OfB2(key),
-    }
-}
-
-// The oldest key of `t1`, as the one that leaves and is not remembered.
-fn dropped(queues: &GhostQueues) -> ArcLeaver
-    ensures { result ≡ leaver_dropped (keys_in Entry queues.now.lists) }
-{
-    match queues.oldest(QueueName::Entry) {
-        None => ArcLeaver::NoLeaver,
-        Some(key) => ArcLeaver::Dropped(key),
-    }
-}
-
-// The key that leaves for a ghost: the oldest of `t1` where that has more keys than it is to have, and else of `t2`.
-fn replaced(queues: &GhostQueues, target: u32, in_b2: bool) -> ArcLeaver
-    ensures { (p : ℕ) → result ≡ arc_replace in_b2 target (arc_of p queues.now.lists) }
-{
-    if t1_gives(queues.len(QueueName::Entry), target as usize, in_b2) {
-        match queues.oldest(QueueName::Entry) {
-            None => ArcLeaver::NoLeaver,
-            Some(key) => ArcLeaver::ToB1(key),
-        }
-    } else {
-        match queues.oldest(QueueName::Main) {
-            None => ArcLeaver::NoLeaver,
-            Some(key) => ArcLeaver::ToB2(key),
-        }
-    }
-}
-
-// Whether `t1` gives up a key: it has more than it is to have, or just as many where the key comes back from `b2`.
-fn t1_gives(t1: usize, target: usize, in_b2: bool) -> bool
-    ensures { result ≡ (nat_lt 0 t1 && (nat_lt target t1 || (in_b2 && t1 == target))) }
-{
-    0 < t1 && (target < t1 || (in_b2 && t1 == target))
-}
-
 // A key that was missed is remembered no more. Returns where a ghost remembered it.
-fn recall(queues: &mut GhostQueues, key: Key, recalls: ArcGhost) -> GhostPlace
+fn recall<C>(queues: &mut GhostQueues, key: Key, recalls: ArcGhost) -> GhostPlace
     requires { IsRecalled recalls key queues.old.lists }
     ensures place { (p : ℕ) → result ≡ place_in recalls key (arc_of p queues.old.lists) }
     ensures state { (p q : ℕ) → arc_of q queues.new.lists ≡ arc_after_recall q key (arc_of p queues.old.lists) }
@@ -378,7 +234,7 @@ fn recall(queues: &mut GhostQueues, key: Key, recalls: ArcGhost) -> GhostPlace
 }
 
 // The oldest key of a ghost is forgotten, where one is to be.
-fn forget(queues: &mut GhostQueues, forgets: ArcForgets)
+fn forget<C>(queues: &mut GhostQueues, forgets: ArcForgets)
     ensures state { (p : ℕ) → arc_of p queues.new.lists ≡ arc_after_forgetting forgets (arc_of p queues.old.lists) }
     ensures spare { queues.old.spare ≤ queues.new.spare }
 {
@@ -394,7 +250,7 @@ fn forget(queues: &mut GhostQueues, forgets: ArcForgets)
 }
 
 // The leaver leaves, where there is one.
-fn evict(queues: &mut GhostQueues, leaver: ArcLeaver)
+fn evict<C>(queues: &mut GhostQueues, leaver: ArcLeaver)
     requires { LeavesFirst leaver queues.old.lists }
     ensures state { (p : ℕ) → arc_of p queues.new.lists ≡ arc_after_eviction leaver (arc_of p queues.old.lists) }
     ensures spare { queues.old.spare ≤ queues.new.spare }
@@ -410,16 +266,18 @@ fn evict(queues: &mut GhostQueues, leaver: ArcLeaver)
 }
 
 // A key joins `t1` where no ghost remembered it, and else `t2`.
+#[inline(always)]
 fn join(queues: &mut GhostQueues, recalls: ArcGhost, key: Key)
     requires room { 1 ≤ queues.old.spare }
     requires nowhere { IsNowhere key queues.old.lists }
     ensures { (p : ℕ) → arc_of p queues.new.lists ≡ arc_after_join recalls key (arc_of p queues.old.lists) }
 {
-    match recalls {
-        ArcGhost::NoGhost => queues.push_recent(QueueName::Entry, key, 0),
-        ArcGhost::InB1 => queues.push_recent(QueueName::Main, key, 0),
-        ArcGhost::InB2 => queues.push_recent(QueueName::Main, key, 0),
-    }
+    let queue = match recalls {
+        ArcGhost::NoGhost => QueueName::Entry,
+        ArcGhost::InB1 => QueueName::Main,
+        ArcGhost::InB2 => QueueName::Main,
+    };
+    queues.push_recent(queue, key, 0);
 }
 
 fn outcome_of(leaver: ArcLeaver) -> Outcome

@@ -2,19 +2,20 @@
 ghost use Rattle.std.specs.Prelude.{◌≡◌, ◌+◌, ◌<◌, ◌≤◌, ◌^◌, ◌++◌, ℕ, length, true, false, Ok, Some, None, OnOk, OnErr};
 ghost use Rattle.std.specs.Prelude.{IfOk, IfSome};
 ghost use Rattle.step_record.specs.Keys.{has_key};
-ghost use Rattle.queue_policies.specs.CountedKeys.{count_of, keys_of, AreCounted, total_count};
+ghost use Rattle.queue_policies.specs.CountedKeys.{count_of, AreCounted, total_count};
 ghost use Rattle.queue_policies.specs.Turns.{turn_count, after_turns, before_turns};
 ghost use Rattle.queue_policies.specs.Ghost.{older_from, forgotten_key, ghost_place_of};
 ghost use Rattle.counted_queues.specs.Table.{IsFound};
-ghost use Rattle.counted_queues.specs.Queues.{first_or, newest_or, oldest_entry, newest_entry, counted_key};
+ghost use Rattle.counted_queues.specs.Queues.{first_or, newest_or, oldest_entry, newest_entry};
 ghost use Rattle.ghost_caches.specs.declared.queue_name.QueueName.TheVariants.{Entry, Main};
 ghost use Rattle.ghost_caches.specs.QueueLists.{empty_lists, list_of, keys_in, with_list, lists_after_push};
 ghost use Rattle.ghost_caches.specs.QueueLists.{lists_after_return};
 ghost use Rattle.ghost_caches.specs.QueueLists.{IsNowhere, lists_without_key, HasPlace, is_found_in, IsSomeOf};
-ghost use Rattle.ghost_caches.specs.QueueLists.{lists_without_oldest};
+ghost use Rattle.ghost_caches.specs.QueueLists.{lists_without_oldest, IsLookup};
 ghost use Rattle.ghost_caches.specs.QueueLists.{lists_without_newest, lists_with_behind, lists_with_count};
 ghost use Rattle.ghost_caches.specs.QueueLists.{lists_with_ghost_key, lists_with_forgotten};
 
+use crate::lookup::Lookup;
 use crate::queue_name::QueueName;
 use counted_queues::{CountedQueues, FoundKey, Place};
 use queue_policies::GhostPlace;
@@ -44,8 +45,8 @@ impl Model for GhostQueues {
 }
 
 impl GhostQueues {
-    /// Empty queues, with no room yet. Allocates nothing. The first `reserve` makes a hash index that is large enough for
-    /// so many keys.
+    /// Empty queues, with no room yet. Allocates nothing. The first `reserve` makes a hash index that is large enough
+    /// for so many keys.
     pub(crate) fn for_items(alloc: Global, items: u32) -> GhostQueues
         ensures { result.lists ≡ empty_lists }
     {
@@ -69,9 +70,32 @@ impl GhostQueues {
         self.queues.len(queue.number())
     }
 
-    /// The queue that has the key, and where it stands.
+    /// Where the key stands.
     #[inline(always)]
-    pub(crate) fn find(&self, key: Key) -> Option<(QueueName, FoundKey)>
+    pub(crate) fn find(&self, key: Key) -> Lookup
+        ensures { IsLookup result key self.now.lists self.now.slots }
+    {
+        match self.find_by_name(key) {
+            Some((QueueName::Entry, found)) => Lookup::Entry(found),
+            Some((QueueName::Main, found)) => Lookup::Main(found),
+            Some((QueueName::EntryGhost, _)) => Lookup::Missed {
+                in_entry_ghost: true,
+                in_main_ghost: false,
+            },
+            Some((QueueName::MainGhost, _)) => Lookup::Missed {
+                in_entry_ghost: false,
+                in_main_ghost: true,
+            },
+            None => Lookup::Missed {
+                in_entry_ghost: false,
+                in_main_ghost: false,
+            },
+        }
+    }
+
+    // The queue that has the key, and where it stands.
+    #[inline(always)]
+    fn find_by_name(&self, key: Key) -> Option<(QueueName, FoundKey)>
         ensures key { IfSome result (λ r. r.1.key ≡ key) }
         ensures there { (q : QueueName) → has_key key (keys_in q self.now.lists) ≡ is_found_in q result }
         ensures count { IfSome result (λ r. r.1.count ≡ count_of key (list_of r.0 self.now.lists)) }
@@ -180,8 +204,8 @@ impl GhostQueues {
         place.older
     }
 
-    /// A key that was found goes from its queue to the recent end of a queue, without a count. Returns its older neighbour
-    /// before.
+    /// A key that was found goes from its queue to the recent end of a queue, without a count. Returns its older
+    /// neighbour before.
     #[inline(always)]
     pub(crate) fn renew(&mut self, found: FoundKey, from: QueueName, to: QueueName) -> Option<Key>
         requires found { IsFound found self.old.slots }

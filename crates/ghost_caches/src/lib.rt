@@ -3,7 +3,9 @@
 #![tactic(auto)]
 
 mod arc_cache;
+mod arc_plan;
 mod ghost_queues;
+mod lookup;
 mod queue_name;
 mod s3_fifo_cache;
 mod two_q_cache;

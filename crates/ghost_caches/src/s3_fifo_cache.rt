@@ -6,7 +6,7 @@ ghost use Rattle.step_record.specs.declared.limits.TheConstants.{MAX_CAPACITY};
 ghost use Rattle.queue_policies.specs.declared.ghost_place.GhostPlace.{GhostPlace};
 ghost use Rattle.queue_policies.specs.declared.s3_fifo_record.S3FifoRecord.TheVariants.{Miss};
 ghost use Rattle.queue_policies.specs.CountedKeys.{AreCounted, total_count};
-ghost use Rattle.queue_policies.specs.S3Fifo.{empty_s3_fifo, s3_fifo_residents, s3_fifo_small_size, s3_fifo_main_size};
+ghost use Rattle.queue_policies.specs.S3Fifo.{empty_s3_fifo, s3_fifo_residents, s3_fifo_main_size};
 ghost use Rattle.queue_policies.specs.S3Fifo.{hit_count, s3_fifo_act, s3_fifo_with_key};
 ghost use Rattle.queue_policies.specs.S3FifoPlan.{promotion_count, planned_room, planned_eviction};
 ghost use Rattle.queue_policies.specs.S3FifoRecord.{leaver_of, miss_record_of, s3_fifo_record_of, s3_fifo_undone};
@@ -20,6 +20,7 @@ ghost use Rattle.ghost_caches.specs.S3FifoCache.{waiting_without};
 ghost use Rattle.ghost_caches.specs.S3FifoCache.{SmallLeftLast, AreTurnsCounted, WaitsForPlace};
 
 use crate::ghost_queues::GhostQueues;
+use crate::lookup::Lookup;
 use crate::queue_name::QueueName;
 use queue_policies::{GhostPlace, S3FifoLeaver, S3FifoRecord};
 use std::alloc::{AllocError, Global};
@@ -68,8 +69,11 @@ impl S3FifoCache {
 
     /// An access to a key, with the record that undoes it. The one error is that an allocation failed; the cache is
     /// then as before.
+    ///
+    /// `C` only selects an instance: calls with different `C` are compiled apart, so that one which is called at one
+    /// place is part of its caller.
     #[inline(always)]
-    pub fn access(&mut self, key: Key) -> Result<(Outcome, S3FifoRecord), AllocError>
+    pub fn access<C>(&mut self, key: Key) -> Result<(Outcome, S3FifoRecord), AllocError>
         ensures acts { IfOk result (λ r. (r.0, self.new.state) ≡ s3_fifo_act self.old.capacity key self.old.state) }
         ensures record_is { IfOk result (λ r. r.1 ≡ s3_fifo_record_of self.old.capacity key self.old.state) }
         ensures capacity { self.new.capacity ≡ self.old.capacity }
@@ -79,7 +83,7 @@ impl S3FifoCache {
         ensures memory { OnErr result (has_key key (s3_fifo_residents self.old.state) ≡ false) }
         ensures err { OnErr result (self.new ≡ self.old) }
     {
-        step(&mut self.queues, self.capacity, key)
+        step::<C>(&mut self.queues, self.capacity, key)
     }
 
     /// Undoes the last access, by its record. An error, that an allocation failed, gives the record back and leaves the
@@ -110,7 +114,7 @@ impl S3FifoCache {
 
 // An access to a key.
 #[inline(always)]
-fn step(
+fn step<C>(
     queues: &mut GhostQueues,
     capacity: u32,
     key: Key,
@@ -124,17 +128,11 @@ fn step(
     ensures err { OnErr result (queues.new.lists ≡ queues.old.lists) }
 {
     match queues.find(key) {
-        Some((QueueName::Entry, found)) => {
+        Lookup::Entry(found) | Lookup::Main(found) => {
             queues.set_count(found, one_hit_more(found.count));
             Ok((Outcome::Hit, S3FifoRecord::Hit(key, found.count)))
         }
-        Some((QueueName::Main, found)) => {
-            queues.set_count(found, one_hit_more(found.count));
-            Ok((Outcome::Hit, S3FifoRecord::Hit(key, found.count)))
-        }
-        Some((QueueName::EntryGhost, _)) => missed(queues, capacity, key, true),
-        Some((QueueName::MainGhost, _)) => unreachable!(),
-        None => missed(queues, capacity, key, false),
+        Lookup::Missed { in_entry_ghost, .. } => missed::<C>(queues, capacity, key, in_entry_ghost),
     }
 }
 
@@ -147,7 +145,7 @@ fn one_hit_more(count: u8) -> u8
 
 // An access to a key that is not resident, which the ghost may remember. Room is made before anything moves.
 #[inline(always)]
-fn missed(
+fn missed<C>(
     queues: &mut GhostQueues,
     capacity: u32,
     key: Key,
@@ -166,7 +164,7 @@ fn missed(
 {
     queues.reserve()?;
     let place = queues.recall(key, QueueName::EntryGhost, remembered);
-    let (promoted, leaver) = make_way(queues, capacity);
+    let (promoted, leaver) = make_way::<C>(queues, capacity);
     join(queues, place, key);
     Ok((
         outcome_of(leaver),
@@ -176,7 +174,7 @@ fn missed(
 
 // Makes way for a key in a full cache: so many keys are promoted, and one leaves.
 #[inline(always)]
-fn make_way(queues: &mut GhostQueues, capacity: u32) -> (u32, S3FifoLeaver)
+fn make_way<C>(queues: &mut GhostQueues, capacity: u32) -> (u32, S3FifoLeaver)
     requires some { 1 ≤ capacity }
     requires few { capacity ≤ MAX_CAPACITY }
     requires fits { length queues.old.lists.entry + length queues.old.lists.main ≤ capacity }
@@ -191,8 +189,8 @@ fn make_way(queues: &mut GhostQueues, capacity: u32) -> (u32, S3FifoLeaver)
     if queues.len(QueueName::Entry) + queues.len(QueueName::Main) < capacity as usize {
         return (0, S3FifoLeaver::NoOne);
     }
-    let promoted = promote(queues, capacity);
-    (promoted, evict(queues, capacity))
+    let promoted = promote::<C>(queues, capacity);
+    (promoted, evict::<C>(queues, capacity))
 }
 
 // The size that the main queue is to have, and that of the ghost.
@@ -205,7 +203,7 @@ fn main_size(capacity: u32) -> u32
 
 // Keys of the small queue are promoted while the main queue is not over its size and the oldest was hit twice. Returns
 // how many.
-fn promote(queues: &mut GhostQueues, capacity: u32) -> u32
+fn promote<C>(queues: &mut GhostQueues, capacity: u32) -> u32
     requires some { 1 ≤ capacity }
     requires fits { length queues.old.lists.entry ≤ capacity }
     ensures promoted { result ≡ promotion_count capacity (s3_fifo_of queues.old.lists) }
@@ -244,7 +242,7 @@ fn promote_one(queues: &mut GhostQueues, capacity: u32) -> bool
 
 // A key leaves, once all are promoted that are to be.
 #[inline(always)]
-fn evict(queues: &mut GhostQueues, capacity: u32) -> S3FifoLeaver
+fn evict<C>(queues: &mut GhostQueues, capacity: u32) -> S3FifoLeaver
     requires some { 1 ≤ capacity }
     requires few { total_count queues.old.lists.main < 2 ^ 32 }
     ensures leaver { result ≡ leaver_of capacity (s3_fifo_of queues.old.lists) }
@@ -282,16 +280,18 @@ fn main_gives(small: usize, main: usize, size: usize) -> bool
 }
 
 // A key joins the main queue where the ghost remembered it, and else the small queue.
+#[inline(always)]
 fn join(queues: &mut GhostQueues, place: GhostPlace, key: Key)
     requires room { 1 ≤ queues.old.spare }
     requires nowhere { IsNowhere key queues.old.lists }
     ensures state { s3_fifo_of queues.new.lists ≡ s3_fifo_with_key place key (s3_fifo_of queues.old.lists) }
     ensures unused { queues.new.lists.main_ghost ≡ queues.old.lists.main_ghost }
 {
-    match place {
-        GhostPlace::Unknown => queues.push_recent(QueueName::Entry, key, 0),
-        GhostPlace::Known(_, _) => queues.push_recent(QueueName::Main, key, 0),
-    }
+    let queue = match place {
+        GhostPlace::Unknown => QueueName::Entry,
+        GhostPlace::Known(_, _) => QueueName::Main,
+    };
+    queues.push_recent(queue, key, 0);
 }
 
 fn outcome_of(leaver: S3FifoLeaver) -> Outcome

@@ -1,9 +1,8 @@
 //! A cache by the 2Q policy.
-ghost use Rattle.std.specs.Prelude.{◌≡◌, ℕ, [], ◌+◌, ◌++◌, ◌≤◌, length, nat_lt, ◌||◌, ◌==◌, true, false, Ok, Some};
+ghost use Rattle.std.specs.Prelude.{◌≡◌, ℕ, [], ◌+◌, ◌≤◌, length, nat_lt, ◌||◌, ◌==◌, false, Ok, Some};
 ghost use Rattle.std.specs.Prelude.{None, OnOk, OnErr, IfOk, IfErr};
 ghost use Rattle.step_record.specs.Keys.{has_key};
-ghost use Rattle.queue_policies.specs.Ghost.{ghost_place_of};
-ghost use Rattle.ghost_policies.specs.TwoQ.{empty_two_q, two_q_residents, kin, kout, two_q_leaver, two_q_after_recall};
+ghost use Rattle.ghost_policies.specs.TwoQ.{empty_two_q, two_q_residents, kin, kout, two_q_leaver};
 ghost use Rattle.ghost_policies.specs.TwoQ.{two_q_after_eviction};
 ghost use Rattle.ghost_policies.specs.TwoQ.{two_q_after_join, two_q_act, two_q_forgotten, two_q_record_of};
 ghost use Rattle.ghost_policies.specs.TwoQ.{two_q_undone};
@@ -15,6 +14,7 @@ ghost use Rattle.ghost_caches.specs.TwoQCache.{two_q_of, IsTwoQCache, LeavesFirs
 ghost use Rattle.ghost_caches.specs.TwoQCache.{LeftLast, coming_back};
 
 use crate::ghost_queues::GhostQueues;
+use crate::lookup::Lookup;
 use crate::queue_name::QueueName;
 use ghost_policies::{TwoQLeaver, TwoQMiss, TwoQRecord};
 use queue_policies::GhostPlace;
@@ -62,8 +62,11 @@ impl TwoQCache {
 
     /// An access to a key, with the record that undoes it. The one error is that an allocation failed; the cache is
     /// then as before.
+    ///
+    /// `C` only selects an instance: calls with different `C` are compiled apart, so that one which is called at one
+    /// place is part of its caller.
     #[inline(always)]
-    pub fn access(&mut self, key: Key) -> Result<(Outcome, TwoQRecord), AllocError>
+    pub fn access<C>(&mut self, key: Key) -> Result<(Outcome, TwoQRecord), AllocError>
         ensures acts { IfOk result (λ r. (r.0, self.new.state) ≡ two_q_act self.old.capacity key self.old.state) }
         ensures record_is { IfOk result (λ r. r.1 ≡ two_q_record_of self.old.capacity key self.old.state) }
         ensures capacity { self.new.capacity ≡ self.old.capacity }
@@ -73,7 +76,7 @@ impl TwoQCache {
         ensures memory { OnErr result (has_key key (two_q_residents self.old.state) ≡ false) }
         ensures err { OnErr result (self.new ≡ self.old) }
     {
-        step(&mut self.queues, self.capacity, key)
+        step::<C>(&mut self.queues, self.capacity, key)
     }
 
     /// Undoes the last access, by its record. An error, that an allocation failed, gives the record back and leaves the
@@ -104,7 +107,7 @@ impl TwoQCache {
 
 // An access to a key.
 #[inline(always)]
-fn step(
+fn step<C>(
     queues: &mut GhostQueues,
     capacity: u32,
     key: Key,
@@ -118,20 +121,18 @@ fn step(
     ensures err { OnErr result (queues.new.lists ≡ queues.old.lists) }
 {
     match queues.find(key) {
-        Some((QueueName::Main, found)) => {
+        Lookup::Main(found) => {
             let older = queues.renew(found, QueueName::Main, QueueName::Main);
             Ok((Outcome::Hit, TwoQRecord::Renewed(key, older)))
         }
-        Some((QueueName::Entry, _)) => Ok((Outcome::Hit, TwoQRecord::Unmoved)),
-        Some((QueueName::EntryGhost, _)) => missed(queues, capacity, key, true),
-        Some((QueueName::MainGhost, _)) => unreachable!(),
-        None => missed(queues, capacity, key, false),
+        Lookup::Entry(_) => Ok((Outcome::Hit, TwoQRecord::Unmoved)),
+        Lookup::Missed { in_entry_ghost, .. } => missed::<C>(queues, capacity, key, in_entry_ghost),
     }
 }
 
 // An access to a key that is not resident, which the ghost may remember. Room is made before anything moves.
 #[inline(always)]
-fn missed(
+fn missed<C>(
     queues: &mut GhostQueues,
     capacity: u32,
     key: Key,
@@ -149,13 +150,13 @@ fn missed(
     ensures err { OnErr result (queues.new.lists ≡ queues.old.lists) }
 {
     queues.reserve()?;
-    let done = miss(queues, capacity, key, remembered);
+    let done = miss::<C>(queues, capacity, key, remembered);
     Ok((outcome_of(done.leaver), TwoQRecord::Missed(done)))
 }
 
 // A miss of a key, which the ghost may remember.
 #[inline(always)]
-fn miss(queues: &mut GhostQueues, capacity: u32, key: Key, remembered: bool) -> TwoQMiss
+fn miss<C>(queues: &mut GhostQueues, capacity: u32, key: Key, remembered: bool) -> TwoQMiss
     requires room { 1 ≤ queues.old.spare }
     requires entry { has_key key (keys_in Entry queues.old.lists) ≡ false }
     requires main { has_key key (keys_in Main queues.old.lists) ≡ false }
@@ -167,7 +168,7 @@ fn miss(queues: &mut GhostQueues, capacity: u32, key: Key, remembered: bool) -> 
 {
     let place = queues.recall(key, QueueName::EntryGhost, remembered);
     let leaver = leaver(queues, capacity);
-    let forgotten = evict(queues, capacity, leaver);
+    let forgotten = evict::<C>(queues, capacity, leaver);
     join(queues, place, key);
     TwoQMiss {
         place,
@@ -221,7 +222,7 @@ fn ghost_size(capacity: u32) -> u32
 }
 
 // The leaver leaves. Returns the key that was forgotten for it.
-fn evict(queues: &mut GhostQueues, capacity: u32, leaver: TwoQLeaver) -> Option<Key>
+fn evict<C>(queues: &mut GhostQueues, capacity: u32, leaver: TwoQLeaver) -> Option<Key>
     requires { LeavesFirst leaver queues.old.lists }
     ensures state { two_q_of queues.new.lists ≡ two_q_after_eviction capacity leaver (two_q_of queues.old.lists) }
     ensures forgotten { result ≡ two_q_forgotten capacity leaver (two_q_of queues.old.lists) }
@@ -246,16 +247,18 @@ fn evict(queues: &mut GhostQueues, capacity: u32, leaver: TwoQLeaver) -> Option<
 }
 
 // A key joins the main queue where the ghost remembered it, and else the entry queue.
+#[inline(always)]
 fn join(queues: &mut GhostQueues, place: GhostPlace, key: Key)
     requires room { 1 ≤ queues.old.spare }
     requires nowhere { IsNowhere key queues.old.lists }
     ensures state { two_q_of queues.new.lists ≡ two_q_after_join place key (two_q_of queues.old.lists) }
     ensures unused { queues.new.lists.main_ghost ≡ queues.old.lists.main_ghost }
 {
-    match place {
-        GhostPlace::Unknown => queues.push_recent(QueueName::Entry, key, 0),
-        GhostPlace::Known(_, _) => queues.push_recent(QueueName::Main, key, 0),
-    }
+    let queue = match place {
+        GhostPlace::Unknown => QueueName::Entry,
+        GhostPlace::Known(_, _) => QueueName::Main,
+    };
+    queues.push_recent(queue, key, 0);
 }
 
 fn outcome_of(leaver: TwoQLeaver) -> Outcome

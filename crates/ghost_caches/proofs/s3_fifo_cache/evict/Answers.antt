@@ -7,7 +7,7 @@ use Rattle.ghost_caches.proofs.S3Fifo.{gives-is, small-state}
 use Rattle.ghost_caches.proofs.s3_fifo_cache.evict.Goals as goal
 
 pub returns-in-Some-oldest_entry-clause-state : goal.returns-in-Some-oldest_entry-clause-state
-returns-in-Some-oldest_entry-clause-state c =
+returns-in-Some-oldest_entry-clause-state g c =
     let s = c.args.queues.now.lists in
     let gives : main_gives c.args.capacity (s3_fifo_of s) ≡ false =
     gives-is c.args.capacity c.len.result c.len-2.result c.main_size-size.result c.main_gives.result s c.main_gives.ensures c.len.ensures c.len-2.ensures c.main_size-size.ensures

@@ -12,13 +12,13 @@ use Rattle.ghost_caches.proofs.S3Fifo.{not-resident, recalled, nowhere, missed-a
 use Rattle.ghost_caches.proofs.s3_fifo_cache.missed.Goals as goal
 
 pub returns-in_err-reserve-clause-memory : goal.returns-in_err-reserve-clause-memory
-returns-in_err-reserve-clause-memory c = not-resident c.args.key c.args.queues.now.lists c.requires.entry c.requires.main
+returns-in_err-reserve-clause-memory g c = not-resident c.args.key c.args.queues.now.lists c.requires.entry c.requires.main
 
 pub returns-clause-memory : goal.returns-clause-memory
-returns-clause-memory c = not-resident c.args.key c.args.queues.now.lists c.requires.entry c.requires.main
+returns-clause-memory g c = not-resident c.args.key c.args.queues.now.lists c.requires.entry c.requires.main
 
 pub make_way-promoted-requires-clause-fits : goal.make_way-promoted-requires-clause-fits
-make_way-promoted-requires-clause-fits c =
+make_way-promoted-requires-clause-fits g c =
     let s = c.args.queues.now.lists in
     let cut = c.recall-place.ensures.lists ∙ ap (λ (l : QueueLists). with_list EntryGhost (entries_without c.args.key l.entry_ghost) l) c.reserve.ensures.lists in
     let small = ap (λ (x : QueueLists). length x.entry) cut in
@@ -26,7 +26,7 @@ make_way-promoted-requires-clause-fits c =
     omega (arith, small, main, c.requires.state.state.residents.fits, length-keys (s.entry ++ s.main), length-append s.entry s.main)
 
 pub join-requires-clause-nowhere : goal.join-requires-clause-nowhere
-join-requires-clause-nowhere c =
+join-requires-clause-nowhere g c =
     let s = c.args.queues.now.lists in
     let k = c.args.key in
     let cut : c.recall-place.new.self.lists ≡ with_list EntryGhost (entries_without k s.entry_ghost) s =
@@ -41,7 +41,7 @@ join-requires-clause-nowhere c =
     (c.make_way-promoted.ensures.unused ∙ ap (λ (x : QueueLists). x.main_ghost) cut ∙ c.requires.state.unused)
 
 pub returns-clause-acts : goal.returns-clause-acts
-returns-clause-acts c =
+returns-clause-acts g c =
     let s = c.args.queues.now.lists in
     let k = c.args.key in
     let cut : c.recall-place.new.self.lists ≡ with_list EntryGhost (entries_without k s.entry_ghost) s =
@@ -57,7 +57,7 @@ returns-clause-acts c =
     (c.join.ensures.state ∙ ap (λ p. s3_fifo_with_key p k (s3_fifo_of c.make_way-promoted.new.queues.lists)) place)
 
 pub returns-clause-record_is : goal.returns-clause-record_is
-returns-clause-record_is c =
+returns-clause-record_is g c =
     let s = c.args.queues.now.lists in
     let k = c.args.key in
     let cut : c.recall-place.new.self.lists ≡ with_list EntryGhost (entries_without k s.entry_ghost) s =

@@ -7,7 +7,7 @@ use Rattle.ghost_caches.proofs.TwoQ.{entry-evicted}
 use Rattle.ghost_caches.proofs.two_q_cache.evict.Goals as goal
 
 pub returns-in-FromA1in-clause-state : goal.returns-in-FromA1in-clause-state
-returns-in-FromA1in-clause-state c =
+returns-in-FromA1in-clause-state g c =
     let s = c.args.queues.now.lists in
     entry-evicted c.args.capacity c.in-FromA1in.key s c.remember.new.self.lists
     (c.remember.ensures.lists ∙ ap (λ n. lists_with_ghost_key EntryGhost n c.in-FromA1in.key (lists_without_oldest Entry s)) c.ghost_size.ensures)

@@ -9,14 +9,14 @@ use Rattle.ghost_caches.proofs.TwoQ.{recalled, nowhere}
 use Rattle.ghost_caches.proofs.two_q_cache.miss.Goals as goal
 
 pub leaver-leaver-requires : goal.leaver-leaver-requires
-leaver-leaver-requires c =
+leaver-leaver-requires g c =
     let s = c.args.queues.now.lists in
     let entry = ap (λ (x : QueueLists). length x.entry) c.recall-place.ensures.lists in
     let main = ap (λ (x : QueueLists). length x.main) c.recall-place.ensures.lists in
     omega (arith, entry, main, c.requires.state.state.fits, length-keys s.entry, length-keys s.main)
 
 pub join-requires-clause-nowhere : goal.join-requires-clause-nowhere
-join-requires-clause-nowhere c =
+join-requires-clause-nowhere g c =
     let s = c.args.queues.now.lists in
     let k = c.args.key in
     let at : two_q_of c.recall-place.new.self.lists ≡ two_q_after_recall k (two_q_of s) = recalled c.args.capacity k s c.recall-place.new.self.lists c.recall-place.ensures.lists in
@@ -28,7 +28,7 @@ join-requires-clause-nowhere c =
     (c.evict-forgotten.ensures.unused ∙ ap (λ (x : QueueLists). x.main_ghost) c.recall-place.ensures.lists ∙ c.requires.state.unused)
 
 pub returns-clause-state : goal.returns-clause-state
-returns-clause-state c =
+returns-clause-state g c =
     let s = c.args.queues.now.lists in
     let k = c.args.key in
     let at : two_q_of c.recall-place.new.self.lists ≡ two_q_after_recall k (two_q_of s) = recalled c.args.capacity k s c.recall-place.new.self.lists c.recall-place.ensures.lists in
@@ -41,7 +41,7 @@ returns-clause-state c =
     ∙ ap (two_q_after_join (ghost_place_of k (keys_in EntryGhost s)) k) out
 
 pub returns-clause-record_is : goal.returns-clause-record_is
-returns-clause-record_is c =
+returns-clause-record_is g c =
     let s = c.args.queues.now.lists in
     let k = c.args.key in
     let at : two_q_of c.recall-place.new.self.lists ≡ two_q_after_recall k (two_q_of s) = recalled c.args.capacity k s c.recall-place.new.self.lists c.recall-place.ensures.lists in

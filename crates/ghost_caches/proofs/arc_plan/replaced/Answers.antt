@@ -1,5 +1,5 @@
 use Rattle.ghost_caches.proofs.Arc.{t1-leaves, t2-leaves, t2-empty}
-use Rattle.ghost_caches.proofs.arc_cache.replaced.Goals as goal
+use Rattle.ghost_caches.proofs.arc_plan.replaced.Goals as goal
 
 pub returns-in-Some : goal.returns-in-Some
 returns-in-Some c p =

@@ -1,6 +1,6 @@
 use Rattle.std.proofs.Common.{◌∙◌}
 use Rattle.ghost_caches.proofs.Arc.{is-full, is-open, total-is}
-use Rattle.ghost_caches.proofs.arc_cache.new_key_plan.Goals as goal
+use Rattle.ghost_caches.proofs.arc_plan.new_key_plan.Goals as goal
 
 pub returns-then-t1-b1 : goal.returns-then-t1-b1
 returns-then-t1-b1 c =

@@ -2,7 +2,7 @@ use Rattle.std.proofs.Common.{ap, sym, ◌∙◌}
 use Rattle.ghost_policies.specs.Arc.{arc_target}
 use Rattle.ghost_caches.specs.ArcCache.{arc_of}
 use Rattle.ghost_caches.proofs.Arc.{target-b1, target-b2}
-use Rattle.ghost_caches.proofs.arc_cache.target_of.Goals as goal
+use Rattle.ghost_caches.proofs.arc_plan.target_of.Goals as goal
 
 pub returns-in-InB1 : goal.returns-in-InB1
 returns-in-InB1 c =

@@ -1,5 +1,5 @@
 use Rattle.ghost_caches.proofs.Arc.{full-forgets, full-drops}
-use Rattle.ghost_caches.proofs.arc_cache.full_l1_plan.Goals as goal
+use Rattle.ghost_caches.proofs.arc_plan.full_l1_plan.Goals as goal
 
 pub returns-then-len-capacity : goal.returns-then-len-capacity
 returns-then-len-capacity c =

@@ -1,5 +1,5 @@
 use Rattle.ghost_caches.proofs.Arc.{open-forgets, open-replaces}
-use Rattle.ghost_caches.proofs.arc_cache.open_l1_plan.Goals as goal
+use Rattle.ghost_caches.proofs.arc_plan.open_l1_plan.Goals as goal
 
 pub returns-then-total-room-2 : goal.returns-then-total-room-2
 returns-then-total-room-2 c =
