@@ -1,7 +1,6 @@
 //! The engine: a cache whose accesses are counted and can be undone.
-ghost use Rattle.std.specs.Prelude.{◌≡◌, ◌+◌, ◌≤◌, ◌↔◌, [], length, Err, Some, None, IfOk, IfErr, OnOk, OnErr};
+ghost use Rattle.std.specs.Prelude.{◌≡◌, ◌+◌, ◌≤◌, ◌↔◌, [], length, Err, Some, None, IfOk, OnErr};
 ghost use Rattle.step_record.specs.declared.limits.TheConstants.{MAX_CAPACITY};
-ghost use Rattle.step_record.specs.Pace.{words_of_halvings};
 ghost use Rattle.step_record.specs.Stats.{stats_of};
 ghost use Rattle.demand_cache.specs.DemandQueues.{empty_queues, queues_residents};
 
@@ -55,8 +54,8 @@ impl DemandCache {
         }
     }
 
-    /// Reads ahead, for each few keys, what accesses to them read first, from the key at `i` on: to be called before each
-    /// access of a loop over them. It changes nothing.
+    /// Reads ahead, for each few keys, what accesses to them read first, from the key at `i` on: to be called before
+    /// each access of a loop over them. It changes nothing.
     #[inline(always)]
     pub fn prefetch_at(&mut self, keys: &[Key], i: usize)
         requires { i ≤ length keys.now }

@@ -86,11 +86,11 @@ impl DemandQueues {
         }
     }
 
-    /// An access to a key, with the record that undoes it. The one error is that an allocation failed, for a key that is
-    /// not resident; the queues are then as before.
+    /// An access to a key, with the record that undoes it. The one error is that an allocation failed, for a key that
+    /// is not resident; the queues are then as before.
     ///
-    /// `C` only selects an instance: one that is called at one place is part of its caller, which makes no record where it
-    /// reads none.
+    /// `C` only selects an instance: one that is called at one place is part of its caller, which makes no record
+    /// where it reads none.
     #[inline(always)]
     pub fn access<C>(&mut self, key: Key) -> Result<(Outcome, QueuesRecord), AllocError>
         ensures acts { IfOk result (λ r. (r.0, self.new) ≡ queues_act key self.old) }
@@ -111,15 +111,15 @@ impl DemandQueues {
                 Ok((outcome, QueuesRecord::Sieve(done)))
             }
             DemandQueues::S3Fifo(cache) => {
-                let (outcome, done) = cache.access(key)?;
+                let (outcome, done) = cache.access::<C>(key)?;
                 Ok((outcome, QueuesRecord::S3Fifo(done)))
             }
             DemandQueues::TwoQ(cache) => {
-                let (outcome, done) = cache.access(key)?;
+                let (outcome, done) = cache.access::<C>(key)?;
                 Ok((outcome, QueuesRecord::TwoQ(done)))
             }
             DemandQueues::Arc(cache) => {
-                let (outcome, done) = cache.access(key)?;
+                let (outcome, done) = cache.access::<C>(key)?;
                 Ok((outcome, QueuesRecord::Arc(done)))
             }
         }

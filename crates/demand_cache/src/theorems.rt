@@ -1,5 +1,5 @@
-//! Theorems on these policies, for callers that see a cache by its steps alone. Each of these functions does nothing: its
-//! contract is the theorem.
+//! Theorems on these policies, for callers that see a cache by its steps alone. Each of these functions does nothing:
+//! its contract is the theorem.
 ghost use Rattle.demand_cache.specs.Theorems.{DemandKeeps, HitsAskNothing, AsksWhereOneLeft};
 
 /// Each policy keeps every missed key, and its residents fit, each once.

@@ -1,5 +1,5 @@
 //! The acts of a round of maintenance: it drains the reads and the writes, evicts, and ends.
-ghost use Rattle.std.specs.Prelude.{◌≡◌, ◌<◌, ◌≤◌, cond, true, false, length, Some, None};
+ghost use Rattle.std.specs.Prelude.{◌≡◌, ◌<◌, ◌≤◌, true, false, length, Some, None};
 ghost use Rattle.std.specs.Prelude.{IfOk, IsSome, OnOk, OnErr};
 ghost use Rattle.step_record.specs.declared.item.Item.{Item as ItemValue};
 ghost use Rattle.step_record.specs.declared.limits.TheConstants.{MAX_STEPS};

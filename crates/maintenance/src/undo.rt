@@ -1,6 +1,5 @@
 //! Undoing one step.
 ghost use Rattle.std.specs.Prelude.{◌≡◌, ◌≢◌, ◌<◌, Some, None, IfErr, OnOk, OnErr};
-ghost use Rattle.shell_model.specs.ShellState.{in_phase};
 ghost use Rattle.shell_model.specs.Changes.{before_change, before_use, change_asks, FitsChange, FitsTouched, HasLeft};
 ghost use Rattle.shell_model.specs.Changes.{holder_with_task, written_task as task_of};
 ghost use Rattle.shell_model.specs.Records.{FitsStep, step_asks, undone_step};

@@ -1,12 +1,12 @@
 //! A cache by CLOCK.
-ghost use Rattle.std.specs.Prelude.{◌≡◌, ◌≤◌, ◌<◌, ◌^◌, false, [], ◌++◌, IfOk, IfErr, OnOk, OnErr, ℕ};
+ghost use Rattle.std.specs.Prelude.{◌≡◌, ◌≤◌, ◌<◌, ◌^◌, false, [], IfOk, IfErr, OnOk, OnErr, ℕ};
 ghost use Rattle.step_record.specs.Keys.{has_key};
 ghost use Rattle.step_record.specs.declared.limits.TheConstants.{MAX_CAPACITY};
 ghost use Rattle.queue_policies.specs.CountedKeys.{keys_of, total_count};
 ghost use Rattle.queue_policies.specs.Turns.{turn_count, after_turns};
 ghost use Rattle.queue_policies.specs.Clock.{clock_act, clock_eviction, clock_eviction_record, clock_record_of};
 ghost use Rattle.queue_policies.specs.Clock.{clock_undone, IsClock};
-ghost use Rattle.counted_queues.specs.Queues.{queue_of, IsAbsent};
+ghost use Rattle.counted_queues.specs.Queues.{queue_of};
 ghost use Rattle.queue_caches.specs.ClockCache.{ClockFits, ClockAsks};
 ghost use Rattle.queue_caches.specs.ClockQueues.{IsFirstAlone, IsClockCache, IsClockAccess};
 

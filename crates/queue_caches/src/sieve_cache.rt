@@ -1,5 +1,5 @@
 //! A cache by SIEVE.
-ghost use Rattle.std.specs.Prelude.{◌≡◌, ◌≤◌, ◌<◌, ◌^◌, ◌++◌, false, IfOk, IfErr, OnOk, OnErr, ℕ};
+ghost use Rattle.std.specs.Prelude.{◌≡◌, ◌≤◌, ◌<◌, ◌^◌, ◌++◌, false, IfOk, IfErr, OnOk, OnErr};
 ghost use Rattle.step_record.specs.Keys.{has_key};
 ghost use Rattle.step_record.specs.declared.limits.TheConstants.{MAX_CAPACITY};
 ghost use Rattle.queue_policies.specs.CountedKeys.{total_count};

@@ -2,12 +2,12 @@
 ghost use Rattle.std.specs.Prelude.{◌≡◌, ◌<◌, ◌≤◌, ◌==◌, ◌^◌, ◌++◌, true, false, length, [], Some, OnOk, IfSome};
 ghost use Rattle.std.specs.Prelude.{IfNone};
 ghost use Rattle.step_record.specs.Keys.{has_key};
-ghost use Rattle.queue_policies.specs.CountedKeys.{AreCounted, count_of, keys_of, oldest_count, total_count};
+ghost use Rattle.queue_policies.specs.CountedKeys.{AreCounted, count_of, oldest_count, total_count};
 ghost use Rattle.queue_policies.specs.Queues.{is_empty, without_newest};
 ghost use Rattle.queue_policies.specs.Sieve.{sieve_residents, empty_sieve, after_wrap, after_pass, pass_count};
 ghost use Rattle.queue_policies.specs.Sieve.{after_passes};
 ghost use Rattle.queue_policies.specs.Sieve.{sieve_with_key, sieve_with_count};
-ghost use Rattle.queue_policies.specs.SieveRecord.{newest_ahead, before_pass, before_passes, sieve_with_leaver};
+ghost use Rattle.queue_policies.specs.SieveRecord.{before_pass, before_passes, sieve_with_leaver};
 ghost use Rattle.counted_queues.specs.Queues.{oldest_entry};
 ghost use Rattle.counted_queues.specs.Table.{IsFound};
 ghost use Rattle.queue_caches.specs.SieveQueues.{after_leaving, before_wrap, key_at_hand};

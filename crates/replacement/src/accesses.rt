@@ -1,5 +1,5 @@
 //! An access.
-ghost use Rattle.std.specs.Prelude.{◌≡◌, ◌≤◌, Option, Some, None, option_map};
+ghost use Rattle.std.specs.Prelude.{◌≡◌, ◌≤◌, Option, Some, option_map};
 ghost use Rattle.segments.specs.Queues.{IsDistinct};
 ghost use Rattle.replacement.specs.Admission.{admits_in};
 ghost use Rattle.replacement.specs.Table.{access};
@@ -19,8 +19,8 @@ use step_record::{Item, Outcome};
 /// Accesses an item: a hit where it stands in a queue, else a miss, by the rules. Where keys are counted, `frequency`
 /// is the one that already has the item's key. It requires room for one item.
 ///
-/// `C` only selects an instance: calls with different `C` are compiled apart, so an instance whose undo record is unused
-/// makes none.
+/// `C` only selects an instance: calls with different `C` are compiled apart, so an instance whose undo record is
+/// unused makes none.
 #[inline(always)]
 pub fn access<C>(
     segments: &mut Segments,

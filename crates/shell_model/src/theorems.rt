@@ -6,16 +6,17 @@ ghost use Rattle.shell_model.specs.Shell.{act};
 ghost use Rattle.shell_model.specs.ShellSteps.{StepsByReply};
 ghost use Rattle.step_record.specs.Answers.{AnswersItsActs};
 
-/// The replies so far determine the state of a shell that was opened empty: each read buffer is the offers kept less those
-/// drained, the write queue is the tasks of puts and removals less those applied, each statistic is a count of replies,
-/// an item is in the table exactly where a put added it and no eviction or removal named it, it is queued or waits for
-/// that just once, the frequency is that of the keys applied, and the holder is the worker of the last Began.
+/// The replies so far determine the state of a shell that was opened empty: each read buffer is the offers kept less
+/// those drained, the write queue is the tasks of puts and removals less those applied, each statistic is a count of
+/// replies, an item is in the table exactly where a put added it and no eviction or removal named it, it is queued or
+/// waits for that just once, the frequency is that of the keys applied, and the holder is the worker of the last
+/// Began.
 pub fn history()
     ensures { HistoryLaws }
 {}
 
-/// From any reachable state without a holder: who holds the maintenance now follows from the steps since, and table nodes
-/// stay below the next number.
+/// From any reachable state without a holder: who holds the maintenance now follows from the steps since, and table
+/// nodes stay below the next number.
 pub fn later_history()
     ensures { LaterLaws }
 {}
