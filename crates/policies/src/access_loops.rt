@@ -1,5 +1,5 @@
-//! The accesses of a trace by a cache: a loop for each policy of queues, compiled for its design, and one for the policies
-//! that keep each missed key.
+//! The accesses of a trace by a cache: a loop for each policy of queues, compiled for its design, one for the policies
+//! that keep each missed key, and one for the optimal policy.
 ghost use Rattle.std.specs.Prelude.{◌≡◌, ◌++◌, ℕ, List, OnOk};
 ghost use Rattle.step_record.specs.declared.job.Job.{Job};
 ghost use Rattle.policies.specs.declared.design.QueueDesign.{QueueDesign};
@@ -19,9 +19,10 @@ use crate::design::{
 };
 use crate::queue_cache::QueueCache;
 use crate::theorems;
+use clairvoyant::Clairvoyant;
 use demand_cache::DemandCache;
 use std::alloc::AllocError;
-use step_record::{Key, Policy, StepFault};
+use step_record::{Engine, Key, Policy, StepFault};
 
 /// Makes the accesses in turn, which are the next ones of a trace. The one error is out of memory.
 pub(crate) fn access_queues(cache: &mut QueueCache, keys: &[Key]) -> Result<(), AllocError>
@@ -65,7 +66,9 @@ fn access_each<D: FixedDesign>(cache: &mut QueueCache, keys: &[Key]) -> Result<(
     Ok(())
 }
 
-/// The same by a cache of a policy that keeps each missed key.
+/// The same by a cache of a policy that keeps each missed key. It is never part of its caller, so that the loops of
+/// other policies keep their registers.
+#[inline(never)]
 pub(crate) fn access_demand(cache: &mut DemandCache, keys: &[Key]) -> Result<(), AllocError>
     requires { IsNext keys.now (AnyPolicy.Demand cache.old) }
     ensures { (j : Job) (trace done : List ℕ) → HasAccessed j trace done (AnyPolicy.Demand cache.old)
@@ -76,6 +79,24 @@ pub(crate) fn access_demand(cache: &mut DemandCache, keys: &[Key]) -> Result<(),
     for i in 0..keys.len() {
         cache.prefetch_at(keys, i);
         match cache.access(keys[i]) {
+            Ok(_) => {}
+            Err(StepFault::OutOfMemory) => return Err(AllocError),
+            Err(StepFault::NotNow) => unreachable!(),
+        }
+    }
+    Ok(())
+}
+
+/// The same by the optimal policy.
+pub(crate) fn access_optimal(cache: &mut Clairvoyant, keys: &[Key]) -> Result<(), AllocError>
+    requires { IsNext keys.now (AnyPolicy.Optimal cache.old) }
+    ensures { (j : Job) (trace done : List ℕ) → HasAccessed j trace done (AnyPolicy.Optimal cache.old)
+        → OnOk result (HasAccessed j trace (done ++ keys.now) (AnyPolicy.Optimal cache.new)) }
+{
+    theorems::any_step_law();
+    theorems::any_accepts();
+    for i in 0..keys.len() {
+        match cache.apply(&keys[i]) {
             Ok(_) => {}
             Err(StepFault::OutOfMemory) => return Err(AllocError),
             Err(StepFault::NotNow) => unreachable!(),

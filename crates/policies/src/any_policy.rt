@@ -1,6 +1,7 @@
 //! All policies as one engine.
 ghost use Rattle.std.specs.Prelude.{◌≡◌, ◌≤◌, ◌↔◌, IfOk, OnErr};
 ghost use Rattle.std.specs.Prelude.{Ok, Err, Some, None, [], option_map, length};
+ghost use Rattle.demand_cache.specs.DemandCache.{demand_act, demand_may_ask};
 
 use crate::design::{Design, design_of};
 use crate::queue_cache::{ByJob, QueueCache};
@@ -63,9 +64,9 @@ impl AnyPolicy {
         }
     }
 
-    /// An empty cache for a job over the trace that these next uses are of: several caches can share them. The policies
-    /// other than Belady's have no need of them. It requires a configuration that `Config::check` accepts. The one error
-    /// is that an allocation failed.
+    /// An empty cache for a job over the trace that these next uses are of: several caches can share them. The
+    /// policies other than Belady's have no need of them. It requires a configuration that `Config::check` accepts.
+    /// The one error is that an allocation failed.
     pub fn open_with(alloc: Global, job: &Job, uses: &NextUse) -> Result<AnyPolicy, AllocError>
         requires { config_fault job.now.config ≡ Ok tt }
         ensures stands { IfOk result (λ p. HasAccessed job.now uses.now [] p) }
@@ -88,8 +89,8 @@ impl AnyPolicy {
         }
     }
 
-    /// Reads ahead, for each few keys, what accesses to them read first, from the key at `i` on: to be called before each
-    /// access of a loop over them. It changes nothing.
+    /// Reads ahead, for each few keys, what accesses to them read first, from the key at `i` on: to be called before
+    /// each access of a loop over them. It changes nothing.
     #[inline(always)]
     pub fn prefetch_at(&mut self, keys: &[Key], i: usize)
         requires { i ≤ length keys.now }
@@ -123,10 +124,7 @@ impl AnyPolicy {
                 Ok((outcome, _)) => Ok(outcome),
                 Err(fault) => Err(fault),
             },
-            AnyPolicy::Demand(cache) => match cache.apply(&key) {
-                Ok((outcome, _)) => Ok(outcome),
-                Err(fault) => Err(fault),
-            },
+            AnyPolicy::Demand(cache) => access_alone(cache, key),
         }
     }
 
@@ -151,8 +149,9 @@ impl AnyPolicy {
         }
     }
 
-    /// The keys that it holds: of a policy of queues those of the window, of probation and of protected in that order,
-    /// oldest first; of the optimal policy in ascending order; of the others queue by queue, oldest first. The one error is that an allocation failed.
+    /// The keys that it holds: of a policy of queues those of the window, of probation and of protected in that
+    /// order, oldest first; of the optimal policy in ascending order; of the others queue by queue, oldest first. The
+    /// one error is that an allocation failed.
     pub fn residents(&self, alloc: Global) -> Result<Vec<Key>, AllocError>
         ensures { IfOk result (λ keys. keys.items ≡ any_residents self.now) }
     {
@@ -161,6 +160,21 @@ impl AnyPolicy {
             AnyPolicy::Optimal(cache) => cache.residents(alloc),
             AnyPolicy::Demand(cache) => cache.residents(alloc),
         }
+    }
+}
+
+// An access of a policy that keeps each missed key, out of line: its undo record is large, and a loop of the optimal
+// policy would make room for it at each access.
+#[inline(never)]
+fn access_alone(cache: &mut DemandCache, key: Key) -> Result<Outcome, StepFault>
+    ensures accepted { IfOk result (λ o. demand_act cache.old key ≡ Some (o, cache.new)) }
+    ensures not_now { result ≡ Err StepFault.NotNow ↔ demand_act cache.old key ≡ None }
+    ensures memory { result ≡ Err StepFault.OutOfMemory → demand_may_ask cache.old key }
+    ensures err { OnErr result (cache.new ≡ cache.old) }
+{
+    match cache.apply(&key) {
+        Ok((outcome, _)) => Ok(outcome),
+        Err(fault) => Err(fault),
     }
 }
 

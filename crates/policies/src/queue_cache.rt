@@ -20,8 +20,8 @@ use std::alloc::{AllocError, Global};
 use std::marker::{Model, PhantomData};
 use step_record::{Config, Engine, Item, Job, Key, MAX_STEPS, Outcome, Stats, StepFault};
 
-// The least capacity at which keys are prefetched. Smaller queues stay in the processor's caches, where prefetching costs
-// more than it spares; where keys are counted, the sketch shares the caches with them.
+// The least capacity at which keys are prefetched. Smaller queues stay in the processor's caches, where prefetching
+// costs more than it spares; where keys are counted, the sketch shares the caches with them.
 const PREFETCH_FROM: usize = 65_536;
 
 const PREFETCH_FROM_WHERE_COUNTING: usize = 4096;

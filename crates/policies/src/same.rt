@@ -1,5 +1,5 @@
-//! What `==` and `clone` mean for counts and reports. The laws of `PartialEq` and `Clone` alone would let any equivalence
-//! and any other value pass, and no test that compares reports would notice.
+//! What `==` and `clone` mean for counts and reports. The laws of `PartialEq` and `Clone` alone would let any
+//! equivalence and any other value pass, and no test that compares reports would notice.
 ghost use Rattle.std.specs.Prelude.{◌≡◌, ◌↔◌, IsTrue, Ok};
 
 use super::Report;

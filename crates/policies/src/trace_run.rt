@@ -6,13 +6,13 @@ ghost use Rattle.policies.specs.AnyPolicy.{HasAccessed};
 ghost use Rattle.policies.specs.Accesses.{IsNext};
 ghost use Rattle.policies.specs.Reports.{report_on};
 
-use crate::access_loops::{access_demand, access_queues};
+use crate::access_loops::{access_demand, access_optimal, access_queues};
 use crate::any_policy::AnyPolicy;
 use crate::report::Report;
 use crate::theorems;
 use clairvoyant::NextUse;
 use std::alloc::{AllocError, Global};
-use step_record::{Gate, Job, Key, MAX_BATCH, StepFault, Trace};
+use step_record::{Gate, Job, Key, MAX_BATCH, Trace};
 
 /// The report of a job over a trace, by a cache that makes its accesses in turn. It requires a configuration that
 /// `Config::check` accepts. Belady's policy goes by the next uses, where there are some. The gate is called before and
@@ -43,20 +43,10 @@ pub fn access_all(cache: &mut AnyPolicy, keys: &[Key]) -> Result<(), AllocError>
         → OnOk result (HasAccessed j trace (done ++ keys.now) cache.new) }
 {
     match cache {
-        AnyPolicy::Queues(cache) => return access_queues(cache, keys),
-        AnyPolicy::Demand(cache) => return access_demand(cache, keys),
-        AnyPolicy::Optimal(_) => {}
+        AnyPolicy::Queues(cache) => access_queues(cache, keys),
+        AnyPolicy::Demand(cache) => access_demand(cache, keys),
+        AnyPolicy::Optimal(cache) => access_optimal(cache, keys),
     }
-    theorems::any_step_law();
-    theorems::any_accepts();
-    for i in 0..keys.len() {
-        match cache.access::<Counted>(keys[i]) {
-            Ok(_) => {}
-            Err(StepFault::OutOfMemory) => return Err(AllocError),
-            Err(StepFault::NotNow) => unreachable!(),
-        }
-    }
-    Ok(())
 }
 
 /// The same, in batches of `MAX_BATCH`. The gate is called before and after each, as worker 0, with the batch's number.
@@ -117,6 +107,3 @@ fn cut(rest: &[Key], size: usize) -> (&[Key], &[Key])
         rest.split_at(size)
     }
 }
-
-// Selects the instance of an access that `access_all` has in its loop.
-struct Counted;
