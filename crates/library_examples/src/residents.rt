@@ -29,8 +29,8 @@ pub fn open_session(
     Ok(Session::open(alloc, cache, MAX_JOURNAL_LIMIT as usize))
 }
 
-/// The keys that the cache holds where `n` steps of the session are applied, undone ones included. The session goes there
-/// and back: it is then where it was.
+/// The keys that the cache holds where `n` steps of the session are applied, undone ones included. The session goes
+/// there and back: it is then where it was.
 ///
 /// Errors: `PastEnd` where there are fewer steps, and `OutOfMemory`, which says how many are applied then.
 pub fn residents_at(
