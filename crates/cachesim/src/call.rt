@@ -59,11 +59,11 @@ pub fn command<
     ensures done { result ≡ DONE → DoneBy (map (λ s. s.now) words.now) (F.known files.now) (R.remaining input.old)
         (W.contents out.old) (W.contents out.new) }
     ensures silent { result ≡ DONE → fault_out.new ≡ fault_out.old }
-    // With status 1 a fault was found: one of the machine, or that of the words, the trace or the journal. Its line was
-    // written to the fault output, whole unless a write or the flush of that output failed. What is found before anything is written,
-    // as a faulty line of a trace, leaves the output as it was, and so does every fault of `run`, `sweep`,
-    // `intervals`, `part` and `compare` but a failed write. A run of workers that was stopped has its journal written. A
-    // call of the input or the output failed just where that fault says so.
+    // With status 1 a fault was found: one of the machine, or that of the words, the trace or the journal. Its line
+    // was written to the fault output, whole unless a write or the flush of that output failed. What is found before
+    // anything is written, as a faulty line of a trace, leaves the output as it was, and so does every fault of
+    // `run`, `sweep`, `intervals`, `part` and `compare` but a failed write. A run of workers that was stopped has its
+    // journal written. A call of the input or the output failed just where that fault says so.
     ensures faulted { result ≡ FAULT → EndsInFault (map (λ s. s.now) words.now) (F.known files.now)
         (X.tally fault_out.old) (X.tally fault_out.new) (R.remaining input.old) (W.contents out.old) (W.contents out.new)
         (X.contents fault_out.old) (X.contents fault_out.new) (out.new ≡ out.old) (λ fault. BlamesCalls fault

@@ -1,5 +1,5 @@
 //! The subcommand `drive`: a trace to the journal of workers on threads.
-ghost use Rattle.std.specs.Prelude.{◌≡◌, ◌≤◌, ◌⊎◌, ℕ, Ok, [], IfErr, IfOk, IsOkAnd, None, OnOk, get_or, length, true};
+ghost use Rattle.std.specs.Prelude.{◌≡◌, ◌≤◌, ℕ, Ok, [], IfErr, IfOk, IsOkAnd, None, OnOk, get_or, length, true};
 ghost use Rattle.std.specs.Prelude.{map};
 ghost use Rattle.std.specs.Io.KnownBytes.{Appends};
 ghost use Rattle.step_record.specs.Config.{config_fault};

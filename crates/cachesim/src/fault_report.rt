@@ -19,8 +19,8 @@ pub const REFUSED: u8 = 2;
 // The line of the fault for which no memory may be left.
 const OUT_OF_MEMORY: &[u8] = b"fault: OutOfMemory\n";
 
-/// Reports a fault by its line. That of a failed allocation takes no memory, and is also written if there is no memory to
-/// format another line.
+/// Reports a fault by its line. That of a failed allocation takes no memory, and is also written if there is no
+/// memory to format another line.
 pub fn report_fault<X: CountedWrite>(alloc: Global, fault: Fault, fault_out: &mut X) -> u8
     ensures status { result ≡ FAULT }
     ensures reported { IsReported fault (X.tally fault_out.old) (X.tally fault_out.new) (X.contents fault_out.old)

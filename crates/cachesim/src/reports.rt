@@ -121,8 +121,8 @@ pub fn part<R: Threads, P: Watch>(
     Ok(line)
 }
 
-/// A header and a row: at how many accesses both of the two policies hit, only one of them, and neither; or such a row for
-/// each interval, where the arguments say how long one is.
+/// A header and a row: at how many accesses both of the two policies hit, only one of them, and neither; or such a
+/// row for each interval, where the arguments say how long one is.
 pub fn compare<R: Threads, P: Watch>(
     rt: &R,
     alloc: Global,

@@ -4,7 +4,8 @@ use progress::ProgressLine;
 use std::test::Fail;
 use streams::CountedWriter;
 
-// The path of the trace of `debug`, the commands, and the status with what is written to the output and to the fault output.
+// The path of the trace of `debug`, the commands, and the status with what is written to the output and to the fault
+// output.
 const CALLS: [(&str, &str, u8, &str, &str); 3] = [
     (
         "trace",

@@ -1,6 +1,5 @@
 //! How often two policies hit at the same accesses of each interval of a trace.
 ghost use Rattle.std.specs.Prelude.{◌≡◌, ◌≤◌, ◌++◌, List, ℕ, [], ◌∷◌, IfOk, OnOk};
-ghost use Rattle.std.specs.List.{flat_map};
 ghost use Rattle.step_record.specs.declared.job.Job.{Job};
 ghost use Rattle.policies.specs.FaultyJobs.{faulty_in, ReturnsFault};
 ghost use Rattle.debug_policies.specs.ComparedIntervals.{between, compared_intervals_on, compared_intervals_text};
@@ -15,8 +14,8 @@ use std::alloc::{AllocError, Global};
 use std::thread::Threads;
 use step_record::{Gate, Job, Trace};
 
-/// Accesses `from` to `to` of a trace, counted from 1, and at how many of them both of two policies hit, only the first,
-/// only the second, and neither.
+/// Accesses `from` to `to` of a trace, counted from 1, and at how many of them both of two policies hit, only the
+/// first, only the second, and neither.
 #[derive(Clone, Copy)]
 pub struct ComparedInterval {
     pub from: u64,
@@ -24,9 +23,10 @@ pub struct ComparedInterval {
     pub counts: Comparison,
 }
 
-/// What is counted of the policies of both jobs over the trace, cut into intervals of `every` accesses, of which the last
-/// may be shorter: a row for each, in order. [`compared_intervals_add_up`](crate::theorems::compared_intervals_add_up)
-/// says that the rows sum up to what `compare` returns. The gate is called as by `part_watched`.
+/// What is counted of the policies of both jobs over the trace, cut into intervals of `every` accesses, of which the
+/// last may be shorter: a row for each, in order.
+/// [`compared_intervals_add_up`](crate::theorems::compared_intervals_add_up) says that the rows sum up to what
+/// `compare` returns. The gate is called as by `part_watched`.
 ///
 /// Errors: those of `compare`.
 pub fn compare_intervals<R: Threads, G: Gate>(
@@ -48,8 +48,8 @@ pub fn compare_intervals<R: Threads, G: Gate>(
     Ok(rows?)
 }
 
-/// Adds the header and a row for each interval of two jobs, whose capacity is that of the first. The one error is that an
-/// allocation failed.
+/// Adds the header and a row for each interval of two jobs, whose capacity is that of the first. The one error is
+/// that an allocation failed.
 pub fn push_compared_intervals(
     text: &mut Vec<u8>,
     first: &Job,

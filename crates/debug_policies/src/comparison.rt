@@ -54,8 +54,8 @@ impl Comparison {
     }
 }
 
-/// At how many accesses of the trace the policies of both jobs hit, only that of the first, only that of the second, and
-/// neither. The two caches make the accesses side by side where a thread can be made. The gate is called as by
+/// At how many accesses of the trace the policies of both jobs hit, only that of the first, only that of the second,
+/// and neither. The two caches make the accesses side by side where a thread can be made. The gate is called as by
 /// `part_watched`.
 ///
 /// Errors: `Config` with index 0 exactly where `Config::check` refuses the first job's configuration, with index 1
@@ -77,8 +77,8 @@ pub fn compare<R: Threads, G: Gate>(
     Ok(counts?)
 }
 
-/// Adds the header and the row of a comparison of two jobs, whose capacity is that of the first. The one error is that an
-/// allocation failed.
+/// Adds the header and the row of a comparison of two jobs, whose capacity is that of the first. The one error is
+/// that an allocation failed.
 pub fn push_comparison(
     text: &mut Vec<u8>,
     first: &Job,
@@ -126,8 +126,8 @@ fn count_all<R: Threads, G: Gate>(
     Ok(counts)
 }
 
-/// Counts the accesses from one place of the trace up to another by whether they hit in both caches, which make what they
-/// have not made of them. The one error is that an allocation failed.
+/// Counts the accesses from one place of the trace up to another by whether they hit in both caches, which make what
+/// they have not made of them. The one error is that an allocation failed.
 pub(crate) fn count_up_to<R: Threads, G: Gate>(
     rt: &R,
     both: &mut TwoCaches<'_>,

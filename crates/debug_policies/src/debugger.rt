@@ -88,18 +88,18 @@ impl<'a, T: Threads> TwoPolicies<'a, T> {
         ensures start { IfOk result (λ w. w.first.at ≡ 0) }
         ensures whole { IfOk result (λ w. IsPartWalk w.trace.now w.first_job w.second_job w.first w.second) }
     {
-        let one = OnePolicy::open(alloc, first, trace)?;
+        let first_policy = OnePolicy::open(alloc, first, trace)?;
         match OnePolicy::open(alloc, second, trace) {
-            Ok(other) => Ok(TwoPolicies {
+            Ok(second_policy) => Ok(TwoPolicies {
                 rt,
                 trace,
                 first_job: *first,
                 second_job: *second,
-                first: one,
-                second: other,
+                first: first_policy,
+                second: second_policy,
             }),
             Err(fault) => {
-                drop(one);
+                drop(first_policy);
                 Err(fault)
             }
         }

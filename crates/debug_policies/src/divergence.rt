@@ -30,7 +30,8 @@ pub fn part<R: Threads>(
     part_watched(rt, alloc, trace, first, second, &OpenGate)
 }
 
-/// The same, where the gate is called around each `STRETCH` accesses of the trace, as number 0, 1 and so on of worker 0.
+/// The same, where the gate is called around each `STRETCH` accesses of the trace, as number 0, 1 and so on of worker
+/// 0.
 ///
 /// Errors: those of `part`.
 pub fn part_watched<R: Threads, G: Gate>(

@@ -2,11 +2,11 @@
 //! and back.
 //!
 //! `part` runs both policies side by side, once, and promises by their definitions over the whole trace: the access
-//! that it returns is the first at which just one of the two hits, and with `None` there is no such access. `compare` counts
-//! the accesses of the whole trace at which both hit, only one of them, or neither, by the same definitions, and
-//! `compare_intervals` those of each interval. `run_debug`
-//! reads commands and answers them: it promises that with `Ok` it has written just the lines that the definition of its
-//! answers gives for the commands it read, in which what is shown is the policies' definitions over the first accesses.
+//! that it returns is the first at which just one of the two hits, and with `None` there is no such access. `compare`
+//! counts the accesses of the whole trace at which both hit, only one of them, or neither, by the same definitions,
+//! and `compare_intervals` those of each interval. `run_debug` reads commands and answers them: it promises that with
+//! `Ok` it has written just the lines that the definition of its answers gives for the commands it read, in which
+//! what is shown is the policies' definitions over the first accesses.
 #![tactic(auto)]
 
 mod compared_intervals;

@@ -3,7 +3,6 @@ ghost use Rattle.std.specs.Prelude.{◌≡◌, ◌≢◌, ◌≤◌, ◌<◌, �
 ghost use Rattle.std.specs.Prelude.{IfOk, OnOk, min};
 ghost use Rattle.step_record.specs.Config.{config_fault};
 ghost use Rattle.step_record.specs.declared.job.Job.{Job};
-ghost use Rattle.step_record.specs.declared.limits.TheConstants.{MAX_ACCESSES};
 ghost use Rattle.step_record.specs.Stats.{is_hit};
 ghost use Rattle.policies.specs.AnyPolicy.{HasAccessed, outcomes_on};
 ghost use Rattle.policies.specs.AnyStep.{any_act};
@@ -85,8 +84,8 @@ impl<'a> TwoCaches<'a> {
         }
     }
 
-    /// Makes the next stretch of the accesses in both caches, side by side where a thread can be made, and calls the gate
-    /// around it as worker 0, with its number. The one error is that an allocation failed.
+    /// Makes the next stretch of the accesses in both caches, side by side where a thread can be made, and calls the
+    /// gate around it as worker 0, with its number. The one error is that an allocation failed.
     pub(crate) fn advance<R: Threads, G: Gate>(
         &mut self,
         rt: &R,
@@ -138,8 +137,8 @@ impl NotedCache {
         Ok(NotedCache { cache, hits })
     }
 
-    // Makes the accesses from one place of the trace up to another, and notes which of them hit. The one error is that an
-    // allocation failed.
+    // Makes the accesses from one place of the trace up to another, and notes which of them hit. The one error is
+    // that an allocation failed.
     fn run<C>(&mut self, trace: &Trace, start: usize, end: usize) -> Result<(), AllocError>
         requires places { IsStretch trace.now start end }
         requires some { HasNotedOfSome trace.now start self.old }
@@ -186,7 +185,8 @@ fn run_both<R: Threads>(
     other
 }
 
-// Makes the accesses from one place of the trace up to another, and notes which of them hit. The one error is out of memory.
+// Makes the accesses from one place of the trace up to another, and notes which of them hit. The one error is out of
+// memory.
 fn note_hits<C>(
     cache: &mut AnyPolicy,
     trace: &Trace,

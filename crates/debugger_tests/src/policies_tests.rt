@@ -35,9 +35,9 @@ fn trace_of(alloc: Global, keys: &[Key]) -> Result<Trace, Fail> {
     }
 }
 
-// Accesses, a policy beside Lru, and the first access at which just one of the two hits. At the fifth access Lru holds 2
-// and 3; SegmentedLru protected 1 at the second, and holds 3 and 1. The optimal policy rejects 3 and hits 1 and 2, of
-// which Lru evicts 1 for 3 and 2 for 1; where no key comes twice, neither hits.
+// Accesses, a policy beside Lru, and the first access at which just one of the two hits. At the fifth access Lru
+// holds 2 and 3; SegmentedLru protected 1 at the second, and holds 3 and 1. The optimal policy rejects 3 and hits 1
+// and 2, of which Lru evicts 1 for 3 and 2 for 1; where no key comes twice, neither hits.
 const PARTS: [(&[Key], Policy, Option<u64>); 3] = [
     (&[1, 1, 2, 3, 1], Policy::SegmentedLru, Some(5)),
     (&[1, 2, 3, 1, 2], Policy::Clairvoyant, Some(4)),
@@ -75,7 +75,8 @@ fn counts_of(counts: &Comparison) -> [u64; 4] {
     ]
 }
 
-// Lru and SegmentedLru over the accesses 1, 1, 2, 3, 1 in intervals of two: the first and the last access, and the counts.
+// Lru and SegmentedLru over the accesses 1, 1, 2, 3, 1 in intervals of two: the first and the last access, and the
+// counts.
 const ROWS: [(u64, u64, [u64; 4]); 3] = [
     (1, 2, [1, 0, 0, 1]),
     (3, 4, [0, 0, 0, 2]),
@@ -101,7 +102,8 @@ fn how_often_two_policies_hit_together(rt: HostRuntime) -> Result<(), Fail> {
     Ok(())
 }
 
-// Counts the calls that begin and that are over, adds up their numbers, and sees that each is over before the next begins.
+// Counts the calls that begin and that are over, adds up their numbers, and sees that each is over before the next
+// begins.
 #[derive(Drop)]
 struct InTurn {
     begun: AtomicU64,

@@ -1,5 +1,5 @@
-//! A run and its undoing, what records hold. A caller of several crates sees these theorems: what a run on threads leaves
-//! and what undoing it gives, and what the undo records of a session hold.
+//! A run and its undoing, what records hold. A caller of several crates sees these theorems: what a run on threads
+//! leaves and what undoing it gives, and what the undo records of a session hold.
 #![tactic(auto)]
 
 mod held_words;

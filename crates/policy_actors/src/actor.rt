@@ -12,9 +12,9 @@ use std::sync::atomic::AtomicU64;
 use std::sync::atomic::Ordering::Relaxed;
 use step_record::{Gate, Job};
 
-/// Takes batches up to the last one, and counts each batch before that in `finished`. With `Some`, the report is that of
-/// all that was fed, where that was known. An actor that ran out of memory goes on taking batches, so that its feeder is
-/// not held up, and has no report; nor has one whose feeder ended early.
+/// Takes batches up to the last one, and counts each batch before that in `finished`. With `Some`, the report is that
+/// of all that was fed, where that was known. An actor that ran out of memory goes on taking batches, so that its
+/// feeder is not held up, and has no report; nor has one whose feeder ended early.
 pub fn run_actor<S: FedTrace, R: Wait, G: Gate>(
     rt: &R,
     alloc: Global,

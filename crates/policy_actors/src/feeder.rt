@@ -78,8 +78,8 @@ impl<'b, S: FedTrace, W: Wait> Feeder<'b, S, W> {
         }
     }
 
-    /// Gives each end these accesses, which come next: each batch to all of them before the next. At the end they are all
-    /// that is left of the trace; before that they are whole batches, with an access after them.
+    /// Gives each end these accesses, which come next: each batch to all of them before the next. At the end they are
+    /// all that is left of the trace; before that they are whole batches, with an access after them.
     pub fn give(&mut self, accesses: Trace, is_end: bool)
         requires few { self.old.place + length accesses ≤ MAX_ACCESSES }
         requires next { IfSome S.known (λ all. AreAt all self.old.place is_end accesses) }

@@ -1,5 +1,5 @@
 //! The two ends of an actor's channel, and the sending ends of several.
-ghost use Rattle.std.specs.Prelude.{◌≡◌, ◌+◌, ◌<◌, All, IfOk, IfSome, IsTrue, length, true, false};
+ghost use Rattle.std.specs.Prelude.{◌≡◌, ◌+◌, ◌<◌, All, IfOk, IfSome, IsTrue, true, false};
 ghost use Rattle.crossbeam_channel.specs.Claims.{view, IsSeatAt};
 ghost use Rattle.crossbeam_channel.specs.Ends.{sends_on, receives_on};
 ghost use Rattle.policy_actors.specs.ChannelProtocol.{channel_log, IsBatch};
@@ -71,29 +71,6 @@ impl<S: FedTrace> Outboxes<S> {
     }
 }
 
-// Sends each end the batch of the lump with this number, which is its next.
-fn send_each<S: FedTrace, R: Wait>(
-    rt: &R,
-    ends: &mut Vec<Outbox<S>>,
-    lump: &Lump<S>,
-    number: u64,
-) -> bool
-    requires { All (λ o. o.sent ≡ number) ends.old.items }
-    ensures { IsTrue result → All (λ o. o.sent ≡ number + 1) ends.new.items }
-{
-    for end in 0..ends.len() {
-        match lump.batch(number) {
-            Some(batch) => {
-                if !ends[end].send(rt, batch) {
-                    return false;
-                }
-            }
-            None => return false,
-        }
-    }
-    true
-}
-
 /// The receiving end of an actor's channel.
 #[derive(Drop)]
 pub struct Inbox<S: FedTrace> {
@@ -148,6 +125,29 @@ impl<S: FedTrace> Outbox<S> {
             Err(_) => false,
         }
     }
+}
+
+// Sends each end the batch of the lump with this number, which is its next.
+fn send_each<S: FedTrace, R: Wait>(
+    rt: &R,
+    ends: &mut Vec<Outbox<S>>,
+    lump: &Lump<S>,
+    number: u64,
+) -> bool
+    requires { All (λ o. o.sent ≡ number) ends.old.items }
+    ensures { IsTrue result → All (λ o. o.sent ≡ number + 1) ends.new.items }
+{
+    for end in 0..ends.len() {
+        match lump.batch(number) {
+            Some(batch) => {
+                if !ends[end].send(rt, batch) {
+                    return false;
+                }
+            }
+            None => return false,
+        }
+    }
+    true
 }
 
 // A channel with room for this number of batches, up to `MAX_WAITING`.

@@ -58,8 +58,8 @@ pub fn run_actors<R: Threads + Wait + Sync, G: Gate>(
 }
 
 /// The reports of the jobs over the trace that the reader gives, in the order of the jobs: those of `read_trace` and
-/// then `run_actors`, but the actors take the first accesses while later ones are still read, and nobody keeps the trace.
-/// The jobs and the size of a batch are such as `check_run` accepts. The gate is called as there.
+/// then `run_actors`, but the actors take the first accesses while later ones are still read, and nobody keeps the
+/// trace. The jobs and the size of a batch are such as `check_run` accepts. The gate is called as there.
 ///
 /// Errors: those of `read_trace`, and `OutOfMemory` also where the actors are out of memory. An actor that is fed no
 /// last batch has no report.
@@ -125,8 +125,8 @@ impl<S: FedTrace> Promise<Option<Report>> for Promised<S> {
 
 type Handle<S> = thread::PromisedHandle<Option<Report>, Promised<S>>;
 
-// Starts an actor for each job, has them fed from the source in batches of `size` accesses, and joins them: the source's
-// result, and the reports.
+// Starts an actor for each job, has them fed from the source in batches of `size` accesses, and joins them: the
+// source's result, and the reports.
 fn run_actors_from<
     S: FedTrace + Send + Sync + 'static,
     R: Threads + Wait + Sync,

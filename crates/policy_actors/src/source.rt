@@ -1,5 +1,5 @@
 //! Where the accesses of a run come from.
-ghost use Rattle.std.specs.Prelude.{◌≡◌, ℕ, List, Option, IfSome, length};
+ghost use Rattle.std.specs.Prelude.{◌≡◌, ℕ, List, Option};
 ghost use Rattle.trace_read.specs.TraceText.{AreOfFile};
 
 use crate::feeder::Feeder;

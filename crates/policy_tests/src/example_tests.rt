@@ -120,8 +120,8 @@ const LEAST_RECENT: [Example; 1] = [Example {
     residents: &[1, 4, 2],
 }];
 
-// Segmented Lru protects a key that was hit. Of two keys protected holds one: when 2 is hit, 1 goes to probation's recent
-// end, and leaves for 3.
+// Segmented Lru protects a key that was hit. Of two keys protected holds one: when 2 is hit, 1 goes to probation's
+// recent end, and leaves for 3.
 const PROTECTED: [Example; 2] = [
     Example {
         policy: Segmented,

@@ -14,8 +14,8 @@ use itoa::Buffer;
 use std::alloc::{AllocError, Global};
 use streams::CountedWrite;
 
-/// Writes the text of the reports, and flushes. The writes and flushes of one call share its interruptions, of which the
-/// millionth is `Write`. `OutOfMemory` has written nothing; after `Write` a beginning of the text was written.
+/// Writes the text of the reports, and flushes. The writes and flushes of one call share its interruptions, of which
+/// the millionth is `Write`. `OutOfMemory` has written nothing; after `Write` a beginning of the text was written.
 pub fn write_reports<W: CountedWrite>(
     alloc: Global,
     reports: &[Report],

@@ -1,5 +1,5 @@
-//! Tests of sessions over the concurrent cache: journals that are read, undone, redone and written, and calls at both ends
-//! of their ranges.
+//! Tests of sessions over the concurrent cache: journals that are read, undone, redone and written, and calls at both
+//! ends of their ranges.
 #![tactic(auto)]
 
 #[cfg(test)]

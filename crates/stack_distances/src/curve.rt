@@ -29,10 +29,8 @@ impl Model for Curve {
 }
 
 impl Curve {
-    ghost use Rattle.std.specs.Prelude.{count_by, suc, length, get_or, slice_index, ◌<◌};
-    ghost use Rattle.step_record.specs.declared.limits.TheConstants.{MAX_ACCESSES};
-    ghost use Rattle.stack_distances.specs.Distances.{distances, hits_within};
-    ghost use Rattle.stack_distances.specs.Histogram.{is_at};
+    ghost use Rattle.std.specs.Prelude.{length, ◌<◌};
+    ghost use Rattle.stack_distances.specs.Distances.{hits_within};
 
     /// The curve of a trace, found in one pass over it. The only error is out of memory.
     pub fn of_trace(alloc: Global, trace: &Trace) -> Result<Curve, AllocError>

@@ -47,9 +47,9 @@ impl Histogram {
         })
     }
 
-    /// Adds, at the first of each stretch of accesses, the distances of the last one to the counts, and reads what those
-    /// of the stretch read first: the places of their keys, and the marks there. Unlike the reads of `access`, these do
-    /// not depend on one another, so the processor overlaps them.
+    /// Adds, at the first of each stretch of accesses, the distances of the last one to the counts, and reads what
+    /// those of the stretch read first: the places of their keys, and the marks there. Unlike the reads of `access`,
+    /// these do not depend on one another, so the processor overlaps them.
     #[inline(always)]
     pub(crate) fn begin_access(&mut self, keys: &[Key], place: usize)
         requires few { length keys.now ≤ MAX_ACCESSES }

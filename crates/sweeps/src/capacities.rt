@@ -32,8 +32,8 @@ pub fn sweep<R: Threads + Sync>(
 }
 
 /// The reports of each job at each capacity: those of the first job in the order of the capacities, then those of the
-/// second, and so on. `rayon` runs them side by side where there are threads. What several reports need is computed once:
-/// the next uses for Belady's policy, and for Lru the reuses of the trace, or for many capacities its curve.
+/// second, and so on. `rayon` runs them side by side where there are threads. What several reports need is computed
+/// once: the next uses for Belady's policy, and for Lru the reuses of the trace, or for many capacities its curve.
 ///
 /// The gate is called before and after each batch of `MAX_BATCH` accesses of a report of another policy than Lru, on
 /// the thread that makes them, as worker 0, with the batch's number.
@@ -62,7 +62,8 @@ pub fn sweep_each<R: Threads + Sync, G: Gate>(
     Ok(reports)
 }
 
-/// For how many batches in all `sweep_each` calls its gate, over the same trace, jobs and capacities; 2^64 - 1 for more.
+/// For how many batches in all `sweep_each` calls its gate, over the same trace, jobs and capacities; 2^64 - 1 for
+/// more.
 pub fn sweep_batches(trace: &Trace, jobs: &[Job], capacities: &[u32]) -> u64
     ensures { result ≡ min (gated_batches jobs.now (length capacities.now) (length trace.now)) (2 ^ 64 - 1) }
 {

@@ -12,9 +12,9 @@ use std::thread::Threads;
 use step_record::{Gate, Job, Trace};
 
 /// The rows of each job over the trace, cut into intervals of `every` accesses, of which the last may be shorter: all
-/// rows of the first job, in order, then those of the second, and so on. `rayon` runs the jobs side by side where there
-/// are threads. The gate is called before and after each batch of an interval, of `MAX_BATCH` accesses where there are so
-/// many, on the thread that makes them, as worker 0, with the batch's number in the interval.
+/// rows of the first job, in order, then those of the second, and so on. `rayon` runs the jobs side by side where
+/// there are threads. The gate is called before and after each batch of an interval, of `MAX_BATCH` accesses where
+/// there are so many, on the thread that makes them, as worker 0, with the batch's number in the interval.
 ///
 /// Errors: `Actors` for more than `MAX_ACTORS` jobs, `Config` with the index of the first job whose configuration
 /// `Config::check` refuses, and `OutOfMemory`.

@@ -16,8 +16,8 @@ pub(crate) struct CutTrace<'a> {
     pub(crate) ghost some: { 1 ≤ every },
 }
 
-// A row for each interval, in order, of a job over the whole trace, whose configuration `Config::check` accepts. The gate
-// is called around each batch. The one error is out of memory.
+// A row for each interval, in order, of a job over the whole trace, whose configuration `Config::check` accepts. The
+// gate is called around each batch. The one error is out of memory.
 pub(crate) fn intervals_of<G: Gate>(
     alloc: Global,
     cut: &CutTrace<'_>,
@@ -31,7 +31,8 @@ pub(crate) fn intervals_of<G: Gate>(
     count_intervals(alloc, cut, job, &mut cache, gate)
 }
 
-// The same by an empty cache of the job, one interval at a time: a row is the difference of the counts before and after.
+// The same by an empty cache of the job, one interval at a time: a row is the difference of the counts before and
+// after.
 fn count_intervals<G: Gate>(
     alloc: Global,
     cut: &CutTrace<'_>,

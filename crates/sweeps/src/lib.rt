@@ -3,9 +3,9 @@
 //! same capacities. And what jobs make of a trace over time: `intervals` cuts the accesses into intervals of the same
 //! length, of which the last may be shorter, and each job has a row for each of them.
 //!
-//! The first three promise the same: with `Ok`, each report is `report_on` of its job and the trace, in the order asked
-//! for. `intervals` promises that each row counts the outcomes that the policy's definition gives at the row's accesses,
-//! over the whole trace; `theorems::intervals_add_up` says that the rows of a policy sum up to its report.
+//! The first three promise the same: with `Ok`, each report is `report_on` of its job and the trace, in the order
+//! asked for. `intervals` promises that each row counts the outcomes that the policy's definition gives at the row's
+//! accesses, over the whole trace; `theorems::intervals_add_up` says that the rows of a policy sum up to its report.
 #![tactic(auto)]
 
 mod capacities;

@@ -11,12 +11,13 @@ use stack_distances::{Curve, Reuses};
 use std::alloc::{AllocError, Global};
 use step_record::{Gate, Job, Policy, Trace};
 
-// From this number of capacities on, the reports of Lru are read off the curve of the trace. Finding the curve takes the
-// processor as long as finding the reuses and passing over them at some seven capacities; but passes go side by side, so
-// on four threads they are done first up to some 26.
+// From this number of capacities on, the reports of Lru are read off the curve of the trace. Finding the curve takes
+// the processor as long as finding the reuses and passing over them at some seven capacities; but passes go side by
+// side, so on four threads they are done first up to some 26.
 const CURVE_FROM: usize = 16;
 
-/// A trace, with what several reports need, computed once: the next uses of its keys, and for Lru the reuses or the curve.
+/// A trace, with what several reports need, computed once: the next uses of its keys, and for Lru the reuses or the
+/// curve.
 #[derive(Drop)]
 pub struct PreparedTrace<'a> {
     pub trace: &'a Trace,
@@ -49,8 +50,9 @@ impl<'a> PreparedTrace<'a> {
         })
     }
 
-    /// The report of a job, whose configuration `Config::check` accepts. The gate is called before and after each batch of
-    /// `MAX_BATCH` accesses, unless the report is made from the reuses or the curve. The one error is out of memory.
+    /// The report of a job, whose configuration `Config::check` accepts. The gate is called before and after each
+    /// batch of `MAX_BATCH` accesses, unless the report is made from the reuses or the curve. The one error is out of
+    /// memory.
     pub fn report<G: Gate>(&self, alloc: Global, job: &Job, gate: &G) -> Result<Report, AllocError>
         requires { config_fault job.now.config ≡ Ok tt }
         ensures { IfOk result (λ r. r ≡ report_on job.now self.now.trace.now) }

@@ -59,9 +59,9 @@ fn settled(session: &mut Session<Shell>) -> Result<Settled, Fail> {
     }
 }
 
-// How many steps the journal holds; how three runs end; and how the maintenance is settled after the second of them, and
-// once the last step is undone: from its phase on, so that of the ninth step not the end alone is left, but a look at the
-// window too.
+// How many steps the journal holds; how three runs end; and how the maintenance is settled after the second of them,
+// and once the last step is undone: from its phase on, so that of the ninth step not the end alone is left, but a
+// look at the window too.
 const RUNS: [(usize, [&str; 3], [Settled; 2]); 6] = [
     (1, ["full", "full", "full"], [Ok(0), Ok(0)]),
     (3, ["full", "full", "full"], [Ok(0), Ok(0)]),

@@ -1,5 +1,5 @@
-//! Reports on this thread, and side by side at several capacities, and rows of intervals, over small traces whose reports
-//! were worked out by hand.
+//! Reports on this thread, and side by side at several capacities, and rows of intervals, over small traces whose
+//! reports were worked out by hand.
 use super::assertions::assert_equal;
 use super::gates::{AllAlike, Hold};
 use super::jobs::{counted, failed, four_jobs, four_reports, job};
@@ -139,8 +139,8 @@ fn a_sweep_shows_its_batches(rt: HostRuntime) -> Result<(), Fail> {
     Ok(())
 }
 
-// What Lru and Belady's policy count over the accesses 1, 1, 2, 3, 1 in intervals of two. At the fourth access Lru evicts 1,
-// and Belady's policy 2, which does not come again.
+// What Lru and Belady's policy count over the accesses 1, 1, 2, 3, 1 in intervals of two. At the fourth access Lru
+// evicts 1, and Belady's policy 2, which does not come again.
 const INTERVALS: [(Policy, u64, u64, [u64; 5]); 6] = [
     (Policy::Lru, 1, 2, [2, 1, 1, 0, 0]),
     (Policy::Lru, 3, 4, [2, 0, 2, 1, 0]),

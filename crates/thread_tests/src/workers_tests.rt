@@ -36,8 +36,8 @@ fn calls_of_each(alloc: Global, workers: u8, calls: u64) -> Result<Vec<Vec<Call>
     Ok(pieces)
 }
 
-// Runs so many workers of 160 calls each at so many read buffers, and sees that their lists are the session's, that each
-// read was counted, and that nobody holds the maintenance.
+// Runs so many workers of 160 calls each at so many read buffers, and sees that their lists are the session's, that
+// each read was counted, and that nobody holds the maintenance.
 fn assert_crowd<G: Gate, R: Threads + Wait + Sync + Abort>(
     rt: &R,
     alloc: Global,

@@ -29,15 +29,16 @@ impl DigitRun {
     }
 }
 
-/// Goes through the runs of digits of some bytes, each of which ends at a byte that is not a digit, but for those that end
-/// in the last few bytes. The ends within 64 bytes are found at once, so that no run waits for the one before it to be
-/// read.
+/// Goes through the runs of digits of some bytes, each of which ends at a byte that is not a digit, but for those
+/// that end in the last few bytes. The ends within 64 bytes are found at once, so that no run waits for the one
+/// before it to be read.
 #[derive(Clone, Copy, Drop)]
 pub struct DigitRuns<'a> {
     pub bytes: &'a [u8],
     /// Where the next run begins.
     pub start: usize,
-    // A bit for each byte between these two places: whether it is not a digit. Between `start` and `from` all are digits.
+    // A bit for each byte between these two places: whether it is not a digit. Between `start` and `from` all are
+    // digits.
     from: usize,
     to: usize,
     others: u64,

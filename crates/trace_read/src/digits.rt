@@ -1,5 +1,5 @@
-//! Numbers of a few digits, eight digits at a time: eight bytes are read as one word, and three multiplications make the
-//! number that they write.
+//! Numbers of a few digits, eight digits at a time: eight bytes are read as one word, and three multiplications make
+//! the number that they write.
 ghost use Rattle.std.specs.Prelude.{◌≡◌, ◌≤◌, ◌<◌, ◌^◌, ℕ, List, true, length, take};
 ghost use Rattle.std.specs.Int.Digits.{number_from_digits, AllBelowBase};
 ghost use Rattle.std.specs.Simd.Lanes.{number_l};

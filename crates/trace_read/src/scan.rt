@@ -306,8 +306,8 @@ fn begins_usual_line(format: Format, bytes: &[u8], first: DigitRun) -> bool
     first.is_short() && is_followed
 }
 
-// Whether two lines of a lone `*` of the LIRS format begin with this run of digits. One between numbers is read sooner as
-// any other line, since the runs of digits need not be found anew after it.
+// Whether two lines of a lone `*` of the LIRS format begin with this run of digits. One between numbers is read
+// sooner as any other line, since the runs of digits need not be found anew after it.
 #[inline(always)]
 fn begins_star_lines(format: Format, bytes: &[u8], first: DigitRun) -> bool
     requires { first.start + 4 ≤ length bytes.now }

@@ -54,9 +54,9 @@ pub enum DriveFault {
     OutOfMemory {
         session: Session<Shell>,
     },
-    /// A worker was refused a step, and ended there, while the others went on: those that were not refused made all their
-    /// walks. The entries are those of a run, those of refused workers without their ends; the cause is that of the
-    /// refused worker with the lowest number.
+    /// A worker was refused a step, and ended there, while the others went on: those that were not refused made all
+    /// their walks. The entries are those of a run, those of refused workers without their ends; the cause is that of
+    /// the refused worker with the lowest number.
     Stopped {
         driven: Driven,
         cause: Cause,
@@ -290,8 +290,8 @@ fn walk_in_turns<E: Engine<Step = Step, Reply = Reply> + Drop, R: Wait>(
     unreachable!()
 }
 
-// Makes one step in a turn. It is refused where the session refuses it, for memory only where the journal is not full. A
-// pass that has drawn all of its turns made an entry in each of them, and these fill the journal.
+// Makes one step in a turn. It is refused where the session refuses it, for memory only where the journal is not
+// full. A pass that has drawn all of its turns made an entry in each of them, and these fill the journal.
 fn step_in_turn<E: Engine<Step = Step, Reply = Reply> + Drop, R: Wait>(
     rt: &R,
     book: &TurnBook<Session<E>>,
