@@ -14,8 +14,11 @@ from .workers import crowd
 # How long the trace rests in its middle: longer than the line waits, so that no machine is too fast for it.
 REST = 1.5
 # The call works for so long, each time longer by as much, and then rests, longer than a line stands before it is drawn anew:
-# so a line is drawn again and again, however fast the machine is.
-WORKING, RESTING = 0.004, 0.25
+# so a line is drawn again and again, however fast the machine is. Where the line went on by more than this part of the whole,
+# it works half as long from there on: so however busy the machine is, the last line is near the end.
+WORKING, RESTING, PART = 0.004, 0.25, 0.08
+# A machine may still rest at any time, so of this many calls one has to be drawn to its end.
+TRIES = 3
 LINE = re.compile(rb"\r([a-z]+): (?:([0-9]{1,3}) % of accesses|([0-9]+) batches), ([0-9]+):([0-5][0-9])\x1b\[K")
 CLEARED = b"\r\x1b[K"
 
@@ -24,9 +27,9 @@ class Shown:
     """A call at a terminal of its own: how it ended, and what was drawn on the terminal, in pieces with the seconds after
     which they came."""
 
-    def __init__(self, words, text):
+    def __init__(self, words, text, whole):
         terminal, error = pty.openpty()
-        self.terminal, self.pieces, self.start = terminal, [], time.monotonic()
+        self.terminal, self.whole, self.pieces, self.start = terminal, whole, [], time.monotonic()
         self.process = subprocess.Popen(words, stdin=subprocess.PIPE, stdout=subprocess.PIPE, stderr=error)
         os.close(error)
         self.out, threads = b"", [threading.Thread(target=it) for it in (self.read_terminal, self.read_output)]
@@ -53,6 +56,9 @@ class Shown:
     def drawn(self):
         return b"".join(piece for _, piece in self.pieces)
 
+    def numbers(self):
+        return [int(it[2] or it[3]) for it in LINE.finditer(self.drawn())]
+
     def seconds_of_last_line(self):
         return max((seconds for seconds, piece in self.pieces if LINE.search(piece)), default=0)
 
@@ -60,7 +66,8 @@ class Shown:
         """Has the process work and rest in turn, until the line is cleared."""
         end, working = time.monotonic() + SECONDS, 0
         while self.process.poll() is None and not self.drawn().endswith(CLEARED):
-            working += WORKING
+            before, last = [0, 0, *self.numbers()][-2:]
+            working = working / 2 if last - before > PART * self.whole else working + WORKING
             time.sleep(working)
             if time.monotonic() > end:
                 self.process.kill()
@@ -82,40 +89,51 @@ class Shown:
 
 def fault_of_lines(shown, fault, name, is_counted):
     """What is wrong with what was drawn: lines of the subcommand, which is known to the end or not, cleared, and a fault."""
-    drawn, seconds = shown.drawn(), shown.seconds_of_last_line()
+    drawn = shown.drawn()
     end = CLEARED + octets(fault).replace(b"\n", b"\r\n")
     found = list(LINE.finditer(drawn))
     if not found or b"".join(it[0] for it in found) + end != drawn:
         return "these are not lines of progress that are cleared in the end"
     if any(it[1] != name.encode() or (it[2] is None) == is_counted for it in found):
         return "a line is of another subcommand, or counts otherwise"
-    numbers, times = [int(it[2] or it[3]) for it in found], [60 * int(it[4]) + int(it[5]) for it in found]
+    numbers, times = shown.numbers(), times_of(found)
     if numbers != sorted(numbers) or times != sorted(times):
         return "the lines go back"
-    if is_counted and numbers[-1] > 100:
+    if numbers[-1] > shown.whole or is_counted and numbers.count(100) > 1:
         return "a line is over the end"
-    if not max(1, seconds - 2) <= times[-1] <= seconds:
-        return f"the last line shows another time than {seconds:.1f} seconds"
-    if is_counted and not fault and len(found) > 4:
-        # What is drawn last is near the end, and no line but that one says that it is there.
-        if numbers[-1] < 60 or numbers[0] > 50 or numbers.count(100) > 1:
-            return "the percents do not go from the beginning to the end"
     return None
 
 
-def expect_progress(check, trace, *words, is_counted=True, fault="", most_batches=None):
+def times_of(found):
+    return [60 * int(it[4]) + int(it[5]) for it in found]
+
+
+def fault_of_pace(shown, first, last):
+    """What is wrong with the times and the numbers of the lines that were drawn: these go from below one part of the whole to
+    above another."""
+    seconds, numbers = shown.seconds_of_last_line(), shown.numbers()
+    if not max(1, seconds - 2) <= times_of(LINE.finditer(shown.drawn()))[-1] <= seconds:
+        return f"the last line shows another time than {seconds:.1f} seconds"
+    if len(numbers) > 4 and not (numbers[0] <= first * shown.whole and numbers[-1] >= last * shown.whole):
+        return f"the numbers do not go from the beginning to the end, which is {shown.whole}"
+    return None
+
+
+def expect_progress(check, trace, *words, batches=None, fault=""):
     """The line is drawn and cleared, and the reports are those of a call whose standard error is a file, where nothing is
-    drawn. Where the call ends in a fault, that has the line to itself."""
+    drawn. Where the call ends in a fault, that has the line to itself. The line counts to 100, or to a number of batches."""
     name, text = f"the line of {' '.join(map(str, words))}"[:200], trace.read_bytes()
-    shown = Shown([check.program, *map(str, words)], text)
+    ends = (1, 0) if fault else (1, 0.25) if batches else (0.5, 0.6)
     plain = check.call(*words, stdin=trace)
+    for _ in range(TRIES):
+        shown = Shown([check.program, *map(str, words)], text, batches or 100)
+        wrong = fault_of_lines(shown, fault, words[0], not batches)
+        slow = None if wrong else fault_of_pace(shown, *ends)
+        if wrong or not slow:
+            break
     check.compare(name, Ended(shown.status, shown.out, plain.error), Ended(1 if fault else 0, plain.out, octets(fault)))
-    wrong = fault_of_lines(shown, fault, words[0], is_counted)
-    counts = [int(it[3]) for it in LINE.finditer(shown.drawn()) if it[3]]
-    if not wrong and most_batches and not most_batches // 4 <= counts[-1] <= most_batches:
-        wrong = f"the last line counts {counts[-1]} of {most_batches} batches"
-    if wrong:
-        check.fail(name, f"{wrong}; there came\n{shown.pieces}")
+    if wrong or slow:
+        check.fail(name, f"{wrong or slow}; there came\n{shown.pieces}")
 
 
 @part(15)
@@ -123,11 +141,12 @@ def progress(check):
     """The line of each subcommand that has one. The calls rest for most of their time, so they are made side by side."""
     longer = crowd(check, "longer", check.size(3, 20))
     rows = longer.read_bytes().splitlines(keepends=True)
+    batches = 2 * -(-len(rows) // 1024)
     driven = check.file("driven", b"".join(rows[:50000]))
     faulty = check.file("faulty", b"".join(rows) + b"x\n")
     cache, two, alone = ("--capacity", 50), ("wtinylfu", "clairvoyant"), ("--capacity", 1000, "--workers", 1, "--limit")
     calls = [
-        (longer, ["run", *cache, *two], {"is_counted": False, "most_batches": 2 * -(-len(rows) // 1024)}),
+        (longer, ["run", *cache, *two], {"batches": batches}),
         (longer, ["sweep", "--policy", two[0], "--policy", two[1], 50, 60], {}),
         (longer, ["intervals", *cache, "--every", 100000, *two], {}),
         (longer, ["part", *cache, "--first", "wtinylfu", "--second", "wtinylfu"], {}),
@@ -135,6 +154,6 @@ def progress(check):
         (longer, ["compare", *cache, "--first", two[0], "--second", two[1], "--every", 100000], {}),
         (driven, ["drive", *alone, 2**24], {}),
         (driven, ["drive", *alone, 1000], {"fault": "fault: JournalFull\n"}),
-        (faulty, ["run", *cache, "lru"], {"is_counted": False, "fault": f"fault: BadNumber line {len(rows) + 1}\n"})]
+        (faulty, ["run", *cache, *two], {"batches": batches, "fault": f"fault: BadNumber line {len(rows) + 1}\n"})]
     with ThreadPoolExecutor(len(calls)) as pool:
         list(pool.map(lambda it: expect_progress(check, it[0], *it[1], **it[2]), calls))
