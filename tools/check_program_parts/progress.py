@@ -67,7 +67,7 @@ class Shown:
         end, working = time.monotonic() + SECONDS, 0
         while self.process.poll() is None and not self.drawn().endswith(CLEARED):
             before, last = [0, 0, *self.numbers()][-2:]
-            working = working / 2 if last - before > PART * self.whole else working + WORKING
+            working = max(WORKING, working / 2) if last - before > PART * self.whole else working + WORKING
             time.sleep(working)
             if time.monotonic() > end:
                 self.process.kill()
