@@ -9,7 +9,7 @@ use Rattle.segments.proofs.MoveLaws.{move-recorded, out-recorded}
 use Rattle.segments.proofs.QueueLists.{absent-taken, distinct-taken, distinct-put, put-last}
 use Rattle.replacement.specs.declared.record.Moves.{Moves}
 use Rattle.replacement.specs.Plan.{Transfer, Plan}
-use Rattle.replacement.specs.PlanMoves.{queues_after_transfer, removed, queues_after, transfer_record, removal_record, moves_of, undone_by, undone_moves, FitsBy, needed_by, FitsMoves}
+use Rattle.replacement.specs.PlanMoves.{queues_after_transfer, removed, queues_after, transfer_record, removal_record, moves_of, undone_by, FitsBy, needed_by, UndoesMoves}
 
 pub moved-distinct : (i : Item) (q : Queue) (s : Queues) → IsDistinct s → IsDistinct (queues_after_move i q s)
 moved-distinct i q s d =
@@ -37,11 +37,6 @@ removal-undone (Some i) s d =
 transfer-stays : (t : Option Transfer) (s : Queues) → needed_by (transfer_record t s) ≡ 0
 transfer-stays None s = refl
 transfer-stays (Some t) s = refl
-
--- the record of several moves fits what they left, and undoes them
-pub record UndoesMoves (before after : Queues) (m : Moves) : Type 0 where
-  pub fits : FitsMoves m after
-  pub undone : undone_moves m after ≡ before
 
 moves-undone : (m : Moves) (s a b e : Queues) → UndoesMove s a m.first → UndoesMove a b m.out → UndoesMove b e m.last → needed_by m.last ≡ 0 → needed_by m.first ≡ 0
     → UndoesMoves s e m

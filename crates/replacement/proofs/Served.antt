@@ -13,9 +13,9 @@ use Rattle.replacement.specs.declared.rules.HitRule.{HitRule}
 use Rattle.replacement.specs.declared.rules.HitRule.TheVariants.{Renews, Stays}
 use Rattle.replacement.specs.declared.rules.Rules.{Rules}
 use Rattle.replacement.specs.Plan.{Transfer, Plan, hit_plan, hit_plan_by, eviction_plan, joining_first, miss_plan_by, miss_plan, plan}
-use Rattle.replacement.specs.PlanMoves.{queues_after_transfer, removed, queues_after, transfer_record, removal_record, moves_of}
+use Rattle.replacement.specs.PlanMoves.{queues_after_transfer, removed, queues_after, transfer_record, removal_record, moves_of, UndoesMoves}
 use Rattle.replacement.specs.Effects.{IsEffect, IsHit, IsHitBy}
-use Rattle.replacement.proofs.Carrying.{UndoesMoves, plan-undone}
+use Rattle.replacement.proofs.Carrying.{plan-undone}
 use Rattle.replacement.proofs.Planned.{plan-at, evicts-first}
 
 -- a hit

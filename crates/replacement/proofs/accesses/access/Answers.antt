@@ -16,12 +16,7 @@ returns-clause-lists g c =
     c.access_planned.ensures.effect.lists
     ∙ ap (λ (x : Response). x.queues) (sym (accesses-planned c.args.rules.now (admits_in (option_map (λ f. f.now) c.args.frequency)) c.args.item c.args.segments.now.lists c.access_planned.ensures.distinct))
 
-pub returns-clause-fits : goal.returns-clause-fits
-returns-clause-fits g c =
-    (plan-undone (plan c.args.rules.now (admits_in (option_map (λ f. f.now) c.args.frequency)) c.args.item c.args.segments.now.lists) c.args.segments.now.lists c.access_planned.new.segments.lists c.access_planned.result.moves c.access_planned.ensures.distinct
-    c.access_planned.ensures.effect.lists c.access_planned.ensures.effect.moves).fits
-
-pub returns-clause-undone : goal.returns-clause-undone
-returns-clause-undone g c =
-    (plan-undone (plan c.args.rules.now (admits_in (option_map (λ f. f.now) c.args.frequency)) c.args.item c.args.segments.now.lists) c.args.segments.now.lists c.access_planned.new.segments.lists c.access_planned.result.moves c.access_planned.ensures.distinct
-    c.access_planned.ensures.effect.lists c.access_planned.ensures.effect.moves).undone
+pub returns-clause-undoes : goal.returns-clause-undoes
+returns-clause-undoes g c =
+    plan-undone (plan c.args.rules.now (admits_in (option_map (λ f. f.now) c.args.frequency)) c.args.item c.args.segments.now.lists) c.args.segments.now.lists c.access_planned.new.segments.lists c.access_planned.result.moves c.access_planned.ensures.distinct
+    c.access_planned.ensures.effect.lists c.access_planned.ensures.effect.moves

@@ -19,13 +19,9 @@ returns-clause-record c = record {
   moves = rw (c.in_ok-queue.ensures.record.is, c.settle-last.ensures.record, c.in_ok-queue.ensures.lists) refl;
 }
 
-pub returns-clause-fits : goal.returns-clause-fits
-returns-clause-fits c =
-    (hit-undone c.args.size c.args.item c.args.segments.now.lists c.settle-last.new.segments.lists _ c.in_ok-queue.ensures.distinct (returns-clause-record c)).fits
-
-pub returns-clause-undone : goal.returns-clause-undone
-returns-clause-undone c =
-    (hit-undone c.args.size c.args.item c.args.segments.now.lists c.settle-last.new.segments.lists _ c.in_ok-queue.ensures.distinct (returns-clause-record c)).undone
+pub returns-clause-undoes : goal.returns-clause-undoes
+returns-clause-undoes c =
+    hit-undone c.args.size c.args.item c.args.segments.now.lists c.settle-last.new.segments.lists _ c.in_ok-queue.ensures.distinct (returns-clause-record c)
 
 pub returns-clause-keepable : goal.returns-clause-keepable
 returns-clause-keepable c = (

@@ -16,12 +16,7 @@ returns-clause-lists c =
     c.evict_planned.ensures.effect.lists
     ∙ ap (λ (x : Response). x.queues) (sym (evictions-planned c.args.rules.now (admits_in (option_map (λ f. f.now) c.args.frequency)) c.args.segments.now.lists c.requires.distinct))
 
-pub returns-clause-fits : goal.returns-clause-fits
-returns-clause-fits c =
-    (plan-undone (eviction_plan c.args.rules.now (admits_in (option_map (λ f. f.now) c.args.frequency)) c.args.segments.now.lists) c.args.segments.now.lists c.evict_planned.new.segments.lists c.evict_planned.result.moves c.requires.distinct
-    c.evict_planned.ensures.effect.lists c.evict_planned.ensures.effect.moves).fits
-
-pub returns-clause-undone : goal.returns-clause-undone
-returns-clause-undone c =
-    (plan-undone (eviction_plan c.args.rules.now (admits_in (option_map (λ f. f.now) c.args.frequency)) c.args.segments.now.lists) c.args.segments.now.lists c.evict_planned.new.segments.lists c.evict_planned.result.moves c.requires.distinct
-    c.evict_planned.ensures.effect.lists c.evict_planned.ensures.effect.moves).undone
+pub returns-clause-undoes : goal.returns-clause-undoes
+returns-clause-undoes c =
+    plan-undone (eviction_plan c.args.rules.now (admits_in (option_map (λ f. f.now) c.args.frequency)) c.args.segments.now.lists) c.args.segments.now.lists c.evict_planned.new.segments.lists c.evict_planned.result.moves c.requires.distinct
+    c.evict_planned.ensures.effect.lists c.evict_planned.ensures.effect.moves
