@@ -6,7 +6,7 @@ use Rattle.segments.specs.declared.records.Queue.{Queue}
 use Rattle.segments.specs.declared.records.MoveRecord.{MoveRecord}
 use Rattle.segments.specs.Items.{occurrences, oldest_of, last_item, before}
 use Rattle.segments.specs.Queues.{Queues, queue_of, queue_holding, IsDistinct}
-use Rattle.segments.specs.Moves.{move_record}
+use Rattle.segments.specs.Moves.{move_record, IsMoveRecord}
 use Rattle.segments.proofs.ItemLists.{same-refl}
 use Rattle.segments.proofs.QueueLists.{placed}
 use Rattle.replacement.specs.KeptMoves.{IsOldest, IsDrop, IsFirstMove}
@@ -32,11 +32,11 @@ sent-oldest q to i s r d e h =
     let p = placed q i s d (first-times (queue_of q s) i e) in
     rw (h, p) (none-before (queue_of q s) i e, tt)
 
-pub sent-if : (q to : Queue) (o : Option MoveRecord) (s : Queues) → IsDistinct s
+pub sent-if : (q to : Queue) (o : Option MoveRecord) (s t : Queues) → IsDistinct s
     → MatchOption o (queue_of q s ≡ []) (λ r. oldest_of (queue_of q s) ≡ Some r.item)
-    → IfSome o (λ r. r ≡ move_record r.item (Some to) s) → IsOldest o
-sent-if q to None s d e h = tt
-sent-if q to (Some r) s d e h = sent-oldest q to r.item s r d e h
+    → IfSome o (λ r. IsMoveRecord r.item (Some to) s t r) → IsOldest o
+sent-if q to None s t d e h = tt
+sent-if q to (Some r) s t d e h = sent-oldest q to r.item s r d e h.is
 
 -- the oldest of a queue goes out
 pub dropped-oldest : (q : Queue) (i : Item) (s : Queues) (r : MoveRecord) → IsDistinct s → oldest_of (queue_of q s) ≡ Some i

@@ -9,7 +9,7 @@ use Rattle.segments.specs.Items.{is_same_item, occurrences, items_without, oldes
 use Rattle.segments.specs.Queues.{Queues, queue_of, queue_holding, queues_without, queues_after_move, total_items, IsDistinct}
 use Rattle.segments.proofs.ItemLists.{same-refl, same-sym, length-without, without-none, without-append}
 use Rattle.segments.proofs.MoveLaws.{taken-moved}
-use Rattle.segments.proofs.QueueLists.{first-stands}
+use Rattle.segments.proofs.QueueLists.{first-stands, pushed-moved, still-absent}
 use Rattle.replacement.specs.declared.rules.Placement.{Placement}
 use Rattle.replacement.specs.declared.rules.Placement.TheVariants.{Direct, Windowed}
 use Rattle.replacement.specs.declared.rules.HitRule.{HitRule}
@@ -19,8 +19,7 @@ use Rattle.replacement.specs.Table.{Response, kept_in, with_recent, queues_after
 use Rattle.replacement.specs.Plan.{Plan, Transfer, transfer, demotion, hit_plan_by, stay_plan, contest_plan, direct_plan, candidate_of, eviction_of, eviction_plan, joining_first, miss_plan_by, miss_plan, plan_in, plan}
 use Rattle.replacement.specs.PlanMoves.{queues_after_transfer, removed, response_of_plan}
 use Rattle.replacement.specs.Theorems.{HitsPlanned, EvictionsPlanned, AccessesPlanned}
-use Rattle.segments.proofs.QueueLists.{still-absent}
-use Rattle.replacement.proofs.Carrying.{moved-distinct, pushed-moved}
+use Rattle.replacement.proofs.Carrying.{moved-distinct}
 
 -- ---- hits
 

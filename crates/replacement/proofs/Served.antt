@@ -13,15 +13,15 @@ use Rattle.replacement.specs.declared.rules.HitRule.{HitRule}
 use Rattle.replacement.specs.declared.rules.HitRule.TheVariants.{Renews, Stays}
 use Rattle.replacement.specs.declared.rules.Rules.{Rules}
 use Rattle.replacement.specs.Plan.{Transfer, Plan, hit_plan, hit_plan_by, eviction_plan, joining_first, miss_plan_by, miss_plan, plan}
-use Rattle.replacement.specs.PlanMoves.{queues_after_transfer, removed, queues_after, transfer_record, removal_record, moves_of}
+use Rattle.replacement.specs.PlanMoves.{queues_after_transfer, removed, queues_after, transfer_record, removal_record, moves_of, UndoesMoves}
 use Rattle.replacement.specs.Effects.{IsEffect, IsHit, IsHitBy}
-use Rattle.replacement.proofs.Carrying.{IsUndone, undoes}
+use Rattle.replacement.proofs.Carrying.{plan-undone}
 use Rattle.replacement.proofs.Planned.{plan-at, evicts-first}
 
 -- a hit
 
-pub hit-undone : (size : ℕ) (i : Item) (s t : Queues) (m : Moves) → IsDistinct s → IsHit size i s t m → IsUndone s t m
-hit-undone size i s t m d h = undoes (hit_plan size i h.queue s) s t m d h.lists h.moves
+pub hit-undone : (size : ℕ) (i : Item) (s t : Queues) (m : Moves) → IsDistinct s → IsHit size i s t m → UndoesMoves s t m
+hit-undone size i s t m d h = plan-undone (hit_plan size i h.queue s) s t m d h.lists h.moves
 
 hit-outcome : (h : HitRule) (size : ℕ) (i : Item) (q : Queue) (s : Queues) → Hit ≡ (hit_plan_by h size i q s).outcome
 hit-outcome Renews size i q s = refl

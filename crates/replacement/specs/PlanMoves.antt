@@ -66,3 +66,8 @@ pub record FitsMoves (m : Moves) (s : Queues) : Type 0 where
   pub out : FitsBy m.out (undone_by m.last s)
   pub first : FitsBy m.first (undone_by m.out (undone_by m.last s))
   pub stays : (needed_by m.last ≡ 0) × (needed_by m.first ≡ 0)
+
+-- the record fits the queues that its moves left, and undoes them
+pub record UndoesMoves (before after : Queues) (m : Moves) : Type 0 where
+  pub fits : FitsMoves m after
+  pub undone : undone_moves m after ≡ before

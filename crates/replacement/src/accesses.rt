@@ -4,7 +4,7 @@ ghost use Rattle.segments.specs.Queues.{IsDistinct};
 ghost use Rattle.replacement.specs.Admission.{admits_in};
 ghost use Rattle.replacement.specs.Table.{access};
 ghost use Rattle.replacement.specs.Plan.{plan};
-ghost use Rattle.replacement.specs.PlanMoves.{moves_of, undone_moves, FitsMoves};
+ghost use Rattle.replacement.specs.PlanMoves.{moves_of, UndoesMoves};
 ghost use Rattle.replacement.specs.Effects.{IsEffect};
 ghost use Rattle.replacement.specs.KeptMoves.{IsKeepable};
 
@@ -36,8 +36,7 @@ pub fn access<C>(
     ensures record { result.moves
         ≡ moves_of (plan rules.now (admits_in (option_map
         (λ f. f.now) frequency.entry)) item segments.old.lists) segments.old.lists }
-    ensures fits { FitsMoves result.moves segments.new.lists }
-    ensures undone { undone_moves result.moves segments.new.lists ≡ segments.old.lists }
+    ensures undoes { UndoesMoves segments.old.lists segments.new.lists result.moves }
     ensures keepable { IsKeepable result.moves }
     // what holds of every Segments: no item stands twice
     ensures distinct { IsDistinct segments.old.lists }

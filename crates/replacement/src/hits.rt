@@ -3,7 +3,7 @@ ghost use Rattle.std.specs.Prelude.{◌≡◌, ◌≤◌, ◌↔◌, Option, Som
 ghost use Rattle.segments.specs.Queues.{queue_holding, IsDistinct};
 ghost use Rattle.replacement.specs.Table.{after_hit};
 ghost use Rattle.replacement.specs.Plan.{demotion, settling};
-ghost use Rattle.replacement.specs.PlanMoves.{queues_after_transfer, transfer_record, undone_moves, FitsMoves};
+ghost use Rattle.replacement.specs.PlanMoves.{queues_after_transfer, transfer_record, UndoesMoves};
 ghost use Rattle.replacement.specs.Effects.{IsHit, IsHitBy};
 ghost use Rattle.replacement.specs.KeptMoves.{IsOldest, IsKeepable};
 
@@ -20,8 +20,7 @@ pub fn hit(segments: &mut Segments, size: usize, item: Item) -> Option<Moves>
     ensures absent { result ≡ None ↔ queue_holding item segments.old.lists ≡ None }
     ensures lists { segments.new.lists ≡ after_hit size item segments.old.lists }
     ensures record { IfSome result (λ m. IsHit size item segments.old.lists segments.new.lists m) }
-    ensures fits { IfSome result (λ m. FitsMoves m segments.new.lists) }
-    ensures undone { IfSome result (λ m. undone_moves m segments.new.lists ≡ segments.old.lists) }
+    ensures undoes { IfSome result (λ m. UndoesMoves segments.old.lists segments.new.lists m) }
     ensures keepable { IfSome result (λ m. IsKeepable m) }
     ensures spare { segments.old.spare ≤ segments.new.spare }
     // what holds of every Segments: no item stands twice

@@ -4,7 +4,7 @@ ghost use Rattle.segments.specs.Queues.{queue_holding, queues_after_move, IsDist
 ghost use Rattle.replacement.specs.Admission.{admits_in};
 ghost use Rattle.replacement.specs.Table.{eviction};
 ghost use Rattle.replacement.specs.Plan.{direct_plan, eviction_plan, joining_first};
-ghost use Rattle.replacement.specs.PlanMoves.{moves_of, undone_moves, FitsMoves};
+ghost use Rattle.replacement.specs.PlanMoves.{moves_of, UndoesMoves};
 ghost use Rattle.replacement.specs.Effects.{IsEffect};
 ghost use Rattle.replacement.specs.KeptMoves.{IsDrop, IsKeepable};
 
@@ -30,8 +30,7 @@ pub fn evict(segments: &mut Segments, frequency: Option<&Frequency>, rules: &Rul
     ensures record { result.moves
         ≡ moves_of (eviction_plan rules.now (admits_in
         (option_map (λ f. f.now) frequency.entry)) segments.old.lists) segments.old.lists }
-    ensures fits { FitsMoves result.moves segments.new.lists }
-    ensures undone { undone_moves result.moves segments.new.lists ≡ segments.old.lists }
+    ensures undoes { UndoesMoves segments.old.lists segments.new.lists result.moves }
     ensures keepable { IsKeepable result.moves }
 {
     evict_planned(segments, frequency, rules)

@@ -5,7 +5,7 @@ ghost use Rattle.queue_table.specs.Entries.{entry};
 ghost use Rattle.segments.specs.Items.{oldest_of};
 ghost use Rattle.segments.specs.Queues.{empty_queues, queue_of, queue_holding, IsDistinct, queues_after_push, queues_without, queues_after_move, queues_after_pop};
 ghost use Rattle.segments.specs.Queues.{queue_after_access, total_items};
-ghost use Rattle.segments.specs.Moves.{move_record, queues_before_move, FitsMove, room_needed};
+ghost use Rattle.segments.specs.Moves.{IsMoveRecord, FitsMove, queues_before_move, room_needed};
 
 use crate::names::{name, number, queue_place, table_place};
 use crate::records::{MoveRecord, Queue};
@@ -110,9 +110,7 @@ impl Segments {
         requires room { 1 ≤ self.old.spare }
         requires absent { queue_holding item self.old.lists ≡ None }
         ensures lists { self.new.lists ≡ queues_after_push queue item self.old.lists }
-        ensures record { result ≡ move_record item (Some queue) self.old.lists }
-        ensures fits { FitsMove result self.new.lists }
-        ensures undone { queues_before_move result self.new.lists ≡ self.old.lists }
+        ensures record { IsMoveRecord item (Some queue) self.old.lists self.new.lists result }
         ensures spare { self.old.spare ≤ self.new.spare + 1 }
     {
         self.table.push(number(queue), entry_for(item));
@@ -129,9 +127,7 @@ impl Segments {
         ensures absent { result ≡ None ↔ queue_holding item self.old.lists ≡ None }
         ensures lists { IfSome result (λ _. self.new.lists ≡ queues_after_move item queue self.old.lists) }
         ensures none { IfNone result (self.new.lists ≡ self.old.lists) }
-        ensures record { IfSome result (λ r. r ≡ move_record item (Some queue) self.old.lists) }
-        ensures fits { IfSome result (λ r. FitsMove r self.new.lists) }
-        ensures undone { IfSome result (λ r. queues_before_move r self.new.lists ≡ self.old.lists) }
+        ensures record { IfSome result (λ r. IsMoveRecord item (Some queue) self.old.lists self.new.lists r) }
         ensures spare { self.old.spare ≤ self.new.spare }
     {
         let Some(found) = self.table.find(item) else {
@@ -154,9 +150,8 @@ impl Segments {
         ensures place { IfSome result (λ r. queue_holding item self.old.lists ≡ Some r.0) }
         ensures lists { IfSome result (λ r. self.new.lists ≡ queues_after_move item (queue_after_access r.0) self.old.lists) }
         ensures none { IfNone result (self.new.lists ≡ self.old.lists) }
-        ensures record { IfSome result (λ r. r.1 ≡ move_record item (Some (queue_after_access r.0)) self.old.lists) }
-        ensures fits { IfSome result (λ r. FitsMove r.1 self.new.lists) }
-        ensures undone { IfSome result (λ r. queues_before_move r.1 self.new.lists ≡ self.old.lists) }
+        ensures record { IfSome result (λ r.
+            IsMoveRecord item (Some (queue_after_access r.0)) self.old.lists self.new.lists r.1) }
         ensures spare { self.old.spare ≤ self.new.spare }
         // Of every `Segments`: no item stands twice.
         ensures distinct { IsDistinct self.old.lists }
@@ -182,9 +177,7 @@ impl Segments {
             (λ r. oldest_of (queue_of queue self.old.lists) ≡ Some r.0) }
         ensures lists { self.new.lists ≡ queues_after_pop queue self.old.lists }
         ensures none { IfNone result (self.new.lists ≡ self.old.lists) }
-        ensures record { IfSome result (λ r. r.1 ≡ move_record r.0 None self.old.lists) }
-        ensures fits { IfSome result (λ r. FitsMove r.1 self.new.lists) }
-        ensures undone { IfSome result (λ r. queues_before_move r.1 self.new.lists ≡ self.old.lists) }
+        ensures record { IfSome result (λ r. IsMoveRecord r.0 None self.old.lists self.new.lists r.1) }
         ensures spare { self.old.spare ≤ self.new.spare }
         ensures gained { IfSome result (λ _. self.old.spare + 1 ≤ self.new.spare) }
     {
@@ -210,13 +203,10 @@ impl Segments {
             (λ r. oldest_of (queue_of queue self.old.lists) ≡ Some r.0.item) }
         ensures lists { IfSome result (λ _. self.new.lists ≡ queues_after_push queue item (queues_after_pop queue self.old.lists)) }
         ensures none { IfNone result (self.new.lists ≡ self.old.lists) }
-        ensures out { IfSome result (λ r. r.0 ≡ move_record r.0.item None self.old.lists) }
-        ensures put { IfSome result (λ r. r.1 ≡ move_record item (Some queue) (queues_after_pop queue self.old.lists)) }
-        ensures fits { IfSome result (λ r. FitsMove r.1 self.new.lists) }
-        ensures undone { IfSome result (λ r. queues_before_move r.1 self.new.lists ≡ queues_after_pop queue self.old.lists) }
-        ensures fits_before { IfSome result (λ r. FitsMove r.0 (queues_after_pop queue self.old.lists)) }
-        ensures undone_both { IfSome result (λ r. queues_before_move r.0 (queues_after_pop queue self.old.lists)
-            ≡ self.old.lists) }
+        ensures out { IfSome result (λ r.
+            IsMoveRecord r.0.item None self.old.lists (queues_after_pop queue self.old.lists) r.0) }
+        ensures put { IfSome result (λ r.
+            IsMoveRecord item (Some queue) (queues_after_pop queue self.old.lists) self.new.lists r.1) }
         ensures spare { self.old.spare ≤ self.new.spare }
     {
         self.table.distinct();
@@ -254,9 +244,7 @@ impl Segments {
             (λ r. oldest_of (queue_of from self.old.lists) ≡ Some r.item) }
         ensures lists { IfSome result (λ r. self.new.lists ≡ queues_after_move r.item to self.old.lists) }
         ensures none { IfNone result (self.new.lists ≡ self.old.lists) }
-        ensures record { IfSome result (λ r. r ≡ move_record r.item (Some to) self.old.lists) }
-        ensures fits { IfSome result (λ r. FitsMove r self.new.lists) }
-        ensures undone { IfSome result (λ r. queues_before_move r self.new.lists ≡ self.old.lists) }
+        ensures record { IfSome result (λ r. IsMoveRecord r.item (Some to) self.old.lists self.new.lists r) }
         ensures spare { self.old.spare ≤ self.new.spare }
     {
         self.table.distinct();
@@ -276,9 +264,7 @@ impl Segments {
         ensures absent { result ≡ None ↔ queue_holding item self.old.lists ≡ None }
         ensures lists { self.new.lists ≡ queues_without item self.old.lists }
         ensures none { IfNone result (self.new.lists ≡ self.old.lists) }
-        ensures record { IfSome result (λ r. r ≡ move_record item None self.old.lists) }
-        ensures fits { IfSome result (λ r. FitsMove r self.new.lists) }
-        ensures undone { IfSome result (λ r. queues_before_move r self.new.lists ≡ self.old.lists) }
+        ensures record { IfSome result (λ r. IsMoveRecord item None self.old.lists self.new.lists r) }
         ensures spare { self.old.spare ≤ self.new.spare }
         ensures gained { IfSome result (λ _. self.old.spare + 1 ≤ self.new.spare) }
     {

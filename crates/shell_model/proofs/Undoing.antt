@@ -1,5 +1,5 @@
 -- Each step's change fits what the step left, and undoes it.
-use Rattle.std.proofs.Common.{◌≡◌, ℕ, suc, zero, ◌+◌, ◌-◌, ◌<◌, ◌≤◌, Bool, true, cond, ◌&&◌, eqb, nat_lt, Option, Some, None, List, [], ◌∷◌, ◌++◌, length, set, drop, ap, sym, subst, refl, arith, inl, inr, length-append}
+use Rattle.std.proofs.Common.{◌≡◌, ℕ, suc, zero, ◌+◌, ◌-◌, ◌<◌, ◌≤◌, Bool, true, cond, ◌&&◌, eqb, nat_lt, Option, Some, None, List, [], ◌∷◌, ◌++◌, length, set, drop, ap, sym, refl, arith, inl, inr, length-append}
 use Rattle.std.proofs.lemmas.Bool.{and_parts, cases_Bool, cond_both, eqb-false, ltb-true}
 use Rattle.std.proofs.lemmas.List.{take_at, get_or-set_same, set-set, set-get_or, length-set}
 use Rattle.step_record.specs.declared.item.Item.{Item}
@@ -15,13 +15,12 @@ use Rattle.segments.specs.declared.records.MoveRecord.{MoveRecord}
 use Rattle.segments.specs.Items.{is_same_item, occurrences, oldest_of}
 use Rattle.segments.specs.Queues.{Queues, queue_holding, queues_after_push, queues_after_move, queues_without, IsDistinct}
 use Rattle.segments.proofs.ItemLists.{same-refl, same-true}
-use Rattle.segments.proofs.MoveLaws.{out_leads, taken-none}
-use Rattle.replacement.specs.declared.record.Moves.{Moves}
+use Rattle.segments.proofs.MoveLaws.{taken-none}
 use Rattle.replacement.specs.Rules.{three_queues}
 use Rattle.replacement.specs.Table.{hit_in}
 use Rattle.replacement.specs.Plan.{Plan, hit_plan, stay_plan, candidate_of, eviction_plan}
-use Rattle.replacement.specs.PlanMoves.{queues_after_transfer, queues_after, response_of_plan, removal_record, moves_of, undone_by, undone_moves, FitsBy, FitsMoves}
-use Rattle.replacement.proofs.Carrying.{carries}
+use Rattle.replacement.specs.PlanMoves.{queues_after_transfer, queues_after, response_of_plan, removal_record, moves_of, undone_moves, UndoesMoves}
+use Rattle.replacement.proofs.Carrying.{UndoesMove, removal-undone, plan-undone}
 use Rattle.replacement.proofs.Planned.{hits-planned, evictions-planned}
 use Rattle.shell_buffers.specs.declared.task.Task.{Task}
 use Rattle.shell_buffers.specs.declared.task.Task.TheVariants.{Add, Update, Remove}
@@ -114,19 +113,11 @@ begin-goes w None x e = record { fits = (refl, refl); back = rw (← e) refl }
 
 -- hits
 
--- what was moved fits, and leads back
-pub record MovesBack (m : Moves) (q r : Queues) : Type 0 where
-  pub fits : FitsMoves m r
-  pub back : undone_moves m r ≡ q
-
-plan-back : (p : Plan) (q : Queues) → IsDistinct q → MovesBack (moves_of p q) q (queues_after p q)
-plan-back p q d = let c = carries p q d in record { fits = c.fits; back = c.back }
-
 pub hit-back : (size : ℕ) (i : Item) (q : Queues) (p : Option Queue) → IsDistinct q
-    → MovesBack (hit_moves size i p q) q (hit_in size i p q)
-hit-back size i q None d = record { fits = record { last = tt; out = tt; first = tt; stays = (refl, refl) }; back = refl }
+    → UndoesMoves q (hit_in size i p q) (hit_moves size i p q)
+hit-back size i q None d = record { fits = record { last = tt; out = tt; first = tt; stays = (refl, refl) }; undone = refl }
 hit-back size i q (Some p) d =
-    subst (λ r. MovesBack (hit_moves size i (Some p) q) q r) (sym (hits-planned size i p q)) (plan-back (hit_plan size i p q) q d)
+    plan-undone (hit_plan size i p q) q (hit_in size i (Some p) q) (hit_moves size i (Some p) q) d (hits-planned size i p q) refl
 
 hit-stays : (size : ℕ) (i : Item) (q : Queues) (p : Option Queue) → (hit_moves size i p q).out ≡ None
 hit-stays size i q None = refl
@@ -150,7 +141,7 @@ touch-back i x w =
         frequency = fits_recorded x.frequency i.key w.frequency;
         stays = hit-stays (shell_protected_size x.config) i x.queues (queue_holding i x.queues);
       };
-      queues = b.back;
+      queues = b.undone;
       frequency = unrecorded-recorded x.frequency i.key w.frequency;
     }
 
@@ -182,22 +173,18 @@ added-back : (i : Item) (rest : List Task) (x : Shell) → x.writes ≡ Add i �
 added-back i rest x e w =
     let n : queues_without i x.queues ≡ x.queues = taken-none i x.queues (queued-waits i rest x e w) in
     let m : queues_after_move i Window x.queues ≡ queues_after_push Window i x.queues = ap (λ r. queues_after_push Window i r) n in
-    let b = subst (λ r. MovesBack (moves_of (stay_plan Window i) x.queues) x.queues r) m
-    (plan-back (stay_plan Window i) x.queues (sound-distinct x w)) in
+    let p = stay_plan Window i in
+    let b = plan-undone p x.queues (queues_after_push Window i x.queues) (moves_of p x.queues) (sound-distinct x w) (sym m) refl in
     record {
       fits = record { moves = b.fits; frequency = fits_recorded x.frequency i.key w.frequency; stays = refl };
-      queues = b.back;
+      queues = b.undone;
       frequency = unrecorded-recorded x.frequency i.key w.frequency;
     }
 
 -- an item is taken out, where it is queued
-pub record ClearedBack (r : Option MoveRecord) (q s : Queues) : Type 0 where
-  pub fits : FitsBy r s
-  pub back : undone_by r s ≡ q
-
-pub cleared-back : (i : Item) (q : Queues) (p : Option Queue) → IsDistinct q → ClearedBack (cleared_of i p q) q (cleared_from i p q)
-cleared-back i q None d = record { fits = tt; back = refl }
-cleared-back i q (Some p) d = let l = out_leads i q d in record { fits = l.fits; back = l.back }
+pub cleared-back : (i : Item) (q : Queues) (p : Option Queue) → IsDistinct q → UndoesMove q (cleared_from i p q) (cleared_of i p q)
+cleared-back i q None d = removal-undone None q d
+cleared-back i q (Some p) d = removal-undone (Some i) q d
 
 -- where a task is applied, a task fits before the rest again, and another one is left to the holder
 record IsTaken (h : Holder) (t : Task) (x : Shell) : Type 0 where
@@ -232,7 +219,7 @@ task-goes (Update i) rest h x e f more w =
 task-goes (Remove i) rest h x e f more w =
     let b = cleared-back i x.queues (queue_holding i x.queues) (sound-distinct x w) in
     let t = is-taken (Remove i) rest h x e f more w in
-    record { fits = (b.fits, t.room, t.phase, t.left); back = rw (b.back, t.writes, t.holder) refl }
+    record { fits = (b.fits, t.room, t.phase, t.left); back = rw (b.undone, t.writes, t.holder) refl }
 
 passed-goes : (p : Phase) (h : Holder) (x : Shell) → x.holder ≡ Some h → Goes x (Passed h.phase p)
 passed-goes p h x f = let same : holder_in_phase h.phase (holder_in_phase p x.holder) ≡ x.holder = rw f refl in record { fits = rw f refl; back = rw same refl }
@@ -290,10 +277,10 @@ planned-goes : (h : Holder) (o : Option Item) (p : Plan) (x : Shell) → x.holde
     → Goes x (planned_change h o p x)
 planned-goes h None p x f r w = passed-goes Evictions h x f
 planned-goes h (Some c) p x f r w =
-    let m = plan-back p x.queues (sound-distinct x w) in
+    let m = plan-undone p x.queues (queues_after p x.queues) (moves_of p x.queues) (sound-distinct x w) refl refl in
     let t = table-back p.leaves (queues_after_transfer p.first x.queues) x.table w.placed.ascending in
     let same : holder_in_phase h.phase (holder_in_phase Evictions x.holder) ≡ x.holder = rw f refl in
-    record { fits = (rw r record { moves = m.fits; table = t.out }, rw f refl); back = rw (r, m.back, t.back, same) refl }
+    record { fits = (rw r record { moves = m.fits; table = t.out }, rw f refl); back = rw (r, m.undone, t.back, same) refl }
 
 evict-goes : (h : Holder) (x : Shell) → x.holder ≡ Some h → IsConsistent x → Goes x (evict_change h x)
 evict-goes h x f w =

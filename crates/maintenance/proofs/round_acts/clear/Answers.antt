@@ -4,7 +4,7 @@ use Rattle.step_record.specs.declared.item.Item.{Item}
 use Rattle.segments.specs.declared.records.Queue.{Queue}
 use Rattle.segments.specs.declared.records.MoveRecord.{MoveRecord}
 use Rattle.segments.specs.Queues.{Queues, queues_without}
-use Rattle.segments.specs.Moves.{move_record}
+use Rattle.segments.specs.Moves.{IsMoveRecord}
 use Rattle.shell_model.specs.ShellState.{cleared_from}
 use Rattle.shell_model.specs.Shell.{cleared_of}
 use Rattle.maintenance.proofs.round_acts.clear.Goals as goal
@@ -15,14 +15,14 @@ lists-by i None None q q' a l n = n
 lists-by i None (Some r) q q' a l n = absurd (cc (a.1 refl))
 lists-by i (Some p) o q q' a l n = l
 
-made-by : (i : Item) (p : Option Queue) (o : Option MoveRecord) (q : Queues) → (o ≡ None ↔ p ≡ None)
-    → IfSome o (λ r. r ≡ move_record i None q) → o ≡ cleared_of i p q
-made-by i None o q a r = a.1 refl
-made-by i (Some p) None q a r = absurd (cc (a.0 refl))
-made-by i (Some p) (Some m) q a r = ap Some r
+made-by : (i : Item) (p : Option Queue) (o : Option MoveRecord) (q q' : Queues) → (o ≡ None ↔ p ≡ None)
+    → IfSome o (λ r. IsMoveRecord i None q q' r) → o ≡ cleared_of i p q
+made-by i None o q q' a r = a.1 refl
+made-by i (Some p) None q q' a r = absurd (cc (a.0 refl))
+made-by i (Some p) (Some m) q q' a r = ap Some r.is
 
 pub returns-clause-lists : goal.returns-clause-lists
 returns-clause-lists c = lists-by _ _ _ _ _ c.take_out.ensures.absent c.take_out.ensures.lists c.take_out.ensures.none
 
 pub returns-clause-made : goal.returns-clause-made
-returns-clause-made c = made-by _ _ _ _ c.take_out.ensures.absent c.take_out.ensures.record
+returns-clause-made c = made-by _ _ _ _ _ c.take_out.ensures.absent c.take_out.ensures.record

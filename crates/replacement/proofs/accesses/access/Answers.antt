@@ -2,7 +2,7 @@ use Rattle.std.proofs.Common.{option_map, ap, ◌∙◌, sym}
 use Rattle.replacement.specs.Admission.{admits_in}
 use Rattle.replacement.specs.Table.{Response}
 use Rattle.replacement.specs.Plan.{plan}
-use Rattle.replacement.proofs.Carrying.{undoes}
+use Rattle.replacement.proofs.Carrying.{plan-undone}
 use Rattle.replacement.proofs.Planned.{accesses-planned}
 use Rattle.replacement.proofs.accesses.access.Goals as goal
 
@@ -16,12 +16,7 @@ returns-clause-lists g c =
     c.access_planned.ensures.effect.lists
     ∙ ap (λ (x : Response). x.queues) (sym (accesses-planned c.args.rules.now (admits_in (option_map (λ f. f.now) c.args.frequency)) c.args.item c.args.segments.now.lists c.access_planned.ensures.distinct))
 
-pub returns-clause-fits : goal.returns-clause-fits
-returns-clause-fits g c =
-    (undoes (plan c.args.rules.now (admits_in (option_map (λ f. f.now) c.args.frequency)) c.args.item c.args.segments.now.lists) c.args.segments.now.lists c.access_planned.new.segments.lists c.access_planned.result.moves c.access_planned.ensures.distinct
-    c.access_planned.ensures.effect.lists c.access_planned.ensures.effect.moves).fits
-
-pub returns-clause-undone : goal.returns-clause-undone
-returns-clause-undone g c =
-    (undoes (plan c.args.rules.now (admits_in (option_map (λ f. f.now) c.args.frequency)) c.args.item c.args.segments.now.lists) c.args.segments.now.lists c.access_planned.new.segments.lists c.access_planned.result.moves c.access_planned.ensures.distinct
-    c.access_planned.ensures.effect.lists c.access_planned.ensures.effect.moves).back
+pub returns-clause-undoes : goal.returns-clause-undoes
+returns-clause-undoes g c =
+    plan-undone (plan c.args.rules.now (admits_in (option_map (λ f. f.now) c.args.frequency)) c.args.item c.args.segments.now.lists) c.args.segments.now.lists c.access_planned.new.segments.lists c.access_planned.result.moves c.access_planned.ensures.distinct
+    c.access_planned.ensures.effect.lists c.access_planned.ensures.effect.moves

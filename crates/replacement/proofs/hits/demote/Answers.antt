@@ -4,4 +4,4 @@ use Rattle.replacement.proofs.hits.demote.Goals as goal
 
 pub returns-clause-oldest : goal.returns-clause-oldest
 returns-clause-oldest c =
-    sent-if Protected Probation c.send_oldest.result c.args.segments.now.lists c.requires c.send_oldest.ensures.item c.send_oldest.ensures.record
+    sent-if Protected Probation c.send_oldest.result c.args.segments.now.lists _ c.requires c.send_oldest.ensures.item c.send_oldest.ensures.record

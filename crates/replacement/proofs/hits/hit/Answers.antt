@@ -16,19 +16,15 @@ returns-clause-record c = record {
   queue = c.in_ok-queue.queue;
   place = c.in_ok-queue.ensures.place;
   lists = c.settle-last.ensures.lists ∙ ap (λ (x : Queues). queues_after_transfer (settling c.args.size c.in_ok-queue.queue x) x) c.in_ok-queue.ensures.lists;
-  moves = rw (c.in_ok-queue.ensures.record, c.settle-last.ensures.record, c.in_ok-queue.ensures.lists) refl;
+  moves = rw (c.in_ok-queue.ensures.record.is, c.settle-last.ensures.record, c.in_ok-queue.ensures.lists) refl;
 }
 
-pub returns-clause-fits : goal.returns-clause-fits
-returns-clause-fits c =
-    (hit-undone c.args.size c.args.item c.args.segments.now.lists c.settle-last.new.segments.lists _ c.in_ok-queue.ensures.distinct (returns-clause-record c)).fits
-
-pub returns-clause-undone : goal.returns-clause-undone
-returns-clause-undone c =
-    (hit-undone c.args.size c.args.item c.args.segments.now.lists c.settle-last.new.segments.lists _ c.in_ok-queue.ensures.distinct (returns-clause-record c)).back
+pub returns-clause-undoes : goal.returns-clause-undoes
+returns-clause-undoes c =
+    hit-undone c.args.size c.args.item c.args.segments.now.lists c.settle-last.new.segments.lists _ c.in_ok-queue.ensures.distinct (returns-clause-record c)
 
 pub returns-clause-keepable : goal.returns-clause-keepable
 returns-clause-keepable c = (
-  renewed-first (queue_after_access c.in_ok-queue.queue) c.in_ok-queue.queue c.args.item c.args.segments.now.lists c.in_ok-queue.first c.in_ok-queue.ensures.record c.in_ok-queue.ensures.place,
+  renewed-first (queue_after_access c.in_ok-queue.queue) c.in_ok-queue.queue c.args.item c.args.segments.now.lists c.in_ok-queue.first c.in_ok-queue.ensures.record.is c.in_ok-queue.ensures.place,
   c.settle-last.ensures.oldest,
 )

@@ -2,7 +2,7 @@ use Rattle.std.proofs.Common.{option_map, ap, ◌∙◌, sym}
 use Rattle.replacement.specs.Admission.{admits_in}
 use Rattle.replacement.specs.Table.{Response}
 use Rattle.replacement.specs.Plan.{eviction_plan}
-use Rattle.replacement.proofs.Carrying.{undoes}
+use Rattle.replacement.proofs.Carrying.{plan-undone}
 use Rattle.replacement.proofs.Planned.{evictions-planned}
 use Rattle.replacement.proofs.misses.evict.Goals as goal
 
@@ -16,12 +16,7 @@ returns-clause-lists c =
     c.evict_planned.ensures.effect.lists
     ∙ ap (λ (x : Response). x.queues) (sym (evictions-planned c.args.rules.now (admits_in (option_map (λ f. f.now) c.args.frequency)) c.args.segments.now.lists c.requires.distinct))
 
-pub returns-clause-fits : goal.returns-clause-fits
-returns-clause-fits c =
-    (undoes (eviction_plan c.args.rules.now (admits_in (option_map (λ f. f.now) c.args.frequency)) c.args.segments.now.lists) c.args.segments.now.lists c.evict_planned.new.segments.lists c.evict_planned.result.moves c.requires.distinct
-    c.evict_planned.ensures.effect.lists c.evict_planned.ensures.effect.moves).fits
-
-pub returns-clause-undone : goal.returns-clause-undone
-returns-clause-undone c =
-    (undoes (eviction_plan c.args.rules.now (admits_in (option_map (λ f. f.now) c.args.frequency)) c.args.segments.now.lists) c.args.segments.now.lists c.evict_planned.new.segments.lists c.evict_planned.result.moves c.requires.distinct
-    c.evict_planned.ensures.effect.lists c.evict_planned.ensures.effect.moves).back
+pub returns-clause-undoes : goal.returns-clause-undoes
+returns-clause-undoes c =
+    plan-undone (eviction_plan c.args.rules.now (admits_in (option_map (λ f. f.now) c.args.frequency)) c.args.segments.now.lists) c.args.segments.now.lists c.evict_planned.new.segments.lists c.evict_planned.result.moves c.requires.distinct
+    c.evict_planned.ensures.effect.lists c.evict_planned.ensures.effect.moves

@@ -1,6 +1,7 @@
 use Rattle.std.proofs.Common.{◌∙◌, sym, subst}
 use Rattle.segments.specs.Queues.{IsDistinct}
-use Rattle.replacement.proofs.Carrying.{moved-distinct, pushed-moved}
+use Rattle.segments.proofs.QueueLists.{pushed-moved}
+use Rattle.replacement.proofs.Carrying.{moved-distinct}
 use Rattle.replacement.proofs.queue_moves.join.Goals as goal
 
 pub returns-clause-lists : goal.returns-clause-lists

@@ -27,10 +27,4 @@ pub returns-clause-lists : goal.returns-clause-lists
 returns-clause-lists c = (made (goal.at.returns-clause-lists c).After-queue_place).lists
 
 pub returns-clause-record : goal.returns-clause-record
-returns-clause-record c = (made (goal.at.returns-clause-record c).After-queue_place).record_is
-
-pub returns-clause-fits : goal.returns-clause-fits
-returns-clause-fits c = (made (goal.at.returns-clause-fits c).After-queue_place).fits
-
-pub returns-clause-undone : goal.returns-clause-undone
-returns-clause-undone c = (made (goal.at.returns-clause-undone c).After-queue_place).back
+returns-clause-record c = (made (goal.at.returns-clause-record c).After-queue_place).recorded

@@ -17,8 +17,5 @@ invariant_of-self c = (made (goal.at.invariant_of-self c).After-push).kept
 pub returns-clause-lists : goal.returns-clause-lists
 returns-clause-lists c = (made (goal.at.returns-clause-lists c).After-push).lists
 
-pub returns-clause-fits : goal.returns-clause-fits
-returns-clause-fits c = (made (goal.at.returns-clause-fits c).After-push).fits
-
-pub returns-clause-undone : goal.returns-clause-undone
-returns-clause-undone c = (made (goal.at.returns-clause-undone c).After-push).back
+pub returns-clause-record : goal.returns-clause-record
+returns-clause-record c = (made (goal.at.returns-clause-record c).After-push).recorded

@@ -36,13 +36,9 @@ pub returns-clause-lists : goal.returns-clause-lists
 returns-clause-lists c = (made (goal.at.returns-clause-lists c).After-queue_place).lists ∙ ap (λ (q : Queue). queues_after_move c.args.item q c.args.self.now.lists) c.queue_after_hit-to.ensures
 
 pub returns-clause-record : goal.returns-clause-record
-returns-clause-record c = (made (goal.at.returns-clause-record c).After-queue_place).record_is ∙ ap (λ (q : Queue). move_record c.args.item (Some q) c.args.self.now.lists) c.queue_after_hit-to.ensures
-
-pub returns-clause-fits : goal.returns-clause-fits
-returns-clause-fits c = (made (goal.at.returns-clause-fits c).After-queue_place).fits
-
-pub returns-clause-undone : goal.returns-clause-undone
-returns-clause-undone c = (made (goal.at.returns-clause-undone c).After-queue_place).back
+returns-clause-record c =
+    let m = (made (goal.at.returns-clause-record c).After-queue_place).recorded in
+    record { is = m.is ∙ ap (λ (q : Queue). move_record c.args.item (Some q) c.args.self.now.lists) c.queue_after_hit-to.ensures; fits = m.fits; undone = m.undone }
 
 pub returns-clause-distinct : goal.returns-clause-distinct
 returns-clause-distinct c = distinct-shown _ _ _ c.self.view_is c.self.invariant c.find.ensures.distinct

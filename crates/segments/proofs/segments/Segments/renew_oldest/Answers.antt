@@ -21,16 +21,7 @@ pub returns-clause-lists : goal.returns-clause-lists
 returns-clause-lists c = (made (goal.at.returns-clause-lists c).After-queue_place).put_made.lists
 
 pub returns-clause-out : goal.returns-clause-out
-returns-clause-out c = (made (goal.at.returns-clause-out c).After-queue_place).out_is
+returns-clause-out c = (made (goal.at.returns-clause-out c).After-queue_place).out_recorded
 
-pub returns-clause-fits : goal.returns-clause-fits
-returns-clause-fits c = (made (goal.at.returns-clause-fits c).After-queue_place).put_made.fits
-
-pub returns-clause-undone : goal.returns-clause-undone
-returns-clause-undone c = (made (goal.at.returns-clause-undone c).After-queue_place).put_made.back
-
-pub returns-clause-fits_before : goal.returns-clause-fits_before
-returns-clause-fits_before c = (made (goal.at.returns-clause-fits_before c).After-queue_place).out_leads.fits
-
-pub returns-clause-undone_both : goal.returns-clause-undone_both
-returns-clause-undone_both c = (made (goal.at.returns-clause-undone_both c).After-queue_place).out_leads.back
+pub returns-clause-put : goal.returns-clause-put
+returns-clause-put c = (made (goal.at.returns-clause-put c).After-queue_place).put_made.recorded

@@ -1,7 +1,7 @@
 use Rattle.std.proofs.Common.{rules, None, Some, sym}
 use Rattle.queue_table.specs.QueueTable.{queues}
 use Rattle.segments.specs.Queues.{queues_without}
-use Rattle.segments.proofs.CallLaws.{taken-unplaced}
+use Rattle.segments.proofs.QueueLists.{taken-unplaced}
 use Rattle.segments.proofs.Calls.{IsMade, holding-is, missing-is, taken}
 use Rattle.segments.proofs.segments.Segments.take_out.Goals as goal
 use Rattle.segments.proofs.segments.Segments.take_out.Goals.{After-queue_place}
@@ -32,10 +32,4 @@ pub returns-clause-lists : goal.returns-clause-lists
 returns-clause-lists c = (made (goal.at.returns-clause-lists c).After-queue_place).lists
 
 pub returns-clause-record : goal.returns-clause-record
-returns-clause-record c = (made (goal.at.returns-clause-record c).After-queue_place).record_is
-
-pub returns-clause-fits : goal.returns-clause-fits
-returns-clause-fits c = (made (goal.at.returns-clause-fits c).After-queue_place).fits
-
-pub returns-clause-undone : goal.returns-clause-undone
-returns-clause-undone c = (made (goal.at.returns-clause-undone c).After-queue_place).back
+returns-clause-record c = (made (goal.at.returns-clause-record c).After-queue_place).recorded
