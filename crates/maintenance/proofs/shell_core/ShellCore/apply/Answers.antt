@@ -8,7 +8,7 @@ pub count-requires : goal.count-requires
 count-requires c =
     let made = (rw c.in-Ok-Some.field-0-is at c.in-Ok-Some.ensures.performed).1 in
     let same = ap (λ (x : Shell). x.stats) (c.self-2.view_is ∙ made) ∙ same-stats c.in-Ok-Some.change c.args.self.now in
-    rw same (all-counts (λ n. n ≤ 4294967296) c.args.self.now.stats c.requires.counts c.of.result)
+    rw same (all-counts (λ n. n ≤ 4294967296) c.args.self.now.stats c.requires.counts c.of-counted.result)
 
 pub invariant_of-self : goal.invariant_of-self
 invariant_of-self c =
