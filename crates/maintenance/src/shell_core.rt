@@ -81,9 +81,9 @@ impl ShellCore {
             Err(AllocError) => Err(StepFault::OutOfMemory),
             Ok(None) => Err(StepFault::NotNow),
             Ok(Some((reply, change))) => {
-                self.stats.count(reply);
-                self.applied += 1;
                 let counted = Counted::of(reply);
+                self.stats.count(counted);
+                self.applied += 1;
                 Ok((reply, ShellRecord { counted, change }))
             }
         }

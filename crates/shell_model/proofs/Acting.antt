@@ -1,17 +1,18 @@
 -- The record of a step fits what it left, and undoes it.
-use Rattle.std.proofs.Common.{◌≡◌, ℕ, ◌+◌, ◌-◌, nat_lt, Option, Some, None, ◌∙◌, refl, arith}
+use Rattle.std.proofs.Common.{◌≡◌, ℕ, ◌+◌, ◌-◌, ◌≤◌, nat_lt, Option, Some, None, ◌∙◌, refl, arith}
 use Rattle.std.proofs.lemmas.Bool.{cond_both}
 use native.Mathlib.Numerals.{unary_clauses}
 use Rattle.step_record.specs.declared.step.Reply.{Reply}
-use Rattle.step_record.specs.declared.step.Reply.TheVariants as reply
 use Rattle.step_record.specs.declared.step.Step.{Step}
+use Rattle.shell_model.specs.declared.stats.Counted.{Counted}
+use Rattle.shell_model.specs.declared.stats.Counted.TheVariants as counted
 use Rattle.shell_model.specs.declared.stats.ShellStats.{ShellStats}
 use Rattle.shell_model.specs.declared.record.ShellRecord.{ShellRecord}
 use Rattle.shell_model.specs.declared.record.Change.{Change}
 use Rattle.shell_model.specs.declared.record.Change.TheVariants.{Nothing, Read, Applied, Evicted}
 use Rattle.shell_model.specs.Changes.{after_change, before_change, FitsChange}
 use Rattle.shell_model.specs.Shell.{Shell, act_reply, with_shell, act_effect, counted_reply, act}
-use Rattle.shell_model.specs.ShellStats.{shell_stats_after, shell_stats_before, counted_of, IsCounted}
+use Rattle.shell_model.specs.ShellStats.{counted_of, shell_stats_with, AllCounts, shell_stats_after}
 use Rattle.shell_model.specs.Records.{record_by, shell_record_of, undone_step, FitsStep}
 use Rattle.shell_model.specs.Consistency.{IsConsistent}
 use Rattle.shell_model.proofs.Undoing.{GoesTo, reply-goes}
@@ -20,25 +21,14 @@ plus-less : (a b : ℕ) → a + b - b ≡ a
 plus-less a b = omega arith
 
 -- what the reply added is taken away again
-pub uncounted-counted : (r : Reply) (s : ShellStats) → shell_stats_before (counted_of r) (shell_stats_after r s) ≡ s
-uncounted-counted (reply.Hit n) s = simp unary_clauses
+uncounted-counted : (c : Counted) (s : ShellStats) → shell_stats_with (λ n. n - 1) c (shell_stats_with (λ n. n + 1) c s) ≡ s
+uncounted-counted counted.Nothing s = refl
 uncounted-counted _ s = simp unary_clauses
 
-pub counted-fits : (r : Reply) (s : ShellStats) → IsCounted (counted_of r) (shell_stats_after r s)
-counted-fits (reply.Rejected i) s = (omega arith, omega arith)
-counted-fits (reply.Hit n) s = omega arith
-counted-fits reply.Miss s = omega arith
-counted-fits reply.Kept s = omega arith
-counted-fits reply.Full s = omega arith
-counted-fits reply.Lost s = omega arith
-counted-fits (reply.Added n) s = omega arith
-counted-fits (reply.Present n) s = omega arith
-counted-fits reply.WritesFull s = omega arith
-counted-fits (reply.Removed n) s = omega arith
-counted-fits (reply.Evicted i) s = omega arith
-counted-fits reply.Began s = omega arith
-counted-fits reply.Busy s = omega arith
-counted-fits _ s = tt
+counted-fits : (c : Counted) (s : ShellStats) → AllCounts (λ n. 1 ≤ n) c (shell_stats_with (λ n. n + 1) c s)
+counted-fits counted.Nothing s = tt
+counted-fits counted.Rejected s = (omega arith, omega arith)
+counted-fits _ s = omega arith
 
 tallied-fits : (c : Change) (y : Shell) (s : ShellStats) (n : ℕ) → FitsChange c y → FitsChange c record y { stats = s; applied = n }
 tallied-fits (Read k i t) y s n h = (record { moves = h.0.moves; frequency = h.0.frequency; stays = h.0.stays }, h.1, h.2)
@@ -63,11 +53,11 @@ counted-undone x None g = tt
 counted-undone x (Some p) g =
     let y : Shell = after_change p.1 x in (
       record {
-        stats = counted-fits p.0 y.stats;
+        stats = counted-fits (counted_of p.0) y.stats;
         applied = omega arith;
         change = tallied-fits p.1 (after_change p.1 x) (shell_stats_after p.0 y.stats) (y.applied + 1) g.fits;
       },
-      rw (tallied-back p.1 (after_change p.1 x) (shell_stats_after p.0 y.stats) (y.applied + 1), uncounted-counted p.0 y.stats, plus-less y.applied 1) (same-tally p.1 (after_change p.1 x) ∙ g.back),
+      rw (tallied-back p.1 (after_change p.1 x) (shell_stats_after p.0 y.stats) (y.applied + 1), uncounted-counted (counted_of p.0) y.stats, plus-less y.applied 1) (same-tally p.1 (after_change p.1 x) ∙ g.back),
     )
 
 -- the record of a step of the shell leads back from what the step left

@@ -13,7 +13,7 @@ use Rattle.shell_model.specs.Frequency.{frequency_recorded}
 use Rattle.shell_model.specs.declared.stats.Counted.TheVariants as counted
 use Rattle.shell_model.specs.declared.stats.ShellStats.{ShellStats}
 use Rattle.shell_model.specs.declared.stats.Counted.{Counted}
-use Rattle.shell_model.specs.ShellStats.{count_of, shell_stats_after, AreAtMost, raises}
+use Rattle.shell_model.specs.ShellStats.{count_of, AllCounts, shell_stats_after, raises}
 use Rattle.step_record.specs.Stats.{one_if}
 use Rattle.shell_model.specs.Shell.{Shell, act}
 use Rattle.shell_model.specs.Laws.{MadeStep, IsShapeOf, empty_shell}
@@ -57,23 +57,11 @@ up false m n h = omega (arith, h)
 counted-most : (c : Counted) (r : Reply) (s : ShellStats) (n : ℕ) → count_of c s ≤ n → count_of c (shell_stats_after r s) ≤ n + 1
 counted-most c r s n h = rw (count-raised c r s) (up (raises c r) (count_of c s) n h)
 
--- each of the counts
-pub at-most : (n : ℕ) (s : ShellStats) → ((c : Counted) → count_of c s ≤ n) → AreAtMost n s
-at-most n s h = record {
-  hits = h counted.Hit;
-  misses = h counted.Miss;
-  kept = h counted.Kept;
-  full = h counted.Full;
-  lost = h counted.Lost;
-  added = h counted.Added;
-  updated = h counted.Updated;
-  refused = h counted.Refused;
-  evictions = h counted.Evicted;
-  rejections = h counted.Rejected;
-  begun = h counted.Began;
-  busy = h counted.Busy;
-  removed = h counted.Removed;
-}
+-- where p holds of every count
+pub all-counts : (p : ℕ → Type 0) (s : ShellStats) → ((c : Counted) → p (count_of c s)) → (c : Counted) → AllCounts p c s
+all-counts p s h counted.Nothing = tt
+all-counts p s h counted.Rejected = (h counted.Evicted, h counted.Rejected)
+all-counts p s h c = h c
 
 accepted : (x : Shell) (s : Step) (p : Reply × Shell) → act x s ≡ Some p → x.applied < 4294967296
 accepted x s p h =

@@ -1,5 +1,5 @@
 -- What the replies so far say of the state.
-use Rattle.std.proofs.Common.{◌≡◌, ℕ, suc, zero, ◌+◌, ◌<◌, ◌≤◌, ◌↔◌, true, false, eqb, List, [], ◌∷◌, ◌++◌, length, set, drop, ap, ◌∙◌, sym, refl, arith, inl, inr, append-nil, append_assoc}
+use Rattle.std.proofs.Common.{◌≡◌, ℕ, suc, zero, ◌+◌, ◌<◌, ◌≤◌, ◌↔◌, true, false, eqb, nat_lt, List, [], ◌∷◌, ◌++◌, length, set, drop, ap, ◌∙◌, sym, refl, arith, inl, inr, append-nil, append_assoc}
 use Rattle.std.proofs.lemmas.Bool.{cases_Bool, eqb-true, eq-eqb}
 use Rattle.std.proofs.lemmas.List.{drop-append-le, drop-drop, get_or-set_same, get_or-set_other}
 use Rattle.step_record.specs.declared.item.Item.{Item}
@@ -18,7 +18,8 @@ use Rattle.shell_model.specs.declared.stats.ShellStats.{ShellStats}
 use Rattle.shell_model.specs.declared.stats.Counted.{Counted}
 use Rattle.shell_model.specs.declared.stats.Counted.TheVariants as counted
 use Rattle.shell_model.specs.Frequency.{frequency_recorded}
-use Rattle.shell_model.specs.ShellStats.{count_of, raises, shell_stats_after}
+use Rattle.shell_model.specs.declared.stats.TheConstants.ShellStats.{NONE}
+use Rattle.shell_model.specs.ShellStats.{counted_of, count_of, shell_stats_with, raises, shell_stats_after}
 use Rattle.step_record.specs.Stats.{one_if}
 use Rattle.shell_buffers.specs.Buffers.{stripe_at}
 use Rattle.shell_model.specs.Changes.{shell_after_touch}
@@ -109,9 +110,14 @@ stripes-law j x es l = fifo (λ z. stripe_at j z.stripes) (offered j) (drained j
 
 -- statistics
 
+raised : (k c : Counted) (s : ShellStats)
+    → count_of k (shell_stats_with (λ n. n + 1) c s) ≡ count_of k s + one_if (nat_lt 0 (count_of k (shell_stats_with (λ n. n + 1) c NONE)))
+raised counted.Nothing c s = refl
+raised k counted.Nothing s = omega arith
+raised _ _ s = omega arith
+
 pub count-raised : (k : Counted) (r : Reply) (s : ShellStats) → count_of k (shell_stats_after r s) ≡ count_of k s + one_if (raises k r)
-count-raised counted.Nothing r s = refl
-count-raised _ r s = refl
+count-raised k r s = raised k (counted_of r) s
 
 pub none-counted : (c : Config) (sh : Shape) (k : Counted) → count_of k (empty_shell c sh).stats ≡ 0
 none-counted c sh counted.Nothing = refl

@@ -9,8 +9,7 @@ use Rattle.step_record.specs.declared.step.Reply.TheVariants.{Began}
 use Rattle.shell_model.specs.declared.holder.Holder.{Holder}
 use Rattle.admission.specs.Shape.{Shape}
 use Rattle.shell_model.specs.declared.record.ShellRecord.{ShellRecord}
-use Rattle.shell_model.specs.declared.stats.Counted.{Counted}
-use Rattle.shell_model.specs.ShellStats.{count_of}
+use Rattle.shell_model.specs.ShellStats.{AreAtMost}
 use Rattle.shell_model.specs.Shell.{Shell, act}
 use Rattle.shell_model.specs.Records.{undone_step, FitsStep, shell_record_of}
 use Rattle.shell_model.specs.Laws.{MadeStep, IsShapeOf, empty_shell, is_ending, holding_of, holding_from, open_began}
@@ -46,7 +45,7 @@ LaterLaws = (x : Shell) (es : List MadeStep) → IsReachable x → x.holder ≡ 
 -- no count passes the number of applied steps, which has a limit
 pub record IsBounded (x : Shell) : Type 0 where
   pub next : x.next ≤ x.applied
-  pub counts : (c : Counted) → count_of c x.stats ≤ x.applied
+  pub counts : AreAtMost x.applied x.stats
   pub halvings : x.frequency.halvings ≤ x.applied
   pub applied : x.applied ≤ MAX_STEPS
 

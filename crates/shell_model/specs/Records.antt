@@ -6,7 +6,7 @@ use Rattle.shell_model.specs.declared.stats.Counted.TheVariants as counted
 use Rattle.shell_model.specs.declared.record.ShellRecord.{ShellRecord}
 use Rattle.shell_model.specs.declared.record.Change.{Change}
 use Rattle.shell_model.specs.declared.record.Change.TheVariants as change
-use Rattle.shell_model.specs.ShellStats.{counted_of, shell_stats_before, IsCounted}
+use Rattle.shell_model.specs.ShellStats.{counted_of, shell_stats_with, AllCounts}
 use Rattle.shell_model.specs.Changes.{before_change, FitsChange, change_asks, change_size}
 use Rattle.shell_model.specs.Shell.{Shell, act_reply}
 
@@ -23,10 +23,10 @@ shell_record_of s x = record_by (act_reply s.worker s.act x)
 abbrev pub undone_step : ShellRecord → Shell → Shell
 undone_step r x =
     let y = before_change r.change x in
-    record y { stats = shell_stats_before r.counted x.stats; applied = x.applied - 1 }
+    record y { stats = shell_stats_with (λ n. n - 1) r.counted x.stats; applied = x.applied - 1 }
 
 pub record FitsStep (r : ShellRecord) (x : Shell) : Type 0 where
-  pub stats : IsCounted r.counted x.stats
+  pub stats : AllCounts (λ n. 1 ≤ n) r.counted x.stats
   pub applied : 1 ≤ x.applied
   pub change : FitsChange r.change x
 

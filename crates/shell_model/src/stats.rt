@@ -1,7 +1,7 @@
 //! What a shell counts.
-ghost use Rattle.std.specs.Prelude.{◌≡◌};
+ghost use Rattle.std.specs.Prelude.{◌≡◌, ◌+◌, ◌-◌, ◌≤◌};
 ghost use Rattle.step_record.specs.declared.limits.TheConstants.{MAX_STEPS};
-ghost use Rattle.shell_model.specs.ShellStats.{shell_stats_after, shell_stats_before, counted_of, IsCounted, AreAtMost};
+ghost use Rattle.shell_model.specs.ShellStats.{counted_of, shell_stats_with, AllCounts};
 
 use step_record::Reply;
 
@@ -55,38 +55,35 @@ impl ShellStats {
     };
 
     /// Counts one reply more.
-    pub fn count(&mut self, reply: Reply)
-        requires { AreAtMost MAX_STEPS self.old }
-        ensures { self.new ≡ shell_stats_after reply self.old }
+    pub fn count(&mut self, counted: Counted)
+        requires { AllCounts (λ n. n ≤ MAX_STEPS) counted self.old }
+        ensures { self.new ≡ shell_stats_with (λ n. n + 1) counted self.old }
     {
-        match reply {
-            Reply::Hit { .. } => self.hits += 1,
-            Reply::Miss => self.misses += 1,
-            Reply::Kept => self.kept += 1,
-            Reply::Full => self.full += 1,
-            Reply::Lost => self.lost += 1,
-            Reply::Added { .. } => self.added += 1,
-            Reply::Present { .. } => self.updated += 1,
-            Reply::WritesFull => self.refused += 1,
-            Reply::Removed { .. } => self.removed += 1,
-            Reply::Evicted { .. } => self.evictions += 1,
-            Reply::Rejected { .. } => {
+        match counted {
+            Counted::Nothing => {}
+            Counted::Hit => self.hits += 1,
+            Counted::Miss => self.misses += 1,
+            Counted::Kept => self.kept += 1,
+            Counted::Full => self.full += 1,
+            Counted::Lost => self.lost += 1,
+            Counted::Added => self.added += 1,
+            Counted::Updated => self.updated += 1,
+            Counted::Refused => self.refused += 1,
+            Counted::Removed => self.removed += 1,
+            Counted::Evicted => self.evictions += 1,
+            Counted::Rejected => {
                 self.evictions += 1;
                 self.rejections += 1;
             }
-            Reply::Began => self.begun += 1,
-            Reply::Busy => self.busy += 1,
-            Reply::Absent | Reply::Go | Reply::Drain | Reply::Empty | Reply::Enough => {}
-            Reply::Drained { .. } | Reply::Applied { .. } | Reply::Cleared { .. } => {}
-            Reply::Shifted { .. } | Reply::Fits => {}
-            Reply::Idle | Reply::Again | Reply::NotYet => {}
+            Counted::Began => self.begun += 1,
+            Counted::Busy => self.busy += 1,
         }
     }
 
     /// Takes back the count that the last reply raised.
     pub fn uncount(&mut self, counted: Counted)
-        requires { IsCounted counted self.old }
-        ensures { self.new ≡ shell_stats_before counted self.old }
+        requires { AllCounts (λ n. 1 ≤ n) counted self.old }
+        ensures { self.new ≡ shell_stats_with (λ n. n - 1) counted self.old }
     {
         match counted {
             Counted::Nothing => {}
@@ -162,14 +159,7 @@ impl Counted {
             Reply::Rejected { .. } => Counted::Rejected,
             Reply::Began => Counted::Began,
             Reply::Busy => Counted::Busy,
-            Reply::Absent | Reply::Go | Reply::Drain | Reply::Empty | Reply::Enough => {
-                Counted::Nothing
-            }
-            Reply::Drained { .. } | Reply::Applied { .. } | Reply::Cleared { .. } => {
-                Counted::Nothing
-            }
-            Reply::Shifted { .. } | Reply::Fits => Counted::Nothing,
-            Reply::Idle | Reply::Again | Reply::NotYet => Counted::Nothing,
+            _ => Counted::Nothing,
         }
     }
 }

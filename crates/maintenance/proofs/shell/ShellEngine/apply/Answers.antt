@@ -1,6 +1,6 @@
 use Rattle.std.proofs.Common.{arith}
 use Rattle.shell_model.proofs.Reached.{reached-sound}
-use Rattle.shell_model.proofs.Bounding.{at-most, bound-law}
+use Rattle.shell_model.proofs.Bounding.{bound-law}
 use Rattle.maintenance.proofs.Standing.{stands-after, fits-after, undone-after, words-after}
 use Rattle.maintenance.proofs.shell.ShellEngine.apply.Goals as goal
 
@@ -11,7 +11,7 @@ pub apply-requires-clause-next : goal.apply-requires-clause-next
 apply-requires-clause-next c = (bound-law c.self.inside.core c.self.invariant).next
 
 pub apply-requires-clause-counts : goal.apply-requires-clause-counts
-apply-requires-clause-counts c = let b = bound-law c.self.inside.core c.self.invariant in at-most _ _ (λ k. (let m = b.counts k in omega (arith, m, b.applied)))
+apply-requires-clause-counts c = let b = bound-law c.self.inside.core c.self.invariant in λ k. (let m = b.counts k in omega (arith, m, b.applied))
 
 pub apply-requires-clause-few : goal.apply-requires-clause-few
 apply-requires-clause-few c = let b = bound-law c.self.inside.core c.self.invariant in omega (arith, b.halvings, b.applied)
