@@ -1,15 +1,16 @@
 -- What the workers brought back.
-use Rattle.std.proofs.Common.{◌≡◌, ℕ, zero, suc, ◌+◌, ◌<◌, List, [], ◌∷◌, ◌++◌, map, length, get_or, sym, ap, ◌∙◌, subst, arith}
+use Rattle.std.proofs.Common.{◌≡◌, ℕ, zero, suc, ◌+◌, ◌<◌, List, [], ◌∷◌, map, length, get_or, sym, ap, ◌∙◌, subst, arith}
 use Rattle.std.specs.Global.{Vec}
 use Rattle.std.specs.Vec.{vec_items}
-use Rattle.std.proofs.lemmas.List.{length-map}
+use Rattle.std.proofs.lemmas.List.{length-map, get_or-map}
 use Rattle.turn_book.specs.Turns.{Every}
+use Rattle.workers.proofs.WorkerLists.{all_of_every, every_of_all}
 use Rattle.turn_book.specs.Passes.{BookId, PassState, InOrder, OwnAll, Ends}
 use Rattle.library_examples.specs.declared.log.LogLine.{LogLine}
 use Rattle.library_examples.specs.declared.log.Log.{Log}
-use Rattle.library_examples.specs.LogLines.{IsWritten, Wrote, WroteAll, lines_by, numbered}
+use Rattle.library_examples.specs.LogLines.{IsFresh, IsWritten, Wrote, lines_by, numbered}
 
-abbrev LogPass : Type 0
+abbrev pub LogPass : Type 0
 LogPass = PassState Log LogLine
 
 abbrev name_of : Log → ℕ
@@ -24,63 +25,53 @@ undone_in l = []
 abbrev worker_of : LogLine → ℕ
 worker_of l = l.worker
 
-module _ (b : BookId Log) (n : ℕ) where
-  more_from : (lo : ℕ) (ps : List LogPass) (ls : List (Vec LogLine)) (p : LogPass) (l : Vec LogLine) → WroteAll b n lo ps ls → Wrote b n (lo + length ps) p l → WroteAll b n lo (ps ++ p ∷ []) (ls ++ l ∷ [])
-  more_from lo [] [] p l h w = (subst (λ k. Wrote b n k p l) (omega arith) w, tt)
-  more_from lo [] (k ∷ ls) p l h w = absurd h
-  more_from lo (q ∷ ps) [] p l h w = absurd h
-  more_from lo (q ∷ ps) (k ∷ ls) p l h w = (h.0, more_from (suc lo) ps ls p l h.1 (subst (λ k. Wrote b n k p l) (omega arith) w))
+worker_at : (lo : ℕ) (ps : List LogPass) → InOrder lo ps → (i k : ℕ) (d : LogPass) → k ≡ lo + i → i < length ps → (get_or ps i d).worker ≡ k
+worker_at lo [] h i k d is lt = absurd (omega arith)
+worker_at lo (p ∷ ps) h zero k d is lt = h.0 ∙ omega arith
+worker_at lo (p ∷ ps) h (suc i) k d is lt = worker_at (suc lo) ps h.1 i k d (omega arith) (omega arith)
 
-  pub wrote_more : (ps qs : List LogPass) (ls ks : List (Vec LogLine)) (p : LogPass) (l : Vec LogLine) → qs ≡ ps ++ p ∷ [] → ks ≡ ls ++ l ∷ [] → WroteAll b n 0 ps ls → Wrote b n (length ps) p l → WroteAll b n 0 qs ks
-  wrote_more ps qs ls ks p l e f h w = subst (λ (z : List LogPass × List (Vec LogLine)). WroteAll b n 0 z.0 z.1) (λ i. (sym e i, sym f i)) (more_from 0 ps ls p l h (subst (λ k. Wrote b n k p l) (omega arith) w))
+in_order : (lo : ℕ) (ps : List LogPass) → ((i k : ℕ) (d : LogPass) → k ≡ lo + i → i < length ps → (get_or ps i d).worker ≡ k) → InOrder lo ps
+in_order lo [] h = tt
+in_order lo (p ∷ ps) h = (h 0 lo p (omega arith) (omega arith), in_order (suc lo) ps (λ i k d is lt. h (suc i) k d (omega arith) (omega arith)))
 
-  pub books_of : (lo : ℕ) (ps : List LogPass) (ls : List (Vec LogLine)) → WroteAll b n lo ps ls → Every (λ p. p.book ≡ b) ps
-  books_of lo [] [] h = tt
-  books_of lo [] (l ∷ ls) h = tt
-  books_of lo (p ∷ ps) [] h = absurd h
-  books_of lo (p ∷ ps) (l ∷ ls) h = (h.0.book, books_of (suc lo) ps ls h.1)
+own_at : (lo : ℕ) (ps : List LogPass) (news : List LogLine) → OwnAll name_of lines_in worker_of undone_in lo ps news → (w k : ℕ) (d : LogPass) → k ≡ lo + w → w < length ps → lines_by k news ≡ (get_or ps w d).own
+own_at lo [] news o w k d is lt = absurd (omega arith)
+own_at lo (p ∷ ps) news o zero k d is lt = ap (λ w. lines_by w news) (omega arith) ∙ o.0
+own_at lo (p ∷ ps) news o (suc w) k d is lt = own_at (suc lo) ps news o.1 w k d (omega arith) (omega arith)
 
-  pub order_of : (lo : ℕ) (ps : List LogPass) (ls : List (Vec LogLine)) → WroteAll b n lo ps ls → InOrder lo ps
-  order_of lo [] [] h = tt
-  order_of lo [] (l ∷ ls) h = tt
-  order_of lo (p ∷ ps) [] h = absurd h
-  order_of lo (p ∷ ps) (l ∷ ls) h = (h.0.worker, order_of (suc lo) ps ls h.1)
+-- the job at place i is the fresh pass of worker i, with that number
+pub job_at : (b : BookId Log) (l : List LogLine) (ps : List LogPass) (i : ℕ) (j : ℕ × LogPass) → i < length ps → j ≡ (i, get_or ps i j.1)
+    → Every (λ p. p.book ≡ b) ps → InOrder 0 ps → Every (λ p. (p.own ≡ []) × (p.last ≡ l) × (p.draws ≡ 0)) ps → IsFresh b j.1 × (j.1.worker ≡ j.0)
+job_at b l ps i j lt at books order fresh =
+    let none = all_of_every _ ps fresh i j.1 lt in
+    subst (λ (k : ℕ × LogPass). IsFresh b k.1 × (k.1.worker ≡ k.0)) (sym at)
+    (record { book = all_of_every _ ps books i j.1 lt; own = none.0; draws = none.2 }, worker_at 0 ps order i i j.1 (omega arith) lt)
 
-  as_many : (lo : ℕ) (ps : List LogPass) (ls : List (Vec LogLine)) → WroteAll b n lo ps ls → length ls ≡ length ps
-  as_many lo [] [] h = omega arith
-  as_many lo [] (l ∷ ls) h = absurd h
-  as_many lo (p ∷ ps) [] h = absurd h
-  as_many lo (p ∷ ps) (l ∷ ls) h = ap suc (as_many (suc lo) ps ls h.1)
+-- Each worker's pass and list stand at its place, and it wrote its lines with them.
+pub record WroteAll (b : BookId Log) (n workers : ℕ) (ps : List LogPass) (ls : List (Vec LogLine)) : Type 0 where
+  pub passes : length ps ≡ workers
+  pub lists : length ls ≡ workers
+  pub each : (i : ℕ) (p : LogPass) (l : Vec LogLine) → i < workers → Wrote b n i (get_or ps i p) (get_or ls i l)
 
-  whole_at : (lo : ℕ) (ps : List LogPass) (ls : List (Vec LogLine)) → WroteAll b n lo ps ls → (w : ℕ) → w < length ps → get_or (map (λ l. vec_items l) ls) w [] ≡ numbered (lo + w) n
-  whole_at lo [] ls h w lt = absurd (omega arith)
-  whole_at lo (p ∷ ps) [] h w lt = absurd h
-  whole_at lo (p ∷ ps) (l ∷ ls) h zero lt = h.0.list ∙ ap (λ k. numbered k n) (omega arith)
-  whole_at lo (p ∷ ps) (l ∷ ls) h (suc w) lt = whole_at (suc lo) ps ls h.1 w (omega arith) ∙ ap (λ k. numbered k n) (omega arith)
+module _ (b : BookId Log) (n workers : ℕ) (ps : List LogPass) (ls : List (Vec LogLine)) (o : Log) (w : WroteAll b n workers ps ls) where
+  pub books_of : Every (λ p. p.book ≡ b) ps
+  books_of = every_of_all _ ps (λ i p lt. (w.each i p o.lines (omega (arith, w.passes))).book)
 
-  own_at : (lo : ℕ) (ps : List LogPass) (ls : List (Vec LogLine)) (news : List LogLine) → WroteAll b n lo ps ls → OwnAll name_of lines_in worker_of undone_in lo ps news
-      → (w : ℕ) → w < length ps → lines_by (lo + w) news ≡ numbered (lo + w) n
-  own_at lo [] ls news h o w lt = absurd (omega arith)
-  own_at lo (p ∷ ps) [] news h o w lt = absurd h
-  own_at lo (p ∷ ps) (l ∷ ls) news h o zero lt = subst (λ k. lines_by k news ≡ numbered k n) (let e : lo ≡ lo + 0 = omega arith in e) (o.0 ∙ h.0.own)
-  own_at lo (p ∷ ps) (l ∷ ls) news h o (suc w) lt = subst (λ k. lines_by k news ≡ numbered k n) (let e : suc lo + w ≡ lo + suc w = omega arith in e) (own_at (suc lo) ps ls news h.1 o.1 w (omega arith))
+  pub order_of : InOrder 0 ps
+  order_of = in_order 0 ps (λ i k p is lt. (w.each i p o.lines (omega (arith, w.passes))).worker ∙ omega arith)
 
-  whole_from : (ps : List LogPass) (ls : List (Vec LogLine)) → WroteAll b n 0 ps ls → (w : ℕ) → w < length ps → get_or (map (λ l. vec_items l) ls) w [] ≡ numbered w n
-  whole_from ps ls h w lt = whole_at 0 ps ls h w lt ∙ ap (λ k. numbered k n) (omega arith)
-
-  own_from : (ps : List LogPass) (ls : List (Vec LogLine)) (news : List LogLine) → WroteAll b n 0 ps ls → OwnAll name_of lines_in worker_of undone_in 0 ps news → (w : ℕ) → w < length ps → lines_by w news ≡ numbered w n
-  own_from ps ls news h o w lt = subst (λ k. lines_by k news ≡ numbered k n) (let e : 0 + w ≡ w = omega arith in e) (own_at 0 ps ls news h o w lt)
-
-  pub written_of : (workers : ℕ) (ps : List LogPass) (ls : List (Vec LogLine)) (o t : Log) → length ps ≡ workers → WroteAll b n 0 ps ls → Ends name_of lines_in worker_of undone_in o ps t → IsWritten workers n o t (map (λ l. vec_items l) ls)
-  written_of workers ps ls o t same h ends =
-      let many = as_many 0 ps ls h in
-      let listed = length-map ls (λ l. vec_items l) in
+  pub written_of : (t : Log) → Ends name_of lines_in worker_of undone_in o ps t → IsWritten workers n o t (map (λ l. vec_items l) ls)
+  written_of t ends =
+      let p : LogPass = record { book = b; worker = 0; own = []; last = []; draws = 0 } in
+      let many = w.passes in
+      let listed = w.lists in
+      let whole : (k : ℕ) → k < workers → get_or (map (λ l. vec_items l) ls) k [] ≡ numbered k n = λ k lt. get_or-map (λ l. vec_items l) ls k o.lines [] (omega arith) ∙ (w.each k p o.lines lt).list in
       record {
         name = ends.same_origin;
         news = ends.news;
         written = ends.list_is;
-        as_many = omega arith;
-        own = λ w lt. own_from ps ls ends.news h ends.own_is w (omega arith) ∙ sym (whole_from ps ls h w (omega arith));
-        whole = λ w lt. whole_from ps ls h w (omega arith);
-        no_other = λ w le. ends.no_other w (omega arith);
+        as_many = length-map ls (λ l. vec_items l) ∙ listed;
+        own = λ k lt. own_at 0 ps ends.news ends.own_is k k p (omega arith) (omega arith) ∙ (w.each k p o.lines lt).own ∙ sym (whole k lt);
+        whole = whole;
+        no_other = λ k le. ends.no_other k (omega arith);
       }

@@ -1,3 +1,2 @@
 mod Gathered
 mod NextAccess
-mod Orders

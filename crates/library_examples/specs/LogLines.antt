@@ -38,10 +38,3 @@ pub record Wrote (b : BookId Log) (n w : ℕ) (p : PassState Log LogLine) (l : V
   pub worker : p.worker ≡ w
   pub own : p.own ≡ numbered w n
   pub list : l.items ≡ numbered w n
-
--- so did the passes of the workers from lo on, in order
-abbrev pub WroteAll : BookId Log → ℕ → ℕ → List (PassState Log LogLine) → List (Vec LogLine) → Type 0
-WroteAll b n lo [] [] = Unit {0}
-WroteAll b n lo [] (l ∷ ls) = ⊥
-WroteAll b n lo (p ∷ ps) [] = ⊥
-WroteAll b n lo (p ∷ ps) (l ∷ ls) = Wrote b n lo p l × WroteAll b n (suc lo) ps ls

@@ -1,11 +1,9 @@
 //! Workers side by side.
-ghost use Rattle.std.specs.Prelude.{◌≡◌, ◌≤◌, ◌+◌, [], IfOk, IfSome, IfNone, map, vec_len};
-ghost use denote.Param.Send.{IsSync};
+ghost use Rattle.std.specs.Prelude.{◌≡◌, ◌≤◌, ◌<◌, ℕ, Ok, IfOk, map, vec_len, slice_index_or};
 ghost use Rattle.step_record.specs.declared.worker.TheConstants.{MAX_WORKERS};
 ghost use Rattle.turn_book.specs.declared.book.TheConstants.{MAX_TURNS};
-ghost use Rattle.turn_book.specs.Turns.{Every};
-ghost use Rattle.turn_book.specs.Passes.{id_of, InOrder};
-ghost use Rattle.library_examples.specs.LogLines.{IsFresh, IsWritten, Wrote, WroteAll};
+ghost use Rattle.turn_book.specs.Passes.{id_of};
+ghost use Rattle.library_examples.specs.LogLines.{IsFresh, IsWritten, Wrote};
 
 use crate::log::{Log, LogLine};
 use crate::log_turn::{AppendFault, append};
@@ -42,67 +40,29 @@ pub fn write_log<G: Gate, R: Threads + Wait + Sync>(
     let Ok((book, passes)) = TurnBook::open(alloc, log, workers, lines) else {
         return Err(AllocError);
     };
-    let (passes, lists) = write_all(rt, alloc, gate, &book, passes, lines)?;
+    let passes = with_numbers(alloc, workers, passes)?;
+    let write = |(worker, pass): (u8, Pass<Log>)| -> Result<(Pass<Log>, Vec<LogLine>), AllocError>
+        requires { IsFresh (id_of book) pass × (pass.worker ≡ worker) × (lines ≤ book.turns) }
+        ensures { IfOk result (λ r. Wrote (id_of book) lines worker r.0 r.1) }
+    { write_own(rt, alloc, gate, &book, pass, worker, lines) };
+    let results = thread::map_vec(rt, passes, &write)?;
+    let (passes, lists) = passes_and_lists(alloc, results)?;
     let log = book.close(passes);
     Ok(Written { log, lists })
 }
 
-// The workers of the passes side by side. Each pass comes back with its worker's list.
-fn write_all<G: Gate, R: Threads + Wait + Sync>(
-    rt: &R,
+// The pass of each worker, with its number.
+fn with_numbers(
     alloc: Global,
-    gate: &G,
-    book: &TurnBook<Log>,
+    workers: u8,
     passes: Vec<Pass<Log>>,
-    lines: u64,
-) -> Result<(Vec<Pass<Log>>, Vec<Vec<LogLine>>), AllocError>
-    requires fresh { Every (IsFresh (id_of book.now)) passes.items }
-    requires order { InOrder 0 passes.items × (vec_len passes ≤ MAX_WORKERS) }
-    requires turns { lines ≤ book.now.turns }
-    ensures wrote { IfOk result (λ r. WroteAll (id_of book.now) lines 0 r.0.items r.1.items) }
-    ensures all { IfOk result (λ r. vec_len r.0 ≡ vec_len passes) }
+) -> Result<Vec<(u8, Pass<Log>)>, AllocError>
+    requires { vec_len passes ≡ workers }
+    ensures len { IfOk result (λ r. vec_len r ≡ workers) }
+    ensures each { IfOk result (λ r. (i : ℕ) (d : _) → i < workers
+        → slice_index_or r.items i d ≡ (i, slice_index_or passes.items i d.1)) }
 {
-    let (passes, last) = last_pass(book, passes);
-    let Some((pass, worker)) = last else {
-        return Ok((passes, Vec::new(alloc)));
-    };
-    let (others, own) = thread::join(
-        rt,
-        move || -> Result<(Vec<Pass<Log>>, Vec<Vec<LogLine>>), AllocError>
-            requires { IsSync R.row × IsSync G.row × Every (IsFresh (id_of book.now)) passes.items
-                × InOrder 0 passes.items × (vec_len passes ≤ MAX_WORKERS) × (lines ≤ book.now.turns) }
-            ensures { IfOk result (λ r. WroteAll (id_of book.entry.now) lines 0 r.0.items r.1.items
-                × (vec_len r.0 ≡ vec_len passes)) }
-        { write_all(rt, alloc, gate, book, passes, lines) },
-        move || -> Result<(Pass<Log>, Vec<LogLine>), AllocError>
-            requires { IsSync R.row × IsSync G.row × IsFresh (id_of book.now) pass × (pass.worker ≡ worker)
-                × (lines ≤ book.now.turns) }
-            ensures { IfOk result (λ r. Wrote (id_of book.entry.now) lines worker r.0 r.1) }
-        { write_own(rt, alloc, gate, book, pass, worker, lines) },
-    );
-    let (passes, lists) = others?;
-    let (pass, list) = own?;
-    joined(book, passes, lists, pass, list, lines)
-}
-
-// The last of the passes with its worker, and the others.
-fn last_pass(
-    book: &TurnBook<Log>,
-    mut passes: Vec<Pass<Log>>,
-) -> (Vec<Pass<Log>>, Option<(Pass<Log>, u8)>)
-    requires fresh { Every (IsFresh (id_of book.now)) passes.items }
-    requires order { InOrder 0 passes.items × (vec_len passes ≤ MAX_WORKERS) }
-    ensures fresh { Every (IsFresh (id_of book.now)) result.0.items }
-    ensures order { InOrder 0 result.0.items × (vec_len result.0 ≤ MAX_WORKERS) }
-    ensures none { IfNone result.1 ((vec_len result.0 ≡ vec_len passes) × (result.0.items ≡ [])) }
-    ensures less { IfSome result.1 (λ _. vec_len passes ≡ vec_len result.0 + 1) }
-    ensures pass { IfSome result.1 (λ r. IsFresh (id_of book.now) r.0 × (r.0.worker ≡ r.1) × (r.1 ≡ vec_len result.0)) }
-{
-    let Some(pass) = passes.pop() else {
-        return (passes, None);
-    };
-    let worker = passes.len() as u8;
-    (passes, Some((pass, worker)))
+    (0..workers).zip(passes).collect(alloc)
 }
 
 // One worker writes its lines, and puts each into a list of its own.
@@ -135,21 +95,16 @@ fn write_own<G: Gate, R: Wait>(
     Ok((pass, list))
 }
 
-// The passes and the lists with those of one more worker, who comes next.
-fn joined(
-    book: &TurnBook<Log>,
-    mut passes: Vec<Pass<Log>>,
-    mut lists: Vec<Vec<LogLine>>,
-    pass: Pass<Log>,
-    list: Vec<LogLine>,
-    lines: u64,
+// The passes and the lists of the workers, unless one of them was out of memory.
+fn passes_and_lists(
+    alloc: Global,
+    results: Vec<Result<(Pass<Log>, Vec<LogLine>), AllocError>>,
 ) -> Result<(Vec<Pass<Log>>, Vec<Vec<LogLine>>), AllocError>
-    requires others { WroteAll (id_of book.now) lines 0 passes.items lists.items }
-    requires own { Wrote (id_of book.now) lines (vec_len passes) pass list }
-    ensures wrote { IfOk result (λ r. WroteAll (id_of book.now) lines 0 r.0.items r.1.items) }
-    ensures all { IfOk result (λ r. vec_len r.0 ≡ vec_len passes + 1) }
+    ensures len { IfOk result (λ r. (vec_len r.0 ≡ vec_len results) × (vec_len r.1 ≡ vec_len results)) }
+    ensures each { IfOk result (λ r. (i : ℕ) (p : _) (l : _) → i < vec_len results
+        → slice_index_or results.items i (Ok (p, l))
+        ≡ Ok (slice_index_or r.0.items i p, slice_index_or r.1.items i l)) }
 {
-    passes.push(pass)?;
-    lists.push(list)?;
-    Ok((passes, lists))
+    let pairs: Vec<_> = results.into_iter().try_collect(alloc)?;
+    pairs.into_iter().unzip(alloc)
 }
