@@ -16,7 +16,7 @@ moved-distinct i q s d =
     let t = distinct-taken i s d in
     subst IsDistinct (put-last q i (queues_without i s) t) (distinct-put q _ i (queues_without i s) t (absent-taken i s))
 
--- the record of one move, or of none, fits what the move left, and undoes it
+-- the record of one move, or of none, fits the distinct items that the move left, and undoes it
 pub record UndoesMove (before after : Queues) (r : Option MoveRecord) : Type 0 where
   pub fits : FitsBy r after
   pub undone : undone_by r after ≡ before

@@ -5,23 +5,19 @@ use Rattle.step_record.specs.declared.outcome.Outcome.TheVariants.{Hit}
 use Rattle.segments.specs.declared.records.Queue.{Queue}
 use Rattle.segments.specs.declared.records.Queue.TheVariants.{Window}
 use Rattle.segments.specs.declared.records.MoveRecord.{MoveRecord}
-use Rattle.segments.specs.Queues.{Queues, queue_holding, queues_after_move, IsDistinct}
+use Rattle.segments.specs.Queues.{Queues, queue_holding, queues_after_move}
 use Rattle.replacement.specs.declared.record.Moves.{Moves}
 use Rattle.replacement.specs.declared.record.Effect.{Effect}
 use Rattle.replacement.specs.declared.rules.Placement.{Placement}
 use Rattle.replacement.specs.declared.rules.HitRule.{HitRule}
 use Rattle.replacement.specs.declared.rules.HitRule.TheVariants.{Renews, Stays}
 use Rattle.replacement.specs.declared.rules.Rules.{Rules}
-use Rattle.replacement.specs.Plan.{Transfer, Plan, hit_plan, hit_plan_by, eviction_plan, joining_first, miss_plan_by, miss_plan, plan}
-use Rattle.replacement.specs.PlanMoves.{queues_after_transfer, removed, queues_after, transfer_record, removal_record, moves_of, UndoesMoves}
-use Rattle.replacement.specs.Effects.{IsEffect, IsHit, IsHitBy}
-use Rattle.replacement.proofs.Carrying.{plan-undone}
+use Rattle.replacement.specs.Plan.{Transfer, Plan, hit_plan_by, eviction_plan, joining_first, miss_plan_by, miss_plan, plan}
+use Rattle.replacement.specs.PlanMoves.{queues_after_transfer, removed, queues_after, transfer_record, removal_record, moves_of}
+use Rattle.replacement.specs.Effects.{IsEffect, IsHitBy}
 use Rattle.replacement.proofs.Planned.{plan-at, evicts-first}
 
 -- a hit
-
-pub hit-undone : (size : ℕ) (i : Item) (s t : Queues) (m : Moves) → IsDistinct s → IsHit size i s t m → UndoesMoves s t m
-hit-undone size i s t m d h = plan-undone (hit_plan size i h.queue s) s t m d h.lists h.moves
 
 hit-outcome : (h : HitRule) (size : ℕ) (i : Item) (q : Queue) (s : Queues) → Hit ≡ (hit_plan_by h size i q s).outcome
 hit-outcome Renews size i q s = refl

@@ -1,9 +1,8 @@
 use Rattle.std.proofs.Common.{◌∙◌, ap, refl, sym, subst}
 use Rattle.segments.specs.Queues.{Queues, IsDistinct, queue_after_access}
-use Rattle.replacement.specs.Plan.{settling}
+use Rattle.replacement.specs.Plan.{hit_plan, settling}
 use Rattle.replacement.specs.PlanMoves.{queues_after_transfer}
-use Rattle.replacement.proofs.Carrying.{moved-distinct}
-use Rattle.replacement.proofs.Served.{hit-undone}
+use Rattle.replacement.proofs.Carrying.{moved-distinct, plan-undone}
 use Rattle.replacement.proofs.Oldest.{renewed-first}
 use Rattle.replacement.proofs.hits.hit.Goals as goal
 
@@ -21,7 +20,9 @@ returns-clause-record c = record {
 
 pub returns-clause-undoes : goal.returns-clause-undoes
 returns-clause-undoes c =
-    hit-undone c.args.size c.args.item c.args.segments.now.lists c.settle-last.new.segments.lists _ c.in_ok-queue.ensures.distinct (returns-clause-record c)
+    let s = c.args.segments.now.lists in
+    let hit = returns-clause-record c in
+    plan-undone (hit_plan c.args.size c.args.item hit.queue s) s c.settle-last.new.segments.lists _ c.in_ok-queue.ensures.distinct hit.lists hit.moves
 
 pub returns-clause-keepable : goal.returns-clause-keepable
 returns-clause-keepable c = (
