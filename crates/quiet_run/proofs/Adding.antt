@@ -13,8 +13,8 @@ use Rattle.shell_model.specs.declared.holder.Holder.{Holder}
 use Rattle.shell_model.specs.ReachableShell.{worker_of}
 use Rattle.maintenance.specs.EmptyShell.{holder_parts}
 use Rattle.walks.specs.declared.place.Local.{Local}
-use Rattle.walks.specs.declared.place.WalkPlace.{WalkPlace}
-use Rattle.walks.specs.WalkPlaces.{IsAheadOf, phase_place}
+use Rattle.walks.specs.WalkPlaces.{IsWalkFrom, phase_act}
+use Rattle.walks.specs.NextActs.{IsAheadOf}
 use Rattle.quiet_run.specs.Outcomes.{outcome_with_reply, outcome_from}
 use Rattle.quiet_run.specs.QuietWalks.{with_rounds}
 use Rattle.quiet_run.specs.Settle.{ShellSession, AddsSteps, IsAtStart, IsRestOfRound, IsRest}
@@ -56,12 +56,12 @@ pub held_worker : (o : Option Holder) (w : ℕ) (p : Phase) (left : ℕ) → opt
 held_worker None w p left e = absurd (cc (e))
 held_worker (Some g) w p left e = ap (λ (v : ℕ). Some v) (ap (λ (t : ℕ × Phase × ℕ). t.0) (let all : holder_parts g ≡ (w, p, left) = cc (e) in all))
 
-rest-in : (w n : ℕ) (p : Phase) (es : Entries) → IsAheadOf w n (phase_place p) (with_rounds es) → IsRestOfRound w n p es
+rest-in : (w n : ℕ) (p : Phase) (es : Entries) → IsWalkFrom w n (phase_act p) 0 (with_rounds es) → IsRestOfRound w n p es
 rest-in w n Reads es h = (reading w n es 0 0).0 h
 rest-in w n Writes es h = (writing w n es).0 h
 rest-in w n Evictions es h = (evicting w n es).0 h
 
-held-rest : (n : ℕ) (o : Option Holder) (w : ℕ) (p : Phase) (left : ℕ) (es : Entries) → option_map holder_parts o ≡ Some (w, p, left) → IsAheadOf w n (phase_place p) (with_rounds es) → IsRest n o es
+held-rest : (n : ℕ) (o : Option Holder) (w : ℕ) (p : Phase) (left : ℕ) (es : Entries) → option_map holder_parts o ≡ Some (w, p, left) → IsWalkFrom w n (phase_act p) 0 (with_rounds es) → IsRest n o es
 held-rest n None w p left es e h = absurd (cc (e))
 held-rest n (Some g) w p left es e h =
     let all : holder_parts g ≡ (w, p, left) = cc (e) in
@@ -70,18 +70,18 @@ held-rest n (Some g) w p left es e h =
     subst (λ (q : Phase). IsRestOfRound g.worker n q es) phase (subst (λ (v : ℕ). IsRestOfRound v n p es) worker (rest-in w n p es h))
 
 -- what is ahead of one that stands where the holder stands is the rest of the holder's round
-pub held_rest : (l : Local) (n : ℕ) (o : Option Holder) (w : ℕ) (p : Phase) (left : ℕ) → option_map holder_parts o ≡ Some (w, p, left) → l.worker ≡ w → l.stripes ≡ n → l.place ≡ phase_place p
-    → (es : Entries) → IsAheadOf l.worker l.stripes l.place (with_rounds es) → IsRest n o es
+pub held_rest : (l : Local) (n : ℕ) (o : Option Holder) (w : ℕ) (p : Phase) (left : ℕ) → option_map holder_parts o ≡ Some (w, p, left) → l.worker ≡ w → l.stripes ≡ n → (l.act ≡ phase_act p) × (l.drained ≡ 0)
+    → (es : Entries) → IsAheadOf l (with_rounds es) → IsRest n o es
 held_rest l n o w p left e a b c es h =
     held-rest n o w p left es e
-    (subst (λ (q : WalkPlace). IsAheadOf w n q (with_rounds es)) c (subst (λ (m : ℕ). IsAheadOf w m l.place (with_rounds es)) b (subst (λ (v : ℕ). IsAheadOf v l.stripes l.place (with_rounds es)) a h)))
+    (let ahead : IsWalkFrom w n (phase_act p) 0 (with_rounds es) = rw (a, b, c.0, c.1) at h in ahead)
 
--- and it stands where the holder's phase is
-pub held_place : (l : Local) (o : Option Holder) (w : ℕ) (p : Phase) (left : ℕ) → option_map holder_parts o ≡ Some (w, p, left) → l.worker ≡ w → l.place ≡ phase_place p → IsAtStart o l.worker l.place
-held_place l None w p left e a c = absurd (cc (e))
-held_place l (Some g) w p left e a c =
+-- and it stands at the act of the holder's phase
+pub held_start : (l : Local) (o : Option Holder) (w : ℕ) (p : Phase) (left : ℕ) → option_map holder_parts o ≡ Some (w, p, left) → l.worker ≡ w → l.act ≡ phase_act p → IsAtStart o l.worker l.act
+held_start l None w p left e a c = absurd (cc (e))
+held_start l (Some g) w p left e a c =
     let all : holder_parts g ≡ (w, p, left) = cc (e) in
-    (ap (λ (t : ℕ × Phase × ℕ). t.0) all ∙ sym a, c ∙ ap (λ (t : ℕ × Phase × ℕ). phase_place t.1) (sym all))
+    (ap (λ (t : ℕ × Phase × ℕ). t.0) all ∙ sym a, c ∙ ap (λ (t : ℕ × Phase × ℕ). phase_act t.1) (sym all))
 
 pub adds_joined : (P Q R : Entries → Type 0) (old now new : ShellSession) → AddsSteps P old now → AddsSteps Q now new → ((a b : Entries) → P a → Q b → R (a ++ b)) → AddsSteps R old new
 adds_joined P Q R old now new m n f = record {

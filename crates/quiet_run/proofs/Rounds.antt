@@ -8,10 +8,8 @@ use Rattle.step_record.specs.declared.step.Reply.{Reply}
 use Rattle.step_record.specs.declared.step.Reply.TheVariants as reply
 use Rattle.step_record.specs.declared.step.Step.{Step}
 use Rattle.step_record.specs.History.{Entries}
-use Rattle.walks.specs.declared.place.WalkPlace.{WalkPlace}
-use Rattle.walks.specs.declared.place.WalkPlace.TheVariants as at
 use Rattle.walks.specs.Walks.{step_of, IsRound, FollowsBegin, IsReading, FollowsDrainRead, IsWriting, FollowsDrainWrite, IsEvicting, FollowsEvict, IsEnding, FollowsEnd}
-use Rattle.walks.specs.WalkPlaces.{IsAheadOf, is_place}
+use Rattle.walks.specs.WalkPlaces.{IsWalkFrom, is_place}
 use Rattle.walks.proofs.Finishing.{finish}
 use Rattle.quiet_run.specs.QuietWalks.{reply_with_round, with_rounds}
 
@@ -89,7 +87,7 @@ module _ (w n : ℕ) where
   round [] h = h
   round (e ∷ es) h = (h.0, after-begin e.reply es h.1)
 
-  -- ---- from each place a walk with rounds can be completed
+  -- ---- from each act on a walk with rounds can be completed
 
   abbrev said : Act → Reply → Entry Step Reply
   said b r = record { step = step_of w b; reply = r }
@@ -97,15 +95,16 @@ module _ (w n : ℕ) where
   abbrev the_round : Entries
   the_round = said act.Begin reply.Busy ∷ []
 
-  pub finish_rounds : (p : WalkPlace) → is_place n p ≡ true → (es : Entries) × IsAheadOf w n p (with_rounds es)
-  finish_rounds (at.Look k) h = (said (act.Look k) reply.Miss ∷ said (act.Put k) reply.WritesFull ∷ the_round, (refl, (refl, (refl, refl))))
-  finish_rounds (at.Offer i) h = (said (act.Offer (w % n) i) reply.Kept ∷ said (act.AfterRead answer.Kept) reply.Drain ∷ the_round, (refl, (refl, (refl, refl))))
-  finish_rounds (at.AfterRead q) h = (said (act.AfterRead q) reply.Drain ∷ the_round, (refl, (refl, refl)))
-  finish_rounds (at.Put k) h = (said (act.Put k) reply.WritesFull ∷ the_round, (refl, (refl, refl)))
-  finish_rounds (at.Remove k) h = (said (act.Remove k) reply.Absent ∷ [], (refl, refl))
-  finish_rounds at.AfterWrite h = (said act.AfterWrite reply.Drain ∷ the_round, (refl, (refl, refl)))
-  finish_rounds at.Begin h = (the_round, (refl, refl))
-  finish_rounds (at.DrainRead s j) h = let f = finish w n (at.DrainRead s j) h in (f.0, (reading f.0 s j).1 f.1)
-  finish_rounds at.DrainWrite h = let f = finish w n at.DrainWrite h in (f.0, (writing f.0).1 f.1)
-  finish_rounds at.Evict h = let f = finish w n at.Evict h in (f.0, (evicting f.0).1 f.1)
-  finish_rounds at.End h = let f = finish w n at.End h in (f.0, (ending f.0).1 f.1)
+  pub finish_rounds : (a : Act) (j : ℕ) → is_place n a j ≡ true → (es : Entries) × IsWalkFrom w n a j (with_rounds es)
+  finish_rounds (act.Look k) j h = (said (act.Look k) reply.Miss ∷ said (act.Put k) reply.WritesFull ∷ the_round, (refl, (refl, (refl, refl))))
+  finish_rounds (act.Offer s i) j h = (said (act.Offer s i) reply.Kept ∷ said (act.AfterRead answer.Kept) reply.Drain ∷ the_round, (refl, (refl, (refl, refl))))
+  finish_rounds (act.AfterRead q) j h = (said (act.AfterRead q) reply.Drain ∷ the_round, (refl, (refl, refl)))
+  finish_rounds (act.Put k) j h = (said (act.Put k) reply.WritesFull ∷ the_round, (refl, (refl, refl)))
+  finish_rounds (act.Remove k) j h = (said (act.Remove k) reply.Absent ∷ [], (refl, refl))
+  finish_rounds act.AfterWrite j h = (said act.AfterWrite reply.Drain ∷ the_round, (refl, (refl, refl)))
+  finish_rounds act.Begin j h = (the_round, (refl, refl))
+  finish_rounds (act.DrainRead s) j h = let f = finish w n (act.DrainRead s) j h in (f.0, (reading f.0 s j).1 f.1)
+  finish_rounds act.DrainWrite j h = let f = finish w n act.DrainWrite j h in (f.0, (writing f.0).1 f.1)
+  finish_rounds act.Evict j h = let f = finish w n act.Evict j h in (f.0, (evicting f.0).1 f.1)
+  finish_rounds act.End j h = let f = finish w n act.End j h in (f.0, (ending f.0).1 f.1)
+  finish_rounds (act.Lose s i) j h = absurd (cc h)

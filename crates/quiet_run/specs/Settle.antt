@@ -1,5 +1,7 @@
 -- The rest of a round of maintenance, from the phase that its holder is at.
 use Rattle.std.specs.Prelude.{◌≡◌, ℕ, ◌<◌, Option, Some, None, [], ◌++◌, length}
+use Rattle.step_record.specs.declared.step.Act.{Act}
+use Rattle.step_record.specs.declared.step.Act.TheVariants.{Look}
 use Rattle.step_record.specs.declared.step.Reply.{Reply}
 use Rattle.step_record.specs.declared.step.Step.{Step}
 use Rattle.step_record.specs.declared.drain.Phase.{Phase}
@@ -12,9 +14,7 @@ use Rattle.quiet_run.specs.declared.round.Refusal.{Refusal}
 use Rattle.quiet_run.specs.declared.round.Refusal.TheVariants as refusal
 use Rattle.quiet_run.specs.declared.round.SettleFault.{SettleFault}
 use Rattle.quiet_run.specs.declared.round.SettleFault.TheVariants as fault
-use Rattle.walks.specs.declared.place.WalkPlace.{WalkPlace}
-use Rattle.walks.specs.declared.place.WalkPlace.TheVariants as at
-use Rattle.walks.specs.WalkPlaces.{phase_place}
+use Rattle.walks.specs.WalkPlaces.{phase_act}
 use Rattle.walks.specs.WorkerEntries.{IsUnfinished}
 use Rattle.walks.specs.Walks.{IsReading, IsWriting, IsEvicting}
 
@@ -45,9 +45,9 @@ BeginsRest n o es = IsUnfinished (IsRest n o) es
 
 -- The worker stands at the first act of an access, where no one holds the maintenance, or where it is in the phase of
 -- the maintenance that it holds.
-abbrev pub IsAtStart : Option Holder → ℕ → WalkPlace → Type 0
-IsAtStart None w p = (k : ℕ) × (p ≡ at.Look k)
-IsAtStart (Some h) w p = (h.worker ≡ w) × (p ≡ phase_place h.phase)
+abbrev pub IsAtStart : Option Holder → ℕ → Act → Type 0
+IsAtStart None w a = (k : ℕ) × (a ≡ Look k)
+IsAtStart (Some h) w a = (h.worker ≡ w) × (a ≡ phase_act h.phase)
 
 -- how many steps were made before the fault
 abbrev pub steps_before : SettleFault → ℕ

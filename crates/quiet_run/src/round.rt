@@ -5,7 +5,7 @@ ghost use Rattle.journal.specs.Session.{IsSameSession};
 ghost use Rattle.shell_model.specs.Shell.{act_reply, act as acted};
 ghost use Rattle.shell_model.specs.ReachableShell.{IsReachable, worker_of};
 ghost use Rattle.walks.specs.Walks.{step_of};
-ghost use Rattle.walks.specs.WalkPlaces.{IsAheadOf};
+ghost use Rattle.walks.specs.NextActs.{IsAheadOf};
 ghost use Rattle.quiet_run.specs.Outcomes.{outcome_with_reply, outcome_from};
 ghost use Rattle.walks.specs.WorkerEntries.{IsUnfinished};
 ghost use Rattle.quiet_run.specs.Settle.{AddsSteps, IsAtStart, IsRest, BeginsRest, steps_before};
@@ -80,16 +80,16 @@ pub(crate) fn finish_walk(
 ) -> Result<Outcome, Refusal>
     requires reached { IsReachable session.old.engine }
     requires stripes { length session.old.engine.stripes ≡ local.stripes }
-    requires place { IsAtStart session.old.engine.holder local.worker local.place }
+    requires place { IsAtStart session.old.engine.holder local.worker local.act }
     ensures opening { session.new.opening ≡ session.old.opening }
     ensures limit { session.new.limit ≡ session.old.limit }
-    ensures ok { IfOk result (λ o. AddsSteps (λ es. IsAheadOf local.worker local.stripes local.place (with_rounds es)
-        × (o ≡ outcome_from start es)) session.old session.new) }
+    ensures ok { IfOk result (λ o. AddsSteps (λ es. IsAheadOf local (with_rounds es) × (o ≡ outcome_from start es))
+        session.old session.new) }
     ensures none { OnOk result (session.new.engine.holder ≡ None) }
     ensures reached { OnOk result (IsReachable session.new.engine) }
     ensures stripes { length session.new.engine.stripes ≡ local.stripes }
-    ensures err { OnErr result (AddsSteps (IsUnfinished
-        (λ es. IsAheadOf local.worker local.stripes local.place (with_rounds es))) session.old session.new) }
+    ensures err { OnErr result (AddsSteps (IsUnfinished (λ es. IsAheadOf local (with_rounds es)))
+        session.old session.new) }
     ensures held { OnErr result ((w : ℕ) → worker_of session.old.engine.holder ≡ Some w
         → worker_of session.new.engine.holder ≡ Some w) }
     ensures cause { IfErr result (λ f. IsRefusalCause f session.new) }

@@ -1,5 +1,5 @@
 -- The act that a worker makes next may be the next of its walks.
-use Rattle.std.proofs.Common.{◌≡◌, ℕ, true, List, [], ◌∷◌, ◌++◌, sym, ap, ◌∙◌, subst}
+use Rattle.std.proofs.Common.{◌≡◌, ℕ, List, [], ◌∷◌, ◌++◌, sym, ap, ◌∙◌, subst}
 use Rattle.std.proofs.lemmas.List.{append_assoc}
 use Rattle.step_record.specs.declared.entry.Entry.{Entry}
 use Rattle.step_record.specs.declared.step.Act.{Act}
@@ -10,32 +10,29 @@ use Rattle.step_record.specs.History.{Entries}
 use Rattle.walks.specs.declared.place.Local.{Local}
 use Rattle.walks.specs.declared.next.Next.{Next}
 use Rattle.walks.specs.declared.next.Next.TheVariants as next_act
-use Rattle.walks.specs.declared.place.WalkPlace.{WalkPlace}
 use Rattle.walks.specs.Walks.{step_of, IsWalk, AreWalks}
-use Rattle.walks.specs.WalkPlaces.{IsAheadOf, act_of_place, is_place}
-use Rattle.walks.specs.NextActs.{IsAskedNext}
+use Rattle.walks.specs.NextActs.{IsAheadOf, IsAskedNext}
 use Rattle.walks.specs.WorkerEntries.{Made}
 use Rattle.walks.specs.AdmittedSteps.{MayMake}
-use Rattle.walks.proofs.Finishing.{finish}
-use Rattle.walks.proofs.Walking.{Completes, same_step, asked_of}
-use Rattle.walks.proofs.Asking.{first_step, not_over, walks_more}
+use Rattle.walks.proofs.Walking.{Completes, completion, not_done, same_step, asked_of}
+use Rattle.walks.proofs.Asking.{first_step, walks_more}
 
 entry_of : Step → Reply → Entry Step Reply
 entry_of t r = record { step = t; reply = r }
 
-starts : (w n : ℕ) (p : WalkPlace) (es : Entries) → IsAheadOf w n p es → (r : Reply) × (rest : Entries) × (es ≡ entry_of (step_of w (act_of_place w n p)) r ∷ rest)
+starts : (l : Local) (es : Entries) → IsAheadOf l es → (r : Reply) × (rest : Entries) × (es ≡ entry_of (step_of l.worker l.act) r ∷ rest)
 unfolding entry_of
-starts w n p [] h = absurd (not_over w n p h)
-starts w n p (y ∷ es) h = (y.reply, es, ap (λ t. entry_of t y.reply ∷ es) (first_step w n p y es h))
+starts l [] h = absurd (not_done l h)
+starts l (y ∷ es) h = (y.reply, es, ap (λ t. entry_of t y.reply ∷ es) (first_step l.worker l.stripes l.act l.drained y es h))
 
 pub may_make : (w n : ℕ) (c : Call) (before : List Call) (own own' : Entries) (next : Next) (a : Act) (l : Local) → AreWalks w n before own → Made (Completes w n c next) own own'
-    → next ≡ next_act.Do a l → IsAskedNext w n next → is_place l.stripes l.place ≡ true → MayMake w n own' a
+    → next ≡ next_act.Do a l → IsAskedNext w n next → MayMake w n own' a
 unfolding entry_of
-may_make w n c before own own' next a l h m is asks placed =
-    let f = finish l.worker l.stripes l.place placed in
-    let s = starts l.worker l.stripes l.place f.0 f.1 in
-    let asked = asked_of w n c next a l is asks in
-    let first : f.0 ≡ entry_of (step_of w a) s.0 ∷ s.1 = s.2 ∙ ap (λ t. entry_of t s.0 ∷ s.1) (same_step w n c a l asked.0 asked.1) in
+may_make w n c before own own' next a l h m is asks =
+    let f = completion l in
+    let s = starts l f.0 f.1 in
+    let asked = asked_of w n next a l is asks in
+    let first : f.0 ≡ entry_of (step_of w a) s.0 ∷ s.1 = s.2 ∙ ap (λ t. entry_of t s.0 ∷ s.1) (same_step w n a l asked) in
     let all : Completes w n c (next_act.Do a l) m.made = subst (λ x. Completes w n c x m.made) is m.holds in
     let walk : IsWalk w n c (m.made ++ entry_of (step_of w a) s.0 ∷ s.1) = subst (λ es. IsWalk w n c (m.made ++ es)) first (all f.0 f.1) in
     let list : own' ++ entry_of (step_of w a) s.0 ∷ s.1 ≡ own ++ (m.made ++ entry_of (step_of w a) s.0 ∷ s.1) = ap (λ x. x ++ entry_of (step_of w a) s.0 ∷ s.1) m.entered ∙ append_assoc own m.made (entry_of (step_of w a) s.0 ∷ s.1) in

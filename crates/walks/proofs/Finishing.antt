@@ -1,4 +1,4 @@
--- From each place, a walk can be completed.
+-- From each act on, a walk can be completed.
 use Rattle.std.proofs.Common.{◌≡◌, ℕ, zero, suc, ◌+◌, ◌-◌, ◌<◌, ◌%◌, ◌==◌, nat_lt, Bool, true, false, List, [], ◌∷◌, ◌++◌, refl, sym, subst, arith, MatchBool}
 use Rattle.std.proofs.lemmas.Bool.{eq-eqb, ltb-true, and_parts}
 use Rattle.step_record.specs.declared.entry.Entry.{Entry}
@@ -12,10 +12,8 @@ use Rattle.step_record.specs.declared.step.Reply.{Reply}
 use Rattle.step_record.specs.declared.step.Reply.TheVariants as reply
 use Rattle.step_record.specs.declared.step.Step.{Step}
 use Rattle.step_record.specs.History.{Entries}
-use Rattle.walks.specs.declared.place.WalkPlace.{WalkPlace}
-use Rattle.walks.specs.declared.place.WalkPlace.TheVariants as at
 use Rattle.walks.specs.Walks.{step_of, IsWalk, AreWalks, IsReading, IsWriting, IsEvicting, IsEnding}
-use Rattle.walks.specs.WalkPlaces.{IsAheadOf, is_place}
+use Rattle.walks.specs.WalkPlaces.{IsWalkFrom, is_place}
 
 module _ (w : ℕ) (n : ℕ) where
   abbrev said : Act → Reply → Entry Step Reply
@@ -67,25 +65,26 @@ module _ (w : ℕ) (n : ℕ) where
   abbrev the_report : Act → Entries
   the_report a = said a reply.Go ∷ []
 
-  abbrev the_offer : Item → Entries
-  the_offer i = said (act.Offer (w % n) i) reply.Kept ∷ the_report (act.AfterRead answer.Kept)
+  abbrev the_offer : ℕ → Item → Entries
+  the_offer s i = said (act.Offer s i) reply.Kept ∷ the_report (act.AfterRead answer.Kept)
 
-  pub finish : (p : WalkPlace) → is_place n p ≡ true → (es : Entries) × IsAheadOf w n p es
-  finish (at.Look k) h = (said (act.Look k) (reply.Hit 0) ∷ the_offer (record { key = k; node = 0 }), (refl, (refl, (refl, refl))))
-  finish (at.Offer i) h = (the_offer i, (refl, (refl, refl)))
-  finish (at.AfterRead a) h = (the_report (act.AfterRead a), (refl, refl))
-  finish (at.Put k) h = (said (act.Put k) reply.WritesFull ∷ the_round, (refl, (refl, refl)))
-  finish (at.Remove k) h = (said (act.Remove k) reply.Absent ∷ [], (refl, refl))
-  finish at.AfterWrite h = (the_report act.AfterWrite, (refl, refl))
-  finish at.Begin h = (the_round, (refl, refl))
-  finish (at.DrainRead s j) h = reads s j (ltb-true s n ((and_parts (nat_lt s n) (nat_lt j 16) h).0))
-  finish at.DrainWrite h = (the_writes, writes)
-  finish at.Evict h = (the_evictions, evicts)
-  finish at.End h = (the_end, ends)
+  pub finish : (a : Act) (j : ℕ) → is_place n a j ≡ true → (es : Entries) × IsWalkFrom w n a j es
+  finish (act.Look k) j h = (said (act.Look k) (reply.Hit 0) ∷ the_offer (w % n) (record { key = k; node = 0 }), (refl, (refl, (refl, refl))))
+  finish (act.Offer s i) j h = (the_offer s i, (refl, (refl, refl)))
+  finish (act.AfterRead a) j h = (the_report (act.AfterRead a), (refl, refl))
+  finish (act.Put k) j h = (said (act.Put k) reply.WritesFull ∷ the_round, (refl, (refl, refl)))
+  finish (act.Remove k) j h = (said (act.Remove k) reply.Absent ∷ [], (refl, refl))
+  finish act.AfterWrite j h = (the_report act.AfterWrite, (refl, refl))
+  finish act.Begin j h = (the_round, (refl, refl))
+  finish (act.DrainRead s) j h = reads s j (ltb-true s n ((and_parts (nat_lt s n) (nat_lt j 16) h).0))
+  finish act.DrainWrite j h = (the_writes, writes)
+  finish act.Evict j h = (the_evictions, evicts)
+  finish act.End j h = (the_end, ends)
+  finish (act.Lose s i) j h = absurd (cc h)
 
   finish_call : (c : Call) → (es : Entries) × IsWalk w n c es
-  finish_call (call.Read k) = finish (at.Look k) refl
-  finish_call (call.Remove k) = finish (at.Remove k) refl
+  finish_call (call.Read k) = finish (act.Look k) 0 refl
+  finish_call (call.Remove k) = finish (act.Remove k) 0 refl
 
   pub finish_calls : (cs : List Call) → (es : Entries) × AreWalks w n cs es
   finish_calls [] = ([], refl)

@@ -13,4 +13,4 @@ mod next;
 mod place;
 
 pub use next::{Next, next_step};
-pub use place::{Local, WalkPlace};
+pub use place::Local;

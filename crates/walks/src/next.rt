@@ -1,14 +1,14 @@
 //! What a worker does next.
-ghost use Rattle.std.specs.Prelude.{◌≡◌, ◌<◌, ◌≤◌, ◌+◌, ◌==◌, ◌↔◌, ℕ, true, MatchBool, Option, Some, None};
+ghost use Rattle.std.specs.Prelude.{◌≡◌, ◌<◌, ◌+◌, ◌==◌, ◌↔◌, ℕ, true, MatchBool, MatchOption, IfSome, Some, []};
 ghost use Rattle.step_record.specs.Answers.{is_answer};
 ghost use Rattle.step_record.specs.History.{Entries};
 ghost use Rattle.walks.specs.Walks.{IsReading, IsWriting};
-ghost use Rattle.walks.specs.WalkPlaces.{act_of_place, AheadAfter, AheadIf, IsAheadOf, is_place, is_place_if, IsReplyTo};
-ghost use Rattle.walks.specs.NextActs.{IsRestOfWalk, IsAskedNext};
+ghost use Rattle.walks.specs.WalkPlaces.{is_place, IsWalkFrom};
+ghost use Rattle.walks.specs.NextActs.{AheadAfter, IsRestOfWalk, IsAskedNext};
 
-use super::place::{Local, WalkPlace};
+use super::place::Local;
 use shell_buffers::MAX_ITEMS;
-use step_record::{Act, Answer, Item, Reply, Worker};
+use step_record::{Act, Answer, Item, Reply};
 
 /// What a worker does next: an act, with where it then stands, or nothing more for its call.
 #[derive(Clone, Copy)]
@@ -22,136 +22,107 @@ pub enum Next {
 /// What a worker does after the reply to its last act; with no reply, that act, which at first is
 /// the first one of its walk.
 pub fn next_step(local: Local, reply: Option<Reply>) -> Next
-    requires { IsReplyTo (act_of_place local.worker local.stripes local.place) reply }
-    ensures left { (es : Entries) → AheadAfter local.worker local.stripes local.place reply es ↔ IsRestOfWalk result es }
+    requires { IfSome reply (λ r. is_answer local.act r ≡ true) }
+    ensures left { (es : Entries) → AheadAfter local reply es ↔ IsRestOfWalk result es }
     ensures asks { IsAskedNext local.worker local.stripes result }
 {
     let worker = local.worker;
     let stripes = local.stripes;
     let place = match reply {
-        None => Some(local.place),
-        Some(reply) => after(stripes, local.place, reply),
+        None => Some((local.act, local.drained)),
+        Some(reply) => after(local, reply),
     };
     match place {
         None => Next::Done,
-        Some(place) => Next::Do(
-            act_of(worker, stripes, place),
+        Some((act, drained)) => Next::Do(
+            act,
             Local {
                 worker,
                 stripes,
-                place,
+                act,
+                drained,
             },
         ),
     }
 }
 
-// The act of a worker that stands there.
-fn act_of(worker: Worker, stripes: u8, place: WalkPlace) -> Act
-    requires { 1 ≤ stripes }
-    ensures { result ≡ act_of_place worker stripes place }
+// The act after a reply, with how many items of its stripe were drained; none where the walk is over.
+fn after(local: Local, reply: Reply) -> Option<(Act, u8)>
+    requires { is_answer local.act reply ≡ true }
+    ensures ahead { (es : Entries) → AheadAfter local (Some reply) es
+        ↔ MatchOption result (es ≡ []) (λ p. IsWalkFrom local.worker local.stripes p.0 p.1 es) }
+    ensures place { IfSome result (λ p. is_place local.stripes p.0 p.1 ≡ true) }
 {
-    match place {
-        WalkPlace::Look { key } => Act::Look { key },
-        WalkPlace::Offer { item } => Act::Offer {
-            stripe: worker.number() % stripes,
-            item,
-        },
-        WalkPlace::AfterRead { answer } => Act::AfterRead { answer },
-        WalkPlace::Put { key } => Act::Put { key },
-        WalkPlace::Remove { key } => Act::Remove { key },
-        WalkPlace::AfterWrite => Act::AfterWrite,
-        WalkPlace::Begin => Act::Begin,
-        WalkPlace::DrainRead { stripe, drained: _ } => Act::DrainRead { stripe },
-        WalkPlace::DrainWrite => Act::DrainWrite,
-        WalkPlace::Evict => Act::Evict,
-        WalkPlace::End => Act::End,
-    }
-}
-
-// Where the worker stands after a reply; nowhere where its walk is over.
-fn after(stripes: u8, place: WalkPlace, reply: Reply) -> Option<WalkPlace>
-    requires answer { (worker : ℕ) × (is_answer (act_of_place worker stripes place) reply ≡ true) }
-    requires some { 1 ≤ stripes }
-    requires place { is_place stripes place ≡ true }
-    ensures ahead { (worker : ℕ) (es : Entries) → AheadAfter worker stripes place (Some reply) es
-        ↔ AheadIf worker stripes result es }
-    ensures place { is_place_if stripes result ≡ true }
-{
-    match (place, reply) {
-        (WalkPlace::Look { key }, Reply::Hit { node }) => Some(WalkPlace::Offer {
-            item: Item { key, node },
-        }),
-        (WalkPlace::Look { key }, Reply::Miss) => Some(WalkPlace::Put { key }),
-        (WalkPlace::Offer { item: _ }, Reply::Kept) => Some(WalkPlace::AfterRead {
-            answer: Answer::Kept,
-        }),
-        (WalkPlace::Offer { item: _ }, Reply::Full) => Some(WalkPlace::AfterRead {
-            answer: Answer::Full,
-        }),
-        (WalkPlace::Put { key: _ }, Reply::Added { node: _ }) => Some(WalkPlace::AfterWrite),
-        (WalkPlace::Put { key: _ }, Reply::Present { node: _ }) => Some(WalkPlace::AfterWrite),
-        (WalkPlace::Put { key: _ }, Reply::WritesFull) => Some(WalkPlace::Begin),
-        (WalkPlace::Remove { key: _ }, Reply::Absent) => None,
-        (WalkPlace::Remove { key: _ }, Reply::Removed { node: _ }) => Some(WalkPlace::AfterWrite),
-        (WalkPlace::Remove { key: _ }, Reply::WritesFull) => Some(WalkPlace::Begin),
-        (WalkPlace::AfterRead { answer: _ } | WalkPlace::AfterWrite, Reply::Go) => None,
-        (WalkPlace::AfterRead { answer: _ } | WalkPlace::AfterWrite, Reply::Drain) => {
-            Some(WalkPlace::Begin)
+    let stripes = local.stripes;
+    match (local.act, reply) {
+        (Act::Look { key }, Reply::Hit { node }) => {
+            let stripe = local.worker.number() % stripes;
+            let item = Item { key, node };
+            Some((Act::Offer { stripe, item }, 0))
         }
-        (WalkPlace::Begin, Reply::Busy) => None,
-        (WalkPlace::Begin, Reply::Began) => Some(WalkPlace::DrainRead {
-            stripe: 0,
-            drained: 0,
-        }),
-        (WalkPlace::DrainRead { stripe, drained }, Reply::Drained { item: _ }) => {
-            Some(after_drained(stripes, stripe, drained))
+        (Act::Look { key }, Reply::Miss) => Some((Act::Put { key }, 0)),
+        (Act::Offer { .. }, Reply::Kept) => {
+            let answer = Answer::Kept;
+            Some((Act::AfterRead { answer }, 0))
         }
-        (WalkPlace::DrainRead { stripe, drained: _ }, Reply::Empty) => {
-            Some(after_stripe(stripes, stripe))
+        (Act::Offer { .. }, Reply::Full) => {
+            let answer = Answer::Full;
+            Some((Act::AfterRead { answer }, 0))
         }
-        (WalkPlace::DrainWrite, Reply::Applied { item: _ } | Reply::Cleared { item: _ }) => {
-            Some(WalkPlace::DrainWrite)
+        (Act::Put { .. }, Reply::Added { .. } | Reply::Present { .. }) => Some((
+            Act::AfterWrite,
+            0,
+        )),
+        (Act::Put { .. }, Reply::WritesFull) => Some((Act::Begin, 0)),
+        (Act::Remove { .. }, Reply::Absent) => None,
+        (Act::Remove { .. }, Reply::Removed { .. }) => Some((Act::AfterWrite, 0)),
+        (Act::Remove { .. }, Reply::WritesFull) => Some((Act::Begin, 0)),
+        (Act::AfterRead { .. } | Act::AfterWrite, Reply::Go) => None,
+        (Act::AfterRead { .. } | Act::AfterWrite, Reply::Drain) => Some((Act::Begin, 0)),
+        (Act::Begin, Reply::Busy) => None,
+        (Act::Begin, Reply::Began) => Some((Act::DrainRead { stripe: 0 }, 0)),
+        (Act::DrainRead { stripe }, Reply::Drained { .. }) => {
+            Some(after_drained(stripes, stripe, local.drained))
         }
-        (WalkPlace::DrainWrite, Reply::Empty | Reply::Enough) => Some(WalkPlace::Evict),
-        (WalkPlace::Evict, Reply::Fits) => Some(WalkPlace::End),
-        (WalkPlace::Evict, _) => Some(WalkPlace::Evict),
-        (WalkPlace::End, _) => None,
+        (Act::DrainRead { stripe }, Reply::Empty) => Some((after_stripe(stripes, stripe), 0)),
+        (Act::DrainWrite, Reply::Applied { .. } | Reply::Cleared { .. }) => {
+            Some((Act::DrainWrite, 0))
+        }
+        (Act::DrainWrite, Reply::Empty | Reply::Enough) => Some((Act::Evict, 0)),
+        (Act::Evict, Reply::Fits) => Some((Act::End, 0)),
+        (Act::Evict, _) => Some((Act::Evict, 0)),
+        (Act::End, _) => None,
         _ => unreachable!(),
     }
 }
 
 // Past one more item of a stripe.
-fn after_drained(stripes: u8, stripe: u8, drained: u8) -> WalkPlace
+fn after_drained(stripes: u8, stripe: u8, drained: u8) -> (Act, u8)
     requires stripe { stripe < stripes }
     requires drained { drained < MAX_ITEMS }
     ensures ahead { (w : ℕ) (es : Entries) → MatchBool (drained + 1 == MAX_ITEMS)
         (MatchBool (stripe + 1 == stripes) (IsWriting w stripes es) (IsReading w stripes (stripe + 1) 0 es))
-        (IsReading w stripes stripe (drained + 1) es) ↔ IsAheadOf w stripes result es }
-    ensures place { is_place stripes result ≡ true }
+        (IsReading w stripes stripe (drained + 1) es) ↔ IsWalkFrom w stripes result.0 result.1 es }
+    ensures place { is_place stripes result.0 result.1 ≡ true }
 {
     if usize::from(drained) + 1 == MAX_ITEMS {
-        after_stripe(stripes, stripe)
+        (after_stripe(stripes, stripe), 0)
     } else {
-        WalkPlace::DrainRead {
-            stripe,
-            drained: drained + 1,
-        }
+        (Act::DrainRead { stripe }, drained + 1)
     }
 }
 
 // Past the last entry of a stripe.
-fn after_stripe(stripes: u8, stripe: u8) -> WalkPlace
+fn after_stripe(stripes: u8, stripe: u8) -> Act
     requires { stripe < stripes }
     ensures ahead { (w : ℕ) (es : Entries) → MatchBool (stripe + 1 == stripes) (IsWriting w stripes es)
-        (IsReading w stripes (stripe + 1) 0 es) ↔ IsAheadOf w stripes result es }
-    ensures place { is_place stripes result ≡ true }
+        (IsReading w stripes (stripe + 1) 0 es) ↔ IsWalkFrom w stripes result 0 es }
+    ensures place { is_place stripes result 0 ≡ true }
 {
     if stripe + 1 == stripes {
-        WalkPlace::DrainWrite
+        Act::DrainWrite
     } else {
-        WalkPlace::DrainRead {
-            stripe: stripe + 1,
-            drained: 0,
-        }
+        let stripe = stripe + 1;
+        Act::DrainRead { stripe }
     }
 }

@@ -5,8 +5,8 @@ use Rattle.shell_model.specs.Shell.{Shell}
 use Rattle.shell_model.proofs.Engines.{answers_law}
 use Rattle.walks.specs.Walks.{step_of}
 use Rattle.quiet_run.specs.Outcomes.{outcome_with_reply}
-use Rattle.walks.proofs.Walking.{on_err, answered}
-use Rattle.quiet_run.proofs.Alone.{alone_first, alone_next, alone_takes, alone_over, holds_first, holds_next, holds_now, act_asked, asks_on, round_answers, goes_on, goes_over, goes_begun}
+use Rattle.walks.proofs.Walking.{asked_of, asks_on, on_err, answered}
+use Rattle.quiet_run.proofs.Alone.{alone_first, alone_next, alone_takes, alone_over, holds_first, holds_next, holds_now, round_answers, goes_on, goes_over, goes_begun}
 use Rattle.quiet_run.proofs.Adding.{adds_none, adds_more, adds_same, told_last}
 use Rattle.quiet_run.proofs.round.finish_walk.Goals as goal
 
@@ -27,14 +27,14 @@ make_step-requires c = alone_takes c.args.local.worker c.args.local.stripes c.lo
 pub returns-in_err-reply-clause-err : goal.returns-in_err-reply-clause-err
 returns-in_err-reply-clause-err c = on_err _ _
     (adds_same _ _ _ c.loop-next.session _ c.loop-next.invariant.adds c.in_err-reply.ensures.err.kept c.in_err-reply.ensures.err.tail
-    (λ es h. goes_begun c.args.local.worker c.args.local.stripes c.args.local.place c.loop-next.next c.in-Do.act c.in-Do.at c.in-Do.is es h.0))
+    (λ es h. goes_begun c.args.local c.loop-next.next c.in-Do.act c.in-Do.at c.in-Do.is es h.0))
 
 pub returns-in_err-reply-clause-held : goal.returns-in_err-reply-clause-held
 returns-in_err-reply-clause-held c = on_err _ _ (holds_now c.args.session.now.engine.holder c.loop-next.next c.in-Do.act c.in-Do.at c.loop-next.session.engine _ c.in-Do.is c.loop-next.invariant.holds c.in_err-reply.ensures.same)
 
 pub next_step-next-requires-in-Do : goal.next_step-next-requires-in-Do
 next_step-next-requires-in-Do c =
-    answered _ _ _ (act_asked c.args.local.worker c.args.local.stripes c.loop-next.next c.in-Do.act c.in-Do.at c.in-Do.is c.loop-next.invariant.asks).0
+    answered _ _ _ (asked_of c.args.local.worker c.args.local.stripes c.loop-next.next c.in-Do.act c.in-Do.at c.in-Do.is c.loop-next.invariant.asks).0
     (subst (λ (q : Reply). is_answer c.in-Do.act q ≡ true) (sym c.with_round.ensures) (round_answers c.in-Do.act c.in_ok-reply.reply (answers_law _ _ _ _ c.in_ok-reply.ensures.accepted)))
 
 pub loop-next-preserved : goal.loop-next-preserved
@@ -43,7 +43,7 @@ loop-next-preserved c = record {
   limit = c.in_ok-reply.ensures.limit ∙ c.loop-next.invariant.limit;
   adds = adds_more _ _ _ c.loop-next.session _ (record { step = step_of c.args.local.worker c.in-Do.act; reply = c.in_ok-reply.reply }) c.loop-next.invariant.adds c.in_ok-reply.ensures.ok c.in_ok-reply.ensures.tail
       (λ es h. (
-        goes_on c.args.local.worker c.args.local.stripes c.args.local.place c.args.local.worker c.args.local.stripes c.loop-next.next c.next_step-next-in-Do.result c.in-Do.act c.in-Do.at c.in_ok-reply.reply c.with_round.result c.in-Do.is c.loop-next.invariant.asks c.with_round.ensures
+        goes_on c.args.local c.args.local.worker c.args.local.stripes c.loop-next.next c.next_step-next-in-Do.result c.in-Do.act c.in-Do.at c.in_ok-reply.reply c.with_round.result c.in-Do.is c.loop-next.invariant.asks c.with_round.ensures
             (λ rest left. (c.next_step-next-in-Do.ensures.left rest).1 left) es h.0,
         c.outcome_with-outcome.ensures ∙ ap (λ o. outcome_with_reply o c.in_ok-reply.reply) h.1 ∙ sym (told_last c.args.start es (record { step = step_of c.args.local.worker c.in-Do.act; reply = c.in_ok-reply.reply })),
       ));
@@ -58,7 +58,7 @@ loop-next-preserved c = record {
 pub returns-clause-ok : goal.returns-clause-ok
 returns-clause-ok c =
     adds_same _ _ _ c.loop-next.session _ c.loop-next.invariant.adds refl refl
-    (λ es h. (goes_over c.args.local.worker c.args.local.stripes c.args.local.place c.loop-next.next c.in_default.is es h.0, h.1))
+    (λ es h. (goes_over c.args.local c.loop-next.next c.in_default.is es h.0, h.1))
 
 pub returns-clause-none : goal.returns-clause-none
 returns-clause-none c = alone_over c.args.local.worker c.args.local.stripes c.loop-next.next c.loop-next.session.engine c.in_default.is c.loop-next.invariant.alone

@@ -9,7 +9,7 @@ abbrev pub invariant-loop-next : goal.invariant-loop-next
 invariant-loop-next l = record {
   opening : l.session.opening ≡ l.fn.session.opening;
   limit : l.session.limit ≡ l.fn.session.limit;
-  adds : AddsSteps (λ es. GoesOn l.fn.local.worker l.fn.local.stripes l.fn.local.place l.next es × (l.outcome ≡ outcome_from l.fn.start es)) l.fn.session l.session;
+  adds : AddsSteps (λ es. GoesOn l.fn.local l.next es × (l.outcome ≡ outcome_from l.fn.start es)) l.fn.session l.session;
   asks : IsAskedNext l.fn.local.worker l.fn.local.stripes l.next;
   worker : l.worker ≡ l.fn.local.worker;
   alone : IsAlone l.fn.local.worker l.fn.local.stripes l.next l.session.engine;

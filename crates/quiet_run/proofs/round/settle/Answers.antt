@@ -1,7 +1,7 @@
 use Rattle.std.proofs.Common.{◌-◌, length, option_map, sym, ap, ◌∙◌}
 use Rattle.shell_model.specs.Shell.{Shell}
 use Rattle.maintenance.specs.EmptyShell.{holder_parts}
-use Rattle.quiet_run.proofs.Adding.{adds_counted, held_rest, held_place, held_worker}
+use Rattle.quiet_run.proofs.Adding.{adds_counted, held_rest, held_start, held_worker}
 use Rattle.quiet_run.proofs.round.settle.Goals as goal
 
 pub returns-in-Ok-clause-ok : goal.returns-in-Ok-clause-ok
@@ -32,8 +32,8 @@ returns-in-Err-JournalFull-clause-err c =
 
 pub finish_walk-requires-clause-place : goal.finish_walk-requires-clause-place
 finish_walk-requires-clause-place c =
-    held_place c.resume-local.result c.args.session.now.engine.holder c.in-Some.holder.0 c.in-Some.holder.1 c.in-Some.holder.2 (ap (λ (x : Shell). option_map holder_parts x.holder) (sym c.engine.ensures.engine) ∙ sym c.holder.ensures ∙ c.in-Some.is)
-    c.resume-local.ensures.same.0 c.resume-local.ensures.place
+    held_start c.resume-local.result c.args.session.now.engine.holder c.in-Some.holder.0 c.in-Some.holder.1 c.in-Some.holder.2 (ap (λ (x : Shell). option_map holder_parts x.holder) (sym c.engine.ensures.engine) ∙ sym c.holder.ensures ∙ c.in-Some.is)
+    c.resume-local.ensures.same.0 c.resume-local.ensures.place.0
 
 pub returns-in-Err-OutOfMemory-clause-held : goal.returns-in-Err-OutOfMemory-clause-held
 returns-in-Err-OutOfMemory-clause-held c =

@@ -9,7 +9,7 @@ use Rattle.quiet_run.proofs.run.quiet_key.Goals as goal
 
 pub finish_walk-requires-clause-place : goal.finish_walk-requires-clause-place
 finish_walk-requires-clause-place c =
-    subst (λ (o : Option Holder). IsAtStart o c.start-local.result.worker c.start-local.result.place) (sym c.requires.none) (c.args.key, c.start-local.ensures.place)
+    subst (λ (o : Option Holder). IsAtStart o c.start-local.result.worker c.start-local.result.act) (sym c.requires.none) (c.args.key, c.start-local.ensures.place.0)
 
 pub returns-clause-ok : goal.returns-clause-ok
 returns-clause-ok c =
