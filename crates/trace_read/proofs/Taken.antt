@@ -9,7 +9,7 @@ use Rattle.trace_read.specs.DigitRuns.{NoFeedBetween}
 use Rattle.streams.specs.Feeds.{feed_in}
 use Rattle.trace_read.proofs.Steps.{ended_ahead, of_line, refused_here}
 use Rattle.trace_read.specs.Lines.{is_feed, line_of, run_of}
-use Rattle.trace_read.specs.UsualLine.{IsStarLine}
+use Rattle.trace_read.specs.UsualLine.{AreFourStars, IsStarLine}
 use Rattle.streams.specs.Blanks.{trimmed_text}
 use Rattle.trace_read.specs.declared.format.Format.TheVariants.{Lirs}
 use Rattle.trace_read.specs.TraceText.{fault_after, keys_or_none, IsRead, IsStopped, IsTraceRefused}
@@ -100,10 +100,14 @@ star_gives : line_of Lirs (42 ∷ []) ≡ Ok []
 unfolding trimmed_text
 star_gives = refl
 
+-- the scan, with the number of a later line
+abbrev pub at_line : Scan → ℕ → Scan
+at_line s line = record { alloc = s.alloc; format = s.format; keys = s.keys; handed_on = s.handed_on; line = line; partial_line = s.partial_line }
+
 pub star_taken : (now : Scan) (bytes : List ℕ) (place : ℕ) → IsScan now → now.format ≡ Lirs → now.partial_line.items ≡ [] → place + 2 ≤ length bytes → IsStarLine bytes place
-    → IsTakenUpTo now bytes place (place + 2) (record { alloc = now.alloc; format = now.format; keys = now.keys; handed_on = now.handed_on; line = now.line + 1; partial_line = now.partial_line })
+    → IsTakenUpTo now bytes place (place + 2) (at_line now (now.line + 1))
 star_taken now bytes place scan lirs none room star =
-    let next : Scan = record { alloc = now.alloc; format = now.format; keys = now.keys; handed_on = now.handed_on; line = now.line + 1; partial_line = now.partial_line } in
+    let next = at_line now (now.line + 1) in
     let text = take (place + 1 - place) (drop place bytes) in
     let lone : text ≡ 42 ∷ [] = ap (λ k. take k (drop place bytes)) {y = 1} (omega arith) ∙ first_of bytes place (omega arith) ∙ ap (λ b. b ∷ []) star.0 in
     let gives : line_of now.format text ≡ Ok [] = ap (λ f. line_of f text) lirs ∙ ap (line_of Lirs) lone ∙ star_gives in
@@ -122,3 +126,13 @@ star_taken now bytes place scan lirs none room star =
 
     before : NoFeedBetween bytes place (place + 1)
     before k low high = ap (λ j. is_feed (get_or bytes j 0)) {y = place} (omega arith) ∙ ap is_feed star.0
+
+pub four_taken : (now : Scan) (bytes : List ℕ) (place : ℕ) → IsScan now → now.format ≡ Lirs → now.partial_line.items ≡ [] → place + 8 ≤ length bytes → AreFourStars bytes place
+    → IsTakenUpTo now bytes place (place + 8) (at_line now (now.line + 4))
+four_taken now bytes place scan lirs none room stars =
+    taken_then now (at_line now (now.line + 2)) _ bytes place (place + 4) (place + 8)
+    (taken_then now (at_line now (now.line + 1)) _ bytes place (place + 2) (place + 4) (one now.line _ place _ refl refl (omega arith) stars.0) (one _ _ _ _ (omega arith) (omega arith) (omega arith) stars.1))
+    (taken_then (at_line now (now.line + 2)) (at_line now (now.line + 3)) _ bytes (place + 4) (place + 6) (place + 8) (one _ _ _ _ (omega arith) (omega arith) (omega arith) stars.2) (one _ _ _ _ (omega arith) (omega arith) (omega arith) stars.3))
+  where
+    one : (line next place end : ℕ) → next ≡ line + 1 → end ≡ place + 2 → end ≤ length bytes → IsStarLine bytes place → IsTakenUpTo (at_line now line) bytes place end (at_line now next)
+    one line next place end f e room star = rw (f, e) (star_taken (at_line now line) bytes place (record { few = scan.few; partial_line = scan.partial_line }) lirs none (omega arith) star)

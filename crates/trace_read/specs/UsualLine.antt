@@ -18,3 +18,7 @@ pub record IsUsualLine (format : Format) (bytes : List ℕ) (first : DigitRun) (
 -- a lone `*` (42) and a line feed stand at a place
 abbrev pub IsStarLine : List ℕ → ℕ → Type 0
 IsStarLine bytes place = (get_or bytes place 0 ≡ 42) × (get_or bytes (place + 1) 0 ≡ 10)
+
+abbrev pub AreFourStars : List ℕ → ℕ → Type 0
+AreFourStars bytes place = IsStarLine bytes place × IsStarLine bytes (place + 2) × IsStarLine bytes (place + 4)
+    × IsStarLine bytes (place + 6)

@@ -2,7 +2,7 @@
 ghost use Rattle.std.specs.Prelude.{◌≡◌, ◌≤◌, ◌<◌, ◌+◌, ◌-◌, ◌^◌, ◌++◌, ◌⊎◌, ℕ, List, [], Some, None, OnOk};
 ghost use Rattle.std.specs.Prelude.{IfOk, IfErr, IfSome, IsTrue, MatchOption, length, take, drop, vec_len};
 ghost use Rattle.trace_read.specs.DigitRuns.{IsNextRun};
-ghost use Rattle.trace_read.specs.UsualLine.{IsStarLine, IsUsualLine};
+ghost use Rattle.trace_read.specs.UsualLine.{AreFourStars, IsStarLine, IsUsualLine};
 ghost use Rattle.step_record.specs.declared.limits.TheConstants.{MAX_ACCESSES};
 ghost use Rattle.trace_read.specs.TraceText.{fault_in, keys_in, IsOfLine, IsRead, IsTraceRefused, IsStopped};
 ghost use Rattle.trace_read.specs.ScanState.{fault_ahead, keys_ahead, AreLinesTaken, CanTakeFrom, IsEnded, IsHandedOn, IsScan, IsPieceTaken, IsRefusedFrom, IsTakenUpTo};
@@ -10,6 +10,7 @@ ghost use Rattle.streams.specs.Feeds.{feed_in};
 
 use super::arc::{UsualLine, add_arc_line, push_reserved_run, usual_run};
 use super::digit_runs::{DigitRun, DigitRuns, are_at};
+use super::digits::first_word;
 use super::follower::Follower;
 use super::format::Format;
 use super::lirs::{add_lirs_line, usual_number};
@@ -188,6 +189,10 @@ impl Scan {
         // The loop changes locals alone, so that they are in registers.
         let mut line = self.line + 1;
         let mut end = start + 2;
+        'fours: while bytes.len() - end >= 8 && are_four_stars(bytes, end) {
+            line += 4;
+            end += 8;
+        }
         'stars: while bytes.len() - end >= 2 && are_at(bytes, end, b'*', b'\n') {
             line += 1;
             end += 2;
@@ -317,6 +322,15 @@ fn begins_star_lines(format: Format, bytes: &[u8], first: DigitRun) -> bool
     matches!(format, Format::Lirs)
         && are_at(bytes, first.start, b'*', b'\n')
         && are_at(bytes, first.start + 2, b'*', b'\n')
+}
+
+// Whether four lines of a lone `*` stand at this place.
+#[inline(always)]
+fn are_four_stars(bytes: &[u8], place: usize) -> bool
+    requires { place + 8 ≤ length bytes.now }
+    ensures { IsTrue result → AreFourStars bytes.now place }
+{
+    first_word(&bytes[place..]) == 0x0a2a_0a2a_0a2a_0a2a
 }
 
 // The line that begins with this run of digits, the one before `runs`, where it has the format's usual form and at most
