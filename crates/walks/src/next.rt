@@ -54,46 +54,39 @@ fn after(local: Local, reply: Reply) -> Option<(Act, u8)>
     ensures place { IfSome result (λ p. is_place local.stripes p.0 p.1 ≡ true) }
 {
     let stripes = local.stripes;
-    match (local.act, reply) {
-        (Act::Look { key }, Reply::Hit { node }) => {
-            let stripe = local.worker.number() % stripes;
-            let item = Item { key, node };
-            Some((Act::Offer { stripe, item }, 0))
-        }
-        (Act::Look { key }, Reply::Miss) => Some((Act::Put { key }, 0)),
-        (Act::Offer { .. }, Reply::Kept) => {
-            let answer = Answer::Kept;
-            Some((Act::AfterRead { answer }, 0))
-        }
-        (Act::Offer { .. }, Reply::Full) => {
-            let answer = Answer::Full;
-            Some((Act::AfterRead { answer }, 0))
-        }
-        (Act::Put { .. }, Reply::Added { .. } | Reply::Present { .. }) => Some((
-            Act::AfterWrite,
-            0,
-        )),
-        (Act::Put { .. }, Reply::WritesFull) => Some((Act::Begin, 0)),
-        (Act::Remove { .. }, Reply::Absent) => None,
-        (Act::Remove { .. }, Reply::Removed { .. }) => Some((Act::AfterWrite, 0)),
-        (Act::Remove { .. }, Reply::WritesFull) => Some((Act::Begin, 0)),
-        (Act::AfterRead { .. } | Act::AfterWrite, Reply::Go) => None,
-        (Act::AfterRead { .. } | Act::AfterWrite, Reply::Drain) => Some((Act::Begin, 0)),
-        (Act::Begin, Reply::Busy) => None,
-        (Act::Begin, Reply::Began) => Some((Act::DrainRead { stripe: 0 }, 0)),
+    let act = match (local.act, reply) {
+        (Act::Look { key }, Reply::Hit { node }) => Act::Offer {
+            stripe: local.worker.number() % stripes,
+            item: Item { key, node },
+        },
+        (Act::Look { key }, Reply::Miss) => Act::Put { key },
+        (Act::Offer { .. }, Reply::Kept) => Act::AfterRead {
+            answer: Answer::Kept,
+        },
+        (Act::Offer { .. }, Reply::Full) => Act::AfterRead {
+            answer: Answer::Full,
+        },
+        (Act::Put { .. }, Reply::Added { .. } | Reply::Present { .. }) => Act::AfterWrite,
+        (Act::Put { .. }, Reply::WritesFull) => Act::Begin,
+        (Act::Remove { .. }, Reply::Absent) => return None,
+        (Act::Remove { .. }, Reply::Removed { .. }) => Act::AfterWrite,
+        (Act::Remove { .. }, Reply::WritesFull) => Act::Begin,
+        (Act::AfterRead { .. } | Act::AfterWrite, Reply::Go) => return None,
+        (Act::AfterRead { .. } | Act::AfterWrite, Reply::Drain) => Act::Begin,
+        (Act::Begin, Reply::Busy) => return None,
+        (Act::Begin, Reply::Began) => Act::DrainRead { stripe: 0 },
         (Act::DrainRead { stripe }, Reply::Drained { .. }) => {
-            Some(after_drained(stripes, stripe, local.drained))
+            return Some(after_drained(stripes, stripe, local.drained));
         }
-        (Act::DrainRead { stripe }, Reply::Empty) => Some((after_stripe(stripes, stripe), 0)),
-        (Act::DrainWrite, Reply::Applied { .. } | Reply::Cleared { .. }) => {
-            Some((Act::DrainWrite, 0))
-        }
-        (Act::DrainWrite, Reply::Empty | Reply::Enough) => Some((Act::Evict, 0)),
-        (Act::Evict, Reply::Fits) => Some((Act::End, 0)),
-        (Act::Evict, _) => Some((Act::Evict, 0)),
-        (Act::End, _) => None,
+        (Act::DrainRead { stripe }, Reply::Empty) => after_stripe(stripes, stripe),
+        (Act::DrainWrite, Reply::Applied { .. } | Reply::Cleared { .. }) => Act::DrainWrite,
+        (Act::DrainWrite, Reply::Empty | Reply::Enough) => Act::Evict,
+        (Act::Evict, Reply::Fits) => Act::End,
+        (Act::Evict, _) => Act::Evict,
+        (Act::End, _) => return None,
         _ => unreachable!(),
-    }
+    };
+    Some((act, 0))
 }
 
 // Past one more item of a stripe.
