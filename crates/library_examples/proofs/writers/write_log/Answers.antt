@@ -1,4 +1,4 @@
-use Rattle.std.proofs.Common.{rules, ◌≡◌, ◌<◌, ◌∙◌, ℕ, Ok, IfOk, length, get_or, map, vec_items, ap, sym, subst, arith}
+use Rattle.std.proofs.Common.{rules, ◌∙◌, Ok, IfOk, get_or, map, vec_items, ap, sym, subst, arith}
 use Rattle.turn_book.specs.Passes.{id_of}
 use Rattle.library_examples.specs.LogLines.{IsWritten, Wrote}
 use Rattle.library_examples.proofs.Gathered.{WroteAll, job_at, books_of, order_of, written_of}
