@@ -6,36 +6,40 @@ use Rattle.step_record.specs.declared.job.Policy.TheVariants.{Fifo, Clock}
 use Rattle.queue_policies.specs.Residents.{outcomes_of_all}
 use Rattle.queue_policies.specs.Fifo.{fifo_act}
 use Rattle.queue_policies.specs.Clock.{clock_act}
-use Rattle.demand_cache.specs.declared.demand_queues.DemandPolicy.TheVariants as demand
+use Rattle.demand_cache.specs.declared.demand_policy.DemandPolicy.TheVariants as demand
+use Rattle.demand_cache.specs.DemandQueues.{outcomes_of_page}
+use Rattle.demand_cache.specs.Theorems.{RunsByPage}
 use Rattle.policies.specs.AnyPolicy.{demand_run, stats_on}
 use Rattle.policies.specs.Design.{design_of}
 use Rattle.policies.specs.Theorems.{FifoStepLaw}
 use Rattle.conservative_laws.specs.Examples.{anomalous_trace, FifoAndClockHaveAnomaly, sieve_trace, SieveIsNotConservative, s3_fifo_trace, S3FifoIsNotConservative}
 use Rattle.conservative_laws.proofs.Jobs.{demand-misses, fifo-misses, clock-misses}
 
-misses-at : FifoStepLaw → (j : Job) (c m : ℕ) → (j.policy ≡ Fifo) ⊎ (j.policy ≡ Clock) → j.config.capacity ≡ c → 1 ≤ c
+misses-at : FifoStepLaw → RunsByPage → (j : Job) (c m : ℕ) → (j.policy ≡ Fifo) ⊎ (j.policy ≡ Clock) → j.config.capacity ≡ c → 1 ≤ c
     → count_by is_miss (outcomes_of_all (fifo_act c) [] anomalous_trace) ≡ m → count_by is_miss (outcomes_of_all (clock_act c) [] anomalous_trace) ≡ m
     → (stats_on j anomalous_trace).misses ≡ m
-misses-at law j c m (inl is) at room fifo clock = fifo-misses law j anomalous_trace is (omega (arith, at, room)) ∙ (ap (λ x. count_by is_miss (outcomes_of_all (fifo_act x) [] anomalous_trace)) at ∙ fifo)
-misses-at law j c m (inr is) at room fifo clock = clock-misses j anomalous_trace is (omega (arith, at, room)) ∙ (ap (λ x. count_by is_miss (outcomes_of_all (clock_act x) [] anomalous_trace)) at ∙ clock)
+misses-at law page j c m (inl is) at room fifo clock = fifo-misses law j anomalous_trace is (omega (arith, at, room)) ∙ (ap (λ x. count_by is_miss (outcomes_of_all (fifo_act x) [] anomalous_trace)) at ∙ fifo)
+misses-at law page j c m (inr is) at room fifo clock = clock-misses page j anomalous_trace is (omega (arith, at, room)) ∙ (ap (λ x. count_by is_miss (outcomes_of_all (clock_act x) [] anomalous_trace)) at ∙ clock)
 
-pub have_anomaly : FifoStepLaw → FifoAndClockHaveAnomaly
-have_anomaly law small large is same at_small at_large =
-    (misses-at law small 3 9 is at_small (omega arith) refl refl, misses-at law large 4 10 (subst (λ p. (p ≡ Fifo) ⊎ (p ≡ Clock)) (sym same) is) at_large (omega arith) refl refl)
+pub have_anomaly : FifoStepLaw → RunsByPage → FifoAndClockHaveAnomaly
+have_anomaly law page small large is same at_small at_large =
+    (misses-at law page small 3 9 is at_small (omega arith) refl refl, misses-at law page large 4 10 (subst (λ p. (p ≡ Fifo) ⊎ (p ≡ Clock)) (sym same) is) at_large (omega arith) refl refl)
 
-pub sieve_is_not_conservative : SieveIsNotConservative
-sieve_is_not_conservative j is at all =
-    let misses : (keys : List ℕ) → (stats_on j keys).misses ≡ count_by is_miss (demand_run demand.Sieve 2 keys) =
-    λ keys. demand-misses demand.Sieve j keys (ap design_of is) (omega (arith, at)) ∙ ap (λ c. count_by is_miss (demand_run demand.Sieve c keys)) at in
+pub sieve_is_not_conservative : RunsByPage → SieveIsNotConservative
+sieve_is_not_conservative page j is at all =
+    let misses : (keys : List ℕ) → (stats_on j keys).misses ≡ count_by is_miss (outcomes_of_page demand.Sieve 2 keys) =
+    λ keys. demand-misses demand.Sieve j keys (ap design_of is) (omega (arith, at)) ∙ ap (λ c. count_by is_miss (demand_run demand.Sieve c keys)) at
+    ∙ ap (count_by is_miss) (page demand.Sieve 2 keys (omega arith)) in
     let before : (stats_on j (take 2 sieve_trace)).misses ≡ 1 = misses (take 2 sieve_trace) in
     let after : (stats_on j (take 5 sieve_trace)).misses ≡ 4 = misses (take 5 sieve_trace) in
     let most = all 2 5 (omega arith) (omega arith) (omega arith) in
     absurd (omega (arith, most, before, after))
 
-pub s3_fifo_is_not_conservative : S3FifoIsNotConservative
-s3_fifo_is_not_conservative j is at all =
-    let misses : (keys : List ℕ) → (stats_on j keys).misses ≡ count_by is_miss (demand_run demand.S3Fifo 2 keys) =
-    λ keys. demand-misses demand.S3Fifo j keys (ap design_of is) (omega (arith, at)) ∙ ap (λ c. count_by is_miss (demand_run demand.S3Fifo c keys)) at in
+pub s3_fifo_is_not_conservative : RunsByPage → S3FifoIsNotConservative
+s3_fifo_is_not_conservative page j is at all =
+    let misses : (keys : List ℕ) → (stats_on j keys).misses ≡ count_by is_miss (outcomes_of_page demand.S3Fifo 2 keys) =
+    λ keys. demand-misses demand.S3Fifo j keys (ap design_of is) (omega (arith, at)) ∙ ap (λ c. count_by is_miss (demand_run demand.S3Fifo c keys)) at
+    ∙ ap (count_by is_miss) (page demand.S3Fifo 2 keys (omega arith)) in
     let before : (stats_on j (take 3 s3_fifo_trace)).misses ≡ 1 = misses (take 3 s3_fifo_trace) in
     let after : (stats_on j (take 6 s3_fifo_trace)).misses ≡ 4 = misses (take 6 s3_fifo_trace) in
     let most = all 3 6 (omega arith) (omega arith) (omega arith) in

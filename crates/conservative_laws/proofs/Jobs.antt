@@ -7,16 +7,14 @@ use Rattle.step_record.specs.declared.job.Policy.TheVariants.{Lru, Fifo, Clock}
 use Rattle.step_record.specs.declared.outcome.Outcome.TheVariants.{Rejected}
 use Rattle.step_record.specs.Stats.{is_miss}
 use Rattle.queue_policies.specs.Residents.{AreResidents, outcomes_of_all}
-use Rattle.queue_policies.specs.CountedKeys.{CountedKey, keys_of}
+use Rattle.queue_policies.specs.CountedKeys.{keys_of}
 use Rattle.queue_policies.specs.Fifo.{fifo_act}
 use Rattle.queue_policies.specs.Clock.{clock_act, IsClock}
 use Rattle.queue_policies.proofs.Fifo.{keeps as fifo-keeps}
 use Rattle.queue_policies.proofs.Clock.{keeps as clock-keeps}
-use Rattle.demand_cache.specs.declared.demand_queues.DemandPolicy.{DemandPolicy}
-use Rattle.demand_cache.specs.declared.demand_queues.DemandPolicy.TheVariants as demand
-use Rattle.demand_cache.specs.declared.demand_queues.DemandQueues.TheVariants as queues
-use Rattle.demand_cache.specs.DemandQueues.{queues_act}
-use Rattle.demand_cache.specs.Theorems.{DemandKeeps}
+use Rattle.demand_cache.specs.declared.demand_policy.DemandPolicy.{DemandPolicy}
+use Rattle.demand_cache.specs.declared.demand_policy.DemandPolicy.TheVariants as demand
+use Rattle.demand_cache.specs.Theorems.{DemandKeeps, RunsByPage}
 use Rattle.policies.specs.declared.design.Design.TheVariants as design
 use Rattle.policies.specs.AnyPolicy.{demand_run, demand_outcomes, outcomes_by, outcomes_on, stats_on}
 use Rattle.policies.specs.Design.{design_of, has_queues}
@@ -49,12 +47,9 @@ demand-misses p j keys is room =
 pub fifo-misses : FifoStepLaw → (j : Job) (keys : List ℕ) → j.policy ≡ Fifo → 1 ≤ j.config.capacity → (stats_on j keys).misses ≡ count_by is_miss (outcomes_of_all (fifo_act j.config.capacity) [] keys)
 fifo-misses law j keys is room = misses-counted j keys ∙ ap (count_by is_miss) (law j keys is room).1
 
-clock-outcomes : (c : ℕ) (queue : List CountedKey) (keys : List ℕ) → outcomes_of_all queues_act (queues.Clock record { capacity = c; queue = queue }) keys ≡ outcomes_of_all (clock_act c) queue keys
-clock-outcomes c queue [] = refl
-clock-outcomes c queue (k ∷ keys) = ap (λ os. (clock_act c k queue).0 ∷ os) (clock-outcomes c (clock_act c k queue).1 keys)
-
-pub clock-misses : (j : Job) (keys : List ℕ) → j.policy ≡ Clock → 1 ≤ j.config.capacity → (stats_on j keys).misses ≡ count_by is_miss (outcomes_of_all (clock_act j.config.capacity) [] keys)
-clock-misses j keys is room = demand-misses demand.Clock j keys (ap design_of is) room ∙ ap (count_by is_miss) (clock-outcomes j.config.capacity [] keys)
+pub clock-misses : RunsByPage → (j : Job) (keys : List ℕ) → j.policy ≡ Clock → 1 ≤ j.config.capacity → (stats_on j keys).misses ≡ count_by is_miss (outcomes_of_all (clock_act j.config.capacity) [] keys)
+clock-misses law j keys is room =
+    demand-misses demand.Clock j keys (ap design_of is) room ∙ ap (count_by is_miss) (law demand.Clock j.config.capacity keys room)
 
 -- without room each access is a miss
 all-rejected : (keys : List ℕ) → count_by is_miss (map (λ k. Rejected k) keys) ≡ length keys
@@ -105,40 +100,40 @@ acts-fifo law covers j t is =
       | inr less ↦ let none : c ≡ 0 = omega (arith, less) in acts-empty j t none (λ keys. queue-misses-all covers j keys (ap has_queues is) none)
     ]
 
-acts-clock : (j : Job) (t : List ℕ) → j.policy ≡ Clock → ActsConservatively j t
-acts-clock j t is =
+acts-clock : RunsByPage → (j : Job) (t : List ℕ) → j.policy ≡ Clock → ActsConservatively j t
+acts-clock law j t is =
     let c : ℕ = j.config.capacity in
     elim (cases_lt 0 c) [
       | inl room ↦ record {
         cache = clock_keys c t;
-        misses = λ n l. clock-misses j (take n t) is room ∙ misses-are c [] (clock_act c) keys_of (IsClock c) (clock-keeps c room) t n l;
+        misses = λ n l. clock-misses law j (take n t) is room ∙ misses-are c [] (clock_act c) keys_of (IsClock c) (clock-keeps c room) t n l;
         conservative = clock-conservative c t room;
         fills = fills-first c [] (clock_act c) keys_of (IsClock c) (clock-keeps c room) t;
       }
       | inr less ↦ let none : c ≡ 0 = omega (arith, less) in acts-empty j t none (λ keys. demand-misses-all demand.Clock j keys (ap design_of is) none)
     ]
 
-acts-conservatively : LruStepLaw → FifoStepLaw → AnyCoversTrace → (j : Job) (t : List ℕ) → IsLruFifoOrClock j.policy → ActsConservatively j t
-acts-conservatively lru fifo covers j t (inl is) = acts-lru lru covers j t is
-acts-conservatively lru fifo covers j t (inr (inl is)) = acts-fifo fifo covers j t is
-acts-conservatively lru fifo covers j t (inr (inr is)) = acts-clock j t is
+acts-conservatively : LruStepLaw → FifoStepLaw → RunsByPage → AnyCoversTrace → (j : Job) (t : List ℕ) → IsLruFifoOrClock j.policy → ActsConservatively j t
+acts-conservatively lru fifo clock covers j t (inl is) = acts-lru lru covers j t is
+acts-conservatively lru fifo clock covers j t (inr (inl is)) = acts-fifo fifo covers j t is
+acts-conservatively lru fifo clock covers j t (inr (inr is)) = acts-clock clock j t is
 
 -- ---- the laws
 
-pub are_conservative : LruStepLaw → FifoStepLaw → AnyCoversTrace → LruFifoClockAreConservative
-are_conservative lru fifo covers j t is i n h l few =
-    let a : ActsConservatively j t = acts-conservatively lru fifo covers j t is in
+pub are_conservative : LruStepLaw → FifoStepLaw → RunsByPage → AnyCoversTrace → LruFifoClockAreConservative
+are_conservative lru fifo clock covers j t is i n h l few =
+    let a : ActsConservatively j t = acts-conservatively lru fifo clock covers j t is in
     let bound = a.conservative i n h l few in
     omega (arith, bound, a.misses n l, a.misses i (omega (arith, h, l)))
 
-pub compete : FillingCompetes → LruStepLaw → FifoStepLaw → AnyCoversTrace → LruFifoClockCompete
-compete filling lru fifo covers j t h strategy n is s l =
-    let a : ActsConservatively j t = acts-conservatively lru fifo covers j t is in
+pub compete : FillingCompetes → LruStepLaw → FifoStepLaw → RunsByPage → AnyCoversTrace → LruFifoClockCompete
+compete filling lru fifo clock covers j t h strategy n is s l =
+    let a : ActsConservatively j t = acts-conservatively lru fifo clock covers j t is in
     rw (a.misses n l) (filling j.config.capacity h t a.cache strategy n a.conservative a.fills s l)
 
-pub compete_without_bypass : FillingCompetesWithoutBypass → LruStepLaw → FifoStepLaw → AnyCoversTrace → LruFifoClockCompeteWithoutBypass
-compete_without_bypass filling lru fifo covers j t h strategy n is s never l =
-    let a : ActsConservatively j t = acts-conservatively lru fifo covers j t is in
+pub compete_without_bypass : FillingCompetesWithoutBypass → LruStepLaw → FifoStepLaw → RunsByPage → AnyCoversTrace → LruFifoClockCompeteWithoutBypass
+compete_without_bypass filling lru fifo clock covers j t h strategy n is s never l =
+    let a : ActsConservatively j t = acts-conservatively lru fifo clock covers j t is in
     rw (a.misses n l) (filling j.config.capacity h t a.cache strategy n a.conservative a.fills s never l)
 
 pub twice_as_large : LruFifoClockCompete → LruFifoClockTwiceAsLarge

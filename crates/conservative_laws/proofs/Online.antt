@@ -4,9 +4,8 @@ use Rattle.std.proofs.lemmas.Bool.{cases_lt}
 use Rattle.std.proofs.lemmas.List.{length-take-le}
 use Rattle.step_record.specs.declared.job.Job.{Job}
 use Rattle.queue_policies.specs.Residents.{KeepsResidents, state_after_all}
-use Rattle.demand_cache.specs.declared.demand_queues.DemandPolicy.{DemandPolicy}
-use Rattle.demand_cache.specs.declared.demand_queues.DemandQueues.{DemandQueues}
-use Rattle.demand_cache.specs.DemandQueues.{empty_queues, queues_act, queues_residents, IsQueues}
+use Rattle.demand_cache.specs.declared.demand_policy.DemandPolicy.{DemandPolicy}
+use Rattle.demand_cache.specs.DemandQueues.{DemandQueues, empty_cache, queues_act, queues_residents, IsQueues}
 use Rattle.demand_cache.specs.Theorems.{DemandKeeps}
 use Rattle.policies.specs.declared.design.Design.{Design}
 use Rattle.policies.specs.declared.design.Design.TheVariants as design
@@ -39,7 +38,7 @@ queues-online covers j is = record {
 demand-online : DemandKeeps → (p : DemandPolicy) (j : Job) → design_of j.policy ≡ design.Demand p → IsOnline j
 demand-online law p j is =
     let c : ℕ = j.config.capacity in
-    let start : DemandQueues = empty_queues p c in
+    let start : DemandQueues = empty_cache p c in
     elim (cases_lt 0 c) [
       | inl room ↦
           let all : KeepsResidents c start queues_act queues_residents (IsQueues c) = law p c room in

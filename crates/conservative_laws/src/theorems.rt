@@ -37,6 +37,7 @@ pub fn lru_fifo_clock_are_conservative()
     policies::theorems::lru_step_law();
     policies::theorems::fifo_step_law();
     policies::theorems::any_covers_trace();
+    demand_cache::theorems::runs_by_page();
 }
 
 /// At each place of every trace, their misses at capacity c are at most (c + 1) / (c + 1 - h) times those of any
@@ -48,6 +49,7 @@ pub fn lru_fifo_clock_compete()
     policies::theorems::lru_step_law();
     policies::theorems::fifo_step_law();
     policies::theorems::any_covers_trace();
+    demand_cache::theorems::runs_by_page();
 }
 
 /// Where the strategy never bypasses the cache, the factor is c / (c + 1 - h). (Sleator and Tarjan 1985.)
@@ -58,6 +60,7 @@ pub fn lru_fifo_clock_compete_without_bypass()
     policies::theorems::lru_step_law();
     policies::theorems::fifo_step_law();
     policies::theorems::any_covers_trace();
+    demand_cache::theorems::runs_by_page();
 }
 
 /// With twice the capacity of a strategy (one key less is enough), each has at most twice its misses.
@@ -104,14 +107,19 @@ pub fn fifo_and_clock_have_anomaly()
     ensures { FifoAndClockHaveAnomaly }
 {
     policies::theorems::fifo_step_law();
+    demand_cache::theorems::runs_by_page();
 }
 
 /// SIEVE is not conservative.
 pub fn sieve_is_not_conservative()
     ensures { SieveIsNotConservative }
-{}
+{
+    demand_cache::theorems::runs_by_page();
+}
 
 /// S3-FIFO is not conservative.
 pub fn s3_fifo_is_not_conservative()
     ensures { S3FifoIsNotConservative }
-{}
+{
+    demand_cache::theorems::runs_by_page();
+}

@@ -17,7 +17,7 @@ use Rattle.debug_commands.specs.Texts.{count_text}
 use Rattle.journal.specs.Session.{SessionState}
 use Rattle.policies.specs.declared.any_policy.AnyPolicy.{AnyPolicy}
 use Rattle.queue_policies.specs.Residents.{state_after_all}
-use Rattle.demand_cache.specs.DemandQueues.{empty_queues, queues_act, queues_residents}
+use Rattle.demand_cache.specs.DemandQueues.{empty_cache, queues_act, queues_residents}
 use Rattle.policies.specs.declared.design.Design.{Design}
 use Rattle.policies.specs.declared.design.Design.TheVariants.{KnowsTrace, Queues as OfQueues, Demand as OfDemand}
 use Rattle.policies.specs.Design.{design_of}
@@ -40,7 +40,7 @@ abbrev pub residents_by : Design → Job → List ℕ → ℕ → List ℕ
 residents_by (OfQueues d) j trace n = residents_in (state_after j (take n trace)).queues
 residents_by KnowsTrace j trace n = belady_residents j.config.capacity trace n
 residents_by (OfDemand p) j trace n =
-    queues_residents (state_after_all queues_act (empty_queues p j.config.capacity) (take n trace))
+    queues_residents (state_after_all queues_act (empty_cache p j.config.capacity) (take n trace))
 
 abbrev pub residents_at : Job → List ℕ → ℕ → List ℕ
 residents_at j trace n = residents_by (design_of j.policy) j trace n

@@ -1,1 +1,4 @@
 pub mod Keeping
+pub mod Engine
+pub mod Shown
+pub mod Asking

@@ -1,19 +1,30 @@
 -- What the engine shows, and one access to it as a step.
 use Rattle.std.specs.Prelude.{◌≡◌, ℕ, ◌+◌, ◌≤◌, ◌==◌, false, if◌then◌else◌, Option, Some, None}
-use Rattle.step_record.specs.declared.limits.TheConstants.{MAX_STEPS}
+use Rattle.step_record.specs.declared.limits.TheConstants.{MAX_STEPS, MAX_CAPACITY}
 use Rattle.step_record.specs.declared.outcome.Outcome.{Outcome}
 use Rattle.step_record.specs.declared.stats.Stats.{Stats}
 use Rattle.step_record.specs.Keys.{has_key}
 use Rattle.step_record.specs.Stats.{stats_with, stats_without, IsCounted}
-use Rattle.demand_cache.specs.declared.demand_queues.DemandQueues.{DemandQueues}
+use Rattle.step_record.specs.declared.item.Item.{Item}
+use Rattle.queue_table.specs.Queues.{Queues}
+use Rattle.queue_moves.specs.declared.records.Moves.{Moves}
+use Rattle.queue_moves.specs.declared.records.Accessed.{Accessed}
+use Rattle.queue_moves.specs.Moves.{Plan}
+use Rattle.queue_moves.specs.Undoing.{IsAccessed}
+use Rattle.queue_moves.specs.Lists.{QueueLists}
 use Rattle.demand_cache.specs.declared.demand_cache.DemandRecord.{DemandRecord}
-use Rattle.demand_cache.specs.DemandQueues.{queues_act, queues_record_of, queues_undone, queues_asks, QueuesFits}
-use Rattle.demand_cache.specs.DemandQueues.{queues_residents}
+use Rattle.demand_cache.specs.declared.demand_policy.DemandPolicy.{DemandPolicy}
+use Rattle.demand_cache.specs.DemandQueues.{DemandQueues, queues_act, queues_record_of, queues_undone, queues_asks}
+use Rattle.demand_cache.specs.DemandQueues.{queues_residents, IsQueues, QueuesFits}
 
 -- the queues, and what was counted of the applied accesses
 pub record DemandState : Type 0 where
   pub queues : DemandQueues
   pub stats : Stats
+
+abbrev pub state_of : DemandPolicy → ℕ → ℕ → QueueLists → Stats → DemandState
+state_of p c x l stats =
+    record { queues = record { policy = p; capacity = c; scalar = x; lists = l }; stats = stats }
 
 abbrev pub state_with : Stats → Outcome × DemandQueues → DemandState
 state_with stats a = record { queues = a.1; stats = stats_with a.0 stats }
@@ -27,7 +38,7 @@ demand_act d k =
 
 -- The record of an access to k, from the cache before it. It is this and nothing beside, and holds no list.
 abbrev pub demand_record_of : ℕ → DemandState → DemandRecord
-demand_record_of k d = record { queues = queues_record_of k d.queues; outcome = (queues_act k d.queues).0 }
+demand_record_of k d = record { moves = queues_record_of k d.queues; outcome = (queues_act k d.queues).0 }
 
 -- an access may be refused memory: its key is not resident
 abbrev pub demand_may_ask : DemandState → ℕ → Type 0
@@ -35,10 +46,10 @@ demand_may_ask d k = has_key k (queues_residents d.queues) ≡ false
 
 -- the state before an access, from its record and the state after it
 abbrev pub demand_undone : DemandRecord → DemandState → DemandState
-demand_undone r d = record { queues = queues_undone r.queues d.queues; stats = stats_without r.outcome d.stats }
+demand_undone r d = record { queues = queues_undone r.moves d.queues; stats = stats_without r.outcome d.stats }
 
 abbrev pub demand_asks : DemandRecord → Type 0
-demand_asks r = queues_asks r.queues
+demand_asks r = queues_asks r.moves
 
 -- the counts of a run: each access is a hit or a miss
 pub record IsTally (s : Stats) : Type 0 where
@@ -47,8 +58,20 @@ pub record IsTally (s : Stats) : Type 0 where
   pub rejections : s.rejections ≤ s.evictions
   pub few : s.accesses ≤ MAX_STEPS
 
+-- what holds of a cache
+pub record IsDemand (d : DemandState) : Type 0 where
+  pub least : 1 ≤ d.queues.capacity
+  pub most : d.queues.capacity ≤ MAX_CAPACITY
+  pub queues : IsQueues d.queues.capacity d.queues
+  pub tally : IsTally d.stats
+
+-- an access by the plan, of which the outcome o and the policy's number y are read, and not its record
+pub record IsCountedBy (p : Plan) (i : Item) (x : ℕ) (s u : Queues) (o : Outcome) (y : ℕ) : Type 0 where
+  pub moves : Moves
+  pub accessed : IsAccessed p i x s u (record { outcome = o; scalar = y; moves = moves })
+
 -- the record is that of the last access: its outcome was counted last
 pub record DemandFits (r : DemandRecord) (d : DemandState) : Type 0 where
-  pub queues : QueuesFits r.queues d.queues
+  pub queues : QueuesFits r.moves d.queues
   pub counted : IsCounted r.outcome d.stats
   pub tally : IsTally (stats_without r.outcome d.stats)

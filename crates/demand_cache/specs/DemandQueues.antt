@@ -1,111 +1,112 @@
--- One access to the queues of any of these policies, its record, and how the record undoes it: by the policy's own
--- definition.
-use Rattle.std.specs.Prelude.{◌≡◌, ℕ, List, []}
+-- One access to the queues of any of these policies, by the policy's plan; its record, and how the record undoes it.
+use Rattle.std.specs.Prelude.{◌≡◌, ℕ, ◌≤◌, List, []}
 use Rattle.step_record.specs.declared.outcome.Outcome.{Outcome}
-use Rattle.queue_policies.specs.CountedKeys.{CountedKey, keys_of}
-use Rattle.queue_policies.specs.Clock.{clock_act, clock_record_of, clock_undone, IsClock}
-use Rattle.queue_policies.specs.Sieve.{SieveState, empty_sieve, sieve_residents, sieve_act, IsSieve}
-use Rattle.queue_policies.specs.SieveRecord.{sieve_record_of, sieve_undone}
-use Rattle.queue_policies.specs.S3Fifo.{S3FifoState, empty_s3_fifo, s3_fifo_residents, s3_fifo_act, IsS3Fifo}
-use Rattle.queue_policies.specs.S3FifoRecord.{s3_fifo_record_of, s3_fifo_undone}
-use Rattle.ghost_policies.specs.TwoQ.{TwoQState, empty_two_q, two_q_residents, two_q_act, IsTwoQ}
-use Rattle.ghost_policies.specs.TwoQ.{two_q_record_of, two_q_undone}
-use Rattle.ghost_policies.specs.Arc.{ArcState, empty_arc, arc_residents, arc_act, IsArc}
-use Rattle.ghost_policies.specs.Arc.{arc_record_of, arc_undone}
-use Rattle.queue_caches.specs.ClockCache.{ClockFits, ClockAsks}
-use Rattle.queue_caches.specs.SieveCache.{SieveFits, SieveAsks}
-use Rattle.ghost_caches.specs.S3FifoCache.{S3FifoFits, S3FifoAsks}
-use Rattle.ghost_caches.specs.TwoQCache.{TwoQFits, TwoQAsks}
-use Rattle.ghost_caches.specs.ArcCache.{ArcFits, ArcAsks}
-use Rattle.demand_cache.specs.declared.demand_queues.DemandPolicy.{DemandPolicy}
-use Rattle.demand_cache.specs.declared.demand_queues.DemandPolicy.TheVariants as policy
-use Rattle.demand_cache.specs.declared.demand_queues.DemandQueues.{DemandQueues}
-use Rattle.demand_cache.specs.declared.demand_queues.DemandQueues.TheVariants.{Clock, Sieve, S3Fifo, TwoQ, Arc}
-use Rattle.demand_cache.specs.declared.demand_queues.QueuesRecord.{QueuesRecord}
-use Rattle.demand_cache.specs.declared.demand_queues.QueuesRecord.TheVariants as done
+use Rattle.queue_table.specs.Queues.{Queues, empty_queues}
+use Rattle.queue_policies.specs.CountedKeys.{keys_of}
+use Rattle.queue_policies.specs.Residents.{outcomes_of_all}
+use Rattle.queue_policies.specs.Clock.{clock_act, IsClock}
+use Rattle.queue_policies.specs.Sieve.{empty_sieve, sieve_residents, sieve_act, IsSieve}
+use Rattle.queue_policies.specs.S3Fifo.{empty_s3_fifo, s3_fifo_residents, s3_fifo_act, IsS3Fifo}
+use Rattle.ghost_policies.specs.TwoQ.{empty_two_q, two_q_residents, two_q_act, IsTwoQ}
+use Rattle.ghost_policies.specs.Arc.{empty_arc, arc_residents, arc_act, IsArc}
+use Rattle.queue_moves.specs.declared.records.Moves.{Moves}
+use Rattle.queue_moves.specs.Moves.{item_of, Plan, after_all, outcome_of}
+use Rattle.queue_moves.specs.Undoing.{record_of, before_all, FitsMoves, MovesAsk}
+use Rattle.queue_moves.specs.Tabled.{IsTabled}
+use Rattle.queue_moves.specs.Lists.{QueueLists, lists_of, queues_in}
+use Rattle.policy_steps.specs.Planned.{IsWithin}
+use Rattle.policy_steps.specs.Clock.{clock_of, clock_plan}
+use Rattle.policy_steps.specs.Sieve.{sieve_of, sieve_plan}
+use Rattle.policy_steps.specs.S3Fifo.{s3_fifo_of, s3_fifo_plan}
+use Rattle.policy_steps.specs.TwoQ.{two_q_of, two_q_plan}
+use Rattle.policy_steps.specs.Arc.{arc_of, arc_plan}
+use Rattle.demand_cache.specs.declared.demand_policy.DemandPolicy.{DemandPolicy}
+use Rattle.demand_cache.specs.declared.demand_policy.DemandPolicy.TheVariants.{Clock, Sieve, S3Fifo, TwoQ, Arc}
+
+-- the queues by number, and the policy's own number: ARC's target, SIEVE's queue ahead of the hand
+pub record DemandQueues : Type 0 where
+  pub policy : DemandPolicy
+  pub capacity : ℕ
+  pub scalar : ℕ
+  pub lists : QueueLists
+
+-- the queues by number
+abbrev pub queues_of : DemandQueues → Queues
+queues_of d = queues_in d.lists
 
 -- the queues of an empty cache of capacity c
-abbrev pub empty_queues : DemandPolicy → ℕ → DemandQueues
-empty_queues policy.Clock c = Clock record { capacity = c; queue = [] }
-empty_queues policy.Sieve c = Sieve record { capacity = c; state = empty_sieve }
-empty_queues policy.S3Fifo c = S3Fifo record { capacity = c; state = empty_s3_fifo }
-empty_queues policy.TwoQ c = TwoQ record { capacity = c; state = empty_two_q }
-empty_queues policy.Arc c = Arc record { capacity = c; state = empty_arc }
+abbrev pub empty_cache : DemandPolicy → ℕ → DemandQueues
+empty_cache p c = record { policy = p; capacity = c; scalar = 0; lists = lists_of empty_queues }
+
+-- ---- each policy
+
+-- the plan of an access to k at capacity c, where x is the policy's number
+abbrev pub plan_by : DemandPolicy → ℕ → ℕ → ℕ → Queues → Plan
+plan_by Clock c k x s = clock_plan c k x s
+plan_by Sieve c k x s = sieve_plan c k x s
+plan_by S3Fifo c k x s = s3_fifo_plan c k x s
+plan_by TwoQ c k x s = two_q_plan c k x s
+plan_by Arc c k x s = arc_plan c k x s
 
 -- the keys that are cached, queue by queue, oldest first
+abbrev pub residents_by : DemandPolicy → ℕ → Queues → List ℕ
+residents_by Clock x s = keys_of (clock_of s)
+residents_by Sieve x s = sieve_residents (sieve_of x s)
+residents_by S3Fifo x s = s3_fifo_residents (s3_fifo_of s)
+residents_by TwoQ x s = two_q_residents (two_q_of s)
+residents_by Arc x s = arc_residents (arc_of x s)
+
+-- a state of a cache of capacity c, by the policy's definition
+abbrev pub IsStateOf : DemandPolicy → ℕ → ℕ → Queues → Type 0
+IsStateOf Clock c x s = IsWithin 1 s × IsClock c (clock_of s)
+IsStateOf Sieve c x s = IsWithin 2 s × ((x ≤ 1) × IsSieve c (sieve_of x s))
+IsStateOf S3Fifo c x s = IsS3Fifo c (s3_fifo_of s)
+IsStateOf TwoQ c x s = IsTwoQ c (two_q_of s)
+IsStateOf Arc c x s = IsArc c (arc_of x s)
+
+-- the outcomes of accesses to the keys from an empty cache on, by the policy's definition
+abbrev pub outcomes_of_page : DemandPolicy → ℕ → List ℕ → List Outcome
+outcomes_of_page Clock c keys = outcomes_of_all (clock_act c) [] keys
+outcomes_of_page Sieve c keys = outcomes_of_all (sieve_act c) empty_sieve keys
+outcomes_of_page S3Fifo c keys = outcomes_of_all (s3_fifo_act c) empty_s3_fifo keys
+outcomes_of_page TwoQ c keys = outcomes_of_all (two_q_act c) empty_two_q keys
+outcomes_of_page Arc c keys = outcomes_of_all (arc_act c) empty_arc keys
+
+-- ---- all policies
+
+abbrev pub plan_of : ℕ → DemandQueues → Plan
+plan_of k d = plan_by d.policy d.capacity k d.scalar (queues_of d)
+
 abbrev pub queues_residents : DemandQueues → List ℕ
-queues_residents (Clock d) = keys_of d.queue
-queues_residents (Sieve d) = sieve_residents d.state
-queues_residents (S3Fifo d) = s3_fifo_residents d.state
-queues_residents (TwoQ d) = two_q_residents d.state
-queues_residents (Arc d) = arc_residents d.state
-
--- ---- an access
-
-abbrev pub clock_queues : ℕ → Outcome × List CountedKey → Outcome × DemandQueues
-clock_queues c a = (a.0, Clock record { capacity = c; queue = a.1 })
-
-abbrev pub sieve_queues : ℕ → Outcome × SieveState → Outcome × DemandQueues
-sieve_queues c a = (a.0, Sieve record { capacity = c; state = a.1 })
-
-abbrev pub s3_fifo_queues : ℕ → Outcome × S3FifoState → Outcome × DemandQueues
-s3_fifo_queues c a = (a.0, S3Fifo record { capacity = c; state = a.1 })
-
-abbrev pub two_q_queues : ℕ → Outcome × TwoQState → Outcome × DemandQueues
-two_q_queues c a = (a.0, TwoQ record { capacity = c; state = a.1 })
-
-abbrev pub arc_queues : ℕ → Outcome × ArcState → Outcome × DemandQueues
-arc_queues c a = (a.0, Arc record { capacity = c; state = a.1 })
+queues_residents d = residents_by d.policy d.scalar (queues_of d)
 
 -- an access to k: its outcome, and the queues after it
 abbrev pub queues_act : ℕ → DemandQueues → Outcome × DemandQueues
-queues_act k (Clock d) = clock_queues d.capacity (clock_act d.capacity k d.queue)
-queues_act k (Sieve d) = sieve_queues d.capacity (sieve_act d.capacity k d.state)
-queues_act k (S3Fifo d) = s3_fifo_queues d.capacity (s3_fifo_act d.capacity k d.state)
-queues_act k (TwoQ d) = two_q_queues d.capacity (two_q_act d.capacity k d.state)
-queues_act k (Arc d) = arc_queues d.capacity (arc_act d.capacity k d.state)
+queues_act k d = (
+  outcome_of (plan_of k d) (queues_of d),
+  record d { scalar = (plan_of k d).scalar; lists = lists_of (after_all (plan_of k d) (item_of k) (queues_of d)) },
+)
 
 -- its record, from the queues before it
-abbrev pub queues_record_of : ℕ → DemandQueues → QueuesRecord
-queues_record_of k (Clock d) = done.Clock (clock_record_of d.capacity k d.queue)
-queues_record_of k (Sieve d) = done.Sieve (sieve_record_of d.capacity k d.state)
-queues_record_of k (S3Fifo d) = done.S3Fifo (s3_fifo_record_of d.capacity k d.state)
-queues_record_of k (TwoQ d) = done.TwoQ (two_q_record_of d.capacity k d.state)
-queues_record_of k (Arc d) = done.Arc (arc_record_of d.capacity k d.state)
+abbrev pub queues_record_of : ℕ → DemandQueues → Moves
+queues_record_of k d = record_of (plan_of k d) (item_of k) d.scalar (queues_of d)
 
--- ---- undoing it
+-- the queues before an access, from its record and the queues after it
+abbrev pub queues_undone : Moves → DemandQueues → DemandQueues
+queues_undone r d = record d { scalar = r.scalar; lists = lists_of (before_all r (queues_of d)) }
 
--- The queues before an access, from its record and the queues after it. A record of another policy undoes nothing.
-abbrev pub queues_undone : QueuesRecord → DemandQueues → DemandQueues
-queues_undone (done.Clock r) (Clock d) = Clock record { capacity = d.capacity; queue = clock_undone r d.queue }
-queues_undone (done.Sieve r) (Sieve d) = Sieve record { capacity = d.capacity; state = sieve_undone r d.state }
-queues_undone (done.S3Fifo r) (S3Fifo d) = S3Fifo record { capacity = d.capacity; state = s3_fifo_undone r d.state }
-queues_undone (done.TwoQ r) (TwoQ d) = TwoQ record { capacity = d.capacity; state = two_q_undone r d.state }
-queues_undone (done.Arc r) (Arc d) = Arc record { capacity = d.capacity; state = arc_undone r d.state }
-queues_undone r d = d
+-- undoing the access takes memory
+abbrev pub queues_asks : Moves → Type 0
+queues_asks r = MovesAsk r
 
--- the record is that of an access which led to these queues; one of another policy fits nowhere
-abbrev pub QueuesFits : QueuesRecord → DemandQueues → Type 0
-QueuesFits (done.Clock r) (Clock d) = ClockFits r d
-QueuesFits (done.Sieve r) (Sieve d) = SieveFits r d
-QueuesFits (done.S3Fifo r) (S3Fifo d) = S3FifoFits r d
-QueuesFits (done.TwoQ r) (TwoQ d) = TwoQFits r d
-QueuesFits (done.Arc r) (Arc d) = ArcFits r d
-QueuesFits r d = ⊥
+-- what holds of the queues of a cache of capacity c
+pub record IsQueues (c : ℕ) (d : DemandQueues) : Type 0 where
+  pub least : 1 ≤ c
+  pub capacity : d.capacity ≡ c
+  pub tabled : IsTabled (queues_of d)
+  pub state : IsStateOf d.policy c d.scalar (queues_of d)
 
--- undoing the access takes memory: a key comes back from nowhere
-abbrev pub queues_asks : QueuesRecord → Type 0
-queues_asks (done.Clock r) = ClockAsks r
-queues_asks (done.Sieve r) = SieveAsks r
-queues_asks (done.S3Fifo r) = S3FifoAsks r
-queues_asks (done.TwoQ r) = TwoQAsks r
-queues_asks (done.Arc r) = ArcAsks r
-
--- ---- what holds of the queues of a cache of capacity c
-
-abbrev pub IsQueues : ℕ → DemandQueues → Type 0
-IsQueues c (Clock d) = (d.capacity ≡ c) × IsClock c d.queue
-IsQueues c (Sieve d) = (d.capacity ≡ c) × IsSieve c d.state
-IsQueues c (S3Fifo d) = (d.capacity ≡ c) × IsS3Fifo c d.state
-IsQueues c (TwoQ d) = (d.capacity ≡ c) × IsTwoQ c d.state
-IsQueues c (Arc d) = (d.capacity ≡ c) × IsArc c d.state
+-- the record leads back, to queues of such a cache
+pub record QueuesFits (r : Moves) (d : DemandQueues) : Type 0 where
+  pub moves : FitsMoves r (queues_of d)
+  pub before : IsQueues d.capacity (queues_undone r d)

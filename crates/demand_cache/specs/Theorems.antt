@@ -1,18 +1,17 @@
 -- What is known of these policies together.
-use Rattle.std.specs.Prelude.{◌≡◌, ℕ, ◌≤◌, true}
+use Rattle.std.specs.Prelude.{◌≡◌, ℕ, ◌≤◌, true, List}
 use Rattle.step_record.specs.Stats.{is_eviction}
 use Rattle.step_record.specs.declared.outcome.Outcome.TheVariants.{Hit}
-use Rattle.queue_policies.specs.Residents.{KeepsResidents}
-use Rattle.demand_cache.specs.declared.demand_queues.DemandPolicy.{DemandPolicy}
-use Rattle.demand_cache.specs.declared.demand_queues.DemandQueues.{DemandQueues}
-use Rattle.demand_cache.specs.DemandQueues.{empty_queues, queues_act, queues_record_of, queues_asks, queues_residents}
-use Rattle.demand_cache.specs.DemandQueues.{IsQueues}
+use Rattle.queue_policies.specs.Residents.{KeepsResidents, outcomes_of_all}
+use Rattle.demand_cache.specs.declared.demand_policy.DemandPolicy.{DemandPolicy}
+use Rattle.demand_cache.specs.DemandQueues.{DemandQueues, empty_cache, queues_act, queues_record_of, queues_asks, queues_residents}
+use Rattle.demand_cache.specs.DemandQueues.{IsQueues, outcomes_of_page}
 
 -- Of each policy: residents fit, each once; an access is a hit exactly where its key is resident; a miss brings its key
 -- in, and of a full cache one key leaves; none is rejected.
 abbrev pub DemandKeeps : Type 0
 DemandKeeps = (p : DemandPolicy) (c : ℕ) → 1 ≤ c
-    → KeepsResidents c (empty_queues p c) queues_act queues_residents (IsQueues c)
+    → KeepsResidents c (empty_cache p c) queues_act queues_residents (IsQueues c)
 
 -- Undoing a hit takes no memory.
 abbrev pub HitsAskNothing : Type 0
@@ -22,3 +21,7 @@ HitsAskNothing = (k : ℕ) (d : DemandQueues) → (queues_act k d).0 ≡ Hit →
 abbrev pub AsksWhereOneLeft : Type 0
 AsksWhereOneLeft = (c k : ℕ) (d : DemandQueues) → IsQueues c d → queues_asks (queues_record_of k d)
     → is_eviction (queues_act k d).0 ≡ true
+
+-- The outcomes are those of the policy's definition.
+abbrev pub RunsByPage : Type 0
+RunsByPage = (p : DemandPolicy) (c : ℕ) (keys : List ℕ) → 1 ≤ c → outcomes_of_all queues_act (empty_cache p c) keys ≡ outcomes_of_page p c keys

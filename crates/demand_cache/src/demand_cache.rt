@@ -1,10 +1,19 @@
 //! The engine: a cache whose accesses are counted and can be undone.
-ghost use Rattle.std.specs.Prelude.{◌≡◌, ◌+◌, ◌≤◌, ◌↔◌, [], length, Err, Some, None, IfOk, OnErr};
+ghost use Rattle.std.specs.Prelude.{◌≡◌, ◌+◌, ℕ, ◌≤◌, ◌<◌, ◌↔◌, ◌++◌, false, [], length, Err, Some, None, IfOk, OnOk, OnErr};
 ghost use Rattle.step_record.specs.declared.limits.TheConstants.{MAX_CAPACITY};
 ghost use Rattle.step_record.specs.Stats.{stats_of};
-ghost use Rattle.demand_cache.specs.DemandQueues.{empty_queues, queues_residents};
+ghost use Rattle.queue_table.specs.QueueTable.{queues as queues_at};
+ghost use Rattle.queue_moves.specs.Tabled.{keys_of};
+ghost use Rattle.queue_moves.specs.Undoing.{IsAccessed};
+ghost use Rattle.demand_cache.specs.DemandQueues.{empty_cache, queues_residents, plan_by, residents_by, IsStateOf};
+ghost use Rattle.demand_cache.specs.DemandCache.{IsCountedBy};
+ghost use Rattle.step_record.specs.declared.item.Item.{Item};
+ghost use Rattle.queue_table.specs.Queues.{QUEUES, Queues};
+ghost use Rattle.queue_moves.specs.Moves.{Plan, item_of};
 
-use crate::demand_queues::{DemandPolicy, DemandQueues, QueuesRecord};
+use crate::demand_policy::DemandPolicy;
+use policy_steps::{arc, clock, s3_fifo, sieve, two_q};
+use queue_moves::{Accessed, KeyQueues, Moves};
 use std::alloc::{AllocError, Global};
 use std::marker::Model;
 use step_record::{Engine, Key, MAX_STEPS, Outcome, Stats, StepFault};
@@ -15,7 +24,11 @@ pub const AHEAD: usize = 16;
 /// A cache of a policy that keeps each missed key.
 #[derive(Drop)]
 pub struct DemandCache {
-    queues: DemandQueues,
+    policy: DemandPolicy,
+    capacity: u32,
+    /// The policy's own number: ARC's target, the queue that is ahead of SIEVE's hand.
+    scalar: u32,
+    queues: KeyQueues,
     stats: Stats,
 }
 
@@ -23,19 +36,21 @@ pub struct DemandCache {
 #[derive(Clone, Copy)]
 pub struct DemandRecord {
     /// What undoes the access to the queues.
-    pub queues: QueuesRecord,
+    pub moves: Moves,
     /// The outcome that was counted.
     pub outcome: Outcome,
 }
 
 impl Model for DemandCache {
-    ghost use Rattle.demand_cache.specs.DemandCache.{DemandState, IsTally};
+    ghost use Rattle.queue_table.specs.QueueTable.{queues as queues_at};
+    ghost use Rattle.queue_moves.specs.Lists.{lists_of};
+    ghost use Rattle.demand_cache.specs.DemandCache.{DemandState, IsDemand, state_of};
 
     ghost Value = { DemandState };
 
-    ghost view = { λ t. record { queues = t.queues; stats = t.stats } };
+    ghost view = { λ t. state_of t.policy t.capacity t.scalar (lists_of (queues_at t.queues)) t.stats };
 
-    ghost invariant = { λ t. IsTally t.stats };
+    ghost invariant = { λ t. IsDemand (state_of t.policy t.capacity t.scalar (lists_of (queues_at t.queues)) t.stats) };
 }
 
 impl DemandCache {
@@ -45,11 +60,14 @@ impl DemandCache {
     pub fn new(alloc: Global, policy: DemandPolicy, capacity: u32) -> DemandCache
         requires least { 1 ≤ capacity }
         requires most { capacity ≤ MAX_CAPACITY }
-        ensures queues { result.queues ≡ empty_queues policy capacity }
+        ensures queues { result.queues ≡ empty_cache policy capacity }
         ensures stats { result.stats ≡ stats_of [] }
     {
         DemandCache {
-            queues: DemandQueues::new(alloc, policy, capacity),
+            policy,
+            capacity,
+            scalar: 0,
+            queues: KeyQueues::for_items(alloc, capacity),
             stats: Stats::NONE,
         }
     }
@@ -82,11 +100,21 @@ impl DemandCache {
         if self.stats.accesses == MAX_STEPS {
             return Err(StepFault::NotNow);
         }
-        let Ok((outcome, _)) = self.queues.access::<Counted>(key) else {
-            return Err(StepFault::OutOfMemory);
-        };
-        self.stats.count(outcome);
-        Ok(outcome)
+        self.queues.tabled();
+        match count_out(
+            self.policy,
+            &mut self.queues,
+            self.capacity,
+            self.scalar,
+            key,
+        ) {
+            Err(_) => Err(StepFault::OutOfMemory),
+            Ok(done) => {
+                self.scalar = done.scalar;
+                self.stats.count(done.outcome);
+                Ok(done.outcome)
+            }
+        }
     }
 
     /// What was counted of the applied accesses.
@@ -100,8 +128,43 @@ impl DemandCache {
     pub fn residents(&self, alloc: Global) -> Result<Vec<Key>, AllocError>
         ensures { IfOk result (λ keys. keys.items ≡ queues_residents self.now.queues) }
     {
-        self.queues.residents(alloc)
+        let mut keys = Vec::new(alloc);
+        self.add_residents(&mut keys)?;
+        Ok(keys)
     }
+
+    // Appends the resident keys.
+    fn add_residents(&self, keys: &mut Vec<Key>) -> Result<(), AllocError>
+        ensures { OnOk result (keys.new.items ≡ keys.old.items ++ queues_residents self.now.queues) }
+    {
+        self.queues.tabled();
+        match self.policy {
+            DemandPolicy::Clock => self.queues.add_keys(0, keys),
+            DemandPolicy::Sieve => {
+                let ahead = self.scalar as u8;
+                add_both(&self.queues, 1 - ahead, ahead, keys)
+            }
+            DemandPolicy::S3Fifo => add_both(&self.queues, 0, 1, keys),
+            DemandPolicy::TwoQ => add_both(&self.queues, 0, 2, keys),
+            DemandPolicy::Arc => add_both(&self.queues, 0, 1, keys),
+        }
+    }
+}
+
+// Appends the keys of two queues.
+fn add_both(
+    queues: &KeyQueues,
+    first: u8,
+    second: u8,
+    keys: &mut Vec<Key>,
+) -> Result<(), AllocError>
+    requires first { first < QUEUES }
+    requires second { second < QUEUES }
+    ensures { OnOk result (keys.new.items ≡ keys.old.items
+        ++ (keys_of (queues_at queues.now first) ++ keys_of (queues_at queues.now second))) }
+{
+    queues.add_keys(first, keys)?;
+    queues.add_keys(second, keys)
 }
 
 impl Engine for DemandCache {
@@ -142,19 +205,38 @@ impl Engine for DemandCache {
         if self.stats.accesses == MAX_STEPS {
             return Err(StepFault::NotNow);
         }
-        let Ok((outcome, queues)) = self.queues.access::<Recorded>(*step) else {
-            return Err(StepFault::OutOfMemory);
-        };
-        self.stats.count(outcome);
-        Ok((outcome, DemandRecord { queues, outcome }))
+        self.queues.tabled();
+        match carry_out(
+            self.policy,
+            &mut self.queues,
+            self.capacity,
+            self.scalar,
+            *step,
+        ) {
+            Err(_) => Err(StepFault::OutOfMemory),
+            Ok(done) => {
+                self.scalar = done.scalar;
+                self.stats.count(done.outcome);
+                let record = DemandRecord {
+                    moves: done.moves,
+                    outcome: done.outcome,
+                };
+                Ok((done.outcome, record))
+            }
+        }
     }
 
     fn undo(&mut self, done: DemandRecord) -> Result<(), DemandRecord> {
-        let Ok(()) = self.queues.undo(done.queues) else {
-            return Err(done);
-        };
-        self.stats.uncount(done.outcome);
-        Ok(())
+        self.queues.tabled();
+        match self.queues.undo(done.moves) {
+            Err(_) => Err(done),
+            Ok(()) => {
+                self.queues.tabled();
+                self.scalar = done.moves.scalar;
+                self.stats.uncount(done.outcome);
+                Ok(())
+            }
+        }
     }
 
     fn standing(&self) -> u64 {
@@ -172,8 +254,88 @@ impl Engine for DemandCache {
     ghost paced = { λ d s r e h. still-paced };
 }
 
-// Selects the instance of an access whose undo record is not made.
-struct Counted;
+// What is read of an access that is not to be undone.
+#[derive(Clone, Copy)]
+struct Counted {
+    outcome: Outcome,
+    scalar: u32,
+}
 
-// Selects the instance of an access with its undo record.
-struct Recorded;
+#[inline(always)]
+fn without_record(done: Accessed) -> Counted
+    ensures { (p : Plan) (i : Item) (x : ℕ) (s u : Queues) → IsAccessed p i x s u done
+        → IsCountedBy p i x s u result.outcome result.scalar }
+{
+    Counted {
+        outcome: done.outcome,
+        scalar: done.scalar,
+    }
+}
+
+// The step of the policy, without its record. Each policy's is read where it was made: read after the `match`, they would
+// all be made.
+#[inline(always)]
+fn count_out(
+    policy: DemandPolicy,
+    queues: &mut KeyQueues,
+    capacity: u32,
+    scalar: u32,
+    key: Key,
+) -> Result<Counted, AllocError>
+    requires least { 1 ≤ capacity }
+    requires most { capacity ≤ MAX_CAPACITY }
+    requires state { IsStateOf policy capacity scalar (queues_at queues.old) }
+    ensures counted { IfOk result (λ c. IsCountedBy (plan_by policy capacity key scalar (queues_at queues.old)) (item_of key)
+        scalar (queues_at queues.old) (queues_at queues.new) c.outcome c.scalar) }
+    ensures memory { OnErr result ((plan_by policy capacity key scalar (queues_at queues.old)).hits ≡ false) }
+    ensures err { OnErr result (queues_at queues.new ≡ queues_at queues.old) }
+{
+    match policy {
+        DemandPolicy::Clock => match clock::step(queues, capacity, scalar, key) {
+            Ok(done) => Ok(without_record(done)),
+            Err(fault) => Err(fault),
+        },
+        DemandPolicy::Sieve => match sieve::step(queues, capacity, scalar, key) {
+            Ok(done) => Ok(without_record(done)),
+            Err(fault) => Err(fault),
+        },
+        DemandPolicy::S3Fifo => match s3_fifo::step(queues, capacity, scalar, key) {
+            Ok(done) => Ok(without_record(done)),
+            Err(fault) => Err(fault),
+        },
+        DemandPolicy::TwoQ => match two_q::step(queues, capacity, scalar, key) {
+            Ok(done) => Ok(without_record(done)),
+            Err(fault) => Err(fault),
+        },
+        DemandPolicy::Arc => match arc::step(queues, capacity, scalar, key) {
+            Ok(done) => Ok(without_record(done)),
+            Err(fault) => Err(fault),
+        },
+    }
+}
+
+// The step of the policy.
+#[inline(always)]
+fn carry_out(
+    policy: DemandPolicy,
+    queues: &mut KeyQueues,
+    capacity: u32,
+    scalar: u32,
+    key: Key,
+) -> Result<Accessed, AllocError>
+    requires least { 1 ≤ capacity }
+    requires most { capacity ≤ MAX_CAPACITY }
+    requires state { IsStateOf policy capacity scalar (queues_at queues.old) }
+    ensures accessed { IfOk result (λ a. IsAccessed (plan_by policy capacity key scalar (queues_at queues.old)) (item_of key)
+        scalar (queues_at queues.old) (queues_at queues.new) a) }
+    ensures memory { OnErr result ((plan_by policy capacity key scalar (queues_at queues.old)).hits ≡ false) }
+    ensures err { OnErr result (queues_at queues.new ≡ queues_at queues.old) }
+{
+    match policy {
+        DemandPolicy::Clock => clock::step(queues, capacity, scalar, key),
+        DemandPolicy::Sieve => sieve::step(queues, capacity, scalar, key),
+        DemandPolicy::S3Fifo => s3_fifo::step(queues, capacity, scalar, key),
+        DemandPolicy::TwoQ => two_q::step(queues, capacity, scalar, key),
+        DemandPolicy::Arc => arc::step(queues, capacity, scalar, key),
+    }
+}

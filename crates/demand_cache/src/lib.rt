@@ -1,12 +1,12 @@
 //! CLOCK, SIEVE, S3-FIFO, 2Q and ARC as one engine. They keep each missed key, and count no keys beyond a few bits.
 //!
-//! Each is a cache in a crate of its own, over its definition on plain lists. What they share stands here once: counts,
-//! the limit of steps, and undoing.
+//! Each is a plan of moves over the same queues. What they share stands here once: counts, the limit of steps, and
+//! undoing.
 #![tactic(auto)]
 
 mod demand_cache;
-mod demand_queues;
+mod demand_policy;
 pub mod theorems;
 
 pub use demand_cache::{AHEAD, DemandCache, DemandRecord};
-pub use demand_queues::{DemandPolicy, DemandQueues, QueuesRecord};
+pub use demand_policy::DemandPolicy;

@@ -1,17 +1,16 @@
 //! Theorems on these policies, for callers that see a cache by its steps alone. Each of these functions does nothing:
 //! its contract is the theorem.
-ghost use Rattle.demand_cache.specs.Theorems.{DemandKeeps, HitsAskNothing, AsksWhereOneLeft};
+ghost use Rattle.demand_cache.specs.Theorems.{DemandKeeps, RunsByPage, HitsAskNothing, AsksWhereOneLeft};
 
 /// Each policy keeps every missed key, and its residents fit, each once.
 pub fn demand_keeps()
     ensures { DemandKeeps }
-{
-    queue_policies::theorems::clock_keeps();
-    queue_policies::theorems::sieve_keeps();
-    queue_policies::theorems::s3_fifo_keeps();
-    ghost_policies::theorems::two_q_keeps();
-    ghost_policies::theorems::arc_keeps();
-}
+{}
+
+/// The outcomes of a run by each policy's plans are those of its definition.
+pub fn runs_by_page()
+    ensures { RunsByPage }
+{}
 
 /// Undoing a hit takes no memory.
 pub fn hits_ask_nothing()

@@ -1,5 +1,5 @@
 -- 2Q: what an access makes of the queues, and that it keeps the invariant.
-use Rattle.std.proofs.Common.{◌≡◌, ℕ, ◌+◌, ◌<◌, ◌≤◌, true, false, cond, eqb, nat_lt, List, [], ◌∷◌, ◌++◌, length, ap, ◌∙◌, refl, arith, inl, inr, length-append}
+use Rattle.std.proofs.Common.{◌≡◌, ℕ, ◌+◌, ◌<◌, ◌≤◌, true, false, cond, eqb, nat_lt, ◌||◌, drop, List, [], ◌∷◌, ◌++◌, length, ap, ◌∙◌, refl, arith, inl, inr, length-append}
 use Rattle.std.proofs.lemmas.Bool.{cases_Bool, ltb-true, ltb-false, eqb-true, eqb-false}
 use Rattle.step_record.specs.Keys.{has_key, keys_without}
 use Rattle.step_record.specs.Stats.{is_hit, is_eviction, is_rejection, one_if}
@@ -14,7 +14,30 @@ use Rattle.queue_policies.specs.declared.ghost_place.GhostPlace.{GhostPlace}
 use Rattle.queue_policies.specs.declared.ghost_place.GhostPlace.TheVariants.{Known, Unknown}
 use Rattle.queue_policies.proofs.Ghost.{with-fits, without-length}
 use Rattle.ghost_policies.proofs.Weights.{weight, times-weight, weight-append, weight-push, weight-out, not-there, weight-renewed, weight-ghost, hit-moves, miss-moves, has-append}
-use Rattle.ghost_policies.proofs.TwoQUndoing.{Leaves, leaves}
+
+-- the key that leaves is the oldest of its queue
+abbrev pub Leaves : TwoQLeaver → List ℕ → List ℕ → Type 0
+Leaves NoLeaver a1in am = Unit {0}
+Leaves (FromA1in v) a1in am = v ∷ drop 1 a1in ≡ a1in
+Leaves (FromAm v) a1in am = v ∷ drop 1 am ≡ am
+
+leaves-a1in : (a1in am : List ℕ) → Leaves (leaver_of_a1in a1in) a1in am
+leaves-a1in [] am = tt
+leaves-a1in (v ∷ a1in) am = refl
+
+leaves-am : (a1in am : List ℕ) → Leaves (leaver_of_am am) a1in am
+leaves-am a1in [] = tt
+leaves-am a1in (v ∷ am) = refl
+
+pub leaves : (c : ℕ) (s : TwoQState) → Leaves (two_q_leaver c s) s.a1in s.am
+leaves c s =
+    elim (cases_Bool (nat_lt (length (two_q_residents s)) c)) [
+      | inl e ↦ rw e tt
+      | inr e ↦ rw e (elim (cases_Bool (nat_lt (kin c) (length s.a1in) || eqb (length s.am) 0)) [
+        | inl f ↦ rw f (leaves-a1in s.a1in s.am)
+        | inr f ↦ rw f (leaves-am s.a1in s.am)
+      ])
+    ]
 
 -- what left a1in, and what left am
 abbrev pub out_of_a1in : TwoQLeaver → List ℕ

@@ -2,15 +2,11 @@
 -- key that comes again goes to t2. What leaves them is remembered in b1 and b2. t1 is to have p keys: p grows where a
 -- key of b1 comes again, and shrinks for one of b2.
 use Rattle.std.specs.Prelude.{◌≡◌, ℕ, ◌+◌, ◌-◌, ◌*◌, ◌/◌, ◌≤◌, min, max, nat_lt, ◌==◌, ◌&&◌, ◌||◌, Bool, true, false}
-use Rattle.std.specs.Prelude.{if◌then◌else◌, None, List, [], ◌∷◌, ◌++◌, length, drop}
+use Rattle.std.specs.Prelude.{if◌then◌else◌, List, [], ◌∷◌, ◌++◌, length, drop}
 use Rattle.step_record.specs.Keys.{has_key, keys_without}
 use Rattle.step_record.specs.declared.outcome.Outcome.{Outcome}
 use Rattle.step_record.specs.declared.outcome.Outcome.TheVariants.{Hit, Kept, Evicted}
 use Rattle.queue_policies.specs.Residents.{times}
-use Rattle.queue_policies.specs.Queues.{without_newest}
-use Rattle.queue_policies.specs.Ghost.{ghost_place_of, older_from, put_behind, ghost_with_place}
-use Rattle.queue_policies.specs.declared.ghost_place.GhostPlace.{GhostPlace}
-use Rattle.queue_policies.specs.declared.ghost_place.GhostPlace.TheVariants.{Unknown}
 use Rattle.ghost_policies.specs.declared.arc.ArcGhost.{ArcGhost}
 use Rattle.ghost_policies.specs.declared.arc.ArcGhost.TheVariants.{NoGhost, InB1, InB2}
 use Rattle.ghost_policies.specs.declared.arc.ArcForgets.{ArcForgets}
@@ -18,9 +14,6 @@ use Rattle.ghost_policies.specs.declared.arc.ArcForgets.TheVariants.{NoneForgott
 use Rattle.ghost_policies.specs.declared.arc.ArcLeaver.{ArcLeaver}
 use Rattle.ghost_policies.specs.declared.arc.ArcLeaver.TheVariants.{NoLeaver, ToB1, ToB2, Dropped}
 use Rattle.ghost_policies.specs.declared.arc.ArcPlan.{ArcPlan}
-use Rattle.ghost_policies.specs.declared.arc.ArcMiss.{ArcMiss}
-use Rattle.ghost_policies.specs.declared.arc.ArcRecord.{ArcRecord}
-use Rattle.ghost_policies.specs.declared.arc.ArcRecord.TheVariants.{FromT1, FromT2, Missed}
 
 -- the queues, oldest first
 pub record ArcState : Type 0 where
@@ -150,56 +143,6 @@ arc_act c k s =
     else if has_key k s.t2
     then (Hit, record s { t2 = keys_without k s.t2 ++ k ∷ [] })
     else (arc_outcome (arc_plan c k s).leaver, arc_after_miss c k (arc_plan c k s) s)
-
--- ---- its record
-
-abbrev pub place_in : ArcGhost → ℕ → ArcState → GhostPlace
-place_in NoGhost k s = Unknown
-place_in InB1 k s = ghost_place_of k s.b1
-place_in InB2 k s = ghost_place_of k s.b2
-
-abbrev pub arc_miss_of : ℕ → ArcPlan → ArcState → ArcMiss
-arc_miss_of k m s = record { place = place_in m.recalls k s; plan = m; p = s.p }
-
--- the record of an access to k, from the state before it
-abbrev pub arc_record_of : ℕ → ℕ → ArcState → ArcRecord
-arc_record_of c k s =
-    if has_key k s.t1
-    then FromT1 k (older_from None k s.t1)
-    else if has_key k s.t2
-    then FromT2 k (older_from None k s.t2)
-    else Missed (arc_miss_of k (arc_plan c k s) s)
-
--- ---- undoing it
-
-abbrev pub arc_before_join : ArcGhost → ArcState → ArcState
-arc_before_join NoGhost s = record s { t1 = without_newest s.t1 }
-arc_before_join InB1 s = record s { t2 = without_newest s.t2 }
-arc_before_join InB2 s = record s { t2 = without_newest s.t2 }
-
-abbrev pub arc_before_eviction : ArcLeaver → ArcState → ArcState
-arc_before_eviction NoLeaver s = s
-arc_before_eviction (ToB1 v) s = record s { t1 = v ∷ s.t1; b1 = without_newest s.b1 }
-arc_before_eviction (ToB2 v) s = record s { t2 = v ∷ s.t2; b2 = without_newest s.b2 }
-arc_before_eviction (Dropped v) s = record s { t1 = v ∷ s.t1 }
-
-abbrev pub arc_before_forgetting : ArcForgets → ArcState → ArcState
-arc_before_forgetting NoneForgotten s = s
-arc_before_forgetting (OfB1 v) s = record s { b1 = v ∷ s.b1 }
-arc_before_forgetting (OfB2 v) s = record s { b2 = v ∷ s.b2 }
-
-abbrev pub arc_before_recall : ArcGhost → GhostPlace → ℕ → ArcState → ArcState
-arc_before_recall NoGhost place p s = record s { p = p }
-arc_before_recall InB1 place p s = record s { b1 = ghost_with_place place s.b1; p = p }
-arc_before_recall InB2 place p s = record s { b2 = ghost_with_place place s.b2; p = p }
-
--- the state before an access, from its record and the state after it: what a miss did, in the opposite order
-abbrev pub arc_undone : ArcRecord → ArcState → ArcState
-arc_undone (FromT1 k older) s = record s { t1 = put_behind older k s.t1; t2 = without_newest s.t2 }
-arc_undone (FromT2 k older) s = record s { t2 = put_behind older k (without_newest s.t2) }
-arc_undone (Missed r) s =
-    arc_before_recall r.plan.recalls r.place r.p
-    (arc_before_forgetting r.plan.forgets (arc_before_eviction r.plan.leaver (arc_before_join r.plan.recalls s)))
 
 -- ---- a state of a cache of capacity c
 

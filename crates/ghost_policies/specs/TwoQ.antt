@@ -1,22 +1,17 @@
 -- 2Q, the full version (Johnson and Shasha, VLDB 1994): a new key joins a1in, a first-in first-out queue. A key that
 -- leaves it is remembered in a1out, and joins am, which is in order of last access, when it comes again.
 use Rattle.std.specs.Prelude.{ℕ, ◌+◌, ◌/◌, ◌≤◌, max, nat_lt, ◌==◌, ◌||◌, if◌then◌else◌}
-use Rattle.std.specs.Prelude.{Option, None, List, [], ◌∷◌, ◌++◌, length, drop}
+use Rattle.std.specs.Prelude.{List, [], ◌∷◌, ◌++◌, length, drop}
 use Rattle.step_record.specs.Keys.{has_key, keys_without}
 use Rattle.step_record.specs.declared.outcome.Outcome.{Outcome}
 use Rattle.step_record.specs.declared.outcome.Outcome.TheVariants.{Hit, Kept, Evicted}
 use Rattle.queue_policies.specs.Residents.{times}
-use Rattle.queue_policies.specs.Queues.{without_newest}
-use Rattle.queue_policies.specs.Ghost.{ghost_with, forgotten_key, ghost_before}
-use Rattle.queue_policies.specs.Ghost.{ghost_place_of, ghost_with_place}
+use Rattle.queue_policies.specs.Ghost.{ghost_with}
+use Rattle.queue_policies.specs.Ghost.{ghost_place_of}
 use Rattle.queue_policies.specs.declared.ghost_place.GhostPlace.{GhostPlace}
 use Rattle.queue_policies.specs.declared.ghost_place.GhostPlace.TheVariants.{Known, Unknown}
-use Rattle.queue_policies.specs.Ghost.{older_from, put_behind}
 use Rattle.ghost_policies.specs.declared.two_q.TwoQLeaver.{TwoQLeaver}
 use Rattle.ghost_policies.specs.declared.two_q.TwoQLeaver.TheVariants.{NoLeaver, FromA1in, FromAm}
-use Rattle.ghost_policies.specs.declared.two_q.TwoQMiss.{TwoQMiss}
-use Rattle.ghost_policies.specs.declared.two_q.TwoQRecord.{TwoQRecord}
-use Rattle.ghost_policies.specs.declared.two_q.TwoQRecord.TheVariants.{Renewed, Unmoved, Missed}
 
 -- the queues, oldest first
 pub record TwoQState : Type 0 where
@@ -90,50 +85,6 @@ two_q_act c k s =
     if has_key k s.am
     then (Hit, two_q_after_renewal k s)
     else if has_key k s.a1in then (Hit, s) else (two_q_outcome (two_q_leaver c s), two_q_after_miss c k s)
-
--- ---- its record
-
--- the key that a1out forgets for the one that leaves
-abbrev pub two_q_forgotten : ℕ → TwoQLeaver → TwoQState → Option ℕ
-two_q_forgotten c NoLeaver s = None
-two_q_forgotten c (FromA1in v) s = forgotten_key (kout c) v s.a1out
-two_q_forgotten c (FromAm v) s = None
-
-abbrev pub two_q_miss_of : ℕ → ℕ → TwoQState → TwoQMiss
-two_q_miss_of c k s = record {
-  place = ghost_place_of k s.a1out;
-  leaver = two_q_leaver c s;
-  forgotten = two_q_forgotten c (two_q_leaver c s) (two_q_after_recall k s);
-}
-
--- the record of an access to k, from the state before it
-abbrev pub two_q_record_of : ℕ → ℕ → TwoQState → TwoQRecord
-two_q_record_of c k s =
-    if has_key k s.am
-    then Renewed k (older_from None k s.am)
-    else if has_key k s.a1in then Unmoved else Missed (two_q_miss_of c k s)
-
--- ---- undoing it
-
-abbrev pub two_q_before_join : GhostPlace → TwoQState → TwoQState
-two_q_before_join Unknown s = record s { a1in = without_newest s.a1in }
-two_q_before_join (Known j older) s = record s { am = without_newest s.am }
-
-abbrev pub two_q_before_eviction : TwoQLeaver → Option ℕ → TwoQState → TwoQState
-two_q_before_eviction NoLeaver forgotten s = s
-two_q_before_eviction (FromA1in v) forgotten s =
-    record { a1in = v ∷ s.a1in; a1out = ghost_before forgotten s.a1out; am = s.am }
-two_q_before_eviction (FromAm v) forgotten s = record s { am = v ∷ s.am }
-
-abbrev pub two_q_before_recall : GhostPlace → TwoQState → TwoQState
-two_q_before_recall place s = record s { a1out = ghost_with_place place s.a1out }
-
--- the state before an access, from its record and the state after it: what a miss did, in the opposite order
-abbrev pub two_q_undone : TwoQRecord → TwoQState → TwoQState
-two_q_undone (Renewed k older) s = record s { am = put_behind older k (without_newest s.am) }
-two_q_undone Unmoved s = s
-two_q_undone (Missed r) s =
-    two_q_before_recall r.place (two_q_before_eviction r.leaver r.forgotten (two_q_before_join r.place s))
 
 -- ---- a state of a cache of capacity c
 

@@ -1,5 +1,4 @@
-//! The undo record of an access to an ARC cache.
-use queue_policies::GhostPlace;
+//! What a miss of an ARC cache moves.
 use step_record::Key;
 
 /// The ghost that remembered a missed key.
@@ -46,26 +45,4 @@ pub struct ArcPlan {
     pub forgets: ArcForgets,
     /// Which key leaves.
     pub leaver: ArcLeaver,
-}
-
-/// What a miss of an ARC cache changed.
-#[derive(Clone, Copy, Debug)]
-pub struct ArcMiss {
-    /// Where a ghost remembered the key that was missed.
-    pub place: GhostPlace,
-    /// What moved.
-    pub plan: ArcPlan,
-    /// The target size of `t1` before the access.
-    pub p: u32,
-}
-
-/// What an access to an ARC cache leaves to be undone from.
-#[derive(Clone, Copy, Debug)]
-pub enum ArcRecord {
-    /// The key of `t1` went to `t2`; it had stood right after the other one, or in front of all.
-    FromT1(Key, Option<Key>),
-    /// The key of `t2` was renewed, which stood right after the other one, or in front of all.
-    FromT2(Key, Option<Key>),
-    /// A miss.
-    Missed(ArcMiss),
 }

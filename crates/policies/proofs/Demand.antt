@@ -14,11 +14,11 @@ use Rattle.step_record.specs.Stats.{stats_of, stats_with, one_if}
 use Rattle.step_record.proofs.Counting.{stats-snoc}
 use Rattle.queue_policies.specs.Residents.{times, keys_brought, IsAccess, AreResidents, KeepsResidents, state_after_all, outcomes_of_all}
 use Rattle.queue_policies.proofs.Residents.{times-none, times-some, counts-residents}
-use Rattle.demand_cache.specs.declared.demand_queues.DemandPolicy.{DemandPolicy}
-use Rattle.demand_cache.specs.declared.demand_queues.DemandQueues.{DemandQueues}
-use Rattle.demand_cache.specs.DemandQueues.{empty_queues, queues_act, queues_residents, IsQueues}
+use Rattle.demand_cache.specs.declared.demand_policy.DemandPolicy.{DemandPolicy}
+use Rattle.demand_cache.specs.DemandQueues.{DemandQueues, empty_cache, queues_act, queues_residents, IsQueues}
 use Rattle.demand_cache.specs.DemandCache.{DemandState, state_with, demand_act}
 use Rattle.demand_cache.specs.Theorems.{DemandKeeps}
+use Rattle.demand_cache.proofs.Keeping.{page-outcomes}
 use Rattle.policies.specs.declared.design.Design.{Design}
 use Rattle.policies.specs.declared.design.Design.TheVariants.{Queues, KnowsTrace, Demand}
 use Rattle.policies.specs.AnyPolicy.{IsDemandAfter, demand_run, demand_outcomes}
@@ -60,14 +60,14 @@ module _ {S : Type 0} (c : ℕ) (start : S) (act : ℕ → S → Outcome × S) (
 
 pub with-room : (p : DemandPolicy) (c : ℕ) (keys : List ℕ) → 1 ≤ c → demand_outcomes p c keys ≡ demand_run p c keys
 with-room p zero keys h = absurd (omega arith)
-with-room p (suc c) keys h = refl
+with-room p (suc c) keys h = sym (page-outcomes p (suc c) keys h)
 
 pub demand-room : (j : Job) (keys : List ℕ) (d : DemandState) → IsDemandAfter j keys d → 1 ≤ j.config.capacity
 demand-room j keys d s = has-room j.config s.checked
 
 pub demand-long : (p : DemandPolicy) (c : ℕ) (keys : List ℕ) → length (demand_outcomes p c keys) ≡ length keys
 demand-long p zero keys = length-map keys (λ k. Rejected k)
-demand-long p (suc c) keys = outcomes-long queues_act (empty_queues p (suc c)) keys
+demand-long p (suc c) keys = ap length (with-room p (suc c) keys (omega arith)) ∙ outcomes-long queues_act (empty_cache p (suc c)) keys
 
 -- ---- an accepted access
 
@@ -103,7 +103,7 @@ demand-refused d k h =
 -- ---- the accesses that it made
 
 abbrev start_of : (j : Job) (keys : List ℕ) (d : DemandState) → IsDemandAfter j keys d → DemandQueues
-start_of j keys d s = empty_queues s.policy j.config.capacity
+start_of j keys d s = empty_cache s.policy j.config.capacity
 
 pub demand_stands : (j : Job) (keys : List ℕ) (d : DemandState) (k : ℕ) (o : Outcome) (e : DemandState) → IsDemandAfter j keys d
     → demand_act d k ≡ Some (o, e) → IsDemandAfter j (keys ++ k ∷ []) e
@@ -134,7 +134,7 @@ pub demand-one : (j : Job) (keys : List ℕ) (d e : DemandState) → IsDemandAft
 demand-one j keys d e a b =
     let same : a.policy ≡ b.policy = ap (policy_or a.policy) (sym a.design ∙ b.design) in
     let queues : d.queues ≡ e.queues =
-    a.queues ∙ (ap (λ p. state_after_all queues_act (empty_queues p j.config.capacity) keys) same ∙ sym b.queues) in
+    a.queues ∙ (ap (λ p. state_after_all queues_act (empty_cache p j.config.capacity) keys) same ∙ sym b.queues) in
     let stats : d.stats ≡ e.stats = a.stats ∙ (ap (λ p. stats_of (demand_run p j.config.capacity keys)) same ∙ sym b.stats) in
     ap (λ q. record { queues = q; stats = d.stats }) queues ∙ ap (λ x. record { queues = e.queues; stats = x }) stats
 

@@ -11,7 +11,7 @@ use Rattle.policies.specs.declared.any_policy.AnyPolicy.TheVariants.{Queues, Opt
 use Rattle.policies.specs.AnyPolicy.{stats_in, stats_on, outcomes_on, HasAccessed}
 use Rattle.policies.specs.QueueCache.{QueueState, queue_state_after, frequency_after, empty_queue_state, outcomes_after, outcomes_from, access_response}
 use Rattle.policies.proofs.Answered.{outcomes-length}
-use Rattle.demand_cache.specs.DemandQueues.{queues_act, empty_queues}
+use Rattle.demand_cache.specs.DemandQueues.{queues_act, empty_cache}
 use Rattle.policies.specs.AnyPolicy.{outcomes_by}
 use Rattle.policies.specs.Design.{design_of}
 use Rattle.policies.proofs.Demand.{outcomes-first, with-room, demand-room}
@@ -53,7 +53,7 @@ within_trace j trace n (Optimal d) le s =
     ∙ ap stats_of (optimal_first j.config.capacity trace n (length trace) le)
     ∙ ap (λ os. stats_of (take n os)) (sym (outcomes-of-optimal (design_of j.policy) j trace s.policy))
 within_trace j trace n (Demand d) le s =
-    s.stats ∙ ap stats_of (outcomes-first queues_act (empty_queues s.policy j.config.capacity) n trace)
+    s.stats ∙ ap stats_of (outcomes-first queues_act (empty_cache s.policy j.config.capacity) n trace)
     ∙ ap (λ os. stats_of (take n os)) (sym (with-room s.policy j.config.capacity trace (demand-room j (take n trace) d s)))
     ∙ ap (λ z. stats_of (take n (outcomes_by z j trace))) (sym s.design)
 

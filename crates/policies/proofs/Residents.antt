@@ -10,16 +10,15 @@ use Rattle.policies.specs.AnyPolicy.{any_residents, outcomes_by, outcomes_on, st
 use Rattle.policies.specs.declared.design.Design.{Design}
 use Rattle.policies.specs.declared.design.Design.TheVariants as design
 use Rattle.policies.specs.Design.{design_of}
-use Rattle.demand_cache.specs.declared.demand_queues.DemandQueues.{DemandQueues}
 use Rattle.std.proofs.lemmas.List.Sums.{sum_by-cons}
 use Rattle.step_record.specs.declared.outcome.Outcome.TheVariants.{Rejected}
-use Rattle.demand_cache.specs.declared.demand_queues.DemandPolicy.{DemandPolicy}
+use Rattle.demand_cache.specs.declared.demand_policy.DemandPolicy.{DemandPolicy}
 use Rattle.demand_cache.specs.DemandCache.{demand_act, state_with}
-use Rattle.demand_cache.specs.DemandQueues.{queues_act, queues_residents, empty_queues, IsQueues}
+use Rattle.demand_cache.specs.DemandQueues.{DemandQueues, queues_act, queues_residents, empty_cache, IsQueues}
 use Rattle.demand_cache.specs.Theorems.{DemandKeeps}
 use Rattle.queue_policies.specs.Residents.{KeepsResidents, state_after_all}
 use Rattle.queue_policies.proofs.Residents.{counts-residents}
-use Rattle.policies.proofs.Demand.{demand-access, demand-holds, demand-is-access, demand-counted, demand-came-from, times-by, kept-after}
+use Rattle.policies.proofs.Demand.{demand-access, demand-holds, demand-is-access, demand-counted, demand-came-from, times-by, kept-after, with-room}
 use Rattle.policies.specs.Theorems.{AnyCoversTrace}
 use Rattle.policies.proofs.Counting.{after-counts, hits-misses}
 use Rattle.step_record.specs.declared.job.Job.{Job}
@@ -106,12 +105,12 @@ demand-fit : DemandKeeps → (p : DemandPolicy) (c : ℕ) (t : List ℕ)
     → (stats_of (demand_outcomes p c t)).misses ≤ (stats_of (demand_outcomes p c t)).evictions + c
 demand-fit law p zero t = let few = none-kept t in omega (arith, few)
 demand-fit law p (suc c) t =
-    let start : DemandQueues = empty_queues p (suc c) in
+    let start : DemandQueues = empty_cache p (suc c) in
     let all : KeepsResidents (suc c) start queues_act queues_residents (IsQueues (suc c)) = law p (suc c) (omega arith) in
     let sum = counts-residents (suc c) start queues_act queues_residents (IsQueues (suc c)) all t in
     let state = state_after_all queues_act start t in
     let few = (all.holds state (kept-after (suc c) start queues_act queues_residents (IsQueues (suc c)) all t)).fits in
-    omega (arith, sum, few)
+    subst (λ os. (stats_of os).misses ≤ (stats_of os).evictions + suc c) (sym (with-room p (suc c) t (omega arith))) (omega (arith, sum, few))
 
 fit-by : DemandKeeps → (x : Design) (j : Job) (trace : List ℕ)
     → (stats_of (outcomes_by x j trace)).misses ≤ (stats_of (outcomes_by x j trace)).evictions + j.config.capacity

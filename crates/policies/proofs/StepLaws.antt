@@ -12,7 +12,7 @@ use Rattle.policies.specs.declared.any_policy.AnyPolicy.TheVariants.{Queues, Opt
 use Rattle.policies.specs.QueueCache.{QueueState, outcomes_after}
 use Rattle.policies.specs.QueueStep.{queue_act}
 use Rattle.demand_cache.specs.DemandCache.{DemandState, demand_act}
-use Rattle.demand_cache.specs.DemandQueues.{queues_act, empty_queues}
+use Rattle.demand_cache.specs.DemandQueues.{queues_act, empty_cache}
 use Rattle.demand_cache.specs.Theorems.{DemandKeeps, HitsAskNothing, AsksWhereOneLeft}
 use Rattle.policies.specs.declared.design.Design.{Design}
 use Rattle.policies.specs.declared.design.Design.TheVariants as design
@@ -182,7 +182,7 @@ any_answers law j trace keys rest k (Optimal d) o e x t s h =
     ∙ ap (λ os. get_or os (length keys) x) (sym (outcomes-of-optimal (design_of j.policy) j trace s.policy))
 any_answers law j trace keys rest k (Demand d) o e x t s h =
     let q : IsDemandStep (demand_act d k) o e = demand_step (demand_act d k) o e h in
-    let start = empty_queues s.policy j.config.capacity in
+    let start = empty_cache s.policy j.config.capacity in
     (demand-access d k o q.next q.steps).outcome
     ∙ ap (λ z. (queues_act k z).0) s.queues
     ∙ sym (outcomes-at queues_act start keys rest k x)

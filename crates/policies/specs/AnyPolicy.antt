@@ -10,8 +10,8 @@ use Rattle.admission.specs.Frequency.{FrequencyData}
 use Rattle.clairvoyant.specs.Belady.{belady_outcomes}
 use Rattle.clairvoyant.specs.Clairvoyant.{ClairvoyantState, clairvoyant_at}
 use Rattle.queue_policies.specs.Residents.{state_after_all, outcomes_of_all}
-use Rattle.demand_cache.specs.declared.demand_queues.DemandPolicy.{DemandPolicy}
-use Rattle.demand_cache.specs.DemandQueues.{empty_queues, queues_act, queues_residents}
+use Rattle.demand_cache.specs.declared.demand_policy.DemandPolicy.{DemandPolicy}
+use Rattle.demand_cache.specs.DemandQueues.{empty_cache, queues_act, queues_residents, outcomes_of_page}
 use Rattle.demand_cache.specs.DemandCache.{DemandState}
 use Rattle.policies.specs.declared.any_policy.AnyPolicy.{AnyPolicy}
 use Rattle.policies.specs.declared.any_policy.AnyPolicy.TheVariants.{Queues, Optimal, Demand}
@@ -22,14 +22,15 @@ use Rattle.policies.specs.QueueCache.{outcomes_after, residents_in, StandsFor}
 
 -- ---- a job over a trace
 
--- the outcomes of the accesses to the keys of a trace by a policy that keeps each missed key, at capacity c
+-- the outcomes of the accesses to the keys of a trace by the plans of a policy that keeps each missed key, at capacity c
 abbrev pub demand_run : DemandPolicy → ℕ → List ℕ → List Outcome
-demand_run p c trace = outcomes_of_all queues_act (empty_queues p c) trace
+demand_run p c trace = outcomes_of_all queues_act (empty_cache p c) trace
 
--- without room each key is rejected (no configuration that is accepted has a capacity of 0)
+-- The same by the policy's definition. Without room each key is rejected (no configuration that is accepted has a
+-- capacity of 0).
 abbrev pub demand_outcomes : DemandPolicy → ℕ → List ℕ → List Outcome
 demand_outcomes p zero trace = map (λ k. Rejected k) trace
-demand_outcomes p (suc c) trace = demand_run p (suc c) trace
+demand_outcomes p (suc c) trace = outcomes_of_page p (suc c) trace
 
 abbrev pub outcomes_by : Design → Job → List ℕ → List Outcome
 outcomes_by (design.Queues d) j trace = outcomes_after j trace
@@ -74,7 +75,7 @@ pub record IsDemandAfter (j : Job) (keys : List ℕ) (d : DemandState) : Type 0 
   pub policy : DemandPolicy
   pub design : design_of j.policy ≡ design.Demand policy
   pub checked : config_fault j.config ≡ Ok tt
-  pub queues : d.queues ≡ state_after_all queues_act (empty_queues policy j.config.capacity) keys
+  pub queues : d.queues ≡ state_after_all queues_act (empty_cache policy j.config.capacity) keys
   pub stats : d.stats ≡ stats_of (demand_run policy j.config.capacity keys)
 
 -- the cache runs the job over the trace, and the keys are the accesses that it made

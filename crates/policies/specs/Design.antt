@@ -12,7 +12,7 @@ use Rattle.replacement.specs.declared.rules.Placement.{Placement}
 use Rattle.replacement.specs.declared.rules.Placement.TheVariants.{Direct, Windowed}
 use Rattle.replacement.specs.declared.rules.Rules.{Rules}
 use Rattle.replacement.specs.Rules.{one_queue, two_queues, three_queues}
-use Rattle.demand_cache.specs.declared.demand_queues.DemandPolicy.TheVariants as demand
+use Rattle.demand_cache.specs.declared.demand_policy.DemandPolicy.TheVariants as demand
 use Rattle.policies.specs.declared.design.Design.{Design}
 use Rattle.policies.specs.declared.design.Design.TheVariants.{Queues, KnowsTrace, Demand}
 use Rattle.policies.specs.declared.design.Layout.{Layout}

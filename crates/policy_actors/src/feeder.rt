@@ -44,6 +44,8 @@ impl<'b, S: FedTrace, W: Wait> Follower for Feeder<'b, S, W> {
 
     ghost taken = { λ f. f.place };
 
+    ghost most = { λ f. MAX_ACCESSES };
+
     fn follow(&mut self, keys: &mut Vec<Key>) {
         let batches = self.batches_due(keys.len());
         if batches == 0 {

@@ -8,7 +8,7 @@ use std::alloc::AllocError;
 use std::sync::Wait;
 use step_record::{MAX_ACCESSES, Trace};
 use streams::CountedRead;
-use trace_read::{Follower, Format, TraceFault, read_followed};
+use trace_read::{Follower, Format, Limits, TraceFault, read_followed};
 
 // How many accesses of a trace that is there the feeder gets at a time.
 const PIECE: usize = 65_536;
@@ -94,8 +94,8 @@ impl<'r, R: CountedRead> AccessSource for ReaderSource<'r, R> {
         mut feeder: Feeder<'_, S, W>,
     ) -> (&'r mut R, Result<(), TraceFault>) {
         let ReaderSource { reader, format } = self;
-        let read = match read_followed(feeder.alloc, reader, format, &mut feeder) {
-            Ok(rest) => Ok(feeder.give(rest, true)),
+        let read = match read_followed(feeder.alloc, reader, format, Limits::DEFAULT, &mut feeder) {
+            Ok(rest) => Ok(feeder.give(Trace::new(rest), true)),
             Err(fault) => Err(fault),
         };
         (reader, read)

@@ -12,16 +12,15 @@ use Rattle.policies.specs.Design.{design_of, has_queues, is_optimal, knows_trace
 use Rattle.step_record.specs.declared.outcome.Outcome.TheVariants.{Rejected}
 use Rattle.step_record.specs.Stats.{stats_of}
 use Rattle.queue_policies.specs.Residents.{KeepsResidents, outcomes_of_all}
-use Rattle.demand_cache.specs.declared.demand_queues.DemandPolicy.{DemandPolicy}
-use Rattle.demand_cache.specs.declared.demand_queues.DemandQueues.{DemandQueues}
+use Rattle.demand_cache.specs.declared.demand_policy.DemandPolicy.{DemandPolicy}
 use Rattle.demand_cache.specs.DemandCache.{DemandState}
-use Rattle.demand_cache.specs.DemandQueues.{empty_queues, queues_act, queues_residents, IsQueues}
+use Rattle.demand_cache.specs.DemandQueues.{DemandQueues, empty_cache, queues_act, queues_residents, IsQueues}
 use Rattle.demand_cache.specs.Theorems.{DemandKeeps}
 use Rattle.policies.proofs.StepLaws.{outcomes-of-queues, outcomes-of-optimal}
-use Rattle.policies.proofs.Demand.{demand-keeping}
+use Rattle.policies.proofs.Demand.{demand-keeping, with-room}
 use Rattle.policy_laws.proofs.Strategies.{residents_at, strategy as demand-strategy, hits-are as demand-hits, beaten}
 use Rattle.policies.specs.QueueCache.{QueueState, residents_in, access_response, queue_state_after, frequency_after, state_after}
-use Rattle.policies.specs.AnyPolicy.{IsDemandAfter, demand_outcomes, outcomes_by, stats_on}
+use Rattle.policies.specs.AnyPolicy.{IsDemandAfter, demand_run, demand_outcomes, outcomes_by, stats_on}
 use Rattle.policies.specs.declared.any_policy.AnyPolicy.TheVariants.{Queues, Optimal, Demand}
 use Rattle.clairvoyant.specs.Clairvoyant.{ClairvoyantState}
 use Rattle.step_record.specs.declared.job.Policy.TheVariants.{Clairvoyant}
@@ -120,13 +119,14 @@ acts-demand law p zero trace = record {
   same = no-hits trace (length trace) ∙ sym (none-hit trace);
 }
 acts-demand law p (suc c) trace =
-    let start : DemandQueues = empty_queues p (suc c) in
+    let start : DemandQueues = empty_cache p (suc c) in
     let all : KeepsResidents (suc c) start queues_act queues_residents (IsQueues (suc c)) = law p (suc c) (omega arith) in
     record {
       residents = residents_at (suc c) start queues_act queues_residents (IsQueues (suc c)) all trace;
       strategy = demand-strategy (suc c) start queues_act queues_residents (IsQueues (suc c)) all trace;
       same = demand-hits (suc c) start queues_act queues_residents (IsQueues (suc c)) all trace (length trace) (omega arith)
-          ∙ ap (λ l. (stats_of (demand_outcomes p (suc c) l)).hits) (take_all (length trace) trace (omega arith));
+          ∙ ap (λ l. (stats_of (demand_run p (suc c) l)).hits) (take_all (length trace) trace (omega arith))
+          ∙ ap (λ os. (stats_of os).hits) (sym (with-room p (suc c) trace (omega arith)));
     }
 
 acts-by : BeladyIsStrategy → DemandKeeps → (x : Design) (j : Job) (trace : List ℕ) → ActsAsStrategy j.config.capacity trace (stats_of (outcomes_by x j trace)).hits
@@ -177,7 +177,7 @@ belady_leads law keeps j optimal trace keys (Optimal d) (Optimal e) s b is same 
 belady_leads law keeps j optimal trace keys (Demand d) (Optimal e) s b is same =
     let c : ℕ = j.config.capacity in
     let n : ℕ = length keys in
-    let start : DemandQueues = empty_queues s.policy c in
+    let start : DemandQueues = empty_cache s.policy c in
     let within : n ≤ length trace = b.within in
     let own : d.stats.hits ≡ count_by is_hit (outcomes_of_all queues_act start (take n trace)) =
     ap (λ (x : Stats). x.hits) s.stats ∙ ap (λ l. count_by is_hit (outcomes_of_all queues_act start l)) b.first in

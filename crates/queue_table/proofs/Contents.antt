@@ -1,18 +1,19 @@
 -- The entries of slots.
-use Rattle.std.proofs.Common.{◌≡◌, ℕ, suc, zero, ◌+◌, ◌<◌, ◌≤◌, true, false, cond, eqb, nat_lt, Option, Some, None, List, [], ◌∷◌, ◌++◌, set, map, ap, ◌∙◌, sym, refl, subst, arith, inl, inr, get_or-set_other}
+use Rattle.std.proofs.Common.{◌≡◌, ℕ, suc, zero, ◌+◌, ◌<◌, ◌≤◌, true, false, cond, eqb, nat_lt, Option, Some, None, List, [], ◌∷◌, ◌++◌, get_or, set, map, ap, ◌∙◌, sym, refl, subst, arith, inl, inr, get_or-set_other}
 use Rattle.std.proofs.Common.{append-nil, append_assoc}
 use Rattle.std.specs.List.{Contains}
 use Rattle.std.proofs.Math.Path.{fun_ext}
 use Rattle.std.proofs.lemmas.Bool.{cases_Bool, cases_eq, cases_lt, lt-ltb, le-ltb, ne_eqb, eq-eqb, eqb-true}
 use Rattle.step_record.specs.declared.item.Item.{Item}
 use Rattle.queue_table.specs.declared.records.Entry.{Entry}
-use Rattle.queue_table.specs.Entries.{is_same_item, occurrences, first_item, last_from, last_item, before, behind, IsGap, put_behind, entries_without}
+use Rattle.queue_table.specs.Entries.{is_same_item, occurrences, last_from, last_item, before, put_behind, entries_without}
 use Rattle.queue_table.specs.Queues.{QUEUES, Queues, with_queue, queue_holding, times_below, after_push, after_removal, after_return, IsDistinct}
 use Rattle.queue_table.proofs.EntryLists.{same-true, same-refl, times-append, put_behind-at}
 use Rattle.queue_table.proofs.QueueLists.{IsAbsent, is_absent, placed, queue-few, times-with}
-use Rattle.queue_table.specs.Ring.{slot_entry, slot_item, count, put_before, FIRST, Order, used, used_below, with_section, order_without, sent, lists_of, item_or, IsShort, IsNewer}
+use Rattle.queue_table.specs.Ring.{slot_entry, slot_item, count, put_before, FIRST, Order, used, used_below, with_section, order_without, sent, lists_of, item_or, IsShort}
+use Rattle.queue_table.specs.QueueTable.{IsBehind}
 use Rattle.step_record.specs.Keys.{keys_without}
-use Rattle.queue_table.proofs.Splices.{count-append, count-here, end_of, start_of}
+use Rattle.queue_table.proofs.Splices.{count-append, count-here, end_of}
 use Rattle.queue_table.proofs.Sections.{map-without, put-sentinel, without-none}
 use Rattle.queue_table.proofs.Orders.{put-end, section-in, section-used, short-without, with-other}
 
@@ -151,52 +152,38 @@ cut_at f (k ∷ l) (x ∷ xs) ys h =
 front-few : (f : ℕ → Entry) (l : List ℕ) (xs ys : List Entry) → map f l ≡ xs ++ ys → ((j : Item) → occurrences j (map f l) ≤ 1) → (j : Item) → occurrences j xs ≤ 1
 front-few f l xs ys e u j = let a = ap (occurrences j) e in let b = times-append j xs ys in let c = u j in omega (arith, a, b, c)
 
-put_newer : (f : ℕ → Entry) (newer : Option Item) (k b : ℕ) (us vs : List ℕ) → ((j : Item) → occurrences j (map f (us ++ vs)) ≤ 1) → first_item (map f vs) ≡ newer → IsNewer (λ j. (f j).item) newer b (us ++ vs) → put_before k b (us ++ vs) ≡ us ++ k ∷ vs
-put_newer f None k b us [] u h n = put-end k b (us ++ []) n ∙ rw (append-nil us) refl
-put_newer f None k b us (v ∷ vs) u h n = absurd (cc (h))
-put_newer f (Some m) k b us [] u h n = absurd (cc (h))
-put_newer f (Some m) k b us (v ∷ vs) u h n =
-    let fv : (f v).item ≡ m = cc in
-    let same_slot : b ≡ v =
-    elim (cases_eq b v) [
-      | inl e ↦ e
-      | inr d ↦ absurd (
-          let t = times-two f m b v (us ++ v ∷ vs) d (rw n.1 (same-refl m)) (rw fv (same-refl m)) in
-          let a = count-append v us (v ∷ vs) in
-          let c = count-here v vs in
-          let w = u m in
-          let p = n.0 in
-          omega (arith, t, a, c, w, p))
-    ] in
+put-cut : (f : ℕ → Entry) (k b c : ℕ) (us vs : List ℕ) → ((j : Item) → occurrences j (map f (us ++ vs)) ≤ 1) → count c (us ++ vs) ≡ 0 → get_or vs 0 c ≡ b → put_before k b (us ++ vs) ≡ us ++ k ∷ vs
+put-cut f k b c us [] u n e = ap (λ x. put_before k x (us ++ [])) (sym e) ∙ (put-end k c (us ++ []) n ∙ rw (append-nil us) refl)
+put-cut f k b c us (v ∷ vs) u n e =
     let none : count v us ≡ 0 = (
-    let t = times-map f m v (us ++ v ∷ vs) (rw fv (same-refl m)) in
+    let t = times-map f (f v).item v (us ++ v ∷ vs) (same-refl (f v).item) in
     let a = count-append v us (v ∷ vs) in
-    let c = count-here v vs in
-    let w = u m in
-    omega (arith, t, a, c, w)) in
-    ap (λ x. put_before k x (us ++ v ∷ vs)) same_slot ∙ (put-sentinel k v us vs none ∙ append_assoc us (k ∷ []) (v ∷ vs))
+    let h = count-here v vs in
+    let w = u (f v).item in
+    omega (arith, t, a, h, w)) in
+    ap (λ x. put_before k x (us ++ v ∷ vs)) (sym e) ∙ (put-sentinel k v us vs none ∙ append_assoc us (k ∷ []) (v ∷ vs))
 
-pub map-put : (f : ℕ → Entry) (older newer : Option Item) (k b : ℕ) (l : List ℕ) → ((j : Item) → occurrences j (map f l) ≤ 1) → IsGap older newer (map f l) → IsNewer (λ j. (f j).item) newer b l →
-    map f (put_before k b l) ≡ put_behind older (f k) (map f l)
-map-put f older newer k b l u g n =
-    let c = cut_at f l g.before g.behind g.whole in
+pub map-put : (q k b : ℕ) (older : Option Item) (es : List Entry) (l : List ℕ) → ((j : Item) → occurrences j (map (λ x. slot_entry es x) l) ≤ 1) → count (suc (suc q)) l ≡ 0 → IsBehind b q older es l →
+    map (λ x. slot_entry es x) (put_before k b l) ≡ put_behind older (slot_entry es k) (map (λ x. slot_entry es x) l)
+map-put q k b older es l u n c =
+    let f : ℕ → Entry = λ x. slot_entry es x in
     let few : (j : Item) → occurrences j (map f (c.front ++ c.back)) ≤ 1 = subst (λ (m : List ℕ). (j : Item) → occurrences j (map f m) ≤ 1) c.whole u in
-    let fb : first_item (map f c.back) ≡ newer = ap first_item c.backs ∙ g.newer_first in
-    let p : put_before k b (c.front ++ c.back) ≡ c.front ++ k ∷ c.back = put_newer f newer k b c.front c.back few fb (subst (IsNewer (λ j. (f j).item) newer b) c.whole n) in
-    let a : map f (put_before k b l) ≡ g.before ++ f k ∷ g.behind =
-    ap (λ (m : List ℕ). map f (put_before k b m)) c.whole ∙ (ap (map f) p ∙ (map-append f c.front (k ∷ c.back) ∙ rw (c.fronts, c.backs) refl)) in
-    let e : put_behind older (f k) (g.before ++ g.behind) ≡ g.before ++ f k ∷ g.behind =
-    put_behind-at older (f k) g.before g.behind (front-few f l g.before g.behind g.whole u) g.older_last in
-    a ∙ (sym e ∙ ap (put_behind older (f k)) (sym g.whole))
+    let none : count (suc (suc q)) (c.front ++ c.back) ≡ 0 = subst (λ (m : List ℕ). count (suc (suc q)) m ≡ 0) c.whole n in
+    let parts : map f l ≡ map f c.front ++ map f c.back = ap (map f) c.whole ∙ map-append f c.front c.back in
+    ap (λ (m : List ℕ). map f (put_before k b m)) c.whole
+    ∙ (ap (map f) (put-cut f k b (suc (suc q)) c.front c.back few none c.next)
+    ∙ (map-append f c.front (k ∷ c.back)
+    ∙ (sym (put_behind-at older (f k) (map f c.front) (map f c.back) (front-few f l (map f c.front) (map f c.back) parts u) c.older_last)
+    ∙ ap (put_behind older (f k)) (sym parts))))
 
-pub lists-back : (q k b : ℕ) (o : Order) (es : List Entry) (older newer : Option Item) → q < QUEUES → IsDistinct (lists_of (order_without k o) es) →
-    IsGap older newer (lists_of (order_without k o) es q) → IsNewer (λ j. slot_item es j) newer b (order_without k o (suc q)) →
+pub lists-back : (q k b : ℕ) (o : Order) (es : List Entry) (older : Option Item) → q < QUEUES → IsDistinct (lists_of (order_without k o) es) →
+    count (suc (suc q)) (order_without k o (suc q)) ≡ 0 → IsBehind b q older es (order_without k o (suc q)) →
     lists_of (sent k (suc q) b o) es ≡ after_return q older (slot_entry es k) (lists_of (order_without k o) es)
-lists-back q k b o es older newer w d g n =
+lists-back q k b o es older w d n c =
     let f : ℕ → Entry = λ j. slot_entry es j in
     let l : List ℕ = keys_without k (o (suc q)) in
     lists-with q (put_before k b l) (order_without k o) es
-    ∙ ap (λ (m : List Entry). with_queue q m (lists_of (order_without k o) es)) (map-put f older newer k b l (queue-few q (lists_of (order_without k o) es) w d) g n)
+    ∙ ap (λ (m : List Entry). with_queue q m (lists_of (order_without k o) es)) (map-put q k b older es l (queue-few q (lists_of (order_without k o) es) w d) n c)
 
 -- distinct items
 
@@ -239,12 +226,6 @@ before-map f k (x ∷ us) vs h =
     let e : is_same_item (f k).item (f x).item ≡ false = h x (let n = count-here x us in omega (arith, n)) in
     rw e (ap (λ t. f x ∷ t) (before-map f k us vs (λ j n. h j (omega arith))))
 
-pub behind-map : (f : ℕ → Entry) (k : ℕ) (us vs : List ℕ) → ((j : ℕ) → 1 ≤ count j us → is_same_item (f k).item (f j).item ≡ false) → behind (f k).item (map f (us ++ k ∷ vs)) ≡ map f vs
-behind-map f k [] vs h = let e = same-refl (f k).item in rw e refl
-behind-map f k (x ∷ us) vs h =
-    let e : is_same_item (f k).item (f x).item ≡ false = h x (let n = count-here x us in omega (arith, n)) in
-    rw e (behind-map f k us vs (λ j n. h j (omega arith)))
-
 item-real : (es : List Entry) (k : ℕ) → FIRST ≤ k → item_or es k ≡ Some (slot_item es k)
 item-real es k h = let e : nat_lt k FIRST ≡ false = le-ltb k FIRST h in rw e refl
 
@@ -258,10 +239,6 @@ item-last es x (y ∷ us) r h = item-last es y us (h y (let n = count-here y us 
 pub item-end : (es : List Entry) (a : ℕ) (us : List ℕ) → a < FIRST → ((j : ℕ) → 1 ≤ count j us → FIRST ≤ j) → item_or es (end_of a us) ≡ last_item (map (λ k. slot_entry es k) us)
 item-end es a [] s h = item-first es a s
 item-end es a (x ∷ us) s h = item-last es x us (h x (let n = count-here x us in omega (arith, n))) (λ j n. h j (omega arith))
-
-pub item-start : (es : List Entry) (b : ℕ) (vs : List ℕ) → b < FIRST → ((j : ℕ) → 1 ≤ count j vs → FIRST ≤ j) → item_or es (start_of vs b) ≡ first_item (map (λ k. slot_entry es k) vs)
-item-start es b [] s h = item-first es b s
-item-start es b (x ∷ vs) s h = item-real es x (h x (let n = count-here x vs in omega (arith, n)))
 
 -- where a slot's item stands
 pub placed-at : (q k : ℕ) (o : Order) (es : List Entry) → q < QUEUES → IsDistinct (lists_of o es) → 1 ≤ count k (o (suc q)) → queue_holding (slot_item es k) (lists_of o es) ≡ Some q

@@ -42,7 +42,7 @@ times-counted i j n (x ∷ l) =
       | inr e ↦ rw e (omega (arith, h))
     ]
 
-distinct-counted : (i : Item) (n : ℕ) (s : Queues) → IsDistinct s → IsDistinct (after_count i n s)
+pub distinct-counted : (i : Item) (n : ℕ) (s : Queues) → IsDistinct s → IsDistinct (after_count i n s)
 distinct-counted i n s u j = let a = same QUEUES in let b = u j in omega (arith, a, b)
   where
     same : (m : ℕ) → times_below m j (after_count i n s) ≡ times_below m j s

@@ -3,16 +3,16 @@ use Rattle.std.proofs.Common.{◌≡◌, ℕ, suc, zero, ◌+◌, ◌<◌, ◌�
 use Rattle.std.proofs.lemmas.Bool.{cases_eq, ne_eqb, eq-eqb}
 use Rattle.step_record.specs.declared.item.Item.{Item}
 use Rattle.queue_table.specs.declared.records.Entry.{Entry}
-use Rattle.queue_table.specs.Entries.{is_same_item, first_item, last_item, before, behind}
+use Rattle.queue_table.specs.Entries.{is_same_item, last_item, before}
 use Rattle.queue_table.specs.Queues.{QUEUES, queue_holding, place_in, IsDistinct}
 use Rattle.queue_table.specs.declared.slot.Slot.{Slot}
 use Rattle.queue_table.specs.Ring.{entries, olders, newers, tags, slot_entry, slot_item, count, IsLinked, IsRing, put_before, SECTIONS, FIRST, Order, ring, ring_from, used, used_below, order_of, order_without, sent, lists_of, tag_at, item_or, IsQueued}
 use Rattle.step_record.specs.Keys.{keys_without}
-use Rattle.queue_table.proofs.Splices.{count-append, linked-split, older-end, newer-start, end_of, start_of}
+use Rattle.queue_table.proofs.Splices.{count-append, linked-split, older-end, end_of}
 use Rattle.queue_table.proofs.Turning.{IsSplit, split_at, turned}
 use Rattle.queue_table.proofs.Sections.{gone, count-without}
 use Rattle.queue_table.proofs.Orders.{IsOnce, section-few, used-real, count-parts-ring, section-used, order-is, count-put, with-same, with-other, short-sent}
-use Rattle.queue_table.proofs.Contents.{alone, before-map, behind-map, item-end, item-start, placed-at}
+use Rattle.queue_table.proofs.Contents.{alone, before-map, item-end, placed-at}
 
 linked-from : (n k s : ℕ) (ns os : List ℕ) (o : Order) (b : ℕ) → IsLinked ns os k (ring_from n k o) b → k ≤ s → s < k + n → IsLinked ns os s (o s) (suc s)
 linked-from zero k s ns os o b h u w = absurd (omega (arith, u, w))
@@ -35,7 +35,7 @@ module _ (slots : List Slot) (o : Order) (h : IsQueued slots o) where
 
   -- the place of a slot in use, from its links
   place-links : (q k : ℕ) → q < QUEUES → 1 ≤ count k (o (suc q)) →
-      Some record { queue = q; older = item_or (entries slots) (get_or (olders slots) k 0); newer = item_or (entries slots) (get_or (newers slots) k 0) } ≡ place_in (slot_item (entries slots) k) (lists_of o (entries slots))
+      Some record { queue = q; older = item_or (entries slots) (get_or (olders slots) k 0) } ≡ place_in (slot_item (entries slots) k) (lists_of o (entries slots))
   place-links q k w n =
       let once : IsOnce o = h.linked.once in
       let its : List Entry = entries slots in
@@ -46,10 +46,8 @@ module _ (slots : List Slot) (o : Order) (h : IsQueued slots o) where
       let links : IsLinked (newers slots) (olders slots) (suc q) (s.front ++ k ∷ s.back) (suc (suc q)) = subst (λ (l : List ℕ). IsLinked (newers slots) (olders slots) (suc q) l (suc (suc q))) s.whole (linked-section (suc q) (newers slots) (olders slots) o (omega (arith, w)) h.linked.linked) in
       let parts = linked-split (newers slots) (olders slots) (suc q) s.front k s.back (suc (suc q)) links in
       let oe : get_or (olders slots) k 0 ≡ end_of (suc q) s.front = older-end (newers slots) (olders slots) (suc q) s.front k parts.0 in
-      let ns : get_or (newers slots) k 0 ≡ start_of s.back (suc (suc q)) = newer-start (newers slots) (olders slots) k s.back (suc (suc q)) parts.1 in
       let split_count : (j : ℕ) → count j (o (suc q)) ≡ count j s.front + (cond (eqb j k) 1 0 + count j s.back) = λ j. ap (count j) s.whole ∙ count-append j s.front (k ∷ s.back) in
       let in_front : (j : ℕ) → 1 ≤ count j s.front → 1 ≤ count j (used o) = λ j m. section-used q j o w (let c = split_count j in omega (arith, c, m)) in
-      let in_back : (j : ℕ) → 1 ≤ count j s.back → 1 ≤ count j (used o) = λ j m. section-used q j o w (let c = split_count j in omega (arith, c, m)) in
       let other : (j : ℕ) → 1 ≤ count j s.front → is_same_item i (f j).item ≡ false = λ j m. (
       let a = alone o its k j h.distinct (section-used q k o w n) (in_front j m) in
       let d : k ≡ j → ⊥ = λ e. (let c = split_count k in let c2 = rw (eq-eqb k k refl) at c in let x = section-few (suc q) o k (omega (arith, w)) once in let y = ap (λ z. count z s.front) e in omega (arith, c2, x, y, m)) in
@@ -57,9 +55,7 @@ module _ (slots : List Slot) (o : Order) (h : IsQueued slots o) where
       let qe : lists_of o its q ≡ map f (s.front ++ k ∷ s.back) = ap (map f) s.whole in
       let older : item_or its (get_or (olders slots) k 0) ≡ last_item (before i (lists_of o its q)) =
       ap (item_or its) oe ∙ (item-end its (suc q) s.front (omega (arith, w)) (λ j m. used-real o j once (in_front j m)) ∙ sym (ap (λ (l : List Entry). last_item (before i l)) qe ∙ ap last_item (before-map f k s.front s.back other))) in
-      let newer : item_or its (get_or (newers slots) k 0) ≡ first_item (behind i (lists_of o its q)) =
-      ap (item_or its) ns ∙ (item-start its (suc (suc q)) s.back (omega (arith, w)) (λ j m. used-real o j once (in_back j m)) ∙ sym (ap (λ (l : List Entry). first_item (behind i l)) qe ∙ ap first_item (behind-map f k s.front s.back other))) in
-      rw (p, older, newer) refl
+      rw (p, older) refl
 
 -- where a slot is in use
 pub data StandsIn (k n : ℕ) (o : Order) : Type 0 where
@@ -98,14 +94,14 @@ module _ (slots : List Slot) (o : Order) (h : IsQueued slots o) (k : ℕ) (n : 1
       at_queue : StandsIn k QUEUES o → 1 ≤ count k (o (suc (tag_at (tags slots) k)))
       at_queue (stands q w m) = subst (λ r. 1 ≤ count k (o (suc r))) (sym (h.tagged q k m)) m
 
-  pub links-within : (get_or (olders slots) k 0 < length (newers slots)) × (get_or (newers slots) k 0 < length (newers slots))
-  links-within =
+  pub older-within : get_or (olders slots) k 0 < length (newers slots)
+  older-within =
       let r : FIRST ≤ k = used-real o k h.linked.once n in
       let w = used-within slots o h k n in
       let t = turned (newers slots) (olders slots) (ring o) k 0 h.linked (omega (arith, r)) w (omega (arith, w)) (λ e. omega (arith, r, e)) in
-      (t.older_in, t.newer_in)
+      t.older_in
 
-  pub place-read : Some record { queue = tag_at (tags slots) k; older = item_or (entries slots) (get_or (olders slots) k 0); newer = item_or (entries slots) (get_or (newers slots) k 0) } ≡ place_in (slot_item (entries slots) k) (lists_of o (entries slots))
+  pub place-read : Some record { queue = tag_at (tags slots) k; older = item_or (entries slots) (get_or (olders slots) k 0) } ≡ place_in (slot_item (entries slots) k) (lists_of o (entries slots))
   place-read = place-links slots o h (tag_at (tags slots) k) k tag-low tag-stands
 
 -- which slots stand in a section once one was sent

@@ -62,6 +62,14 @@ ring-length o =
     let f = length-append (o 5) (6 ∷ ring_from 0 6 o) in
     omega (arith, a, b, c, d, e, f)
 
+-- the slot that stands before a queue is there
+pub before-within : (slots : List Slot) → IsQueued slots (order_of slots) → (q : ℕ) → q < QUEUES → suc q < length slots
+before-within slots h q w =
+    let long = h.linked.long in
+    let size = slots-length slots in
+    let parts = ring-length (order_of slots) in
+    omega (arith, long, size, parts, w)
+
 -- all slots in sections are fewer than the slots
 sections-few : (slots : List Slot) (index : SlotIndex) (n : Lengths) → IsKept slots index n → (let o = order_of slots in length (o 0) + (length (o 1) + (length (o 2) + (length (o 3) + (length (o 4) + length (o 5))))) < 2 ^ 32)
 sections-few [] index n k =

@@ -24,3 +24,6 @@ pub mod Kept
 pub mod Renewing
 pub mod Counting
 pub mod Reading
+pub mod Cutting
+pub mod Staying
+pub mod MoveBack

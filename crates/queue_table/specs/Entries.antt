@@ -45,11 +45,6 @@ newest_from found (e ∷ l) = newest_from (Some e) l
 abbrev pub newest_of : List Entry → Option Entry
 newest_of l = newest_from None l
 
--- the oldest item
-abbrev pub first_item : List Entry → Option Item
-first_item [] = None
-first_item (e ∷ l) = Some e.item
-
 -- the newest item, or what was found before where there is none
 abbrev pub last_from : Option Item → List Entry → Option Item
 last_from found [] = found
@@ -64,18 +59,12 @@ abbrev pub before : Item → List Entry → List Entry
 before i [] = []
 before i (e ∷ l) = cond (is_same_item i e.item) [] (e ∷ before i l)
 
--- what stands after the item
-abbrev pub behind : Item → List Entry → List Entry
-behind i [] = []
-behind i (e ∷ l) = cond (is_same_item i e.item) l (behind i l)
-
--- older and newer stand side by side: the list ends before the one and begins with the other where it is cut in two
-pub record IsGap (older newer : Option Item) (l : List Entry) : Type 0 where
+-- the older neighbour of a place stands there: the list may be cut right after it, in front of all where there is none
+pub record IsGap (older : Option Item) (l : List Entry) : Type 0 where
   pub before : List Entry
   pub behind : List Entry
   pub whole : l ≡ before ++ behind
   pub older_last : last_item before ≡ older
-  pub newer_first : first_item behind ≡ newer
 
 -- the entry put right after its older neighbour, in front of all where there is none
 abbrev pub put_behind : Option Item → Entry → List Entry → List Entry

@@ -1,14 +1,15 @@
 -- Slots, index and lengths together, and what the calls of the table see of them.
-use Rattle.std.specs.Prelude.{◌≡◌, ℕ, suc, zero, ◌+◌, ◌*◌, ◌^◌, ◌<◌, ◌≤◌, Option, List, [], ◌∷◌, length, slice_index}
+use Rattle.std.specs.Prelude.{◌≡◌, ℕ, suc, zero, ◌+◌, ◌*◌, ◌^◌, ◌<◌, ◌≤◌, Option, List, [], ◌∷◌, ◌++◌, map, length}
+use Rattle.std.specs.Prelude.{slice_index, slice_index_or, false}
 use Rattle.step_record.specs.declared.item.Item.{Item}
 use Rattle.queue_table.specs.declared.records.Entry.{Entry}
 use Rattle.queue_table.specs.declared.lengths.Lengths.{Lengths}
 use Rattle.queue_table.specs.declared.slot.Slot.{Slot}
-use Rattle.queue_table.specs.Entries.{IsGap}
+use Rattle.queue_table.specs.Entries.{is_same_item, last_item}
 use Rattle.queue_table.specs.Queues.{Queues}
-use Rattle.queue_table.specs.Ring.{entries, count, SECTIONS, FIRST, Order, used, order_of, lists_of, lists}
+use Rattle.queue_table.specs.Ring.{entries, count, SECTIONS, FIRST, Order, used, order_of, lists}
 use Rattle.queue_table.specs.Ring.{slot_entry, slot_item}
-use Rattle.queue_table.specs.Ring.{IsNewer, IsQueued}
+use Rattle.queue_table.specs.Ring.{IsQueued}
 use Rattle.queue_table.specs.declared.slot_index.SlotIndex.{SlotIndex}
 use Rattle.queue_table.specs.Index.{capacity, IsIndexed}
 
@@ -27,6 +28,20 @@ IsUsed at slots = 1 ≤ count at (used (order_of slots))
 -- the entry of a slot
 abbrev pub entry_at : ℕ → List Slot → Entry
 entry_at at slots = slot_entry (entries slots) at
+
+-- the slot is in use and has the entry
+pub record HoldsAt (at : ℕ) (e : Entry) (slots : List Slot) : Type 0 where
+  pub used : IsUsed at slots
+  pub entry : entry_at at slots ≡ e
+
+-- each slot in use stays so, with its entry
+abbrev pub KeepsSlots : List Slot → List Slot → Type 0
+KeepsSlots old new = (at : ℕ) (e : Entry) → HoldsAt at e old → HoldsAt at e new
+
+-- each slot in use that has another item stays so, with its entry
+abbrev pub KeepsOthers : Item → List Slot → List Slot → Type 0
+KeepsOthers i old new =
+    (at : ℕ) (e : Entry) → HoldsAt at e old → is_same_item e.item i ≡ false → HoldsAt at e new
 
 -- how many slots stand in each section
 abbrev pub IsCounted : Lengths → Order → Type 0
@@ -69,10 +84,13 @@ pub record IsSlotOf (at : ℕ) (i : Item) (slots : List Slot) : Type 0 where
   pub used : 1 ≤ count at (used (order_of slots))
   pub item : slot_item (entries slots) at ≡ i
 
--- the two items stand side by side in a queue of the order, and the slot is that of the newer one, or none of the queue
-pub record IsBehind (b q : ℕ) (older newer : Option Item) (slots : List Slot) (o : Order) : Type 0 where
-  pub gap : IsGap older newer (lists_of o (entries slots) q)
-  pub slot : IsNewer (λ k. slot_item (entries slots) k) newer b (o (suc q))
+-- the slots may be cut right after that of the older item, and b is the next one, or the one that closes queue q
+pub record IsBehind (b q : ℕ) (older : Option Item) (entries : List Entry) (l : List ℕ) : Type 0 where
+  pub front : List ℕ
+  pub back : List ℕ
+  pub whole : l ≡ front ++ back
+  pub older_last : last_item (map (λ k. slot_entry entries k) front) ≡ older
+  pub next : slice_index_or back 0 (suc (suc q)) ≡ b
 
 -- the slots before and after the first ones are made
 pub record IsSame (old new : List Slot) : Type 0 where

@@ -4,8 +4,7 @@ use Rattle.std.specs.Prelude.{length}
 use Rattle.step_record.specs.declared.item.Item.{Item}
 use Rattle.queue_table.specs.declared.records.Entry.{Entry}
 use Rattle.queue_table.specs.declared.records.Place.{Place}
-use Rattle.queue_table.specs.Entries.{occurrences, entries_without, entries_counted, last_item, first_item, before}
-use Rattle.queue_table.specs.Entries.{behind, put_behind}
+use Rattle.queue_table.specs.Entries.{occurrences, entries_without, entries_counted, last_item, before, put_behind}
 
 -- how many queues there are; those from QUEUES on are empty
 abbrev pub QUEUES : ℕ
@@ -65,11 +64,10 @@ after_count i n s j = entries_counted i n (s j)
 abbrev pub after_return : ℕ → Option Item → Entry → Queues → Queues
 after_return q older e s = with_queue q (put_behind older e (s q)) s
 
--- the place of the item, by the items next to it
+-- the place of the item, by the item right before it
 abbrev pub place_at : Item → Option ℕ → Queues → Option Place
 place_at i None s = None
-place_at i (Some q) s =
-    Some record { queue = q; older = last_item (before i (s q)); newer = first_item (behind i (s q)) }
+place_at i (Some q) s = Some record { queue = q; older = last_item (before i (s q)) }
 
 abbrev pub place_in : Item → Queues → Option Place
 place_in i s = place_at i (queue_holding i s) s

@@ -179,7 +179,7 @@ last_after found (x ∷ l) = last_after (Some x) l
 abbrev pub last_of : List ℕ → Option ℕ
 last_of l = last_after None l
 
--- b is the slot of the newer neighbour in the list, or no slot of it where there is none
-abbrev pub IsNewer : (ℕ → Item) → Option Item → ℕ → List ℕ → Type 0
-IsNewer f None b l = count b l ≡ 0
-IsNewer f (Some n) b l = (1 ≤ count b l) × (f b ≡ n)
+-- the slot after another one, where one slot is left out
+abbrev pub next_but : List ℕ → ℕ → ℕ → ℕ
+next_but newers at but =
+    cond (eqb (slice_index newers at) but) (slice_index newers (slice_index newers at)) (slice_index newers at)

@@ -3,7 +3,8 @@
 //!
 //! Layers above see a [`QueueTable`] as a list of entries for each of its queues, oldest first, and the room that is
 //! left. Each call leaves the lists that its contract names; one that takes an item out of its place says where it
-//! stood, by the two items next to it, so that it can go back.
+//! stood, by the item right before it, so that it can go back. The slots of other items stay in use, so that a caller
+//! may hold them.
 //!
 //! Only `list` walks a queue: the items stand in slots that are linked into one ring, and a hash index whose buckets
 //! are search trees finds the slot of an item, in 129 slots at most whatever the keys. Only `reserve` and `list`

@@ -15,7 +15,7 @@ ghost use Rattle.std.specs.Prelude.{◌≡◌, ◌≢◌, ◌<◌, ◌≤◌, su
 ghost use Rattle.queue_table.specs.Queues.{QUEUES, place_in};
 ghost use Rattle.queue_table.specs.Ring.{slot_item, count, walk, IsRing, ring_of, moved_before, ring, used};
 ghost use Rattle.queue_table.specs.Ring.{FIRST, order_of, order_without, sent, lists, item_or, first_of, last_of};
-ghost use Rattle.queue_table.specs.Ring.{IsPlace, IsQueued, entries, olders, newers, tags, ChangesOnlyLinks};
+ghost use Rattle.queue_table.specs.Ring.{IsPlace, IsQueued, entries, olders, newers, next_but, tags, ChangesOnlyLinks};
 
 use crate::records::Place;
 use crate::slot::{Slot, set_newer, set_older, set_queue};
@@ -79,7 +79,7 @@ fn move_before(slots: &mut [Slot], at: u32, before: u32)
 
 /// The slot that stands before the queue.
 #[inline(always)]
-fn slot_before(queue: u8) -> u32
+pub(crate) fn slot_before(queue: u8) -> u32
     requires { queue < QUEUES }
     ensures { result ≡ suc queue }
 {
@@ -125,6 +125,20 @@ pub(crate) fn newest_slot(slots: &[Slot], queue: u8) -> u32
     ensures { last_of (order_of slots.now (suc queue)) ≡ Some result }
 {
     slots[slot_behind(queue) as usize].older
+}
+
+/// The slot after another one, `but` left out.
+#[inline(always)]
+pub(crate) fn next_slot(slots: &[Slot], at: u32, but: u32) -> u32
+    requires ring { IsRing (newers slots.now) (olders slots.now) (ring (order_of slots.now)) }
+    requires at { at < length slots.now }
+    ensures { result ≡ next_but (newers slots.now) at but }
+{
+    let newer = slots[at as usize].newer;
+    if newer == but {
+        return slots[newer as usize].newer;
+    }
+    newer
 }
 
 /// The items of so many slots from the one that stands before the queue on.
@@ -186,7 +200,7 @@ pub(crate) fn release(slots: &mut [Slot], at: u32)
     move_before(slots, at, 1);
 }
 
-/// Where the item of a slot in use stands, by the items next to it.
+/// Where the item of a slot in use stands, by the item right before it.
 #[inline(always)]
 pub(crate) fn place_of_slot(slots: &[Slot], at: u32) -> Place
     requires queued { IsQueued slots.now (order_of slots.now) }
@@ -199,6 +213,5 @@ pub(crate) fn place_of_slot(slots: &[Slot], at: u32) -> Place
     Place {
         queue: slot.queue,
         older: item_of(slots, slot.older),
-        newer: item_of(slots, slot.newer),
     }
 }

@@ -6,13 +6,15 @@ ghost use Rattle.step_record.specs.declared.item.Item.{Item};
 ghost use Rattle.queue_table.specs.Entries.{entry, items_of, oldest_of, newest_of, IsGap};
 ghost use Rattle.queue_table.specs.Queues.{QUEUES, empty_queues, queue_holding, items_below, place_in, IsDistinct};
 ghost use Rattle.queue_table.specs.Queues.{after_push, after_removal, after_send, after_count, after_return};
-ghost use Rattle.queue_table.specs.Ring.{order_of, order_without, IsPlace, IsQueued};
+ghost use Rattle.queue_table.specs.Ring.{entries, lists_of, order_of, order_without, IsPlace, IsQueued};
 ghost use Rattle.queue_table.specs.QueueTable.{queues, spare, entry_at, IsUsed, IsBehind, IsSlotOf};
+ghost use Rattle.queue_table.specs.QueueTable.{KeepsSlots, KeepsOthers};
 
 use crate::growth::grow;
 use crate::lengths::{Lengths, SECTIONS, section};
 use crate::links::{
-    items_in, newest_free, newest_slot, oldest_slot, place_of_slot, release, send, slot_behind,
+    items_in, newest_free, newest_slot, next_slot, oldest_slot, place_of_slot, release, send,
+    slot_before, slot_behind,
 };
 use crate::records::{Entry, Found, Place};
 use crate::slot::{RingItems, Slot, set_count, set_entry};
@@ -232,20 +234,33 @@ impl QueueTable {
         place_of_slot(&self.slots, at)
     }
 
-    // The slot after a place: that of its newer neighbour, or the one that closes the queue.
-    fn slot_at_place(&self, place: Place) -> u32
-        requires { place.queue < QUEUES }
-        ensures last { place.newer ≡ None → result ≡ suc (suc place.queue) }
-        ensures newer { (n : Item) → place.newer ≡ Some n → queue_holding n (queues self.now) ≢ None
-            → IsSlotOf result n self.now }
-        // Of every table with slots: they are linked in their order.
-        ensures queued { 0 < length self.now → IsQueued self.now (order_of self.now) }
+    // The slot before a place: that of its older neighbour, or the one that stands before the queue.
+    fn older_slot(&self, place: Place) -> u32
+        requires queue { place.queue < QUEUES }
+        requires some { 0 < length self.now }
+        ensures within { result < length self.now }
+        ensures none { place.older ≡ None → result ≡ suc place.queue }
+        ensures older { (i : Item) → place.older ≡ Some i → queue_holding i (queues self.now) ≢ None
+            → IsSlotOf result i self.now }
     {
         let _ = &self.slots;
-        let Some(newer) = place.newer else {
-            return slot_behind(place.queue);
+        let Some(older) = place.older else {
+            return slot_before(place.queue);
         };
-        self.find_slot(newer).unwrap_or(slot_behind(place.queue))
+        self.find_slot(older).unwrap_or(slot_before(place.queue))
+    }
+
+    // The slot after a place in its queue, `but` left out. Slot 0 stands in no queue.
+    fn slot_at_place(&self, place: Place, but: u32) -> u32
+        requires queue { place.queue < QUEUES }
+        requires some { 0 < length self.now }
+        ensures queued { IsQueued self.now (order_of self.now) }
+        ensures behind { but ≢ suc (suc place.queue)
+            → IsGap place.older (lists_of (order_without but (order_of self.now)) (entries self.now) place.queue)
+            → IsBehind result place.queue place.older (entries self.now)
+            (order_without but (order_of self.now) (suc place.queue)) }
+    {
+        next_slot(&self.slots, self.older_slot(place), but)
     }
 
     // Puts an entry whose item is not there into a free slot, and the slot before another one of a queue.
@@ -258,8 +273,10 @@ impl QueueTable {
         ensures distinct { IsDistinct (queues self.old) }
         ensures spare { spare self.new + 1 ≡ spare self.old }
         ensures recent { before ≡ suc (suc queue) → queues self.new ≡ after_push queue entry (queues self.old) }
-        ensures back { (older newer : Option Item) → IsBehind before queue older newer self.old (order_of self.old)
+        ensures back { (older : Option Item)
+            → IsBehind before queue older (entries self.old) (order_of self.old (suc queue))
             → queues self.new ≡ after_return queue older entry (queues self.old) }
+        ensures others { KeepsSlots self.old self.new }
     {
         let slots: &mut [Slot] = &mut self.slots;
         let at = newest_free(slots);
@@ -280,10 +297,11 @@ impl QueueTable {
         ensures place { Some result ≡ place_in (entry_at at self.old).item (queues self.old) }
         ensures recent { before ≡ suc (suc queue)
             → queues self.new ≡ after_send (entry (entry_at at self.old).item count) queue (queues self.old) }
-        ensures back { (older newer : Option Item) → IsBehind before queue older newer self.old
-            (order_without at (order_of self.old))
+        ensures back { (older : Option Item)
+            → IsBehind before queue older (entries self.old) (order_without at (order_of self.old) (suc queue))
             → queues self.new ≡ after_return queue older (entry (entry_at at self.old).item count)
             (after_removal (entry_at at self.old).item (queues self.old)) }
+        ensures others { KeepsOthers (entry_at at self.old).item self.old self.new }
     {
         let slots: &mut [Slot] = &mut self.slots;
         let from = place_of_slot(slots, at);
@@ -301,6 +319,7 @@ impl QueueTable {
         requires absent { queue_holding entry.item (queues self.old) ≡ None }
         ensures queues { queues self.new ≡ after_push queue entry (queues self.old) }
         ensures spare { spare self.new + 1 ≡ spare self.old }
+        ensures others { KeepsSlots self.old self.new }
         // Of every table: no item stands twice.
         ensures distinct { IsDistinct (queues self.old) }
     {
@@ -312,13 +331,14 @@ impl QueueTable {
         requires queue { place.queue < QUEUES }
         requires room { 1 ≤ spare self.old }
         requires absent { queue_holding entry.item (queues self.old) ≡ None }
-        requires gap { IsGap place.older place.newer (queues self.old place.queue) }
+        requires gap { IsGap place.older (queues self.old place.queue) }
         ensures queues { queues self.new ≡ after_return place.queue place.older entry (queues self.old) }
         ensures spare { spare self.new + 1 ≡ spare self.old }
+        ensures others { KeepsSlots self.old self.new }
         // Of every table: no item stands twice.
         ensures distinct { IsDistinct (queues self.old) }
     {
-        let before = self.slot_at_place(place);
+        let before = self.slot_at_place(place, 0);
         self.put(entry, place.queue, before);
     }
 
@@ -331,6 +351,7 @@ impl QueueTable {
         ensures low { result.queue < QUEUES }
         ensures place { Some result ≡ place_in (entry_at at self.old).item (queues self.old) }
         ensures spare { spare self.new ≡ spare self.old }
+        ensures others { KeepsOthers (entry_at at self.old).item self.old self.new }
     {
         self.shift(at, queue, slot_behind(queue), count)
     }
@@ -339,13 +360,32 @@ impl QueueTable {
     pub fn send_to(&mut self, at: u32, place: Place, count: u8)
         requires queue { place.queue < QUEUES }
         requires used { IsUsed at self.old }
-        requires gap { IsGap place.older place.newer (after_removal (entry_at at self.old).item (queues self.old) place.queue) }
+        requires gap { IsGap place.older (after_removal (entry_at at self.old).item (queues self.old) place.queue) }
         ensures queues { queues self.new ≡ after_return place.queue place.older (entry (entry_at at self.old).item count)
             (after_removal (entry_at at self.old).item (queues self.old)) }
         ensures spare { spare self.new ≡ spare self.old }
+        ensures others { KeepsOthers (entry_at at self.old).item self.old self.new }
     {
-        let before = self.slot_at_place(place);
+        let before = self.slot_at_place(place, at);
         let _ = self.shift(at, place.queue, before, count);
+    }
+
+    /// Takes an entry back to a place, from the queue in which its item stands, or from nowhere. It requires room, and
+    /// takes room for one, where the item stands nowhere.
+    pub fn put_back(&mut self, place: Place, entry: Entry)
+        requires queue { place.queue < QUEUES }
+        requires room { queue_holding entry.item (queues self.old) ≡ None → 1 ≤ spare self.old }
+        requires gap { IsGap place.older (after_removal entry.item (queues self.old) place.queue) }
+        ensures queues { queues self.new ≡ after_return place.queue place.older entry
+            (after_removal entry.item (queues self.old)) }
+        ensures spare { spare self.old ≤ spare self.new + 1 }
+        ensures stood { queue_holding entry.item (queues self.old) ≢ None → spare self.old ≤ spare self.new }
+        ensures others { KeepsOthers entry.item self.old self.new }
+    {
+        match self.find(entry.item) {
+            Some(found) => self.send_to(found.at, place, entry.count),
+            None => self.insert(place, entry),
+        }
     }
 
     /// Gives a slot an entry whose item stands in no queue, and takes it to the recent end of a queue. Says where the
@@ -359,6 +399,7 @@ impl QueueTable {
         ensures low { result.queue < QUEUES }
         ensures place { Some result ≡ place_in (entry_at at self.old).item (queues self.old) }
         ensures spare { spare self.new ≡ spare self.old }
+        ensures others { KeepsOthers (entry_at at self.old).item self.old self.new }
     {
         let slots: &mut [Slot] = &mut self.slots;
         let from = place_of_slot(slots, at);
@@ -379,6 +420,7 @@ impl QueueTable {
         ensures low { result.queue < QUEUES }
         ensures place { Some result ≡ place_in (entry_at at self.old).item (queues self.old) }
         ensures spare { spare self.new ≡ spare self.old + 1 }
+        ensures others { KeepsOthers (entry_at at self.old).item self.old self.new }
     {
         let slots: &mut [Slot] = &mut self.slots;
         let from = place_of_slot(slots, at);
@@ -395,6 +437,7 @@ impl QueueTable {
         requires used { IsUsed at self.old }
         ensures queues { queues self.new ≡ after_count (entry_at at self.old).item count (queues self.old) }
         ensures spare { spare self.new ≡ spare self.old }
+        ensures others { KeepsOthers (entry_at at self.old).item self.old self.new }
     {
         let slots: &mut [Slot] = &mut self.slots;
         set_count(slots, at as usize, count);

@@ -10,15 +10,13 @@ pub struct Entry {
     pub count: u8,
 }
 
-/// A place in a queue, named by the items that stand next to it: `None` at an end of the queue.
+/// A place in a queue, named by the item that stands right before it.
 #[derive(Clone, Copy)]
 pub struct Place {
     /// The number of the queue.
     pub queue: u8,
-    /// The item right before the place, towards the oldest end.
+    /// The item right before the place, towards the oldest end: `None` where the place is the old end of the queue.
     pub older: Option<Item>,
-    /// The item right after the place, towards the recent end.
-    pub newer: Option<Item>,
 }
 
 /// An item that stands in a queue: its slot, its queue and its count.

@@ -32,20 +32,16 @@ abbrev pub older_in : Option QueuePlace → Option Item
 older_in None = None
 older_in (Some p) = p.older
 
-abbrev pub newer_in : Option QueuePlace → Option Item
-newer_in None = None
-newer_in (Some p) = p.newer
-
--- the oldest place of a queue, before the item that is the next
-abbrev pub oldest_place : Option Queue → Option Item → Option QueuePlace
-oldest_place None newer = None
-oldest_place (Some q) newer = Some record { queue = q; older = None; newer = newer }
+-- the oldest place of a queue
+abbrev pub oldest_place : Option Queue → Option QueuePlace
+oldest_place None = None
+oldest_place (Some q) = Some record { queue = q; older = None }
 
 -- the move of an item that was the oldest of its queue, or stood in none; nothing moved from nowhere to nowhere
-abbrev pub oldest_move : Item → Option Queue → Option Item → Option Queue → Option MoveRecord
-oldest_move i None newer None = None
-oldest_move i (Some q) newer None = Some record { item = i; from = oldest_place (Some q) newer; to = None }
-oldest_move i from newer (Some q) = Some record { item = i; from = oldest_place from newer; to = Some q }
+abbrev pub oldest_move : Item → Option Queue → Option Queue → Option MoveRecord
+oldest_move i None None = None
+oldest_move i (Some q) None = Some record { item = i; from = oldest_place (Some q); to = None }
+oldest_move i from (Some q) = Some record { item = i; from = oldest_place from; to = Some q }
 
 -- ---- which moves have a packed form
 
@@ -84,22 +80,20 @@ IsKeepable m = IsFirstMove m.first m.out × IsOldest m.last
 -- ---- what a packed form shows
 
 abbrev pub moves_in : PackedMoves → Moves
-moves_in (Renewed from has_older has_newer to last_from last_has_newer last_to
-    item older newer last last_newer) = record {
-      first = Some record {
-        item = item;
-        from = Some record { queue = from; older = item_if has_older older; newer = item_if has_newer newer };
-        to = queue_at to;
-      };
-      out = None;
-      last = oldest_move last (queue_at last_from) (item_if last_has_newer last_newer) (queue_at last_to);
-    }
-moves_in (Replaced first_to out_from out_has_newer last_from last_has_newer last_to
-    first out out_newer last last_newer) = record {
-      first = oldest_move first None None (queue_at first_to);
-      out = oldest_move out (queue_at out_from) (item_if out_has_newer out_newer) None;
-      last = oldest_move last (queue_at last_from) (item_if last_has_newer last_newer) (queue_at last_to);
-    }
+moves_in (Renewed from has_older to last_from last_to item older last) = record {
+  first = Some record {
+    item = item;
+    from = Some record { queue = from; older = item_if has_older older };
+    to = queue_at to;
+  };
+  out = None;
+  last = oldest_move last (queue_at last_from) (queue_at last_to);
+}
+moves_in (Replaced first_to out_from last_from last_to first out last) = record {
+  first = oldest_move first None (queue_at first_to);
+  out = oldest_move out (queue_at out_from) None;
+  last = oldest_move last (queue_at last_from) (queue_at last_to);
+}
 
 -- It is made of its packed form alone: a further field, which no contract would see, has no place here.
 abbrev pub HoldsPackedMoves : Inside → Type 0

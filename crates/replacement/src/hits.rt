@@ -7,6 +7,7 @@ ghost use Rattle.replacement.specs.PlanMoves.{queues_after_transfer, transfer_re
 ghost use Rattle.replacement.specs.Effects.{IsHit, IsHitBy};
 ghost use Rattle.replacement.specs.KeptMoves.{IsOldest, IsKeepable};
 
+use crate::queue_moves::send_oldest;
 use crate::record::Moves;
 use crate::rules::{HitRule, Rules};
 use segments::{MoveRecord, Queue, Segments};
@@ -82,5 +83,5 @@ fn demote(segments: &mut Segments, size: usize) -> Option<MoveRecord>
     if segments.len(Queue::Protected) <= size {
         return None;
     }
-    segments.send_oldest(Queue::Protected, Queue::Probation)
+    send_oldest(segments, Queue::Protected, Queue::Probation)
 }

@@ -1,7 +1,7 @@
 //! What an access moved, as it is kept until it is undone.
 ghost use Rattle.std.specs.Prelude.{◌≡◌, Option, Some, None};
 ghost use Rattle.replacement.specs.KeptMoves.{queue_at as queue_of_spot, item_if as item_of_flag};
-ghost use Rattle.replacement.specs.KeptMoves.{queue_in, newer_in};
+ghost use Rattle.replacement.specs.KeptMoves.{queue_in};
 ghost use Rattle.replacement.specs.KeptMoves.{oldest_place as oldest_place_of, oldest_move as oldest_move_of};
 ghost use Rattle.replacement.specs.KeptMoves.{IsOldest, IsKeepable, moves_in, target_of};
 
@@ -44,30 +44,22 @@ pub(crate) enum PackedMoves {
     Renewed {
         from: Queue,
         has_older: bool,
-        has_newer: bool,
         to: Spot,
         last_from: Spot,
-        last_has_newer: bool,
         last_to: Spot,
         item: Item,
         older: Item,
-        newer: Item,
         last: Item,
-        last_newer: Item,
     },
     /// A new item came in, or the oldest items of queues moved.
     Replaced {
         first_to: Spot,
         out_from: Spot,
-        out_has_newer: bool,
         last_from: Spot,
-        last_has_newer: bool,
         last_to: Spot,
         first: Item,
         out: Item,
-        out_newer: Item,
         last: Item,
-        last_newer: Item,
     },
 }
 
@@ -100,10 +92,8 @@ impl KeptMoves {
 #[derive(Clone, Copy)]
 struct OldestMove {
     from: Spot,
-    has_newer: bool,
     to: Spot,
     item: Item,
-    newer: Item,
 }
 
 // Stands where there is no item.
@@ -134,25 +124,19 @@ fn renewed(item: Item, place: QueuePlace, to: Option<Queue>, last: OldestMove) -
     ensures { moves_in result ≡ record {
       first = Some record { item = item; from = Some place; to = to };
       out = None;
-      last = oldest_move_of last.item (queue_of_spot last.from)
-          (item_of_flag last.has_newer last.newer) (queue_of_spot last.to);
+      last = oldest_move_of last.item (queue_of_spot last.from) (queue_of_spot last.to);
     } }
 {
     let (has_older, older) = flagged(place.older);
-    let (has_newer, newer) = flagged(place.newer);
     PackedMoves::Renewed {
         from: place.queue,
         has_older,
-        has_newer,
         to: spot_of(to),
         last_from: last.from,
-        last_has_newer: last.has_newer,
         last_to: last.to,
         item,
         older,
-        newer,
         last: last.item,
-        last_newer: last.newer,
     }
 }
 
@@ -160,24 +144,19 @@ fn renewed(item: Item, place: QueuePlace, to: Option<Queue>, last: OldestMove) -
 #[inline(always)]
 fn replaced(first: OldestMove, out: OldestMove, last: OldestMove) -> PackedMoves
     ensures { moves_in result ≡ record {
-      first = oldest_move_of first.item None None (queue_of_spot first.to);
-      out = oldest_move_of out.item (queue_of_spot out.from) (item_of_flag out.has_newer out.newer) None;
-      last = oldest_move_of last.item (queue_of_spot last.from)
-          (item_of_flag last.has_newer last.newer) (queue_of_spot last.to);
+      first = oldest_move_of first.item None (queue_of_spot first.to);
+      out = oldest_move_of out.item (queue_of_spot out.from) None;
+      last = oldest_move_of last.item (queue_of_spot last.from) (queue_of_spot last.to);
     } }
 {
     PackedMoves::Replaced {
         first_to: first.to,
         out_from: out.from,
-        out_has_newer: out.has_newer,
         last_from: last.from,
-        last_has_newer: last.has_newer,
         last_to: last.to,
         first: first.item,
         out: out.item,
-        out_newer: out.newer,
         last: last.item,
-        last_newer: last.newer,
     }
 }
 
@@ -185,26 +164,20 @@ fn replaced(first: OldestMove, out: OldestMove, last: OldestMove) -> PackedMoves
 #[inline(always)]
 fn oldest_move(done: Option<MoveRecord>) -> OldestMove
     requires { IsOldest done }
-    ensures shown { oldest_move_of result.item (queue_of_spot result.from) (item_of_flag result.has_newer result.newer)
-        (queue_of_spot result.to) ≡ done }
+    ensures shown { oldest_move_of result.item (queue_of_spot result.from) (queue_of_spot result.to) ≡ done }
     ensures to { queue_of_spot result.to ≡ target_of done }
 {
     let Some(MoveRecord { item, from, to }) = done else {
         return OldestMove {
             from: Spot::Nowhere,
-            has_newer: false,
             to: Spot::Nowhere,
             item: NO_ITEM,
-            newer: NO_ITEM,
         };
     };
-    let (has_newer, newer) = flagged(newer_item(from));
     OldestMove {
         from: spot_of(queue_of_place(from)),
-        has_newer,
         to: spot_of(to),
         item,
-        newer,
     }
 }
 
@@ -215,17 +188,6 @@ fn queue_of_place(place: Option<QueuePlace>) -> Option<Queue>
 {
     match place {
         Some(place) => Some(place.queue),
-        None => None,
-    }
-}
-
-// The item right after a place.
-#[inline(always)]
-fn newer_item(place: Option<QueuePlace>) -> Option<Item>
-    ensures { result ≡ newer_in place }
-{
-    match place {
-        Some(place) => place.newer,
         None => None,
     }
 }
@@ -275,30 +237,21 @@ fn queue_at(spot: Spot) -> Option<Queue>
     }
 }
 
-// The oldest place of a queue, before an item.
+// The oldest place of a queue.
 #[inline(always)]
-fn oldest_place(from: Option<Queue>, newer: Option<Item>) -> Option<QueuePlace>
-    ensures { result ≡ oldest_place_of from newer }
+fn oldest_place(from: Option<Queue>) -> Option<QueuePlace>
+    ensures { result ≡ oldest_place_of from }
 {
     let queue = from?;
-    Some(QueuePlace {
-        queue,
-        older: None,
-        newer,
-    })
+    Some(QueuePlace { queue, older: None })
 }
 
 // The record of a move of an oldest item.
 #[inline(always)]
-fn record_of(
-    item: Item,
-    from: Option<Queue>,
-    newer: Option<Item>,
-    to: Option<Queue>,
-) -> Option<MoveRecord>
-    ensures { result ≡ oldest_move_of item from newer to }
+fn record_of(item: Item, from: Option<Queue>, to: Option<Queue>) -> Option<MoveRecord>
+    ensures { result ≡ oldest_move_of item from to }
 {
-    let place = oldest_place(from, newer);
+    let place = oldest_place(from);
     if from.is_none() && to.is_none() {
         return None;
     }
@@ -318,18 +271,15 @@ fn first_in(packed: PackedMoves) -> Option<MoveRecord>
         PackedMoves::Renewed {
             from,
             has_older,
-            has_newer,
             to,
             item,
             older,
-            newer,
             ..
         } => Some(MoveRecord {
             item,
             from: Some(QueuePlace {
                 queue: from,
                 older: item_if(has_older, older),
-                newer: item_if(has_newer, newer),
             }),
             to: queue_at(to),
         }),
@@ -337,7 +287,7 @@ fn first_in(packed: PackedMoves) -> Option<MoveRecord>
             first_to,
             first,
             ..
-        } => record_of(first, None, None, queue_at(first_to)),
+        } => record_of(first, None, queue_at(first_to)),
     }
 }
 
@@ -348,18 +298,7 @@ fn out_in(packed: PackedMoves) -> Option<MoveRecord>
 {
     match packed {
         PackedMoves::Renewed { .. } => None,
-        PackedMoves::Replaced {
-            out_from,
-            out_has_newer,
-            out,
-            out_newer,
-            ..
-        } => record_of(
-            out,
-            queue_at(out_from),
-            item_if(out_has_newer, out_newer),
-            None,
-        ),
+        PackedMoves::Replaced { out_from, out, .. } => record_of(out, queue_at(out_from), None),
     }
 }
 
@@ -371,24 +310,15 @@ fn last_in(packed: PackedMoves) -> Option<MoveRecord>
     match packed {
         PackedMoves::Renewed {
             last_from,
-            last_has_newer,
             last_to,
             last,
-            last_newer,
             ..
         }
         | PackedMoves::Replaced {
             last_from,
-            last_has_newer,
             last_to,
             last,
-            last_newer,
             ..
-        } => record_of(
-            last,
-            queue_at(last_from),
-            item_if(last_has_newer, last_newer),
-            queue_at(last_to),
-        ),
+        } => record_of(last, queue_at(last_from), queue_at(last_to)),
     }
 }

@@ -132,18 +132,18 @@ pub(crate) fn evict_planned(
         return effect;
     };
     if segments.count() <= rules.capacity {
-        effect.moves.last = Some(send_oldest(segments, Queue::Window, Queue::Probation));
+        effect.moves.last = send_oldest(segments, Queue::Window, Queue::Probation);
         return effect;
     }
     if let Some(victim) = segments.oldest(Queue::Probation) {
         if admits(frequency, candidate.key, victim.key) {
             effect.outcome = Outcome::Evicted(victim.key);
-            effect.moves.out = Some(drop_oldest(segments, Queue::Probation));
-            effect.moves.last = Some(send_oldest(segments, Queue::Window, Queue::Probation));
+            effect.moves.out = drop_oldest(segments, Queue::Probation);
+            effect.moves.last = send_oldest(segments, Queue::Window, Queue::Probation);
             return effect;
         }
     }
     effect.outcome = Outcome::Rejected(candidate.key);
-    effect.moves.out = Some(drop_oldest(segments, Queue::Window));
+    effect.moves.out = drop_oldest(segments, Queue::Window);
     effect
 }

@@ -1,4 +1,4 @@
-//! Single moves in the queues, where the caller knows beforehand that there is an item to move.
+//! Single moves in the queues, as a plan names them.
 ghost use Rattle.std.specs.Prelude.{◌≡◌, ◌≤◌, ◌+◌, Some, None, IsSome};
 ghost use Rattle.segments.specs.Items.{oldest_of};
 ghost use Rattle.segments.specs.Queues.{queue_of, queue_holding, queues_after_move, queues_after_pop, IsDistinct};
@@ -25,22 +25,18 @@ pub(crate) fn join(segments: &mut Segments, queue: Queue, item: Item) -> MoveRec
     segments.push_recent(queue, item)
 }
 
-/// Takes out the oldest item of a queue that is not empty.
+/// Takes out the oldest item of a queue; `None` where it is empty.
 #[inline(always)]
-pub(crate) fn drop_oldest(segments: &mut Segments, queue: Queue) -> MoveRecord
-    requires oldest { IsSome (oldest_of (queue_of queue segments.old.lists)) }
-    requires distinct { IsDistinct segments.old.lists }
+pub(crate) fn drop_oldest(segments: &mut Segments, queue: Queue) -> Option<MoveRecord>
+    requires { IsDistinct segments.old.lists }
     ensures lists { segments.new.lists ≡ removed (oldest_of (queue_of queue segments.old.lists)) segments.old.lists }
     ensures rest { segments.new.lists ≡ queues_after_pop queue segments.old.lists }
-    ensures record { Some result ≡ removal_record (oldest_of (queue_of queue segments.old.lists)) segments.old.lists }
-    ensures drop { IsDrop (Some result) }
+    ensures record { result ≡ removal_record (oldest_of (queue_of queue segments.old.lists)) segments.old.lists }
+    ensures drop { IsDrop result }
     ensures distinct { IsDistinct segments.new.lists }
-    ensures spare { segments.old.spare + 1 ≤ segments.new.spare }
 {
-    match segments.pop_oldest(queue) {
-        Some((_, done)) => done,
-        None => unreachable!(),
-    }
+    let (_, done) = segments.pop_oldest(queue)?;
+    Some(done)
 }
 
 /// Takes out the oldest item of a queue that is not empty, and puts an item that stands in no queue at its recent end.
@@ -69,20 +65,16 @@ pub(crate) fn renew_oldest(
     }
 }
 
-/// Takes the oldest item of a queue that is not empty to the recent end of another.
+/// Takes the oldest item of a queue to the recent end of another; `None` where it is empty.
 #[inline(always)]
-pub(crate) fn send_oldest(segments: &mut Segments, from: Queue, to: Queue) -> MoveRecord
-    requires oldest { IsSome (oldest_of (queue_of from segments.old.lists)) }
-    requires distinct { IsDistinct segments.old.lists }
+pub(crate) fn send_oldest(segments: &mut Segments, from: Queue, to: Queue) -> Option<MoveRecord>
+    requires { IsDistinct segments.old.lists }
     ensures lists { segments.new.lists
         ≡ queues_after_transfer (transfer to (oldest_of (queue_of from segments.old.lists))) segments.old.lists }
-    ensures record { Some result
+    ensures record { result
         ≡ transfer_record (transfer to (oldest_of (queue_of from segments.old.lists))) segments.old.lists }
-    ensures oldest { IsOldest (Some result) }
+    ensures oldest { IsOldest result }
     ensures spare { segments.old.spare ≤ segments.new.spare }
 {
-    match segments.send_oldest(from, to) {
-        Some(done) => done,
-        None => unreachable!(),
-    }
+    segments.send_oldest(from, to)
 }

@@ -9,7 +9,7 @@ use Rattle.queue_table.specs.Entries.{items_of}
 use Rattle.queue_table.specs.Queues as ByNumber
 use Rattle.segments.specs.declared.records.Queue.{Queue}
 use Rattle.segments.specs.declared.records.Queue.TheVariants.{Window, Probation, Protected}
-use Rattle.segments.specs.Items.{is_same_item, occurrences, items_without, oldest_of, last_from, last_item, before, behind, IsGap, put_behind}
+use Rattle.segments.specs.Items.{is_same_item, occurrences, items_without, oldest_of, last_from, last_item, before, IsGap, put_behind}
 use Rattle.segments.specs.Queues.{queue_of, with_queue, queue_holding, IsDistinct, queues_after_push, queues_without}
 use Rattle.segments.specs.Moves.{item_place}
 use Rattle.segments.proofs.QueueLists.{absent}
@@ -46,21 +46,9 @@ items-before i (e ∷ l) =
       | inr h ↦ rw h (ap (λ t. e.item ∷ t) (items-before i l))
     ]
 
-items-behind : (i : Item) (l : List Entry) → items_of (Entries.behind i l) ≡ behind i (items_of l)
-items-behind i [] = refl
-items-behind i (e ∷ l) =
-    elim (cases_Bool (is_same_item i e.item)) as (λ _. items_of (cond (is_same_item i e.item) l (Entries.behind i l)) ≡ cond (is_same_item i e.item) (items_of l) (behind i (items_of l))) [
-      | inl h ↦ rw h refl
-      | inr h ↦ rw h (items-behind i l)
-    ]
-
 last-is : (found : Option Item) (l : List Entry) → Entries.last_from found l ≡ last_from found (items_of l)
 last-is found [] = refl
 last-is found (e ∷ l) = last-is (Some e.item) l
-
-first-is : (l : List Entry) → Entries.first_item l ≡ oldest_of (items_of l)
-first-is [] = refl
-first-is (e ∷ l) = refl
 
 times-is : (i : Item) (l : List Entry) → occurrences i (items_of l) ≡ Entries.occurrences i l
 times-is i [] = refl
@@ -107,15 +95,14 @@ with-named Protected l s = refl
 pub first-named : (q : Queue) (e : Entry) (s : ByNumber.Queues) → Entries.oldest_of (s (number_of q)) ≡ Some e → oldest_of (queue_of q (named s)) ≡ Some e.item
 first-named q e s h = ap oldest_of (sym (queue-named q s)) ∙ oldest-is (s (number_of q)) e h
 
-pub gap-numbered : (q : Queue) (older newer : Option Item) (s : ByNumber.Queues) → IsGap older newer (queue_of q (named s)) → Entries.IsGap older newer (s (number_of q))
-gap-numbered q older newer s g =
+pub gap-numbered : (q : Queue) (older : Option Item) (s : ByNumber.Queues) → IsGap older (queue_of q (named s)) → Entries.IsGap older (s (number_of q))
+gap-numbered q older s g =
     let c : IsCut (s (number_of q)) g.before g.behind = cut (s (number_of q)) g.before g.behind (queue-named q s ∙ g.whole) in
     record {
       before = c.before;
       behind = c.behind;
       whole = c.whole;
       older_last = last-is None c.before ∙ (ap last_item c.items_before ∙ g.older_last);
-      newer_first = first-is c.behind ∙ (ap oldest_of c.items_behind ∙ g.newer_first);
     }
 
 -- the queues
@@ -218,11 +205,10 @@ missing-numbered i s h e =
 place-at : (i : Item) (p : Place) (o : Option ℕ) (q : Option Queue) (s : ByNumber.Queues) → IsShown o q → Some p ≡ ByNumber.place_at i o s → Some (named_place p) ≡ item_place i q (named s)
 place-at i p o q s nowhere h = absurd (cc h)
 place-at i p o q s (in_queue x) h =
-    let here : Place = record { queue = number_of x; older = Entries.last_item (Entries.before i (s (number_of x))); newer = Entries.first_item (Entries.behind i (s (number_of x))) } in
+    let here : Place = record { queue = number_of x; older = Entries.last_item (Entries.before i (s (number_of x))) } in
     let same : p ≡ here = cc in
     let older : here.older ≡ last_item (before i (queue_of x (named s))) = last-is None (Entries.before i (s (number_of x))) ∙ ap last_item (items-before i (s (number_of x)) ∙ ap (before i) (queue-named x s)) in
-    let newer : here.newer ≡ oldest_of (behind i (queue_of x (named s))) = first-is (Entries.behind i (s (number_of x))) ∙ ap oldest_of (items-behind i (s (number_of x)) ∙ ap (behind i) (queue-named x s)) in
-    ap (λ (y : Place). Some (named_place y)) same ∙ rw (name-number x, older, newer) refl
+    ap (λ (y : Place). Some (named_place y)) same ∙ rw (name-number x, older) refl
 
 module _ (i : Item) (s : ByNumber.Queues) (d : ByNumber.IsDistinct s) (h : IsNamed s) where
   pub holding-named : (n : ℕ) → ByNumber.queue_holding i s ≡ Some n → queue_holding i (named s) ≡ Some (name_of n)

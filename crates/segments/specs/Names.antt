@@ -32,7 +32,7 @@ pub record IsNamed (s : ByNumber.Queues) : Type 0 where
   pub fifth : s 4 ≡ []
 
 abbrev pub named_place : Place → QueuePlace
-named_place p = record { queue = name_of p.queue; older = p.older; newer = p.newer }
+named_place p = record { queue = name_of p.queue; older = p.older }
 
 abbrev pub numbered_place : QueuePlace → Place
-numbered_place p = record { queue = number_of p.queue; older = p.older; newer = p.newer }
+numbered_place p = record { queue = number_of p.queue; older = p.older }

@@ -39,7 +39,6 @@ pub(crate) fn queue_place(place: Place) -> QueuePlace
     QueuePlace {
         queue: name(place.queue),
         older: place.older,
-        newer: place.newer,
     }
 }
 
@@ -52,6 +51,5 @@ pub(crate) fn table_place(place: QueuePlace) -> Place
     Place {
         queue: number(place.queue),
         older: place.older,
-        newer: place.newer,
     }
 }

@@ -289,11 +289,9 @@ impl Segments {
             let _ = self.take_out(done.item);
             return;
         };
-        let place = table_place(place);
-        match self.table.find(done.item) {
-            Some(found) => self.table.send_to(found.at, place, 0),
-            None => self.table.insert(place, entry_for(done.item)),
-        }
+        self.table.distinct();
+        self.table
+            .put_back(table_place(place), entry_for(done.item));
     }
 
     /// A copy of the queue's items, oldest first.

@@ -1,16 +1,24 @@
-use Rattle.queue_table.specs.Ring.{order_of}
-use Rattle.queue_table.proofs.Calls.{spot-in}
+use Rattle.std.proofs.Common.{suc, map, ap, sym, subst, arith}
+use Rattle.queue_table.specs.Entries.{IsGap}
+use Rattle.queue_table.specs.Ring.{entries, slot_entry, order_of}
+use Rattle.queue_table.specs.QueueTable.{IsBehind}
+use Rattle.queue_table.proofs.Cutting.{behind-place, none-out}
 use Rattle.queue_table.proofs.Kept.{some-slots}
 use Rattle.queue_table.proofs.queue_table.QueueTable.insert.Goals as goal
+use Rattle.queue_table.proofs.queue_table.QueueTable.insert.Goals.{After-slot_at_place-before}
+
+pub slot_at_place-before-requires-clause-some : goal.slot_at_place-before-requires-clause-some
+slot_at_place-before-requires-clause-some c = some-slots c.args.self.now 0 c.requires.room
+
+-- the slot that was found stands right after the place
+behind : (c : goal.After-slot_at_place-before) → IsBehind c.slot_at_place-before.result c.args.place.queue c.args.place.older (entries c.args.self.now) (order_of c.args.self.now (suc c.args.place.queue))
+behind c =
+    let out = none-out c.args.self.now (order_of c.args.self.now) c.slot_at_place-before.ensures.queued c.args.place.queue c.requires.queue in
+    subst (IsBehind c.slot_at_place-before.result c.args.place.queue c.args.place.older (entries c.args.self.now)) out
+    (c.slot_at_place-before.ensures.behind (λ z. omega (arith, z)) (subst (IsGap c.args.place.older) (sym (ap (map (λ k. slot_entry (entries c.args.self.now) k)) out)) c.requires.gap))
 
 pub put-requires-clause-place : goal.put-requires-clause-place
-put-requires-clause-place c =
-    let p = spot-in c.args.self.now (order_of c.args.self.now) (c.slot_at_place-before.ensures.queued (some-slots c.args.self.now 0 c.requires.room)) c.args.place.queue c.requires.queue c.args.place.older c.args.place.newer c.slot_at_place-before.result c.requires.gap c.slot_at_place-before.ensures.last
-    (λ n e f. let s = c.slot_at_place-before.ensures.newer n e f in (s.used, s.item)) in
-    p.0
+put-requires-clause-place c = behind-place c.slot_at_place-before.result c.args.place.queue c.args.place.older (entries c.args.self.now) (order_of c.args.self.now) (behind (goal.at.put-requires-clause-place c).After-slot_at_place-before)
 
 pub returns-clause-queues : goal.returns-clause-queues
-returns-clause-queues c =
-    let p = spot-in c.args.self.now (order_of c.args.self.now) (c.slot_at_place-before.ensures.queued (some-slots c.args.self.now 0 c.requires.room)) c.args.place.queue c.requires.queue c.args.place.older c.args.place.newer c.slot_at_place-before.result c.requires.gap c.slot_at_place-before.ensures.last
-    (λ n e f. let s = c.slot_at_place-before.ensures.newer n e f in (s.used, s.item)) in
-    c.put.ensures.back c.args.place.older c.args.place.newer record { gap = c.requires.gap; slot = p.1 }
+returns-clause-queues c = c.put.ensures.back c.args.place.older (behind (goal.at.returns-clause-queues c).After-slot_at_place-before)

@@ -2,16 +2,16 @@ use Rattle.std.proofs.Common.{◌≡◌, ◌∙◌, ◌≤◌, ◌++◌, ◌+◌
 use Rattle.step_record.specs.declared.item.Item.{Item}
 use Rattle.queue_table.specs.declared.slot.Slot.{Slot}
 use Rattle.queue_table.specs.Queues.{queue_holding, after_push, after_return, IsDistinct}
-use Rattle.queue_table.specs.Entries.{IsGap}
 use Rattle.queue_table.specs.Ring.{entries, slot_item, count, newers, olders, ring_of, IsRing, Order, ring, used, order_in, order_of, order_without, sent, lists, lists_of, IsPlace}
-use Rattle.queue_table.specs.QueueTable.{IsIndexOf, IsInSlots, IsCounted, IsBehind}
+use Rattle.queue_table.specs.QueueTable.{IsIndexOf, IsInSlots, IsCounted, IsBehind, KeepsSlots}
 use Rattle.queue_table.proofs.QueueLists.{IsAbsent, absent}
 use Rattle.queue_table.proofs.Orders.{order-is, order-short, short-sent, section-few}
-use Rattle.queue_table.proofs.Calls.{counted-sent, some-counted, spare-sent, written-queued, written-recent, written-back, free-lists, newer-free}
-use Rattle.queue_table.proofs.Tables.{free-real, free-unused, free-within, place-free, take-front}
+use Rattle.queue_table.proofs.Calls.{counted-sent, some-counted, spare-sent, written-queued, written-recent, written-back, free-lists}
+use Rattle.queue_table.proofs.Tables.{free-real, free-unused, free-within, section-kept, place-free, take-front}
 use Rattle.queue_table.proofs.Kept.{held-room, room-kept, kept-on, distinct-in, on_view, ring-read}
 use Rattle.queue_table.proofs.Kept.{section-few as fits}
 use Rattle.queue_table.proofs.Renewing.{comes}
+use Rattle.queue_table.proofs.Staying.{stay-come}
 use Rattle.queue_table.proofs.queue_table.QueueTable.put.Goals as goal
 use Rattle.queue_table.proofs.queue_table.QueueTable.put.Goals.{After-deref_mut-slots, After-send, After-pass}
 
@@ -168,6 +168,16 @@ returns-clause-back c =
     let out = free-lists slots o h k n in
     let e : slots ≡ c.args.self.now = c.deref_mut-slots.ensures.value ∙ c.self.view_is in
     let whole : take c.self.inside.slots.len (c.send.new.slots ++ drop (length c.send.new.slots) c.self.inside.slots.items) ≡ c.send.new.slots = take-front _ _ _ (omega arith) in
-    on_view (λ new old. (older newer : Option Item) → IsBehind c.args.before q older newer old (order_of old) → lists new ≡ after_return q older c.args.entry (lists old)) _ _ _ _ whole e (λ older newer b. written-back slots c.send.new.slots o h k q c.args.before c.requires.queue c.args.entry (free-within slots o h k n) (entries-after at.After-send) (order-after at.After-send) older newer
-    (subst IsDistinct (sym out) h.distinct) (subst (λ s. IsGap older newer (s q)) (sym out) b.gap) (newer-free slots o h k n q c.args.before c.requires.queue newer b.slot)
+    on_view (λ new old. (older : Option Item) → IsBehind c.args.before q older (entries old) (order_of old (suc q)) → lists new ≡ after_return q older c.args.entry (lists old)) _ _ _ _ whole e (λ older b. written-back slots c.send.new.slots o h k q c.args.before c.requires.queue c.args.entry (free-within slots o h k n) (entries-after at.After-send) (order-after at.After-send) older
+    (subst IsDistinct (sym out) h.distinct) (subst (IsBehind c.args.before q older (entries slots)) (sym (section-kept slots o h k n q c.requires.queue)) b)
     ∙ ap (after_return q older c.args.entry) out)
+
+pub returns-clause-others : goal.returns-clause-others
+returns-clause-others c =
+    let at = goal.at.returns-clause-others c in
+    let slots = c.deref_mut-slots.result.now in
+    let k = c.newest_free-at.result in
+    let h = (held-there at.After-deref_mut-slots).queued in
+    let e : slots ≡ c.args.self.now = c.deref_mut-slots.ensures.value ∙ c.self.view_is in
+    let whole : take c.self.inside.slots.len (c.send.new.slots ++ drop (length c.send.new.slots) c.self.inside.slots.items) ≡ c.send.new.slots = take-front _ _ _ (omega arith) in
+    on_view (λ new old. KeepsSlots old new) _ _ _ _ whole e (stay-come slots c.send.new.slots k c.args.entry (entries-after at.After-send) c.args.queue c.args.before c.requires.queue (free-unused slots (order_of slots) h k c.newest_free-at.ensures) (order-after at.After-send))

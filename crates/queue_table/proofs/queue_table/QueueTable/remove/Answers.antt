@@ -2,7 +2,7 @@ use Rattle.std.proofs.Common.{◌≡◌, ◌∙◌, ◌≤◌, ◌++◌, sym, ap
 use Rattle.queue_table.specs.declared.slot.Slot.{Slot}
 use Rattle.queue_table.specs.Queues.{after_removal, place_in, IsDistinct}
 use Rattle.queue_table.specs.Ring.{entries, slot_item, count, newers, olders, ring_of, Order, used, order_of, sent, lists, lists_of}
-use Rattle.queue_table.specs.QueueTable.{IsIndexOf, IsInSlots, IsCounted}
+use Rattle.queue_table.specs.QueueTable.{IsIndexOf, IsInSlots, IsCounted, KeepsOthers}
 use Rattle.queue_table.proofs.QueueLists.{distinct-taken}
 use Rattle.queue_table.proofs.Orders.{order-is, order-short, short-sent}
 use Rattle.queue_table.proofs.Contents.{lists-freed}
@@ -12,6 +12,7 @@ use Rattle.queue_table.proofs.Calls.{counted-sent, some-counted, spare-freed, us
 use Rattle.queue_table.proofs.Kept.{held-used, used-slot, known, item_at, room-kept, kept-on, on_view}
 use Rattle.queue_table.proofs.Kept.{section-few as fits}
 use Rattle.queue_table.proofs.Renewing.{leaves}
+use Rattle.queue_table.proofs.Staying.{stay-freed}
 use Rattle.queue_table.proofs.queue_table.QueueTable.remove.Goals as goal
 use Rattle.queue_table.proofs.queue_table.QueueTable.remove.Goals.{After-deref_mut-slots, After-release}
 
@@ -107,3 +108,11 @@ returns-clause-queues c =
     let e : slots ≡ c.args.self.now = c.deref_mut-slots.ensures.value ∙ c.self.view_is in
     let whole : take c.self.inside.slots.len (c.release.new.slots ++ drop (length c.release.new.slots) c.self.inside.slots.items) ≡ c.release.new.slots = take-front _ _ _ (omega arith) in
     on_view (λ new old. lists new ≡ after_removal (slot_item (entries old) c.args.at) (lists old)) _ _ _ _ whole e (freed-lists slots c.release.new.slots (order_of slots) (held-there at.After-deref_mut-slots).queued c.args.at 1 (used-there at.After-deref_mut-slots) c.release.ensures.only.entries (order-after at.After-release))
+
+pub returns-clause-others : goal.returns-clause-others
+returns-clause-others c =
+    let at = goal.at.returns-clause-others c in
+    let slots = c.deref_mut-slots.result.now in
+    let e : slots ≡ c.args.self.now = c.deref_mut-slots.ensures.value ∙ c.self.view_is in
+    let whole : take c.self.inside.slots.len (c.release.new.slots ++ drop (length c.release.new.slots) c.self.inside.slots.items) ≡ c.release.new.slots = take-front _ _ _ (omega arith) in
+    on_view (λ new old. KeepsOthers (slot_item (entries old) c.args.at) old new) _ _ _ _ whole e (stay-freed slots c.release.new.slots c.args.at 1 c.release.ensures.only.entries (order-after at.After-release))

@@ -2,7 +2,7 @@ use Rattle.std.proofs.Common.{◌≡◌, ◌∙◌, ◌≤◌, ◌++◌, sym, ap
 use Rattle.queue_table.specs.declared.slot.Slot.{Slot}
 use Rattle.queue_table.specs.Queues.{queue_holding, after_push, after_removal, place_in, IsDistinct}
 use Rattle.queue_table.specs.Ring.{entries, slot_item, count, newers, olders, ring_of, IsRing, Order, ring, order_in, used, order_of, sent, lists, lists_of}
-use Rattle.queue_table.specs.QueueTable.{IsIndexOf, IsInSlots, IsCounted}
+use Rattle.queue_table.specs.QueueTable.{IsIndexOf, IsInSlots, IsCounted, KeepsOthers}
 use Rattle.queue_table.proofs.QueueLists.{IsAbsent, absent, still-absent, distinct-taken}
 use Rattle.queue_table.proofs.Orders.{order-is, order-short, short-sent}
 use Rattle.queue_table.proofs.Tables.{take-front}
@@ -10,6 +10,7 @@ use Rattle.queue_table.proofs.Calls.{counted-sent, some-counted, spare-sent, use
 use Rattle.queue_table.proofs.Kept.{held-used, used-slot, known, item_at, room-kept, kept-on, on_view, ring-read}
 use Rattle.queue_table.proofs.Kept.{section-few as fits}
 use Rattle.queue_table.proofs.Renewing.{unused, leaves, joins}
+use Rattle.queue_table.proofs.Staying.{stay-sent}
 use Rattle.queue_table.proofs.queue_table.QueueTable.renew.Goals as goal
 use Rattle.queue_table.proofs.queue_table.QueueTable.renew.Goals.{After-deref_mut-slots, After-send, After-pass}
 
@@ -167,3 +168,13 @@ returns-clause-queues c =
     let whole : take c.self.inside.slots.len (c.send.new.slots ++ drop (length c.send.new.slots) c.self.inside.slots.items) ≡ c.send.new.slots = take-front _ _ _ (omega arith) in
     on_view (λ new old. lists new ≡ after_push c.args.queue c.args.entry (after_removal (slot_item (entries old) k) (lists old))) _ _ _ _ whole e (written-recent slots c.send.new.slots o h k c.args.queue c.slot_behind.result c.requires.queue c.args.entry (used-slot slots k h u).1 (entries-after at.After-send) (order-after at.After-send) c.slot_behind.ensures
     ∙ ap (after_push c.args.queue c.args.entry) (sym (used-lists slots o h k u)))
+
+pub returns-clause-others : goal.returns-clause-others
+returns-clause-others c =
+    let at = goal.at.returns-clause-others c in
+    let slots = c.deref_mut-slots.result.now in
+    let h = (held-there at.After-deref_mut-slots).queued in
+    let u = used-there at.After-deref_mut-slots in
+    let e : slots ≡ c.args.self.now = c.deref_mut-slots.ensures.value ∙ c.self.view_is in
+    let whole : take c.self.inside.slots.len (c.send.new.slots ++ drop (length c.send.new.slots) c.self.inside.slots.items) ≡ c.send.new.slots = take-front _ _ _ (omega arith) in
+    on_view (λ new old. KeepsOthers (slot_item (entries old) c.args.at) old new) _ _ _ _ whole e (stay-sent slots c.send.new.slots c.args.at _ (entries-after at.After-send) c.args.queue c.slot_behind.result c.requires.queue h u (order-after at.After-send))

@@ -1,21 +1,28 @@
-use Rattle.std.proofs.Common.{subst}
+use Rattle.std.proofs.Common.{suc, subst, arith}
 use Rattle.queue_table.specs.Entries.{IsGap}
 use Rattle.queue_table.specs.Queues.{Queues}
-use Rattle.queue_table.specs.Ring.{order_of}
-use Rattle.queue_table.proofs.Calls.{spot-out, used-lists}
-use Rattle.queue_table.proofs.Kept.{some-used}
+use Rattle.queue_table.specs.Ring.{entries, order_of, order_without}
+use Rattle.queue_table.specs.QueueTable.{IsBehind}
+use Rattle.queue_table.proofs.Calls.{used-lists}
+use Rattle.queue_table.proofs.Cutting.{behind-place}
+use Rattle.queue_table.proofs.Kept.{some-used, used-slot}
 use Rattle.queue_table.proofs.queue_table.QueueTable.send_to.Goals as goal
+use Rattle.queue_table.proofs.queue_table.QueueTable.send_to.Goals.{After-slot_at_place-before}
+
+pub slot_at_place-before-requires-clause-some : goal.slot_at_place-before-requires-clause-some
+slot_at_place-before-requires-clause-some c = some-used c.args.self.now c.args.at c.requires.used
+
+-- the slot that was found stands right after the place among the others
+behind : (c : goal.After-slot_at_place-before) → IsBehind c.slot_at_place-before.result c.args.place.queue c.args.place.older (entries c.args.self.now) (order_without c.args.at (order_of c.args.self.now) (suc c.args.place.queue))
+behind c =
+    let h = c.slot_at_place-before.ensures.queued in
+    let r = (used-slot c.args.self.now c.args.at h c.requires.used).0 in
+    let low = c.requires.queue in
+    let out = used-lists c.args.self.now (order_of c.args.self.now) h c.args.at c.requires.used in
+    c.slot_at_place-before.ensures.behind (λ z. omega (arith, z, r, low)) (subst (λ (s : Queues). IsGap c.args.place.older (s c.args.place.queue)) out c.requires.gap)
 
 pub shift-requires-clause-place : goal.shift-requires-clause-place
-shift-requires-clause-place c =
-    let p = spot-out c.args.self.now (order_of c.args.self.now) (c.slot_at_place-before.ensures.queued (some-used c.args.self.now c.args.at c.requires.used)) c.args.at c.requires.used c.args.place.queue c.requires.queue c.args.place.older c.args.place.newer c.slot_at_place-before.result c.requires.gap c.slot_at_place-before.ensures.last
-    (λ n e f. let s = c.slot_at_place-before.ensures.newer n e f in (s.used, s.item)) in
-    p.0
+shift-requires-clause-place c = behind-place c.slot_at_place-before.result c.args.place.queue c.args.place.older (entries c.args.self.now) (order_without c.args.at (order_of c.args.self.now)) (behind (goal.at.shift-requires-clause-place c).After-slot_at_place-before)
 
 pub returns-clause-queues : goal.returns-clause-queues
-returns-clause-queues c =
-    let h = c.slot_at_place-before.ensures.queued (some-used c.args.self.now c.args.at c.requires.used) in
-    let p = spot-out c.args.self.now (order_of c.args.self.now) h c.args.at c.requires.used c.args.place.queue c.requires.queue c.args.place.older c.args.place.newer c.slot_at_place-before.result c.requires.gap c.slot_at_place-before.ensures.last
-    (λ n e f. let s = c.slot_at_place-before.ensures.newer n e f in (s.used, s.item)) in
-    let t = used-lists c.args.self.now (order_of c.args.self.now) h c.args.at c.requires.used in
-    c.shift.ensures.back c.args.place.older c.args.place.newer record { gap = subst (λ (s : Queues). IsGap c.args.place.older c.args.place.newer (s c.args.place.queue)) t c.requires.gap; slot = p.1 }
+returns-clause-queues c = c.shift.ensures.back c.args.place.older (behind (goal.at.returns-clause-queues c).After-slot_at_place-before)

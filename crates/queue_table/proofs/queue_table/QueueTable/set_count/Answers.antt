@@ -2,10 +2,11 @@ use Rattle.std.proofs.Common.{◌≡◌, ◌∙◌, ◌≤◌, ◌++◌, sym, ap
 use Rattle.queue_table.specs.declared.slot.Slot.{Slot}
 use Rattle.queue_table.specs.Queues.{after_count}
 use Rattle.queue_table.specs.Ring.{entries, slot_item, lists, count, used, Order, order_of, order_in, ring_of, lists_of}
-use Rattle.queue_table.specs.QueueTable.{IsInSlots, IsCounted}
+use Rattle.queue_table.specs.QueueTable.{IsInSlots, IsCounted, KeepsOthers}
 use Rattle.queue_table.proofs.Counting.{lists-counted, held-counted}
 use Rattle.queue_table.proofs.Tables.{take-front}
 use Rattle.queue_table.proofs.Kept.{held-used, used-slot, kept-on, on_view}
+use Rattle.queue_table.proofs.Staying.{stay-written}
 use Rattle.queue_table.proofs.queue_table.QueueTable.set_count.Goals as goal
 use Rattle.queue_table.proofs.queue_table.QueueTable.set_count.Goals.{After-deref_mut-slots, After-set_count}
 
@@ -59,3 +60,11 @@ returns-clause-spare c =
     let e : c.deref_mut-slots.result.now ≡ c.args.self.now = c.deref_mut-slots.ensures.value ∙ c.self.view_is in
     let whole : take c.self.inside.slots.len (c.set_count.new.slots ++ drop (length c.set_count.new.slots) c.self.inside.slots.items) ≡ c.set_count.new.slots = take-front _ _ _ (omega arith) in
     on_view (λ new old. length (order_of new 0) ≡ length (order_of old 0)) _ _ _ _ whole e (ap (λ (o : Order). length (o 0)) (order-after at.After-set_count))
+
+pub returns-clause-others : goal.returns-clause-others
+returns-clause-others c =
+    let at = goal.at.returns-clause-others c in
+    let slots = c.deref_mut-slots.result.now in
+    let e : slots ≡ c.args.self.now = c.deref_mut-slots.ensures.value ∙ c.self.view_is in
+    let whole : take c.self.inside.slots.len (c.set_count.new.slots ++ drop (length c.set_count.new.slots) c.self.inside.slots.items) ≡ c.set_count.new.slots = take-front _ _ _ (omega arith) in
+    on_view (λ new old. KeepsOthers (slot_item (entries old) c.args.at) old new) _ _ _ _ whole e (stay-written slots c.set_count.new.slots c.args.at _ c.set_count.ensures.entries (order-after at.After-set_count))

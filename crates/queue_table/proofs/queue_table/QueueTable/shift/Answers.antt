@@ -4,7 +4,7 @@ use Rattle.queue_table.specs.declared.slot.Slot.{Slot}
 use Rattle.queue_table.specs.Entries.{entry}
 use Rattle.queue_table.specs.Queues.{after_push, after_send, after_removal, after_return, place_in, IsDistinct}
 use Rattle.queue_table.specs.Ring.{entries, slot_item, count, newers, olders, ring_of, IsRing, Order, ring, order_in, used, order_of, order_without, sent, lists, lists_of, IsPlace}
-use Rattle.queue_table.specs.QueueTable.{IsInSlots, IsCounted, IsBehind}
+use Rattle.queue_table.specs.QueueTable.{IsInSlots, IsCounted, IsBehind, KeepsOthers}
 use Rattle.queue_table.proofs.QueueLists.{IsAbsent, absent-taken, distinct-taken}
 use Rattle.queue_table.proofs.Orders.{order-is, order-short, short-sent}
 use Rattle.queue_table.proofs.Tables.{take-front}
@@ -12,6 +12,7 @@ use Rattle.queue_table.proofs.Calls.{counted-sent, some-counted, spare-sent, use
 use Rattle.queue_table.proofs.Kept.{held-used, used-slot, room-kept, kept-on, on_view, ring-read}
 use Rattle.queue_table.proofs.Kept.{section-few as fits}
 use Rattle.queue_table.proofs.Renewing.{stays}
+use Rattle.queue_table.proofs.Staying.{stay-sent}
 use Rattle.queue_table.proofs.queue_table.QueueTable.shift.Goals as goal
 use Rattle.queue_table.proofs.queue_table.QueueTable.shift.Goals.{After-deref_mut-slots, After-send, After-pass, After-set_count}
 
@@ -151,6 +152,16 @@ returns-clause-back c =
     let out = used-lists slots o h k u in
     let e : slots ≡ c.args.self.now = c.deref_mut-slots.ensures.value ∙ c.self.view_is in
     let whole : take c.self.inside.slots.len (c.send.new.slots ++ drop (length c.send.new.slots) c.self.inside.slots.items) ≡ c.send.new.slots = take-front _ _ _ (omega arith) in
-    on_view (λ new old. (older newer : Option Item) → IsBehind c.args.before q older newer old (order_without k (order_of old)) → lists new ≡ after_return q older (entry (slot_item (entries old) k) c.args.count) (after_removal (slot_item (entries old) k) (lists old))) _ _ _ _ whole e (λ older newer b. written-back slots c.send.new.slots o h k q c.args.before c.requires.queue (entry i c.args.count) (used-slot slots k h u).1 (entries-after at.After-send) (order-after at.After-send) older newer
-    (subst IsDistinct out (distinct-taken i (lists_of o (entries slots)) h.distinct)) b.gap b.slot
+    on_view (λ new old. (older : Option Item) → IsBehind c.args.before q older (entries old) (order_without k (order_of old) (suc q)) → lists new ≡ after_return q older (entry (slot_item (entries old) k) c.args.count) (after_removal (slot_item (entries old) k) (lists old))) _ _ _ _ whole e (λ older b. written-back slots c.send.new.slots o h k q c.args.before c.requires.queue (entry i c.args.count) (used-slot slots k h u).1 (entries-after at.After-send) (order-after at.After-send) older
+    (subst IsDistinct out (distinct-taken i (lists_of o (entries slots)) h.distinct)) b
     ∙ ap (after_return q older (entry i c.args.count)) (sym out))
+
+pub returns-clause-others : goal.returns-clause-others
+returns-clause-others c =
+    let at = goal.at.returns-clause-others c in
+    let slots = c.deref_mut-slots.result.now in
+    let h = (held-there at.After-deref_mut-slots).queued in
+    let u = used-there at.After-deref_mut-slots in
+    let e : slots ≡ c.args.self.now = c.deref_mut-slots.ensures.value ∙ c.self.view_is in
+    let whole : take c.self.inside.slots.len (c.send.new.slots ++ drop (length c.send.new.slots) c.self.inside.slots.items) ≡ c.send.new.slots = take-front _ _ _ (omega arith) in
+    on_view (λ new old. KeepsOthers (slot_item (entries old) c.args.at) old new) _ _ _ _ whole e (stay-sent slots c.send.new.slots c.args.at _ (entries-after at.After-send) c.args.queue c.args.before c.requires.queue h u (order-after at.After-send))

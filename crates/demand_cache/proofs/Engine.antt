@@ -1,0 +1,82 @@
+-- One access to a cache, and undoing it, from what the step and the queues ensure.
+use Rattle.std.proofs.Common.{◌≡◌, ℕ, ◌≤◌, ◌==◌, false, Some, ap, ◌∙◌, sym, subst}
+use Rattle.std.proofs.lemmas.Bool.{ne_eqb}
+use Rattle.step_record.specs.declared.limits.TheConstants.{MAX_STEPS}
+use Rattle.step_record.specs.Keys.{has_key}
+use Rattle.step_record.specs.Stats.{stats_with}
+use Rattle.step_record.specs.declared.outcome.Outcome.{Outcome}
+use Rattle.step_record.specs.declared.stats.Stats.{Stats}
+use Rattle.queue_table.specs.Queues.{Queues}
+use Rattle.queue_moves.specs.declared.records.Moves.{Moves}
+use Rattle.queue_moves.specs.declared.records.Accessed.{Accessed}
+use Rattle.queue_moves.specs.Moves.{item_of, after_all, outcome_of}
+use Rattle.queue_moves.specs.Undoing.{record_of, before_all, FitsMoves, IsAccessed}
+use Rattle.queue_moves.specs.Tabled.{IsTabled}
+use Rattle.queue_moves.specs.Lists.{lists_of, queues_in}
+use Rattle.queue_moves.proofs.Lists.{lists-shown}
+use Rattle.queue_moves.proofs.Tabled.{tabled-all}
+use Rattle.demand_cache.specs.declared.demand_policy.DemandPolicy.{DemandPolicy}
+use Rattle.demand_cache.specs.DemandQueues.{DemandQueues, plan_by, residents_by, queues_residents, IsStateOf, IsQueues, QueuesFits, queues_act, queues_record_of, queues_undone}
+use Rattle.demand_cache.specs.DemandCache.{DemandState, state_with, demand_act}
+use Rattle.demand_cache.proofs.Keeping.{AllKeep, IsKept, kept, is-cache, cache_of}
+
+module _ (all : AllKeep) (p : DemandPolicy) (c x : ℕ) (s : Queues) (t : IsTabled s) (h : 1 ≤ c) (i : IsQueues c (cache_of p c x s)) where
+  pub state-shown : IsStateOf p c x s
+  state-shown = subst (IsStateOf p c x) (lists-shown s t) i.state
+
+  module _ (k : ℕ) where
+    what : IsKept p c k x s (plan_by p c k x s)
+    what = kept all p c k x s h t state-shown
+
+    -- an access that is out of memory is no hit
+    pub no-resident : (plan_by p c k x s).hits ≡ false → has_key k (queues_residents (cache_of p c x s)) ≡ false
+    no-resident m = ap (λ v. has_key k (residents_by p x v)) (lists-shown s t) ∙ sym what.hits ∙ m
+
+    module _ (u : Queues) (r : Accessed) (a : IsAccessed (plan_by p c k x s) (item_of k) x s u r) where
+      next-tabled : IsTabled u
+      next-tabled = subst IsTabled (sym a.carried.after) (tabled-all s t (plan_by p c k x s) what.low k)
+
+      pub next-queues : IsQueues c (cache_of p c r.scalar u)
+      next-queues = is-cache p c r.scalar u h next-tabled
+          (subst (λ y. IsStateOf p c y u) (sym a.scalar) (subst (IsStateOf p c (plan_by p c k x s).scalar) (sym a.carried.after) what.state))
+
+      abbrev act_on : Queues → Outcome × DemandQueues
+      act_on v = (outcome_of (plan_by p c k x v) v, cache_of p c (plan_by p c k x v).scalar (after_all (plan_by p c k x v) (item_of k) v))
+
+      pub act-is : queues_act k (cache_of p c x s) ≡ (r.outcome, cache_of p c r.scalar u)
+      act-is =
+          ap act_on (lists-shown s t)
+          ∙ ap (λ o. (o, cache_of p c (plan_by p c k x s).scalar (after_all (plan_by p c k x s) (item_of k) s))) (sym a.outcome)
+          ∙ ap (λ y. (r.outcome, cache_of p c y (after_all (plan_by p c k x s) (item_of k) s))) (sym a.scalar)
+          ∙ ap (λ v. (r.outcome, cache_of p c r.scalar v)) (sym a.carried.after)
+
+      pub record-is : r.moves ≡ queues_record_of k (cache_of p c x s)
+      record-is = a.carried.is ∙ sym (ap (λ v. record_of (plan_by p c k x v) (item_of k) x v) (lists-shown s t))
+
+      pub undone-is : queues_undone r.moves (cache_of p c r.scalar u) ≡ cache_of p c x s
+      undone-is =
+          ap (λ v. cache_of p c r.moves.scalar (before_all r.moves v)) (lists-shown u next-tabled)
+          ∙ ap (cache_of p c r.moves.scalar) a.carried.undone
+          ∙ ap (λ y. cache_of p c y s) (ap (λ (m : Moves). m.scalar) a.carried.is)
+
+      pub record-fits : QueuesFits r.moves (cache_of p c r.scalar u)
+      record-fits = record {
+        moves = subst (FitsMoves r.moves) (sym (lists-shown u next-tabled)) a.carried.fits;
+        before = subst (IsQueues c) (sym undone-is) i;
+      }
+
+-- ---- as steps of the engine
+
+pub accepts : (d : DemandState) (k : ℕ) (o : Outcome) (q : DemandQueues) (stats : Stats) → (d.stats.accesses ≡ MAX_STEPS → ⊥) → queues_act k d.queues ≡ (o, q)
+    → stats ≡ stats_with o d.stats → demand_act d k ≡ Some (o, record { queues = q; stats = stats })
+accepts d k o q stats h a e =
+    let f : (d.stats.accesses == MAX_STEPS) ≡ false = ne_eqb d.stats.accesses MAX_STEPS h in
+    rw f (ap (λ v. Some (v.0, state_with d.stats v)) a ∙ ap (λ (y : Stats). Some (o, record { queues = q; stats = y })) (sym e))
+
+-- undoing, from the queues that a table has
+module _ (p : DemandPolicy) (c x : ℕ) (s u : Queues) (t : IsTabled s) (r : Moves) (done : u ≡ before_all r s) where
+  pub undone-shown : cache_of p c r.scalar u ≡ queues_undone r (cache_of p c x s)
+  undone-shown = ap (cache_of p c r.scalar) (done ∙ sym (ap (before_all r) (lists-shown s t)))
+
+pub moves-fit : (s : Queues) → IsTabled s → (r : Moves) → FitsMoves r (queues_in (lists_of s)) → FitsMoves r s
+moves-fit s t r f = subst (FitsMoves r) (lists-shown s t) f

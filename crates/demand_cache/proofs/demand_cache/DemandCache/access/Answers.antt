@@ -1,0 +1,47 @@
+use Rattle.std.proofs.Common.{◌≡◌, ◌∙◌, false, rules, ap, sym, subst}
+use Rattle.step_record.specs.Keys.{has_key}
+use Rattle.queue_table.specs.QueueTable.{queues}
+use Rattle.queue_moves.specs.declared.records.Moves.{Moves}
+use Rattle.queue_moves.specs.declared.records.Accessed.{Accessed}
+use Rattle.queue_moves.specs.Lists.{lists_of}
+use Rattle.demand_cache.specs.declared.demand_cache.Counted.{Counted}
+use Rattle.demand_cache.specs.DemandQueues.{queues_residents}
+use Rattle.demand_cache.specs.DemandCache.{DemandState, IsDemand, state_of, demand_act}
+use Rattle.demand_cache.proofs.Keeping.{all-keep}
+use Rattle.demand_cache.proofs.Engine.{state-shown, no-resident, next-queues, act-is, accepts}
+use Rattle.demand_cache.proofs.demand_cache.DemandCache.access.Goals as goal
+
+abbrev made : Counted → Moves → Accessed
+made done moves = record { outcome = done.outcome; scalar = done.scalar; moves = moves }
+
+pub count_out-requires-clause-state : goal.count_out-requires-clause-state
+count_out-requires-clause-state c = state-shown all-keep c.self.inside.policy c.self.inside.capacity c.self.inside.scalar (queues c.self.inside.queues) c.tabled.ensures c.self.invariant.least c.self.invariant.queues
+
+pub invariant_of-self : goal.invariant_of-self
+invariant_of-self c =
+    subst (λ v. IsDemand (state_of c.self.inside.policy c.self.inside.capacity c.self.inside.scalar (lists_of v) c.self.inside.stats)) (sym c.in-Err.ensures.err) c.self.invariant
+
+pub invariant_of-self-in-Ok : goal.invariant_of-self-in-Ok
+invariant_of-self-in-Ok c = record {
+  least = c.self.invariant.least;
+  most = c.self.invariant.most;
+  queues = next-queues all-keep c.self.inside.policy c.self.inside.capacity c.self.inside.scalar (queues c.self.inside.queues) c.tabled.ensures c.self.invariant.least c.self.invariant.queues c.args.key (queues c.count_out.new.queues) (made c.in-Ok.done c.in-Ok.ensures.counted.moves) c.in-Ok.ensures.counted.accessed;
+  tally = (let t = c.self.invariant.tally in search rules);
+}
+
+pub returns-in-Err-clause-memory : goal.returns-in-Err-clause-memory
+returns-in-Err-clause-memory c m =
+    subst (λ (d : DemandState). has_key c.args.key (queues_residents d.queues) ≡ false) c.self.view_is
+    (no-resident all-keep c.self.inside.policy c.self.inside.capacity c.self.inside.scalar (queues c.self.inside.queues) c.tabled.ensures c.self.invariant.least c.self.invariant.queues c.args.key c.in-Err.ensures.memory)
+
+pub returns-in-Err-clause-err : goal.returns-in-Err-clause-err
+returns-in-Err-clause-err c =
+    ap (λ v. state_of c.self.inside.policy c.self.inside.capacity c.self.inside.scalar (lists_of v) c.self.inside.stats) c.in-Err.ensures.err ∙ c.self.view_is
+
+pub returns-in-Ok-clause-accepted : goal.returns-in-Ok-clause-accepted
+returns-in-Ok-clause-accepted c =
+    ap (λ d. demand_act d c.args.key) (sym c.self.view_is)
+    ∙ accepts (state_of c.self.inside.policy c.self.inside.capacity c.self.inside.scalar (lists_of (queues c.self.inside.queues)) c.self.inside.stats) c.args.key
+    c.in-Ok.done.outcome _ c.count.new.self c.if-self-eq-MAX_STEPS.false
+    (act-is all-keep c.self.inside.policy c.self.inside.capacity c.self.inside.scalar (queues c.self.inside.queues) c.tabled.ensures c.self.invariant.least c.self.invariant.queues c.args.key (queues c.count_out.new.queues) (made c.in-Ok.done c.in-Ok.ensures.counted.moves) c.in-Ok.ensures.counted.accessed)
+    c.count.ensures

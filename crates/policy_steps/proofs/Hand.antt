@@ -1,0 +1,139 @@
+-- The hand of SIEVE by runs from the queue ahead of it to the other one.
+use Rattle.std.proofs.Common.{◌≡◌, ℕ, zero, suc, ◌+◌, ◌-◌, ◌≤◌, ◌⊎◌, true, false, eqb, nat_lt, List, [], ◌∷◌, ◌++◌, length, ap, ◌∙◌, sym, subst, refl, arith, inl, inr, length-append}
+use Rattle.std.proofs.lemmas.Bool.{cases_Bool, cases_lt, lt-ltb, le-ltb, eq-eqb, ne_eqb}
+use Rattle.queue_table.specs.declared.records.Entry.{Entry}
+use Rattle.queue_table.specs.Entries.{entry, oldest_of}
+use Rattle.queue_table.specs.Queues.{Queues, with_queue}
+use Rattle.queue_table.proofs.QueueLists.{with-queue-same, with-queue-other}
+use Rattle.queue_policies.specs.CountedKeys.{counted_less, AreCounted, total_count, oldest_count}
+use Rattle.queue_policies.specs.Sieve.{SieveState, after_wrap, after_pass, pass_count_within, pass_count, after_passes}
+use Rattle.queue_policies.proofs.Sieve.{whole, past-total}
+use Rattle.queue_moves.specs.Moves.{count_or, after_turn, after_turns, turns_due}
+use Rattle.queue_moves.specs.Tabled.{IsTabled}
+use Rattle.queue_moves.proofs.Tabled.{tabled-turn}
+use Rattle.policy_steps.specs.Sieve.{passed_queue}
+use Rattle.policy_steps.specs.Counted.{counted_key, counted_keys}
+use Rattle.policy_steps.proofs.Counted.{counted-append}
+use Rattle.policy_steps.proofs.Parts.{turn-is}
+
+-- ---- the definition's passes, one by one
+
+-- the hand stands at a key whose bit is clear
+abbrev pub stopped : SieveState → SieveState
+stopped s = after_passes (pass_count s) s
+
+pub no-pass : (n : ℕ) (s : SieveState) → oldest_count s.ahead ≡ 0 → after_passes (pass_count_within n s) s ≡ s
+no-pass zero s h = refl
+no-pass (suc n) s h = rw (eq-eqb (oldest_count s.ahead) 0 h) refl
+
+pass-within : (n : ℕ) (s : SieveState) → n ≡ total_count (whole s) → eqb (oldest_count s.ahead) 0 ≡ false → after_passes (pass_count_within n s) s ≡ stopped (after_pass s.passed s.ahead)
+pass-within zero s e h = absurd (let less = past-total s.passed s.ahead h in omega (arith, e, less))
+pass-within (suc n) s e h =
+    let less = past-total s.passed s.ahead h in
+    let same : n ≡ total_count (whole (after_pass s.passed s.ahead)) = omega (arith, e, less) in
+    rw h (ap (λ m. after_passes (pass_count_within m (after_pass s.passed s.ahead)) (after_pass s.passed s.ahead)) same)
+
+pass-first : (s : SieveState) → eqb (oldest_count s.ahead) 0 ≡ false → stopped s ≡ stopped (after_pass s.passed s.ahead)
+pass-first s h = pass-within (total_count (whole s)) s refl h
+
+-- ---- bits
+
+abbrev pub IsClear : List Entry → Type 0
+IsClear [] = ⊥
+IsClear (e ∷ l) = e.count ≡ 0
+
+-- some key's bit is clear
+abbrev pub HasClear : List Entry → Type 0
+HasClear [] = ⊥
+HasClear (e ∷ l) = (e.count ≡ 0) ⊎ HasClear l
+
+pub clear-first : (l : List Entry) → IsClear l → HasClear l
+clear-first [] h = absurd h
+clear-first (e ∷ l) h = inl h
+
+clear-last : (l : List Entry) (e : Entry) → e.count ≡ 0 → HasClear (l ++ e ∷ [])
+clear-last [] e h = inl h
+clear-last (x ∷ l) e h = inr (clear-last l e h)
+
+-- some key's bit is clear, and there are at most n keys
+abbrev pub Waits : ℕ → List Entry → Type 0
+Waits n l = HasClear l × (length l ≤ n)
+
+-- ---- the hand passes keys from the queue x to the other one
+
+pub apart : (x : ℕ) → x ≤ 1 → x ≡ passed_queue x → ⊥
+apart x low e = omega (arith, low, e)
+
+module _ (x : ℕ) (low : x ≤ 1) where
+  -- the state, once the hand went back where nothing is ahead of it
+  abbrev pub at_hand : Queues → SieveState
+  at_hand s = after_wrap (counted_keys (s (passed_queue x))) (counted_keys (s x))
+
+  abbrev pub passed : ℕ → Queues → Queues
+  passed m s = after_turns (turns_due m x (passed_queue x) 1 1 s) x (passed_queue x) 1 s
+
+  abbrev turned : Queues → Queues
+  turned s = after_turn x (passed_queue x) 1 s
+
+  tabled : (s : Queues) → IsTabled s → IsTabled (turned s)
+  tabled s t = tabled-turn s t x (passed_queue x) 1 (omega arith)
+
+  turn : (s : Queues) (e : Entry) (l : List Entry) → IsTabled s → s x ≡ e ∷ l → (turned s x ≡ l) × (turned s (passed_queue x) ≡ s (passed_queue x) ++ entry e.item (e.count - 1) ∷ [])
+  turn s e l t h =
+      let is = turn-is x (passed_queue x) 1 s e l t h in (
+        ap (λ (u : Queues). u x) is ∙ with-queue-other (passed_queue x) x _ (with_queue x l s) (apart x low) ∙ with-queue-same x l s,
+        ap (λ (u : Queues). u (passed_queue x)) is ∙ with-queue-same (passed_queue x) _ (with_queue x l s) ∙ ap (λ (q : List Entry). q ++ entry e.item (e.count - 1) ∷ []) (with-queue-other x (passed_queue x) l s (λ z. apart x low (sym z))),
+      )
+
+  -- a turn is a pass
+  pass : (l : List Entry) (s : Queues) → IsTabled s → s x ≡ l → nat_lt (count_or 0 (oldest_of l)) 1 ≡ false → stopped (at_hand s) ≡ stopped (at_hand (turned s))
+  pass [] s t h g = absurd (cc g)
+  pass (e ∷ l) s t h g =
+      let u = turn s e l t h in
+      let lowered = ap counted_keys u.1 ∙ counted-append (s (passed_queue x)) (entry e.item (e.count - 1) ∷ []) in
+      let set : eqb e.count 0 ≡ false = ne_eqb e.count 0 (λ z. let no : true ≡ false = sym (lt-ltb e.count 1 (omega (arith, z))) ∙ g in cc no) in
+      ap (λ v. stopped (after_wrap (counted_keys (s (passed_queue x))) (counted_keys v))) h
+      ∙ pass-first (record { passed = counted_keys (s (passed_queue x)); ahead = counted_key e ∷ counted_keys l }) set
+      ∙ sym (ap (λ v. stopped (after_wrap v (counted_keys (turned s x)))) lowered ∙ ap (λ v. stopped (after_wrap (counted_keys (s (passed_queue x)) ++ counted_less (counted_key e) ∷ []) (counted_keys v))) u.0)
+
+  pub passes : (m : ℕ) (s : Queues) → IsTabled s → stopped (at_hand s) ≡ stopped (at_hand (passed m s))
+  passes zero s t = refl
+  passes (suc m) s t =
+      elim (cases_Bool (nat_lt (count_or 0 (oldest_of (s x))) 1)) [
+        | inl g ↦ rw g refl
+        | inr g ↦ rw g (pass (s x) s t refl g ∙ passes m (turned s) (tabled s t))
+      ]
+
+  -- a run ends at a clear bit, where there is one
+  pub ends : (m : ℕ) (l : List Entry) (s : Queues) → IsTabled s → s x ≡ l → Waits m l → IsClear (passed m s x)
+  ends m [] s t h w = absurd w.0
+  ends zero (e ∷ l) s t h w = absurd (let few = w.1 in omega (arith, few))
+  ends (suc m) (e ∷ l) s t h w =
+      let bit = ap (λ v. nat_lt (count_or 0 (oldest_of v)) 1) h in
+      let few = w.1 in
+      elim (cases_lt e.count 1) [
+        | inl g ↦ let clear = bit ∙ lt-ltb e.count 1 g in rw clear (subst IsClear (sym h) (omega (arith, g)))
+        | inr g ↦
+            let set = bit ∙ le-ltb e.count 1 g in
+            let rest : HasClear l = elim w.0 [ inl z ↦ absurd (omega (arith, z, g)) | inr r ↦ r ] in
+            rw set (ends m l (turned s) (tabled s t) (turn s e l t h).0 (rest, omega (arith, few)))
+      ]
+
+  -- it ends there, or all keys were passed, the last of which has its bit cleared
+  pub stops : (n m : ℕ) (l : List Entry) (s : Queues) → IsTabled s → s x ≡ l → AreCounted 1 (counted_keys l) → (l ≡ [] → HasClear (s (passed_queue x))) → length l ≤ m → length l + length (s (passed_queue x)) ≤ n
+      → Waits n (passed m s x) ⊎ ((passed m s x ≡ []) × Waits n (passed m s (passed_queue x)))
+  stops n zero [] s t h bits has few all = inr (h, (has refl, omega (arith, all)))
+  stops n (suc m) [] s t h bits has few all = let bit = ap (λ v. nat_lt (count_or 0 (oldest_of v)) 1) h in rw bit (inr (h, (has refl, omega (arith, all))))
+  stops n zero (e ∷ l) s t h bits has few all = absurd (omega (arith, few))
+  stops n (suc m) (e ∷ l) s t h bits has few all =
+      let bit = ap (λ v. nat_lt (count_or 0 (oldest_of v)) 1) h in
+      elim (cases_lt e.count 1) [
+        | inl g ↦ let clear = bit ∙ lt-ltb e.count 1 g in rw clear (inl (subst (Waits n) (sym h) (inl (omega (arith, g)), omega (arith, all))))
+        | inr g ↦
+            let set = bit ∙ le-ltb e.count 1 g in
+            let one = bits.0 in
+            let came = (turn s e l t h).1 in
+            let longer = ap length came ∙ length-append (s (passed_queue x)) (entry e.item (e.count - 1) ∷ []) in
+            let last : HasClear (turned s (passed_queue x)) = subst HasClear (sym came) (clear-last (s (passed_queue x)) (entry e.item (e.count - 1)) (omega (arith, one))) in
+            rw set (stops n m l (turned s) (tabled s t) (turn s e l t h).0 bits.1 (λ z. last) (omega (arith, few)) (omega (arith, all, longer)))
+      ]

@@ -1,0 +1,17 @@
+pub mod Counted
+pub mod Parts
+pub mod Residents
+pub mod ClockPlan
+pub mod Hand
+pub mod SievePlan
+pub mod Steps
+pub mod SieveStep
+pub mod Keys
+pub mod Turns
+pub mod Leaving
+pub mod S3FifoMoves
+pub mod S3Fifo
+pub mod S3FifoStep
+pub mod Moving
+pub mod TwoQ
+pub mod ArcPlan

@@ -1,0 +1,65 @@
+-- The plan of a policy that keeps each missed key, and counts a hit by 1, is its definition.
+use Rattle.std.proofs.Common.{◌≡◌, ℕ, zero, suc, ◌<◌, ◌≤◌, Bool, true, false, if◌then◌else◌, nat_lt, Option, Some, None, ap, ◌∙◌, refl, arith, inl, inr}
+use Rattle.std.proofs.lemmas.Bool.{cases_Bool, cases_eq, lt-ltb, le-ltb}
+use Rattle.step_record.specs.declared.item.Item.{Item}
+use Rattle.step_record.specs.declared.outcome.Outcome.{Outcome}
+use Rattle.step_record.specs.declared.outcome.Outcome.TheVariants.{Hit, Kept}
+use Rattle.queue_table.specs.Entries.{entry, occurrences}
+use Rattle.queue_table.specs.Queues.{QUEUES, Queues, times_below, after_send, after_count}
+use Rattle.queue_table.proofs.QueueLists.{IsAbsent}
+use Rattle.queue_moves.specs.Moves.{item_of, standing, counts, goes, Plan}
+use Rattle.queue_moves.specs.Tabled.{IsTabled}
+use Rattle.policy_steps.specs.Planned.{IsWithin, resident_plan, IsPlannedWithin}
+use Rattle.policy_steps.proofs.Parts.{first-count, first-send, nowhere, held, held-first}
+
+some-below : (n q : ℕ) (i : Item) (s : Queues) → q < n → 1 ≤ occurrences i (s q) → 1 ≤ times_below n i s
+some-below zero q i s w h = absurd (omega (arith, w))
+some-below (suc n) q i s w h =
+    elim (cases_eq q n) [
+      | inl e ↦ let its = ap (λ x. occurrences i (s x)) e in omega (arith, its, h)
+      | inr d ↦ let rest = some-below n q i s (omega (arith, w, d)) h in omega (arith, rest)
+    ]
+
+none-below : (n : ℕ) (i : Item) (s : Queues) → n ≤ QUEUES → IsAbsent i s → times_below n i s ≡ 0
+none-below zero i s w h = refl
+none-below (suc n) i s w h = let its = h n (omega (arith, w)) in let rest = none-below n i s (omega (arith, w)) h in omega (arith, its, rest)
+
+-- k joins the queue q, of n, with the count m; has: it is resident; room: there is room, as the definition says and the plan
+module _ (S : Type 0) (n k x q m : ℕ) (s : Queues) (view : ℕ → Queues → S) (has room planned_room : Bool) (hit kept : S) (leaves : Outcome × S) (full : Plan) where
+  abbrev IsPlan : Plan → Type 0
+  IsPlan p = IsPlannedWithin n p k s view (if has then (Hit, hit) else if room then (Kept, kept) else leaves) has
+
+  pub resident-planned : IsTabled s → n ≤ QUEUES → q < n → IsWithin n s → room ≡ planned_room → has ≡ nat_lt 0 (times_below n (item_of k) s)
+      → view x (after_count (item_of k) 1 s) ≡ hit
+      → (IsAbsent (item_of k) s → view x (after_send (entry (item_of k) m) q s) ≡ kept)
+      → (IsAbsent (item_of k) s → planned_room ≡ false → IsPlannedWithin n full k s view leaves false)
+      → IsPlan (resident_plan (standing (item_of k) s) planned_room (counts 1) (goes q m) x full)
+  resident-planned t few low first same key hits joins evicts = at (standing (item_of k) s) refl
+    where
+      at : (o : Option (ℕ × ℕ)) → standing (item_of k) s ≡ o → IsPlan (resident_plan o planned_room (counts 1) (goes q m) x full)
+      at (Some w) h =
+          let there : has ≡ true = key ∙ lt-ltb 0 _ (some-below n w.0 (item_of k) s (held-first n k s t w first h) (held k s t w h)) in
+          rw there (
+            record {
+              outcome = refl;
+              state = hits;
+              hits = refl;
+              low = record { early = (omega arith, omega arith); late = (omega arith, omega arith); first = tt; second = tt; own = tt };
+            },
+            first-count n (item_of k) 1 s first,
+          )
+      at None h =
+          let absent = nowhere (item_of k) s h in
+          let gone : has ≡ false = key ∙ le-ltb 0 _ (let z = none-below n (item_of k) s few absent in omega (arith, z)) in
+          elim (cases_Bool planned_room) [
+            | inl f ↦ rw (gone, same, f) (
+              record {
+                outcome = refl;
+                state = joins absent;
+                hits = refl;
+                low = record { early = (omega arith, omega arith); late = (omega arith, omega arith); first = tt; second = tt; own = omega (arith, few, low) };
+              },
+              first-send n (entry (item_of k) m) q s low first,
+            )
+            | inr f ↦ rw (gone, same, f) (evicts absent f)
+          ]

@@ -1,0 +1,46 @@
+-- What an access owes, from what its calls ensure.
+use Rattle.std.proofs.Common.{◌≡◌, ℕ, Bool, false, if◌then◌else◌, Option, None, ap, ◌∙◌, sym, subst, Some, true}
+use Rattle.step_record.specs.declared.item.Item.{Item}
+use Rattle.queue_table.specs.Queues.{Queues, queue_holding}
+use Rattle.queue_table.proofs.QueueLists.{absent, is_absent}
+use Rattle.queue_moves.specs.declared.records.Accessed.{Accessed}
+use Rattle.queue_moves.specs.declared.records.Left.{Left}
+use Rattle.queue_moves.specs.declared.records.Run.{Run}
+use Rattle.queue_moves.specs.Moves.{standing, standing_at, leaving, Own, Plan, own_plan, after_run, after_leaving}
+use Rattle.queue_moves.specs.Undoing.{IsRun, IsLeft, IsAccessed}
+use Rattle.policy_steps.specs.Planned.{resident_plan}
+use Rattle.policy_steps.proofs.Parts.{absent-turns, absent-out}
+
+-- ---- which plan it is, once room is reserved and the queues are as before
+
+pub by-plan : (plan : Queues → Plan) (p : Plan) (i : Item) (x : ℕ) (s t u : Queues) (r : Accessed) → t ≡ s → p ≡ plan t → IsAccessed p i x t u r → IsAccessed (plan s) i x s u r
+by-plan plan p i x s t u r same is h = subst (λ v. IsAccessed (plan v) i x v u r) same (subst (λ q. IsAccessed q i x t u r) is h)
+
+pub still-none : (i : Item) (s t : Queues) → t ≡ s → queue_holding i s ≡ None → queue_holding i t ≡ None
+still-none i s t same none = subst (λ v. queue_holding i v ≡ None) (sym same) none
+
+module _ (i : Item) (s : Queues) (room : Bool) (hit join : Own) (x : ℕ) (full : Plan) where
+  abbrev plan : Option (ℕ × ℕ) → Plan
+  plan o = resident_plan o room hit join x full
+
+  pub hit-plan : (at : ℕ × ℕ) → standing i s ≡ Some at → own_plan true hit x ≡ plan (standing i s)
+  hit-plan at h = ap plan (sym h)
+
+  absent-plan : queue_holding i s ≡ None → plan None ≡ plan (standing i s)
+  absent-plan none = ap (λ h. plan (standing_at i h s)) (sym none)
+
+  pub join-plan : queue_holding i s ≡ None → room ≡ true → own_plan false join x ≡ plan (standing i s)
+  join-plan none h = ap (λ b. if b then own_plan false join x else full) (sym h) ∙ absent-plan none
+
+  pub full-plan : queue_holding i s ≡ None → room ≡ false → full ≡ plan (standing i s)
+  full-plan none h = ap (λ b. if b then own_plan false join x else full) (sym h) ∙ absent-plan none
+
+-- ---- the key still stands nowhere
+
+pub absent-run : (i : Item) (r : Run) (s u : Queues) → IsRun r s u → queue_holding i s ≡ None → queue_holding i u ≡ None
+absent-run i r s u ran none =
+    subst (λ v. queue_holding i v ≡ None) (sym ran.after) (is_absent i (after_run r s) (absent-turns i r.times r.from r.to r.less s ran.fits.from (absent i s none)))
+
+pub absent-left : (i : Item) (q : ℕ) (s u : Queues) (r : Left) → IsLeft (leaving q None) s u r → queue_holding i s ≡ None → queue_holding i u ≡ None
+absent-left i q s u r left none =
+    subst (λ v. queue_holding i v ≡ None) (sym left.after) (is_absent i (after_leaving (leaving q None) s) (absent-out i q s (absent i s none)))

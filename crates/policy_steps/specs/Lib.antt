@@ -1,0 +1,11 @@
+pub mod Planned
+pub mod Counted
+pub mod Clock
+pub mod Sieve
+pub mod S3Fifo
+pub mod S3FifoStep
+pub mod Misses
+pub mod TwoQ
+pub mod Arc
+pub mod Rooms
+pub mod Theorems

@@ -1,0 +1,86 @@
+//! An access by SIEVE.
+ghost use Rattle.std.specs.Prelude.{◌≡◌, ◌≤◌, ◌+◌, false, None, length, nat_lt, IfOk, OnErr};
+ghost use Rattle.queue_table.specs.Queues.{queue_holding};
+ghost use Rattle.queue_table.specs.QueueTable.{queues, spare};
+ghost use Rattle.queue_moves.specs.Moves.{item_of};
+ghost use Rattle.queue_moves.specs.Undoing.{IsAccessed};
+ghost use Rattle.policy_steps.specs.Sieve.{queue_ahead, sieve_plan, sieve_eviction_plan};
+
+use crate::accesses::{evicted, hit, kept};
+use queue_moves::{Accessed, KeyQueues};
+use std::alloc::AllocError;
+use step_record::Key;
+
+/// An access to a key: a hit sets its visited bit; in a full cache the hand passes over the keys whose bits are set,
+/// clearing these, and the key at which it stops leaves. `scalar` is the number of the queue ahead of the hand. The one
+/// error is out of memory; the queues are then as before.
+#[inline(always)]
+pub fn step(
+    table: &mut KeyQueues,
+    capacity: u32,
+    scalar: u32,
+    key: Key,
+) -> Result<Accessed, AllocError>
+    requires { scalar ≤ 1 }
+    ensures accessed { IfOk result (λ a. IsAccessed (sieve_plan capacity key scalar (queues table.old)) (item_of key)
+        scalar (queues table.old) (queues table.new) a) }
+    // A hit asks for no memory.
+    ensures memory { OnErr result ((sieve_plan capacity key scalar (queues table.old)).hits ≡ false) }
+    ensures err { OnErr result (queues table.new ≡ queues table.old) }
+{
+    match table.find(key) {
+        Some(found) => {
+            let own = table.recount(key, found, 1);
+            Ok(hit(own, scalar))
+        }
+        None => {
+            table.reserve()?;
+            let ahead = scalar as u8;
+            if has_room(table, capacity) {
+                let own = table.join(key, ahead, 0);
+                return Ok(kept(own, scalar));
+            }
+            Ok(evict(table, capacity, ahead, key))
+        }
+    }
+}
+
+#[inline(always)]
+fn has_room(table: &KeyQueues, capacity: u32) -> bool
+    ensures { result ≡ nat_lt (length (queues table.now 0) + length (queues table.now 1)) capacity }
+{
+    let (first, second) = (table.len(0), table.len(1));
+    second < capacity as usize && first < capacity as usize - second
+}
+
+// A miss of a full cache.
+#[inline(always)]
+fn evict(table: &mut KeyQueues, capacity: u32, ahead: u8, key: Key) -> Accessed
+    requires low { ahead ≤ 1 }
+    requires room { 1 ≤ spare table.old }
+    requires absent { queue_holding (item_of key) (queues table.old) ≡ None }
+    ensures { IsAccessed (sieve_eviction_plan capacity ahead (queues table.old)) (item_of key) ahead
+        (queues table.old) (queues table.new) result }
+{
+    let early = table.run(ahead, 1 - ahead, 1, 1, capacity);
+    let mid = wrap(table, ahead);
+    let late = table.run(mid, 1 - mid, 1, 1, capacity);
+    let first = table.drop_oldest(mid);
+    let new = wrap(table, mid);
+    let own = table.join(key, new, 0);
+    evicted(early, late, first, own, u32::from(ahead), u32::from(new))
+}
+
+// Where no key is ahead of the hand, it goes back to the oldest: the queue that is ahead of it then.
+#[inline(always)]
+fn wrap(table: &KeyQueues, ahead: u8) -> u8
+    requires { ahead ≤ 1 }
+    ensures is { result ≡ queue_ahead ahead (queues table.now) }
+    ensures low { result ≤ 1 }
+{
+    if table.len(ahead) == 0 {
+        1 - ahead
+    } else {
+        ahead
+    }
+}

@@ -1,4 +1,0 @@
-pub mod ClockCache
-pub mod ClockQueues
-pub mod SieveQueues
-pub mod SieveCache

@@ -1,0 +1,114 @@
+-- Runs: a turn, and any number of them.
+use Rattle.std.proofs.Common.{◌≡◌, ℕ, suc, zero, ◌+◌, ◌-◌, ◌<◌, ◌≤◌, true, false, nat_lt, Option, Some, None, List, [], ◌∷◌, ◌++◌, ap, ◌∙◌, sym, subst, refl, arith}
+use Rattle.queue_table.specs.declared.records.Entry.{Entry}
+use Rattle.queue_table.specs.declared.slot.Slot.{Slot}
+use Rattle.queue_table.specs.Ring.{lists}
+use Rattle.queue_table.specs.Entries.{entry, entries_without, oldest_of, newest_of, newest_from}
+use Rattle.queue_table.specs.Queues.{QUEUES, Queues, IsDistinct, after_removal, after_send, after_return}
+use Rattle.queue_table.proofs.QueueLists.{with-queue-same}
+use Rattle.queue_moves.specs.Moves.{run, turned, after_turn, after_turns, turns_due, count_or}
+use Rattle.queue_moves.specs.Undoing.{HasCountLeft, FitTurns, turned_back, before_turn, before_turns, IsTurn, IsRun}
+use Rattle.queue_moves.proofs.Standing.{oldest_stands}
+use Rattle.queue_moves.proofs.Laws.{sent-back, no-front}
+
+-- ---- a turn
+
+newest-append : (found : Option Entry) (l : List Entry) (e : Entry) → newest_from found (l ++ e ∷ []) ≡ Some e
+newest-append found [] e = refl
+newest-append found (x ∷ l) e = newest-append (Some x) l e
+
+module _ (e : Entry) (from to less m : ℕ) (slots : List Slot) (d : IsDistinct (lists slots)) (w : from < QUEUES) (first : oldest_of (lists slots from) ≡ Some e)
+    (lower : m + less ≡ e.count) (bound : e.count < 256) (u : Queues) (hu : u ≡ after_send (entry e.item m) to (lists slots)) where
+  newest-is : newest_of (u to) ≡ Some (entry e.item m)
+  newest-is =
+      ap (λ (x : Queues). newest_of (x to)) hu
+      ∙ ap newest_of (with-queue-same to _ (after_removal e.item (lists slots)))
+      ∙ newest-append None (entries_without e.item (lists slots to)) (entry e.item m)
+
+  pub turn-made : IsTurn from to less (lists slots) u
+  turn-made =
+      let count_is : m ≡ e.count - less = omega (arith, lower) in
+      record {
+        after = hu ∙ ap (λ x. after_send (entry e.item x) to (lists slots)) count_is ∙ sym (ap (λ x. turned to less x (lists slots)) first);
+        fits = subst (HasCountLeft less) (sym newest-is) (let low : m + less < 256 = omega (arith, lower, bound) in low);
+        undone = ap (λ x. turned_back from less x u) newest-is
+            ∙ ap (λ x. after_return from None (entry e.item x) (after_removal e.item u)) lower
+            ∙ ap (λ x. after_return from None e (after_removal e.item x)) hu
+            ∙ ap (λ o. after_return from o e (after_removal e.item (after_send (entry e.item m) to (lists slots)))) (sym (no-front e (lists slots from) first))
+            ∙ sent-back e slots d (oldest_stands e from (lists slots) w first) to m;
+      }
+
+-- ---- any number of turns
+
+-- so many turns took the queues from s to u, of the n that may be made
+pub record IsRunning (from to less least n times : ℕ) (s u : Queues) : Type 0 where
+  pub within : times ≤ n
+  pub after : (rest : ℕ) → after_turns (times + rest) from to less s ≡ after_turns rest from to less u
+  pub due : turns_due n from to less least s ≡ times + turns_due (n - times) from to less least u
+  pub fits : FitTurns times from to less u
+  pub undone : before_turns times from to less u ≡ s
+
+due-next : (m from to less least : ℕ) (u : Queues) → nat_lt (count_or 0 (oldest_of (u from))) least ≡ false
+    → turns_due (suc m) from to less least u ≡ suc (turns_due m from to less least (after_turn from to less u))
+due-next m from to less least u h = rw h refl
+
+pub no-due : (m from to less least : ℕ) (u : Queues) → nat_lt (count_or 0 (oldest_of (u from))) least ≡ true → turns_due m from to less least u ≡ 0
+no-due zero from to less least u h = refl
+no-due (suc m) from to less least u h = rw h refl
+
+pub none-left-due : (from to less least n times : ℕ) (u : Queues) → n ≤ times → turns_due (n - times) from to less least u ≡ 0
+none-left-due from to less least n times u h =
+    let e : n - times ≡ 0 = omega (arith, h) in
+    ap (λ x. turns_due x from to less least u) e
+
+pub runs-on : (from to less least n times : ℕ) (s u v : Queues) → IsRunning from to less least n times s u → times < n
+    → nat_lt (count_or 0 (oldest_of (u from))) least ≡ false → IsTurn from to less u v → IsRunning from to less least n (times + 1) s v
+runs-on from to less least n times s u v h w some t =
+    let next : times + 1 ≡ suc times = omega arith in
+    subst (λ x. IsRunning from to less least n x s v) (sym next) record {
+      within = omega (arith, w);
+      after = λ rest.
+          let e : suc times + rest ≡ times + suc rest = omega arith in
+          ap (λ x. after_turns x from to less s) e ∙ h.after (suc rest) ∙ ap (after_turns rest from to less) (sym t.after);
+      due =
+          let left : n - times ≡ suc (n - suc times) = omega (arith, w) in
+          let step = h.due ∙ ap (λ x. times + turns_due x from to less least u) left
+          ∙ ap (λ x. times + x) (due-next (n - suc times) from to less least u some ∙ ap (λ x. suc (turns_due (n - suc times) from to less least x)) (sym t.after)) in
+          step ∙ omega arith;
+      fits = (t.fits, subst (FitTurns times from to less) (sym t.undone) h.fits);
+      undone = ap (before_turns times from to less) t.undone ∙ h.undone;
+    }
+
+pub run-ends : (from to less least n times : ℕ) (s u : Queues) → from < QUEUES → to < QUEUES → IsRunning from to less least n times s u
+    → turns_due (n - times) from to less least u ≡ 0
+    → (run from to less times ≡ run from to less (turns_due n from to less least s)) × IsRun (run from to less times) s u
+run-ends from to less least n times s u wf wt h none = (
+  ap (run from to less) (let all = h.due in omega (arith, all, none)),
+  record {
+    after = sym (let e : times + 0 ≡ times = omega arith in sym (ap (λ x. after_turns x from to less s) e) ∙ h.after 0);
+    fits = record { from = wf; to = wt; counts = h.fits };
+    undone = h.undone;
+  },
+)
+
+-- ---- back
+
+-- n of all turns are undone: what is left leads to the same queues
+pub record IsBack (from to less all n : ℕ) (s u : Queues) : Type 0 where
+  pub fits : FitTurns (all - n) from to less u
+  pub back : before_turns (all - n) from to less u ≡ before_turns all from to less s
+
+pub turns-fit-next : (from to less all n : ℕ) (u : Queues) → n < all → FitTurns (all - n) from to less u
+    → HasCountLeft less (newest_of (u to)) × FitTurns (all - (n + 1)) from to less (before_turn from to less u)
+turns-fit-next from to less all n u w h =
+    let e : all - n ≡ suc (all - (n + 1)) = omega (arith, w) in
+    subst (λ x. FitTurns x from to less u) e h
+
+pub turns-back-next : (from to less all n : ℕ) (s u v : Queues) → n < all → IsBack from to less all n s u → v ≡ before_turn from to less u
+    → IsBack from to less all (n + 1) s v
+turns-back-next from to less all n s u v w h e =
+    let left : all - n ≡ suc (all - (n + 1)) = omega (arith, w) in
+    record {
+      fits = subst (FitTurns (all - (n + 1)) from to less) (sym e) (turns-fit-next from to less all n u w h.fits).1;
+      back = ap (before_turns (all - (n + 1)) from to less) e ∙ sym (ap (λ x. before_turns x from to less u) left) ∙ h.back;
+    }

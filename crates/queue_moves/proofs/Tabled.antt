@@ -1,0 +1,480 @@
+-- What the calls make of the queues of a table of keys.
+use Rattle.std.proofs.Common.{◌≡◌, ℕ, suc, zero, ◌+◌, ◌-◌, ◌<◌, ◌≤◌, true, false, cond, ◌&&◌, eqb, nat_lt, Option, Some, None, List, [], ◌∷◌, ◌++◌, ap, ◌∙◌, sym, refl, arith, inl, inr}
+use Rattle.std.proofs.Math.Path.{fun_ext}
+use Rattle.std.proofs.lemmas.Bool.{cases_Bool, cases_eq, cases_lt, eq-eqb, lt-ltb, le-ltb}
+use Rattle.std.proofs.lemmas.List as ListLemmas
+use Rattle.step_record.specs.declared.item.Item.{Item}
+use Rattle.step_record.specs.Keys.{has_key, keys_without}
+use Rattle.queue_table.specs.declared.records.Entry.{Entry}
+use Rattle.queue_table.specs.Entries.{is_same_item, entry, occurrences, entries_without, entries_counted, oldest_of, before}
+use Rattle.queue_table.specs.Queues.{QUEUES, Queues, with_queue, queue_below, queue_holding, times_below, after_push, after_removal, after_send, after_count}
+use Rattle.queue_table.proofs.EntryLists.{same-true, same-refl, times-append, times-without}
+use Rattle.queue_table.proofs.QueueLists.{IsAbsent, absent, absent-taken, placed, queue-few, distinct-taken, with-queue-same, with-queue-other, times-with}
+use Rattle.queue_table.proofs.MoveBack.{StandsIn, front-none, back-none, rest, without-none}
+use Rattle.queue_table.proofs.Counting.{distinct-counted}
+use Rattle.queue_moves.specs.Moves.{item_of, count_of, standing, standing_at, Leaving, Own, stays, counts, goes, Plan, IsLowTarget, IsLowLeaving, IsLowOwn, IsLowPlan}
+use Rattle.queue_moves.specs.Moves.{turned, after_turn, after_turns, departed, after_leaving, count_or, turns_due, after_own, after_runs, after_first, after_second, after_all}
+use Rattle.queue_moves.specs.Tabled.{nodes_of, IsTabled, keys_of, StandsAs, lowered_entry, turned_list}
+
+-- ---- lists of entries
+
+pub keys-append : (a b : List Entry) → keys_of (a ++ b) ≡ keys_of a ++ keys_of b
+keys-append a b = ListLemmas.map-append (λ (e : Entry). e.item.key) a b
+
+nodes-append : (a b : List Entry) → nodes_of (a ++ b) ≡ nodes_of a + nodes_of b
+nodes-append [] b = omega arith
+nodes-append (e ∷ a) b = let r : nodes_of (a ++ b) ≡ nodes_of a + nodes_of b = nodes-append a b in omega (arith, r)
+
+nodes-without : (i : Item) (l : List Entry) → nodes_of (entries_without i l) ≤ nodes_of l
+nodes-without i [] = omega arith
+nodes-without i (e ∷ l) =
+    let r : nodes_of (entries_without i l) ≤ nodes_of l = nodes-without i l in
+    elim (cases_Bool (is_same_item i e.item)) as (λ _. nodes_of (cond (is_same_item i e.item) (entries_without i l) (e ∷ entries_without i l)) ≤ e.item.node + nodes_of l) [
+      | inl h ↦ rw h (omega (arith, r))
+      | inr h ↦ rw h (omega (arith, r))
+    ]
+
+nodes-counted : (i : Item) (n : ℕ) (l : List Entry) → nodes_of (entries_counted i n l) ≡ nodes_of l
+nodes-counted i n [] = refl
+nodes-counted i n (e ∷ l) =
+    let r : nodes_of (entries_counted i n l) ≡ nodes_of l = nodes-counted i n l in
+    elim (cases_Bool (is_same_item i e.item)) as (λ _. nodes_of (cond (is_same_item i e.item) (entry e.item n ∷ entries_counted i n l) (e ∷ entries_counted i n l)) ≡ e.item.node + nodes_of l) [
+      | inl h ↦ rw h (ap (λ x. e.item.node + x) r)
+      | inr h ↦ rw h (ap (λ x. e.item.node + x) r)
+    ]
+
+pub counted-none : (i : Item) (n : ℕ) (l : List Entry) → occurrences i l ≡ 0 → entries_counted i n l ≡ l
+counted-none i n [] h = refl
+counted-none i n (x ∷ l) h =
+    elim (cases_Bool (is_same_item i x.item)) as (λ _. cond (is_same_item i x.item) (entry x.item n ∷ entries_counted i n l) (x ∷ entries_counted i n l) ≡ x ∷ l) [
+      | inl e ↦ absurd (let few : 1 + occurrences i l ≡ 0 = rw e at h in omega (arith, few))
+      | inr e ↦ let rest : 0 + occurrences i l ≡ 0 = rw e at h in rw e (ap (λ t. x ∷ t) (counted-none i n l (omega (arith, rest))))
+    ]
+
+counted-append : (i : Item) (n : ℕ) (xs ys : List Entry) → entries_counted i n (xs ++ ys) ≡ entries_counted i n xs ++ entries_counted i n ys
+counted-append i n [] ys = refl
+counted-append i n (x ∷ xs) ys =
+    elim (cases_Bool (is_same_item i x.item)) as (λ _. cond (is_same_item i x.item) (entry x.item n ∷ entries_counted i n (xs ++ ys)) (x ∷ entries_counted i n (xs ++ ys)) ≡ cond (is_same_item i x.item) (entry x.item n ∷ entries_counted i n xs) (x ∷ entries_counted i n xs) ++ entries_counted i n ys) [
+      | inl e ↦ rw e (ap (λ t. entry x.item n ∷ t) (counted-append i n xs ys))
+      | inr e ↦ rw e (ap (λ t. x ∷ t) (counted-append i n xs ys))
+    ]
+
+-- what follows an item that stands in the list
+abbrev behind : Item → List Entry → List Entry
+behind i [] = []
+behind i (e ∷ l) = cond (is_same_item i e.item) l (behind i l)
+
+found-split : (i : Item) (l : List Entry) → 1 ≤ occurrences i l → l ≡ before i l ++ entry i (count_of i l) ∷ behind i l
+found-split i [] h = absurd (omega (arith, h))
+found-split i (x ∷ l) h =
+    elim (cases_Bool (is_same_item i x.item)) as (λ _. x ∷ l ≡ cond (is_same_item i x.item) [] (x ∷ before i l) ++ entry i (cond (is_same_item i x.item) x.count (count_of i l)) ∷ cond (is_same_item i x.item) l (behind i l)) [
+      | inl e ↦ rw e (ap (λ (j : Item). entry j x.count ∷ l) (sym (same-true i x.item e)))
+      | inr e ↦ let more : 1 ≤ 0 + occurrences i l = rw e at h in rw e (ap (λ t. x ∷ t) (found-split i l (omega (arith, more))))
+    ]
+
+-- ---- keys and items
+
+pub same-key : (k : ℕ) (i : Item) → i.node ≡ 0 → is_same_item (item_of k) i ≡ eqb k i.key
+same-key k i h =
+    elim (cases_Bool (eqb k i.key)) as (λ _. eqb k i.key && eqb 0 i.node ≡ eqb k i.key) [
+      | inl e ↦ rw e (eq-eqb 0 i.node (sym h))
+      | inr e ↦ rw e refl
+    ]
+
+pub has-occurs : (k : ℕ) (l : List Entry) → nodes_of l ≡ 0 → has_key k (keys_of l) ≡ nat_lt 0 (occurrences (item_of k) l)
+has-occurs k [] h = refl
+has-occurs k (x ∷ l) h =
+    let own : is_same_item (item_of k) x.item ≡ eqb k x.item.key = same-key k x.item (omega (arith, h)) in
+    let r : has_key k (keys_of l) ≡ nat_lt 0 (occurrences (item_of k) l) = has-occurs k l (omega (arith, h)) in
+    elim (cases_Bool (eqb k x.item.key)) as (λ _. cond (eqb k x.item.key) true (has_key k (keys_of l)) ≡ nat_lt 0 (cond (is_same_item (item_of k) x.item) 1 0 + occurrences (item_of k) l)) [
+      | inl e ↦ rw (own, e) (sym (lt-ltb 0 (1 + occurrences (item_of k) l) (omega arith)))
+      | inr e ↦ rw (own, e) (let z : occurrences (item_of k) l ≡ 0 + occurrences (item_of k) l = omega arith in r ∙ ap (nat_lt 0) z)
+    ]
+
+keys-taken : (k : ℕ) (l : List Entry) → nodes_of l ≡ 0 → keys_without k (keys_of l) ≡ keys_of (entries_without (item_of k) l)
+keys-taken k [] h = refl
+keys-taken k (x ∷ l) h =
+    let own : is_same_item (item_of k) x.item ≡ eqb k x.item.key = same-key k x.item (omega (arith, h)) in
+    let r : keys_without k (keys_of l) ≡ keys_of (entries_without (item_of k) l) = keys-taken k l (omega (arith, h)) in
+    elim (cases_Bool (eqb k x.item.key)) as (λ _. cond (eqb k x.item.key) (keys_without k (keys_of l)) (x.item.key ∷ keys_without k (keys_of l)) ≡ keys_of (cond (is_same_item (item_of k) x.item) (entries_without (item_of k) l) (x ∷ entries_without (item_of k) l))) [
+      | inl e ↦ rw (own, e) r
+      | inr e ↦ rw (own, e) (ap (λ t. x.item.key ∷ t) r)
+    ]
+
+has-key-some : (k : ℕ) (l : List Entry) → nodes_of l ≡ 0 → 1 ≤ occurrences (item_of k) l → has_key k (keys_of l) ≡ true
+has-key-some k l h m = has-occurs k l h ∙ lt-ltb 0 (occurrences (item_of k) l) m
+
+has-key-none : (k : ℕ) (l : List Entry) → nodes_of l ≡ 0 → occurrences (item_of k) l ≡ 0 → has_key k (keys_of l) ≡ false
+has-key-none k l h m = has-occurs k l h ∙ le-ltb 0 (occurrences (item_of k) l) (omega (arith, m))
+
+-- ---- queues by number
+
+with-queue-is : (q : ℕ) (l : List Entry) (s t : Queues) → t q ≡ l → ((j : ℕ) → (j ≡ q → ⊥) → t j ≡ s j) → t ≡ with_queue q l s
+with-queue-is q l s t h off = fun_ext (λ j. elim (cases_eq j q) [
+  | inl z ↦ ap t z ∙ h ∙ sym (with-queue-same q l s) ∙ ap (with_queue q l s) (sym z)
+  | inr d ↦ off j d ∙ sym (with-queue-other q j l s d)
+])
+
+held-below : (n : ℕ) (i : Item) (s : Queues) (q : ℕ) → queue_below n i s ≡ Some q → (q < n) × (1 ≤ occurrences i (s q))
+held-below zero i s q h = absurd (cc h)
+held-below (suc n) i s q h =
+    elim (cases_lt 0 (occurrences i (s n))) [
+      | inl a ↦
+          let e = lt-ltb 0 (occurrences i (s n)) a in
+          let h2 : Some n ≡ Some q = rw e at h in
+          let z : n ≡ q = cc h2 in
+          let b = ap (λ x. occurrences i (s x)) z in
+          (omega (arith, z), omega (arith, a, b))
+      | inr a ↦
+          let e = le-ltb 0 (occurrences i (s n)) a in
+          let h2 : queue_below n i s ≡ Some q = rw e at h in
+          let r = held-below n i s q h2 in
+          let w = r.0 in
+          (omega (arith, w), r.1)
+    ]
+
+standing-parts : (i : Item) (h : Option ℕ) (s : Queues) (q n : ℕ) → standing_at i h s ≡ Some (q, n) → (h ≡ Some q) × (count_of i (s q) ≡ n)
+standing-parts i None s q n e = absurd (cc e)
+standing-parts i (Some p) s q n e =
+    let f : Option (ℕ × ℕ) → ℕ × ℕ = λ o. elim o [ None ↦ (0, 0) | Some x ↦ x ] in
+    let z : p ≡ q = ap (λ o. (f o).0) e in
+    let c : count_of i (s p) ≡ n = ap (λ o. (f o).1) e in
+    (ap Some z, ap (λ x. count_of i (s x)) (sym z) ∙ c)
+
+nowhere-at : (i : Item) (h : Option ℕ) (s : Queues) → standing_at i h s ≡ None → h ≡ None
+nowhere-at i None s e = refl
+nowhere-at i (Some p) s e = absurd (cc e)
+
+pub nowhere-standing : (i : Item) (s : Queues) → standing i s ≡ None → queue_holding i s ≡ None
+nowhere-standing i s h = nowhere-at i (queue_holding i s) s h
+
+pub oldest-at : (s : Queues) (q : ℕ) (e : Entry) → oldest_of (s q) ≡ Some e → (l : List Entry) × (s q ≡ e ∷ l)
+oldest-at s q e h = first (s q) h
+  where
+    first : (v : List Entry) → oldest_of v ≡ Some e → (l : List Entry) × (v ≡ e ∷ l)
+    first [] h = absurd (cc h)
+    first (x ∷ l) h = let z : x ≡ e = cc h in (l, ap (λ y. y ∷ l) z)
+
+-- ---- tabled queues
+
+module _ (s : Queues) (t : IsTabled s) where
+  few : (q : ℕ) (i : Item) → occurrences i (s q) ≤ 1
+  few q i = elim (cases_lt q QUEUES) [
+    | inl w ↦ queue-few q s w t.distinct i
+    | inr w ↦ let z = ap (occurrences i) (t.high q w) in omega (arith, z)
+  ]
+
+  low : (q : ℕ) (i : Item) → 1 ≤ occurrences i (s q) → q < QUEUES
+  low q i h = elim (cases_lt q QUEUES) [
+    | inl w ↦ w
+    | inr w ↦ absurd (let z = ap (occurrences i) (t.high q w) in omega (arith, z, h))
+  ]
+
+  -- an item that stands in one queue stands in no other one
+  elsewhere : (q : ℕ) (i : Item) → 1 ≤ occurrences i (s q) → (j : ℕ) → (j ≡ q → ⊥) → occurrences i (s j) ≡ 0
+  elsewhere q i h j d = elim (cases_lt 0 (occurrences i (s j))) [
+    | inl m ↦ absurd (d (
+        let two : Some j ≡ Some q = sym (placed j i s (low j i m) t.distinct m) ∙ placed q i s (low q i h) t.distinct h in
+        cc two))
+    | inr m ↦ omega (arith, m)
+  ]
+
+  nowhere : (i : Item) → queue_holding i s ≡ None → (j : ℕ) → occurrences i (s j) ≡ 0
+  nowhere i h j = elim (cases_lt j QUEUES) [
+    | inl w ↦ absent i s h j w
+    | inr w ↦ ap (occurrences i) (t.high j w)
+  ]
+
+  at-once : (q : ℕ) (e : Entry) (a b : List Entry) → s q ≡ a ++ e ∷ b → 1 ≤ occurrences e.item (s q)
+  at-once q e a b h =
+      let own : is_same_item e.item e.item ≡ true = same-refl e.item in
+      let p : occurrences e.item (s q) ≡ occurrences e.item a + (1 + occurrences e.item b) =
+      ap (occurrences e.item) h ∙ times-append e.item a (e ∷ b) ∙ rw own refl in
+      omega (arith, p)
+
+  abbrev cut : (q : ℕ) (e : Entry) (a b : List Entry) → s q ≡ a ++ e ∷ b → StandsIn q e s
+  cut q e a b h = record { low = low q e.item (at-once q e a b h); front = a; back = b; whole = h }
+
+  gone-at : (q : ℕ) (e : Entry) (a b : List Entry) → s q ≡ a ++ e ∷ b → entries_without e.item (s q) ≡ a ++ b
+  gone-at q e a b h = rest q e s t.distinct (cut q e a b h)
+
+  pub standing-gone : (q : ℕ) (e : Entry) (a b : List Entry) → s q ≡ a ++ e ∷ b → after_removal e.item s ≡ with_queue q (a ++ b) s
+  standing-gone q e a b h = with-queue-is q (a ++ b) s (after_removal e.item s) (gone-at q e a b h)
+      (λ j d. without-none e.item (s j) (elsewhere q e.item (at-once q e a b h) j d))
+
+  pub oldest-gone : (q : ℕ) (e : Entry) (l : List Entry) → s q ≡ e ∷ l → after_removal e.item s ≡ with_queue q l s
+  oldest-gone q e l h = standing-gone q e [] l h
+
+  pub absent-gone : (i : Item) → queue_holding i s ≡ None → after_removal i s ≡ s
+  absent-gone i h = fun_ext (λ j. without-none i (s j) (nowhere i h j))
+
+  standing-counted : (q : ℕ) (e : Entry) (a b : List Entry) (m : ℕ) → s q ≡ a ++ e ∷ b → after_count e.item m s ≡ with_queue q (a ++ entry e.item m ∷ b) s
+  standing-counted q e a b m h = with-queue-is q (a ++ entry e.item m ∷ b) s (after_count e.item m s)
+      (let own : is_same_item e.item e.item ≡ true = same-refl e.item in
+      ap (entries_counted e.item m) h ∙ counted-append e.item m a (e ∷ b)
+      ∙ rw (own, counted-none e.item m a (front-none q e s t.distinct (cut q e a b h)), counted-none e.item m b (back-none q e s t.distinct (cut q e a b h))) refl)
+      (λ j d. counted-none e.item m (s j) (elsewhere q e.item (at-once q e a b h) j d))
+
+  nodes-at : (q : ℕ) (e : Entry) (a b : List Entry) → s q ≡ a ++ e ∷ b → nodes_of a + (e.item.node + nodes_of b) ≡ 0
+  nodes-at q e a b h = sym (ap nodes_of h ∙ nodes-append a (e ∷ b)) ∙ t.keys q
+
+  node-none : (q : ℕ) (e : Entry) (a b : List Entry) → s q ≡ a ++ e ∷ b → e.item.node ≡ 0
+  node-none q e a b h = let z = nodes-at q e a b h in omega (arith, z)
+
+  module _ (k : ℕ) where
+    stands-in : (q n : ℕ) → 1 ≤ occurrences (item_of k) (s q) → count_of (item_of k) (s q) ≡ n → StandsAs k q n s
+    stands-in q n m c =
+        let i : Item = item_of k in
+        let whole : s q ≡ before i (s q) ++ entry i n ∷ behind i (s q) =
+        found-split i (s q) m ∙ ap (λ x. before i (s q) ++ entry i x ∷ behind i (s q)) c in
+        let none = elsewhere q i m in
+        let plain = nodes-at q (entry i n) (before i (s q)) (behind i (s q)) whole in
+        record {
+          low = low q i m;
+          front = before i (s q);
+          back = behind i (s q);
+          whole = whole;
+          here = has-key-some k (s q) (t.keys q) m;
+          front_off = has-key-none k (before i (s q)) (omega (arith, plain)) (front-none q (entry i n) s t.distinct (cut q (entry i n) (before i (s q)) (behind i (s q)) whole));
+          back_off = has-key-none k (behind i (s q)) (omega (arith, plain)) (back-none q (entry i n) s t.distinct (cut q (entry i n) (before i (s q)) (behind i (s q)) whole));
+          off = λ j d. has-key-none k (s j) (t.keys j) (none j d);
+          without = keys-taken k (s q) (t.keys q) ∙ ap keys_of (gone-at q (entry i n) (before i (s q)) (behind i (s q)) whole);
+          off_without = λ j d. keys-taken k (s j) (t.keys j) ∙ ap keys_of (without-none i (s j) (none j d));
+        }
+
+    pub stands : (q n : ℕ) → standing (item_of k) s ≡ Some (q, n) → StandsAs k q n s
+    stands q n h =
+        let p = standing-parts (item_of k) (queue_holding (item_of k) s) s q n h in
+        stands-in q n (held-below QUEUES (item_of k) s q p.0).1 p.1
+
+    pub stands-nowhere : standing (item_of k) s ≡ None → (j : ℕ) → (has_key k (keys_of (s j)) ≡ false) × (keys_without k (keys_of (s j)) ≡ keys_of (s j))
+    stands-nowhere h j =
+        let none = nowhere (item_of k) (nowhere-standing (item_of k) s h) j in (
+          has-key-none k (s j) (t.keys j) none,
+          keys-taken k (s j) (t.keys j) ∙ ap keys_of (without-none (item_of k) (s j) none),
+        )
+
+    pub recounted : (q n m : ℕ) (at : StandsAs k q n s) → after_count (item_of k) m s ≡ with_queue q (at.front ++ entry (item_of k) m ∷ at.back) s
+    recounted q n m at = standing-counted q (entry (item_of k) n) at.front at.back m at.whole
+
+    pub sent : (q n to m : ℕ) (at : StandsAs k q n s) → after_send (entry (item_of k) m) to s ≡ after_push to (entry (item_of k) m) (with_queue q (at.front ++ at.back) s)
+    sent q n to m at = ap (after_push to (entry (item_of k) m)) (standing-gone q (entry (item_of k) n) at.front at.back at.whole)
+
+    pub joined : (to m : ℕ) → standing (item_of k) s ≡ None → after_send (entry (item_of k) m) to s ≡ after_push to (entry (item_of k) m) s
+    joined to m h = ap (after_push to (entry (item_of k) m)) (absent-gone (item_of k) (nowhere-standing (item_of k) s h))
+
+-- ---- they stay tabled
+
+times-absent : (n : ℕ) (i : Item) (s : Queues) → ((q : ℕ) → q < n → occurrences i (s q) ≡ 0) → times_below n i s ≡ 0
+times-absent zero i s h = refl
+times-absent (suc n) i s h =
+    let a = h n (omega arith) in
+    let r = times-absent n i s (λ q w. h q (omega (arith, w))) in
+    omega (arith, a, r)
+
+pub tabled-push : (s : Queues) → IsTabled s → (q : ℕ) (e : Entry) → q < QUEUES → e.item.node ≡ 0 → IsAbsent e.item s → IsTabled (after_push q e s)
+tabled-push s t q e w node none = record {
+  keys = λ j. elim (cases_eq j q) [
+    | inl z ↦
+        ap (λ x. nodes_of (after_push q e s x)) z
+        ∙ ap nodes_of (with-queue-same q (s q ++ e ∷ []) s)
+        ∙ (let a = nodes-append (s q) (e ∷ []) in let b = t.keys q in omega (arith, a, b, node))
+    | inr d ↦ ap nodes_of (with-queue-other q j (s q ++ e ∷ []) s d) ∙ t.keys j
+  ];
+  distinct = λ i. (
+      let a = times-with QUEUES q i (s q ++ e ∷ []) s w in
+      let b = times-append i (s q) (e ∷ []) in
+      let c = t.distinct i in
+      elim (cases_Bool (is_same_item i e.item)) as (λ _. times_below QUEUES i (after_push q e s) ≤ 1) [
+        | inl g ↦
+            let z : i ≡ e.item = same-true i e.item g in
+            let none2 : times_below QUEUES i s ≡ 0 = ap (λ x. times_below QUEUES x s) z ∙ times-absent QUEUES e.item s none in
+            let b2 : occurrences i (s q ++ e ∷ []) ≡ occurrences i (s q) + (1 + 0) = rw g at b in
+            omega (arith, a, b2, none2)
+        | inr g ↦
+            let b2 : occurrences i (s q ++ e ∷ []) ≡ occurrences i (s q) + (0 + 0) = rw g at b in
+            omega (arith, a, b2, c)
+      ]);
+  high = λ j h. with-queue-other q j (s q ++ e ∷ []) s (λ z. omega (arith, z, h, w)) ∙ t.high j h;
+}
+
+module _ (s : Queues) (t : IsTabled s) where
+  pub tabled-removal : (i : Item) → IsTabled (after_removal i s)
+  tabled-removal i = record {
+    keys = λ q. (let a = nodes-without i (s q) in let b = t.keys q in omega (arith, a, b));
+    distinct = distinct-taken i s t.distinct;
+    high = λ q h. ap (entries_without i) (t.high q h);
+  }
+
+  pub tabled-count : (i : Item) (n : ℕ) → IsTabled (after_count i n s)
+  tabled-count i n = record {
+    keys = λ q. nodes-counted i n (s q) ∙ t.keys q;
+    distinct = distinct-counted i n s t.distinct;
+    high = λ q h. ap (entries_counted i n) (t.high q h);
+  }
+
+  pub tabled-send : (e : Entry) (to : ℕ) → to < QUEUES → e.item.node ≡ 0 → IsTabled (after_send e to s)
+  tabled-send e to w node = tabled-push (after_removal e.item s) (tabled-removal e.item) to e w node (absent-taken e.item s)
+
+  oldest-node : (q : ℕ) (e : Entry) → oldest_of (s q) ≡ Some e → e.item.node ≡ 0
+  oldest-node q e h = let p = oldest-at s q e h in node-none s t q e [] p.0 p.1
+
+  tabled-turned : (to less : ℕ) (o : Option Entry) → to < QUEUES → ((e : Entry) → o ≡ Some e → e.item.node ≡ 0) → IsTabled (turned to less o s)
+  tabled-turned to less None w node = t
+  tabled-turned to less (Some e) w node = tabled-send (entry e.item (e.count - less)) to w (node e refl)
+
+  pub tabled-turn : (from to less : ℕ) → to < QUEUES → IsTabled (after_turn from to less s)
+  tabled-turn from to less w = tabled-turned to less (oldest_of (s from)) w (λ e. oldest-node from e)
+
+  tabled-departed : (to : Option (ℕ × ℕ)) (o : Option Entry) → IsLowTarget to → ((e : Entry) → o ≡ Some e → e.item.node ≡ 0) → IsTabled (departed to o s)
+  tabled-departed to None w node = t
+  tabled-departed None (Some e) w node = tabled-removal e.item
+  tabled-departed (Some p) (Some e) w node = tabled-send (entry e.item p.1) p.0 w (node e refl)
+
+  pub tabled-leaving : (l : Option Leaving) → IsLowLeaving l → IsTabled (after_leaving l s)
+  tabled-leaving None w = t
+  tabled-leaving (Some l) w = tabled-departed l.to (oldest_of (s l.from)) w.1 (λ e. oldest-node l.from e)
+
+  pub tabled-own : (o : Own) → IsLowOwn o → (k : ℕ) → IsTabled (after_own o (item_of k) s)
+  tabled-own stays w k = t
+  tabled-own (counts n) w k = tabled-count (item_of k) n
+  tabled-own (goes q n) w k = tabled-send (entry (item_of k) n) q w refl
+
+pub tabled-turns : (s : Queues) → IsTabled s → (n from to less : ℕ) → to < QUEUES → IsTabled (after_turns n from to less s)
+tabled-turns s t zero from to less w = t
+tabled-turns s t (suc n) from to less w = tabled-turns (after_turn from to less s) (tabled-turn s t from to less w) n from to less w
+
+pub tabled-runs : (s : Queues) → IsTabled s → (p : Plan) → IsLowPlan p → IsTabled (after_runs p s)
+tabled-runs s t p w =
+    tabled-turns _ (tabled-turns s t p.early.times p.early.from p.early.to p.early.less w.early.1) p.late.times p.late.from p.late.to p.late.less w.late.1
+
+pub tabled-all : (s : Queues) → IsTabled s → (p : Plan) → IsLowPlan p → (k : ℕ) → IsTabled (after_all p (item_of k) s)
+tabled-all s t p w k =
+    let first = tabled-leaving (after_runs p s) (tabled-runs s t p w) p.first w.first in
+    let second = tabled-leaving (after_first p s) first p.second w.second in
+    tabled-own (after_second p s) second p.own w.own k
+
+-- ---- an item that stands nowhere
+
+abbrev pub IsNowhere : Item → Queues → Type 0
+IsNowhere i s = (q : ℕ) → occurrences i (s q) ≡ 0
+
+nowhere-removal : (i : Item) (v : Item) (s : Queues) → IsNowhere i s → IsNowhere i (after_removal v s)
+nowhere-removal i v s h q = let a = h q in let l = times-without v i (s q) in omega (arith, a, l)
+
+-- it is not the oldest of a queue
+not-oldest : (i : Item) (l : List Entry) (e : Entry) → occurrences i l ≡ 0 → oldest_of l ≡ Some e → is_same_item i e.item ≡ false
+not-oldest i [] e h o = absurd (cc o)
+not-oldest i (x ∷ l) e h o =
+    let z : x ≡ e = cc o in
+    elim (cases_Bool (is_same_item i x.item)) [
+      | inl g ↦ absurd (let some : 1 + occurrences i l ≡ 0 = rw g at h in omega (arith, some))
+      | inr g ↦ ap (λ (y : Entry). is_same_item i y.item) (sym z) ∙ g
+    ]
+
+nowhere-send : (i : Item) (e : Entry) (to : ℕ) (s : Queues) → is_same_item i e.item ≡ false → IsNowhere i s → IsNowhere i (after_send e to s)
+nowhere-send i e to s other h q =
+    let gone = nowhere-removal i e.item s h in
+    elim (cases_eq q to) [
+      | inl z ↦
+          let sum : occurrences i (after_send e to s q) ≡ occurrences i (entries_without e.item (s to)) + occurrences i (e ∷ []) =
+          ap (λ x. occurrences i (after_send e to s x)) z
+          ∙ ap (occurrences i) (with-queue-same to (entries_without e.item (s to) ++ e ∷ []) (after_removal e.item s))
+          ∙ times-append i (entries_without e.item (s to)) (e ∷ []) in
+          let sum2 : occurrences i (after_send e to s q) ≡ occurrences i (entries_without e.item (s to)) + (0 + 0) = rw other at sum in
+          let none = gone to in
+          omega (arith, sum2, none)
+      | inr d ↦ ap (occurrences i) (with-queue-other to q (entries_without e.item (s to) ++ e ∷ []) (after_removal e.item s) d) ∙ gone q
+    ]
+
+nowhere-turned : (i : Item) (to less : ℕ) (o : Option Entry) (s : Queues) → ((e : Entry) → o ≡ Some e → is_same_item i e.item ≡ false) → IsNowhere i s → IsNowhere i (turned to less o s)
+nowhere-turned i to less None s other h = h
+nowhere-turned i to less (Some e) s other h = nowhere-send i (entry e.item (e.count - less)) to s (other e refl) h
+
+pub nowhere-turns : (i : Item) (s : Queues) → IsNowhere i s → (n from to less : ℕ) → IsNowhere i (after_turns n from to less s)
+nowhere-turns i s h zero from to less = h
+nowhere-turns i s h (suc n) from to less =
+    nowhere-turns i (after_turn from to less s) (nowhere-turned i to less (oldest_of (s from)) s (λ e. not-oldest i (s from) e (h from)) h) n from to less
+
+nowhere-departed : (i : Item) (to : Option (ℕ × ℕ)) (o : Option Entry) (s : Queues) → ((e : Entry) → o ≡ Some e → is_same_item i e.item ≡ false) → IsNowhere i s → IsNowhere i (departed to o s)
+nowhere-departed i to None s other h = h
+nowhere-departed i None (Some e) s other h = nowhere-removal i e.item s h
+nowhere-departed i (Some p) (Some e) s other h = nowhere-send i (entry e.item p.1) p.0 s (other e refl) h
+
+pub nowhere-leaving : (i : Item) (s : Queues) → IsNowhere i s → (l : Option Leaving) → IsNowhere i (after_leaving l s)
+nowhere-leaving i s h None = h
+nowhere-leaving i s h (Some l) = nowhere-departed i l.to (oldest_of (s l.from)) s (λ e. not-oldest i (s l.from) e (h l.from)) h
+
+-- ---- runs
+
+-- what a turn of the oldest makes of the queues
+pub turn-is : (s : Queues) → IsTabled s → (from to less : ℕ) (e : Entry) (l : List Entry) → s from ≡ e ∷ l
+    → after_turn from to less s ≡ after_push to (lowered_entry less e) (with_queue from l s)
+turn-is s t from to less e l h =
+    ap (λ (v : List Entry). turned to less (oldest_of v) s) h ∙ ap (after_push to (lowered_entry less e)) (oldest-gone s t from e l h)
+
+pub turn-none : (s : Queues) (from to less : ℕ) → s from ≡ [] → after_turn from to less s ≡ s
+turn-none s from to less h = ap (λ (v : List Entry). turned to less (oldest_of v) s) h
+
+-- how many turns are due, by the oldest
+
+pub due-none : (s : Queues) (n from to less least : ℕ) → s from ≡ [] → 1 ≤ least → turns_due n from to less least s ≡ 0
+due-none s zero from to less least h w = refl
+due-none s (suc n) from to less least h w =
+    let few : nat_lt (count_or 0 (oldest_of (s from))) least ≡ true =
+    ap (λ (v : List Entry). nat_lt (count_or 0 (oldest_of v)) least) h ∙ lt-ltb 0 least w in
+    rw few refl
+
+module _ (s : Queues) (n from to less least : ℕ) (e : Entry) (l : List Entry) (h : s from ≡ e ∷ l) where
+  count-is : nat_lt (count_or 0 (oldest_of (s from))) least ≡ nat_lt e.count least
+  count-is = ap (λ (v : List Entry). nat_lt (count_or 0 (oldest_of v)) least) h
+
+  pub due-few : nat_lt e.count least ≡ true → turns_due (suc n) from to less least s ≡ 0
+  due-few f = rw (count-is ∙ f) refl
+
+  pub due-more : nat_lt e.count least ≡ false
+      → turns_due (suc n) from to less least s ≡ suc (turns_due n from to less least (after_turn from to less s))
+  due-more f = rw (count-is ∙ f) refl
+
+twice-with : (q : ℕ) (l m : List Entry) (s : Queues) → with_queue q l (with_queue q m s) ≡ with_queue q l s
+twice-with q l m s = with-queue-is q l s (with_queue q l (with_queue q m s)) (with-queue-same q l (with_queue q m s))
+    (λ j d. with-queue-other q j l (with_queue q m s) d ∙ with-queue-other q j m s d)
+
+turned-none : (n less : ℕ) → turned_list n less [] ≡ []
+turned-none zero less = refl
+turned-none (suc n) less = refl
+
+within-none : (n : ℕ) (s : Queues) (q less : ℕ) → s q ≡ []
+    → after_turns n q q less (after_turn q q less s) ≡ with_queue q (turned_list n less (after_turn q q less s q)) (after_turn q q less s)
+    → after_turns n q q less (after_turn q q less s) ≡ with_queue q (turned_list (suc n) less (s q)) s
+within-none n s q less e rest =
+    let is : after_turn q q less s ≡ s = ap (λ (v : List Entry). turned q less (oldest_of v) s) e in
+    let none : turned_list n less (s q) ≡ turned_list (suc n) less (s q) =
+    ap (turned_list n less) e ∙ turned-none n less ∙ ap (turned_list (suc n) less) (sym e) in
+    rest ∙ ap (λ (v : Queues). with_queue q (turned_list n less (v q)) v) is ∙ ap (λ (v : List Entry). with_queue q v s) none
+
+within-more : (n : ℕ) (s : Queues) → IsTabled s → (q less : ℕ) (x : Entry) (l : List Entry) → s q ≡ x ∷ l
+    → after_turns n q q less (after_turn q q less s) ≡ with_queue q (turned_list n less (after_turn q q less s q)) (after_turn q q less s)
+    → after_turns n q q less (after_turn q q less s) ≡ with_queue q (turned_list (suc n) less (s q)) s
+within-more n s t q less x l e rest =
+    let m : List Entry = l ++ lowered_entry less x ∷ [] in
+    let is : after_turn q q less s ≡ with_queue q m s =
+    turn-is s t q q less x l e
+    ∙ ap (λ (v : List Entry). with_queue q (v ++ lowered_entry less x ∷ []) (with_queue q l s)) (with-queue-same q l s)
+    ∙ twice-with q m l s in
+    rest
+    ∙ ap (λ (v : Queues). with_queue q (turned_list n less (v q)) v) is
+    ∙ ap (λ (v : List Entry). with_queue q (turned_list n less v) (with_queue q m s)) (with-queue-same q m s)
+    ∙ twice-with q (turned_list n less m) m s
+    ∙ ap (λ (v : List Entry). with_queue q (turned_list (suc n) less v) s) (sym e)
+
+within-step : (n : ℕ) (s : Queues) → IsTabled s → (q less : ℕ) (v : List Entry) → s q ≡ v
+    → after_turns n q q less (after_turn q q less s) ≡ with_queue q (turned_list n less (after_turn q q less s q)) (after_turn q q less s)
+    → after_turns n q q less (after_turn q q less s) ≡ with_queue q (turned_list (suc n) less (s q)) s
+within-step n s t q less [] e rest = within-none n s q less e rest
+within-step n s t q less (x ∷ l) e rest = within-more n s t q less x l e rest
+
+pub turns-within : (s : Queues) → IsTabled s → (n q less : ℕ) → q < QUEUES → after_turns n q q less s ≡ with_queue q (turned_list n less (s q)) s
+turns-within s t zero q less w = with-queue-is q (s q) s s refl (λ j d. refl)
+turns-within s t (suc n) q less w =
+    within-step n s t q less (s q) refl (turns-within (after_turn q q less s) (tabled-turn s t q q less w) n q less w)

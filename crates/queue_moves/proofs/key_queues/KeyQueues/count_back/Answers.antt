@@ -1,0 +1,26 @@
+use Rattle.std.proofs.Common.{◌∙◌, List, ap, sym, subst}
+use Rattle.queue_table.specs.declared.records.Entry.{Entry}
+use Rattle.queue_table.specs.declared.slot.Slot.{Slot}
+use Rattle.queue_table.specs.Queues.{after_count}
+use Rattle.queue_table.specs.QueueTable.{queues}
+use Rattle.queue_moves.specs.Moves.{item_of}
+use Rattle.queue_moves.specs.Tabled.{HasKeys}
+use Rattle.queue_moves.proofs.Laws.{tabled-in, count-none}
+use Rattle.queue_moves.proofs.Tabled.{tabled-count}
+use Rattle.queue_moves.proofs.key_queues.KeyQueues.count_back.Goals as goal
+
+pub invariant_of-self : goal.invariant_of-self
+invariant_of-self c =
+    subst HasKeys (sym c.set_count.ensures.queues) (tabled-count _ (tabled-in c.self.inside.table c.self.invariant c.find.ensures.distinct) _ c.args.count).keys
+
+pub returns-in-Some-clause-queues : goal.returns-in-Some-clause-queues
+returns-in-Some-clause-queues c =
+    c.set_count.ensures.queues
+    ∙ ap (λ (e : Entry). after_count e.item c.args.count (queues c.self.inside.table)) c.in-Some.ensures.entry
+    ∙ ap (λ (x : List Slot). after_count (item_of c.args.key) c.args.count (queues x)) c.self.view_is
+
+pub returns-in-None-clause-queues : goal.returns-in-None-clause-queues
+returns-in-None-clause-queues c =
+    sym (ap (λ (x : List Slot). after_count (item_of c.args.key) c.args.count (queues x)) (sym c.self.view_is)
+    ∙ count-none (item_of c.args.key) c.args.count c.self.inside.table c.in-None.ensures.missing
+    ∙ ap queues c.self.view_is)

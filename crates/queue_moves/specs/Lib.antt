@@ -1,0 +1,4 @@
+pub mod Moves
+pub mod Undoing
+pub mod Tabled
+pub mod Lists

@@ -1,0 +1,303 @@
+//! Queues of keys by number, and the calls that carry out one part of a plan.
+ghost use Rattle.std.specs.Prelude.{◌≡◌, ◌≢◌, ◌<◌, ◌≤◌, ◌+◌, ◌++◌, ℕ, nat_lt, true, false, map, [], length, Ok, Option, Some, None, OnOk, OnErr, IfOk, IfSome, IfNone};
+ghost use Rattle.queue_table.specs.declared.records.Entry.{Entry};
+ghost use Rattle.queue_table.specs.Entries.{entry, occurrences, oldest_of};
+ghost use Rattle.queue_table.specs.Queues.{QUEUES, empty_queues, queue_holding};
+ghost use Rattle.queue_table.specs.QueueTable.{queues, spare, HoldsAt};
+ghost use Rattle.queue_moves.specs.Moves.{item_of, run, standing, turns_due, count_or, leaving, counts, goes};
+ghost use Rattle.queue_moves.specs.Undoing.{IsTurn, IsRun, IsLeft, IsOwn, outs, key_in};
+ghost use Rattle.queue_moves.specs.Tabled.{IsTabled, keys_of};
+
+use crate::records::{Change, Departure, KeyMove, Left, Run};
+use queue_table::{Entry, Found, QueueTable};
+use std::alloc::{AllocError, Global};
+use std::marker::Model;
+use step_record::{Item, Key};
+
+// The least number of keys at which keys are prefetched. Smaller queues stay in the processor's caches, where
+// prefetching costs more than it spares.
+const PREFETCH_FROM: usize = 65_536;
+
+/// Queues by number, of distinct keys, oldest first, with a count beside each key.
+#[derive(Drop)]
+pub struct KeyQueues {
+    alloc: Global,
+    pub(crate) table: QueueTable,
+    /// A sum over what `prefetch` read, kept so that the compiler cannot drop the reads.
+    prefetched: u64,
+}
+
+impl Model for KeyQueues {
+    ghost use Rattle.std.specs.Prelude.{List};
+    ghost use Rattle.queue_table.specs.declared.slot.Slot.{Slot};
+    ghost use Rattle.queue_table.specs.QueueTable.{queues};
+    ghost use Rattle.queue_moves.specs.Tabled.{HasKeys};
+
+    ghost Value = { List Slot };
+
+    ghost view = { λ t. t.table };
+
+    ghost invariant = { λ t. HasKeys (queues t.table) };
+}
+
+impl KeyQueues {
+    /// Empty queues, with no room yet. Allocates nothing. The first `reserve` makes a hash index that is large enough
+    /// for so many keys, so that it is not rebuilt while the queues fill.
+    #[inline(always)]
+    pub fn for_items(alloc: Global, items: u32) -> KeyQueues
+        ensures { queues result ≡ empty_queues }
+    {
+        KeyQueues {
+            alloc,
+            table: QueueTable::for_items(alloc, items),
+            prefetched: 0,
+        }
+    }
+
+    /// What holds of any `KeyQueues`. This does nothing: its contract is the fact.
+    #[inline(always)]
+    pub fn tabled(&self)
+        ensures { IsTabled (queues self.now) }
+    {
+        self.table.distinct();
+    }
+
+    /// How many keys stand in the queue.
+    #[inline(always)]
+    pub fn len(&self, queue: u8) -> usize
+        requires { queue < QUEUES }
+        ensures { result ≡ length (queues self.now queue) }
+    {
+        self.table.len(queue)
+    }
+
+    /// Makes room for at least one more key; where there is room, it allocates nothing and returns Ok. The one error
+    /// is out of memory; queues and room are then as before.
+    #[inline(always)]
+    pub fn reserve(&mut self) -> Result<(), AllocError>
+        ensures queues { queues self.new ≡ queues self.old }
+        ensures room { OnOk result (1 ≤ spare self.new) }
+        ensures enough { 1 ≤ spare self.old → result ≡ Ok tt }
+        ensures spare { spare self.old ≤ spare self.new }
+    {
+        self.table.reserve(self.alloc)
+    }
+
+    /// Prefetches what a search for each of these keys reads first, where the queues are larger than the processor's
+    /// caches. Unlike the reads of a search, these do not depend on one another, so the processor overlaps them.
+    /// Changes nothing that a caller can see.
+    #[inline(always)]
+    pub fn prefetch(&mut self, keys: &[Key])
+        ensures { self.new ≡ self.old }
+    {
+        if self.table.count() >= PREFETCH_FROM {
+            self.read_ahead(keys);
+        }
+    }
+
+    #[inline(never)]
+    fn read_ahead(&mut self, keys: &[Key])
+        ensures { self.new ≡ self.old }
+    {
+        self.prefetched ^= self.table.prefetch(keys, 0);
+    }
+
+    /// The slot of the key, with its queue and its count.
+    #[inline(always)]
+    pub fn find(&self, key: Key) -> Option<Found>
+        ensures at { IfSome result (λ f. HoldsAt f.at (entry (item_of key) f.count) self.now) }
+        ensures low { IfSome result (λ f. f.queue < QUEUES) }
+        ensures stands { IfSome result (λ f. standing (item_of key) (queues self.now) ≡ Some (f.queue, f.count)) }
+        ensures absent { IfNone result (queue_holding (item_of key) (queues self.now) ≡ None) }
+    {
+        let found = self.table.find(Item { key, node: 0 })?;
+        Some(found)
+    }
+
+    /// The oldest key of one queue goes to the recent end of another, or of the same, with its count lowered: again and
+    /// again while its count is at least the given one, and at most so many times. It needs no room.
+    #[inline(always)]
+    pub fn run(&mut self, from: u8, to: u8, less: u8, least: u8, most: u32) -> Run
+        requires from { from < QUEUES }
+        requires to { to < QUEUES }
+        requires least { 1 ≤ least }
+        requires less { less ≤ least }
+        ensures run { result ≡ run from to less (turns_due most from to less least (queues self.old)) }
+        ensures made { IsRun result (queues self.old) (queues self.new) }
+        ensures spare { spare self.new ≡ spare self.old }
+        ensures others { (j : ℕ) (e : Entry) → HoldsAt j e self.old → occurrences e.item (queues self.old from) ≡ 0
+            → HoldsAt j e self.new }
+    {
+        let mut times = 0;
+        while times < most {
+            if !self.turn(from, to, less, least) {
+                break;
+            }
+            times += 1;
+        }
+        Run {
+            times,
+            from,
+            to,
+            less,
+        }
+    }
+
+    // One turn, where the count of the oldest key is at least the given one; whether it is.
+    #[inline(always)]
+    fn turn(&mut self, from: u8, to: u8, less: u8, least: u8) -> bool
+        requires from { from < QUEUES }
+        requires to { to < QUEUES }
+        requires least { 1 ≤ least }
+        requires less { less ≤ least }
+        ensures none { result ≡ false → nat_lt (count_or 0 (oldest_of (queues self.old from))) least ≡ true }
+        ensures same { result ≡ false → self.new ≡ self.old }
+        ensures some { result ≡ true → nat_lt (count_or 0 (oldest_of (queues self.old from))) least ≡ false }
+        ensures turned { result ≡ true → IsTurn from to less (queues self.old) (queues self.new) }
+        ensures spare { spare self.new ≡ spare self.old }
+        ensures others { (j : ℕ) (e : Entry) → HoldsAt j e self.old → occurrences e.item (queues self.old from) ≡ 0
+            → HoldsAt j e self.new × (occurrences e.item (queues self.new from) ≡ 0) }
+    {
+        self.table.distinct();
+        let Some((at, oldest)) = self.table.oldest(from) else {
+            return false;
+        };
+        if oldest.count < least {
+            return false;
+        }
+        let _ = self.table.send(at, to, oldest.count - less);
+        true
+    }
+
+    /// The oldest key of a queue, if it has one, goes to the recent end of another one. It needs no room.
+    #[inline(always)]
+    pub fn send_oldest(&mut self, from: u8, queue: u8, count: u8) -> Left
+        requires from { from < QUEUES }
+        requires queue { queue < QUEUES }
+        ensures left { IsLeft (leaving from (Some (queue, count))) (queues self.old) (queues self.new) result }
+        ensures stays { outs result.by ≡ 0 }
+        ensures spare { spare self.new ≡ spare self.old }
+        ensures others { (j : ℕ) (e : Entry) → HoldsAt j e self.old → occurrences e.item (queues self.old from) ≡ 0
+            → HoldsAt j e self.new }
+    {
+        self.table.distinct();
+        let Some((at, oldest)) = self.table.oldest(from) else {
+            return Left::NONE;
+        };
+        let _ = self.table.send(at, queue, count);
+        Left {
+            key: oldest.item.key,
+            count: oldest.count,
+            queue: from,
+            by: Departure::Sent,
+        }
+    }
+
+    /// The oldest key of a queue, if it has one, goes out, and leaves room.
+    #[inline(always)]
+    pub fn drop_oldest(&mut self, from: u8) -> Left
+        requires from { from < QUEUES }
+        ensures left { IsLeft (leaving from None) (queues self.old) (queues self.new) result }
+        ensures out { outs result.by ≤ 1 }
+        ensures spare { spare self.new ≡ spare self.old + outs result.by }
+        ensures others { (j : ℕ) (e : Entry) → HoldsAt j e self.old → occurrences e.item (queues self.old from) ≡ 0
+            → HoldsAt j e self.new }
+    {
+        self.table.distinct();
+        let Some((at, oldest)) = self.table.oldest(from) else {
+            return Left::NONE;
+        };
+        let _ = self.table.remove(at);
+        Left {
+            key: oldest.item.key,
+            count: oldest.count,
+            queue: from,
+            by: Departure::Out,
+        }
+    }
+
+    /// Gives a key that was found another count, where it stands.
+    #[inline(always)]
+    pub fn recount(&mut self, key: Key, found: Found, count: u8) -> KeyMove
+        requires at { HoldsAt found.at (entry (item_of key) found.count) self.old }
+        ensures own { IsOwn (counts count) (item_of key) (queues self.old) (queues self.new) result }
+        ensures spare { spare self.new ≡ spare self.old }
+    {
+        self.table.distinct();
+        self.table.set_count(found.at, count);
+        KeyMove {
+            key,
+            older: None,
+            count: found.count,
+            queue: 0,
+            by: Change::Counted,
+        }
+    }
+
+    /// Takes a key that was found to the recent end of a queue, with another count. It needs no room.
+    #[inline(always)]
+    pub fn send(&mut self, key: Key, found: Found, queue: u8, count: u8) -> KeyMove
+        requires queue { queue < QUEUES }
+        requires at { HoldsAt found.at (entry (item_of key) found.count) self.old }
+        ensures own { IsOwn (goes queue count) (item_of key) (queues self.old) (queues self.new) result }
+        ensures spare { spare self.new ≡ spare self.old }
+    {
+        self.table.distinct();
+        let place = self.table.send(found.at, queue, count);
+        KeyMove {
+            key,
+            older: key_in(place.older),
+            count: found.count,
+            queue: place.queue,
+            by: Change::Moved,
+        }
+    }
+
+    /// Puts a key that stands nowhere at the recent end of a queue. It takes room for one.
+    #[inline(always)]
+    pub fn join(&mut self, key: Key, queue: u8, count: u8) -> KeyMove
+        requires queue { queue < QUEUES }
+        requires room { 1 ≤ spare self.old }
+        requires absent { queue_holding (item_of key) (queues self.old) ≡ None }
+        ensures own { IsOwn (goes queue count) (item_of key) (queues self.old) (queues self.new) result }
+        ensures spare { spare self.new + 1 ≡ spare self.old }
+    {
+        let item = Item { key, node: 0 };
+        self.table.push(queue, Entry { item, count });
+        KeyMove {
+            key,
+            older: None,
+            count: 0,
+            queue: 0,
+            by: Change::Joined,
+        }
+    }
+
+    /// Appends the keys of a queue to others, oldest first. The one error is that an allocation failed; some keys may be
+    /// appended then.
+    pub fn add_keys(&self, queue: u8, keys: &mut Vec<Key>) -> Result<(), AllocError>
+        requires { queue < QUEUES }
+        ensures { OnOk result (keys.new.items ≡ keys.old.items ++ keys_of (queues self.now queue)) }
+    {
+        let items = self.table.list(self.alloc, queue)?;
+        push_keys(keys, &items)
+    }
+}
+
+fn push_keys(keys: &mut Vec<Key>, items: &[Item]) -> Result<(), AllocError>
+    ensures { OnOk result (keys.new.items ≡ keys.old.items ++ map (λ i. i.key) items.now) }
+{
+    for item in items {
+        keys.push(item.key)?;
+    }
+    Ok(())
+}
+
+// The key of a neighbour.
+#[inline(always)]
+fn key_in(neighbour: Option<Item>) -> Option<Key>
+    ensures { result ≡ key_in neighbour }
+{
+    let item = neighbour?;
+    Some(item.key)
+}

@@ -1,0 +1,152 @@
+-- The way back of one entry, from where it stood: whatever queue and count it was sent with, or out.
+use Rattle.std.proofs.Common.{◌≡◌, ℕ, suc, ◌+◌, ◌<◌, ◌≤◌, true, cond, Option, None, List, [], ◌∷◌, ◌++◌, map, ap, ◌∙◌, sym, refl, arith, inl, inr, append-nil}
+use Rattle.std.proofs.lemmas.Bool.{cases_Bool, cases_eq, cases_lt}
+use Rattle.std.proofs.Math.Path.{fun_ext}
+use Rattle.step_record.specs.declared.item.Item.{Item}
+use Rattle.queue_table.specs.declared.records.Entry.{Entry}
+use Rattle.queue_table.specs.Entries.{is_same_item, entry, occurrences, entries_without, last_item, put_behind, IsGap}
+use Rattle.queue_table.specs.Queues.{QUEUES, Queues, queue_holding, IsDistinct, after_push, after_removal, after_send, after_return}
+use Rattle.queue_table.specs.declared.slot.Slot.{Slot}
+use Rattle.queue_table.specs.Ring.{newers, ring_of, entries, slot_entry, lists}
+use Rattle.queue_table.proofs.Orders.{order-short}
+use Rattle.queue_table.proofs.EntryLists.{same-refl, times-append, times-gone, put_behind-at}
+use Rattle.queue_table.proofs.QueueLists.{absent, queue-few, with-queue-same, with-queue-other}
+
+pub without-none : (i : Item) (l : List Entry) → occurrences i l ≡ 0 → entries_without i l ≡ l
+without-none i [] h = refl
+without-none i (x ∷ l) h =
+    elim (cases_Bool (is_same_item i x.item)) as (λ _. cond (is_same_item i x.item) (entries_without i l) (x ∷ entries_without i l) ≡ x ∷ l) [
+      | inl e ↦ absurd (let few : 1 + occurrences i l ≡ 0 = rw e at h in omega (arith, few))
+      | inr e ↦ let rest : 0 + occurrences i l ≡ 0 = rw e at h in rw e (ap (λ t. x ∷ t) (without-none i l (omega (arith, rest))))
+    ]
+
+without-append : (i : Item) (xs ys : List Entry) → entries_without i (xs ++ ys) ≡ entries_without i xs ++ entries_without i ys
+without-append i [] ys = refl
+without-append i (x ∷ xs) ys =
+    elim (cases_Bool (is_same_item i x.item)) as (λ _. cond (is_same_item i x.item) (entries_without i (xs ++ ys)) (x ∷ entries_without i (xs ++ ys)) ≡ cond (is_same_item i x.item) (entries_without i xs) (x ∷ entries_without i xs) ++ entries_without i ys) [
+      | inl e ↦ rw e (without-append i xs ys)
+      | inr e ↦ rw e (ap (λ t. x ∷ t) (without-append i xs ys))
+    ]
+
+without-own : (e : Entry) (l : List Entry) → entries_without e.item (e ∷ l) ≡ entries_without e.item l
+without-own e l = let s : is_same_item e.item e.item ≡ true = same-refl e.item in rw s refl
+
+-- where an entry stands: queue p is cut around it
+pub record StandsIn (p : ℕ) (e : Entry) (s : Queues) : Type 0 where
+  pub low : p < QUEUES
+  pub front : List Entry
+  pub back : List Entry
+  pub whole : s p ≡ front ++ e ∷ back
+
+module _ (p : ℕ) (e : Entry) (s : Queues) (d : IsDistinct s) (at : StandsIn p e s) where
+  sum : occurrences e.item (s p) ≡ occurrences e.item at.front + (1 + occurrences e.item at.back)
+  sum =
+      let own : is_same_item e.item e.item ≡ true = same-refl e.item in
+      ap (occurrences e.item) at.whole ∙ times-append e.item at.front (e ∷ at.back) ∙ rw own refl
+
+  pub front-none : occurrences e.item at.front ≡ 0
+  front-none = let a = queue-few p s at.low d e.item in let b = sum in omega (arith, a, b)
+
+  pub back-none : occurrences e.item at.back ≡ 0
+  back-none = let a = queue-few p s at.low d e.item in let b = sum in omega (arith, a, b)
+
+  pub rest : entries_without e.item (s p) ≡ at.front ++ at.back
+  rest =
+      ap (entries_without e.item) at.whole
+      ∙ without-append e.item at.front (e ∷ at.back)
+      ∙ ap (λ l. entries_without e.item at.front ++ l) (without-own e at.back)
+      ∙ rw (without-none e.item at.front front-none, without-none e.item at.back back-none) refl
+
+  front-few : (j : Item) → occurrences j at.front ≤ 1
+  front-few j =
+      let a = queue-few p s at.low d j in
+      let b = ap (occurrences j) at.whole ∙ times-append j at.front (e ∷ at.back) in
+      omega (arith, a, b)
+
+  -- the gap that it leaves
+  pub gap : IsGap (last_item at.front) (after_removal e.item s p)
+  gap = record { before = at.front; behind = at.back; whole = rest; older_last = refl }
+
+  back-here : put_behind (last_item at.front) e (after_removal e.item s p) ≡ s p
+  back-here =
+      ap (put_behind (last_item at.front) e) rest ∙ put_behind-at (last_item at.front) e at.front at.back front-few refl ∙ sym at.whole
+
+-- what is out of a queue that gets it back
+pub restored : (p : ℕ) (e : Entry) (s : Queues) (d : IsDistinct s) (at : StandsIn p e s) (none : (j : ℕ) → (j ≡ p → ⊥) → occurrences e.item (s j) ≡ 0)
+    → (j : ℕ) → after_return p (last_item at.front) e (after_removal e.item s) j ≡ s j
+restored p e s d at none j =
+    elim (cases_eq j p) [
+      | inl z ↦
+          ap (after_return p (last_item at.front) e (after_removal e.item s)) z
+          ∙ with-queue-same p _ (after_removal e.item s) ∙ back-here p e s d at ∙ ap s (sym z)
+      | inr z ↦ with-queue-other p j _ (after_removal e.item s) z ∙ without-none e.item (s j) (none j z)
+    ]
+
+pub twice : (i : Item) (l : List Entry) → entries_without i (entries_without i l) ≡ entries_without i l
+twice i l = without-none i (entries_without i l) (times-gone i l)
+
+-- a move with another count is taken out as the entry itself is
+pub taken-sent : (e : Entry) (n q : ℕ) (s : Queues) (j : ℕ) → after_removal e.item (after_send (entry e.item n) q s) j ≡ after_removal e.item s j
+taken-sent e n q s j =
+    elim (cases_eq j q) [
+      | inl z ↦
+          let own : is_same_item e.item e.item ≡ true = same-refl e.item in
+          let one : entries_without e.item (entry e.item n ∷ []) ≡ [] = rw own refl in
+          ap (λ x. entries_without e.item (after_send (entry e.item n) q s x)) z
+          ∙ ap (entries_without e.item) (with-queue-same q _ (after_removal e.item s))
+          ∙ without-append e.item (entries_without e.item (s q)) (entry e.item n ∷ [])
+          ∙ rw (one, twice e.item (s q)) (append-nil (entries_without e.item (s q)))
+          ∙ ap (λ x. entries_without e.item (s x)) (sym z)
+      | inr z ↦ ap (entries_without e.item) (with-queue-other q j _ (after_removal e.item s) z) ∙ twice e.item (s j)
+    ]
+
+-- queues that are the same one by one
+abbrev pub AreSame : Queues → Queues → Type 0
+AreSame s t = (j : ℕ) → s j ≡ t j
+
+pub return-same : (p : ℕ) (older : Option Item) (e : Entry) (s t : Queues) → AreSame s t → AreSame (after_return p older e s) (after_return p older e t)
+return-same p older e s t h j =
+    elim (cases_eq j p) [
+      | inl z ↦
+          ap (after_return p older e s) z ∙ with-queue-same p _ s ∙ ap (put_behind older e) (h p)
+          ∙ sym (with-queue-same p _ t) ∙ ap (after_return p older e t) (sym z)
+      | inr z ↦ with-queue-other p j _ s z ∙ h j ∙ sym (with-queue-other p j _ t z)
+    ]
+
+-- whatever queue and count the entry was sent with, its queue and its older neighbour lead back
+pub move-back : (p q n : ℕ) (e : Entry) (s : Queues) (d : IsDistinct s) (at : StandsIn p e s) (none : (j : ℕ) → (j ≡ p → ⊥) → occurrences e.item (s j) ≡ 0)
+    → AreSame (after_return p (last_item at.front) e (after_removal e.item (after_send (entry e.item n) q s))) s
+move-back p q n e s d at none j =
+    return-same p (last_item at.front) e _ _ (taken-sent e n q s) j ∙ restored p e s d at none j
+
+-- what joined is out again
+pub pushed-back : (q : ℕ) (e : Entry) (s : Queues) → ((j : ℕ) → occurrences e.item (s j) ≡ 0) → AreSame (after_removal e.item (after_push q e s)) s
+pushed-back q e s h j =
+    elim (cases_eq j q) [
+      | inl z ↦
+          let own : is_same_item e.item e.item ≡ true = same-refl e.item in
+          let one : entries_without e.item (e ∷ []) ≡ [] = rw own refl in
+          ap (λ x. entries_without e.item (after_push q e s x)) z
+          ∙ ap (entries_without e.item) (with-queue-same q _ s)
+          ∙ without-append e.item (s q) (e ∷ [])
+          ∙ rw (one, without-none e.item (s q) (h q)) (append-nil (s q))
+          ∙ ap s (sym z)
+      | inr z ↦ ap (entries_without e.item) (with-queue-other q j _ s z) ∙ without-none e.item (s j) (h j)
+    ]
+
+pub out-back : (p : ℕ) (e : Entry) (s : Queues) (d : IsDistinct s) (at : StandsIn p e s) (h : (j : ℕ) → (j ≡ p → ⊥) → occurrences e.item (s j) ≡ 0)
+    → AreSame (after_return p (last_item at.front) e (after_removal e.item (after_removal e.item s))) s
+out-back p e s d at h j =
+    return-same p (last_item at.front) e _ _ (λ x. twice e.item (s x)) j ∙ restored p e s d at h j
+
+-- a table has no queue from QUEUES on
+pub high-empty : (slots : List Slot) (j : ℕ) → QUEUES ≤ j → lists slots j ≡ []
+high-empty slots j w = ap (map (λ k. slot_entry (entries slots) k)) (order-short (ring_of (newers slots)) (suc j) (omega (arith, w)))
+
+-- what stands nowhere is not taken out
+pub out-none : (i : Item) (slots : List Slot) → queue_holding i (lists slots) ≡ None → after_removal i (lists slots) ≡ lists slots
+out-none i slots h =
+    fun_ext (λ j. elim (cases_lt j QUEUES) [
+      | inl w ↦ without-none i (lists slots j) (absent i (lists slots) h j w)
+      | inr w ↦ let e = high-empty slots j (omega (arith, w)) in ap (entries_without i) e ∙ sym e
+    ])

@@ -1,0 +1,34 @@
+use Rattle.std.proofs.Common.{◌<◌, ℕ, List, Option, Some, None, length, sym, subst, arith}
+use Rattle.std.specs.Prelude.{IfSome}
+use Rattle.std.specs.Option.{unwrap_or}
+use Rattle.step_record.specs.declared.item.Item.{Item}
+use Rattle.queue_table.specs.declared.slot.Slot.{Slot}
+use Rattle.queue_table.specs.Ring.{order_of, IsQueued}
+use Rattle.queue_table.specs.QueueTable.{IsSlotOf}
+use Rattle.queue_table.proofs.Calls.{slot-within}
+use Rattle.queue_table.proofs.Kept.{before-within}
+use Rattle.queue_table.proofs.queue_table.QueueTable.older_slot.Goals as goal
+use Rattle.queue_table.proofs.queue_table.QueueTable.older_slot.Goals.{After-self}
+
+-- the slots are linked in their order
+queued-there : (c : After-self) → IsQueued c.args.self.now (order_of c.args.self.now)
+queued-there c =
+    subst (λ (s : List Slot). IsQueued s (order_of s)) c.self.view_is (c.self.invariant.held (subst (λ (s : List Slot). 0 < length s) (sym c.self.view_is) c.requires.some)).queued
+
+found-within : (slots : List Slot) (i : Item) (r : Option ℕ) (d : ℕ) → IfSome r (λ at. IsSlotOf at i slots) → d < length slots → unwrap_or r d < length slots
+found-within slots i None d h w = w
+found-within slots i (Some at) d h w = slot-within slots (order_of slots) h.queued at h.used
+
+pub returns-in_default-clause-within : goal.returns-in_default-clause-within
+returns-in_default-clause-within c =
+    let w = before-within c.args.self.now (queued-there (goal.at.returns-in_default-clause-within c).After-self) c.args.place.queue c.requires.queue in
+    let e = c.slot_before.ensures in
+    omega (arith, w, e)
+
+pub returns-clause-within : goal.returns-clause-within
+returns-clause-within c =
+    let w = before-within c.args.self.now (queued-there (goal.at.returns-clause-within c).After-self) c.args.place.queue c.requires.queue in
+    let d : c.slot_before-2.result < length c.args.self.now = (let e = c.slot_before-2.ensures in omega (arith, w, e)) in
+    let r = found-within c.args.self.now c.in-Some.older c.find_slot.result c.slot_before-2.result c.find_slot.ensures.there d in
+    let e = c.unwrap_or.ensures in
+    omega (arith, r, e)
