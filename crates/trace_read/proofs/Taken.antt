@@ -2,19 +2,18 @@
 use Rattle.std.proofs.Common.{◌≡◌, ◌∙◌, ◌<◌, ◌≤◌, ◌+◌, ◌-◌, ℕ, zero, suc, List, [], ◌∷◌, ◌++◌, length, drop, take, get_or, refl, sym, ap, subst, arith, inl, inr, Some, None, Ok, length-drop, drop-drop}
 use Rattle.std.proofs.lemmas.Bool.{cond-false, le-ltb}
 use Rattle.std.proofs.lemmas.List.{append-nil}
-use Rattle.step_record.specs.declared.limits.TheConstants.{MAX_ACCESSES}
 use Rattle.streams.proofs.Feeds.{cut_line}
 use Rattle.trace_read.proofs.LineFeeds.{feed_at}
 use Rattle.trace_read.specs.DigitRuns.{NoFeedBetween}
 use Rattle.streams.specs.Feeds.{feed_in}
-use Rattle.trace_read.proofs.Steps.{ended_ahead, of_line, refused_here}
+use Rattle.trace_read.proofs.Steps.{ended_ahead, of_line, refused_here, IsEnded}
 use Rattle.trace_read.specs.Lines.{is_feed, line_of, run_of}
 use Rattle.trace_read.specs.UsualLine.{AreFourStars, IsStarLine}
 use Rattle.streams.specs.Blanks.{trimmed_text}
 use Rattle.trace_read.specs.declared.format.Format.TheVariants.{Lirs}
 use Rattle.trace_read.specs.TraceText.{fault_after, keys_or_none, IsRead, IsStopped, IsTraceRefused}
 use Rattle.trace_read.specs.declared.format.Format.{Format}
-use Rattle.trace_read.specs.ScanState.{fault_ahead, keys_ahead, IsEnded, IsRefusedFrom, IsScan, IsTakenUpTo}
+use Rattle.trace_read.specs.ScanState.{fault_ahead, keys_ahead, IsRefusedFrom, IsScan, IsTakenUpTo}
 use Rattle.trace_read.specs.declared.fault.TraceFault.{TraceFault}
 use Rattle.trace_read.specs.declared.scan.Scan.{Scan}
 
@@ -24,6 +23,7 @@ taken_then first mid last bytes start middle end one two = record {
   partial_line = two.partial_line;
   format = two.format ∙ one.format;
   handed_on = two.handed_on ∙ one.handed_on;
+  limit = two.limit ∙ one.limit;
   order = (omega (arith, one.order, two.order), two.order.1);
   lines = omega (arith, one.lines, two.lines);
   fault = λ more. two.fault more ∙ one.fault more;
@@ -60,38 +60,39 @@ module _ (now : Scan) (bytes : List ℕ) (start end : ℕ) (scan : IsScan now) (
         partial_line = ended.partial_line;
         format = ended.format;
         handed_on = ended.handed_on;
+        limit = ended.limit;
         order = (omega arith, omega arith);
         lines = omega (arith, ended.line);
         fault = λ more. ap (λ l. fault_ahead next (l ++ more)) (sym behind) ∙ (step more).0;
         keys = λ more. ap (λ l. keys_ahead next (l ++ more)) (sym behind) ∙ (step more).1;
       }
 
-  pub line_refused : (e : TraceFault) → IsStopped now.format now.line now.handed_on now.keys.items (now.partial_line.items ++ take (end - start) rest) e → IsRefusedFrom now bytes start e
+  pub line_refused : (e : TraceFault) → IsStopped now.format now.max_accesses now.line now.handed_on now.keys.items (now.partial_line.items ++ take (end - start) rest) e → IsRefusedFrom now bytes start e
   line_refused e stopped = elim stopped [
     | inl memory ↦ inl memory
     | inr fault ↦
         let refused : (more : List ℕ) → fault_ahead now (rest ++ more) ≡ Some e = λ more.
         let is = cut_line now.partial_line.items rest more (end - start) scan.partial_line feed lt in
-        refused_here now.format now.line now.handed_on now.keys.items _ [] (now.partial_line.items ++ (rest ++ more)) _ _ is fault in
-        inr (of_line now.format _ now.line _ _ (refused []), refused)
+        refused_here now.format now.max_accesses now.line now.handed_on now.keys.items _ [] (now.partial_line.items ++ (rest ++ more)) _ _ is fault in
+        inr (of_line now.format _ now.max_accesses now.line _ _ (refused []), refused)
   ]
 
 -- what a line comes to that no piece cut
-pub whole_read : (format : Format) (n handed_on : ℕ) (old partial_line text new : List ℕ) → partial_line ≡ [] → IsRead format n handed_on old text new → IsRead format n handed_on old (partial_line ++ text) new
-whole_read format n handed_on old partial_line text new none read = subst (λ c. IsRead format n handed_on old (c ++ text) new) (sym none) read
+pub whole_read : (format : Format) (most n handed_on : ℕ) (old partial_line text new : List ℕ) → partial_line ≡ [] → IsRead format most n handed_on old text new → IsRead format most n handed_on old (partial_line ++ text) new
+whole_read format most n handed_on old partial_line text new none read = subst (λ c. IsRead format most n handed_on old (c ++ text) new) (sym none) read
 
-pub whole_stopped : (format : Format) (n handed_on : ℕ) (old partial_line text : List ℕ) (e : TraceFault) → partial_line ≡ [] → IsTraceRefused format n handed_on old text e → IsStopped format n handed_on old (partial_line ++ text) e
-whole_stopped format n handed_on old partial_line text e none refused = subst (λ c. IsStopped format n handed_on old (c ++ text) e) (sym none) (elim refused [
+pub whole_stopped : (format : Format) (most n handed_on : ℕ) (old partial_line text : List ℕ) (e : TraceFault) → partial_line ≡ [] → IsTraceRefused format most n handed_on old text e → IsStopped format most n handed_on old (partial_line ++ text) e
+whole_stopped format most n handed_on old partial_line text e none refused = subst (λ c. IsStopped format most n handed_on old (c ++ text) e) (sym none) (elim refused [
   | inl memory ↦ inl memory.0
   | inr fault ↦ inr fault
 ])
 
 -- a line that stands for a run
-pub run_read : (format : Format) (n handed_on start count : ℕ) (old partial_line text new : List ℕ) → partial_line ≡ [] → line_of format text ≡ run_of (Some start) (Some count)
-    → fault_after n (handed_on + length old) (run_of (Some start) (Some count)) ≡ None → new ≡ old ++ keys_or_none (run_of (Some start) (Some count))
-    → IsRead format n handed_on old (partial_line ++ text) new
-run_read format n handed_on start count old partial_line text new none is sound added = whole_read format n handed_on old partial_line text new none (record {
-  sound = ap (fault_after n (handed_on + length old)) is ∙ sound;
+pub run_read : (format : Format) (most n handed_on start count : ℕ) (old partial_line text new : List ℕ) → partial_line ≡ [] → line_of format text ≡ run_of (Some start) (Some count)
+    → fault_after most n (handed_on + length old) (run_of (Some start) (Some count)) ≡ None → new ≡ old ++ keys_or_none (run_of (Some start) (Some count))
+    → IsRead format most n handed_on old (partial_line ++ text) new
+run_read format most n handed_on start count old partial_line text new none is sound added = whole_read format most n handed_on old partial_line text new none (record {
+  sound = ap (fault_after most n (handed_on + length old)) is ∙ sound;
   added = added ∙ ap (λ r. old ++ keys_or_none r) (sym is);
 })
 
@@ -102,7 +103,7 @@ star_gives = refl
 
 -- the scan, with the number of a later line
 abbrev pub at_line : Scan → ℕ → Scan
-at_line s line = record { alloc = s.alloc; format = s.format; keys = s.keys; handed_on = s.handed_on; line = line; partial_line = s.partial_line }
+at_line s line = record { alloc = s.alloc; format = s.format; max_accesses = s.max_accesses; keys = s.keys; handed_on = s.handed_on; line = line; partial_line = s.partial_line }
 
 pub star_taken : (now : Scan) (bytes : List ℕ) (place : ℕ) → IsScan now → now.format ≡ Lirs → now.partial_line.items ≡ [] → place + 2 ≤ length bytes → IsStarLine bytes place
     → IsTakenUpTo now bytes place (place + 2) (at_line now (now.line + 1))
@@ -111,13 +112,13 @@ star_taken now bytes place scan lirs none room star =
     let text = take (place + 1 - place) (drop place bytes) in
     let lone : text ≡ 42 ∷ [] = ap (λ k. take k (drop place bytes)) {y = 1} (omega arith) ∙ first_of bytes place (omega arith) ∙ ap (λ b. b ∷ []) star.0 in
     let gives : line_of now.format text ≡ Ok [] = ap (λ f. line_of f text) lirs ∙ ap (line_of Lirs) lone ∙ star_gives in
-    let few : now.handed_on + length now.keys.items + 0 ≤ MAX_ACCESSES = omega (arith, scan.few) in
-    let read = whole_read now.format now.line now.handed_on now.keys.items now.partial_line.items text now.keys.items none (record {
-      sound = ap (fault_after now.line (now.handed_on + length now.keys.items)) gives ∙ cond-false _ _ _ (le-ltb MAX_ACCESSES _ few);
+    let few : now.handed_on + length now.keys.items + 0 ≤ now.max_accesses = omega (arith, scan.few) in
+    let read = whole_read now.format now.max_accesses now.line now.handed_on now.keys.items now.partial_line.items text now.keys.items none (record {
+      sound = ap (fault_after now.max_accesses now.line (now.handed_on + length now.keys.items)) gives ∙ cond-false _ _ _ (le-ltb now.max_accesses _ few);
       added = sym (append-nil now.keys.items) ∙ ap (λ r. now.keys.items ++ keys_or_none r) (sym gives);
     }) in
     subst (λ n. IsTakenUpTo now bytes place n next) {x = place + 1 + 1} (omega arith) (line_taken now bytes place (place + 1) scan none (omega arith) (omega arith) before star.1 next (record { few = scan.few; partial_line = scan.partial_line })
-    (record { read = read; partial_line = none; line = refl; format = refl; handed_on = refl }))
+    (record { read = read; partial_line = none; line = refl; format = refl; handed_on = refl; limit = refl }))
   where
     first_of : (xs : List ℕ) (i : ℕ) → i < length xs → take 1 (drop i xs) ≡ get_or xs i 0 ∷ []
     first_of [] i l = absurd (omega arith)

@@ -1,10 +1,11 @@
 -- What a scan of the lines comes to, whatever bytes still follow.
 use Rattle.std.specs.Prelude.{◌≡◌, ℕ, ◌+◌, ◌-◌, ◌^◌, ◌≤◌, ◌<◌, ◌⊎◌}
-use Rattle.std.specs.Prelude.{List, [], ◌++◌, Option, Some, None, IfSome, length, drop}
-use Rattle.step_record.specs.declared.limits.TheConstants.{MAX_ACCESSES}
+use Rattle.std.specs.Prelude.{List, [], ◌++◌, Option, Some, None, IfSome, length, drop, take}
 use Rattle.streams.specs.Feeds.{lines_of, HasNoFeed}
 use Rattle.trace_read.specs.DigitRuns.{IsDigitRuns, IsNextRun}
-use Rattle.trace_read.specs.TraceText.{all_keys, first_fault, IsOfLine, IsRead}
+use Rattle.trace_read.specs.Lines.{run_from}
+use Rattle.trace_read.specs.TraceText.{all_keys, first_fault, line_fault, line_keys, IsOfLine}
+use Rattle.trace_read.specs.declared.arc.BlockRun.{BlockRun}
 use Rattle.trace_read.specs.declared.digit_runs.DigitRun.{DigitRun}
 use Rattle.trace_read.specs.declared.digit_runs.DigitRuns.{DigitRuns}
 use Rattle.trace_read.specs.declared.fault.TraceFault.{TraceFault}
@@ -14,35 +15,68 @@ use Rattle.trace_read.specs.declared.scan.Scan.{Scan}
 -- the fault of the whole file, and its accesses but for those that were handed on, where these bytes still follow
 abbrev pub fault_ahead : Scan → List ℕ → Option TraceFault
 fault_ahead s rest =
-    first_fault s.format s.line (s.handed_on + length s.keys.items) (lines_of (s.partial_line.items ++ rest))
+    first_fault s.format s.max_accesses s.line (s.handed_on + length s.keys.items)
+    (lines_of (s.partial_line.items ++ rest))
 
 abbrev pub keys_ahead : Scan → List ℕ → List ℕ
 keys_ahead s rest = s.keys.items ++ all_keys s.format (lines_of (s.partial_line.items ++ rest))
 
 -- what every scan keeps to
 pub record IsScan (s : Scan) : Type 0 where
-  pub few : s.handed_on + length s.keys.items ≤ MAX_ACCESSES
+  pub few : s.handed_on + length s.keys.items ≤ s.max_accesses
   pub partial_line : HasNoFeed s.partial_line.items
 
--- the scan that took a piece comes to what the piece and the rest came to before
+-- the scan that took a piece, and handed on accesses from the first on, comes to what the piece and the rest came to
+-- before, but for these
 pub record IsPieceTaken (old : Scan) (piece : List ℕ) (new : Scan) : Type 0 where
   pub fault : (rest : List ℕ) → fault_ahead new rest ≡ fault_ahead old (piece ++ rest)
-  pub keys : (rest : List ℕ) → keys_ahead new rest ≡ keys_ahead old (piece ++ rest)
-  pub handed_on : new.handed_on ≡ old.handed_on
+  pub keys : (rest : List ℕ)
+      → keys_ahead new rest ≡ drop (new.handed_on - old.handed_on) (keys_ahead old (piece ++ rest))
+  pub order : old.handed_on ≤ new.handed_on
+  pub given : (rest : List ℕ) → new.handed_on ≤ old.handed_on + length (keys_ahead old (piece ++ rest))
+  pub limit : new.max_accesses ≡ old.max_accesses
 
--- the scan handed some of its accesses on, from the first on
+-- the scan is in the same line
+pub record IsSameLine (old new : Scan) : Type 0 where
+  pub format : new.format ≡ old.format
+  pub line : new.line ≡ old.line
+  pub partial_line : new.partial_line.items ≡ old.partial_line.items
+  pub limit : new.max_accesses ≡ old.max_accesses
+
+-- the scan handed some of its accesses on, from the first on, and nothing else changed
 pub record IsHandedOn (old new : Scan) : Type 0 where
   pub order : (old.handed_on ≤ new.handed_on) × (new.handed_on ≤ old.handed_on + length old.keys.items)
-  pub fault : (rest : List ℕ) → fault_ahead new rest ≡ fault_ahead old rest
-  pub keys : (rest : List ℕ) → keys_ahead new rest ≡ drop (new.handed_on - old.handed_on) (keys_ahead old rest)
+  pub keys : new.keys.items ≡ drop (new.handed_on - old.handed_on) old.keys.items
+  pub same : IsSameLine old new
 
--- a line came to its end with this text
-pub record IsEnded (old : Scan) (text : List ℕ) (new : Scan) : Type 0 where
-  pub read : IsRead old.format old.line old.handed_on old.keys.items (old.partial_line.items ++ text) new.keys.items
+-- the accesses that the scan had, those of a run, and nothing else: some are handed on, the others there
+pub record IsRunGiven (old : Scan) (run : BlockRun) (new : Scan) : Type 0 where
+  pub keys : new.keys.items
+      ≡ drop (new.handed_on - old.handed_on) (old.keys.items ++ run_from run.start run.count)
+  pub order : (old.handed_on ≤ new.handed_on)
+      × (new.handed_on ≤ old.handed_on + length old.keys.items + run.count)
+
+-- a line of this text came to its end, and some of the accesses up to its last were handed on
+pub record IsLineGiven (old : Scan) (text : List ℕ) (new : Scan) : Type 0 where
+  pub sound : line_fault old.format old.max_accesses old.line (old.handed_on + length old.keys.items) text ≡ None
+  pub keys : new.keys.items
+      ≡ drop (new.handed_on - old.handed_on) (old.keys.items ++ line_keys old.format text)
+  pub order : (old.handed_on ≤ new.handed_on)
+      × (new.handed_on ≤ old.handed_on + length (old.keys.items ++ line_keys old.format text))
   pub partial_line : new.partial_line.items ≡ []
   pub line : new.line ≡ old.line + 1
   pub format : new.format ≡ old.format
-  pub handed_on : new.handed_on ≡ old.handed_on
+  pub limit : new.max_accesses ≡ old.max_accesses
+
+-- these are the first of those
+abbrev pub AreFirst : List ℕ → List ℕ → Type 0
+AreFirst xs ys = xs ≡ take (length xs) ys
+
+-- where the accesses of the whole file are known, those that the scan still gives with a piece are the next of them,
+-- for some bytes after the piece
+pub record AreNext (file : Option (List ℕ)) (scan : Scan) (piece : List ℕ) : Type 0 where
+  pub rest : List ℕ
+  pub next : IfSome file (λ all. drop scan.handed_on all ≡ keys_ahead scan (piece ++ rest))
 
 -- the scan took the lines between two places of these bytes, and comes with the rest to what all from the first place
 -- on came to before
@@ -51,6 +85,7 @@ pub record IsTakenUpTo (old : Scan) (bytes : List ℕ) (start place : ℕ) (new 
   pub partial_line : new.partial_line.items ≡ []
   pub format : new.format ≡ old.format
   pub handed_on : new.handed_on ≡ old.handed_on
+  pub limit : new.max_accesses ≡ old.max_accesses
   pub order : (start ≤ place) × (place ≤ length bytes)
   pub lines : new.line + start ≤ old.line + place
   pub fault : (more : List ℕ)

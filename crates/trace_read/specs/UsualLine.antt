@@ -1,7 +1,8 @@
--- A line of a format's usual form, which is read without a call.
+-- A line of a format's usual form, which is read without a call, and one that stands for many accesses.
 use Rattle.std.specs.Prelude.{◌≡◌, ℕ, ◌+◌, ◌-◌, ◌^◌, ◌≤◌, List, Some, get_or, take, drop}
 use Rattle.trace_read.specs.DigitRuns.{IsLineEnd}
 use Rattle.trace_read.specs.Lines.{line_of, run_of}
+use Rattle.trace_read.specs.declared.arc.BlockRun.{BlockRun}
 use Rattle.trace_read.specs.declared.arc.UsualLine.{UsualLine}
 use Rattle.trace_read.specs.declared.digit_runs.DigitRun.{DigitRun}
 use Rattle.trace_read.specs.declared.format.Format.{Format}
@@ -14,6 +15,12 @@ pub record IsUsualLine (format : Format) (bytes : List ℕ) (first : DigitRun) (
   pub few : line.run.count ≤ room
   pub is : line_of format (take (line.end.end - first.start) (drop first.start bytes))
       ≡ run_of (Some line.run.start) (Some line.run.count)
+
+-- a line is a run of at most `room` accesses
+pub record IsLongRun (format : Format) (text : List ℕ) (room : ℕ) (run : BlockRun) : Type 0 where
+  pub fits : run.start + run.count ≤ 2 ^ 64
+  pub few : run.count ≤ room
+  pub is : line_of format text ≡ run_of (Some run.start) (Some run.count)
 
 -- a lone `*` (42) and a line feed stand at a place
 abbrev pub IsStarLine : List ℕ → ℕ → Type 0

@@ -1,6 +1,5 @@
 //! What follows a trace while it is read.
 ghost use Rattle.std.specs.Prelude.{◌≡◌, ◌≤◌, ◌+◌, ◌-◌, ℕ, List, Option, IfSome, length, take, drop};
-ghost use Rattle.step_record.specs.declared.limits.TheConstants.{MAX_ACCESSES};
 
 use step_record::Key;
 
@@ -12,13 +11,17 @@ pub trait Follower {
     // how many accesses it has taken
     ghost taken: { Self → ℕ };
 
+    // how many accesses a file may have that it follows
+    ghost most: { Self → ℕ };
+
     /// Takes as many as it wants of the accesses that were read and not taken yet, from the first on, and leaves the
     /// others. It is called after each piece.
     fn follow(&mut self, keys: &mut Vec<Key>)
-        requires few { taken self.old + length keys.old.items ≤ MAX_ACCESSES }
+        requires few { taken self.old + length keys.old.items ≤ most self.old }
         requires next { IfSome (file self.old) (λ all.
             keys.old.items ≡ take (length keys.old.items) (drop (taken self.old) all)) }
         ensures file { file self.new ≡ file self.old }
+        ensures most { most self.new ≡ most self.old }
         ensures order { taken self.old ≤ taken self.new }
         ensures taken { taken self.new + length keys.new.items ≡ taken self.old + length keys.old.items }
         ensures left { keys.new.items ≡ drop (taken self.new - taken self.old) keys.old.items };

@@ -6,10 +6,10 @@
 //! faulty line, with its number. The rules of both formats are defined by this project.
 //!
 //! `read_followed` lets a `Follower` take accesses after each piece, from the first on, and gives the
-//! ones that it left.
+//! ones that it left. It is given the `Limits` on accesses and bytes; `read_trace` has those by default.
 //!
 //! A file is read in one pass, piece by piece, and no bytes are kept but those of a line that a
-//! piece cut in two. `Read` and `TooLarge` come before the fault of a line.
+//! piece cut in two. The accesses of a line of many are made and handed on some hundreds at a time. `Read` and `TooLarge` come before the fault of a line.
 #![tactic(auto)]
 
 mod arc;
@@ -18,6 +18,7 @@ mod digits;
 mod fault;
 mod follower;
 mod format;
+mod limits;
 mod lirs;
 mod pieces;
 mod reader;
@@ -26,5 +27,6 @@ mod scan;
 pub use fault::TraceFault;
 pub use follower::Follower;
 pub use format::Format;
+pub use limits::{Limits, MAX_LONG_ACCESSES, MAX_LONG_TRACE_BYTES};
 pub use reader::{read_followed, read_trace};
 pub use step_record::Trace;

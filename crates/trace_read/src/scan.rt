@@ -2,22 +2,24 @@
 ghost use Rattle.std.specs.Prelude.{◌≡◌, ◌≤◌, ◌<◌, ◌+◌, ◌-◌, ◌^◌, ◌++◌, ◌⊎◌, ℕ, List, [], Some, None, OnOk};
 ghost use Rattle.std.specs.Prelude.{IfOk, IfErr, IfSome, IsTrue, MatchOption, length, take, drop, vec_len};
 ghost use Rattle.trace_read.specs.DigitRuns.{IsNextRun};
-ghost use Rattle.trace_read.specs.UsualLine.{AreFourStars, IsStarLine, IsUsualLine};
-ghost use Rattle.step_record.specs.declared.limits.TheConstants.{MAX_ACCESSES};
-ghost use Rattle.trace_read.specs.TraceText.{fault_in, keys_in, IsOfLine, IsRead, IsTraceRefused, IsStopped};
-ghost use Rattle.trace_read.specs.ScanState.{fault_ahead, keys_ahead, AreLinesTaken, CanTakeFrom, IsEnded, IsHandedOn, IsScan, IsPieceTaken, IsRefusedFrom, IsTakenUpTo};
+ghost use Rattle.trace_read.specs.Lines.{run_from};
+ghost use Rattle.trace_read.specs.UsualLine.{AreFourStars, IsLongRun, IsStarLine, IsUsualLine};
+ghost use Rattle.trace_read.specs.TraceText.{fault_within, keys_in, line_keys, IsOfLine, IsRead, IsTraceRefused, IsStopped};
+ghost use Rattle.trace_read.specs.ScanState.{fault_ahead, keys_ahead, AreFirst, AreLinesTaken, AreNext, CanTakeFrom, IsHandedOn, IsLineGiven, IsPieceTaken, IsRefusedFrom, IsRunGiven, IsSameLine, IsScan, IsTakenUpTo};
 ghost use Rattle.streams.specs.Feeds.{feed_in};
 
-use super::arc::{UsualLine, add_arc_line, push_reserved_run, usual_run};
+use super::TraceFault;
+use super::arc::{
+    AT_ONCE, BlockRun, UsualLine, add_arc_line, long_run, push_reserved_run, usual_run,
+};
 use super::digit_runs::{DigitRun, DigitRuns, are_at};
 use super::digits::first_word;
 use super::follower::Follower;
 use super::format::Format;
 use super::lirs::{add_lirs_line, usual_number};
-use super::{Trace, TraceFault};
 use std::alloc::Global;
 use std::mem;
-use step_record::{Key, MAX_ACCESSES};
+use step_record::Key;
 use streams::place_of;
 
 /// A scan of the lines of a trace file, whose bytes come in pieces. It keeps no byte but those of
@@ -29,6 +31,8 @@ use streams::place_of;
 pub struct Scan {
     alloc: Global,
     format: Format,
+    // The most accesses that the file may have.
+    max_accesses: usize,
     // The accesses that were read and not handed on yet; how many were handed on.
     keys: Vec<Key>,
     handed_on: usize,
@@ -39,17 +43,19 @@ pub struct Scan {
 }
 
 impl Scan {
-    /// The scan before the first byte.
-    pub fn new(alloc: Global, format: Format) -> Scan
+    /// The scan before the first byte, of a file of at most so many accesses.
+    pub fn new(alloc: Global, format: Format, max_accesses: usize) -> Scan
         ensures scan { IsScan result }
-        ensures fault { (rest : List ℕ) → fault_ahead result rest ≡ fault_in format rest }
+        ensures fault { (rest : List ℕ) → fault_ahead result rest ≡ fault_within max_accesses format rest }
         ensures keys { (rest : List ℕ) → keys_ahead result rest ≡ keys_in format rest }
         ensures line { result.line ≡ 1 }
         ensures handed_on { result.handed_on ≡ 0 }
+        ensures limit { result.max_accesses ≡ max_accesses }
     {
         Scan {
             alloc,
             format,
+            max_accesses,
             keys: Vec::new(alloc),
             handed_on: 0,
             line: 1,
@@ -57,13 +63,20 @@ impl Scan {
         }
     }
 
-    /// Takes the next bytes: adds the accesses of each line that ends in them. `OutOfMemory` comes
-    /// where there is none for the accesses or for what is there of a line, and the fault of a line at
-    /// the first faulty line, whatever follows it. After either the scan is of no more use.
-    pub fn take(&mut self, piece: &[u8]) -> Result<(), TraceFault>
+    /// Takes the next bytes: adds the accesses of each line that ends in them. Where a line stands for many, the
+    /// follower may take some at once. `OutOfMemory` comes where there is none for the accesses or for what is there of
+    /// a line, and the fault of a line at the first faulty line, whatever follows it. After either the scan is of no
+    /// more use.
+    pub fn take<F: Follower>(&mut self, piece: &[u8], follower: &mut F) -> Result<(), TraceFault>
         requires scan { IsScan self.old }
         requires lines { self.old.line + length piece.now < 2 ^ 64 }
+        requires limit { self.old.max_accesses ≤ F.most follower.old }
+        requires handed_on { F.taken follower.old ≡ self.old.handed_on }
+        requires next { AreNext (F.file follower.old) self.old piece.now }
         ensures scan { OnOk result (IsScan self.new) }
+        ensures handed_on { OnOk result (F.taken follower.new ≡ self.new.handed_on) }
+        ensures file { F.file follower.new ≡ F.file follower.old }
+        ensures most { F.most follower.new ≡ F.most follower.old }
         ensures taken { OnOk result (IsPieceTaken self.old piece.now self.new) }
         ensures lines { OnOk result (self.new.line ≤ self.old.line + length piece.now) }
         ensures err { IfErr result (λ e. (e ≡ TraceFault.OutOfMemory)
@@ -72,7 +85,7 @@ impl Scan {
     {
         let mut rest = piece;
         'lines: loop {
-            let Some(end) = self.end_next(rest)? else {
+            let Some(end) = self.end_next(rest, follower)? else {
                 self.partial_line.extend_from_slice(rest)?;
                 return Ok(());
             };
@@ -84,37 +97,39 @@ impl Scan {
 
     /// The accesses that the bytes name and that were not handed on, where no more bytes come. The faults are those
     /// of `take`, of the last line.
-    pub fn end(self) -> Result<Trace, TraceFault>
-        requires { IsScan self }
-        ensures ok { IfOk result (λ t.
-            (fault_ahead self [] ≡ None) × (t ≡ keys_ahead self [])) }
-        ensures few { IfOk result (λ t. self.handed_on + length t ≤ MAX_ACCESSES) }
-        ensures err { IfErr result (λ e. ((e ≡ TraceFault.OutOfMemory) × (fault_ahead self [] ≡ None))
+    pub fn end<F: Follower>(mut self, follower: &mut F) -> Result<Vec<Key>, TraceFault>
+        requires scan { IsScan self }
+        requires lines { self.line + 1 < 2 ^ 64 }
+        requires limit { self.max_accesses ≤ F.most follower.old }
+        requires handed_on { F.taken follower.old ≡ self.handed_on }
+        requires next { IfSome (F.file follower.old) (λ all. drop self.handed_on all ≡ keys_ahead self []) }
+        ensures sound { OnOk result (fault_ahead self [] ≡ None) }
+        ensures ok { IfOk result (λ keys.
+            keys.items ≡ drop (F.taken follower.new - F.taken follower.old) (keys_ahead self [])) }
+        ensures order { OnOk result ((F.taken follower.old ≤ F.taken follower.new)
+            × (F.taken follower.new ≤ F.taken follower.old + length (keys_ahead self []))) }
+        ensures few { IfOk result (λ keys. F.taken follower.new + vec_len keys ≤ self.max_accesses) }
+        ensures file { F.file follower.new ≡ F.file follower.old }
+        ensures err { IfErr result (λ e. (e ≡ TraceFault.OutOfMemory)
             ⊎ (IsOfLine e × (fault_ahead self [] ≡ Some e))) }
     {
-        let Scan {
-            format,
-            mut keys,
-            handed_on,
-            line,
-            partial_line,
-            ..
-        } = self;
-        add_line(format, partial_line.as_slice(), line, handed_on, &mut keys)?;
-        Ok(Trace::new(keys))
+        self.end_line(follower)?;
+        let Scan { keys, .. } = self;
+        Ok(keys)
     }
 
     /// Lets the follower take accesses, which are no longer in the scan then.
     pub fn give<F: Follower>(&mut self, follower: &mut F)
-        requires scan { IsScan self.old }
+        requires few { self.old.handed_on + length self.old.keys.items ≤ self.old.max_accesses }
+        requires limit { self.old.max_accesses ≤ F.most follower.old }
         requires handed_on { F.taken follower.old ≡ self.old.handed_on }
         requires next { IfSome (F.file follower.old) (λ all.
-            self.old.keys.items ≡ take (length self.old.keys.items) (drop self.old.handed_on all)) }
-        ensures scan { IsScan self.new }
+            AreFirst self.old.keys.items (drop self.old.handed_on all)) }
+        ensures few { self.new.handed_on + length self.new.keys.items ≤ self.new.max_accesses }
         ensures handed_on { F.taken follower.new ≡ self.new.handed_on }
         ensures left { IsHandedOn self.old self.new }
-        ensures line { self.new.line ≡ self.old.line }
         ensures file { F.file follower.new ≡ F.file follower.old }
+        ensures most { F.most follower.new ≡ F.most follower.old }
     {
         let held = self.keys.len();
         follower.follow(&mut self.keys);
@@ -122,15 +137,26 @@ impl Scan {
     }
 
     // Adds the accesses of the next line, where it ends in these bytes, and returns the place of its end.
-    fn end_next(&mut self, bytes: &[u8]) -> Result<Option<usize>, TraceFault>
+    fn end_next<F: Follower>(
+        &mut self,
+        bytes: &[u8],
+        follower: &mut F,
+    ) -> Result<Option<usize>, TraceFault>
         requires scan { IsScan self.old }
         requires lines { self.old.line + length bytes.now < 2 ^ 64 }
+        requires limit { self.old.max_accesses ≤ F.most follower.old }
+        requires handed_on { F.taken follower.old ≡ self.old.handed_on }
+        requires next { AreNext (F.file follower.old) self.old bytes.now }
         ensures scan { OnOk result (IsScan self.new) }
+        ensures handed_on { OnOk result (F.taken follower.new ≡ self.new.handed_on) }
+        ensures file { F.file follower.new ≡ F.file follower.old }
+        ensures most { F.most follower.new ≡ F.most follower.old }
         ensures ended { IfOk result (λ end. MatchOption end
             ((feed_in bytes.now ≡ length bytes.now) × (self.new ≡ self.old))
-            (λ k. (k ≡ feed_in bytes.now) × (k < length bytes.now) × IsEnded self.old (take k bytes.now) self.new)) }
+            (λ k. (k ≡ feed_in bytes.now) × (k < length bytes.now)
+            × IsLineGiven self.old (self.old.partial_line.items ++ take k bytes.now) self.new)) }
         ensures err { IfErr result (λ e. (feed_in bytes.now < length bytes.now)
-            × IsStopped self.old.format self.old.line self.old.handed_on self.old.keys.items
+            × IsStopped self.old.format self.old.max_accesses self.old.line self.old.handed_on self.old.keys.items
             (self.old.partial_line.items ++ take (feed_in bytes.now) bytes.now) e) }
     {
         let end = place_of(bytes, b'\n');
@@ -138,15 +164,71 @@ impl Scan {
             return Ok(None);
         }
         self.partial_line.extend_from_slice(&bytes[..end])?;
-        let text = self.partial_line.as_slice();
-        add_line(self.format, text, self.line, self.handed_on, &mut self.keys)?;
-        self.partial_line.clear();
-        self.line += 1;
+        self.end_line(follower)?;
         Ok(Some(end))
     }
 
+    // Adds the accesses of the line that is there, all of it.
+    fn end_line<F: Follower>(&mut self, follower: &mut F) -> Result<(), TraceFault>
+        requires few { self.old.handed_on + length self.old.keys.items ≤ self.old.max_accesses }
+        requires lines { self.old.line + 1 < 2 ^ 64 }
+        requires limit { self.old.max_accesses ≤ F.most follower.old }
+        requires handed_on { F.taken follower.old ≡ self.old.handed_on }
+        requires next { IfSome (F.file follower.old) (λ all. AreFirst
+            (self.old.keys.items ++ line_keys self.old.format self.old.partial_line.items)
+            (drop self.old.handed_on all)) }
+        ensures scan { OnOk result (IsScan self.new) }
+        ensures handed_on { OnOk result (F.taken follower.new ≡ self.new.handed_on) }
+        ensures file { F.file follower.new ≡ F.file follower.old }
+        ensures most { F.most follower.new ≡ F.most follower.old }
+        ensures given { OnOk result (IsLineGiven self.old self.old.partial_line.items self.new) }
+        ensures err { IfErr result
+            (IsStopped self.old.format self.old.max_accesses self.old.line self.old.handed_on self.old.keys.items
+            self.old.partial_line.items) }
+    {
+        let (format, limit) = (self.format, self.max_accesses);
+        let room = limit - self.handed_on - self.keys.len();
+        let text = self.partial_line.as_slice();
+        if let Some(run) = long_line(format, text, room) {
+            self.give_run(run, follower)?;
+        } else {
+            let (line, keys) = (self.line, &mut self.keys);
+            add_line(format, text, line, self.handed_on, limit, keys)?;
+        }
+        self.partial_line.clear();
+        self.line += 1;
+        Ok(())
+    }
+
+    // Adds the accesses of a run, and lets the follower take some whenever a few are there.
+    fn give_run<F: Follower>(&mut self, run: BlockRun, follower: &mut F) -> Result<(), TraceFault>
+        requires fits { run.start + run.count ≤ 2 ^ 64 }
+        requires few { self.old.handed_on + length self.old.keys.items + run.count ≤ self.old.max_accesses }
+        requires limit { self.old.max_accesses ≤ F.most follower.old }
+        requires handed_on { F.taken follower.old ≡ self.old.handed_on }
+        requires next { IfSome (F.file follower.old) (λ all.
+            AreFirst (self.old.keys.items ++ run_from run.start run.count) (drop self.old.handed_on all)) }
+        ensures given { OnOk result (IsRunGiven self.old run self.new) }
+        ensures same { OnOk result (IsSameLine self.old self.new) }
+        ensures few { OnOk result (self.new.handed_on + length self.new.keys.items ≤ self.new.max_accesses) }
+        ensures handed_on { OnOk result (F.taken follower.new ≡ self.new.handed_on) }
+        ensures file { F.file follower.new ≡ F.file follower.old }
+        ensures most { F.most follower.new ≡ F.most follower.old }
+        ensures err { IfErr result (λ e. e ≡ TraceFault.OutOfMemory) }
+    {
+        let mut done = 0;
+        'steps: while done < run.count {
+            let count = (run.count - done).min(AT_ONCE);
+            self.keys.reserve(count as usize)?;
+            push_reserved_run(run.start + done, count, &mut self.keys);
+            self.give(follower);
+            done += count;
+        }
+        Ok(())
+    }
+
     // Takes lines from the front of these bytes, 64 bytes at a time, and returns where the next line begins. The last
-    // few bytes are left.
+    // few bytes are left, and all from a line of many accesses on.
     #[inline(never)]
     fn take_lines(&mut self, bytes: &[u8]) -> Result<usize, TraceFault>
         requires scan { IsScan self.old }
@@ -165,7 +247,13 @@ impl Scan {
                 return Ok(first.start);
             };
             let text = &bytes[first.start..line.end];
-            add_line(self.format, text, self.line, self.handed_on, &mut self.keys)?;
+            let (format, limit) = (self.format, self.max_accesses);
+            let room = limit - self.handed_on - self.keys.len();
+            if long_line(format, text, room).is_some() {
+                return Ok(first.start);
+            }
+            let (line_number, keys) = (self.line, &mut self.keys);
+            add_line(format, text, line_number, self.handed_on, limit, keys)?;
             self.line += 1;
             runs = line.runs;
         }
@@ -255,7 +343,7 @@ impl Scan {
         requires format { self.old.format ≡ format }
         ensures { AreLinesTaken self.old self.new bytes.now runs.old runs.new result }
     {
-        let limit = MAX_ACCESSES - self.handed_on;
+        let limit = self.max_accesses - self.handed_on;
         // The loop changes locals alone, so that they are in registers.
         let mut keys = mem::replace(&mut self.keys, Vec::new(self.alloc));
         let mut line = self.line;
@@ -279,22 +367,34 @@ impl Scan {
     }
 }
 
-// Adds the accesses of a line to those of the lines before it, of which `handed_on` are with the follower already.
+// Adds the accesses of a line to those of the lines before it, of which `handed_on` are with the follower already, of
+// at most `limit` in all.
 fn add_line(
     format: Format,
     text: &[u8],
     line: u64,
     handed_on: usize,
+    limit: usize,
     keys: &mut Vec<Key>,
 ) -> Result<(), TraceFault>
-    requires { handed_on + vec_len keys.old ≤ MAX_ACCESSES }
-    ensures ok { OnOk result (IsRead format line handed_on keys.old.items text.now keys.new.items) }
-    ensures within { OnOk result (handed_on + vec_len keys.new ≤ MAX_ACCESSES) }
-    ensures err { IfErr result (IsTraceRefused format line handed_on keys.old.items text.now) }
+    requires { handed_on + vec_len keys.old ≤ limit }
+    ensures ok { OnOk result (IsRead format limit line handed_on keys.old.items text.now keys.new.items) }
+    ensures within { OnOk result (handed_on + vec_len keys.new ≤ limit) }
+    ensures err { IfErr result (IsTraceRefused format limit line handed_on keys.old.items text.now) }
 {
     match format {
-        Format::Lirs => add_lirs_line(text, line, handed_on, keys),
-        Format::Arc => add_arc_line(text, line, handed_on, keys),
+        Format::Lirs => add_lirs_line(text, line, handed_on, limit, keys),
+        Format::Arc => add_arc_line(text, line, handed_on, limit, keys),
+    }
+}
+
+// The run of a line that stands for many accesses, and for at most `room`. `None` says nothing of the line.
+fn long_line(format: Format, text: &[u8], room: usize) -> Option<BlockRun>
+    ensures { IfSome result (IsLongRun format text.now room) }
+{
+    match format {
+        Format::Lirs => None,
+        Format::Arc => long_run(text, room),
     }
 }
 

@@ -10,7 +10,7 @@ pub record Taking (A B C : Type 0) : Type 0 where
 
 abbrev pub invariant-lines : goal.invariant-lines
 invariant-lines l = Taking
-    (IsTakenUpTo l.fn.self l.bytes l.fn.runs.start l.ahead.start (record { alloc = l.self.alloc; format = l.self.format; keys = l.keys; handed_on = l.self.handed_on; line = l.line; partial_line = l.self.partial_line }))
+    (IsTakenUpTo l.fn.self l.bytes l.fn.runs.start l.ahead.start (record { alloc = l.self.alloc; format = l.self.format; max_accesses = l.self.max_accesses; keys = l.keys; handed_on = l.self.handed_on; line = l.line; partial_line = l.self.partial_line }))
     (IsDigitRuns l.ahead) (l.ahead.bytes.now ≡ l.bytes)
 
 abbrev pub decreases-lines : goal.decreases-lines
