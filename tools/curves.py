@@ -21,11 +21,18 @@ def refuse(text):
     sys.exit(f"tools/plot: {text}")
 
 
+def number_of(text):
+    """A number of a report; ValueError where it is none, as one below 0 or of 19 digits, which no report has."""
+    if not (text.isascii() and text.isdigit() and len(text) < 19):
+        raise ValueError(text)
+    return int(text)
+
+
 def comparisons_of(where, number, line):
     """The two rows of a line of a comparison: the hits that each policy has alone."""
     try:
         first, second, *texts = line.split(",")
-        capacity, begin, end, both, first_only, second_only, neither = map(int, texts)
+        capacity, begin, end, both, first_only, second_only, neither = map(number_of, texts)
     except ValueError:
         refuse(f"{where}line {number} is no row of a comparison by interval: {line}")
     accesses = both + first_only + second_only + neither
@@ -38,7 +45,7 @@ def comparisons_of(where, number, line):
 def row_of(where, number, line, is_intervals):
     try:
         policy, *texts, _ = line.split(",")
-        capacity, *numbers = map(int, texts)
+        capacity, *numbers = map(number_of, texts)
         first, last, hits, misses, _, _ = numbers if is_intervals else (capacity, capacity, *numbers[1:])
     except ValueError:
         refuse(f"{where}line {number} is no row of a report: {line}")

@@ -2,8 +2,8 @@
 
 Each function returns what is wrong, as texts. PROOFS has tables of claims: a function with its file, a definition of the
 same crate or of another one that is named, and a mutation. PROOFS, MUTATIONS and PROVING name nothing that is not there,
-and each crate of crates.txt has one row of ARCHITECTURE, which is the first sentence of its root file; but for the crates of
-tests, which it names together.
+and each crate of crates.txt has one row of ARCHITECTURE, in the same order, which is the first sentence of its root file; but
+for the crates of tests, which it names together.
 """
 import re
 from pathlib import Path
@@ -92,11 +92,14 @@ def wrong_names(top, sources, document):
 
 
 def wrong_crates(top):
-    """Crates without their row of ARCHITECTURE, rows without a crate, and rows that a crate's root file says otherwise."""
+    """Crates without their row of ARCHITECTURE, rows without a crate or in another order than crates.txt has, and rows that a
+    crate's root file says otherwise."""
     text = (top / "docs/ARCHITECTURE.md").read_text().partition("\n## Crates\n")[2].partition("\n## ")[0]
     crates = [line.split(":")[0].split()[0] for line in (top / "crates.txt").read_text().splitlines() if re.match(r"\w", line)]
     rows = re.findall(r"^\| `(\w+)` \| (.*) \|$", text, re.M)
     named = [name for name, _ in rows]
+    if [it for it in named if it in crates] != [it for it in crates if it in named]:
+        yield "its rows are in another order than crates.txt has"
     for crate in crates:
         if named.count(crate) != 1 and not (crate.endswith("_tests") and f"`{crate}`" in text):
             yield f"{crate} has {named.count(crate)} rows"

@@ -1,49 +1,76 @@
-"""What tools/survey measures of a trace: its footprint, every policy at several capacities, the windows of wtinylfu, the
-jumps of lru, the capacities that reach a hit ratio, and both sides of powers of two.
+"""What tools/survey measures of a trace: its footprint, every policy at several capacities, the windows of wtinylfu, jumps
+of the hit ratio, the capacities that reach one, and both sides of powers of two.
 """
 import math
 import sys
 from collections import namedtuple
 from decimal import Decimal
 
-from policies import OPTIMAL, POLICIES, WINDOWED
+from policies import MONOTONE, OPTIMAL, WINDOWED, has_sketch
 from reports import MAX_CAPACITY, rate
+from samples import check_accesses
 from traces import blocks_of, times_of_blocks
 
 PERCENTS = ["1", "2", "5", "10", "20", "50"]
-# The windows of wtinylfu that are tried, in percent of the capacity.
-WINDOWS = [1, 10, 20, 50, 80]
+# The main parts of wtinylfu that are tried, in percent of the capacity, as --main names them; the rest is its window. The
+# first is the program's own.
+MAINS = [99, 90, 80, 50, 20]
 # The curve of lru is read at neighbouring capacities that differ by one in so many, or by one entry.
 FINENESS = 50
 # How many capacities are tried at once between two capacities of lru.
 LRU_TRIES = 64
 # How many capacities in equal ratios a picture has, from 1 percent of the footprint on.
-DRAWN = 25
+DRAWN = 30
 
-# `windows` has a row for each window and capacity. `reaches` has the row that reaches a ratio and one that does not.
+# `windows` has a row for each main part and capacity. `reaches` has the row that reaches a ratio and one that does not.
 Survey = namedtuple("Survey", "trace accesses footprint once highest policies rows windows jumps reaches powers")
 Reach = namedtuple("Reach", "policy ratio row below is_possible")
 
 
-def survey_of(trace, policies, args):
+def plan_of(policies, args):
+    """The steps of a survey of one trace that are planned, in their order and as a terminal names them."""
+    tables, has_jumps = {*args.table}, "jumps" in args.table or args.plot
+    mains = MAINS[1:] if WINDOWED in policies and not args.main and tables & {"policies", "misses", "windows"} else []
+    return ["footprint",
+            *["policies"] * bool(tables & {"policies", "misses", "windows", "powers"} or has_jumps),
+            *map(main_step, mains),
+            *["jumps of lru", "jumps of other policies"] * bool(has_jumps),
+            *(map(reach_step, policies) if "reach" in tables else []),
+            *["powers of two"] * ("powers" in tables),
+            *["picture"] * bool(args.plot)]
+
+
+def main_step(main):
+    return f"{WINDOWED} --main {main}"
+
+
+def reach_step(policy):
+    return f"--reach of {policy}"
+
+
+def survey_of(trace, policies, args, progress):
     """Everything that is printed of one trace."""
+    progress.begin_trace(trace.name)
+    progress.begins("footprint")
     largest = trace.reports(["lru"], [MAX_CAPACITY], None, trace.file.begun())
-    report, tables = largest["lru", MAX_CAPACITY], args.table
-    counts = times_of_blocks(trace.lines(), trace.options.format) if "traces" in tables or report.evictions else {}
+    report = largest["lru", MAX_CAPACITY]
+    check_accesses(args, f"{trace.name}: ", report.accesses)
+    counts = times_of_blocks(trace.lines(), trace.options.format) if "traces" in args.table or report.evictions else {}
     # Without an eviction the misses are the distinct blocks.
     footprint = len(counts) if report.evictions else report.misses
     if counts and (report.accesses, footprint) != (counts.total(), len(counts)):
         sys.exit(f"tools/survey: {trace.name} has other accesses than the program says")
-    if report.accesses <= trace.after:
+    if not trace.leave_out(report.accesses):
+        progress.erase()
         return Survey(trace, 0, footprint, 0, "0.00", policies, {}, {}, [], [], [])
     highest = highest_of(trace, largest, footprint)
     once, top = sum(1 for times in counts.values() if times == 1), min(footprint, MAX_CAPACITY)
-    capacities = capacities_of(trace, footprint, args) if {*tables} & {"policies", "misses", "windows", "powers"} else []
-    rows = trace.sweep(policies, capacities) if capacities else {}
-    windows = windows_of(trace, rows, capacities) if WINDOWED in policies and not args.main else {}
-    jumps = jumps_of(trace, top, args.jump) if "jumps" in tables else []
-    reaches = reaches_of(trace, rows, policies, args.reach, top, highest) if "reach" in tables else []
-    powers = powers_of(trace, rows, policies) if "powers" in tables else []
+    rows = rows_of(trace, policies, footprint, args, progress)
+    windows = windows_of(trace, rows, progress)
+    jumps = [*jumps_of_lru(trace, top, args.jump, progress), *other_jumps(trace, rows, policies, args.jump, progress)]
+    reaches = reaches_of(trace, rows, policies, args.reach, top, highest, progress)
+    powers = powers_of(trace, rows, policies, progress)
+    progress.erase()
     return Survey(trace, highest.accesses, footprint, once, rate(highest.hits, highest.accesses), policies, rows, windows,
                   jumps, reaches, powers)
 
@@ -53,47 +80,73 @@ def highest_of(trace, largest, footprint):
     row = trace.converted(largest)["lru", MAX_CAPACITY]
     if not row.evictions:
         return row
-    known = len(set(blocks_of(trace.warm_up_lines(), trace.options.format))) if trace.after else 0
+    known = len(set(blocks_of(trace.warm_up_lines(), trace.options.format))) if trace.warm_up else 0
     misses = min(row.accesses, (footprint - known) * trace.inverse)
     return row._replace(hits=row.accesses - misses, misses=misses)
 
 
-def capacities_of(trace, footprint, args):
+def rows_of(trace, policies, footprint, args, progress):
+    """The row of each policy at each capacity of the survey."""
+    if not progress.begins("policies"):
+        return {}
+    capacities = capacities_of(trace, footprint, args, progress)
+    return trace.sweep(policies, capacities) if capacities else {}
+
+
+def capacities_in(rows):
+    return sorted({capacity for _, capacity in rows})
+
+
+def capacities_of(trace, footprint, args, progress):
     """The capacities that are given, or those parts of the footprint, of which none is over the largest capacity."""
     if args.capacity:
         return sorted({max(1, round(it / trace.inverse)) for it in args.capacity})
-    found = {max(1, int(footprint * percent / 100)) for percent in args.percent or map(Decimal, PERCENTS)}
+    found = {part_of(footprint, percent) for percent in args.percent or map(Decimal, PERCENTS)}
     for capacity in sorted(found):
         if capacity > MAX_CAPACITY:
+            progress.erase()
             print(f"tools/survey: {trace.name}: {trace.shown(capacity)} entries are left out: the largest cache has "
                   f"{trace.shown(MAX_CAPACITY)}", file=sys.stderr)
     return sorted(it for it in found if it <= MAX_CAPACITY)
 
 
-def windows_of(trace, rows, capacities):
-    """The rows of wtinylfu at each window and capacity. The smallest window is the program's own."""
-    found = {(WINDOWS[0], it): rows[WINDOWED, it] for it in capacities}
-    for window in WINDOWS[1:]:
-        swept = trace.sweep([WINDOWED], capacities, 100 - window) if capacities else {}
-        found.update({(window, capacity): row for (_, capacity), row in swept.items()})
-    return found
+def part_of(footprint, percent):
+    """The capacity that is so many percent of a footprint."""
+    return max(1, int(footprint * percent / 100))
+
+
+def windows_of(trace, rows, progress):
+    """The rows of wtinylfu with each main part at each capacity, if that is planned."""
+    found, capacities = {}, capacities_in(rows)
+    for main in MAINS[1:]:
+        if progress.begins(main_step(main)) and capacities:
+            swept = trace.sweep([WINDOWED], capacities, main)
+            found.update({(main, capacity): row for (_, capacity), row in swept.items()})
+    return {**{(MAINS[0], it): rows[WINDOWED, it] for it in capacities}, **found} if found else {}
 
 
 def best_of(survey, capacity):
     """The policies that are as good as the best one at a capacity, Belady's left out, from the best on, and the rows of
-    these. Of wtinylfu it is the best window."""
+    these. Of wtinylfu it is the best window, which is named as it is typed."""
     rows = [(name, survey.rows[name, capacity]) for name in survey.policies if name != OPTIMAL]
     if survey.windows:
-        window = max(WINDOWS, key=lambda it: survey.windows[it, capacity].hits)
-        rows = [(f"{name} {window}", survey.windows[window, capacity]) if name == WINDOWED else (name, row)
+        main = max(MAINS, key=lambda it: survey.windows[it, capacity].hits)
+        rows = [(f"{name} --main {main}", survey.windows[main, capacity]) if name == WINDOWED else (name, row)
                 for name, row in rows]
     return nearly_best(survey.trace, rows)
 
 
 def nearly_best(trace, rows):
-    """Those of named rows that are within half a point of the one with the most hits, or of a sample within two points."""
-    rows, part = sorted(rows, key=lambda it: -it[1].hits), 50 if trace.whole else 200
-    return [(name, row) for name, row in rows if (rows[0][1].hits - row.hits) * part <= row.accesses]
+    """Those of named rows that are as good as the one with the most hits, from that one on."""
+    rows = sorted(rows, key=lambda it: -it[1].hits)
+    return [(name, row) for name, row in rows if is_as_good(trace, row, rows[0][1])]
+
+
+def is_as_good(trace, row, best):
+    """Whether a row is within half a point of the best one and has at most 5 percent more misses: near 100 percent half a
+    point is much of the misses. Of a sample it is two points where a sketch is in play, whose errors differ."""
+    is_rough = trace.whole and (has_sketch(row.policy) or has_sketch(best.policy))
+    return (best.hits - row.hits) * (50 if is_rough else 200) <= row.accesses and (row.misses - best.misses) * 20 <= best.misses
 
 
 def between(low, high, count):
@@ -102,7 +155,7 @@ def between(low, high, count):
 
 
 def is_steep(low, high):
-    """Whether the hit ratio of lru rises by a point or more for each percent that the cache grows."""
+    """Whether the hit ratio rises by a point or more for each percent that the cache grows."""
     return (high.hits - low.hits) * low.capacity >= (high.capacity - low.capacity) * high.accesses
 
 
@@ -118,8 +171,10 @@ def steep_parts(rows):
     return parts
 
 
-def jumps_of(trace, top, points):
+def jumps_of_lru(trace, top, points, progress):
     """Where the hit ratio of lru jumps: the curve at capacities near to each other, then each jump closer by."""
+    if not progress.begins("jumps of lru"):
+        return []
     capacities = [1]
     while capacities[-1] < top:
         capacities.append(min(top, capacities[-1] + max(1, capacities[-1] // FINENESS)))
@@ -139,10 +194,41 @@ def rises_by(points, low, high):
     return (high.hits - low.hits) * 100 >= points * low.accesses
 
 
-def reaches_of(trace, rows, policies, ratios, top, highest):
+def other_jumps(trace, rows, policies, points, progress):
+    """Where the hit ratio of a policy that may lose by a larger capacity jumps within a percent of a survey's capacity."""
+    others = [it for it in policies if it not in MONOTONE]
+    if not progress.begins("jumps of other policies") or not others:
+        return []
+    capacities = capacities_in(rows)
+    pairs = dict.fromkeys(pair for it in capacities for pair in ((below(it), it), (it, above(it))))
+    tries = sorted({it for pair in pairs for it in pair}.difference(capacities))
+    known = {**rows, **(trace.sweep(others, tries) if tries else {})}
+    found = ((known[policy, low], known[policy, high]) for policy in others for low, high in pairs)
+    return [(low, high) for low, high in found if is_jump(points, low, high)]
+
+
+def below(capacity):
+    """The capacity that is one percent, or one entry, below."""
+    return max(1, capacity - max(1, capacity // 100))
+
+
+def above(capacity):
+    return min(MAX_CAPACITY, capacity + max(1, capacity // 100))
+
+
+def is_jump(points, low, high):
+    """Whether the hit ratio changes by so many points at least; of a small cache, where one entry is many percent, a rise
+    has to be steep too."""
+    return rises_by(points, low, high) and is_steep(low, high) or high.hits < low.hits and rises_by(points, high, low)
+
+
+def reaches_of(trace, rows, policies, ratios, top, highest, progress):
     """For each ratio and policy the smallest capacity found that reaches the ratio, to one percent of it."""
+    if not progress.begins(reach_step(policies[0])):
+        return []
     tops, found = trace.sweep(policies, [top]), {}
     for policy in policies:
+        progress.begins(reach_step(policy))
         known = {capacity: row for (name, capacity), row in rows.items() if name == policy and capacity < top}
         known[top] = tops[policy, top]
         while tries := sorted({it for ratio in ratios for it in tries_between(*bounds_of(known, ratio), ratio)}):
@@ -182,18 +268,22 @@ def tries_between(below, reached, ratio):
     return sorted(it for it in tries if low < it < high) or [(low + high) // 2]
 
 
-def powers_of(trace, rows, policies):
+def powers_of(trace, rows, policies, progress):
     """The rows on both sides of each power of two that a capacity is near to, of the policies with a sketch."""
-    filtered = [it for it in policies if it in POLICIES and POLICIES[it].is_filtered]
-    capacities = sorted({capacity for _, capacity in rows})
+    if not progress.begins("powers of two"):
+        return []
+    filtered, capacities = [it for it in policies if has_sketch(it)], capacities_in(rows)
     powers = [1 << bits for bits in range(1, 20) if any(abs(it - (1 << bits)) * 20 <= it for it in capacities)]
     found = trace.sweep(filtered, [it + more for it in powers for more in (0, 1)]) if powers and filtered else {}
     return [(found[policy, power], found[policy, power + 1]) for power in powers for policy in filtered if found]
 
 
-def drawn_of(survey):
-    """The rows of a picture: every policy at capacities in equal ratios, from 1 percent of the footprint to all of it."""
+def drawn_of(survey, progress):
+    """The rows of a picture: every policy at capacities in equal ratios, from 1 percent of the footprint to all of it, and at
+    both ends of each jump that was found."""
+    progress.begins("picture")
     top = min(survey.footprint, MAX_CAPACITY)
     low = max(1, survey.footprint // 100)
-    capacities = sorted({round(low * (top / low) ** (at / (DRAWN - 1))) for at in range(DRAWN)})
-    return survey.trace.sweep(survey.policies, capacities).values()
+    capacities = {round(low * (top / low) ** (at / (DRAWN - 1))) for at in range(DRAWN)}
+    capacities |= {row.capacity for jump in survey.jumps for row in jump}
+    return survey.trace.sweep(survey.policies, sorted(capacities)).values()

@@ -2,6 +2,7 @@
 
 A script uses those of them that the program takes (`reports.Program.policies`), so that a new word is added here alone.
 """
+import difflib
 from collections import namedtuple
 
 # How a policy is drawn, whether a sketch filters what it admits, and whether it is shown where no policy is named. Each
@@ -10,7 +11,8 @@ from collections import namedtuple
 Policy = namedtuple("Policy", "colour marker dash is_filtered is_default")
 
 OPTIMAL = "clairvoyant"
-WINDOWED = "wtinylfu"
+WINDOWED = "wtinylfu"# The policies whose hit ratio never falls where the capacity grows, which is proved.
+MONOTONE = {"lru", OPTIMAL}
 POLICIES = {
     "fifo": Policy("#7f7f7f", 1, "(3,6)", False, False),
     "clock": Policy("#56b4e9", 3, "(10,6)", False, False),
@@ -25,6 +27,23 @@ POLICIES = {
     WINDOWED: Policy("#d55e00", 12, "(3,3)", True, True),
     OPTIMAL: Policy("#000000", 2, "(22,5)", False, True),
 }
+
+
+def has_sketch(name):
+    """Whether a sketch filters what a policy admits; of an unknown one that is not known."""
+    return name in POLICIES and POLICIES[name].is_filtered
+
+
+# Other names of policies that are tried, in small letters.
+OTHER_NAMES = {"opt": OPTIMAL, "min": OPTIMAL, "belady": OPTIMAL, "optimal": OPTIMAL, "caffeine": WINDOWED,
+               "tinylfu": "tinylfu-lru", "second-chance": "clock"}
+
+
+def tip_for(word, taken):
+    """What a word that is no policy may have been meant for, if that is known."""
+    small = word.lower()
+    meant = OTHER_NAMES.get(small) or next(iter(difflib.get_close_matches(small, taken, 1)), None)
+    return f": did you mean {meant}?" if meant in taken else ""
 
 
 def defaults(taken):

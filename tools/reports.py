@@ -10,7 +10,8 @@ import tempfile
 from collections import namedtuple
 from pathlib import Path
 
-from traces import TraceFile, beginning_of
+from policies import tip_for
+from traces import FORMATS, TraceFile, beginning_of
 
 MAX_CAPACITY = 1 << 20
 SWEEP = "policy,capacity,accesses,hits,misses,evictions,rejections,rate".split(",")
@@ -54,11 +55,21 @@ class Program:
             sys.exit(f"{self.tool}: {self.path} does not say which policies it takes")
         return re.split(r",\s*", words.group(1))
 
+    def chosen(self, named):
+        """Each policy of --policy once; a word that the program does not take ends the script."""
+        taken = self.policies() if named else []
+        for policy in named or []:
+            if policy not in taken:
+                sys.exit(f"{self.tool}: --policy {policy} is none of {', '.join(taken)}{tip_for(policy, taken)}")
+        return list(dict.fromkeys(named or []))
+
     def rows(self, words, trace, name):
         """The rows of a sweep of a trace, with their rate left out."""
         ended = self.output(words, stdin=trace)
         if ended.returncode:
-            sys.exit(f"{self.tool}: the program refused {name}")
+            other = next(it for it in FORMATS if it != words[words.index("--format") + 1])
+            sys.exit(f"{self.tool}: the program refused {name}: another format is --format {other}, and of a longer trace "
+                     "tools/sample makes a sample")
         found, *rows = csv.reader(ended.stdout.decode().splitlines())
         if found != SWEEP:
             self.refuse_reports(name)
@@ -81,10 +92,16 @@ class Trace:
         self.program, self.name, self.options = program, name, options
         self.inverse, self.whole, self.after = inverse, whole, after
         self.file, self.warm_up = TraceFile(name), None
-        if after:
+
+    def leave_out(self, accesses):
+        """Leaves the warm-up out of this trace of so many accesses from here on, and says whether any are left: of a sample as
+        large a part is left out as of the whole trace."""
+        after = self.after * accesses // self.whole if self.whole else self.after
+        if 0 < after < accesses:
             self.warm_up = tempfile.TemporaryFile()
-            self.warm_up.writelines(beginning_of(self.lines(), options.format, after))
+            self.warm_up.writelines(beginning_of(self.lines(), self.options.format, after))
             self.warm_up.flush()
+        return after < accesses
 
     def lines(self):
         return self.file.lines()
@@ -133,5 +150,6 @@ class Trace:
     def estimated(self, row):
         if not self.whole:
             return row
-        misses = min(self.whole, row.misses * self.inverse)
-        return row._replace(accesses=self.whole, hits=self.whole - misses, misses=misses)
+        accesses = self.whole - self.after
+        misses = min(accesses, row.misses * self.inverse)
+        return row._replace(accesses=accesses, hits=accesses - misses, misses=misses)

@@ -5,16 +5,24 @@ import contextlib
 import gzip
 import os
 import shutil
+import signal
 import stat
 import subprocess
 import sys
 import tempfile
 import zlib
 from collections import Counter
+from pathlib import Path
 
 FORMATS = ["lirs", "arc"]
 GZIP, ZSTD = b"\x1f\x8b", b"\x28\xb5\x2f\xfd"
 COPIED = 1 << 20
+# The number of a block is below this one.
+BLOCKS = 1 << 64
+
+# An interrupt ends a script at once and without a word, but where its caller has it ignore interrupts.
+if signal.getsignal(signal.SIGINT) == signal.default_int_handler:
+    signal.signal(signal.SIGINT, signal.SIG_DFL)
 
 
 class Unreadable(Exception):
@@ -66,21 +74,25 @@ def unpack_zstd(source, copy):
 
 
 def ranges_of(lines, form):
-    """The first block and the count of each line with accesses; ValueError names the first line that is none."""
+    """The first block and the count of each line with accesses; ValueError names the first line that the program refuses."""
     for number, line in enumerate(lines, 1):
-        fields = line.split()
-        if not fields or form == "lirs" and fields == [b"*"]:
+        text = line.strip(b" \t\r\n")
+        if not text or form == "lirs" and text == b"*":
             continue
-        try:
-            if form == "lirs":
-                (block,), count = map(int, fields), 1
-            else:
-                block, count = int(fields[0]), int(fields[1])
-        except (ValueError, IndexError):
-            text = line.decode(errors="replace").rstrip()
-            raise ValueError(f"line {number} is no line of the format {form}: {text}") from None
+        if form == "lirs":
+            block, count = number_of(text), 1
+        else:
+            fields = [it for it in text.replace(b"\t", b" ").split(b" ") if it]
+            block, count = number_of(fields[0]), number_of(fields[1]) if len(fields) > 1 else BLOCKS
+        if max(block, count) == BLOCKS or block + count > BLOCKS:
+            raise ValueError(f"line {number} is no line of the format {form}: {line.decode(errors='replace').rstrip()}")
         if count:
             yield block, count
+
+
+def number_of(field):
+    """The number that a field is, or BLOCKS or more: int() takes signs and underscores too, and no thousands of digits."""
+    return int(field if len(field) < 20 else field.lstrip(b"0")[:21] or b"0") if field.isdigit() else BLOCKS
 
 
 def blocks_of(lines, form):
@@ -107,23 +119,30 @@ def beginning_of(lines, form, accesses):
             return
 
 
-def inverse_of_rate(text):
-    """The N of a rate 1/N of a sample, where N is a power of two: such a rate alone leaves a capacity and its part of it in
-    the same place between two powers of two."""
-    upper, _, lower = text.partition("/")
-    number = int(lower) if upper == "1" and lower.isascii() and lower.isdigit() else 0
-    if number < 2 or number & number - 1 or number > 1 << 20:
-        raise ValueError(f"{text} is no rate 1/2, 1/4, 1/8 and so on")
-    return number
-
-
 def write(output, tool):
     """Writes all of a script's output, a text or bytes, or ends the script with what hinders it."""
     try:
         with os.fdopen(1, "wb", closefd=False) as out:
-            out.write(output.encode() if isinstance(output, str) else output)
+            out.write(output.encode(errors="surrogateescape") if isinstance(output, str) else output)
     except BrokenPipeError:
         # As a program that does not look: whoever read it wants no more.
         os._exit(141)
     except OSError as fault:
         sys.exit(f"{tool}: the output cannot be written: {fault.strerror}")
+
+
+def replace_file(name, data, tool):
+    """Writes a file beside its place and moves it there, so that what stood there stays where that fails. What is no file,
+    as a pipe, is written as it is."""
+    place = os.path.realpath(name)
+    is_file = os.path.isfile(name) or not os.path.exists(name)
+    beside = f"{os.path.dirname(place)}/.cachesim.{os.getpid()}" if is_file else name
+    try:
+        with open(beside, "wb") as file:
+            file.write(data)
+        if is_file:
+            os.replace(beside, place)
+    except OSError as fault:
+        if is_file:
+            Path(beside).unlink(missing_ok=True)
+        sys.exit(f"{tool}: {name} cannot be written: {fault.strerror}")

@@ -7,9 +7,9 @@ from .debugger import debug
 from .faults import Fault
 from .journals import replay
 from .policies import POLICIES
-from .reports import compare, intervals, lru_curve, part, run
+from .reports import compare, intervals, part, run, sweep
 from .traces import keys_of
 from .walks import Worker, check_walks, drive_alone, journal, walk
 
 __all__ = ["POLICIES", "Fault", "Shell", "Worker", "check_walks", "compare", "debug", "drive_alone", "intervals", "journal",
-           "keys_of", "lru_curve", "part", "replay", "run", "walk"]
+           "keys_of", "part", "replay", "run", "sweep", "walk"]

@@ -43,7 +43,7 @@ def report(policy, capacity, main, spread, keys):
 
 
 def run(keys, policies, capacities, main, spread):
-    """The reports of each policy at each capacity: those of `run` and of `sweep`."""
+    """The reports of each policy at each capacity."""
     rows = [report(policy, capacity, main, spread, keys) for policy in policies for capacity in capacities]
     return HEADER + "".join(rows)
 
@@ -66,6 +66,13 @@ def lru_curve(keys, capacities):
         counts.of["evictions"] = max(0, counts.of["misses"] - capacity)
         rows.append(f"lru,{capacity},{len(keys)},{','.join(map(str, counts.values()))},{rate(counts, len(keys))}\n")
     return HEADER + "".join(rows)
+
+
+def sweep(keys, policies, capacities, main, spread):
+    """The reports of `sweep`, those of Lru by its curve."""
+    texts = [lru_curve(keys, capacities) if policy == "lru" else run(keys, [policy], capacities, main, spread)
+             for policy in policies]
+    return HEADER + "".join(text.removeprefix(HEADER) for text in texts)
 
 
 def intervals(keys, policies, every, capacity, main, spread):

@@ -8,9 +8,9 @@ MAX_ACCESSES = 2**24
 
 def number_of(field):
     """The number that a field is, or None."""
-    if field and all(byte in b"0123456789" for byte in field) and int(field) <= ALL_BITS:
-        return int(field)
-    return None
+    # int() takes no thousands of digits.
+    number = int(field.lstrip(b"0")[:21] or b"0") if field.isdigit() else ALL_BITS + 1
+    return number if number <= ALL_BITS else None
 
 
 def lirs_keys(line, _):

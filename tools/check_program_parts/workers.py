@@ -1,6 +1,7 @@
 """Journals of workers on threads: each is read by the rule of walks, each reply compared with that of the reference, and
 read back by the program."""
 import re
+import shlex
 import subprocess
 import sys
 
@@ -42,7 +43,7 @@ def journal_of(check, name, trace, workers, capacity, stripes, main, spread, *mo
     check.expect_same(f"{name}, as it is shown", lines(show.count(b"\n")), lines(10 + stripes))
     moves = lines("at 0", f"at {steps}", f"at {middle}", f"at {steps}").encode()
     check.expect_same(f"{name}, read back", answers, show + moves + show + journal)
-    return f"{path} {trace} {workers} {stripes} {capacity} {main} {spread}\n"
+    return shlex.join(map(str, [path, trace, workers, stripes, capacity, main, spread])) + "\n"
 
 
 @part(30)

@@ -1,13 +1,21 @@
-"""What the tests of the scripts share: running one, comparing, files, and a program whose reports are known."""
+"""What the tests of the scripts share: running one, comparing, files, programs whose reports are known, and a gnuplot."""
 import csv
 import io
+import os
+import re
+import signal
 import subprocess
 import sys
+import time
 from collections import namedtuple
 from pathlib import Path
 
 SECONDS = 120
 POLICIES = ["lru", "slru", "tinylfu-lru", "tinylfu-slru", "wtinylfu", "clairvoyant"]
+
+# A name and a title of which gnuplot or a shell would run a part, if it read it as more than a text: each part makes a file
+# `made` in the folder of the call.
+UNSAFE = "'`touch made`' \\'`touch made`\\\" . system('touch made') @GPVAL_TERM \"`touch made`\n!touch made\n"
 
 # A mistake in a script: the test that finds it, the file of tools/ that it is in, what is replaced, and by what.
 Mistake = namedtuple("Mistake", "test file old new")
@@ -19,7 +27,8 @@ class Wrong(Exception):
 
 def run(script, *words, status=0, typed="", **how):
     """The standard output of a script, or of another program, that ends with this status, and its standard error."""
-    command = [sys.executable, script] if Path(script).parent.name == "tools" else [script]
+    # Without the search for packages, which takes as long again.
+    command = [sys.executable, "-SE", script] if Path(script).parent.name == "tools" else [script]
     how = {"input": typed.encode() if isinstance(typed, str) else typed, "stdout": subprocess.PIPE, **how}
     try:
         ended = subprocess.run([str(it) for it in (*command, *words)], stderr=subprocess.PIPE, timeout=SECONDS, check=False, **how)
@@ -51,6 +60,30 @@ def expect_full_disk(script, *words, typed=""):
     expect_parts("a full disk", error, "cannot be written: No space left on device")
 
 
+def expect_quiet_interrupt(script, folder, *words):
+    """An interrupt while a script reads its file ends it by the signal, without a word."""
+    pipe = folder / "pipe"
+    os.mkfifo(pipe)
+    # A check that a shell has begun behind itself ignores interrupts, and what it calls would too.
+    call = ["env", "--default-signal=INT", sys.executable, script, *words, pipe]
+    with subprocess.Popen(call, stdin=subprocess.DEVNULL, stdout=subprocess.PIPE, stderr=subprocess.PIPE) as process:
+        writer = opened_by_a_reader(pipe, process)
+        process.send_signal(signal.SIGINT)
+        _, error = process.communicate(timeout=SECONDS)
+        os.close(writer)
+    expect("after an interrupt", (process.returncode, error), (-signal.SIGINT, b""))
+
+
+def opened_by_a_reader(pipe, process):
+    """The end of a pipe to write to, once a process reads the other one."""
+    while process.poll() is None:
+        try:
+            return os.open(pipe, os.O_WRONLY | os.O_NONBLOCK)
+        except OSError:
+            time.sleep(0.01)
+    raise Wrong(f"it does not read: {process.stderr.read().decode()}")
+
+
 def file_of(folder, name, text):
     path = Path(folder) / name
     if isinstance(text, bytes):
@@ -60,6 +93,23 @@ def file_of(folder, name, text):
     return path
 
 
+# A gnuplot that keeps what it is given.
+NOTING = "cat >given; echo '<svg></svg>'"
+
+
+def gnuplot_by(folder, script):
+    """The environment in which `gnuplot` is a script of the shell."""
+    file = file_of(folder, "gnuplot", f"#!/bin/sh\n{script}\n")
+    file.chmod(0o755)
+    return {**os.environ, "PATH": f"{folder}:{os.environ['PATH']}"}
+
+
+def without_texts(commands):
+    """What gnuplot is given, without what stands in single quotes, and without what is put between such pieces."""
+    piece = r"'[^'\n]*'"
+    return re.sub(rf"{piece}(?: \. \"(?:'|\\n)\" \. {piece})*", "''", commands)
+
+
 def rows_of(text):
     return list(csv.DictReader(io.StringIO(text)))
 
@@ -67,7 +117,7 @@ def rows_of(text):
 # A program whose reports are known: a policy hits as many percent as the expression gives, of `policy`, `capacity` and
 # `main`; where it gives None, no access but at a capacity that holds all blocks of the trace, where all but the first access
 # to each is a hit.
-FAKE = """#!/usr/bin/env python3
+FAKE = """#!{python} -SE
 import sys
 if "--help" in sys.argv:
     sys.exit(print("      --policy <POLICY>\\n          A policy\\n          \\n          [possible values: {policies}]"))
@@ -95,6 +145,6 @@ print("\\n".join(rows{cut}))
 
 def fake(folder, percent="None", cut="", policies=POLICIES):
     """The program whose hits are this expression; `cut` changes the list of its lines."""
-    path = file_of(folder, "fake", FAKE.format(percent=percent, cut=cut, policies=", ".join(policies)))
+    path = file_of(folder, "fake", FAKE.format(python=sys.executable, percent=percent, cut=cut, policies=", ".join(policies)))
     path.chmod(0o755)
     return path

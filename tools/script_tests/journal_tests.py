@@ -1,7 +1,8 @@
 """Tests of tools/journal, over journals that were counted by hand, and beside what `replay` counts."""
 import re
 
-from script_tests.frame import Mistake, expect, expect_full_disk, expect_parts, file_of, rows_of, run
+from script_tests.frame import (Mistake, expect, expect_full_disk, expect_parts, expect_quiet_interrupt, file_of,
+                                rows_of, run)
 
 # Worker 0 adds two blocks and takes the maintenance, while worker 1 finds blocks, offers one to a full read buffer, and
 # is turned away from the maintenance; worker 63 writes, and is refused twice. No cache gives this journal: it has one
@@ -100,6 +101,7 @@ def check_many(journal, folder, _):
     expect_full_disk(journal, path)
     expect_parts("no file", run(journal, folder / "none", status=1)[1], "cannot be read")
     refused = "cachesim journal 2\n0 look 1 = miss\n0 put 1 = writesfull\nsteps 2\n"
+    expect_quiet_interrupt(journal, folder)
     expect_parts("refused writes", run(journal, typed=refused)[0], "1 of 1 writes was refused")
 
 
@@ -119,6 +121,7 @@ MISTAKES = {
                                   "read buffers named: {min(8, len(self.stripes))}"),
     "steps an access, many": Mistake(check_many, "journal", "ratio(steps, accesses)]", "ratio(steps % 1000, accesses)]"),
     "most tasks at a later step": Mistake(check_many, "journal", "if self.waiting > self.most:", "if self.waiting >= self.most:"),
+    "an interrupt that is told": Mistake(check_many, "traces.py", "signal.SIG_DFL)", "signal.default_int_handler)"),
     "a full disk": Mistake(check_many, "traces.py", "    except OSError as fault:\n        sys.exit(f\"{tool}",
                            "    except OSError as fault:\n        print(f\"{tool}"),
 }

@@ -5,7 +5,8 @@ import subprocess
 import sys
 from xml.etree import ElementTree
 
-from script_tests.frame import POLICIES, Mistake, expect, expect_full_disk, expect_parts, file_of, run
+from script_tests.frame import (NOTING, POLICIES, UNSAFE, Mistake, expect, expect_full_disk, expect_parts,
+                                expect_quiet_interrupt, file_of, gnuplot_by, run, without_texts)
 
 TWELVE = [*POLICIES, "fifo", "clock", "sieve", "s3-fifo", "2q", "arc"]
 SWEEP = "policy,capacity,accesses,hits,misses,evictions,rejections,rate\n"
@@ -36,6 +37,12 @@ def curves_in(commands):
     return curves, "\n".join(rest)
 
 
+def named_curves(rest):
+    """The number of each curve and its name, by the colour that its line, its markers and its place in the legend have."""
+    parts = r"\$curve(\d+) .* linecolor rgb '(.*?)' .*\n.*\$curve\1 .* linecolor rgb '\2' .*\n.* linecolor rgb '\2' .* title '(.*)'"
+    return [(number, name) for number, _, name in re.findall(parts, rest)]
+
+
 def drawn(plot, *words):
     return curves_in(run(plot, "--commands", *words)[0])
 
@@ -47,16 +54,34 @@ def check_curves(plot, folder, _):
     curves, rest = drawn(plot, "--trace", "a_'\"\\", "--options=--main 80", path)
     expect("the curves", curves, [[(10, 20.4), (20, 30.7), (40, 50.1)], [(10, 45), (20, 50), (40, 60)]])
     expect_parts("around them", rest, "set key outside", "set logscale x", "'10' 10", "'40' 40", "'20' 20", "'60' 60", "yrange [20:60]",
-                 "\\na_'\\\"\\\\, 1000 accesses, --main 80\"", 'title "lru"', 'title "clairvoyant"', "terminal svg",
+                 ' . "\\n" . \'a_\' . "\'" . \'"\\, 1000 accesses, --main 80\'', "title 'lru'", "title 'clairvoyant'", "terminal svg",
                  "capacity (entries, logarithmic)")
+    expect("whose curves they are", named_curves(rest), [("0", "lru"), ("1", "clairvoyant")])
     curves, rest = drawn(plot, "--below-optimal", "--y", "0:50", "--title", "A title of its own", path)
     expect("points below Belady's", curves, [[(10, 24.6), (20, 19.3), (40, 9.9)]])
-    expect_parts("what was given", rest, "set yrange [0.0:50.0]", 'set title "A title of its own\\n')
-    many = file_of(folder, "many.csv", SWEEP + sweep_rows("lru", *((100 + it, it) for it in range(80))))
-    curves, rest = drawn(plot, many)
-    expect("a dense sweep", curves, [[(100 + it, it) for it in range(80)]])
-    expect("its steps", ("with steps" in rest, "unset logscale" in rest, "logarithmic" in rest), (True, True, False))
+    expect_parts("what was given", rest, "set yrange [0.0:50.0]", "set title 'A title of its own'")
+    rest = [drawn(plot, *words, path)[1] for words in ((), ("--steps",))]
+    expect("steps of three capacities", ["with steps" in it for it in rest], [False, True])
     expect_full_disk(plot, "--commands", path)
+
+
+def check_dense(plot, folder, _):
+    """Curves of many places have them all, in steps."""
+    for count in (160, 80):
+        many = file_of(folder, "many.csv", SWEEP + sweep_rows("lru", *((200 + it, it) for it in range(count)), accesses=200))
+        curves, rest = drawn(plot, many)
+        expect("a dense sweep", curves, [[(200 + it, it / 2) for it in range(count)]])
+        expect("its steps", ("with steps" in rest, "unset logscale" in rest, "logarithmic" in rest), (True, True, False))
+
+
+def check_heights(plot, folder, _):
+    """The vertical axis has all heights in it, of curves that are nearly level, at the bottom or at the top."""
+    for hits in ((501, 502, 503), (0, 0, 0), (1000, 1000, 1000), (0, 3, 997)):
+        rows = file_of(folder, "level.csv", SWEEP + sweep_rows("lru", *zip((10, 20, 40), hits), accesses=1000))
+        curves, rest = drawn(plot, rows)
+        low, high = map(float, re.search(r"set yrange \[(.*):(.*)\]", rest).groups())
+        expect(f"heights of {hits}", (curves, low <= min(hits) / 10 and max(hits) / 10 <= high),
+               ([[(place, it / 10) for place, it in zip((10, 20, 40), hits)]], True))
 
 
 def check_marks(plot, folder, _):
@@ -74,15 +99,15 @@ def check_styles(plot, folder, _):
     legend = [line.split() for line in drawn(plot, rows)[1].splitlines() if "linespoints" in line]
     for word in ("rgb", "dashtype", "pointtype"):
         expect(f"how many have a {word} of their own", len({line[line.index(word) + 1] for line in legend}), len(TWELVE))
-    colours = {line[-1].rstrip(","): line[line.index("rgb") + 1] for line in map(lambda it: [w.strip('",\\') for w in it], legend)
+    colours = {line[-1]: line[line.index("rgb") + 1] for line in map(lambda it: [w.strip("',\\") for w in it], legend)
                for line in [[w for w in line if w]]}
     one = file_of(folder, "one.csv", SWEEP + sweep_rows("slru", (5, 1), (6, 2)))
-    expect_parts("the colour of slru alone", drawn(plot, one)[1], colours["slru"])
+    expect_parts("the colour of slru alone", drawn(plot, one)[1], f"rgb '{colours['slru']}'")
     two = file_of(folder, "two.csv", INTERVALS + interval_rows("lru", 10, 5, 6) + interval_rows("slru", 10, 5, 6) +
                   interval_rows("lru", 10, 5, 6, capacity=20) + interval_rows("slru", 10, 5, 6, capacity=20))
-    legend = re.findall(r"rgb '(#......)' .* dashtype (\S+) .* title \"(\w+) (\d+)\"", drawn(plot, two)[1])
+    legend = re.findall(r"rgb '(#......)' .* dashtype (\S+) .* title '(\w+) (\d+)'", drawn(plot, two)[1])
     expect("the first capacities", [(it[0], it[2]) for it in legend if it[3] == "9"],
-           [(colours["lru"].strip("'"), "lru"), (colours["slru"].strip("'"), "slru")])
+           [(colours["lru"], "lru"), (colours["slru"], "slru")])
     expect("curves of their own", len({it[:2] for it in legend}), 4)
     expect_parts("an unknown policy", run(plot, "--commands", status=1, typed=SWEEP + sweep_rows("mine", (5, 1)))[1], "mine")
 
@@ -96,6 +121,10 @@ def check_refusals(plot, folder, _):
              ["line 3 is of a trace of 200 accesses", "line 2 of one of 100"]),
             ("empty", SWEEP + "lru,10,0,0,0,0,0,0.00\n", [], ["line 2 has no hit ratio"]),
             ("cut", SWEEP + "lru,10,100,20\n", [], ["line 2 is no row"]),
+            ("below 0", SWEEP + "lru,10,100,-20,120,0,0,-20.00\n", [], ["line 2 is no row"]),
+            ("an interval below 0", INTERVALS + "lru,-9,1,10,5,5,0,0,50.00\n", [], ["line 2 is no row"]),
+            ("a comparison below 0", COMPARISONS + "lru,arc,9,1,10,-2,6,3,3\n", [], ["line 2 is no row"]),
+            ("24 digits", SWEEP + "lru,100000000000000000000000,100,20,80,0,0,20.00\n", [], ["line 2 is no row"]),
             ("false", SWEEP + "lru,10,100,20,81,0,0,20.00\n", [], ["line 2 has hits and misses that are not"]),
             ("header", "1,2\n", [], ["line 1 is not the header"]), ("none", SWEEP, [], ["no reports"]),
             ("lonely", SWEEP + sweep_rows("lru", (10, 20)), ["--below-optimal"], ["line 2 has no row of clairvoyant"]),
@@ -106,9 +135,17 @@ def check_refusals(plot, folder, _):
             ("a sample", INTERVALS + interval_rows("lru", 10, 5), ["--sampled", "1/8", "--accesses", "9"], ["intervals of a sample"])):
         path = file_of(folder, f"{name}.csv", text)
         expect_parts(name, run(plot, "--commands", *words, path, status=1)[1], *parts)
+    expect_quiet_interrupt(plot, folder, "--commands")
+
+
+def check_files(plot, folder, _):
+    """Curves of several files are named by these."""
     mains = [file_of(folder, f"main{it}.csv", SWEEP + sweep_rows("wtinylfu", (10, it), (20, 99))) for it in (80, 90)]
     curves, rest = drawn(plot, *mains)
     expect("two files", curves, [[(10, 80), (20, 99)], [(10, 90), (20, 99)]])
+    expect("whose curves they are", [it for it, _ in named_curves(rest)], ["0", "1"])
+    longer = file_of(folder, "longer.csv", SWEEP + sweep_rows("wtinylfu", (10, 20), accesses=400))
+    expect_parts("of two lengths", drawn(plot, mains[0], longer)[1], "100/400 accesses")
     expect_parts("their names", rest, *(f"wtinylfu ({path.with_suffix('')})" for path in mains))
     run(plot, "--commands", mains[0], mains[0], status=1)
 
@@ -119,7 +156,10 @@ def check_intervals(plot, folder, _):
                    "lru,9,21,24,3,1,0,0,75.00\n")
     curves, rest = drawn(plot, rows)
     expect("the intervals", curves, [[(0, 50), (10, 50), (10, 20), (20, 20), (20, 75), (24, 75)]])
-    expect_parts("around them", rest, "set xrange [0:24]", "'24' 24", "24 accesses, capacity 9, intervals of 10\"")
+    expect_parts("around them", rest, "set xrange [0:24]", "'24' 24", "24 accesses, capacity 9, intervals of 10'")
+    expect_parts("its own title", drawn(plot, "--title", "A title of its own", rows)[1], "set title 'A title of its own' . ")
+    two = file_of(folder, "two.csv", INTERVALS + interval_rows("lru", 10, 5, 6) + interval_rows("lru", 10, 7, 8, capacity=20))
+    expect_parts("of two capacities", drawn(plot, two)[1], "20 accesses, intervals of 10", "title 'lru 9'", "title 'lru 20'")
     expect("without the warm-up", drawn(plot, "--after", "10", rows)[0], [[(10, 20), (20, 20), (20, 75), (24, 75)]])
     run(plot, "--commands", "--after", "24", rows, status=1)
     many = INTERVALS + interval_rows("lru", 10, *(it % 7 for it in range(300))) + interval_rows("slru", 10, *[5] * 300)
@@ -133,7 +173,7 @@ def check_comparisons(plot, folder, _):
     curves, rest = drawn(plot, rows)
     expect("the curves", curves, [[(0, 30), (10, 30), (10, 0), (14, 0)], [(0, 10), (10, 10), (10, 50), (14, 50)]])
     expect_parts("around them", rest, "alone over accesses", "it alone hits (%)", "14 accesses, capacity 9, intervals of 10",
-                 'title "lru"', 'title "wtinylfu"')
+                 "title 'lru'", "title 'wtinylfu'")
     for line in ("lru,wtinylfu,9,1,10,2,3,1,5", "lru,wtinylfu,9,1,10,2,3,1", "lru,wtinylfu,9,1,0,0,0,0,0"):
         expect_parts(line, run(plot, "--commands", status=1, typed=COMPARISONS + line + "\n")[1], "line 2 ")
     run(plot, "--commands", "--below-optimal", rows, status=1)
@@ -146,6 +186,11 @@ def check_below_optimal_intervals(plot, folder, _):
     # 4 of 10, 3 of 20, 6 of 30.
     expect("the sums", curves, [[(10, 40), (20, 15), (30, 20)]])
     expect_parts("the title", rest, "in all accesses up to there")
+    two = "".join(interval_rows(policy, 10, *hits, capacity=capacity) for policy, capacity, hits in (
+        ("lru", 9, (5, 9)), ("lru", 20, (6, 7)), ("clairvoyant", 9, (9, 8)), ("clairvoyant", 20, (10, 8))))
+    # At 9 entries 4 of 10, 3 of 20; at 20 entries 4 of 10, 5 of 20.
+    expect("at two capacities", drawn(plot, "--below-optimal", file_of(folder, "two.csv", INTERVALS + two))[0],
+           [[(10, 40), (20, 15)], [(10, 40), (20, 25)]])
 
 
 def check_sampled(plot, folder, _):
@@ -156,8 +201,33 @@ def check_sampled(plot, folder, _):
     expect_parts("its title", rest, "800 accesses, estimated by one block in 8")
     expect("corrected", drawn(plot, "--sampled", "1/8", "--accesses", "1000", rows)[0], [[(80, 36), (160, 92), (320, 100)]])
     expect("never below 0", drawn(plot, "--sampled", "1/8", "--accesses", "400", rows)[0], [[(80, 0), (160, 80), (320, 100)]])
-    run(plot, "--commands", "--sampled", "1/3", "--accesses", "9", rows, status=2)
+    for rate, accesses in (("1/3", 9), ("1/8", 399), ("1/8", 1601), ("1/2", 100)):
+        run(plot, "--commands", "--sampled", rate, "--accesses", accesses, rows, status=2)
+    said = file_of(folder, "said", "100 of 9000 accesses, 7 blocks: --sampled 1/8 --accesses 9000\n")
+    expect("of few blocks", drawn(plot, "--sampled", said, rows)[0][0][0], (80, round(100 - 640 / 90, 6)))
+    run(plot, "--commands", "--sampled", file_of(folder, "said", said.read_text().replace("100", "99")), rows, status=2)
     run(plot, "--commands", "--sampled", "1/2", rows, status=2)
+
+
+def check_unsafe_texts(plot, folder, _):
+    """What a user names reaches gnuplot in single quotes alone, or not at all; and nothing of it is run."""
+    environment = gnuplot_by(folder, NOTING)
+    given, files = [], SWEEP + sweep_rows("lru", (5, 1), (6, 2))
+    for text in ("plain", UNSAFE):
+        paths = [file_of(folder, f"{text}{it}.csv", files).name for it in (1, 2)]
+        words = f"--title={text}", f"--trace={text}", f"--options={text}", *paths
+        run(plot, *words, cwd=folder, env=environment)
+        given.append((folder / "given").read_text())
+        expect("what gnuplot is given", given[-1], run(plot, "--commands", *words, cwd=folder)[0])
+    expect("the commands around the texts", *map(without_texts, given))
+    for option in ("--y", "--after", "--sampled", "--accesses"):
+        run(plot, "--commands", f"{option}={UNSAFE}", paths[0], status=2, cwd=folder)
+    for field in ("lru", "5", "99", "capacity"):
+        run(plot, "--commands", status=1, typed=files.replace(field, UNSAFE.replace("\n", ""), 1))
+    if shutil.which("gnuplot"):
+        for kind in ([], ["--png"]):
+            run(plot, *kind, *words, cwd=folder)
+    expect("a command that was run", (folder / "made").exists(), False)
 
 
 def check_pictures(plot, folder, _):
@@ -177,12 +247,14 @@ def check_pictures(plot, folder, _):
     expect("a PNG", picture[:8], b"\x89PNG\r\n\x1a\n")
 
 
-TESTS = [check_curves, check_marks, check_styles, check_refusals, check_intervals, check_comparisons,
-         check_below_optimal_intervals, check_sampled,
-         check_pictures]
+TESTS = [check_curves, check_dense, check_heights, check_marks, check_styles, check_refusals, check_files, check_intervals, check_comparisons,
+         check_below_optimal_intervals, check_sampled, check_unsafe_texts, check_pictures]
 
 MISTAKES = {
     "a row that hides another": Mistake(check_refusals, "curves.py", "other.begin < row.end if is_intervals else True", "False"),
+    "slopes where steps are asked for": Mistake(check_curves, "plot", "(args.steps or places >= DENSE)", "places >= DENSE"),
+    "a row below 0": Mistake(check_refusals, "curves.py", "text.isdigit()", 'text.strip("-").isdigit()'),
+    "a row of 24 digits": Mistake(check_refusals, "curves.py", " and len(text) < 19", ""),
     "a row dropped": Mistake(check_curves, "curves.py", "for row in sorted(rows, key=lambda row: row.begin):", "for row in rows[1:]:"),
     "two traces joined": Mistake(check_refusals, "curves.py", "row.accesses != rows[0].accesses", "row.accesses < 0"),
     "the legend on the curves": Mistake(check_curves, "plot", "set key outside", "set key inside"),
@@ -191,11 +263,11 @@ MISTAKES = {
     "a policy in the colour of another": Mistake(check_styles, "policies.py", '"#a50f15"', '"#000000"'),
     "colours by the place of a curve": Mistake(check_styles, "plot", "shade_of(POLICIES[curve.policy].colour, part)",
                                                "shade_of(list(POLICIES.values())[marker].colour, part)"),
-    "an axis without its last mark": Mistake(check_curves, "plot", "return sorted(marks)", "return sorted(marks)[:-1]"),
-    "an axis without powers of ten": Mistake(check_marks, "plot", "for it in (1, 2, 5)]\n", "for it in (2, 5, 1)]\n"),
+    "an axis without its last mark": Mistake(check_curves, "pictures.py", "return sorted(marks)", "return sorted(marks)[:-1]"),
+    "an axis without powers of ten": Mistake(check_marks, "pictures.py", "for it in (1, 2, 5)]\n", "for it in (2, 5, 1)]\n"),
     "a policy beside Belady's at another capacity": Mistake(check_curves, "curves.py", "best.get((row.begin,", "best.get((rows[0].begin,"),
     "heights of whole points": Mistake(check_curves, "plot", "{height:.6f}", "{round(height)}"),
-    "every second place of a long curve": Mistake(check_curves, "plot", "for _, end, height in curve.points]",
+    "every second place of a long curve": Mistake(check_dense, "plot", "for _, end, height in curve.points]",
                                                   "for _, end, height in curve.points[::2 if len(curve.points) > 60 else 1]]"),
     "--title ignored": Mistake(check_curves, "plot", "(args.title or what)", "what"),
     "points below the optimum of the first interval": Mistake(
@@ -204,8 +276,24 @@ MISTAKES = {
     "points below the optimum of one interval": Mistake(check_below_optimal_intervals, "curves.py", "lost + optimal.hits", "optimal.hits"),
     "the hits of both": Mistake(check_comparisons, "curves.py", "(second, second_only)", "(second, both + second_only)"),
     "a picture without its capacity": Mistake(check_intervals, "plot", 'yield f"capacity {', 'f"capacity {'),
+    "texts in double quotes": Mistake(check_unsafe_texts, "pictures.py", """return "'" + shown.replace(""", """return '"' + shown.replace('"', '\\\\"').replace("""),
+    "an apostrophe that ends a text": Mistake(check_unsafe_texts, "pictures.py", """.replace("'", """, """.replace("no", """),
+    "a line feed that ends a text": Mistake(check_unsafe_texts, "pictures.py", """.replace("\\n", """, """.replace("no", """),
+    "each curve as another policy's": Mistake(check_curves, "plot", 'yield f"$curve{at} with', 'yield f"$curve{len(curves) - 1 - at} with'),
+    "the names of two curves changed over": Mistake(check_curves, "plot", "title {quoted(curve.name)}", "title {quoted(curves[len(curves) - 1 - at].name)}"),
+    "curves of over a hundred places cut": Mistake(check_dense, "plot", "for _, end, height in curve.points]", "for _, end, height in curve.points[:100]]"),
+    "level curves outside of the axis": Mistake(check_heights, "plot", "low, high = max(0, (low + high) / 2 - 0.5), (low + high) / 2 + 0.5", "low, high = 0, 0.5"),
+    "the accesses of the first file": Mistake(check_files, "plot", "'/'.join(map(str, ends))", "min(ends)"),
+    "a title of intervals ignored": Mistake(check_intervals, "plot", "(args.title or what)", "(header == SWEEP and args.title or what)"),
+    "one capacity of two": Mistake(check_intervals, "plot", "== 1:\n            yield f\"capacity", ">= 1:\n            yield f\"capacity"),
+    "points below another capacity's optimum": Mistake(check_below_optimal_intervals, "curves.py", "best.get((row.begin, row.end, row.capacity))",
+                                                       "best.get((row.begin, row.end, rows[0].capacity))"),
     "a carpet in silence": Mistake(check_intervals, "plot", "if places > MAX_INTERVALS:", "if False:"),
     "a sample's capacity": Mistake(check_sampled, "curves.py", "row.capacity * inverse", "row.capacity"),
+    "a sample of far fewer accesses": Mistake(check_sampled, "samples.py", "whole <= 2 * stands_for", "True"),
+    "a sample of far more accesses": Mistake(check_sampled, "samples.py", "stands_for <= 2 * whole", "True"),
+    "the whole trace as a sample": Mistake(check_sampled, "samples.py", "and accesses < whole", ""),
+    "another sample than is said": Mistake(check_sampled, "samples.py", "accesses != kept", "accesses < kept"),
     "a sample below 0": Mistake(check_sampled, "curves.py", "min(accesses, (row", "max(0, (row"),
     "half a picture on a full disk": Mistake(check_curves, "traces.py", "    except OSError as fault:\n        sys.exit(f\"{tool}",
                                              "    except OSError as fault:\n        print(f\"{tool}"),

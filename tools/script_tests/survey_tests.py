@@ -1,10 +1,15 @@
 """Tests of tools/survey, over a program whose reports are known, and beside calls of the program itself."""
+import contextlib
 import gzip
+import os
+import pty
+import re
 import shutil
 import subprocess
+import sys
 
-from script_tests.frame import (POLICIES, Mistake, expect, expect_full_disk, expect_parts, fake, file_of, rows_of,
-                                run)
+from script_tests.frame import (NOTING, POLICIES, UNSAFE, Mistake, expect, expect_full_disk, expect_parts,
+                                expect_quiet_interrupt, fake, file_of, gnuplot_by, rows_of, run, without_texts)
 
 TWELVE = ["lru", "slru", "tinylfu-lru", "tinylfu-slru", "wtinylfu", "clairvoyant", "fifo", "clock", "sieve", "s3-fifo", "2q",
           "arc"]
@@ -29,12 +34,19 @@ def check_best(survey, folder, _):
 
 
 def check_nearly_best(survey, folder, _):
-    """Half a point below the best is as good, more is not."""
+    """Half a point below the best is as good, more is not, nor are more than 5 percent more misses: of 20 misses 21 are, 22 are
+    not."""
     trace = file_of(folder, "trace", "".join(f"{it % 19}\n" for it in range(1000)))
-    program = file_of(folder, "fake", fake(folder, "None if capacity >= distinct else dict(lru=500, slru=495).get(policy, 494)").read_text()
-                      .replace("* percent // 100", "* percent // 1000"))
-    row = rows_of(run(survey, trace, "--program", program, "--capacity", "5", "--csv")[0])[0]
-    expect("the best", row["best"], "lru or slru")
+    for hits, best, lost in (("lru=500, slru=495", "lru or slru", "-0.60"), ("lru=980, slru=979, wtinylfu=978", "lru or slru", "-48.60"),
+                             ("wtinylfu=980 if main == 20 else 978, lru=979", "wtinylfu --main 20 or lru", "-48.60")):
+        program = file_of(folder, "fake", fake(folder, f"None if capacity >= distinct else dict({hits}).get(policy, 494)").read_text()
+                          .replace("* percent // 100", "* percent // 1000"))
+        words = survey, trace, "--program", program, "--capacity", "5"
+        row = rows_of(run(*words, "--csv")[0])[0]
+        expect("the best", (row["best"], row["below optimal"]), (best, lost))
+    expect_parts("the note", run(*words, "--table", "policies")[0], "(best: within half a point of the best policy and 5 % of its misses; "
+                 "clairvoyant is left out)")
+    expect("the best main part", rows_of(run(*words, "--csv", "--table", "windows")[0])[0]["best --main"], "20")
 
 
 def check_windows(survey, folder, _):
@@ -44,9 +56,9 @@ def check_windows(survey, folder, _):
                    "dict(lru=40, wtinylfu={99: 20, 90: 21, 80: 39, 50: 60, 20: 59}.get(main, 0)).get(policy, 0)")
     words = survey, trace, "--program", program, "--capacity", "30", "--csv"
     row = rows_of(run(*words)[0])[0]
-    expect("the best", (row["wtinylfu"], row["best"], row["below optimal"]), ("20.00", "wtinylfu 50", "-60.00"))
+    expect("the best", (row["wtinylfu"], row["best"], row["below optimal"]), ("20.00", "wtinylfu --main 50", "-60.00"))
     expect("the windows", run(*words, "--table", "windows")[0],
-           "trace,% of footprint,capacity,window 1 %,window 10 %,window 20 %,window 50 %,window 80 %,best\n"
+           "trace,% of footprint,capacity,--main 99,--main 90,--main 80,--main 50,--main 20,best --main\n"
            f"{trace},10.0,30,20.00,21.00,39.00,60.00,59.00,50\n")
     expect("one window", rows_of(run(*words, "--main", "80")[0])[0]["best"], "lru")
 
@@ -59,7 +71,85 @@ def check_columns(survey, folder, _):
            ["lru", "slru", "arc", "sieve", "s3-fifo", "tinylfu-slru", "wtinylfu", "clairvoyant"])
     words = survey, trace, "--csv", "--program", fake(folder), "--policy"
     expect("a column", run(*words, "slru")[0].splitlines()[0], "trace,% of footprint,capacity,slru,best")
-    expect_parts("a policy that is none", run(*words, "fifo", status=1)[1], "--policy fifo is none of lru, slru")
+    expect_parts("a policy that is none", run(*words, "none", status=1)[1], "--policy none is none of lru, slru")
+    words = survey, trace, "--program", fake(folder, policies=TWELVE), "--policy"
+    for word, meant in (("opt", "clairvoyant"), ("min", "clairvoyant"), ("Belady", "clairvoyant"), ("LRU", "lru"), ("s3fifo", "s3-fifo")):
+        expect_parts(word, run(*words, word, status=1)[1], f"--policy {word} is none of ", f"did you mean {meant}?\n")
+
+
+def check_width(survey, folder, _):
+    """No table is wider than 100 columns, and each column is in it, also of twelve policies that are as good as each other."""
+    trace = file_of(folder, "trace", "".join(f"{it % 320}\n" for it in range(3200)))
+    words = survey, trace, "--program", fake(folder, "None if capacity >= distinct else 50", policies=TWELVE)
+    words += "--reach", "99", *(word for it in TWELVE for word in ("--policy", it))
+    whole = run(*words)[0]
+    sampled = run(*words, "--sampled", "1/1024", "--accesses", 3200 << 10, "--after", "9")[0]
+    for text in (whole, sampled):
+        expect("too wide", [line for line in text.splitlines() if len(line) > 100], [])
+    expect_parts("the tables", whole, f"{trace}: hit ratios in percent\n% of footprint  capacity    lru ", *TWELVE)
+    expect_parts("the best", whole, "  lru or slru or tinylfu-lru and 8 more           0.00\n", "  99 or 90 or 80 and 2 more\n",
+                 "so look at both sides)\n")
+    best = rows_of(run(*words, "--csv", "--table", "policies")[0])[0]["best"]
+    expect("the best as CSV", best.split(" or "), [it.replace("wtinylfu", "wtinylfu --main 99") for it in TWELVE if it != "clairvoyant"])
+
+
+def check_many_rows(survey, folder, _):
+    """A table has a row for each of thirty capacities."""
+    many = [word for it in range(30) for word in ("--capacity", 211 + it)]
+    rows = run(survey, file_of(folder, "trace", "1\n2\n1\n"), "--program", fake(folder), *many, "--policy", "slru", "--table", "policies")[0]
+    expect("thirty rows", [row.split()[1] for row in rows.splitlines()[2:32]], [str(211 + it) for it in range(30)])
+
+
+def on_terminal(script, *words):
+    """What a call of a script that ends well draws on a terminal."""
+    terminal, error = pty.openpty()
+    with subprocess.Popen([sys.executable, *map(str, (script, *words))], stdout=subprocess.PIPE, stderr=error) as process:
+        os.close(error)
+        drawn = b""
+        with contextlib.suppress(OSError):  # as a terminal ends
+            while piece := os.read(terminal, 4096):
+                drawn += piece
+        process.stdout.read()
+    os.close(terminal)
+    expect("the status", process.returncode, 0)
+    return drawn.decode()
+
+
+def check_progress(survey, folder, _):
+    """At a terminal a survey says which of its steps is under way, of each trace, and leaves nothing there."""
+    traces = [file_of(folder, name, "".join(f"{it % 50}\n" for it in range(500))) for name in ("one", "two")]
+    words = "--program", fake(folder, "None if capacity >= distinct else 50"), "--policy", "lru", "--policy", "wtinylfu"
+    drawn = on_terminal(survey, *traces, *words, "--table", "policies", "--main", "50")
+    steps = re.findall("tools/survey: (.*), (.*)\r\n", drawn)
+    expect("two traces", steps, [(f"{place} of 4: {step}", str(traces[place > 2]))
+                                 for place, step in enumerate(["footprint", "policies"] * 2, 1)])
+    expect("lines that are erased", drawn.count("\x1b[A\r\x1b[K"), 4)
+    expect("the last line", drawn.endswith("\x1b[A\r\x1b[K"), True)
+    odd = file_of(folder, "three\x1b[2J\n", "1\n2\n1\n")
+    expect_parts("a name with other characters", on_terminal(survey, odd, *words, "--table", "traces"), "1 of 1: footprint, ", "/three?[2J?\r\n")
+    # The footprint, the policies, four main parts, jumps twice, a search for each policy, powers of two.
+    expect_parts("all tables", on_terminal(survey, traces[0], *words, "--reach", "9"), "1 of 11: footprint, ", "11 of 11: powers of two, ")
+
+
+def check_cliffs(survey, folder, _):
+    """Of policies that may lose by a larger capacity, changes within one percent of a capacity, or one entry. Of 8 entries one
+    more is many percent: a gain of 10 points is no jump, a loss of 3 is one."""
+    trace = file_of(folder, "trace", "".join(f"{it % 300}\n" for it in range(3000)))
+    slru = {8: 10, 9: 20, 10: 17, 198: 60, 200: 40, 202: 61}
+    words = survey, trace, "--capacity", "9", "--capacity", "200", "--program"
+    words += fake(folder, f"None if capacity >= distinct else 90 if policy == 'lru' else {slru}.get(capacity, 30) if policy == 'slru' else 30"),
+    expect("the jumps", run(*words, "--csv", "--table", "jumps")[0],
+           f"trace,policy,jumps from,to,hit ratio from,to,points\n{trace},slru,9,10,20.00,17.00,-3.00\n"
+           f"{trace},slru,198,200,60.00,40.00,-20.00\n{trace},slru,200,202,40.00,61.00,21.00\n")
+    expect_parts("a large one", run(*words, "--csv", "--table", "jumps", "--jump", "21")[0], f"points\n{trace},slru,200,202,")
+    expect_parts("in a table", run(*words)[0], "within a percent of the survey's capacities", "-20.00\n")
+    expect_parts("no jump", run(*words, "--policy", "lru", "--table", "jumps")[0], "no jump (lru: at any capacity; others")
+    if not shutil.which("gnuplot"):
+        return
+    picture = folder / "picture.svg"
+    run(*words, "--policy", "slru", "--table", "traces", "--plot", picture)
+    text = picture.read_text()
+    expect_parts("the picture", text, "\n198 60.000000\n200 40.000000\n202 61.000000\n")
 
 
 def check_reach(survey, folder, _):
@@ -74,8 +164,8 @@ def check_reach(survey, folder, _):
            f"{trace},1,lru,1,0.5,5.00,-,-\n{trace},1,clairvoyant,3,1.5,1.00,2,0.00\n")
     expect("no reach", run(*words, "--reach", "81")[0].splitlines()[1], f"{trace},81,lru,never,-,-,200,80.00")
     expect("jumps", run(survey, trace, "--program", program, "--csv", "--table", "jumps")[0],
-           "trace,lru jumps from,to,hit ratio from,to,points\n"
-           f"{trace},122,123,5.00,60.00,55.00\n{trace},199,200,60.00,80.00,20.00\n")
+           "trace,policy,jumps from,to,hit ratio from,to,points\n"
+           f"{trace},lru,122,123,5.00,60.00,55.00\n{trace},lru,199,200,60.00,80.00,20.00\n")
     expect("large jumps", run(survey, trace, "--program", program, "--csv", "--table", "jumps", "--jump", "30")[0].count("\n"), 2)
 
 
@@ -90,11 +180,27 @@ def check_percent_of_reach(survey, folder, _):
                (True, True, "42.00", "1.00"))
 
 
-def check_large(survey, folder, _):
-    """A trace of more blocks than the largest cache has entries: its ratio, capacities that are left out, jumps, powers."""
+def large(survey, folder):
+    """A trace of more blocks than the largest cache has entries, and the words of a survey of it."""
     trace = file_of(folder, "large", "0 1200000\n7 300000\n")
-    words = survey, trace, "--format", "arc", "--csv", "--program", fake(folder), "--policy", "lru", "--policy", "tinylfu-lru"
-    expect("the ratio", run(*words, "--table", "traces")[0].splitlines()[1], f"{trace},1500000,1200000,900000,20.00")
+    return trace, (survey, trace, "--format", "arc", "--csv", "--program", fake(folder), "--policy", "lru", "--policy", "tinylfu-lru")
+
+
+def check_large(survey, folder, _):
+    """The highest ratio of a large trace."""
+    trace, words = large(survey, folder)
+    # Of the last 500000 accesses 200000 are the first to their block.
+    after = run(*words, "--table", "traces", "--after", "1000000")[0]
+    expect("the ratio without a warm-up", after.splitlines()[1], f"{trace},500000,1200000,900000,60.00")
+    # Of a sample the 3 accesses are none: 9600000 misses of 11999997.
+    sample = run(*words, "--table", "traces", "--table", "reach", "--reach", "15", "--sampled", "1/8", "--accesses", "12000000", "--after", "3")[0]
+    expect("the ratio of a sample", sample.splitlines()[1], f"{trace},11999997,9600000,7200000,19.99")
+    expect("no reach in a sample", rows_of(sample.partition("19.99\n")[2])[0]["capacity"], "> 8388608")
+
+
+def check_large_capacities(survey, folder, _):
+    """Capacities of a large trace that are left out, and ratios that no cache reaches."""
+    _, words = large(survey, folder)
     out, error = run(*words, "--percent", "1", "--percent", "95")
     expect("the part of the footprint", [row["% of footprint"] for row in rows_of(out)], ["1.0"])
     expect_parts("what is left out", error, "1140000 entries are left out: the largest cache has 1048576")
@@ -105,14 +211,16 @@ def check_large(survey, folder, _):
 def check_jumps_and_powers(survey, folder, _):
     """A jump at many entries, and both sides of large powers of two."""
     small = file_of(folder, "small", "0 20000\n0 20000\n")
-    jump = fake(folder, "5 if capacity < 15000 else 60 if capacity < 20000 else None")
-    words = survey, small, "--format", "arc", "--csv", "--program", jump
-    row = run(*words, "--table", "jumps")[0].splitlines()[1].split(",")
-    expect(f"a jump: {row}", (int(row[1]) < 15000 <= int(row[2]) < 15010, row[3:]), (True, ["5.00", "60.00", "55.00"]))
-    for power in (8192, 524288):
-        program = fake(folder, f"dict([(({power}), 30), ({power + 1}, 31)]).get(capacity)")
-        out = run(survey, small, "--format", "arc", "--csv", "--program", program, "--table", "powers", "--capacity", power - 9)[0]
-        expect("powers", out.splitlines()[1:], [f"{small},{it},{power},30.00,31.00,1.00" for it in POLICIES[2:5]])
+    words = survey, small, "--format", "arc", "--csv"
+    for first, rates in ((15000, "5"), (14990, "5 if capacity < 14990 else 30")):
+        jump = fake(folder, f"({rates}) if capacity < 15000 else 60 if capacity < 20000 else None")
+        row = run(*words, "--program", jump, "--table", "jumps")[0].splitlines()[1].split(",")
+        expect(f"a jump: {row}", (first - 10 <= int(row[2]) < first, 15000 <= int(row[3]) < 15010, row[4:]), (True, True, ["5.00", "60.00", "55.00"]))
+    near = {4: 4, 32: 32, 8192: 8183, 16384: 16393, 262144: 262153, 524288: 524279}
+    program = fake(folder, f"30 if capacity in {[*near]} else 31 if capacity - 1 in {[*near]} else None")
+    named = [word for it in near.values() for word in ("--capacity", it)]
+    out = run(*words, "--program", program, "--table", "powers", *named)[0]
+    expect("powers", out.splitlines()[1:], [f"{small},{it},{power},30.00,31.00,1.00" for power in near for it in POLICIES[2:5]])
 
 
 def check_lost_row(survey, folder, program):
@@ -122,16 +230,26 @@ def check_lost_row(survey, folder, program):
     expect_parts("a report that is left out", error, "other reports")
     for name, part in ((folder / "none", "none: No such file"), (folder, "Is a directory")):
         expect_parts("no file", run(survey, name, "--program", program, status=1)[1], part)
+    arc = file_of(folder, "arc", "0 7\n")
+    for words, hint in ((("--format", "lirs"), "--format arc"), (("--format", "arc", "--capacity", "1"), "--format lirs")):
+        text = arc if "lirs" in words else trace
+        expect_parts("a trace in another format", run(survey, *words, text, "--program", program, status=1)[1], f"refused {text}: another format is {hint}, and ",
+                     "tools/sample")
     expect_parts("a word", run(survey, trace, "--capacity", "1M", "--program", program, status=2)[1], "1M is not a whole number")
+    for option in ("--percent", "--reach", "--jump"):
+        expect_parts(option, run(survey, trace, option, "nan", status=2)[1], "nan is not a number from 0 to 100")
+    expect_quiet_interrupt(survey, folder, "--program", program)
     expect_full_disk(survey, trace, "--program", fake(folder))
 
 
 def check_ways(survey, folder, program):
     """A trace is read from a file, packed or not, and from a pipe, and its tables are the same."""
-    text = "".join(f"{it * it % 91}\n" for it in range(4000)).encode()
-    words = "--program", program, "--csv", "--capacity", "20"
+    # More than a buffer has. Block 1000 comes three times, written otherwise; of 91 residues x * x has 28.
+    text = "".join(f"{it * it % 91:0600}\n" for it in range(2000)).encode() + b"1000\n 1000\n001000\n"
+    words = "--program", program, "--csv", "--capacity", "20", "--table", "traces", "--table", "policies", "--policy", "slru"
     plain = file_of(folder, "plain", text)
     wanted = run(survey, plain, *words)[0]
+    expect("the trace", wanted.splitlines()[1], f"{plain},2003,29,0,98.55")
     packed = {"gz": gzip.compress(text)}
     if shutil.which("zstd"):
         packed["zst"] = subprocess.run(["zstd", "-qc"], input=text, capture_output=True, check=True).stdout
@@ -171,11 +289,16 @@ def check_after(survey, folder, program):
     trace = file_of(folder, "trace", "".join(f"{it * it % 391}\n" for it in range(3000)))
     named = [word for it in POLICIES for word in ("--policy", it)]
     words = survey, trace, "--program", program, "--csv", "--capacity", "40", "--after", "1000", *named
-    row = rows_of(run(*words, "--table", "policies")[0])[0]
+    row, misses = (rows_of(run(*words, "--table", it)[0])[0] for it in ("policies", "misses"))
     for policy in POLICIES:
         rows = rows_of(run(program, "intervals", "--capacity", 40, "--every", 1000, policy, typed=trace.read_text())[0])[1:]
         hits = sum(int(it["hits"]) for it in rows)
-        expect(f"{policy} after 1000", row[policy], f"{hits * 10000 // 2000 / 100:.2f}")
+        expect(f"{policy} after 1000", (row[policy], misses[policy]), (f"{hits * 10000 // 2000 / 100:.2f}", str(2000 - hits)))
+    windows = rows_of(run(*words, "--table", "windows")[0])[0]
+    for main in ("80", "20"):
+        call = program, "intervals", "--capacity", 40, "--every", 1000, "--main", main, "wtinylfu"
+        hits = sum(int(it["hits"]) for it in rows_of(run(*call, typed=trace.read_text())[0])[1:])
+        expect(f"--main {main}", windows[f"--main {main}"], f"{hits * 10000 // 2000 / 100:.2f}")
     # Of 391 residues x * x has 0 and 8 * 11 + 8 + 11 others (391 is 17 times 23), all of them in the first 1000.
     expect("the trace", run(*words, "--table", "traces")[0].splitlines()[1], f"{trace},2000,108,0,100.00")
     arc = file_of(folder, "arc", "".join(f"{it * 7 % 90} 3\n" for it in range(100)))
@@ -197,26 +320,99 @@ def check_sampled(survey, folder, _):
            f"{trace},20.0,160,60.00,97.50,lru,37.50\n"
            "trace,% of footprint,capacity,lru,clairvoyant,best,% fewer than lru\n"
            f"{trace},20.0,160,6400,400,lru,0.0\n")
-    close = fake(folder, "None if capacity >= distinct else {'lru': 20, 'slru': 30}.get(policy, 0)")
-    best = run(*words[:3], close, *words[4:7], "64000", "--csv", "--capacity", "160", "--policy", "lru", "--policy", "slru")[0]
-    expect("within two points", rows_of(best)[0]["best"], "slru or lru")
     few = run(*words[:7], "5000", "--csv", "--capacity", "160", "--policy", "lru")[0]
     expect("never below 0", rows_of(few)[0]["lru"], "0.00")
     expect_parts("the traces", run(*words, "--capacity", "160")[0], " 16000        800 ", "one block in 8")
-    for wrong in (["--sampled", "1/7"], ["--sampled", "0.5"], ["--accesses", "5"]):
-        run(survey, trace, *wrong, status=2)
+    # A quarter of 16000 accesses is left out, so of the sample 250, with 200 misses and 13: 600 are 4800 of 12000, 37 are 296.
+    after = run(*words, "--csv", "--capacity", "160", "--after", "4000", "--table", "traces", "--table", "policies")[0]
+    expect("after a warm-up", after.splitlines()[1:], [
+        f"{trace},12000,800,0,100.00", "trace,% of footprint,capacity,lru,clairvoyant,best,below optimal",
+        f"{trace},20.0,160,60.00,97.53,lru,37.53"])
+    expect("nothing after it", run(*words, "--after", "16000", "--table", "policies")[0], "no accesses\n\n(estimates by one block in 8)\n"
+           "\n(without about the first 16000 accesses, where clairvoyant is no upper bound)\n")
+    jump = fake(folder, "None if capacity >= distinct else 5 if capacity < 50 else 60")
+    expect_parts("a jump", run(*words[:3], jump, *words[4:], "--table", "jumps")[0], "known to some percent", "  392  400 ")
+    whole = file_of(folder, "whole", "".join(f"{it % 700}\n" for it in range(7000)))
+    kept, line = run(survey.with_name("sample"), "--rate", "1/8", whole)
+    kept, said = file_of(folder, "kept", kept), file_of(folder, "said", line)
+    out = run(survey, kept, "--program", program, "--sampled", said, "--csv", "--table", "traces")[0]
+    expect("what the sample says", out.splitlines()[1].split(",")[1], "7000")
+    for wrong in (["--sampled", "1/7"], ["--sampled", "0.5"], ["--accesses", "5"], ["--sampled", "1/8", "--accesses", "3999"],
+                  ["--sampled", said], ["--sampled", said, "--accesses", "7000"], ["--sampled", trace]):
+        run(survey, trace, "--program", program, *wrong, status=2)
+
+
+def check_sampled_once(survey, folder, _):
+    """Of a sample with a block that comes once, all blocks and capacities are eight times its own: 808 misses of 16000."""
+    program = fake(folder, "None if capacity >= distinct else 20")
+    trace = file_of(folder, "once", "".join(f"{it % 100}\n" for it in range(1000)) + "100\n")
+    words = survey, trace, "--program", program, "--sampled", "1/8", "--accesses", "16000", "--policy", "lru"
+    expect("of one block once", run(*words, "--csv", "--table", "traces", "--table", "reach", "--reach", "90", "--reach", "95")[0].splitlines(), [
+        "trace,accesses,footprint,used once,highest possible %", f"{trace},16000,808,8,94.95",
+        "trace,to reach,policy,capacity,% of footprint,hit ratio,not at,hit ratio there",
+        f"{trace},90,lru,808,100.0,94.95,800,59.95", f"{trace},95,lru,never,-,-,808,94.95"])
+    text = run(*words[:-2], "--capacity", "1024")[0]
+    expect("powers of two of a sample", "power of two" in text, False)
+    run(*words, "--plot", folder / "picture.svg", env=gnuplot_by(folder, NOTING), cwd=folder)
+    places = (folder / "given").read_text().partition("$curve0 << END\n")[2].partition("END")[0].split()[::2]
+    expect("the picture's ends", (places[0], places[-1]), ("8", "808"))
+
+
+def check_unsafe_name(survey, folder, _):
+    """The name of a trace is no more than a text for gnuplot."""
+    trace = file_of(folder, f"-{UNSAFE}", "1\n2\n1\n").name
+    words = survey, "--program", fake(folder), "--plot", "picture.svg", "--table", "traces", "--", trace
+    run(*words, cwd=folder, env=gnuplot_by(folder, NOTING))
+    expect("outside of texts", "`" in without_texts((folder / "given").read_text()), False)
+    if shutil.which("gnuplot"):
+        run(*words, cwd=folder)
+    expect("a command that was run", (folder / "made").exists(), False)
+
+
+def check_kept_picture(survey, folder, _):
+    """Where no picture is drawn, or none can be written, what stood there stays, and nothing beside it."""
+    trace, picture = file_of(folder, "trace", "1\n2\n1\n"), file_of(folder, "picture.svg", "an old picture")
+    words = survey, trace, "--program", fake(folder), "--table", "traces", "--plot"
+    broken = gnuplot_by(folder, "echo '<svg>'; exit 3")
+    here = sorted(folder.iterdir())
+    expect_parts("a gnuplot that fails", run(*words, picture, status=1, env=broken)[1], "drew no picture")
+    out, error = run(*words, picture, status=1, env={**broken, "PATH": str(file_of(folder, "none", ""))})
+    expect_parts("no gnuplot", error, "--plot needs gnuplot")
+    expect("before anything is read", out, "")
+    env = gnuplot_by(folder, "echo '<svg></svg>'")
+    limited = "bash", "-c", 'trap "" XFSZ; ulimit -f 0; exec "$@"', "bash", sys.executable
+    run(*limited, survey, trace, *words[2:], picture, status=1, env=env)
+    expect("the old picture", picture.exists() and picture.read_text(), "an old picture")
+    run(*words, "/dev/full", status=1, env=env)
+    (folder / "link.svg").symlink_to(picture)
+    run(*words, folder / "link.svg", env=env)
+    expect_parts("the new picture, by a link", picture.read_text(), "<svg>")
+    expect("what is there", sorted(folder.iterdir()), sorted([*here, folder / "none", folder / "link.svg"]))
+
+
+def check_best_of_sample(survey, folder, _):
+    """Of a sample half a point, and two points where one of both policies has a sketch. Of 1000 accesses 10 more misses are 80
+    of 8000, a point."""
+    trace = file_of(folder, "sample", "".join(f"{it % 100}\n" for it in range(1000)))
+    for percent, best in (({"lru": 50, "slru": 51}, "slru"), ({"slru": 51, "wtinylfu": 50}, "slru or wtinylfu"),
+                          ({"wtinylfu": 51, "lru": 50, "slru": 49, "tinylfu-lru": 48}, "wtinylfu or lru or slru")):
+        program = fake(folder, f"None if capacity >= distinct else {percent}.get(policy, 0)")
+        words = survey, trace, "--program", program, "--sampled", "1/8", "--accesses", "8000", "--capacity", "160"
+        expect("the best", rows_of(run(*words, "--main", "99", "--csv")[0])[0]["best"], best)
+    expect_parts("the note", run(*words)[0], "or two where one of both has a sketch,\n", "one block in 8")
 
 
 def check_drawn(survey, folder, program):
-    """The picture has each policy at capacities from a hundredth of the footprint to all of it, and the trace's name."""
-    trace = file_of(folder, "trace", "".join(f"{it * it % 391}\n" for it in range(3000)))
+    """The picture has each policy at capacities from a hundredth of the footprint to all of it, in steps, and the trace's name. Of 91
+    residues x * x has 28: 4 by 7 times 7 by 13."""
+    trace = file_of(folder, "trace", "".join(f"{it * it % 91}\n" for it in range(3000)))
     if not shutil.which("gnuplot"):
         return
     picture = folder / "picture.svg"
     named = [word for it in POLICIES for word in ("--policy", it)]
     run(survey, trace, "--program", program, "--plot", picture, "--table", "traces", *named)
     text = picture.read_text()
-    expect_parts("the picture", text, "3000 accesses", "set xrange [1:108]", str(trace), *POLICIES)
+    expect_parts("the picture", text, "3000 accesses", "set xrange [1:28]", "$curve0 with steps ", str(trace), *POLICIES)
     lru = text.partition("$curve0 &lt;&lt; END\n")[2].partition("END")[0].splitlines()
     for line in lru:
         capacity, height = line.split()
@@ -229,20 +425,61 @@ def check_drawn(survey, folder, program):
     expect_parts("nothing to draw", run(survey, "-", "--program", program, "--plot", png, status=1)[1], "no accesses to draw")
 
 
-TESTS = [check_best, check_nearly_best, check_windows, check_columns, check_reach, check_percent_of_reach, check_large, check_jumps_and_powers,
-         check_lost_row, check_ways, check_beside_run, check_after, check_sampled, check_drawn]
+TESTS = [check_best, check_nearly_best, check_windows, check_columns, check_width, check_many_rows, check_progress, check_cliffs, check_reach, check_percent_of_reach, check_large, check_large_capacities, check_jumps_and_powers,
+         check_lost_row, check_ways, check_beside_run, check_after, check_sampled, check_sampled_once, check_best_of_sample, check_unsafe_name, check_kept_picture, check_drawn]
 
 MISTAKES = {
-    "a row dropped": Mistake(check_best, "survey", "return sorted({capacity for _, capacity in survey.rows})",
-                             "return sorted({capacity for _, capacity in survey.rows})[1:]"),
+    "a row dropped": Mistake(check_best, "measures.py", "return sorted({capacity for _, capacity in rows})",
+                             "return sorted({capacity for _, capacity in rows})[1:]"),
     "two traces joined": Mistake(check_beside_run, "survey", "Trace(program, name,", "Trace(program, args.trace[0],"),
     "a wrong best": Mistake(check_best, "measures.py", "key=lambda it: -it[1].hits", "key=lambda it: it[1].hits"),
     "a best that knows the future": Mistake(check_best, "measures.py", "if name != OPTIMAL]", "]"),
-    "a sample's best by half a point": Mistake(check_sampled, "measures.py", "50 if trace.whole else", "200 if trace.whole else"),
+    "a sample's best by half a point": Mistake(check_best_of_sample, "measures.py", "50 if is_rough", "200 if is_rough"),
+    "two points between policies without a sketch": Mistake(check_best_of_sample, "measures.py", "(has_sketch(row.policy) or", "(True or"),
+    "two points by the other's sketch alone": Mistake(check_best_of_sample, "measures.py", " or has_sketch(best.policy))", ")"),
     "a best by hundredths": Mistake(check_nearly_best, "measures.py", "else 200", "else 20000"),
-    "a window in the place of another": Mistake(check_windows, "measures.py", "100 - window)", "99 - window)"),
+    "a best by points alone": Mistake(check_nearly_best, "measures.py", " and (row.misses - best.misses) * 20 <= best.misses", ""),
+    "a best by a twenty-first of the misses": Mistake(check_nearly_best, "measures.py", "* 20 <= best", "* 21 <= best"),
+    "a window that is typed otherwise": Mistake(check_windows, "measures.py", "--main {main}\", survey", "{main}\", survey"),
+    "a window in the place of another": Mistake(check_windows, "measures.py", "capacities, main)", "capacities, main - 1)"),
     "no window": Mistake(check_windows, "measures.py", "if survey.windows:", "if not survey.windows:"),
-    "a misses column of hits": Mistake(check_best, "survey", "it.rows[policy, capacity].misses", "it.rows[policy, capacity].hits"),
+    "a table that is too wide": Mistake(check_width, "tables.py", "if taken + width - GAP > MAX_WIDTH:", "if not blocks:"),
+    "a column left out": Mistake(check_width, "tables.py", "[[at] for at in range(KEYS, best)]", "[[at] for at in range(KEYS + 1, best)]"),
+    "a best apart from what follows it": Mistake(check_width, "tables.py", "widths[best:]) - GAP > MAX_WIDTH", "widths[best:]) - GAP > 0"),
+    "all names": Mistake(check_width, "tables.py", "texts_of(row, MAX_NAMES)", "texts_of(row)"),
+    "names cut in CSV": Mistake(check_width, "tables.py", "writerows(texts_of(row)", "writerows(texts_of(row, 3)"),
+    "no tip": Mistake(check_columns, "policies.py", "OTHER_NAMES.get(small)", "None"),
+    "no tip for capital letters": Mistake(check_columns, "policies.py", "word.lower()", "word"),
+    "a step of another trace": Mistake(check_progress, "progress.py", "self.done + self.plan.index(step)", "self.plan.index(step)"),
+    "a name that a terminal obeys": Mistake(check_progress, "progress.py", "it if it.isprintable() else", "it if it.isprintable() or True else"),
+    "a line that stays": Mistake(check_progress, "measures.py", "    progress.erase()\n    return Survey(trace, highest", "    return Survey(trace, highest"),
+    "a step that is not planned": Mistake(check_progress, "measures.py", "*map(main_step, mains),", ""),
+    "no cliffs": Mistake(check_cliffs, "measures.py", "if it not in MONOTONE]", "if it in MONOTONE]"),
+    "cliffs above alone": Mistake(check_cliffs, "measures.py", "((below(it), it), (it, above(it)))", "((it, above(it)),)"),
+    "cliffs below alone": Mistake(check_cliffs, "measures.py", "((below(it), it), (it, above(it)))", "((below(it), it),)"),
+    "cliffs two percent apart": Mistake(check_cliffs, "measures.py", "capacity - max(1, capacity // 100)", "capacity - max(1, capacity // 50)"),
+    "gains of small caches": Mistake(check_cliffs, "measures.py", "rises_by(points, low, high) and is_steep(low, high) or", "rises_by(points, low, high) or"),
+    "no loss": Mistake(check_cliffs, "measures.py", " or high.hits < low.hits and rises_by(points, high, low)", ""),
+    "a sample's warm-up of the whole trace's length": Mistake(check_sampled, "reports.py", "self.after * accesses // self.whole if self.whole else self.after",
+                                                              "self.after"),
+    "a sample's accesses with its warm-up": Mistake(check_sampled, "reports.py", "self.whole - self.after", "self.whole"),
+    "a sample's jump to an entry": Mistake(check_sampled, "tables.py", "NOTES_OF_SAMPLE if args.sampled else {}", "{}"),
+    "points below of the last of the best": Mistake(check_nearly_best, "tables.py", "best[0][1])] if is_bounded", "best[-1][1])] if is_bounded"),
+    "nineteen rows": Mistake(check_many_rows, "tables.py", "(texts_of(row, MAX_NAMES) for row in rows)", "(texts_of(row, MAX_NAMES) for row in rows[:20])"),
+    "a warm-up with another window": Mistake(check_after, "reports.py", "self.reports(policies, capacities, main, self.warm_up", "self.reports(policies, capacities, None, self.warm_up"),
+    "misses of the warm-up too": Mistake(check_after, "reports.py", "misses=row.misses - begun.misses", "misses=row.misses"),
+    "blocks of the warm-up as new ones": Mistake(check_large, "measures.py", "if trace.warm_up else 0", "if False else 0"),
+    "the largest cache of a sample": Mistake(check_large, "tables.py", "> {it.trace.shown(MAX_CAPACITY)}", "> {MAX_CAPACITY}"),
+    "blocks used once of a sample": Mistake(check_sampled_once, "tables.py", "it.trace.shown(it.once)", "it.once"),
+    "the powers of two of a sample": Mistake(check_sampled_once, "survey", ' and (name != "powers" or not args.sampled)', ""),
+    "a picture by a sample's capacities": Mistake(check_sampled_once, "survey", "survey.trace.shown(row.capacity)", "row.capacity"),
+    "the first part of a jump": Mistake(check_jumps_and_powers, "measures.py", "parts[0][0], parts[-1][1]", "*parts[0],"),
+    "no small power of two": Mistake(check_jumps_and_powers, "measures.py", "range(1, 20)", "range(6, 20)"),
+    "powers of two below a capacity": Mistake(check_jumps_and_powers, "measures.py", "if any(abs(it - (1 << bits))", "if any(0 <= (1 << bits) - it and ((1 << bits) - it)"),
+    "a megabyte of a packed trace": Mistake(check_ways, "traces.py", "shutil.copyfileobj(gzip.open(source) if first.startswith(GZIP) else source, copy, COPIED)",
+                                            "copy.write((gzip.open(source) if first.startswith(GZIP) else source).read(COPIED))"),
+    "blocks by how they are written": Mistake(check_ways, "traces.py", "Counter(int(line) for", "Counter(line for"),
+    "a misses column of hits": Mistake(check_best, "tables.py", "it.rows[policy, capacity].misses", "it.rows[policy, capacity].hits"),
     "a report of the program that is missing": Mistake(check_lost_row, "reports.py", "if [row[:2] for row in rows] !=",
                                                        "if [] and [row[:2] for row in rows] !="),
     "a row at another capacity": Mistake(check_reach, "measures.py", "return between(low, high, LRU_TRIES)",
@@ -256,26 +493,35 @@ MISTAKES = {
     "the largest power of two left out": Mistake(check_jumps_and_powers, "measures.py", "range(1, 20)", "range(1, 19)"),
     "the ratio of a large trace": Mistake(check_large, "measures.py", "row.accesses, (footprint - known) * trace.inverse",
                                           "row.accesses, row.misses"),
-    "capacities left out in silence": Mistake(check_large, "measures.py", "if capacity > MAX_CAPACITY:", "if False:"),
+    "a warm-up of a sample that is none": Mistake(check_large, "measures.py", "if trace.warm_up else 0", "if trace.after else 0"),
+    "capacities left out in silence": Mistake(check_large_capacities, "measures.py", "if capacity > MAX_CAPACITY:", "if False:"),
     "--jump ignored": Mistake(check_reach, "measures.py", ">= points * low.accesses", ">= 2 * low.accesses"),
-    "the ratio before a jump after it": Mistake(check_jumps_and_powers, "survey", "shown_rate(low), shown_rate(high),",
+    "the ratio before a jump after it": Mistake(check_jumps_and_powers, "tables.py", "shown_rate(low), shown_rate(high),",
                                                 "shown_rate(low), shown_rate(low if low.capacity > 9999 else high),"),
-    "the next smaller capacity at 2 or 3 entries": Mistake(check_reach, "survey", "shown_rate(below) if below else",
+    "the next smaller capacity at 2 or 3 entries": Mistake(check_reach, "tables.py", "shown_rate(below) if below else",
                                                            "shown_rate(below) if below and below.capacity > 2 else"),
-    "the part of a large footprint": Mistake(check_large, "survey", "100 * capacity / survey.footprint",
+    "the part of a large footprint": Mistake(check_large_capacities, "tables.py", "100 * capacity / survey.footprint",
                                              "100 * capacity / min(survey.footprint, 99999)"),
-    "never for more entries": Mistake(check_large, "survey", "if is_possible else", "if True else"),
+    "never for more entries": Mistake(check_large_capacities, "tables.py", "if is_possible else", "if True else"),
     "a warm-up that is not left out": Mistake(check_after, "reports.py", "hits=row.hits - begun.hits", "hits=row.hits"),
     "ranges cut at their lines": Mistake(check_after, "traces.py", "taken = min(count, accesses)", "taken = count"),
     "a sample that is not scaled": Mistake(check_sampled, "reports.py", "row.misses * self.inverse", "row.misses"),
-    "a sample below 0": Mistake(check_sampled, "reports.py", "min(self.whole, row.misses", "max(0, row.misses"),
+    "a sample below 0": Mistake(check_sampled, "reports.py", "min(accesses, row.misses", "max(0, row.misses"),
+    "a sample of another trace": Mistake(check_sampled, "measures.py", 'check_accesses(args, f"{trace.name}: ", report.accesses)', "pass"),
     "the capacity of a sample": Mistake(check_sampled, "measures.py", "round(it / trace.inverse)", "it"),
+    "no number taken for one": Mistake(check_lost_row, "option_types.py", "not number.is_finite() or ", ""),
+    "a picture over the old one": Mistake(check_kept_picture, "traces.py", "if is_file else name", "if False else name"),
+    "a picture that is not drawn": Mistake(check_kept_picture, "survey", "    if ended.returncode:", "    if False:"),
+    "half a picture left beside": Mistake(check_kept_picture, "traces.py", "            Path(beside).unlink(missing_ok=True)", "            pass"),
+    "gnuplot looked for at the end": Mistake(check_kept_picture, "survey", 'if args.plot and not shutil.which("gnuplot"):', "if False:"),
     "an output on a full disk": Mistake(check_lost_row, "traces.py", "    except OSError as fault:\n        sys.exit(f\"{tool}",
                                         "    except OSError as fault:\n        print(f\"{tool}"),
+    "the format that was tried as another": Mistake(check_lost_row, "reports.py", "if it != words[", "if it == words["),
     "a packed file read as it is": Mistake(check_ways, "traces.py", "and not first.startswith((GZIP, ZSTD))", ""),
 }
 if shutil.which("gnuplot"):
     MISTAKES |= {
         "a picture of one capacity": Mistake(check_drawn, "measures.py", "(top / low) ** (at", "(top / low) ** (0 * at"),
-        "a picture on a full disk": Mistake(check_drawn, "survey", "    if ended.returncode:", "    if False:"),
+        "a picture without the ends of jumps": Mistake(check_cliffs, "measures.py", "for jump in survey.jumps for", "for jump in [] for"),
+        "a picture of slopes": Mistake(check_drawn, "survey", '"plot", "--steps"]', '"plot"]'),
     }

@@ -1,0 +1,162 @@
+"""The jobs of tools/corpus: what one makes of its trace, and the programs that run them, each of which prints the line of a
+job once that has ended: GNU parallel, Slurm, or this script by a pool of threads.
+"""
+import contextlib
+import json
+import os
+import re
+import shlex
+import shutil
+import signal
+import subprocess
+import sys
+from concurrent.futures import ThreadPoolExecutor, as_completed
+from decimal import Decimal
+from pathlib import Path
+
+from measures import part_of
+from reports import MAX_CAPACITY, Options, Program, Trace
+from traces import Unreadable, times_of_blocks
+
+# What a job takes at most beside its caches, of the longest trace and with clairvoyant.
+JOB_MEMORY = 1 << 29
+# A job array of Slurm has at most 1001 tasks where its administrator did not set another MaxArraySize.
+MAX_TASKS = 1000
+# How often a job is tried that ended without its line, each time on another host.
+TRIES = 3
+# A first signal lets GNU parallel end its jobs, which it is given this time for; a second one makes it end itself.
+SECONDS_TO_END = 0.5
+
+
+class JobProgram(Program):
+    """The program as a job calls it: what it refuses is the fault of the trace."""
+
+    def output(self, words, **how):
+        ended = super().output(words, stderr=subprocess.PIPE, **how)
+        if ended.returncode:
+            said = ended.stderr.decode(errors="replace").strip().splitlines()
+            raise Unreadable(said[-1] if said else f"the program ended with status {ended.returncode}")
+        return ended
+
+
+def line_of(program, settings, name):
+    """The line of a job: the rows of all policies at all parts of the footprint of its trace, or why there are none."""
+    try:
+        result = rows_of(Trace(program, name, Options(settings["format"], "99", "mixed")), settings)
+    except (Unreadable, ValueError) as fault:
+        result = {"fault": str(fault).removeprefix(f"{name}: ")}
+    return json.dumps({"trace": name, **result}) + "\n"
+
+
+def rows_of(trace, settings):
+    report = trace.sweep(["lru"], [MAX_CAPACITY])["lru", MAX_CAPACITY]
+    # Without an eviction the misses are the distinct blocks.
+    footprint = len(times_of_blocks(trace.lines(), trace.options.format)) if report.evictions else report.misses
+    if not footprint:
+        raise Unreadable("it has no accesses")
+    parts = {percent: part_of(footprint, Decimal(percent)) for percent in settings["percents"]}
+    capacities = sorted({it for it in parts.values() if it <= MAX_CAPACITY})
+    rows = trace.sweep(settings["policies"], capacities) if capacities else {}
+    return {"footprint": footprint, "accesses": report.accesses,
+            "misses": {percent: {policy: rows[policy, capacity].misses for policy in settings["policies"]}
+                       for percent, capacity in parts.items() if capacity in capacities}}
+
+
+def lines_of(program, settings, names, jobs):
+    """Runs so many jobs at once, and yields the line of each when it has ended."""
+    with ThreadPoolExecutor(jobs) as pool:
+        for job in as_completed([pool.submit(line_of, program, settings, name) for name in names]):
+            yield job.result()
+
+
+def jobs_in_memory():
+    """How many jobs this machine has processors and memory for."""
+    kilobytes = int(re.search(r"MemAvailable: +([0-9]+)", Path("/proc/meminfo").read_text())[1])
+    return max(1, min(len(os.sched_getaffinity(0)), kilobytes * 1024 // JOB_MEMORY))
+
+
+def words_of_job(script, program, settings):
+    """The command of a job, without its traces."""
+    words = [*script, "job", f"--program={program}", f"--format={settings['format']}"]
+    words += [f"--policy={it}" for it in settings["policies"]]
+    return words + [f"--percent={it}" for it in settings["percents"]]
+
+
+def has_gnu_parallel():
+    """Whether `parallel` is GNU's: another program has that name too."""
+    if not shutil.which("parallel"):
+        return False
+    return subprocess.run(["parallel", "--version"], capture_output=True, check=False).stdout.startswith(b"GNU parallel")
+
+
+def words_of_parallel(folder, job, names, jobs, hosts):
+    """GNU parallel, its list the command of each job. These are quoted for a shell."""
+    (folder / "list").write_bytes(os.fsencode("".join(shlex.join([*job, "--", name]) + "\0" for name in names)))
+    words = ["parallel", "--null", "--arg-file", folder / "list", "--joblog", f"+{folder / 'log'}"]
+    words += ["--sshloginfile", hosts, "--retries", TRIES] if hosts else []
+    words += ["--jobs", jobs or jobs_in_memory()] if jobs or not hosts else []
+    return [*words, "--bar"] if sys.stderr.isatty() else words
+
+
+def words_of_pool(folder, job, names, jobs):
+    """This script over the same list."""
+    (folder / "list").write_bytes(os.fsencode("".join(f"{name}\0" for name in names)))
+    return [*job, f"--jobs={jobs or jobs_in_memory()}", f"--list={folder / 'list'}"]
+
+
+def words_of_slurm(folder, job, names, jobs, label):
+    """A job array of Slurm. Each task takes an equal part of the list, and puts what it finds into the folder itself."""
+    tasks = min(len(names), MAX_TASKS)
+    limit = f"%{jobs}" if jobs else ""
+    log = str(folder / "slurm-").replace("%", "%%")
+    words = [*words_of_pool(folder, job, names, 1), f"--into={folder}"]
+    return ["sbatch", "--wait", f"--job-name={label}", f"--array=0-{tasks - 1}{limit}", f"--output={log}%a.log",
+            f"--wrap=exec {shlex.join(words)}"]
+
+
+def listed(name, is_task):
+    """The traces of a list, or those that a task of a job array takes."""
+    names = [os.fsdecode(it) for it in Path(name).read_bytes().split(b"\0")[:-1]]
+    if not is_task:
+        return names
+    return names[int(os.environ["SLURM_ARRAY_TASK_ID"])::int(os.environ["SLURM_ARRAY_TASK_COUNT"])]
+
+
+class Engine:
+    """A program that runs jobs, which a signal ends together with them."""
+
+    def __init__(self, words, label=None):
+        self.label, self.ended_by, self.process = label, None, None
+        for number in (signal.SIGINT, signal.SIGTERM, signal.SIGHUP):
+            if signal.getsignal(number) != signal.SIG_IGN:
+                signal.signal(number, self.take_signal)
+        # A group of its own, so that an interrupt of the terminal ends it once and in order.
+        self.process = subprocess.Popen([str(it) for it in words], stdin=subprocess.DEVNULL, stdout=subprocess.PIPE,
+                                        env={**os.environ, "PARALLEL_SHELL": "/bin/sh"}, start_new_session=True)
+
+    def lines(self):
+        """The lines of jobs, until all have ended or a signal came."""
+        if self.ended_by:
+            self.end()
+        yield from self.process.stdout
+        self.process.wait()
+
+    def take_signal(self, number, _):
+        self.ended_by = self.ended_by or number
+        if self.process:
+            self.end()
+
+    def end(self):
+        """Ends the program, if it has not, and its jobs."""
+        if self.label and self.process.poll() != 0:
+            subprocess.run(["scancel", f"--name={self.label}"], check=False)
+        for _ in range(2):
+            if self.process.poll() is None:
+                os.killpg(self.process.pid, signal.SIGTERM)
+                with contextlib.suppress(subprocess.TimeoutExpired):
+                    self.process.wait(SECONDS_TO_END)
+
+
+def slurm_label():
+    """A name by which all tasks of a run can be cancelled."""
+    return f"corpus-{os.urandom(8).hex()}"

@@ -1,0 +1,383 @@
+"""Tests of tools/corpus: its report beside figures worked out by hand and beside the reference, and what becomes of faulty
+traces, of runs that were ended, and of jobs on other hosts.
+"""
+import contextlib
+import fcntl
+import functools
+import os
+import shutil
+import signal
+import socket
+import subprocess
+import sys
+import time
+from fractions import Fraction
+from pathlib import Path
+
+import cache_reference
+from script_tests.frame import (NOTING, SECONDS, Mistake, Wrong, expect, expect_full_disk, expect_parts, fake, file_of, gnuplot_by,
+                                opened_by_a_reader, rows_of, run, without_texts)
+
+BOTH = "--policy=fifo", "--policy=lru"
+# A name that a shell, a list by lines and a list by blanks would each take for something else.
+ODD = "a 'b\" $(touch made) {} {#}\n-c\\d.lirs"
+# By the number of distinct blocks of a trace of 100 accesses: fifo hits 50 percent, and lru 45, 50, 55, 60 and 65.
+KNOWN = "None if capacity > 1000 else 50 if policy == 'fifo' else 40 + distinct // 2"
+SECONDS_TO_END = 30
+SSHD, SLURM = ("parallel", "ssh", "ssh-keygen", "sshd"), ("sbatch", "slurmctld", "slurmd", "munged")
+# A Slurm of one node.
+SLURM_CONF = """ClusterName=corpus
+SlurmctldHost={host}(127.0.0.1)
+SlurmctldPort={ports[0]}
+SlurmdPort={ports[1]}
+AuthType=auth/munge
+AuthInfo=socket={folder}/socket
+CredType=cred/munge
+SlurmUser=root
+StateSaveLocation={folder}/state
+SlurmdSpoolDir={folder}/spool
+SlurmctldPidFile={folder}/slurmctld.pid
+SlurmdPidFile={folder}/slurmd.pid
+ProctrackType=proctrack/linuxproc
+TaskPlugin=task/none
+SelectType=select/cons_tres
+SelectTypeParameters=CR_CPU
+MailProg=/bin/true
+SchedulerParameters=sched_interval=1,batch_sched_delay=0
+NodeName={host} NodeAddr=127.0.0.1 CPUs=2 State=UNKNOWN
+PartitionName=all Nodes={host} Default=YES MaxTime=INFINITE State=UP
+"""
+TABLE = """% of footprint,policy,traces,mean,P10,P25,P50,P75,P90,best on,near on
+10,fifo,5,0.00,0.00,0.00,0.00,0.00,0.00,2,2
+10,lru,5,10.00,-6.00,0.00,10.00,20.00,26.00,4,4
+"""
+
+
+def trace_of(folder, name, blocks):
+    return file_of(folder, name, "".join(f"{it}\n" for it in blocks))
+
+
+def known_traces(folder):
+    """Traces of 100 accesses to 10, 20, 30, 40 and 50 blocks."""
+    return [trace_of(folder, f"{count}.lirs", [it % count for it in range(100)]) for count in (10, 20, 30, 40, 50)]
+
+
+def without_parallel(folder):
+    """The environment in which `parallel` is another program than GNU's."""
+    file = file_of(folder, "parallel", "#!/bin/sh\nexit 1\n")
+    file.chmod(0o755)
+    return {**os.environ, "PATH": f"{folder}:{os.environ['PATH']}"}
+
+
+def environments(folder):
+    """Those in which jobs are run by Python and, where it is there, by GNU parallel."""
+    (folder / "bin").mkdir()
+    yield "pool", without_parallel(folder / "bin")
+    if shutil.which("parallel"):
+        yield "parallel", dict(os.environ)
+    else:
+        pass_over("GNU parallel")
+
+
+@functools.cache
+def pass_over(what):
+    print(f"tools/corpus: passed over, since this machine has no {what}", file=sys.stderr)
+
+
+def check_known_report(corpus, folder, _):
+    """A report that was worked out by hand, and its pictures."""
+    program = fake(folder, KNOWN, policies=["fifo", "lru"])
+    run(corpus, "run", "--program", program, "--percent=10", "--out", folder / "out", *known_traces(folder), cwd=folder,
+        env=without_parallel(folder))
+    expect("the table", run(corpus, "report", "--csv", folder / "out")[0], TABLE)
+    of_lru = run(corpus, "report", "--csv", "--baseline=lru", folder / "out")[0]
+    # 55 of 50 misses are 10 percent more, 45 are 1/9 fewer, 40 are 1/4 more, 35 are 3/7 more.
+    expect("beside lru", rows_of(of_lru)[0]["P10"], "-35.71")
+    environment = gnuplot_by(folder, NOTING)
+    run(corpus, "report", folder / "out", "--plot", folder / "boxes.svg", cwd=folder, env=environment)
+    given = (folder / "given").read_text()
+    expect_parts("the boxes", given, "$policy0 << END\n0 -6.000000 0.000000 10.000000 20.000000 26.000000 10.000000\nEND",
+                 "set yrange [-10:30]", "'10 %% of the footprint'")
+    run(corpus, "report", folder / "out", "--plot", folder / "points.svg", "--scatter", "lru", "fifo", cwd=folder, env=environment)
+    expect_parts("the points", (folder / "given").read_text(), "<< END\n-10.000000 0.000000\n0.000000 0.000000\n10.000000 0.000000\n")
+    expect("texts in quotes", '"' in without_texts(given), False)
+    expect_full_disk(corpus, "report", folder / "out")
+
+
+def linear(parts, percent):
+    """The percentile of a list, by its place between two neighbours."""
+    ordered, place = sorted(parts), Fraction(percent * (len(parts) - 1), 100)
+    low = int(place)
+    return ordered[low] + (ordered[min(low + 1, len(ordered) - 1)] - ordered[low]) * (place - low)
+
+
+def misses_by_reference(blocks, policies, capacity):
+    rows = rows_of(cache_reference.sweep(blocks, policies, [capacity], 99, "mixed"))
+    return {row["policy"]: int(row["misses"]) for row in rows}
+
+
+def check_beside_reference(corpus, folder, program):
+    """The report of made traces beside the misses that the reference counts."""
+    policies, lists = ["fifo", "lru", "sieve", "clairvoyant"], []
+    for seed in range(1, 5):
+        lists.append([(it * it * seed + it // 7) % (90 + seed) for it in range(600)])
+    traces = [trace_of(folder, f"{at}.lirs", blocks) for at, blocks in enumerate(lists)]
+    run(corpus, "run", "--program", program, *(f"--policy={it}" for it in policies), "--percent=50", "--percent=5.0", "--out",
+        folder / "out", *traces, env=without_parallel(folder))
+    rows = {(row["% of footprint"], row["policy"]): row for row in rows_of(run(corpus, "report", "--csv", folder / "out")[0])}
+    expect("the rows", list(rows), [(percent, policy) for percent in ("5", "50") for policy in policies])
+    for percent in ("5", "50"):
+        counts = [misses_by_reference(blocks, policies, max(1, len(set(blocks)) * int(percent) // 100)) for blocks in lists]
+        for policy in policies:
+            row, parts = rows[percent, policy], [100 - Fraction(100 * it[policy], it["fifo"]) for it in counts]
+            wanted = [sum(parts) / len(parts), *(linear(parts, it) for it in (10, 25, 50, 75, 90))]
+            expect("the percentiles", [row[it] for it in ("mean", "P10", "P25", "P50", "P75", "P90")],
+                   [f"{float(round(it, 2)):.2f}" for it in wanted])
+            if policy != "clairvoyant":
+                above = [it[policy] - min(it[other] for other in policies[:-1]) for it in counts]
+                expect("the wins", (row["best on"], row["near on"]), (str(above.count(0)), str(sum(it <= 3 for it in above))))
+
+
+def check_faults(corpus, folder, program):
+    """Traces that are faulty, empty, gone, and one with an odd name, by each program that runs jobs; and what is refused."""
+    odd = trace_of(folder, ODD, [1, 2, 1])
+    bad, empty, gone = file_of(folder, "bad", "1\n2\nx\n"), file_of(folder, "empty", "*\n"), folder / "gone"
+    for name, environment in environments(folder):
+        how = {"cwd": folder, "env": environment}
+        words = "run", "--program", program, *BOTH, "--out", name
+        _, error = run(corpus, *words, bad, gone, odd, empty, status=1, **how)
+        faults = ["3 of 4 traces have no result:", "  bad: fault: BadNumber line 3", "  gone: No such file", "  empty: it has no accesses"]
+        expect_parts("what is said", error, *faults)
+        out, _ = run(corpus, "report", name, cwd=folder)
+        expect_parts("the report", out, *faults)
+        expect("what was run", [line.split()[:3] for line in out.splitlines()[1:3]], [["1", "fifo", "1"], ["1", "lru", "1"]])
+        expect("what a name has run", (folder / "made").exists(), False)
+        before = {it: it.stat().st_mtime_ns for it in (folder / name / "results").iterdir()}
+        run(corpus, *words, status=1, **how)
+        redone = sum(before[it] != it.stat().st_mtime_ns for it in (folder / name / "results").iterdir())
+        expect("the jobs done again", (len(before), redone), (4, 3))
+        expect_parts("other settings", run(corpus, *words, "--percent=7", odd, status=1, **how)[1], "results of other percents")
+    with open(folder / "pool/lock", "rb") as held:
+        fcntl.flock(held, fcntl.LOCK_EX)
+        refused = run(corpus, "run", "--program", program, *BOTH, "--out", "pool", status=1, cwd=folder)[1]
+        expect_parts("two at once", refused, "another run is under way in")
+    expect_parts("another's folder", run(corpus, "run", "--program", program, "--out", folder, odd, status=1)[1], "has other files in it")
+    expect_parts("no folder", run(corpus, "report", folder, status=1)[1], "is no folder of")
+    expect_parts("no policy", run(corpus, "report", folder / "pool", "--baseline=sieve", status=1)[1], "sieve is none of")
+    time.sleep(0.01)
+    trace_of(folder, ODD, [1] * 9)
+    expect_parts("a trace that changed", run(corpus, "report", "pool", cwd=folder)[0], "4 of 4 traces have no result", "it has changed since")
+    run(corpus, "run", "--program", program, *BOTH, "--out", "pool", status=1, cwd=folder, env=without_parallel(folder / "bin"))
+    expect_parts("its row", run(corpus, "report", "--csv", "pool", cwd=folder)[0], "1,fifo,1,")
+    held = next(it.read_text() for it in (folder / "pool/results").iterdir() if "misses" in it.read_text())
+    expect_parts("its result", held, '"accesses": 9')
+
+
+def becomes(is_so, seconds=SECONDS_TO_END):
+    end = time.monotonic() + seconds
+    while not is_so():
+        if time.monotonic() > end:
+            return False
+        time.sleep(0.1)
+    return True
+
+
+def waiting_run(corpus, folder, words, how):
+    """A run whose other jobs have ended, and the end to write to of the pipe that the last one reads."""
+    process = subprocess.Popen(["env", "--default-signal=INT,TERM", sys.executable, corpus, *words], stdin=subprocess.DEVNULL,
+                               stdout=subprocess.PIPE, stderr=subprocess.PIPE, **how)
+    writer, end = opened_by_a_reader(folder / "pipe", process), time.monotonic() + SECONDS
+    while len(list((folder / "out/results").glob("*.json"))) < 2:
+        if time.monotonic() > end:
+            raise Wrong("its other jobs do not end")
+        time.sleep(0.02)
+    return process, writer
+
+
+def status_of(process):
+    """The status of a run that was sent a signal."""
+    try:
+        return process.wait(SECONDS_TO_END)
+    except subprocess.TimeoutExpired:
+        process.kill()
+        raise Wrong("it does not end") from None
+
+
+def has_reader(pipe):
+    try:
+        os.close(os.open(pipe, os.O_WRONLY | os.O_NONBLOCK))
+    except OSError:
+        return False
+    return True
+
+
+def check_ended_by(number, corpus, folder, environment, program):
+    """A run that a signal ends leaves its results whole and no job, and taken up again it gives the report of one that was
+    not ended."""
+    traces, how = known_traces(folder)[:2], {"cwd": folder, "env": environment}
+    words = "run", "--program", str(program), "--jobs", "2", *BOTH, "--out"
+    pipe = folder / "pipe"
+    os.mkfifo(pipe)
+    process, writer = waiting_run(corpus, folder, [*words, "out", *traces, pipe], how)
+    expect_parts("two at once", run(corpus, *words, "out", *traces, status=1, **how)[1], "another run is under way in")
+    try:
+        process.send_signal(number)
+        expect("the status", status_of(process), -number)
+        expect("its jobs end", number == signal.SIGKILL or becomes(lambda: not has_reader(pipe), 10), True)
+    finally:
+        os.close(writer)
+    expect("beside the results", [it.name for it in folder.glob("out/results/*") if it.suffix != ".json"], [])
+    pipe.unlink()
+    trace_of(folder, "pipe", [it % 20 for it in range(100)])
+    run(corpus, *words, "out", **how)
+    run(corpus, *words, "whole", *traces, pipe, **how)
+    expect("the report", *(run(corpus, "report", it, cwd=folder)[0] for it in ("out", "whole")))
+
+
+def check_ends(corpus, folder, program, *numbers):
+    for number, (name, environment) in zip(numbers, environments(folder)):
+        place = folder / name
+        place.mkdir()
+        check_ended_by(number, corpus, place, environment, program)
+
+
+def check_interrupt(corpus, folder, program):
+    """One that the terminal sends, by each program that runs jobs."""
+    check_ends(corpus, folder, program, signal.SIGINT, signal.SIGINT)
+
+
+def check_termination(corpus, folder, program):
+    check_ends(corpus, folder, program, signal.SIGKILL, signal.SIGTERM)
+
+
+def place_of_server(name):
+    return shutil.which(name, path=f"{os.environ['PATH']}:/usr/sbin:/sbin")
+
+
+def lacks(names):
+    """Whether this machine lacks one of these programs, which is then said."""
+    lacking = [it for it in names if not place_of_server(it)]
+    if lacking:
+        pass_over(lacking[0])
+    return bool(lacking)
+
+
+def free_ports(count):
+    sockets = [socket.create_server(("127.0.0.1", 0)) for _ in range(count)]
+    ports = [it.getsockname()[1] for it in sockets]
+    for it in sockets:
+        it.close()
+    return ports
+
+
+@contextlib.contextmanager
+def server(folder, *words, **how):
+    """A server that is ended with the test."""
+    with open(folder / "servers.log", "ab") as log, subprocess.Popen(
+            [place_of_server(words[0]), *map(str, words[1:])], stdin=subprocess.DEVNULL, stdout=log, stderr=log, **how) as process:
+        try:
+            yield
+        finally:
+            process.terminate()
+
+
+def ssh_server(folder, port):
+    """An sshd on the loopback address, and what calls it."""
+    for name in ("own", "host"):
+        subprocess.run(["ssh-keygen", "-q", "-t", "ed25519", "-N", "", "-f", folder / name], check=True)
+    if os.geteuid() == 0:
+        os.makedirs("/run/sshd", mode=0o755, exist_ok=True)
+    conf = file_of(folder, "sshd.conf", f"Port {port}\nListenAddress 127.0.0.1\nHostKey {folder}/host\nPidFile none\nStrictModes no\n"
+                   f"AuthorizedKeysFile {folder}/own.pub\nUsePAM no\nPermitRootLogin prohibit-password\n")
+    call = f"ssh -p {port} -i {folder}/own -oStrictHostKeyChecking=no -oUserKnownHostsFile=/dev/null -oBatchMode=yes -oLogLevel=ERROR"
+    return server(folder, "sshd", "-D", "-e", "-f", conf), f"{call} 127.0.0.1"
+
+
+def is_open(port):
+    with socket.socket() as it:
+        return it.connect_ex(("127.0.0.1", port)) == 0
+
+
+def check_hosts(corpus, folder, program):
+    """Another host does a part of the jobs, and gives the report of this one."""
+    if lacks(SSHD):
+        return None
+    traces, how = [*known_traces(folder)[:3], trace_of(folder, ODD, [1, 2, 1]), file_of(folder, "bad", "x\n")], {"cwd": folder}
+    words, (port,) = ("run", "--program", program, *BOTH, "--jobs=1"), free_ports(1)
+    running, host = ssh_server(folder, port)
+    with running:
+        if not becomes(lambda: is_open(port)) or subprocess.run([*host.split(), "true"], check=False).returncode:
+            return pass_over("sshd that lets its user in")
+        run(corpus, *words, "--hosts", file_of(folder, "both", f":\n{host}\n"), "--out=both.out", *traces[:3], **how)
+        run(corpus, *words, "--hosts", file_of(folder, "other", f"{host}\n"), "--out=other.out", *traces, status=1, **how)
+    log = (folder / "both.out/log").read_text().splitlines()
+    expect("the hosts", {line.split("\t")[1] for line in log}, {":", host})
+    run(corpus, *words, "--out=out", *traces, status=1, **how)
+    expect("the report", *(run(corpus, "report", it, **how)[0] for it in ("other.out", "out")))
+    expect("what a name has run", (folder / "made").exists(), False)
+
+
+@contextlib.contextmanager
+def slurm(folder):
+    """A Slurm of one node, and the environment that names it, or None where it does not start."""
+    host, at = socket.gethostname().partition(".")[0], folder / "slurm"
+    for it in (at, at / "state", at / "spool"):
+        it.mkdir()
+    folder.chmod(0o755)
+    file_of(at, "key", os.urandom(256)).chmod(0o600)
+    conf = file_of(at, "slurm.conf", SLURM_CONF.format(host=host, folder=at, ports=free_ports(2)))
+    how = {"env": {**os.environ, "SLURM_CONF": str(conf)}}
+    files = (f"--{option}={at}/{name}" for option, name in (("socket", "socket"), ("key-file", "key"), ("pid-file", "munged.pid"),
+                                                            ("log-file", "munged.log"), ("seed-file", "seed")))
+    with server(at, "munged", "--foreground", "--force", *files), server(at, "slurmctld", "-D", **how), server(
+            at, "slurmd", "-D", "-N", host, **how):
+        is_idle = becomes(lambda: b"idle" in subprocess.run(["sinfo"], capture_output=True, check=False, **how).stdout)
+        yield how["env"] if is_idle else None
+
+
+def check_slurm(corpus, folder, program):
+    """A job array gives the report of this machine, and is cancelled by a signal."""
+    if lacks(SLURM):
+        return None
+    if os.geteuid() != 0:
+        return pass_over("right to start Slurm")
+    traces = [*known_traces(folder)[:2], trace_of(folder, ODD, [1, 2, 1]), file_of(folder, "bad", "x\n")]
+    words = "run", "--program", str(program), *BOTH
+    os.mkfifo(folder / "pipe")
+    with slurm(folder) as environment:
+        if not environment:
+            return pass_over("Slurm that starts")
+        how = {"cwd": folder, "env": environment}
+        run(corpus, *words, "--slurm", "--out=array", *traces, status=1, **how)
+        process, writer = waiting_run(corpus, folder, [*words, "--slurm", "--out=out", *traces[:2], folder / "pipe"], how)
+        process.send_signal(signal.SIGTERM)
+        expect("the status", status_of(process), -signal.SIGTERM)
+        expect("its jobs end", becomes(lambda: not has_reader(folder / "pipe")), True)
+        os.close(writer)
+    run(corpus, *words, "--out=here", *traces, status=1, cwd=folder)
+    expect("the report", *(run(corpus, "report", it, cwd=folder)[0] for it in ("array", "here")))
+
+
+TESTS = [check_known_report, check_beside_reference, check_faults, check_interrupt, check_termination, check_hosts, check_slurm]
+
+MISTAKES = {
+    "percentiles from outside": Mistake(check_known_report, "reductions.py", 'method="inclusive"', 'method="exclusive"'),
+    "misses more": Mistake(check_known_report, "reductions.py", "100 * (baseline - misses)", "100 * (misses - baseline)"),
+    "wins of one alone": Mistake(check_known_report, "reductions.py", "more <= 0 for", "more < 0 for"),
+    "a picture without its mean": Mistake(check_known_report, "reductions.py", ", statistics.mean(it.parts))]\n            for", ", 0)]\n            for"),
+    "a scatter of one policy": Mistake(check_known_report, "reductions.py", "policy] for policy in pair", "pair[0]] for policy in pair"),
+    "a whole point for half": Mistake(check_beside_reference, "reductions.py", "200 * more", "100 * more"),
+    "Belady's among the best": Mistake(check_beside_reference, "reductions.py", "policy != OPTIMAL or", "True or"),
+    "a size of another footprint": Mistake(check_beside_reference, "measures.py", "footprint * percent / 100", "footprint * percent / 50"),
+    "names by lines": Mistake(check_faults, "jobs.py", 'split(b"\\0")', "split()"),
+    "failed traces in silence": Mistake(check_faults, "corpus", 'return [it for it in results if "fault" in it]', "return []"),
+    "finished jobs done again": Mistake(check_faults, "corpus", "st_mtime_ns < os.stat(name).st_mtime_ns", "st_mtime_ns > 0"),
+    "jobs of changed traces not done": Mistake(check_faults, "corpus", "st_mtime_ns < os.stat(name).st_mtime_ns", "st_mtime_ns < 0"),
+    "two runs at once": Mistake(check_faults, "corpus", "fcntl.LOCK_EX | fcntl.LOCK_NB", "fcntl.LOCK_UN"),
+    "a signal that the status does not say": Mistake(check_interrupt, "corpus", "os.kill(os.getpid(), engine.ended_by)", "sys.exit(1)"),
+}
+if shutil.which("parallel"):
+    MISTAKES |= {
+        "names that are not quoted": Mistake(check_faults, "jobs.py", 'shlex.join([*job, "--", name])', '" ".join([*job, "--", name])'),
+        "jobs that go on": Mistake(check_interrupt, "jobs.py", "os.killpg(self.process.pid, signal.SIGTERM)", "self.process.kill()"),
+    }
