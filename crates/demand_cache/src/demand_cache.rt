@@ -291,23 +291,23 @@ fn count_out(
     ensures err { OnErr result (queues_at queues.new ≡ queues_at queues.old) }
 {
     match policy {
-        DemandPolicy::Clock => match clock::step(queues, capacity, scalar, key) {
+        DemandPolicy::Clock => match clock::step::<Counted>(queues, capacity, scalar, key) {
             Ok(done) => Ok(without_record(done)),
             Err(fault) => Err(fault),
         },
-        DemandPolicy::Sieve => match sieve::step(queues, capacity, scalar, key) {
+        DemandPolicy::Sieve => match sieve::step::<Counted>(queues, capacity, scalar, key) {
             Ok(done) => Ok(without_record(done)),
             Err(fault) => Err(fault),
         },
-        DemandPolicy::S3Fifo => match s3_fifo::step(queues, capacity, scalar, key) {
+        DemandPolicy::S3Fifo => match s3_fifo::step::<Counted>(queues, capacity, scalar, key) {
             Ok(done) => Ok(without_record(done)),
             Err(fault) => Err(fault),
         },
-        DemandPolicy::TwoQ => match two_q::step(queues, capacity, scalar, key) {
+        DemandPolicy::TwoQ => match two_q::step::<Counted>(queues, capacity, scalar, key) {
             Ok(done) => Ok(without_record(done)),
             Err(fault) => Err(fault),
         },
-        DemandPolicy::Arc => match arc::step(queues, capacity, scalar, key) {
+        DemandPolicy::Arc => match arc::step::<Counted>(queues, capacity, scalar, key) {
             Ok(done) => Ok(without_record(done)),
             Err(fault) => Err(fault),
         },
@@ -332,10 +332,10 @@ fn carry_out(
     ensures err { OnErr result (queues_at queues.new ≡ queues_at queues.old) }
 {
     match policy {
-        DemandPolicy::Clock => clock::step(queues, capacity, scalar, key),
-        DemandPolicy::Sieve => sieve::step(queues, capacity, scalar, key),
-        DemandPolicy::S3Fifo => s3_fifo::step(queues, capacity, scalar, key),
-        DemandPolicy::TwoQ => two_q::step(queues, capacity, scalar, key),
-        DemandPolicy::Arc => arc::step(queues, capacity, scalar, key),
+        DemandPolicy::Clock => clock::step::<DemandRecord>(queues, capacity, scalar, key),
+        DemandPolicy::Sieve => sieve::step::<DemandRecord>(queues, capacity, scalar, key),
+        DemandPolicy::S3Fifo => s3_fifo::step::<DemandRecord>(queues, capacity, scalar, key),
+        DemandPolicy::TwoQ => two_q::step::<DemandRecord>(queues, capacity, scalar, key),
+        DemandPolicy::Arc => arc::step::<DemandRecord>(queues, capacity, scalar, key),
     }
 }

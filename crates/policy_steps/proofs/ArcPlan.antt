@@ -1,12 +1,12 @@
 -- ARC's plan is its definition.
-use Rattle.std.proofs.Common.{◌≡◌, ℕ, ◌+◌, ◌-◌, ◌*◌, ◌<◌, ◌≤◌, min, Bool, true, false, cond, eqb, nat_lt, ◌||◌, Option, Some, None, List, [], ◌∷◌, ◌++◌, length, take, drop, append-nil, ap, ◌∙◌, sym, subst, refl, arith, inl, inr}
+use Rattle.std.proofs.Common.{◌≡◌, ℕ, zero, suc, ◌+◌, ◌-◌, ◌*◌, ◌<◌, ◌≤◌, min, Bool, true, false, cond, eqb, nat_lt, ◌||◌, Option, Some, None, List, [], ◌∷◌, ◌++◌, length, take, drop, append-nil, ap, ◌∙◌, sym, subst, refl, arith, inl, inr}
 use Rattle.std.proofs.lemmas.Bool.{cond_both, cond-false, cases_eq, eq-eqb, ne_eqb, lt-ltb, le-ltb}
 use Rattle.step_record.specs.Keys.{has_key, keys_without}
 use Rattle.step_record.specs.declared.item.Item.{Item}
 use Rattle.step_record.specs.declared.outcome.Outcome.{Outcome}
 use Rattle.queue_table.specs.declared.records.Entry.{Entry}
 use Rattle.queue_table.specs.Entries.{entry, occurrences, oldest_of}
-use Rattle.queue_table.specs.Queues.{Queues, after_send}
+use Rattle.queue_table.specs.Queues.{QUEUES, Queues, after_send}
 use Rattle.ghost_policies.specs.Arc.{ArcState, arc_residents, arc_total, forgotten_of_b1, forgotten_of_b2, leaver_to_b1, leaver_to_b2, leaver_dropped, arc_replace, plan_of_new_key, arc_after_recall, arc_after_forgetting, arc_after_eviction, arc_after_join, arc_after_miss, arc_outcome, arc_act, IsArc}
 use Rattle.ghost_policies.specs.declared.arc.ArcPlan.{ArcPlan}
 use Rattle.ghost_policies.specs.declared.arc.ArcLeaver.{ArcLeaver}
@@ -117,16 +117,6 @@ leavers-low c p s =
     (λ e. cond_both (nat_lt (length (s T1)) c) _ _ AreLow (λ f. (low, (omega arith, tt))) (λ f. ((omega arith, tt), tt)))
     (λ e. cond_both (nat_lt (total s) c) _ _ AreLow (λ f. (tt, tt))
     (λ f. cond_both (eqb (total s) (2 * c)) _ _ AreLow (λ h. (low, (omega arith, tt))) (λ h. (low, tt))))
-
--- an item that is in none of these queues does not come into one with the key that leaves
-none-leaves : (i : Item) (g : Bool) (s : Queues) (j : ℕ) → occurrences i (s T1) ≡ 0 → occurrences i (s T2) ≡ 0 → occurrences i (s j) ≡ 0
-    → occurrences i (after_leaving (leaves g) s j) ≡ 0
-none-leaves i true s j t1 t2 z = none-left i T1 (Some (B1, 0)) s j t1 z
-none-leaves i false s j t1 t2 z = none-left i T2 (Some (B2, 0)) s j t2 z
-
-pub none-replaced : (i : Item) (in_b2 : Bool) (p : ℕ) (s : Queues) (j : ℕ) → occurrences i (s T1) ≡ 0 → occurrences i (s T2) ≡ 0 → occurrences i (s j) ≡ 0
-    → occurrences i (after_leaving (replaced in_b2 p s) s j) ≡ 0
-none-replaced i in_b2 p s j = none-leaves i (gives_t1 in_b2 p s) s j
 
 module _ (k : ℕ) (s : Queues) (t : IsTabled s) (no_t1 : has_key k (keys_of (s T1)) ≡ false) (no_t2 : has_key k (keys_of (s T2)) ≡ false) where
   abbrev keys : ℕ → List ℕ
@@ -396,9 +386,21 @@ planned c k x s some t i = planned-at c k x s some t i (standing (item_of k) s) 
 
 -- ---- the plan, by the queue where the key stands
 
+ghost-plan-in : (c p q y : ℕ) (s : Queues) → q < QUEUES → (eqb q T1 || eqb q T2) ≡ false
+    → y ≡ cond (eqb q B2) (p - step_size B1 B2 s) (min c (p + step_size B2 B1 s)) → plan_in c p q s ≡ recall_plan (eqb q B2) y s
+ghost-plan-in c p zero y s low out e = absurd (cc (out))
+ghost-plan-in c p (suc zero) y s low out e = absurd (cc (out))
+ghost-plan-in c p (suc (suc zero)) y s low out e = ap (λ z. recall_plan false z s) (sym e)
+ghost-plan-in c p (suc (suc (suc zero))) y s low out e = ap (λ z. recall_plan true z s) (sym e)
+ghost-plan-in c p (suc (suc (suc (suc q)))) y s low out e = absurd (omega (arith, low))
+
 module _ (c k p q n : ℕ) (s : Queues) (at : standing (item_of k) s ≡ Some (q, n)) where
   standing-plan : arc_plan c k p s ≡ plan_in c p q s
   standing-plan = ap (λ a. plan_at c p a s) at
 
   pub resident-plan : (eqb q T1 || eqb q T2) ≡ true → arc_plan c k p s ≡ own_plan true (goes T2 0) p
   resident-plan e = standing-plan ∙ rw e refl
+
+  pub ghost-plan : (y : ℕ) → q < QUEUES → (eqb q T1 || eqb q T2) ≡ false
+      → y ≡ cond (eqb q B2) (p - step_size B1 B2 s) (min c (p + step_size B2 B1 s)) → arc_plan c k p s ≡ recall_plan (eqb q B2) y s
+  ghost-plan y low out e = standing-plan ∙ ghost-plan-in c p q y s low out e

@@ -7,7 +7,7 @@ use Rattle.step_record.specs.declared.outcome.Outcome.{Outcome}
 use Rattle.step_record.specs.declared.outcome.Outcome.TheVariants as outcome
 use Rattle.queue_table.specs.declared.records.Entry.{Entry}
 use Rattle.queue_table.specs.Entries.{entry, entries_without, entries_counted}
-use Rattle.queue_table.specs.Queues.{Queues, after_send}
+use Rattle.queue_table.specs.Queues.{QUEUES, Queues, after_send}
 use Rattle.queue_policies.specs.Residents.{times}
 use Rattle.queue_policies.specs.CountedKeys.{CountedKey, uncounted_key, count_of, with_count, AreCounted, total_count}
 use Rattle.queue_policies.specs.CountedKeys as counted
@@ -208,7 +208,7 @@ module _ (c k x : ℕ) (s : Queues) (some : 1 ≤ c) (w : IsTabled s) (state : I
   has-in : (q : ℕ) (b : Bool) → has_key k (keys_of (s q)) ≡ b → has_key k (counted.keys_of (counted_keys (s q))) ≡ b
   has-in q b h = ap (has_key k) (keys-counted (s q)) ∙ h
 
-  recounted-in : (q m : ℕ) → q < 5 → counted_keys (entries_counted (item_of k) m (s q)) ≡ with_count k m (counted_keys (s q))
+  recounted-in : (q m : ℕ) → q < QUEUES → counted_keys (entries_counted (item_of k) m (s q)) ≡ with_count k m (counted_keys (s q))
   recounted-in q m low = counted-with k m (s q) (w.keys q) (queue-few q s low w.distinct (item_of k))
 
   hit : (n : ℕ) → has_key k (s3_fifo_residents (s3_fifo_of s)) ≡ true → count_of k (counted_keys (s SMALL) ++ counted_keys (s MAIN)) ≡ n → IsPlan (own_plan true (counts (hit_count n)) x)

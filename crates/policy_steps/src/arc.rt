@@ -30,8 +30,11 @@ const B2: u8 = 3;
 
 /// An access to a key, by ARC's plan, where `t1` is to have `scalar` keys. The one error is out of memory; the queues
 /// are then as before.
+///
+/// `C` selects an instance: one that is called at a single place becomes part of its caller, and a caller that reads no
+/// record then makes none.
 #[inline(always)]
-pub fn step(
+pub fn step<C>(
     table: &mut KeyQueues,
     capacity: u32,
     scalar: u32,
@@ -46,20 +49,19 @@ pub fn step(
     ensures err { OnErr result (queues table.new ≡ queues table.old) }
 {
     let Some(found) = table.find(key) else {
-        return new_key(table, capacity, scalar, key);
+        return new_key::<C>(table, capacity, scalar, key);
     };
     table.tabled();
     if is_resident(found.queue) {
-        Ok(hit(table.send(key, found, T2, 0), scalar))
-    } else if found.queue == B1 {
-        let target = raised(table, capacity, scalar);
-        Ok(recalled(table, key, found, scalar, target, false))
-    } else if found.queue == B2 {
-        let target = lowered(table, scalar);
-        Ok(recalled(table, key, found, scalar, target, true))
-    } else {
-        Ok(found_elsewhere(table, capacity, scalar, key, found))
+        return Ok(hit(table.send(key, found, T2, 0), scalar));
     }
+    let in_b2 = found.queue == B2;
+    let target = if in_b2 {
+        lowered(table, scalar)
+    } else {
+        raised(table, capacity, scalar)
+    };
+    Ok(recalled::<C>(table, key, found, scalar, target, in_b2))
 }
 
 // Whether it is the number of t1 or t2.
@@ -101,7 +103,7 @@ fn step_size(other: usize, own: usize) -> u32
 
 // An access to a key of a ghost, where t1 is to have `target` keys after it. It needs no room.
 #[inline(always)]
-fn recalled(
+fn recalled<C>(
     table: &mut KeyQueues,
     key: Key,
     found: Found,
@@ -126,7 +128,7 @@ fn recalled(
 
 // An access to a key that stands nowhere. Room is made before anything moves.
 #[inline(always)]
-fn new_key(
+fn new_key<C>(
     table: &mut KeyQueues,
     capacity: u32,
     target: u32,
@@ -145,26 +147,6 @@ fn new_key(
     Ok(missed(left, own, target, target))
 }
 
-// An access to a key of a queue that ARC does not use: to ARC it is new.
-fn found_elsewhere(
-    table: &mut KeyQueues,
-    capacity: u32,
-    target: u32,
-    key: Key,
-    found: Found,
-) -> Accessed
-    requires few { capacity ≤ MAX_CAPACITY }
-    requires all_fit { total (queues table.old) ≤ 2 * capacity }
-    requires at { HoldsAt found.at (entry (item_of key) found.count) table.old }
-    requires elsewhere { (q : ℕ) → q < 4 → occurrences (item_of key) (queues table.old q) ≡ 0 }
-    ensures { IsAccessed (new_key_plan capacity target (queues table.old)) (item_of key) target
-        (queues table.old) (queues table.new) result }
-{
-    let left = make_way(table, capacity, target);
-    let own = table.send(key, found, T1, 0);
-    missed(left, own, target, target)
-}
-
 // What leaves for a new key.
 #[inline(always)]
 fn make_way(table: &mut KeyQueues, capacity: u32, target: u32) -> LeftKeys
@@ -173,8 +155,6 @@ fn make_way(table: &mut KeyQueues, capacity: u32, target: u32) -> LeftKeys
     ensures left { AreLeft (new_key_leavers capacity target (queues table.old))
         (queues table.old) (queues table.new) result }
     ensures spare { spare table.old ≤ spare table.new }
-    ensures others { (j : ℕ) (e : Entry) → HoldsAt j e table.old
-        → ((q : ℕ) → q < 4 → occurrences e.item (queues table.old q) ≡ 0) → HoldsAt j e table.new }
 {
     let l1 = table.len(T1) + table.len(B1);
     if l1 == capacity as usize {
@@ -191,8 +171,6 @@ fn make_way_in_full_l1(table: &mut KeyQueues, capacity: u32, target: u32) -> Lef
     ensures left { AreLeft (full_l1_leavers capacity target (queues table.old))
         (queues table.old) (queues table.new) result }
     ensures spare { spare table.old ≤ spare table.new }
-    ensures others { (j : ℕ) (e : Entry) → HoldsAt j e table.old
-        → ((q : ℕ) → q < 4 → occurrences e.item (queues table.old q) ≡ 0) → HoldsAt j e table.new }
 {
     if table.len(T1) < capacity as usize {
         let first = replace(table, target, false);
@@ -215,8 +193,6 @@ fn make_way_in_open_l1(table: &mut KeyQueues, capacity: u32, target: u32, all: u
     ensures left { AreLeft (open_l1_leavers capacity target (queues table.old))
         (queues table.old) (queues table.new) result }
     ensures spare { spare table.old ≤ spare table.new }
-    ensures others { (j : ℕ) (e : Entry) → HoldsAt j e table.old
-        → ((q : ℕ) → q < 4 → occurrences e.item (queues table.old q) ≡ 0) → HoldsAt j e table.new }
 {
     let room = capacity as usize;
     if all < room {

@@ -30,8 +30,11 @@ const GHOST: u8 = 2;
 
 /// An access to a key, by S3-FIFO's plan. The one error is out of memory; the queues are then as before. S3-FIFO has
 /// no number of its own.
+///
+/// `C` selects an instance: one that is called at a single place becomes part of its caller, and a caller that reads no
+/// record then makes none.
 #[inline(always)]
-pub fn step(
+pub fn step<C>(
     table: &mut KeyQueues,
     capacity: u32,
     scalar: u32,
@@ -46,13 +49,13 @@ pub fn step(
     ensures err { OnErr result (queues table.new ≡ queues table.old) }
 {
     let Some(found) = table.find(key) else {
-        return new_key(table, capacity, scalar, key);
+        return new_key::<C>(table, capacity, scalar, key);
     };
     if is_resident(found.queue) {
         let own = table.recount(key, found, one_hit_more(found.count));
         Ok(hit(own, scalar))
     } else {
-        Ok(recalled(table, capacity, scalar, key, found))
+        Ok(recalled::<C>(table, capacity, scalar, key, found))
     }
 }
 
@@ -72,7 +75,7 @@ fn one_hit_more(count: u8) -> u8
 
 // An access to a key that stands nowhere. Room in the table is made before anything moves.
 #[inline(always)]
-fn new_key(
+fn new_key<C>(
     table: &mut KeyQueues,
     capacity: u32,
     scalar: u32,
@@ -95,7 +98,13 @@ fn new_key(
 
 // An access to a key that is not resident, and stands in the ghost or elsewhere. It needs no room in the table.
 #[inline(always)]
-fn recalled(table: &mut KeyQueues, capacity: u32, scalar: u32, key: Key, found: Found) -> Accessed
+fn recalled<C>(
+    table: &mut KeyQueues,
+    capacity: u32,
+    scalar: u32,
+    key: Key,
+    found: Found,
+) -> Accessed
     requires some { 1 ≤ capacity }
     requires few { capacity ≤ MAX_CAPACITY }
     requires state { IsS3Fifo capacity (s3_fifo_of (queues table.old)) }

@@ -14,8 +14,11 @@ use step_record::Key;
 /// An access to a key: a hit sets its visited bit; in a full cache the hand passes over the keys whose bits are set,
 /// clearing these, and the key at which it stops leaves. `scalar` is the number of the queue ahead of the hand. The one
 /// error is out of memory; the queues are then as before.
+///
+/// `C` selects an instance: one that is called at a single place becomes part of its caller, and a caller that reads no
+/// record then makes none.
 #[inline(always)]
-pub fn step(
+pub fn step<C>(
     table: &mut KeyQueues,
     capacity: u32,
     scalar: u32,

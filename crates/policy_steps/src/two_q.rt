@@ -25,8 +25,11 @@ const AM: u8 = 2;
 
 /// An access to a key, by 2Q's plan. The one error is out of memory; the queues are then as before. 2Q has no number of
 /// its own.
+///
+/// `C` selects an instance: one that is called at a single place becomes part of its caller, and a caller that reads no
+/// record then makes none.
 #[inline(always)]
-pub fn step(
+pub fn step<C>(
     table: &mut KeyQueues,
     capacity: u32,
     scalar: u32,
@@ -39,20 +42,20 @@ pub fn step(
     ensures err { OnErr result (queues table.new ≡ queues table.old) }
 {
     let Some(found) = table.find(key) else {
-        return new_key(table, capacity, scalar, key);
+        return new_key::<C>(table, capacity, scalar, key);
     };
     if found.queue == AM {
         Ok(hit(table.send(key, found, AM, 0), scalar))
     } else if found.queue == A1IN {
         Ok(hit(KeyMove::unmoved(key), scalar))
     } else {
-        Ok(recalled(table, capacity, scalar, key, found))
+        Ok(recalled::<C>(table, capacity, scalar, key, found))
     }
 }
 
 // An access to a key that stands nowhere. Room is made before anything moves.
 #[inline(always)]
-fn new_key(
+fn new_key<C>(
     table: &mut KeyQueues,
     capacity: u32,
     scalar: u32,
@@ -71,7 +74,13 @@ fn new_key(
 
 // An access to a key of a1out, which needs no room. To 2Q a key of a queue that it does not use is new.
 #[inline(always)]
-fn recalled(table: &mut KeyQueues, capacity: u32, scalar: u32, key: Key, found: Found) -> Accessed
+fn recalled<C>(
+    table: &mut KeyQueues,
+    capacity: u32,
+    scalar: u32,
+    key: Key,
+    found: Found,
+) -> Accessed
     requires at { HoldsAt found.at (entry (item_of key) found.count) table.old }
     requires stands { standing (item_of key) (queues table.old) ≡ Some (found.queue, found.count) }
     requires am { found.queue ≢ AM }

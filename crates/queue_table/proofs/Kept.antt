@@ -52,15 +52,14 @@ pub distinct-in : (slots : List Slot) (index : SlotIndex) (n : Lengths) → IsKe
 distinct-in [] index n k = none-distinct
 distinct-in (x ∷ slots) index n k = (k.held (omega arith)).queued.distinct
 
-ring-length : (o : Order) → length (ring o) ≡ length (o 0) + (length (o 1) + (length (o 2) + (length (o 3) + (length (o 4) + (length (o 5) + 6)))))
+ring-length : (o : Order) → length (ring o) ≡ length (o 0) + (length (o 1) + (length (o 2) + (length (o 3) + (length (o 4) + 5))))
 ring-length o =
-    let a = length-append (o 0) (1 ∷ ring_from 5 1 o) in
-    let b = length-append (o 1) (2 ∷ ring_from 4 2 o) in
-    let c = length-append (o 2) (3 ∷ ring_from 3 3 o) in
-    let d = length-append (o 3) (4 ∷ ring_from 2 4 o) in
-    let e = length-append (o 4) (5 ∷ ring_from 1 5 o) in
-    let f = length-append (o 5) (6 ∷ ring_from 0 6 o) in
-    omega (arith, a, b, c, d, e, f)
+    let a = length-append (o 0) (1 ∷ ring_from 4 1 o) in
+    let b = length-append (o 1) (2 ∷ ring_from 3 2 o) in
+    let c = length-append (o 2) (3 ∷ ring_from 2 3 o) in
+    let d = length-append (o 3) (4 ∷ ring_from 1 4 o) in
+    let e = length-append (o 4) (5 ∷ ring_from 0 5 o) in
+    omega (arith, a, b, c, d, e)
 
 -- the slot that stands before a queue is there
 pub before-within : (slots : List Slot) → IsQueued slots (order_of slots) → (q : ℕ) → q < QUEUES → suc q < length slots
@@ -71,7 +70,7 @@ before-within slots h q w =
     omega (arith, long, size, parts, w)
 
 -- all slots in sections are fewer than the slots
-sections-few : (slots : List Slot) (index : SlotIndex) (n : Lengths) → IsKept slots index n → (let o = order_of slots in length (o 0) + (length (o 1) + (length (o 2) + (length (o 3) + (length (o 4) + length (o 5))))) < 2 ^ 32)
+sections-few : (slots : List Slot) (index : SlotIndex) (n : Lengths) → IsKept slots index n → (let o = order_of slots in length (o 0) + (length (o 1) + (length (o 2) + (length (o 3) + length (o 4)))) < 2 ^ 32)
 sections-few [] index n k =
     let z : (s : ℕ) → length (order_of [] s) ≡ 0 = λ s. ap (λ (o : Order). length (o s)) no-order in
     let a = z 0 in
@@ -79,8 +78,7 @@ sections-few [] index n k =
     let c = z 2 in
     let d = z 3 in
     let e = z 4 in
-    let f = z 5 in
-    omega (arith, a, b, c, d, e, f)
+    omega (arith, a, b, c, d, e)
 sections-few (x ∷ slots) index n k =
     let all : List Slot = x ∷ slots in
     let long = (k.held (omega arith)).queued.linked.long in
@@ -89,15 +87,14 @@ sections-few (x ∷ slots) index n k =
     let few = k.few in
     omega (arith, long, size, ring, few)
 
-pub items-few : (slots : List Slot) (index : SlotIndex) (n : Lengths) → IsKept slots index n → get_or n.at 1 0 + get_or n.at 2 0 + get_or n.at 3 0 + get_or n.at 4 0 + get_or n.at 5 0 < 2 ^ 64
+pub items-few : (slots : List Slot) (index : SlotIndex) (n : Lengths) → IsKept slots index n → get_or n.at 1 0 + get_or n.at 2 0 + get_or n.at 3 0 + get_or n.at 4 0 < 2 ^ 64
 items-few slots index n k =
     let f = sections-few slots index n k in
     let a = k.counted 1 (omega arith) in
     let b = k.counted 2 (omega arith) in
     let c = k.counted 3 (omega arith) in
     let d = k.counted 4 (omega arith) in
-    let e = k.counted 5 (omega arith) in
-    omega (arith, f, a, b, c, d, e)
+    omega (arith, f, a, b, c, d)
 
 pub section-few : (slots : List Slot) (index : SlotIndex) (n : Lengths) → IsKept slots index n → (s : ℕ) → s < SECTIONS → get_or n.at s 0 + 1 < 2 ^ 64
 section-few slots index n k s w =
@@ -111,8 +108,7 @@ section-few slots index n k s w =
     one (suc (suc zero)) w = let f = sections-few slots index n k in omega (arith, f)
     one (suc (suc (suc zero))) w = let f = sections-few slots index n k in omega (arith, f)
     one (suc (suc (suc (suc zero)))) w = let f = sections-few slots index n k in omega (arith, f)
-    one (suc (suc (suc (suc (suc zero))))) w = let f = sections-few slots index n k in omega (arith, f)
-    one (suc (suc (suc (suc (suc (suc s)))))) w = absurd (omega (arith, w))
+    one (suc (suc (suc (suc (suc s))))) w = absurd (omega (arith, w))
 
 length-lists : (o : Order) (es : List Entry) (q : ℕ) → length (lists_of o es q) ≡ length (o (suc q))
 length-lists o es q = length-map (o (suc q)) (λ j. slot_entry es j)
@@ -120,14 +116,13 @@ length-lists o es q = length-map (o (suc q)) (λ j. slot_entry es j)
 pub length-queue : (slots : List Slot) (index : SlotIndex) (n : Lengths) (q : ℕ) → IsKept slots index n → q < QUEUES → get_or n.at (suc q) 0 ≡ length (lists slots q)
 length-queue slots index n q k w = k.counted (suc q) (omega (arith, w)) ∙ sym (length-lists (order_of slots) (entries slots) q)
 
-pub all-items : (slots : List Slot) (index : SlotIndex) (n : Lengths) → IsKept slots index n → get_or n.at 1 0 + get_or n.at 2 0 + get_or n.at 3 0 + get_or n.at 4 0 + get_or n.at 5 0 ≡ items_below QUEUES (lists slots)
+pub all-items : (slots : List Slot) (index : SlotIndex) (n : Lengths) → IsKept slots index n → get_or n.at 1 0 + get_or n.at 2 0 + get_or n.at 3 0 + get_or n.at 4 0 ≡ items_below QUEUES (lists slots)
 all-items slots index n k =
     let a = length-queue slots index n 0 k (omega arith) in
     let b = length-queue slots index n 1 k (omega arith) in
     let c = length-queue slots index n 2 k (omega arith) in
     let d = length-queue slots index n 3 k (omega arith) in
-    let e = length-queue slots index n 4 k (omega arith) in
-    omega (arith, a, b, c, d, e)
+    omega (arith, a, b, c, d)
 
 -- a slot in use is behind those between the sections, and within the slots
 pub used-slot : (slots : List Slot) (k : ℕ) → IsQueued slots (order_of slots) → 1 ≤ count k (used (order_of slots)) → (FIRST ≤ k) × (k < length slots)

@@ -214,12 +214,11 @@ marks-none (suc n) k j a =
 
 in-used : (j : ℕ) (o : Order) → in_sections j SECTIONS 0 o ≡ count j (o 0) + count j (used o)
 in-used j o =
-    let a = count-append j (o 5) (used_below 4 o) in
-    let b = count-append j (o 4) (used_below 3 o) in
-    let c = count-append j (o 3) (used_below 2 o) in
-    let d = count-append j (o 2) (used_below 1 o) in
-    let e = count-append j (o 1) (used_below 0 o) in
-    omega (arith, a, b, c, d, e)
+    let a = count-append j (o 4) (used_below 3 o) in
+    let b = count-append j (o 3) (used_below 2 o) in
+    let c = count-append j (o 2) (used_below 1 o) in
+    let d = count-append j (o 1) (used_below 0 o) in
+    omega (arith, a, b, c, d)
 
 pub count-ring : (j : ℕ) (o : Order) → FIRST ≤ j → count j (ring o) ≡ count j (o 0) + count j (used o)
 count-ring j o h =

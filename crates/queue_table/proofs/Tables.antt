@@ -101,7 +101,7 @@ linked-more ns os a (i ∷ l) b k = (get-zero ns a ∙ k.0, get-zero os i ∙ k.
 
 -- the ring behind the free slots
 abbrev queues-ring : Order → List ℕ
-queues-ring o = 1 ∷ ring_from 5 1 o
+queues-ring o = 1 ∷ ring_from 4 1 o
 
 ring-more : (n : ℕ) (o : Order) → o 0 ++ n ∷ queues-ring o ≡ ring (more_free n o)
 ring-more n o = sym (append_assoc (o 0) (n ∷ []) (queues-ring o))
@@ -126,7 +126,7 @@ ring-grown ns os o n x is =
     let n1 = length-append ns (0 ∷ []) in
     let o1 = length-append os (0 ∷ []) in
     let same = x.same in
-    let first = x.within 1 (let p = parts 1 in let c = count-here 1 (ring_from 5 1 o) in omega (arith, p, c)) in
+    let first = x.within 1 (let p = parts 1 in let c = count-here 1 (ring_from 4 1 o) in omega (arith, p, c)) in
     let eb : end_of 0 (o 0) < length ns = end-within ns os o x in
     let old : IsLinked (ns ++ 0 ∷ []) (os ++ 0 ∷ []) 0 (o 0 ++ queues-ring o) 0 = linked-more ns os 0 (ring o) 0 x.linked in
     let l0 : IsLinked (set (set (ns ++ 0 ∷ []) (end_of 0 (o 0)) n) n 1) (set (set (os ++ 0 ∷ []) n (end_of 0 (o 0))) 1 n) 0 (o 0 ++ n ∷ queues-ring o) 0 =

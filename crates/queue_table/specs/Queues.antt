@@ -8,7 +8,7 @@ use Rattle.queue_table.specs.Entries.{occurrences, entries_without, entries_coun
 
 -- how many queues there are; those from QUEUES on are empty
 abbrev pub QUEUES : ℕ
-QUEUES = 5
+QUEUES = 4
 
 -- the entries of each queue, oldest first
 abbrev pub Queues : Type 0

@@ -80,11 +80,11 @@ moved_before k b l = put_before k b (keys_without k l)
 
 -- section 0 has the free slots, section q + 1 those of queue q
 abbrev pub SECTIONS : ℕ
-SECTIONS = 6
+SECTIONS = 5
 
 -- slot k stands before section k, and slot k + 1 after it; the slots from this one on are in the sections
 abbrev pub FIRST : ℕ
-FIRST = 7
+FIRST = 6
 
 -- the slots of each section
 abbrev pub Order : Type 0

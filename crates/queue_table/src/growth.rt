@@ -43,13 +43,12 @@ fn first_slots(alloc: Global) -> Result<Vec<Slot>, AllocError>
     let slots = Vec::from_array(
         alloc,
         [
-            bare(6, 1),
+            bare(5, 1),
             bare(0, 2),
             bare(1, 3),
             bare(2, 4),
             bare(3, 5),
-            bare(4, 6),
-            bare(5, 0),
+            bare(4, 0),
         ],
     )?;
     Ok(slots)

@@ -3,7 +3,7 @@ ghost use Rattle.std.specs.Prelude.{◌≡◌, ◌<◌, suc};
 ghost use Rattle.queue_table.specs.Queues.{QUEUES};
 
 /// How many sections the ring has: the free slots and the queues.
-pub(crate) const SECTIONS: usize = 6;
+pub(crate) const SECTIONS: usize = 5;
 
 /// The number of free slots, then the length of each queue.
 #[derive(Clone, Copy)]
@@ -36,11 +36,11 @@ impl Lengths {
     #[inline(always)]
     pub(crate) fn items(&self) -> usize
         requires { slice_index self.now.at 1 + slice_index self.now.at 2 + slice_index self.now.at 3
-            + slice_index self.now.at 4 + slice_index self.now.at 5 < 2 ^ 64 }
+            + slice_index self.now.at 4 < 2 ^ 64 }
         ensures { result ≡ slice_index self.now.at 1 + slice_index self.now.at 2 + slice_index self.now.at 3
-            + slice_index self.now.at 4 + slice_index self.now.at 5 }
+            + slice_index self.now.at 4 }
     {
-        self.at[1] + self.at[2] + self.at[3] + self.at[4] + self.at[5]
+        self.at[1] + self.at[2] + self.at[3] + self.at[4]
     }
 
     /// One slot more is free.

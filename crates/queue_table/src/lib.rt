@@ -1,4 +1,4 @@
-//! Five queues of distinct items by number, a count beside each, in one ring of slots with a hash index whose buckets
+//! Four queues of distinct items by number, a count beside each, in one ring of slots with a hash index whose buckets
 //! are search trees.
 //!
 //! Layers above see a [`QueueTable`] as a list of entries for each of its queues, oldest first, and the room that is
@@ -10,18 +10,18 @@
 //! are search trees finds the slot of an item, in 129 slots at most whatever the keys. Only `reserve` and `list`
 //! allocate.
 //!
-//! All slots stand in one ring, linked both ways, so that no move has a case for an end. Slots 0 to 6 hold no item:
+//! All slots stand in one ring, linked both ways, so that no move has a case for an end. Slots 0 to 5 hold no item:
 //! slot s stands before section s, and slot s + 1 after it. Section 0 has the free slots, section q + 1 those of queue
-//! q, oldest first. Here A and B stand in queue 0, C in queue 1 and D in queue 4:
+//! q, oldest first. Here A and B stand in queue 0, C in queue 1 and D in queue 3:
 //!
 //! ```text
-//!          free slots   queue 0          queue 1     queues 2, 3   queue 4
-//! +-> [0] - 9 - 12 - [1] - 7:A - 10:B - [2] - 8:C - [3] - [4] - [5] - 11:D - [6] -+
-//! +-------------------------------------------------------------------------------+
+//!          free slots   queue 0          queue 1    queue 2  queue 3
+//! +-> [0] - 8 - 11 - [1] - 6:A - 9:B - [2] - 7:C - [3] - [4] - 10:D - [5] -+
+//! +------------------------------------------------------------------------+
 //!
-//! index: bucket of A's hash -> slot 10:B        a tree of the slots whose items share the bucket:
+//! index: bucket of A's hash -> slot 9:B        a tree of the slots whose items share the bucket:
 //!                              /       \        a bit of key and node a level says left or right
-//!                          7:A           11:D
+//!                          6:A           10:D
 //! ```
 #![tactic(auto)]
 

@@ -6,11 +6,11 @@ use Rattle.policy_steps.specs.Arc.{T2, replaced}
 use Rattle.policy_steps.proofs.arc.recalled.Goals as goal
 
 pub send-own-requires-clause-at : goal.send-own-requires-clause-at
-send-own-requires-clause-at c =
+send-own-requires-clause-at g c =
     c.replace-first.ensures.others c.args.found.at (entry (item_of c.args.key) c.args.found.count) c.requires.at c.requires.t1 c.requires.t2
 
 pub returns : goal.returns
-returns c =
+returns g c =
     let stays = c.replace-first.ensures.stays in
     c.missed.ensures record { first = replaced c.args.in_b2 c.args.target (queues c.args.table.now); second = None } (goes T2 0) (item_of c.args.key) _ _ _
     record {

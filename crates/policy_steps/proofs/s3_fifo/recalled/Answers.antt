@@ -8,15 +8,15 @@ use Rattle.policy_steps.proofs.S3FifoStep.{queues-fit, slot-kept}
 use Rattle.policy_steps.proofs.s3_fifo.recalled.Goals as goal
 
 pub make_room-room-requires-clause-fits : goal.make_room-room-requires-clause-fits
-make_room-room-requires-clause-fits c = queues-fit c.args.capacity (queues c.args.table.now) c.requires.state
+make_room-room-requires-clause-fits g c = queues-fit c.args.capacity (queues c.args.table.now) c.requires.state
 
 pub send-own-requires-clause-at : goal.send-own-requires-clause-at
-send-own-requires-clause-at c =
+send-own-requires-clause-at g c =
     slot-kept c.args.key c.args.found.queue c.args.found.count (queues c.args.table.now) c.tabled.ensures c.requires.stands c.args.table.now c.make_room-room.new.table c.args.found.at
     refl c.requires.out c.make_room-room.ensures.others c.requires.at
 
 pub returns : goal.returns
-returns c =
+returns g c =
     let s : Queues = queues c.args.table.now in
     let remembered : Bool = c.args.found.queue == GHOST in
     let room = c.make_room-room in

@@ -8,7 +8,7 @@ use Rattle.policy_steps.specs.S3Fifo.{plan_at}
 use Rattle.policy_steps.proofs.s3_fifo.step.Goals as goal
 
 pub returns-then-is_resident-clause-accessed : goal.returns-then-is_resident-clause-accessed
-returns-then-is_resident-clause-accessed c =
+returns-then-is_resident-clause-accessed g c =
     let s : Queues = queues c.args.table.now in
     let u : Queues = queues c.recount-own.new.self in
     let own = subst (λ n. IsOwn (counts n) (item_of c.args.key) s u c.recount-own.result) c.one_hit_more.ensures c.recount-own.ensures.own in

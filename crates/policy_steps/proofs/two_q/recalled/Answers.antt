@@ -11,7 +11,7 @@ use Rattle.policy_steps.proofs.Moving.{key-off}
 use Rattle.policy_steps.proofs.two_q.recalled.Goals as goal
 
 pub send-own-requires-clause-at : goal.send-own-requires-clause-at
-send-own-requires-clause-at c =
+send-own-requires-clause-at g c =
     let s = queues c.args.table.now in
     let at : StandsAs c.args.key c.args.found.queue c.args.found.count s = stands s c.tabled.ensures c.args.key c.args.found.queue c.args.found.count c.requires.stands in
     let off = key-off c.args.key c.args.found.queue c.args.found.count s c.tabled.ensures at in
@@ -20,7 +20,7 @@ send-own-requires-clause-at c =
     (λ new. off A1OUT (λ e. eqb-false c.args.found.queue A1OUT new (sym e)))
 
 pub returns : goal.returns
-returns c =
+returns g c =
     let remembered = eqb c.args.found.queue A1OUT in
     let own : IsOwn (goes (joins remembered) 0) (item_of c.args.key) (queues c.evict-left.new.table) (queues c.send-own.new.self) c.send-own.result =
     subst (λ q. IsOwn (goes q 0) (item_of c.args.key) (queues c.evict-left.new.table) (queues c.send-own.new.self) c.send-own.result) c.queue_of.ensures c.send-own.ensures.own in
