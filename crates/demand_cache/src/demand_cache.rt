@@ -67,7 +67,7 @@ impl DemandCache {
             policy,
             capacity,
             scalar: 0,
-            queues: KeyQueues::for_items(alloc, capacity),
+            queues: KeyQueues::for_items(alloc, keys_in(policy, capacity)),
             stats: Stats::NONE,
         }
     }
@@ -269,6 +269,18 @@ fn without_record(done: Accessed) -> Counted
     Counted {
         outcome: done.outcome,
         scalar: done.scalar,
+    }
+}
+
+// How many keys a full cache has in its queues at most, those that a ghost remembers among them: the index is made for so
+// many, so that it is not rebuilt while the queues fill.
+fn keys_in(policy: DemandPolicy, capacity: u32) -> u32
+    requires { capacity ≤ MAX_CAPACITY }
+    ensures { capacity ≤ result }
+{
+    match policy {
+        DemandPolicy::Clock | DemandPolicy::Sieve => capacity,
+        DemandPolicy::S3Fifo | DemandPolicy::TwoQ | DemandPolicy::Arc => 2 * capacity,
     }
 }
 
