@@ -1,8 +1,15 @@
 -- The plan of a miss of a full cache by SIEVE, from what the calls that carry it out ensure.
-use Rattle.std.proofs.Common.{◌≡◌, ℕ, None, ap, ◌∙◌, refl}
+use Rattle.std.proofs.Common.{◌≡◌, ℕ, nat_lt, None, List, [], ◌∷◌, length, ap, ◌∙◌, sym, refl, arith}
+use Rattle.std.proofs.lemmas.Bool.{le-ltb}
+use Rattle.queue_table.specs.declared.records.Entry.{Entry}
+use Rattle.queue_table.specs.Entries.{oldest_of}
+use Rattle.queue_table.proofs.QueueLists.{with-queue-same}
+use Rattle.queue_policies.specs.Queues.{is_empty}
+use Rattle.queue_moves.specs.Tabled.{IsTabled}
+use Rattle.queue_moves.proofs.Tabled.{oldest-gone}
 use Rattle.queue_table.specs.Queues.{Queues}
 use Rattle.queue_moves.specs.declared.records.Run.{Run}
-use Rattle.queue_moves.specs.Moves.{leaving, goes, Plan, after_run, after_leaving}
+use Rattle.queue_moves.specs.Moves.{leaving, goes, Plan, after_run, after_leaving, departed}
 use Rattle.policy_steps.specs.Sieve.{queue_ahead, pass_run, after_early, ahead_late, after_late, after_leaver, ahead_new, sieve_eviction_plan}
 use Rattle.policy_steps.specs.Planned.{leaver_plan}
 
@@ -19,3 +26,20 @@ module _ (c x : ℕ) (s a b d : Queues) (early late : Run) (mid new y : ℕ) whe
       let at_leaver : d ≡ after_leaver c x s = hd ∙ ap (λ m. after_leaving (leaving m None) b) at_mid ∙ ap (after_leaving (leaving (ahead_late c x s) None)) at_late in
       let at_new : new ≡ ahead_new c x s = hn ∙ ap (λ m. queue_ahead m d) at_mid ∙ ap (queue_ahead (ahead_late c x s)) at_leaver in
       rw (hy, at_early, at_mid, at_new) refl
+
+-- whether a queue is empty once its oldest key has left
+pub left-empty : (q : ℕ) (s : Queues) → IsTabled s → is_empty (after_leaving (leaving q None) s q) ≡ nat_lt (length (s q)) 2
+left-empty q s t = by (s q) refl
+  where
+    by : (l : List Entry) → s q ≡ l → is_empty (after_leaving (leaving q None) s q) ≡ nat_lt (length (s q)) 2
+    by [] h =
+        let same : after_leaving (leaving q None) s q ≡ [] = ap (λ (v : List Entry). departed None (oldest_of v) s q) h ∙ h in
+        ap is_empty same ∙ sym (ap (λ (v : List Entry). nat_lt (length v) 2) h)
+    by (e ∷ l) h =
+        let same : after_leaving (leaving q None) s q ≡ l =
+        ap (λ (v : List Entry). departed None (oldest_of v) s q) h ∙ ap (λ (u : Queues). u q) (oldest-gone s t q e l h) ∙ with-queue-same q l s in
+        ap is_empty same ∙ alone l ∙ sym (ap (λ (v : List Entry). nat_lt (length v) 2) h)
+      where
+        alone : (r : List Entry) → is_empty r ≡ nat_lt (length (e ∷ r)) 2
+        alone [] = refl
+        alone (x ∷ r) = sym (le-ltb (length (e ∷ x ∷ r)) 2 (omega arith))

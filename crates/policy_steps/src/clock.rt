@@ -56,7 +56,6 @@ fn evict(table: &mut KeyQueues, capacity: u32, scalar: u32, key: Key) -> Accesse
         (queues table.old) (queues table.new) result }
 {
     let early = table.run(QUEUE, QUEUE, 1, 1, capacity);
-    let first = table.drop_oldest(QUEUE);
-    let own = table.join(key, QUEUE, 1);
+    let (first, own) = table.renew_oldest(QUEUE, key, QUEUE, 1);
     evicted(early, Run::NONE, first, own, scalar, scalar)
 }

@@ -2,7 +2,7 @@
 ghost use Rattle.std.specs.Prelude.{◌≡◌, ◌≤◌, ◌+◌, false, None, length, nat_lt, IfOk, OnErr};
 ghost use Rattle.queue_table.specs.Queues.{queue_holding};
 ghost use Rattle.queue_table.specs.QueueTable.{queues, spare};
-ghost use Rattle.queue_moves.specs.Moves.{item_of};
+ghost use Rattle.queue_moves.specs.Moves.{item_of, leaving, after_leaving};
 ghost use Rattle.queue_moves.specs.Undoing.{IsAccessed};
 ghost use Rattle.policy_steps.specs.Sieve.{queue_ahead, sieve_plan, sieve_eviction_plan};
 
@@ -68,9 +68,8 @@ fn evict(table: &mut KeyQueues, capacity: u32, ahead: u8, key: Key) -> Accessed
     let early = table.run(ahead, 1 - ahead, 1, 1, capacity);
     let mid = wrap(table, ahead);
     let late = table.run(mid, 1 - mid, 1, 1, capacity);
-    let first = table.drop_oldest(mid);
-    let new = wrap(table, mid);
-    let own = table.join(key, new, 0);
+    let new = wrap_after(table, mid);
+    let (first, own) = table.renew_oldest(mid, key, new, 0);
     evicted(early, late, first, own, u32::from(ahead), u32::from(new))
 }
 
@@ -82,6 +81,20 @@ fn wrap(table: &KeyQueues, ahead: u8) -> u8
     ensures low { result ≤ 1 }
 {
     if table.len(ahead) == 0 {
+        1 - ahead
+    } else {
+        ahead
+    }
+}
+
+// The same, once the oldest of these keys has left.
+fn wrap_after(table: &KeyQueues, ahead: u8) -> u8
+    requires { ahead ≤ 1 }
+    ensures is { result ≡ queue_ahead ahead (after_leaving (leaving ahead None) (queues table.now)) }
+    ensures low { result ≤ 1 }
+{
+    table.tabled();
+    if table.len(ahead) <= 1 {
         1 - ahead
     } else {
         ahead

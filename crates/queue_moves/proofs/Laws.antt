@@ -10,7 +10,7 @@ use Rattle.queue_table.specs.Ring.{lists}
 use Rattle.queue_table.specs.Entries.{items_of, is_same_item, entry, occurrences, entries_without, entries_counted, last_from, last_item, oldest_of, newest_of, newest_from, before, put_behind, IsGap}
 use Rattle.queue_table.specs.Queues.{QUEUES, Queues, queue_holding, place_at, place_in, IsDistinct, after_push, after_removal, after_send, after_count, after_return}
 use Rattle.queue_table.proofs.EntryLists.{same-refl, times-append, times-without}
-use Rattle.queue_table.proofs.QueueLists.{absent, queue-few, with-queue-same, with-queue-other}
+use Rattle.queue_table.proofs.QueueLists.{absent, is_absent, queue-few, with-queue-same, with-queue-other}
 use Rattle.queue_table.proofs.MoveBack.{gap, move-back, taken-sent, out-back, pushed-back, without-none, high-empty}
 use Rattle.queue_moves.specs.declared.records.KeyMove.{KeyMove}
 use Rattle.queue_moves.specs.declared.records.Change.TheVariants as change
@@ -257,6 +257,30 @@ module _ (k n : ℕ) (slots : List Slot) (d : IsDistinct (lists slots)) (keys : 
           ]
 
 -- a key that joins
+module _ (k : ℕ) (s : Queues) (nowhere : (j : ℕ) → occurrences (item_of k) (s j) ≡ 0) where
+  none : queue_holding (item_of k) s ≡ None
+  none = is_absent (item_of k) s (λ q w. nowhere q)
+
+  untouched : after_removal (item_of k) s ≡ s
+  untouched = fun_ext (λ j. without-none (item_of k) (s j) (nowhere j))
+
+  there-joined : (to m : ℕ) → to < QUEUES → queue_holding (item_of k) (after_push to (entry (item_of k) m) s) ≢ None
+  there-joined to m w h =
+      let same : is_same_item (item_of k) (item_of k) ≡ true = same-refl (item_of k) in
+      let zero_of = absent (item_of k) (after_push to (entry (item_of k) m) s) h to w in
+      let sum = ap (occurrences (item_of k)) (with-queue-same to _ s) ∙ times-append (item_of k) (s to) (entry (item_of k) m ∷ []) in
+      let sum2 = rw same at sum in
+      omega (arith, zero_of, sum2)
+
+  joined : (to m : ℕ) → to < QUEUES → (u : Queues) → u ≡ after_push to (entry (item_of k) m) s
+      → IsOwn (goes to m) (item_of k) s u record { key = k; older = None; count = 0; queue = 0; by = change.Joined }
+  joined to m w u hu = record {
+    after = hu ∙ ap (after_push to (entry (item_of k) m)) (sym untouched);
+    is = sym (ap (λ h. move_from (item_of k) (place_at (item_of k) h s) s) none);
+    fits = subst (λ x. queue_holding (item_of k) x ≢ None) (sym hu) (there-joined to m w);
+    undone = ap (after_removal (item_of k)) hu ∙ fun_ext (pushed-back to (entry (item_of k) m) s nowhere);
+  }
+
 module _ (k : ℕ) (slots : List Slot) (none : queue_holding (item_of k) (lists slots) ≡ None) where
   nowhere : (j : ℕ) → occurrences (item_of k) (lists slots j) ≡ 0
   nowhere j =
@@ -265,25 +289,15 @@ module _ (k : ℕ) (slots : List Slot) (none : queue_holding (item_of k) (lists 
         | inr w ↦ ap (occurrences (item_of k)) (high-empty slots j (omega (arith, w)))
       ]
 
-  untouched : after_removal (item_of k) (lists slots) ≡ lists slots
-  untouched = fun_ext (λ j. without-none (item_of k) (lists slots j) (nowhere j))
-
-  there-joined : (to m : ℕ) → to < QUEUES → queue_holding (item_of k) (after_push to (entry (item_of k) m) (lists slots)) ≢ None
-  there-joined to m w h =
-      let same : is_same_item (item_of k) (item_of k) ≡ true = same-refl (item_of k) in
-      let zero_of = absent (item_of k) (after_push to (entry (item_of k) m) (lists slots)) h to w in
-      let sum = ap (occurrences (item_of k)) (with-queue-same to _ (lists slots)) ∙ times-append (item_of k) (lists slots to) (entry (item_of k) m ∷ []) in
-      let sum2 = rw same at sum in
-      omega (arith, zero_of, sum2)
-
   pub own-joined : (to m : ℕ) → to < QUEUES → (u : Queues) → u ≡ after_push to (entry (item_of k) m) (lists slots)
       → IsOwn (goes to m) (item_of k) (lists slots) u record { key = k; older = None; count = 0; queue = 0; by = change.Joined }
-  own-joined to m w u hu = record {
-    after = hu ∙ ap (after_push to (entry (item_of k) m)) (sym untouched);
-    is = sym (ap (λ h. move_from (item_of k) (place_at (item_of k) h (lists slots)) (lists slots)) none);
-    fits = subst (λ x. queue_holding (item_of k) x ≢ None) (sym hu) (there-joined to m w);
-    undone = ap (after_removal (item_of k)) hu ∙ fun_ext (pushed-back to (entry (item_of k) m) (lists slots) nowhere);
-  }
+  own-joined = joined k (lists slots) nowhere
+
+  -- once another has gone
+  pub own-renewed : (i : Item) (to m : ℕ) → to < QUEUES → (u : Queues) → u ≡ after_push to (entry (item_of k) m) (after_removal i (lists slots))
+      → IsOwn (goes to m) (item_of k) (after_removal i (lists slots)) u record { key = k; older = None; count = 0; queue = 0; by = change.Joined }
+  own-renewed i = joined k (after_removal i (lists slots))
+      (λ j. (let z = nowhere j in let l = times-without i (item_of k) (lists slots j) in omega (arith, z, l)))
 
 -- ---- the oldest key of a queue
 

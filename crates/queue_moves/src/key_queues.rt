@@ -4,7 +4,7 @@ ghost use Rattle.queue_table.specs.declared.records.Entry.{Entry};
 ghost use Rattle.queue_table.specs.Entries.{entry, occurrences, oldest_of};
 ghost use Rattle.queue_table.specs.Queues.{QUEUES, empty_queues, queue_holding};
 ghost use Rattle.queue_table.specs.QueueTable.{queues, spare, HoldsAt};
-ghost use Rattle.queue_moves.specs.Moves.{item_of, run, standing, turns_due, count_or, leaving, counts, goes};
+ghost use Rattle.queue_moves.specs.Moves.{after_leaving, item_of, run, standing, turns_due, count_or, leaving, counts, goes};
 ghost use Rattle.queue_moves.specs.Undoing.{IsTurn, IsRun, IsLeft, IsOwn, outs, key_in};
 ghost use Rattle.queue_moves.specs.Tabled.{IsTabled, keys_of};
 
@@ -271,6 +271,42 @@ impl KeyQueues {
             queue: 0,
             by: Change::Joined,
         }
+    }
+
+    /// The oldest key of a queue, if it has one, goes out, and a key that stands nowhere joins the recent end of a queue,
+    /// in its slot. It takes room for one where none goes out.
+    #[inline(always)]
+    pub fn renew_oldest(&mut self, from: u8, key: Key, queue: u8, count: u8) -> (Left, KeyMove)
+        requires from { from < QUEUES }
+        requires queue { queue < QUEUES }
+        requires room { 1 ≤ spare self.old }
+        requires absent { queue_holding (item_of key) (queues self.old) ≡ None }
+        ensures left { IsLeft (leaving from None) (queues self.old) (after_leaving (leaving from None) (queues self.old))
+            result.0 }
+        ensures out { outs result.0.by ≤ 1 }
+        ensures own { IsOwn (goes queue count) (item_of key) (after_leaving (leaving from None) (queues self.old))
+            (queues self.new) result.1 }
+    {
+        self.table.distinct();
+        let Some((at, oldest)) = self.table.oldest(from) else {
+            return (Left::NONE, self.join(key, queue, count));
+        };
+        let item = Item { key, node: 0 };
+        let _ = self.table.renew(at, queue, Entry { item, count });
+        let left = Left {
+            key: oldest.item.key,
+            count: oldest.count,
+            queue: from,
+            by: Departure::Out,
+        };
+        let own = KeyMove {
+            key,
+            older: None,
+            count: 0,
+            queue: 0,
+            by: Change::Joined,
+        };
+        (left, own)
     }
 
     /// Appends the keys of a queue to others, oldest first. The one error is that an allocation failed; some keys may be

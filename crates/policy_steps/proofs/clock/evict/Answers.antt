@@ -3,15 +3,14 @@ use Rattle.queue_table.specs.QueueTable.{queues}
 use Rattle.queue_moves.specs.Moves.{item_of, leaving, no_run, goes}
 use Rattle.queue_moves.proofs.Carried.{no-run}
 use Rattle.policy_steps.specs.Clock.{clock_eviction_plan}
-use Rattle.policy_steps.proofs.Steps.{absent-run, absent-left}
+use Rattle.policy_steps.proofs.Steps.{absent-run}
 use Rattle.policy_steps.proofs.clock.evict.Goals as goal
 
-pub join-own-requires-clause-absent : goal.join-own-requires-clause-absent
-join-own-requires-clause-absent c =
-    absent-left (item_of c.args.key) 0 (queues c.run-early.new.self) (queues c.drop_oldest-first.new.self) c.drop_oldest-first.result c.drop_oldest-first.ensures.left
-    (absent-run (item_of c.args.key) c.run-early.result (queues c.args.table.now) (queues c.run-early.new.self) c.run-early.ensures.made c.requires.absent)
+pub renew_oldest-requires-clause-absent : goal.renew_oldest-requires-clause-absent
+renew_oldest-requires-clause-absent c =
+    absent-run (item_of c.args.key) c.run-early.result (queues c.args.table.now) (queues c.run-early.new.self) c.run-early.ensures.made c.requires.absent
 
 pub returns : goal.returns
 returns c =
     c.evicted.ensures (clock_eviction_plan c.args.capacity c.args.scalar (queues c.args.table.now)).early no_run (leaving 0 None) (goes 0 1) _ _ _ _ _ _ c.run-early.ensures.run refl
-    c.run-early.ensures.made (no-run (queues c.run-early.new.self)) c.drop_oldest-first.ensures.left c.drop_oldest-first.ensures.out c.join-own.ensures.own
+    c.run-early.ensures.made (no-run (queues c.run-early.new.self)) c.renew_oldest.ensures.left c.renew_oldest.ensures.out c.renew_oldest.ensures.own
