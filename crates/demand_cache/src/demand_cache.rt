@@ -144,8 +144,8 @@ impl DemandCache {
                 let ahead = self.scalar as u8;
                 add_both(&self.queues, 1 - ahead, ahead, keys)
             }
-            DemandPolicy::S3Fifo => add_both(&self.queues, 0, 1, keys),
-            DemandPolicy::TwoQ => add_both(&self.queues, 0, 2, keys),
+            DemandPolicy::S3Fifo(_) => add_both(&self.queues, 0, 1, keys),
+            DemandPolicy::TwoQ(_) => add_both(&self.queues, 0, 2, keys),
             DemandPolicy::Arc => add_both(&self.queues, 0, 1, keys),
         }
     }
@@ -299,11 +299,11 @@ fn count_out(
             Ok(done) => Ok(without_record(done)),
             Err(fault) => Err(fault),
         },
-        DemandPolicy::S3Fifo => match s3_fifo::step(queues, capacity, scalar, key) {
+        DemandPolicy::S3Fifo(part) => match s3_fifo::step(queues, part, capacity, scalar, key) {
             Ok(done) => Ok(without_record(done)),
             Err(fault) => Err(fault),
         },
-        DemandPolicy::TwoQ => match two_q::step(queues, capacity, scalar, key) {
+        DemandPolicy::TwoQ(sizes) => match two_q::step(queues, sizes, capacity, scalar, key) {
             Ok(done) => Ok(without_record(done)),
             Err(fault) => Err(fault),
         },
@@ -334,8 +334,8 @@ fn carry_out(
     match policy {
         DemandPolicy::Clock => clock::step(queues, capacity, scalar, key),
         DemandPolicy::Sieve => sieve::step(queues, capacity, scalar, key),
-        DemandPolicy::S3Fifo => s3_fifo::step(queues, capacity, scalar, key),
-        DemandPolicy::TwoQ => two_q::step(queues, capacity, scalar, key),
+        DemandPolicy::S3Fifo(part) => s3_fifo::step(queues, part, capacity, scalar, key),
+        DemandPolicy::TwoQ(sizes) => two_q::step(queues, sizes, capacity, scalar, key),
         DemandPolicy::Arc => arc::step(queues, capacity, scalar, key),
     }
 }
