@@ -15,6 +15,9 @@ PERCENTS = ["1", "2", "5", "10", "20", "50"]
 # The main parts of wtinylfu that are tried, in percent of the capacity, as --main names them; the rest is its window. The
 # first is the program's own.
 MAINS = [99, 90, 80, 50, 20]
+# The sizes of parts that are tried, in percent of the capacity, as the option names them: those of the papers, which are the
+# program's own, and three others.
+PARTS = [("s3-fifo", "small", 10, [1, 5, 25]), ("2q", "in", 25, [5, 50, 75]), ("2q", "out", 50, [10, 25, 100])]
 # The curve of lru is read at neighbouring capacities that differ by one in so many, or by one entry.
 FINENESS = 50
 # How many capacities are tried at once between two capacities of lru.
@@ -22,8 +25,8 @@ LRU_TRIES = 64
 # How many capacities in equal ratios a picture has, from 1 percent of the footprint on.
 DRAWN = 30
 
-# `windows` has a row for each main part and capacity. `reaches` has the row that reaches a ratio and one that does not.
-Survey = namedtuple("Survey", "trace accesses footprint once highest policies rows windows jumps reaches powers")
+# `windows` has a row for each main part and capacity, `parts` one for each policy, option, size and capacity. `reaches` has the row that reaches a ratio and one that does not.
+Survey = namedtuple("Survey", "trace accesses footprint once highest policies rows windows parts jumps reaches powers")
 Reach = namedtuple("Reach", "policy ratio row below is_possible")
 
 
@@ -32,8 +35,9 @@ def plan_of(policies, args):
     tables, has_jumps = {*args.table}, "jumps" in args.table or args.plot
     mains = MAINS[1:] if WINDOWED in policies and not args.main and tables & {"policies", "misses", "windows"} else []
     return ["footprint",
-            *["policies"] * bool(tables & {"policies", "misses", "windows", "powers"} or has_jumps),
+            *["policies"] * bool(tables & {"policies", "misses", "windows", "parts", "powers"} or has_jumps),
             *map(main_step, mains),
+            *(part_step(policy, option, size) for policy, option, size in tried_parts(policies) if "parts" in tables),
             *["jumps of lru", "jumps of other policies"] * bool(has_jumps),
             *(map(reach_step, policies) if "reach" in tables else []),
             *["powers of two"] * ("powers" in tables),
@@ -42,6 +46,15 @@ def plan_of(policies, args):
 
 def main_step(main):
     return f"{WINDOWED} --main {main}"
+
+
+def tried_parts(policies):
+    """Each part with each size other than the program's own, of these policies."""
+    return [(policy, option, size) for policy, option, _, sizes in PARTS if policy in policies for size in sizes]
+
+
+def part_step(policy, option, size):
+    return f"{policy} --{option} {size}"
 
 
 def reach_step(policy):
@@ -62,17 +75,18 @@ def survey_of(trace, policies, args, progress):
         sys.exit(f"tools/survey: {trace.name} has other accesses than the program says")
     if not trace.leave_out(report.accesses):
         progress.erase()
-        return Survey(trace, 0, footprint, 0, "0.00", policies, {}, {}, [], [], [])
+        return Survey(trace, 0, footprint, 0, "0.00", policies, {}, {}, {}, [], [], [])
     highest = highest_of(trace, largest, footprint)
     once, top = sum(1 for times in counts.values() if times == 1), min(footprint, MAX_CAPACITY)
     rows = rows_of(trace, policies, footprint, args, progress)
     windows = windows_of(trace, rows, progress)
+    parts = parts_of(trace, rows, policies, progress)
     jumps = [*jumps_of_lru(trace, top, args.jump, progress), *other_jumps(trace, rows, policies, args.jump, progress)]
     reaches = reaches_of(trace, rows, policies, args.reach, top, highest, progress)
     powers = powers_of(trace, rows, policies, progress)
     progress.erase()
     return Survey(trace, highest.accesses, footprint, once, rate(highest.hits, highest.accesses), policies, rows, windows,
-                  jumps, reaches, powers)
+                  parts, jumps, reaches, powers)
 
 
 def highest_of(trace, largest, footprint):
@@ -123,6 +137,18 @@ def windows_of(trace, rows, progress):
             swept = trace.sweep([WINDOWED], capacities, main)
             found.update({(main, capacity): row for (_, capacity), row in swept.items()})
     return {**{(MAINS[0], it): rows[WINDOWED, it] for it in capacities}, **found} if found else {}
+
+
+def parts_of(trace, rows, policies, progress):
+    """The rows of each policy with each size of its parts at each capacity, if that is planned."""
+    found, capacities = {}, capacities_in(rows)
+    for policy, option, size in tried_parts(policies):
+        if progress.begins(part_step(policy, option, size)) and capacities:
+            swept = trace.sweep([policy], capacities, part=(f"--{option}", size))
+            found.update({(policy, option, size, capacity): row for (_, capacity), row in swept.items()})
+    own = {(policy, option, size, it): rows[policy, it]
+           for policy, option, size, _ in PARTS if policy in policies for it in capacities}
+    return {**own, **found} if found else {}
 
 
 def best_of(survey, capacity):

@@ -114,27 +114,27 @@ class Trace:
         """A capacity, or another number of blocks, as it is of the trace that was sampled."""
         return count * self.inverse
 
-    def sweep(self, policies, capacities, main=None):
-        """A row of each policy at each capacity, keyed by both."""
-        return self.converted(self.reports(policies, capacities, main, self.file.begun()), main)
+    def sweep(self, policies, capacities, main=None, part=()):
+        """A row of each policy at each capacity, keyed by both, with another main part, or another size of a part."""
+        return self.converted(self.reports(policies, capacities, main, self.file.begun(), part), main, part)
 
-    def converted(self, rows, main=None):
+    def converted(self, rows, main=None, part=()):
         """What the program's reports stand for."""
         if self.warm_up:
             # What a policy hits in the warm-up does not depend on what follows. Belady's policy knows that, but it has the
             # most hits of all up to every place, so these too are those of the warm-up alone.
             policies, capacities = ([*dict.fromkeys(it)] for it in zip(*rows))
             os.lseek(self.warm_up.fileno(), 0, os.SEEK_SET)
-            begun = self.reports(policies, capacities, main, self.warm_up.fileno())
+            begun = self.reports(policies, capacities, main, self.warm_up.fileno(), part)
             rows = {at: self.without(row, begun[at]) for at, row in rows.items()}
         return {at: self.estimated(row) for at, row in rows.items()}
 
-    def reports(self, policies, capacities, main, trace):
+    def reports(self, policies, capacities, main, trace, part=()):
         """The program's reports of each policy at each capacity."""
         if not policies:
             return {}
         options = self.options
-        words = ["sweep", "--format", options.format, "--spread", options.spread, "--main", main or options.main]
+        words = ["sweep", "--format", options.format, "--spread", options.spread, "--main", main or options.main, *part]
         words += [*(word for policy in policies for word in ("--policy", policy)), *capacities]
         rows = self.program.rows(words, trace, self.name)
         if [row[:2] for row in rows] != [(policy, capacity) for policy in policies for capacity in capacities]:

@@ -6,7 +6,7 @@ import csv
 import io
 from itertools import groupby
 
-from measures import MAINS, best_of, capacities_in, nearly_best
+from measures import MAINS, PARTS, best_of, capacities_in, nearly_best
 from policies import OPTIMAL
 from reports import MAX_CAPACITY, rate
 
@@ -71,6 +71,15 @@ def windows_table(surveys):
             yield it.trace.name, *place_of(it, capacity), *rates, names_of(best)
 
 
+def parts_table(surveys):
+    parts = [(policy, option, size) for policy, option, own, others in PARTS if policy in surveys[0].policies
+             for size in sorted([own, *others])]
+    yield "trace", "% of footprint", "capacity", *(f"{policy} --{option} {size}" for policy, option, size in parts)
+    for it in surveys:
+        for capacity in capacities_in(it.rows) if it.parts else []:
+            yield it.trace.name, *place_of(it, capacity), *(shown_rate(it.parts[*part, capacity]) for part in parts)
+
+
 def jumps_table(surveys):
     yield "trace", "policy", "jumps from", "to", "hit ratio from", "to", "points"
     for it in surveys:
@@ -99,10 +108,11 @@ def powers_table(surveys):
             yield it.trace.name, at.policy, it.trace.shown(at.capacity), *rates, points(above, at)
 
 
-TABLES = {"traces": traces_table, "policies": policies_table, "misses": misses_table, "windows": windows_table,
+TABLES = {"traces": traces_table, "policies": policies_table, "misses": misses_table, "windows": windows_table, "parts": parts_table,
           "jumps": jumps_table, "reach": reach_table, "powers": powers_table}
 # What stands above the part of a table that is of one trace.
 TITLES = {"policies": "hit ratios in percent", "misses": "misses", "windows": "hit ratios of wtinylfu in percent",
+          "parts": "hit ratios in percent by the sizes of parts",
           "jumps": "jumps of the hit ratio", "reach": "capacities that reach a hit ratio",
           "powers": "on both sides of a power of two"}
 NEAR = "(best: within half a point of the best policy and 5 % of its misses; clairvoyant is left out)"
@@ -111,6 +121,7 @@ NEAR_IN_SAMPLE = ("(best: within half a point of the best policy, or two where o
 NOTES = {
     "policies": NEAR,
     "windows": "(--main 99 has a window of 1 percent, --main 20 one of 80)",
+    "parts": "(the program's own sizes, those of the papers: --small 10, --in 25 and --out 50)",
     "jumps": "(lru: at any capacity; others but clairvoyant: within a percent of the survey's capacities)",
     "reach": "(the smallest capacity found, to one percent; of other policies than lru and clairvoyant a smaller\n"
              "one may reach the ratio too, and a larger one may not; never: no cache of any size has that ratio)",

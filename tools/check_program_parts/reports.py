@@ -26,6 +26,12 @@ run --capacity 3
 run --capacity 0 lru
 run --capacity 1048577 lru
 run --capacity 3 --main 100 lru
+run --capacity 3 --small 0 s3-fifo
+run --capacity 3 --small 100 s3-fifo
+run --capacity 3 --in 0 2q
+run --capacity 3 --in 100 2q
+run --capacity 3 --out 0 2q
+run --capacity 3 --out 101 2q
 run --capacity 3 mru
 run --capacity 3 --spread even lru
 run --capacity 3 --batch 0 lru
@@ -124,6 +130,37 @@ def policies(check):
     check.expect("two policies that part", "part", *PARTING, out="part 5\n", stdin=check.trace)
     check.expect("a policy beside itself", "part", "--first", "lru", "--second", "lru", "--capacity", 2, out="part none\n",
                  typed=lines(1, 2, 1))
+
+
+@part()
+def sizes_of_parts(check):
+    """The sizes of the parts of 2q and s3-fifo, by hand: of four keys `--in 75` is three, `--out 25` one, `--small 50` two."""
+    back = lines(1, 2, 3, 4, 5, 1, 6, 2, 7, 8, 3, 9, 7)
+    again = lines(1, 1, 1, 2, 3, 4, 5, 2, 3, 4, 5)
+    sized = "--in", 75, "--out", 25, "--small", 50
+    two_q, s3_fifo = "2q,4,13,1,12,8,0,7.69\n", "s3-fifo,4,11,3,8,4,0,27.27\n"
+    published, s3_published = "2q,4,13,0,13,9,0,0.00\n", "s3-fifo,4,11,2,9,5,0,18.18\n"
+    run = "run", "--capacity", 4
+    for name, words, rows, typed in (
+            ("2q with its own sizes", ["2q"], published, back),
+            ("2q with its own sizes, named", ["--in=25", "--out=50", "2q"], published, back),
+            ("2q with other sizes", [*sized, "2q"], two_q, back),
+            ("s3-fifo with its own size", ["s3-fifo"], s3_published, again),
+            ("s3-fifo with its own size, named", ["--small=10", "s3-fifo"], s3_published, again),
+            ("s3-fifo with another size", [*sized, "s3-fifo"], s3_fifo, again),
+            ("a policy that has no such part", [*sized, "fifo"], "fifo,4,13,1,12,8,0,7.69\n", back)):
+        check.expect_report(name, rows, *run, *words, typed=typed)
+    check.expect_report("a sweep with other sizes", two_q, "sweep", *sized, "--policy=2q", 4, typed=back)
+    check.expect_report("a sweep of s3-fifo", s3_fifo, "sweep", *sized, "--policy=s3-fifo", 4, typed=again)
+    check.expect("intervals with other sizes", "intervals", "--capacity", 4, "--every", 13, *sized, "2q",
+                 out=INTERVALS_HEADER + "2q,4,1,13,1,12,8,0,7.69\n", typed=back)
+    # Like fifo it hits at the last access alone, with its own sizes nowhere.
+    pair = "--capacity", 4, "--first", "2q", "--second", "fifo"
+    check.expect("a part with other sizes", "part", *pair, *sized, out="part none\n", typed=back)
+    check.expect("a part with its own sizes", "part", *pair, out="part 13\n", typed=back)
+    check.expect("a comparison with other sizes", "compare", *pair, *sized, out=COMPARE_HEADER + "2q,fifo,4,13,1,0,0,12\n", typed=back)
+    for name, words, found in (("other sizes", sized, "part none\n"), ("its own sizes", (), "part 13\n")):
+        check.expect(f"a debugger with {name}", "debug", *pair, *words, "--trace", check.file("sizes", back), out=found, typed="part\n")
 
 
 @part()

@@ -63,6 +63,21 @@ def check_windows(survey, folder, _):
     expect("one window", rows_of(run(*words, "--main", "80")[0])[0]["best"], "lru")
 
 
+def check_parts(survey, folder, _):
+    """Each part has its own sizes, beside the program's own, of the policies that have such parts."""
+    trace = file_of(folder, "trace", "".join(f"{it % 300}\n" for it in range(3000)))
+    program = fake(folder, "None if capacity >= distinct else int(option.get('--small', 60)) if policy == 's3-fifo' else "
+                   "int(option.get('--in', 30)) + int(option.get('--out', 40)) // 10", policies=TWELVE)
+    words = survey, trace, "--program", program, "--capacity", "30", "--csv", "--table", "parts"
+    heads, rates = "s3-fifo --small 1,s3-fifo --small 5,s3-fifo --small 10,s3-fifo --small 25", "1.00,5.00,60.00,25.00"
+    expect("one policy", run(*words, "--policy", "s3-fifo")[0], f"trace,% of footprint,capacity,{heads}\n{trace},10.0,30,{rates}\n")
+    heads += "," + ",".join(f"2q --{part}" for part in ("in 5", "in 25", "in 50", "in 75", "out 10", "out 25", "out 50", "out 100"))
+    expect("two policies", run(*words, "--policy", "2q", "--policy", "s3-fifo")[0],
+           f"trace,% of footprint,capacity,{heads}\n"
+           f"{trace},10.0,30,{rates},9.00,34.00,54.00,79.00,31.00,32.00,34.00,40.00\n")
+    expect("no such policy", run(*words, "--policy", "lru")[0], "trace,% of footprint,capacity\n")
+
+
 def check_columns(survey, folder, _):
     """The policies that are named, or at most eight of those that the program takes."""
     trace = file_of(folder, "trace", "1\n2\n1\n")
@@ -425,7 +440,7 @@ def check_drawn(survey, folder, program):
     expect_parts("nothing to draw", run(survey, "-", "--program", program, "--plot", png, status=1)[1], "no accesses to draw")
 
 
-TESTS = [check_best, check_nearly_best, check_windows, check_columns, check_width, check_many_rows, check_progress, check_cliffs, check_reach, check_percent_of_reach, check_large, check_large_capacities, check_jumps_and_powers,
+TESTS = [check_best, check_nearly_best, check_windows, check_parts, check_columns, check_width, check_many_rows, check_progress, check_cliffs, check_reach, check_percent_of_reach, check_large, check_large_capacities, check_jumps_and_powers,
          check_lost_row, check_ways, check_beside_run, check_after, check_sampled, check_sampled_once, check_best_of_sample, check_unsafe_name, check_kept_picture, check_drawn]
 
 MISTAKES = {
@@ -442,6 +457,8 @@ MISTAKES = {
     "a best by a twenty-first of the misses": Mistake(check_nearly_best, "measures.py", "* 20 <= best", "* 21 <= best"),
     "a window that is typed otherwise": Mistake(check_windows, "measures.py", "--main {main}\", survey", "{main}\", survey"),
     "a window in the place of another": Mistake(check_windows, "measures.py", "capacities, main)", "capacities, main - 1)"),
+    "a part of another size": Mistake(check_parts, "measures.py", 'part=(f"--{option}", size)', 'part=(f"--{option}", size + 1)'),
+    "no part of another size": Mistake(check_parts, "reports.py", "main or options.main, *part]", "main or options.main]"),
     "no window": Mistake(check_windows, "measures.py", "if survey.windows:", "if not survey.windows:"),
     "a table that is too wide": Mistake(check_width, "tables.py", "if taken + width - GAP > MAX_WIDTH:", "if not blocks:"),
     "a column left out": Mistake(check_width, "tables.py", "[[at] for at in range(KEYS, best)]", "[[at] for at in range(KEYS + 1, best)]"),

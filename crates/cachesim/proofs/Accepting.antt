@@ -7,6 +7,7 @@ use Rattle.std.proofs.lemmas.Bool.{le-leb}
 use Rattle.step_record.specs.Config.{config_fault, is_from_one}
 use Rattle.step_record.specs.declared.config.Config.{Config}
 use Rattle.step_record.specs.declared.job.Job.{Job}
+use Rattle.step_record.specs.declared.job.Parts.{Parts}
 use Rattle.step_record.specs.declared.job.Policy.{Policy}
 use Rattle.step_record.specs.declared.config.ConfigFault.{ConfigFault}
 use Rattle.step_record.specs.declared.config.ConfigFault.TheVariants.{Capacity}
@@ -24,9 +25,9 @@ use Rattle.command_line.specs.declared.arguments.RunArguments.{RunArguments}
 use Rattle.command_line.specs.declared.arguments.SweepArguments.{SweepArguments}
 use Rattle.cachesim.specs.TraceOutput.{jobs_by_policy}
 
-no_fault : (config : Config) (i : ℕ) (policies : List Policy) → config_fault config ≡ Ok tt → faulty_from i (jobs_by_policy config policies) ≡ None
-no_fault config i [] ok = refl
-no_fault config i (policy ∷ policies) ok = rw ok (no_fault config (i + 1) policies ok)
+no_fault : (config : Config) (parts : Parts) (i : ℕ) (policies : List Policy) → config_fault config ≡ Ok tt → faulty_from i (jobs_by_policy config parts policies) ≡ None
+no_fault config parts i [] ok = refl
+no_fault config parts i (policy ∷ policies) ok = rw ok (no_fault config parts (i + 1) policies ok)
 
 in_batch : (batch : ℕ) → 1 ≤ batch → batch ≤ MAX_BATCH → is_from_one MAX_BATCH batch ≡ true
 in_batch batch some few = rw (le-leb 1 batch some, le-leb batch MAX_BATCH few) refl
@@ -44,28 +45,28 @@ at_each job i [] ok all = refl
 at_each job i (c ∷ cs) ok all =
     rw (at_other job.config c ok (All-head (λ n. is_from_one MAX_CAPACITY n ≡ true) c cs all)) (at_each job (i + 1) cs ok (All-tail (λ n. is_from_one MAX_CAPACITY n ≡ true) c cs all))
 
-no_config_fault : (config : Config) (policies : List Policy) (cs : List ℕ) → config_fault config ≡ Ok tt → AllPass (is_from_one MAX_CAPACITY) cs
-    → first_config_fault (jobs_by_policy config policies) cs ≡ None
-no_config_fault config [] cs ok all = refl
-no_config_fault config (policy ∷ policies) cs ok all =
-    rw (at_each (record { policy = policy; config = config }) 0 cs ok all) (no_config_fault config policies cs ok all)
+no_config_fault : (config : Config) (parts : Parts) (policies : List Policy) (cs : List ℕ) → config_fault config ≡ Ok tt → AllPass (is_from_one MAX_CAPACITY) cs
+    → first_config_fault (jobs_by_policy config parts policies) cs ≡ None
+no_config_fault config parts [] cs ok all = refl
+no_config_fault config parts (policy ∷ policies) cs ok all =
+    rw (at_each (record { policy = policy; config = config; parts = parts }) 0 cs ok all) (no_config_fault config parts policies cs ok all)
 
 -- so the jobs of an accepted `sweep` have no fault, if they are not too many
-pub can_sweep : (sweep : SweepArguments) (jobs : List Job) (capacities : List ℕ) → IsAcceptedSweep sweep → jobs ≡ jobs_by_policy sweep.config sweep.policies
+pub can_sweep : (sweep : SweepArguments) (jobs : List Job) (capacities : List ℕ) → IsAcceptedSweep sweep → jobs ≡ jobs_by_policy sweep.config sweep.parts sweep.policies
     → capacities ≡ sweep.capacities → length jobs ≤ MAX_ACTORS → sweep_fault jobs capacities ≡ None
 can_sweep sweep jobs capacities accepted is same few =
-    rw (le-leb (length jobs) MAX_ACTORS few, is, same) (no_config_fault sweep.config sweep.policies sweep.capacities accepted.config accepted.capacities)
+    rw (le-leb (length jobs) MAX_ACTORS few, is, same) (no_config_fault sweep.config sweep.parts sweep.policies sweep.capacities accepted.config accepted.capacities)
 
 -- so those of an accepted `intervals` have none
-pub can_count : (config : Config) (policies : List Policy) (jobs : List Job) → config_fault config ≡ Ok tt → jobs ≡ jobs_by_policy config policies
+pub can_count : (config : Config) (parts : Parts) (policies : List Policy) (jobs : List Job) → config_fault config ≡ Ok tt → jobs ≡ jobs_by_policy config parts policies
     → length jobs ≤ MAX_ACTORS → intervals_fault jobs ≡ None
-can_count config policies jobs ok is few = rw (le-leb (length jobs) MAX_ACTORS few, is) (no_fault config 0 policies ok)
+can_count config parts policies jobs ok is few = rw (le-leb (length jobs) MAX_ACTORS few, is) (no_fault config parts 0 policies ok)
 
 -- and those of an accepted `run` can be run, if they are not too many
-pub can_run : (run : RunArguments) (jobs : List Job) → IsAcceptedRun run → jobs ≡ jobs_by_policy run.config run.policies → length jobs ≤ MAX_ACTORS
+pub can_run : (run : RunArguments) (jobs : List Job) → IsAcceptedRun run → jobs ≡ jobs_by_policy run.config run.parts run.policies → length jobs ≤ MAX_ACTORS
     → actor_fault run.batch jobs ≡ None
 can_run run jobs accepted is few =
-    rw (in_batch run.batch accepted.some accepted.few) (can_count run.config run.policies jobs accepted.config is few)
+    rw (in_batch run.batch accepted.some accepted.few) (can_count run.config run.parts run.policies jobs accepted.config is few)
 
 -- and the two of an accepted `part` have no fault
 pub pair_accepted : (part : PartArguments) → IsAcceptedPart part → faulty_in (part.first ∷ part.second ∷ []) ≡ None

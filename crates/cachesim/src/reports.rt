@@ -21,7 +21,7 @@ use report::{intervals_text, reports_text};
 use std::alloc::{AllocError, Global};
 use std::sync::Wait;
 use std::thread::Threads;
-use step_record::{Config, Job, MAX_BATCH, Trace};
+use step_record::{Config, Job, MAX_BATCH, Parts, Trace};
 use streams::CountedRead;
 use sweeps::{sweep_batches, sweep_each};
 use trace_read::read_trace;
@@ -46,7 +46,12 @@ pub fn run<T: Threads + Wait + Sync, R: CountedRead, P: Watch>(
         read_trace(alloc, input, arguments.format)?;
         return Err(Fault::Actors);
     }
-    let jobs = jobs(alloc, arguments.config, &arguments.policies)?;
+    let jobs = jobs(
+        alloc,
+        arguments.config,
+        arguments.parts,
+        &arguments.policies,
+    )?;
     watch.begin("run", None);
     let (format, batch) = (arguments.format, arguments.batch);
     let reports = run_reading(rt, alloc, input, format, jobs.as_slice(), batch, watch);
@@ -67,7 +72,12 @@ pub fn sweep<T: Threads + Sync, P: Watch>(
     ensures text { IfOk result (λ text. IsText (Sweep arguments.now) trace.now text.items) }
     ensures fault { IfErr result (λ fault. (fault ≡ Fault.OutOfMemory) ⊎ IsTooMany arguments.now.policies fault) }
 {
-    let jobs = few_jobs(alloc, arguments.config, &arguments.policies)?;
+    let jobs = few_jobs(
+        alloc,
+        arguments.config,
+        arguments.parts,
+        &arguments.policies,
+    )?;
     let capacities = arguments.capacities.as_slice();
     watch.begin(
         "sweep",
@@ -91,7 +101,12 @@ pub fn intervals<T: Threads + Sync, P: Watch>(
     ensures text { IfOk result (λ text. IsText (Intervals arguments.now) trace.now text.items) }
     ensures fault { IfErr result (λ fault. (fault ≡ Fault.OutOfMemory) ⊎ IsTooMany arguments.now.policies fault) }
 {
-    let jobs = few_jobs(alloc, arguments.config, &arguments.policies)?;
+    let jobs = few_jobs(
+        alloc,
+        arguments.config,
+        arguments.parts,
+        &arguments.policies,
+    )?;
     let every = arguments.every as usize;
     let batches = interval_batches(trace.len(), every).saturating_mul(jobs.len());
     watch.begin("intervals", Some(batches as u64));
@@ -200,9 +215,14 @@ fn interval_batches(accesses: usize, every: usize) -> usize
     whole.saturating_add((accesses % every).div_ceil(size))
 }
 
-// A job for each policy, in order, all on one configuration. The one error is out of memory.
-fn jobs(alloc: Global, config: Config, policies: &PolicyList) -> Result<Vec<Job>, AllocError>
-    ensures { IfOk result (λ jobs. jobs.items ≡ jobs_by_policy config policies.now) }
+// A job for each policy, in order, all on one configuration with parts of one size. The one error is out of memory.
+fn jobs(
+    alloc: Global,
+    config: Config,
+    parts: Parts,
+    policies: &PolicyList,
+) -> Result<Vec<Job>, AllocError>
+    ensures { IfOk result (λ jobs. jobs.items ≡ jobs_by_policy config parts policies.now) }
 {
     policies
         .as_slice()
@@ -210,17 +230,23 @@ fn jobs(alloc: Global, config: Config, policies: &PolicyList) -> Result<Vec<Job>
         .map(|policy| Job {
             policy: *policy,
             config,
+            parts,
         })
         .collect(alloc)
 }
 
 // The same, where they are not too many.
-fn few_jobs(alloc: Global, config: Config, policies: &PolicyList) -> Result<Vec<Job>, Fault>
-    ensures jobs { IfOk result (λ jobs. jobs.items ≡ jobs_by_policy config policies.now) }
+fn few_jobs(
+    alloc: Global,
+    config: Config,
+    parts: Parts,
+    policies: &PolicyList,
+) -> Result<Vec<Job>, Fault>
+    ensures jobs { IfOk result (λ jobs. jobs.items ≡ jobs_by_policy config parts policies.now) }
     ensures few { IfOk result (λ jobs. length jobs.items ≤ MAX_ACTORS) }
     ensures fault { IfErr result (λ fault. (fault ≡ Fault.OutOfMemory) ⊎ IsTooMany policies.now fault) }
 {
-    let jobs = jobs(alloc, config, policies)?;
+    let jobs = jobs(alloc, config, parts, policies)?;
     if jobs.len() > MAX_ACTORS {
         return Err(Fault::Actors);
     }

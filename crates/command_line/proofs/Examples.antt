@@ -24,7 +24,7 @@ lists = record {
 }
 
 abbrev words : List Text
-words = codes "run" ∷ codes "--capacity" ∷ codes "3" ∷ codes "--main" ∷ codes "50" ∷ codes "wtinylfu" ∷ codes "lru" ∷ []
+words = codes "run" ∷ codes "--capacity" ∷ codes "3" ∷ codes "--main" ∷ codes "50" ∷ codes "--out" ∷ codes "40" ∷ codes "wtinylfu" ∷ codes "lru" ∷ []
 
 taken : fault_of (program_app lists) words ≡ []
 unfolding clap_on_literals
@@ -32,11 +32,12 @@ taken = refl
 
 named : asked_in (subcommand_of (program_app lists) words) ≡ Ok (Run (record {
   config = record { capacity = 3; main_percent = 50; spread = Mixed; stripes = 1; journal_limit = 1 };
+  parts = record { small = 10; kin = 25; kout = 40 };
   policies = WindowTinyLfu ∷ Lru ∷ [];
   batch = 1024;
   format = Lirs;
 }))
-unfolding clap_on_literals lib.Count.ones config_at number_named policy_named run_in
+unfolding clap_on_literals lib.Count.ones config_at number_named parts_in policy_named run_in
 named = refl
 
 answered : (fault_of (program_app lists) (codes "run" ∷ codes "--help" ∷ []) ≡ kind.DisplayHelp ∷ [])

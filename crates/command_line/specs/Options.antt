@@ -2,11 +2,11 @@
 use Rattle.std.specs.Prelude.{List, [], ◌∷◌, Option, Some, None, codes, option_map}
 use Rattle.clap.specs.Words.{Text}
 use Rattle.step_record.specs.declared.limits.TheConstants.{MAX_ACCESSES, MAX_BATCH, MAX_CAPACITY, MAX_JOURNAL_LIMIT}
-use Rattle.step_record.specs.declared.limits.TheConstants.{MAX_MAIN_PERCENT}
+use Rattle.step_record.specs.declared.limits.TheConstants.{MAX_GHOST_PERCENT, MAX_MAIN_PERCENT, MAX_PART_PERCENT}
 use Rattle.step_record.specs.declared.worker.TheConstants.{MAX_WORKERS}
 use Rattle.command_line.specs.declared.options.OptionName.{OptionName}
 use Rattle.command_line.specs.declared.options.OptionName.TheVariants.{Batch, Capacities, Capacity, ComparedEvery}
-use Rattle.command_line.specs.declared.options.OptionName.TheVariants.{Every, First}
+use Rattle.command_line.specs.declared.options.OptionName.TheVariants.{Every, First, In, Out, Small}
 use Rattle.command_line.specs.declared.options.OptionName.TheVariants.{Format, Journal, Limit, Main, Policies, Second}
 use Rattle.command_line.specs.declared.options.OptionName.TheVariants.{Spread, Stripes, SweptPolicies, Trace, Workers}
 use Rattle.command_line.specs.declared.options.OptionRow.{OptionRow}
@@ -36,6 +36,9 @@ abbrev pub row_of : OptionName → OptionDefinition
 row_of Capacity = row (codes "capacity") (kind.Number 1 MAX_CAPACITY) Named None
 row_of Capacities = row (codes "capacities") (kind.Number 1 MAX_CAPACITY) Positional None
 row_of Main = row (codes "main") (kind.Number 0 MAX_MAIN_PERCENT) Named (Some (codes "99"))
+row_of Small = row (codes "small") (kind.Number 1 MAX_PART_PERCENT) Named (Some (codes "10"))
+row_of In = row (codes "in") (kind.Number 1 MAX_PART_PERCENT) Named (Some (codes "25"))
+row_of Out = row (codes "out") (kind.Number 1 MAX_GHOST_PERCENT) Named (Some (codes "50"))
 row_of Spread = row (codes "spread") kind.Spread Named (Some (codes "mixed"))
 row_of Format = row (codes "format") kind.Format Named (Some (codes "lirs"))
 row_of Batch = row (codes "batch") (kind.Number 1 MAX_BATCH) Named (Some (codes "1024"))
@@ -63,12 +66,12 @@ abbrev pub defined_subcommand : Subcommand → SubcommandDefinition
 defined_subcommand given = named given.name.now given.options.now
 
 abbrev pub subcommands : List SubcommandDefinition
-subcommands = named (codes "run") (Capacity ∷ Main ∷ Spread ∷ Format ∷ Batch ∷ Policies ∷ [])
-    ∷ named (codes "sweep") (Main ∷ Spread ∷ Format ∷ SweptPolicies ∷ Capacities ∷ [])
-    ∷ named (codes "intervals") (Capacity ∷ Every ∷ Main ∷ Spread ∷ Format ∷ Policies ∷ [])
-    ∷ named (codes "part") (Capacity ∷ Main ∷ Spread ∷ Format ∷ First ∷ Second ∷ [])
-    ∷ named (codes "compare") (Capacity ∷ ComparedEvery ∷ Main ∷ Spread ∷ Format ∷ First ∷ Second ∷ [])
-    ∷ named (codes "drive") (Capacity ∷ Main ∷ Spread ∷ Format ∷ Workers ∷ Stripes ∷ Limit ∷ [])
-    ∷ named (codes "debug") (Capacity ∷ Main ∷ Spread ∷ Format ∷ First ∷ Second ∷ Trace ∷ [])
-    ∷ named (codes "replay") (Capacity ∷ Main ∷ Spread ∷ Journal ∷ Stripes ∷ Limit ∷ [])
+subcommands = named (codes "run") (Capacity ∷ Main ∷ Small ∷ In ∷ Out ∷ Spread ∷ Format ∷ Batch ∷ Policies ∷ [])
+    ∷ named (codes "sweep") (Main ∷ Small ∷ In ∷ Out ∷ Spread ∷ Format ∷ SweptPolicies ∷ Capacities ∷ [])
+    ∷ named (codes "intervals") (Capacity ∷ Every ∷ Main ∷ Small ∷ In ∷ Out ∷ Spread ∷ Format ∷ Policies ∷ [])
+    ∷ named (codes "part") (Capacity ∷ Main ∷ Small ∷ In ∷ Out ∷ Spread ∷ Format ∷ First ∷ Second ∷ [])
+    ∷ named (codes "compare") (Capacity ∷ ComparedEvery ∷ Main ∷ Small ∷ In ∷ Out ∷ Spread ∷ Format ∷ First ∷ Second ∷ [])
+    ∷ named (codes "drive") (Capacity ∷ Main ∷ Small ∷ In ∷ Out ∷ Spread ∷ Format ∷ Workers ∷ Stripes ∷ Limit ∷ [])
+    ∷ named (codes "debug") (Capacity ∷ Main ∷ Small ∷ In ∷ Out ∷ Spread ∷ Format ∷ First ∷ Second ∷ Trace ∷ [])
+    ∷ named (codes "replay") (Capacity ∷ Main ∷ Small ∷ In ∷ Out ∷ Spread ∷ Journal ∷ Stripes ∷ Limit ∷ [])
     ∷ []

@@ -4,11 +4,12 @@ ghost use Rattle.std.specs.Prelude.{◌≡◌};
 ghost use Rattle.command_line.specs.Options.{defined, row_of};
 
 use OptionName::{
-    Batch, Capacities, Capacity, ComparedEvery, Every, First, Format, Journal, Limit, Main,
-    Policies, Second, Spread, Stripes, SweptPolicies, Trace, Workers,
+    Batch, Capacities, Capacity, ComparedEvery, Every, First, Format, In, Journal, Limit, Main,
+    Out, Policies, Second, Small, Spread, Stripes, SweptPolicies, Trace, Workers,
 };
 use step_record::{
-    MAX_ACCESSES, MAX_BATCH, MAX_CAPACITY, MAX_JOURNAL_LIMIT, MAX_MAIN_PERCENT, MAX_WORKERS,
+    MAX_ACCESSES, MAX_BATCH, MAX_CAPACITY, MAX_GHOST_PERCENT, MAX_JOURNAL_LIMIT, MAX_MAIN_PERCENT,
+    MAX_PART_PERCENT, MAX_WORKERS,
 };
 
 /// A subcommand: its name, the texts of its help, and its options.
@@ -46,6 +47,9 @@ pub enum OptionName {
     Capacity,
     Capacities,
     Main,
+    Small,
+    In,
+    Out,
     Spread,
     Format,
     Batch,
@@ -110,7 +114,9 @@ pub static SUBCOMMANDS: [Subcommand; 8] = [
 The trace comes by a redirection (< FILE) or a pipe. Without one, at a terminal, the program waits
 for you to type the trace, a line each, up to Ctrl-D.",
         example: "Example: cachesim run --capacity 100 lru wtinylfu clairvoyant < trace.lirs",
-        options: &[Capacity, Main, Spread, Format, Batch, Policies],
+        options: &[
+            Capacity, Main, Small, In, Out, Spread, Format, Batch, Policies,
+        ],
     },
     Subcommand {
         name: "sweep",
@@ -118,7 +124,16 @@ for you to type the trace, a line each, up to Ctrl-D.",
         whole: "Runs policies over the trace on standard input and prints a report of each at each capacity.
 The trace comes by a redirection (< FILE) or a pipe.",
         example: "Example: cachesim sweep --policy wtinylfu 50 100 200 400 < trace.lirs",
-        options: &[Main, Spread, Format, SweptPolicies, Capacities],
+        options: &[
+            Main,
+            Small,
+            In,
+            Out,
+            Spread,
+            Format,
+            SweptPolicies,
+            Capacities,
+        ],
     },
     Subcommand {
         name: "intervals",
@@ -127,7 +142,9 @@ The trace comes by a redirection (< FILE) or a pipe.",
 each --every accesses. The caches stay as they are from one interval to the next. The trace comes by a
 redirection (< FILE) or a pipe.",
         example: "Example: cachesim intervals --capacity 100 --every 1000 lru wtinylfu < trace.lirs",
-        options: &[Capacity, Every, Main, Spread, Format, Policies],
+        options: &[
+            Capacity, Every, Main, Small, In, Out, Spread, Format, Policies,
+        ],
     },
     Subcommand {
         name: "part",
@@ -135,7 +152,9 @@ redirection (< FILE) or a pipe.",
         whole: "Prints where two policies diverge: `part P`, P the first access of the trace on standard input, counted
 from 1, at which just one of them hits, or `part none`. The trace comes by a redirection (< FILE) or a pipe.",
         example: "Example: cachesim part --capacity 100 --first lru --second slru < trace.lirs",
-        options: &[Capacity, Main, Spread, Format, First, Second],
+        options: &[
+            Capacity, Main, Small, In, Out, Spread, Format, First, Second,
+        ],
     },
     Subcommand {
         name: "compare",
@@ -144,7 +163,18 @@ from 1, at which just one of them hits, or `part none`. The trace comes by a red
 the second, and neither; with --every M at how many of each M accesses, a row for each. The trace comes by a
 redirection (< FILE) or a pipe.",
         example: "Example: cachesim compare --capacity 100 --first lru --second slru < trace.lirs",
-        options: &[Capacity, ComparedEvery, Main, Spread, Format, First, Second],
+        options: &[
+            Capacity,
+            ComparedEvery,
+            Main,
+            Small,
+            In,
+            Out,
+            Spread,
+            Format,
+            First,
+            Second,
+        ],
     },
     Subcommand {
         name: "drive",
@@ -152,7 +182,9 @@ redirection (< FILE) or a pipe.",
         whole: "Runs the concurrent cache on threads over the trace on standard input and prints its journal, which
 `replay` reads. The trace comes by a redirection (< FILE) or a pipe.",
         example: "Example: cachesim drive --capacity 100 --workers 4 < trace.lirs > run.journal",
-        options: &[Capacity, Main, Spread, Format, Workers, Stripes, Limit],
+        options: &[
+            Capacity, Main, Small, In, Out, Spread, Format, Workers, Stripes, Limit,
+        ],
     },
     Subcommand {
         name: "debug",
@@ -161,7 +193,9 @@ redirection (< FILE) or a pipe.",
 step N, back N, goto N, run, break hit K, break evict K, break halve, break part, clear, show, part, quit.
 Here standard input has the commands, and --trace names the file of the trace.",
         example: "Example: cachesim debug --trace trace.lirs --capacity 100 --first lru --second slru",
-        options: &[Capacity, Main, Spread, Format, First, Second, Trace],
+        options: &[
+            Capacity, Main, Small, In, Out, Spread, Format, First, Second, Trace,
+        ],
     },
     Subcommand {
         name: "replay",
@@ -170,12 +204,14 @@ Here standard input has the commands, and --trace names the file of the trace.",
 line: step N, back N, goto N, run, break hit K, break evict K, break halve, break drop, clear, show, save, quit.
 Give --capacity, --stripes, --main, --spread and --limit as they were given to `drive`.",
         example: "Example: cachesim replay --journal run.journal --capacity 100",
-        options: &[Capacity, Main, Spread, Journal, Stripes, Limit],
+        options: &[
+            Capacity, Main, Small, In, Out, Spread, Journal, Stripes, Limit,
+        ],
     },
 ];
 
 // The options, in the order of their names.
-static OPTIONS: [OptionRow; 17] = [
+static OPTIONS: [OptionRow; 20] = [
     OptionRow {
         id: "capacity",
         value_name: "N",
@@ -199,6 +235,30 @@ static OPTIONS: [OptionRow; 17] = [
         value: ValueKind::Number(0, MAX_MAIN_PERCENT as u32),
         place: Place::Named,
         default: Some("99"),
+    },
+    OptionRow {
+        id: "small",
+        value_name: "P",
+        help: "How much of the capacity of s3-fifo is its small queue, in percent, from 1 to 99",
+        value: ValueKind::Number(1, MAX_PART_PERCENT as u32),
+        place: Place::Named,
+        default: Some("10"),
+    },
+    OptionRow {
+        id: "in",
+        value_name: "P",
+        help: "How much of the capacity of 2q is its queue of new keys, in percent, from 1 to 99",
+        value: ValueKind::Number(1, MAX_PART_PERCENT as u32),
+        place: Place::Named,
+        default: Some("25"),
+    },
+    OptionRow {
+        id: "out",
+        value_name: "P",
+        help: "How many keys that left the ghost of 2q remembers, in percent of the capacity, from 1 to 100",
+        value: ValueKind::Number(1, MAX_GHOST_PERCENT as u32),
+        place: Place::Named,
+        default: Some("50"),
     },
     OptionRow {
         id: "spread",

@@ -1,16 +1,19 @@
 -- What the accesses of single traces come to, by computation.
 use Rattle.std.proofs.Common.{◌≡◌, ◌⊎◌, ℕ, ◌≤◌, List, [], take, count_by, ap, ◌∙◌, sym, refl, subst, arith, inl, inr}
+use Rattle.step_record.specs.declared.limits.TheConstants.{MAX_PART_PERCENT}
+use Rattle.step_record.specs.Job.{part_size}
 use Rattle.step_record.specs.Stats.{is_miss}
 use Rattle.step_record.specs.declared.job.Job.{Job}
 use Rattle.step_record.specs.declared.job.Policy.TheVariants.{Fifo, Clock}
 use Rattle.queue_policies.specs.Residents.{outcomes_of_all}
 use Rattle.queue_policies.specs.Fifo.{fifo_act}
 use Rattle.queue_policies.specs.Clock.{clock_act}
-use Rattle.demand_cache.specs.declared.demand_policy.DemandPolicy.TheVariants as demand
+use Rattle.demand_cache.specs.declared.demand_policy.DemandPolicy.TheVariants as sized
 use Rattle.demand_cache.specs.DemandQueues.{outcomes_of_page}
 use Rattle.demand_cache.specs.Theorems.{RunsByPage}
 use Rattle.policies.specs.AnyPolicy.{demand_run, stats_on}
-use Rattle.policies.specs.Design.{design_of}
+use Rattle.policies.specs.declared.design.DemandDesign.TheVariants as demand
+use Rattle.policies.specs.Design.{demand_policy, design_of}
 use Rattle.policies.specs.Theorems.{FifoStepLaw}
 use Rattle.conservative_laws.specs.Examples.{anomalous_trace, FifoAndClockHaveAnomaly, sieve_trace, SieveIsNotConservative, s3_fifo_trace, S3FifoIsNotConservative}
 use Rattle.conservative_laws.proofs.Jobs.{demand-misses, fifo-misses, clock-misses}
@@ -27,19 +30,24 @@ have_anomaly law page small large is same at_small at_large =
 
 pub sieve_is_not_conservative : RunsByPage → SieveIsNotConservative
 sieve_is_not_conservative page j is at all =
-    let misses : (keys : List ℕ) → (stats_on j keys).misses ≡ count_by is_miss (outcomes_of_page demand.Sieve 2 keys) =
-    λ keys. demand-misses demand.Sieve j keys (ap design_of is) (omega (arith, at)) ∙ ap (λ c. count_by is_miss (demand_run demand.Sieve c keys)) at
-    ∙ ap (count_by is_miss) (page demand.Sieve 2 keys (omega arith)) in
+    let misses : (keys : List ℕ) → (stats_on j keys).misses ≡ count_by is_miss (outcomes_of_page sized.Sieve 2 keys) =
+    λ keys. demand-misses demand.Sieve j keys (ap design_of is) (omega (arith, at)) ∙ ap (λ c. count_by is_miss (demand_run sized.Sieve c keys)) at
+    ∙ ap (count_by is_miss) (page sized.Sieve 2 keys (omega arith)) in
     let before : (stats_on j (take 2 sieve_trace)).misses ≡ 1 = misses (take 2 sieve_trace) in
     let after : (stats_on j (take 5 sieve_trace)).misses ≡ 4 = misses (take 5 sieve_trace) in
     let most = all 2 5 (omega arith) (omega arith) (omega arith) in
     absurd (omega (arith, most, before, after))
 
+-- of two keys a small queue that is not to have all of them has one
+one-key : (percent : ℕ) → percent ≤ MAX_PART_PERCENT → part_size percent 2 ≡ 1
+one-key percent few = omega (arith, few)
+
 pub s3_fifo_is_not_conservative : RunsByPage → S3FifoIsNotConservative
-s3_fifo_is_not_conservative page j is at all =
-    let misses : (keys : List ℕ) → (stats_on j keys).misses ≡ count_by is_miss (outcomes_of_page demand.S3Fifo 2 keys) =
-    λ keys. demand-misses demand.S3Fifo j keys (ap design_of is) (omega (arith, at)) ∙ ap (λ c. count_by is_miss (demand_run demand.S3Fifo c keys)) at
-    ∙ ap (count_by is_miss) (page demand.S3Fifo 2 keys (omega arith)) in
+s3_fifo_is_not_conservative page j is at few all =
+    let one : part_size j.parts.small j.config.capacity ≡ 1 = ap (part_size j.parts.small) at ∙ one-key j.parts.small few in
+    let misses : (keys : List ℕ) → (stats_on j keys).misses ≡ count_by is_miss (outcomes_of_page (sized.S3Fifo 1) 2 keys) =
+    λ keys. demand-misses demand.S3Fifo j keys (ap design_of is) (omega (arith, at)) ∙ ap (λ n. count_by is_miss (demand_run (sized.S3Fifo n) j.config.capacity keys)) one
+    ∙ ap (λ c. count_by is_miss (demand_run (sized.S3Fifo 1) c keys)) at ∙ ap (count_by is_miss) (page (sized.S3Fifo 1) 2 keys (omega arith)) in
     let before : (stats_on j (take 3 s3_fifo_trace)).misses ≡ 1 = misses (take 3 s3_fifo_trace) in
     let after : (stats_on j (take 6 s3_fifo_trace)).misses ≡ 4 = misses (take 6 s3_fifo_trace) in
     let most = all 3 6 (omega arith) (omega arith) (omega arith) in

@@ -12,12 +12,12 @@ use Rattle.queue_policies.specs.Fifo.{fifo_act}
 use Rattle.queue_policies.specs.Clock.{clock_act, IsClock}
 use Rattle.queue_policies.proofs.Fifo.{keeps as fifo-keeps}
 use Rattle.queue_policies.proofs.Clock.{keeps as clock-keeps}
-use Rattle.demand_cache.specs.declared.demand_policy.DemandPolicy.{DemandPolicy}
-use Rattle.demand_cache.specs.declared.demand_policy.DemandPolicy.TheVariants as demand
 use Rattle.demand_cache.specs.Theorems.{DemandKeeps, RunsByPage}
+use Rattle.policies.specs.declared.design.DemandDesign.{DemandDesign}
+use Rattle.policies.specs.declared.design.DemandDesign.TheVariants as demand
 use Rattle.policies.specs.declared.design.Design.TheVariants as design
 use Rattle.policies.specs.AnyPolicy.{demand_run, demand_outcomes, outcomes_by, outcomes_on, stats_on}
-use Rattle.policies.specs.Design.{design_of, has_queues}
+use Rattle.policies.specs.Design.{demand_policy, design_of, has_queues}
 use Rattle.policies.specs.Theorems.{LruStepLaw, FifoStepLaw, AnyCoversTrace}
 use Rattle.policies.proofs.Counting.{count-cons}
 use Rattle.policies.proofs.Demand.{with-room}
@@ -40,27 +40,27 @@ misses-counted : (j : Job) (keys : List ℕ) → (stats_on j keys).misses ≡ co
 unfolding stats_on
 misses-counted j keys = refl
 
-pub demand-misses : (p : DemandPolicy) (j : Job) (keys : List ℕ) → design_of j.policy ≡ design.Demand p → 1 ≤ j.config.capacity → (stats_on j keys).misses ≡ count_by is_miss (demand_run p j.config.capacity keys)
+pub demand-misses : (p : DemandDesign) (j : Job) (keys : List ℕ) → design_of j.policy ≡ design.Demand p → 1 ≤ j.config.capacity → (stats_on j keys).misses ≡ count_by is_miss (demand_run (demand_policy p j) j.config.capacity keys)
 demand-misses p j keys is room =
-    misses-counted j keys ∙ (ap (λ d. count_by is_miss (outcomes_by d j keys)) is ∙ ap (count_by is_miss) (with-room p j.config.capacity keys room))
+    misses-counted j keys ∙ (ap (λ d. count_by is_miss (outcomes_by d j keys)) is ∙ ap (count_by is_miss) (with-room (demand_policy p j) j.config.capacity keys room))
 
 pub fifo-misses : FifoStepLaw → (j : Job) (keys : List ℕ) → j.policy ≡ Fifo → 1 ≤ j.config.capacity → (stats_on j keys).misses ≡ count_by is_miss (outcomes_of_all (fifo_act j.config.capacity) [] keys)
 fifo-misses law j keys is room = misses-counted j keys ∙ ap (count_by is_miss) (law j keys is room).1
 
 pub clock-misses : RunsByPage → (j : Job) (keys : List ℕ) → j.policy ≡ Clock → 1 ≤ j.config.capacity → (stats_on j keys).misses ≡ count_by is_miss (outcomes_of_all (clock_act j.config.capacity) [] keys)
 clock-misses law j keys is room =
-    demand-misses demand.Clock j keys (ap design_of is) room ∙ ap (count_by is_miss) (law demand.Clock j.config.capacity keys room)
+    demand-misses demand.Clock j keys (ap design_of is) room ∙ ap (count_by is_miss) (law (demand_policy demand.Clock j) j.config.capacity keys room)
 
 -- without room each access is a miss
 all-rejected : (keys : List ℕ) → count_by is_miss (map (λ k. Rejected k) keys) ≡ length keys
 all-rejected [] = refl
 all-rejected (k ∷ keys) = let rest = all-rejected keys in omega (arith, rest, count-cons is_miss (Rejected k) (map (λ k. Rejected k) keys))
 
-pub demand-misses-all : (p : DemandPolicy) (j : Job) (keys : List ℕ) → design_of j.policy ≡ design.Demand p → j.config.capacity ≡ 0 → (stats_on j keys).misses ≡ length keys
+pub demand-misses-all : (p : DemandDesign) (j : Job) (keys : List ℕ) → design_of j.policy ≡ design.Demand p → j.config.capacity ≡ 0 → (stats_on j keys).misses ≡ length keys
 demand-misses-all p j keys is none =
     misses-counted j keys
     ∙ (ap (λ d. count_by is_miss (outcomes_by d j keys)) is
-    ∙ (ap (λ c. count_by is_miss (demand_outcomes p c keys)) none ∙ all-rejected keys))
+    ∙ (ap (λ c. count_by is_miss (demand_outcomes (demand_policy p j) c keys)) none ∙ all-rejected keys))
 
 -- ---- as a conservative cache
 

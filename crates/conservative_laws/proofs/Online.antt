@@ -4,12 +4,12 @@ use Rattle.std.proofs.lemmas.Bool.{cases_lt}
 use Rattle.std.proofs.lemmas.List.{length-take-le}
 use Rattle.step_record.specs.declared.job.Job.{Job}
 use Rattle.queue_policies.specs.Residents.{KeepsResidents, state_after_all}
-use Rattle.demand_cache.specs.declared.demand_policy.DemandPolicy.{DemandPolicy}
 use Rattle.demand_cache.specs.DemandQueues.{DemandQueues, empty_cache, queues_act, queues_residents, IsQueues}
 use Rattle.demand_cache.specs.Theorems.{DemandKeeps}
+use Rattle.policies.specs.declared.design.DemandDesign.{DemandDesign}
 use Rattle.policies.specs.declared.design.Design.{Design}
 use Rattle.policies.specs.declared.design.Design.TheVariants as design
-use Rattle.policies.specs.Design.{design_of, is_of_queues, is_optimal}
+use Rattle.policies.specs.Design.{demand_policy, design_of, is_of_queues, is_optimal}
 use Rattle.policies.specs.QueueCache.{residents_in, state_after}
 use Rattle.policies.specs.Theorems.{AnyCoversTrace}
 use Rattle.policies.proofs.Balance.{residents-fit}
@@ -35,13 +35,13 @@ queues-online covers j is = record {
   misses = λ t n l. queue-misses covers j t n is l;
 }
 
-demand-online : DemandKeeps → (p : DemandPolicy) (j : Job) → design_of j.policy ≡ design.Demand p → IsOnline j
+demand-online : DemandKeeps → (p : DemandDesign) (j : Job) → design_of j.policy ≡ design.Demand p → IsOnline j
 demand-online law p j is =
     let c : ℕ = j.config.capacity in
-    let start : DemandQueues = empty_cache p c in
+    let start : DemandQueues = empty_cache (demand_policy p j) c in
     elim (cases_lt 0 c) [
       | inl room ↦
-          let all : KeepsResidents c start queues_act queues_residents (IsQueues c) = law p c room in
+          let all : KeepsResidents c start queues_act queues_residents (IsQueues c) = law (demand_policy p j) c room in
           record {
             held = λ keys. queues_residents (state_after_all queues_act start keys);
             fits = λ keys. (all.holds _ (kept-after c start queues_act queues_residents (IsQueues c) all keys)).fits;

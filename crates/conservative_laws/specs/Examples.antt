@@ -1,7 +1,8 @@
 -- What single traces show: Belady's anomaly, and policies that are not conservative.
-use Rattle.std.specs.Prelude.{◌≡◌, ◌⊎◌, ℕ, List, [], ◌∷◌}
+use Rattle.std.specs.Prelude.{◌≡◌, ◌⊎◌, ℕ, ◌≤◌, List, [], ◌∷◌}
 use Rattle.step_record.specs.declared.job.Job.{Job}
 use Rattle.step_record.specs.declared.job.Policy.TheVariants.{Fifo, Clock, Sieve, S3Fifo}
+use Rattle.step_record.specs.declared.limits.TheConstants.{MAX_PART_PERCENT}
 use Rattle.policies.specs.AnyPolicy.{stats_on}
 use Rattle.conservative_laws.specs.Conservative.{misses_on, IsConservative}
 
@@ -16,7 +17,8 @@ FifoAndClockHaveAnomaly = (small large : Job) → (small.policy ≡ Fifo) ⊎ (s
     → ((stats_on small anomalous_trace).misses ≡ 9) × ((stats_on large anomalous_trace).misses ≡ 10)
 
 -- SIEVE and S3-FIFO are not conservative: the last three accesses are to two keys, and a cache of two keys misses all
--- of them, since a key that was accessed before outlives those that come new.
+-- of them, since a key that was accessed before outlives those that come new. (S3-FIFO where its small queue is not to
+-- have all keys.)
 abbrev pub sieve_trace : List ℕ
 sieve_trace = 1 ∷ 1 ∷ 2 ∷ 3 ∷ 2 ∷ []
 
@@ -28,5 +30,5 @@ abbrev pub s3_fifo_trace : List ℕ
 s3_fifo_trace = 1 ∷ 1 ∷ 1 ∷ 2 ∷ 3 ∷ 2 ∷ []
 
 abbrev pub S3FifoIsNotConservative : Type 0
-S3FifoIsNotConservative = (j : Job) → j.policy ≡ S3Fifo → j.config.capacity ≡ 2
+S3FifoIsNotConservative = (j : Job) → j.policy ≡ S3Fifo → j.config.capacity ≡ 2 → j.parts.small ≤ MAX_PART_PERCENT
     → IsConservative 2 s3_fifo_trace (misses_on j s3_fifo_trace) → ⊥

@@ -20,7 +20,7 @@ use Rattle.queue_policies.specs.Residents.{state_after_all}
 use Rattle.demand_cache.specs.DemandQueues.{empty_cache, queues_act, queues_residents}
 use Rattle.policies.specs.declared.design.Design.{Design}
 use Rattle.policies.specs.declared.design.Design.TheVariants.{KnowsTrace, Queues as OfQueues, Demand as OfDemand}
-use Rattle.policies.specs.Design.{design_of}
+use Rattle.policies.specs.Design.{demand_policy, design_of}
 use Rattle.policies.specs.AnyPolicy.{outcomes_on, HasAccessed}
 use Rattle.policies.specs.QueueCache.{frequency_after, residents_in, state_after}
 
@@ -40,7 +40,7 @@ abbrev pub residents_by : Design → Job → List ℕ → ℕ → List ℕ
 residents_by (OfQueues d) j trace n = residents_in (state_after j (take n trace)).queues
 residents_by KnowsTrace j trace n = belady_residents j.config.capacity trace n
 residents_by (OfDemand p) j trace n =
-    queues_residents (state_after_all queues_act (empty_cache p j.config.capacity) (take n trace))
+    queues_residents (state_after_all queues_act (empty_cache (demand_policy p j) j.config.capacity) (take n trace))
 
 abbrev pub residents_at : Job → List ℕ → ℕ → List ℕ
 residents_at j trace n = residents_by (design_of j.policy) j trace n

@@ -8,6 +8,7 @@ use Rattle.queue_table.specs.declared.records.Entry.{Entry}
 use Rattle.queue_table.specs.Entries.{oldest_of}
 use Rattle.queue_table.specs.Queues.{Queues}
 use Rattle.queue_policies.specs.CountedKeys as counted
+use Rattle.ghost_policies.specs.declared.two_q.TwoQSizes.{TwoQSizes}
 use Rattle.ghost_policies.specs.Arc.{IsArc}
 use Rattle.queue_moves.specs.Moves.{item_of, standing, Leaving, Own, Plan, own_plan, outcome_of, outcome_after, evicted, after_runs, after_first}
 use Rattle.queue_moves.specs.Undoing.{record_of, left_of, outs, MovesAsk}
@@ -62,13 +63,13 @@ resident-alone : (at : Option (ℕ × ℕ)) (room : Bool) (hit join : Own) (x : 
 resident-alone (Some a) room hit join x full f = own-alone true hit x
 resident-alone None room hit join x full f = either room (own_plan false join x) full (own-alone false join x) (never full f)
 
-s3-fifo-alone : (at : Option (ℕ × ℕ)) (c x : ℕ) (s : Queues) → OwnAlone (s3_fifo.plan_at c x at s)
-s3-fifo-alone None c x s = never _ refl
-s3-fifo-alone (Some p) c x s = either (s3_fifo.is_resident p.0) _ _ (own-alone true _ x) (never _ refl)
+s3-fifo-alone : (at : Option (ℕ × ℕ)) (part c x : ℕ) (s : Queues) → OwnAlone (s3_fifo.plan_at part c x at s)
+s3-fifo-alone None part c x s = never _ refl
+s3-fifo-alone (Some p) part c x s = either (s3_fifo.is_resident p.0) _ _ (own-alone true _ x) (never _ refl)
 
-two-q-alone : (at : Option (ℕ × ℕ)) (c x : ℕ) (s : Queues) → OwnAlone (two_q.plan_at c x at s)
-two-q-alone None c x s = never _ refl
-two-q-alone (Some p) c x s = either (p.0 == two_q.AM) _ _ (own-alone true _ x) (either (p.0 == two_q.A1IN) _ _ (own-alone true _ x) (never _ refl))
+two-q-alone : (at : Option (ℕ × ℕ)) (z : TwoQSizes) (c x : ℕ) (s : Queues) → OwnAlone (two_q.plan_at z c x at s)
+two-q-alone None z c x s = never _ refl
+two-q-alone (Some p) z c x s = either (p.0 == two_q.AM) _ _ (own-alone true _ x) (either (p.0 == two_q.A1IN) _ _ (own-alone true _ x) (never _ refl))
 
 arc-alone : (at : Option (ℕ × ℕ)) (c x : ℕ) (s : Queues) → OwnAlone (arc.plan_at c x at s)
 arc-alone None c x s = never _ refl
@@ -79,8 +80,8 @@ arc-alone (Some p) c x s =
 alone : (p : DemandPolicy) (c k x : ℕ) (s : Queues) → OwnAlone (plan_by p c k x s)
 alone Clock c k x s = resident-alone (standing (item_of k) s) _ _ _ x _ refl
 alone Sieve c k x s = resident-alone (standing (item_of k) s) _ _ _ x _ refl
-alone S3Fifo c k x s = s3-fifo-alone (standing (item_of k) s) c x s
-alone TwoQ c k x s = two-q-alone (standing (item_of k) s) c x s
+alone (S3Fifo part) c k x s = s3-fifo-alone (standing (item_of k) s) part c x s
+alone (TwoQ z) c k x s = two-q-alone (standing (item_of k) s) z c x s
 alone Arc c k x s = arc-alone (standing (item_of k) s) c x s
 
 -- ---- undoing a hit
@@ -148,40 +149,40 @@ miss-full F l o x (inl n) = inl (record { first = n.0; second = n.1 })
 miss-full F l o x (inr f) = inr f
 
 module _ (c x : ℕ) (s : Queues) where
-  abbrev S3Full : Type 0
-  S3Full = nat_lt (length (residents_by S3Fifo x s)) c ≡ false
+  abbrev S3Full : ℕ → Type 0
+  S3Full part = nat_lt (length (residents_by (S3Fifo part) x s)) c ≡ false
 
-  s3-room : (r : Bool) → ((s3_fifo.room_plan c r s).first ≡ None) × ((s3_fifo.room_plan c r s).second ≡ None) ⊎ S3Full
-  s3-room r =
+  s3-room : (part : ℕ) (r : Bool) → ((s3_fifo.room_plan part c r s).first ≡ None) × ((s3_fifo.room_plan part c r s).second ≡ None) ⊎ S3Full part
+  s3-room part r =
       elim (cases_Bool (nat_lt (length (s s3_fifo.SMALL) + length (s s3_fifo.MAIN)) c)) [
         | inl e ↦ inl (rw e (refl, refl))
         | inr e ↦ inr (not-less _ _ c (both-length (s s3_fifo.SMALL) (s s3_fifo.MAIN)) e)
       ]
 
-  s3-miss : (r : Bool) → LeavesFull S3Full (s3_fifo.s3_fifo_miss c r x s)
-  s3-miss r =
-      elim (s3-room r) [
+  s3-miss : (part : ℕ) (r : Bool) → LeavesFull (S3Full part) (s3_fifo.s3_fifo_miss part c r x s)
+  s3-miss part r =
+      elim (s3-room part r) [
         | inl n ↦ inl (record { first = n.0; second = n.1 })
         | inr f ↦ inr f
       ]
 
-  s3-full : (at : Option (ℕ × ℕ)) → LeavesFull S3Full (s3_fifo.plan_at c x at s)
-  s3-full None = s3-miss false
-  s3-full (Some p) = one-of S3Full (s3_fifo.is_resident p.0) _ _ (λ e. own-none S3Full true _ x) (λ e. s3-miss _)
+  s3-full : (part : ℕ) (at : Option (ℕ × ℕ)) → LeavesFull (S3Full part) (s3_fifo.plan_at part c x at s)
+  s3-full part None = s3-miss part false
+  s3-full part (Some p) = one-of (S3Full part) (s3_fifo.is_resident p.0) _ _ (λ e. own-none (S3Full part) true _ x) (λ e. s3-miss part _)
 
-  abbrev TwoQFull : Type 0
-  TwoQFull = nat_lt (length (residents_by TwoQ x s)) c ≡ false
+  abbrev TwoQFull : TwoQSizes → Type 0
+  TwoQFull z = nat_lt (length (residents_by (TwoQ z) x s)) c ≡ false
 
-  two-q-miss : (r : Bool) → LeavesFull TwoQFull (two_q.two_q_miss c r x s)
-  two-q-miss r =
-      miss-full TwoQFull (two_q.two_q_leavers c r s) _ x (elim (cases_Bool (nat_lt (length (s two_q.A1IN) + length (s two_q.AM)) c)) [
+  two-q-miss : (z : TwoQSizes) (r : Bool) → LeavesFull (TwoQFull z) (two_q.two_q_miss z c r x s)
+  two-q-miss z r =
+      miss-full (TwoQFull z) (two_q.two_q_leavers z c r s) _ x (elim (cases_Bool (nat_lt (length (s two_q.A1IN) + length (s two_q.AM)) c)) [
         | inl e ↦ inl (rw e (refl, refl))
         | inr e ↦ inr (not-less _ _ c (keys-length (s two_q.A1IN) (s two_q.AM)) e)
       ])
 
-  two-q-full : (at : Option (ℕ × ℕ)) → LeavesFull TwoQFull (two_q.plan_at c x at s)
-  two-q-full None = two-q-miss false
-  two-q-full (Some p) = one-of TwoQFull (p.0 == two_q.AM) _ _ (λ e. own-none TwoQFull true _ x) (λ e. one-of TwoQFull (p.0 == two_q.A1IN) _ _ (λ f. own-none TwoQFull true _ x) (λ f. two-q-miss _))
+  two-q-full : (z : TwoQSizes) (at : Option (ℕ × ℕ)) → LeavesFull (TwoQFull z) (two_q.plan_at z c x at s)
+  two-q-full z None = two-q-miss z false
+  two-q-full z (Some p) = one-of (TwoQFull z) (p.0 == two_q.AM) _ _ (λ e. own-none (TwoQFull z) true _ x) (λ e. one-of (TwoQFull z) (p.0 == two_q.A1IN) _ _ (λ f. own-none (TwoQFull z) true _ x) (λ f. two-q-miss z _))
 
   -- ARC: a ghost has a key only where the cache is full
   module _ (i : IsArc c (arc.arc_of x s)) where
@@ -245,8 +246,8 @@ full Sieve c k x s t i =
     both-sizes zero w = omega arith
     both-sizes (suc zero) w = omega arith
     both-sizes (suc (suc x)) w = absurd (omega (arith, w))
-full S3Fifo c k x s t i = s3-full c x s (standing (item_of k) s)
-full TwoQ c k x s t i = two-q-full c x s (standing (item_of k) s)
+full (S3Fifo part) c k x s t i = s3-full c x s part (standing (item_of k) s)
+full (TwoQ z) c k x s t i = two-q-full c x s z (standing (item_of k) s)
 full Arc c k x s t i = arc-full c x s i t k (standing (item_of k) s) refl
 
 -- ---- undoing an access

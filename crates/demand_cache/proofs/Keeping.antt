@@ -97,19 +97,19 @@ kept all Sieve c k x s h t i =
       low = q.0.0.low;
       hits = q.0.0.hits;
     }
-kept all S3Fifo c k x s h t i =
-    let q = all.s3_fifo_planned c k x s h t i in
+kept all (S3Fifo part) c k x s h t i =
+    let q = all.s3_fifo_planned part c k x s h t i in
     record {
-      state = subst (IsS3Fifo c) (sym q.state) ((all.s3_fifo c h).keeps k (s3_fifo_of s) i);
-      access = moved c k s _ (λ y. s3_fifo_of) (s3_fifo_of s) (s3_fifo_act c k (s3_fifo_of s)) s3_fifo_residents _ q ((all.s3_fifo c h).accesses k (s3_fifo_of s) i);
+      state = subst (IsS3Fifo part c) (sym q.state) ((all.s3_fifo part c h).keeps k (s3_fifo_of s) i);
+      access = moved c k s _ (λ y. s3_fifo_of) (s3_fifo_of s) (s3_fifo_act part c k (s3_fifo_of s)) s3_fifo_residents _ q ((all.s3_fifo part c h).accesses k (s3_fifo_of s) i);
       low = q.low;
       hits = q.hits;
     }
-kept all TwoQ c k x s h t i =
-    let q = all.two_q_planned c k x s h t i in
+kept all (TwoQ z) c k x s h t i =
+    let q = all.two_q_planned z c k x s h t i in
     record {
-      state = subst (IsTwoQ c) (sym q.state) ((all.two_q c h).keeps k (two_q_of s) i);
-      access = moved c k s _ (λ y. two_q_of) (two_q_of s) (two_q_act c k (two_q_of s)) two_q_residents _ q ((all.two_q c h).accesses k (two_q_of s) i);
+      state = subst (IsTwoQ z c) (sym q.state) ((all.two_q z c h).keeps k (two_q_of s) i);
+      access = moved c k s _ (λ y. two_q_of) (two_q_of s) (two_q_act z c k (two_q_of s)) two_q_residents _ q ((all.two_q z c h).accesses k (two_q_of s) i);
       low = q.low;
       hits = q.hits;
     }
@@ -155,15 +155,15 @@ next-accesses all c h k d i =
 holds-by : AllKeep → (p : DemandPolicy) (c x : ℕ) (s : Queues) → 1 ≤ c → IsStateOf p c x s → AreResidents c (residents_by p x s)
 holds-by all Clock c x s h i = (all.clock c h).holds (clock_of s) i.1
 holds-by all Sieve c x s h i = (all.sieve c h).holds (sieve_of x s) i.1.1
-holds-by all S3Fifo c x s h i = (all.s3_fifo c h).holds (s3_fifo_of s) i
-holds-by all TwoQ c x s h i = (all.two_q c h).holds (two_q_of s) i
+holds-by all (S3Fifo part) c x s h i = (all.s3_fifo part c h).holds (s3_fifo_of s) i
+holds-by all (TwoQ z) c x s h i = (all.two_q z c h).holds (two_q_of s) i
 holds-by all Arc c x s h i = (all.arc c h).holds (arc_of x s) i
 
 starts-by : AllKeep → (p : DemandPolicy) (c : ℕ) → 1 ≤ c → IsStateOf p c 0 empty_queues × (residents_by p 0 empty_queues ≡ [])
 starts-by all Clock c h = ((λ q w. refl, (all.clock c h).starts.0), (all.clock c h).starts.1)
 starts-by all Sieve c h = ((λ q w. refl, (omega arith, (all.sieve c h).starts.0)), (all.sieve c h).starts.1)
-starts-by all S3Fifo c h = (all.s3_fifo c h).starts
-starts-by all TwoQ c h = (all.two_q c h).starts
+starts-by all (S3Fifo part) c h = (all.s3_fifo part c h).starts
+starts-by all (TwoQ z) c h = (all.two_q z c h).starts
 starts-by all Arc c h = (all.arc c h).starts
 
 empty-tabled : IsTabled empty_queues
@@ -202,8 +202,8 @@ runs-by-page all p c keys h = by_policy p
     by_policy : (p : DemandPolicy) → outcomes_of_all queues_act (empty_cache p c) keys ≡ outcomes_of_page p c keys
     by_policy Clock = simulated all Clock c h (λ y. clock_of) (clock_act c) _ (λ k x s t i. (all.clock_planned c k x s h t i.0 i.1).0) keys 0 (lists_of empty_queues) (started all Clock c h)
     by_policy Sieve = simulated all Sieve c h sieve_of (sieve_act c) _ (λ k x s t i. (all.sieve_planned c k x s h t i.0 i.1.0 i.1.1).0.0) keys 0 (lists_of empty_queues) (started all Sieve c h)
-    by_policy S3Fifo = simulated all S3Fifo c h (λ y. s3_fifo_of) (s3_fifo_act c) _ (λ k x s t i. all.s3_fifo_planned c k x s h t i) keys 0 (lists_of empty_queues) (started all S3Fifo c h)
-    by_policy TwoQ = simulated all TwoQ c h (λ y. two_q_of) (two_q_act c) _ (λ k x s t i. all.two_q_planned c k x s h t i) keys 0 (lists_of empty_queues) (started all TwoQ c h)
+    by_policy (S3Fifo part) = simulated all (S3Fifo part) c h (λ y. s3_fifo_of) (s3_fifo_act part c) _ (λ k x s t i. all.s3_fifo_planned part c k x s h t i) keys 0 (lists_of empty_queues) (started all (S3Fifo part) c h)
+    by_policy (TwoQ z) = simulated all (TwoQ z) c h (λ y. two_q_of) (two_q_act z c) _ (λ k x s t i. all.two_q_planned z c k x s h t i) keys 0 (lists_of empty_queues) (started all (TwoQ z) c h)
     by_policy Arc = simulated all Arc c h arc_of (arc_act c) _ (λ k x s t i. all.arc_planned c k x s h t i) keys 0 (lists_of empty_queues) (started all Arc c h)
 
 -- as an equation of any run

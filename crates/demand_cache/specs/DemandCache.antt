@@ -8,7 +8,6 @@ use Rattle.step_record.specs.Stats.{stats_with, stats_without, IsCounted}
 use Rattle.step_record.specs.declared.item.Item.{Item}
 use Rattle.queue_table.specs.Queues.{Queues}
 use Rattle.queue_moves.specs.declared.records.Moves.{Moves}
-use Rattle.queue_moves.specs.declared.records.Accessed.{Accessed}
 use Rattle.queue_moves.specs.Moves.{Plan}
 use Rattle.queue_moves.specs.Undoing.{IsAccessed}
 use Rattle.queue_moves.specs.Lists.{QueueLists}

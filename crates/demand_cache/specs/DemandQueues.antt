@@ -44,32 +44,32 @@ empty_cache p c = record { policy = p; capacity = c; scalar = 0; lists = lists_o
 abbrev pub plan_by : DemandPolicy → ℕ → ℕ → ℕ → Queues → Plan
 plan_by Clock c k x s = clock_plan c k x s
 plan_by Sieve c k x s = sieve_plan c k x s
-plan_by S3Fifo c k x s = s3_fifo_plan c k x s
-plan_by TwoQ c k x s = two_q_plan c k x s
+plan_by (S3Fifo part) c k x s = s3_fifo_plan part c k x s
+plan_by (TwoQ z) c k x s = two_q_plan z c k x s
 plan_by Arc c k x s = arc_plan c k x s
 
 -- the keys that are cached, queue by queue, oldest first
 abbrev pub residents_by : DemandPolicy → ℕ → Queues → List ℕ
 residents_by Clock x s = keys_of (clock_of s)
 residents_by Sieve x s = sieve_residents (sieve_of x s)
-residents_by S3Fifo x s = s3_fifo_residents (s3_fifo_of s)
-residents_by TwoQ x s = two_q_residents (two_q_of s)
+residents_by (S3Fifo part) x s = s3_fifo_residents (s3_fifo_of s)
+residents_by (TwoQ z) x s = two_q_residents (two_q_of s)
 residents_by Arc x s = arc_residents (arc_of x s)
 
 -- a state of a cache of capacity c, by the policy's definition
 abbrev pub IsStateOf : DemandPolicy → ℕ → ℕ → Queues → Type 0
 IsStateOf Clock c x s = IsWithin 1 s × IsClock c (clock_of s)
 IsStateOf Sieve c x s = IsWithin 2 s × ((x ≤ 1) × IsSieve c (sieve_of x s))
-IsStateOf S3Fifo c x s = IsS3Fifo c (s3_fifo_of s)
-IsStateOf TwoQ c x s = IsTwoQ c (two_q_of s)
+IsStateOf (S3Fifo part) c x s = IsS3Fifo part c (s3_fifo_of s)
+IsStateOf (TwoQ z) c x s = IsTwoQ z c (two_q_of s)
 IsStateOf Arc c x s = IsArc c (arc_of x s)
 
 -- the outcomes of accesses to the keys from an empty cache on, by the policy's definition
 abbrev pub outcomes_of_page : DemandPolicy → ℕ → List ℕ → List Outcome
 outcomes_of_page Clock c keys = outcomes_of_all (clock_act c) [] keys
 outcomes_of_page Sieve c keys = outcomes_of_all (sieve_act c) empty_sieve keys
-outcomes_of_page S3Fifo c keys = outcomes_of_all (s3_fifo_act c) empty_s3_fifo keys
-outcomes_of_page TwoQ c keys = outcomes_of_all (two_q_act c) empty_two_q keys
+outcomes_of_page (S3Fifo part) c keys = outcomes_of_all (s3_fifo_act part c) empty_s3_fifo keys
+outcomes_of_page (TwoQ z) c keys = outcomes_of_all (two_q_act z c) empty_two_q keys
 outcomes_of_page Arc c keys = outcomes_of_all (arc_act c) empty_arc keys
 
 -- ---- all policies

@@ -144,8 +144,8 @@ impl DemandCache {
                 let ahead = self.scalar as u8;
                 add_both(&self.queues, 1 - ahead, ahead, keys)
             }
-            DemandPolicy::S3Fifo => add_both(&self.queues, 0, 1, keys),
-            DemandPolicy::TwoQ => add_both(&self.queues, 0, 2, keys),
+            DemandPolicy::S3Fifo(_) => add_both(&self.queues, 0, 1, keys),
+            DemandPolicy::TwoQ(_) => add_both(&self.queues, 0, 2, keys),
             DemandPolicy::Arc => add_both(&self.queues, 0, 1, keys),
         }
     }
@@ -280,7 +280,7 @@ fn keys_in(policy: DemandPolicy, capacity: u32) -> u32
 {
     match policy {
         DemandPolicy::Clock | DemandPolicy::Sieve => capacity,
-        DemandPolicy::S3Fifo | DemandPolicy::TwoQ | DemandPolicy::Arc => 2 * capacity,
+        DemandPolicy::S3Fifo(_) | DemandPolicy::TwoQ(_) | DemandPolicy::Arc => 2 * capacity,
     }
 }
 
@@ -311,11 +311,15 @@ fn count_out(
             Ok(done) => Ok(without_record(done)),
             Err(fault) => Err(fault),
         },
-        DemandPolicy::S3Fifo => match s3_fifo::step::<Counted>(queues, capacity, scalar, key) {
+        DemandPolicy::S3Fifo(part) => match s3_fifo::step::<Counted>(
+            queues, part, capacity, scalar, key,
+        ) {
             Ok(done) => Ok(without_record(done)),
             Err(fault) => Err(fault),
         },
-        DemandPolicy::TwoQ => match two_q::step::<Counted>(queues, capacity, scalar, key) {
+        DemandPolicy::TwoQ(sizes) => match two_q::step::<Counted>(
+            queues, sizes, capacity, scalar, key,
+        ) {
             Ok(done) => Ok(without_record(done)),
             Err(fault) => Err(fault),
         },
@@ -346,8 +350,12 @@ fn carry_out(
     match policy {
         DemandPolicy::Clock => clock::step::<DemandRecord>(queues, capacity, scalar, key),
         DemandPolicy::Sieve => sieve::step::<DemandRecord>(queues, capacity, scalar, key),
-        DemandPolicy::S3Fifo => s3_fifo::step::<DemandRecord>(queues, capacity, scalar, key),
-        DemandPolicy::TwoQ => two_q::step::<DemandRecord>(queues, capacity, scalar, key),
+        DemandPolicy::S3Fifo(part) => s3_fifo::step::<DemandRecord>(
+            queues, part, capacity, scalar, key,
+        ),
+        DemandPolicy::TwoQ(sizes) => two_q::step::<DemandRecord>(
+            queues, sizes, capacity, scalar, key,
+        ),
         DemandPolicy::Arc => arc::step::<DemandRecord>(queues, capacity, scalar, key),
     }
 }

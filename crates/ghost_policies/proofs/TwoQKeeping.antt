@@ -4,7 +4,8 @@ use Rattle.std.proofs.lemmas.Bool.{cases_Bool, ltb-true, ltb-false, eqb-true, eq
 use Rattle.step_record.specs.Keys.{has_key, keys_without}
 use Rattle.step_record.specs.Stats.{is_hit, is_eviction, is_rejection, one_if}
 use Rattle.queue_policies.specs.Residents.{times, keys_evicted, IsAccess, AreResidents}
-use Rattle.ghost_policies.specs.TwoQ.{TwoQState, empty_two_q, two_q_residents, kin, kout, leaver_of_a1in, leaver_of_am, two_q_leaver, two_q_after_recall, two_q_after_eviction, two_q_after_join, two_q_after_miss, two_q_outcome, two_q_act, two_q_after_renewal, IsTwoQ}
+use Rattle.ghost_policies.specs.TwoQ.{TwoQState, empty_two_q, two_q_residents, leaver_of_a1in, leaver_of_am, two_q_leaver, two_q_after_recall, two_q_after_eviction, two_q_after_join, two_q_after_miss, two_q_outcome, two_q_act, two_q_after_renewal, IsTwoQ}
+use Rattle.ghost_policies.specs.declared.two_q.TwoQSizes.{TwoQSizes}
 use Rattle.ghost_policies.specs.declared.two_q.TwoQLeaver.TheVariants.{FromA1in, FromAm, NoLeaver}
 use Rattle.ghost_policies.specs.declared.two_q.TwoQLeaver.{TwoQLeaver}
 use Rattle.ghost_policies.specs.Theorems.{TwoQKeeps, TwoQCounts}
@@ -29,11 +30,11 @@ leaves-am : (a1in am : List ℕ) → Leaves (leaver_of_am am) a1in am
 leaves-am a1in [] = tt
 leaves-am a1in (v ∷ am) = refl
 
-pub leaves : (c : ℕ) (s : TwoQState) → Leaves (two_q_leaver c s) s.a1in s.am
-leaves c s =
+pub leaves : (z : TwoQSizes) (c : ℕ) (s : TwoQState) → Leaves (two_q_leaver z c s) s.a1in s.am
+leaves z c s =
     elim (cases_Bool (nat_lt (length (two_q_residents s)) c)) [
       | inl e ↦ rw e tt
-      | inr e ↦ rw e (elim (cases_Bool (nat_lt (kin c) (length s.a1in) || eqb (length s.am) 0)) [
+      | inr e ↦ rw e (elim (cases_Bool (nat_lt z.kin (length s.a1in) || eqb (length s.am) 0)) [
         | inl f ↦ rw f (leaves-a1in s.a1in s.am)
         | inr f ↦ rw f (leaves-am s.a1in s.am)
       ])
@@ -57,12 +58,12 @@ pub record Leaving (f : ℕ → ℕ) (v : TwoQLeaver) (old new : TwoQState) : Ty
   pub am : weight f new.am + weight f (out_of_am v) ≡ weight f old.am
   pub a1out : weight f new.a1out ≤ weight f old.a1out + weight f (out_of_a1in v)
 
-pub leaving : (f : ℕ → ℕ) (c : ℕ) (v : TwoQLeaver) (s : TwoQState) → Leaves v s.a1in s.am → Leaving f v s (two_q_after_eviction c v s)
-leaving f c NoLeaver s o = record { a1in = omega arith; am = omega arith; a1out = omega arith }
-leaving f c (FromA1in v) s o =
+pub leaving : (f : ℕ → ℕ) (z : TwoQSizes) (v : TwoQLeaver) (s : TwoQState) → Leaves v s.a1in s.am → Leaving f v s (two_q_after_eviction z v s)
+leaving f z NoLeaver s o = record { a1in = omega arith; am = omega arith; a1out = omega arith }
+leaving f z (FromA1in v) s o =
     let all = ap (weight f) o in
-    record { a1in = omega (arith, all); am = omega arith; a1out = omega (arith, weight-ghost f (kout c) v s.a1out) }
-leaving f c (FromAm v) s o = let all = ap (weight f) o in record { a1in = omega arith; am = omega (arith, all); a1out = omega arith }
+    record { a1in = omega (arith, all); am = omega arith; a1out = omega (arith, weight-ghost f z.kout v s.a1out) }
+leaving f z (FromAm v) s o = let all = ap (weight f) o in record { a1in = omega arith; am = omega (arith, all); a1out = omega arith }
 
 abbrev pub if_known : GhostPlace → ℕ → ℕ
 if_known Unknown n = 0
@@ -93,16 +94,16 @@ recalling f k ghost d =
     ]
 
 -- each queue weighs what it weighed, and what came, less what left
-record Moves (f : ℕ → ℕ) (c k : ℕ) (s : TwoQState) : Type 0 where
-  a1in : weight f (two_q_after_miss c k s).a1in + weight f (out_of_a1in (two_q_leaver c s)) ≡ weight f s.a1in + if_unknown (ghost_place_of k s.a1out) (f k)
-  am : weight f (two_q_after_miss c k s).am + weight f (out_of_am (two_q_leaver c s)) ≡ weight f s.am + if_known (ghost_place_of k s.a1out) (f k)
-  a1out : weight f (two_q_after_miss c k s).a1out + if_known (ghost_place_of k s.a1out) (f k) ≤ weight f s.a1out + weight f (out_of_a1in (two_q_leaver c s))
+record Moves (f : ℕ → ℕ) (z : TwoQSizes) (c k : ℕ) (s : TwoQState) : Type 0 where
+  a1in : weight f (two_q_after_miss z c k s).a1in + weight f (out_of_a1in (two_q_leaver z c s)) ≡ weight f s.a1in + if_unknown (ghost_place_of k s.a1out) (f k)
+  am : weight f (two_q_after_miss z c k s).am + weight f (out_of_am (two_q_leaver z c s)) ≡ weight f s.am + if_known (ghost_place_of k s.a1out) (f k)
+  a1out : weight f (two_q_after_miss z c k s).a1out + if_known (ghost_place_of k s.a1out) (f k) ≤ weight f s.a1out + weight f (out_of_a1in (two_q_leaver z c s))
 
-moves : (f : ℕ → ℕ) (c k : ℕ) (s : TwoQState) → times k s.a1out ≤ 1 → Moves f c k s
-moves f c k s d =
+moves : (f : ℕ → ℕ) (z : TwoQSizes) (c k : ℕ) (s : TwoQState) → times k s.a1out ≤ 1 → Moves f z c k s
+moves f z c k s d =
     let recalled : TwoQState = two_q_after_recall k s in
-    let l = leaving f c (two_q_leaver c s) recalled (leaves c s) in
-    let j = joining f k (ghost_place_of k s.a1out) (two_q_after_eviction c (two_q_leaver c s) recalled) in
+    let l = leaving f z (two_q_leaver z c s) recalled (leaves z c s) in
+    let j = joining f k (ghost_place_of k s.a1out) (two_q_after_eviction z (two_q_leaver z c s) recalled) in
     let out = recalling f k s.a1out d in
     let ghost = ap (weight f) j.a1out in
     record { a1in = omega (arith, l.a1in, j.a1in); am = omega (arith, l.am, j.am); a1out = omega (arith, l.a1out, ghost, out) }
@@ -118,15 +119,15 @@ am-evicts [] h = absurd (omega (arith, h))
 am-evicts (v ∷ l) h = refl
 
 -- a key leaves exactly where the cache is full
-evicts : (c : ℕ) (s : TwoQState) → 1 ≤ c → is_eviction (two_q_outcome (two_q_leaver c s)) ≡ cond (nat_lt (length (two_q_residents s)) c) false true
-evicts c s h =
-    elim (cases_Bool (nat_lt (length (two_q_residents s)) c)) as (λ _. is_eviction (two_q_outcome (two_q_leaver c s)) ≡ cond (nat_lt (length (two_q_residents s)) c) false true) [
+evicts : (z : TwoQSizes) (c : ℕ) (s : TwoQState) → 1 ≤ c → is_eviction (two_q_outcome (two_q_leaver z c s)) ≡ cond (nat_lt (length (two_q_residents s)) c) false true
+evicts z c s h =
+    elim (cases_Bool (nat_lt (length (two_q_residents s)) c)) as (λ _. is_eviction (two_q_outcome (two_q_leaver z c s)) ≡ cond (nat_lt (length (two_q_residents s)) c) false true) [
       | inl e ↦ rw e refl
       | inr e ↦
           let full : c ≤ length (two_q_residents s) = ltb-false (length (two_q_residents s)) c e in
           let sum : length (two_q_residents s) ≡ length s.a1in + length s.am = length-append s.a1in s.am in
-          rw e (elim (cases_Bool (nat_lt (kin c) (length s.a1in))) [
-            | inl f ↦ let many : kin c < length s.a1in = ltb-true (kin c) (length s.a1in) f in rw f (in-evicts s.a1in (omega (arith, many)))
+          rw e (elim (cases_Bool (nat_lt z.kin (length s.a1in))) [
+            | inl f ↦ let many : z.kin < length s.a1in = ltb-true z.kin (length s.a1in) f in rw f (in-evicts s.a1in (omega (arith, many)))
             | inr f ↦ rw f (elim (cases_Bool (eqb (length s.am) 0)) [
               | inl g ↦ let none : length s.am ≡ 0 = eqb-true (length s.am) 0 g in rw g (in-evicts s.a1in (omega (arith, full, sum, none)))
               | inr g ↦ let some : length s.am ≡ 0 → ⊥ = eqb-false (length s.am) 0 g in rw g (am-evicts s.am (omega (arith, some)))
@@ -152,39 +153,39 @@ left-weight f (FromAm v) = omega arith
 in-either : (k : ℕ) (l m : List ℕ) → has_key k m ≡ true → has_key k (l ++ m) ≡ true
 in-either k l m h = has-append k l m ∙ (elim (cases_Bool (has_key k l)) as (λ _. cond (has_key k l) true (has_key k m) ≡ true) [ inl f ↦ rw f refl | inr f ↦ rw f h ])
 
-access : (c k : ℕ) (s : TwoQState) → 1 ≤ c → IsTwoQ c s → IsAccess c k (two_q_residents s) (two_q_act c k s).0 (two_q_residents (two_q_act c k s).1)
-access c k s h i =
-    elim (cases_Bool (has_key k s.am)) as (λ _. IsAccess c k (two_q_residents s) (two_q_act c k s).0 (two_q_residents (two_q_act c k s).1)) [
+access : (z : TwoQSizes) (c k : ℕ) (s : TwoQState) → 1 ≤ c → IsTwoQ z c s → IsAccess c k (two_q_residents s) (two_q_act z c k s).0 (two_q_residents (two_q_act z c k s).1)
+access z c k s h i =
+    elim (cases_Bool (has_key k s.am)) as (λ _. IsAccess c k (two_q_residents s) (two_q_act z c k s).0 (two_q_residents (two_q_act z c k s).1)) [
       | inl e ↦ rw e (hit-moves c k (two_q_residents s) (two_q_residents (two_q_after_renewal k s)) (in-either k s.a1in s.am e) (λ f. omega (arith, weight-renewed f k s.am (omega (arith, i.distinct k)) e, weight-append f)))
       | inr e ↦ rw e (elim (cases_Bool (has_key k s.a1in)) [
         | inl g ↦ rw g (hit-moves c k (two_q_residents s) (two_q_residents s) (has-append k s.a1in s.am ∙ rw g refl) (λ f. refl))
         | inr g ↦
-            let v : TwoQLeaver = two_q_leaver c s in
-            rw g (miss-moves c k (two_q_residents s) (two_q_residents (two_q_after_miss c k s)) (two_q_outcome v) (has-append k s.a1in s.am ∙ rw (g, e) refl) (no-hit v) (no-rejection v) (evicts c s h) (λ f.
-            let m = moves f c k s (omega (arith, i.distinct k)) in
+            let v : TwoQLeaver = two_q_leaver z c s in
+            rw g (miss-moves c k (two_q_residents s) (two_q_residents (two_q_after_miss z c k s)) (two_q_outcome v) (has-append k s.a1in s.am ∙ rw (g, e) refl) (no-hit v) (no-rejection v) (evicts z c s h) (λ f.
+            let m = moves f z c k s (omega (arith, i.distinct k)) in
             omega (arith, m.a1in, m.am, left-weight f v, one-of (ghost_place_of k s.a1out) (f k), weight-append f)))
       ])
     ]
 
 -- ---- what an access keeps
 
-holds : (c : ℕ) (s : TwoQState) → IsTwoQ c s → AreResidents c (two_q_residents s)
-holds c s i = record {
+holds : (z : TwoQSizes) (c : ℕ) (s : TwoQState) → IsTwoQ z c s → AreResidents c (two_q_residents s)
+holds z c s i = record {
   fits = omega (arith, i.fits, length-append s.a1in s.am);
   distinct = λ x. omega (arith, i.distinct x, times-append x s.a1in s.am);
 }
 
 -- a1out keeps its size
-few : (c k : ℕ) (v : TwoQLeaver) (s : TwoQState) → length s.a1out ≤ kout c → length (two_q_after_eviction c v (two_q_after_recall k s)).a1out ≤ kout c
-few c k NoLeaver s h = omega (arith, h, without-length k s.a1out)
-few c k (FromA1in v) s h = with-fits (kout c) v (keys_without k s.a1out) (omega (arith, h, without-length k s.a1out))
-few c k (FromAm v) s h = omega (arith, h, without-length k s.a1out)
+few : (z : TwoQSizes) (k : ℕ) (v : TwoQLeaver) (s : TwoQState) → length s.a1out ≤ z.kout → length (two_q_after_eviction z v (two_q_after_recall k s)).a1out ≤ z.kout
+few z k NoLeaver s h = omega (arith, h, without-length k s.a1out)
+few z k (FromA1in v) s h = with-fits z.kout v (keys_without k s.a1out) (omega (arith, h, without-length k s.a1out))
+few z k (FromAm v) s h = omega (arith, h, without-length k s.a1out)
 
-missed-few : (c k : ℕ) (s : TwoQState) → IsTwoQ c s → length (two_q_after_miss c k s).a1out ≤ kout c
-missed-few c k s i =
-    let v : TwoQLeaver = two_q_leaver c s in
-    let same = ap length (joining (λ _. 0) k (ghost_place_of k s.a1out) (two_q_after_eviction c v (two_q_after_recall k s))).a1out in
-    omega (arith, same, few c k v s i.few)
+missed-few : (z : TwoQSizes) (c k : ℕ) (s : TwoQState) → IsTwoQ z c s → length (two_q_after_miss z c k s).a1out ≤ z.kout
+missed-few z c k s i =
+    let v : TwoQLeaver = two_q_leaver z c s in
+    let same = ap length (joining (λ _. 0) k (ghost_place_of k s.a1out) (two_q_after_eviction z v (two_q_after_recall k s))).a1out in
+    omega (arith, same, few z k v s i.few)
 
 -- a key that is nowhere comes once, and one that is remembered comes for itself
 pub once : (x k : ℕ) (s : TwoQState) → has_key k s.am ≡ false → has_key k s.a1in ≡ false → times x s.a1in + times x s.a1out + times x s.am ≤ 1 → times x s.a1in + times x s.a1out + times x s.am + if_unknown (ghost_place_of k s.a1out) (one_if (eqb x k)) ≤ 1
@@ -197,9 +198,9 @@ once x k s m i d =
       ])
     ]
 
-kept-by : (c k : ℕ) (s : TwoQState) → IsTwoQ c s → length (two_q_act c k s).1.a1in + length (two_q_act c k s).1.am ≤ c → IsTwoQ c (two_q_act c k s).1
-kept-by c k s i =
-    elim (cases_Bool (has_key k s.am)) as (λ _. length (two_q_act c k s).1.a1in + length (two_q_act c k s).1.am ≤ c → IsTwoQ c (two_q_act c k s).1) [
+kept-by : (z : TwoQSizes) (c k : ℕ) (s : TwoQState) → IsTwoQ z c s → length (two_q_act z c k s).1.a1in + length (two_q_act z c k s).1.am ≤ c → IsTwoQ z c (two_q_act z c k s).1
+kept-by z c k s i =
+    elim (cases_Bool (has_key k s.am)) as (λ _. length (two_q_act z c k s).1.a1in + length (two_q_act z c k s).1.am ≤ c → IsTwoQ z c (two_q_act z c k s).1) [
       | inl e ↦ rw e (λ r. record {
         fits = r;
         few = i.few;
@@ -209,27 +210,27 @@ kept-by c k s i =
         | inl g ↦ rw g (λ r. i)
         | inr g ↦ rw g (λ r. record {
           fits = r;
-          few = missed-few c k s i;
+          few = missed-few z c k s i;
           distinct = λ x.
-              let w = moves (λ y. one_if (eqb x y)) c k s (omega (arith, i.distinct k)) in
+              let w = moves (λ y. one_if (eqb x y)) z c k s (omega (arith, i.distinct k)) in
               omega (arith, w.a1in, w.am, w.a1out, one-of (ghost_place_of k s.a1out) (one_if (eqb x k)), once x k s e g (i.distinct x), times-weight x);
         })
       ])
     ]
 
-kept : (c k : ℕ) (s : TwoQState) → 1 ≤ c → IsTwoQ c s → IsTwoQ c (two_q_act c k s).1
-kept c k s h i =
-    let new : TwoQState = (two_q_act c k s).1 in
-    let room = access-keeps c k (two_q_residents s) (two_q_act c k s).0 (two_q_residents new) (access c k s h i) (holds c s i) in
-    kept-by c k s i (omega (arith, room.fits, length-append new.a1in new.am))
+kept : (z : TwoQSizes) (c k : ℕ) (s : TwoQState) → 1 ≤ c → IsTwoQ z c s → IsTwoQ z c (two_q_act z c k s).1
+kept z c k s h i =
+    let new : TwoQState = (two_q_act z c k s).1 in
+    let room = access-keeps c k (two_q_residents s) (two_q_act z c k s).0 (two_q_residents new) (access z c k s h i) (holds z c s i) in
+    kept-by z c k s i (omega (arith, room.fits, length-append new.a1in new.am))
 
 pub keeps : TwoQKeeps
-keeps c h = record {
+keeps z c h = record {
   starts = (record { fits = omega arith; few = omega arith; distinct = λ x. omega arith }, refl);
-  keeps = λ k s i. kept c k s h i;
-  accesses = λ k s i. access c k s h i;
-  holds = λ s i. holds c s i;
+  keeps = λ k s i. kept z c k s h i;
+  accesses = λ k s i. access z c k s h i;
+  holds = λ s i. holds z c s i;
 }
 
 pub counts : TwoQCounts
-counts c h = counts-residents c empty_two_q (two_q_act c) two_q_residents (IsTwoQ c) (keeps c h)
+counts z c h = counts-residents c empty_two_q (two_q_act z c) two_q_residents (IsTwoQ z c) (keeps z c h)

@@ -1,6 +1,6 @@
 -- 2Q, the full version (Johnson and Shasha, VLDB 1994): a new key joins a1in, a first-in first-out queue. A key that
 -- leaves it is remembered in a1out, and joins am, which is in order of last access, when it comes again.
-use Rattle.std.specs.Prelude.{ℕ, ◌+◌, ◌/◌, ◌≤◌, max, nat_lt, ◌==◌, ◌||◌, if◌then◌else◌}
+use Rattle.std.specs.Prelude.{ℕ, ◌+◌, ◌≤◌, nat_lt, ◌==◌, ◌||◌, if◌then◌else◌}
 use Rattle.std.specs.Prelude.{List, [], ◌∷◌, ◌++◌, length, drop}
 use Rattle.step_record.specs.Keys.{has_key, keys_without}
 use Rattle.step_record.specs.declared.outcome.Outcome.{Outcome}
@@ -10,6 +10,7 @@ use Rattle.queue_policies.specs.Ghost.{ghost_with}
 use Rattle.queue_policies.specs.Ghost.{ghost_place_of}
 use Rattle.queue_policies.specs.declared.ghost_place.GhostPlace.{GhostPlace}
 use Rattle.queue_policies.specs.declared.ghost_place.GhostPlace.TheVariants.{Known, Unknown}
+use Rattle.ghost_policies.specs.declared.two_q.TwoQSizes.{TwoQSizes}
 use Rattle.ghost_policies.specs.declared.two_q.TwoQLeaver.{TwoQLeaver}
 use Rattle.ghost_policies.specs.declared.two_q.TwoQLeaver.TheVariants.{NoLeaver, FromA1in, FromAm}
 
@@ -25,12 +26,7 @@ empty_two_q = record { a1in = []; a1out = []; am = [] }
 abbrev pub two_q_residents : TwoQState → List ℕ
 two_q_residents s = s.a1in ++ s.am
 
--- a1in is to have a quarter of the capacity c, and a1out remembers as many keys as half of it
-abbrev pub kin : ℕ → ℕ
-kin c = max 1 (c / 4)
-
-abbrev pub kout : ℕ → ℕ
-kout c = max 1 (c / 2)
+-- a1in is to have z.kin keys, and a1out remembers z.kout (the paper: a quarter of the capacity, and half of it)
 
 -- ---- which key leaves
 
@@ -43,11 +39,11 @@ leaver_of_am [] = NoLeaver
 leaver_of_am (v ∷ queue) = FromAm v
 
 -- In a full cache the oldest of a1in leaves where that is over its size or am is empty, else the oldest of am.
-abbrev pub two_q_leaver : ℕ → TwoQState → TwoQLeaver
-two_q_leaver c s =
+abbrev pub two_q_leaver : TwoQSizes → ℕ → TwoQState → TwoQLeaver
+two_q_leaver z c s =
     if nat_lt (length (two_q_residents s)) c
     then NoLeaver
-    else if nat_lt (kin c) (length s.a1in) || length s.am == 0 then leaver_of_a1in s.a1in else leaver_of_am s.am
+    else if nat_lt z.kin (length s.a1in) || length s.am == 0 then leaver_of_a1in s.a1in else leaver_of_am s.am
 
 -- ---- an access
 
@@ -59,36 +55,36 @@ abbrev pub two_q_after_recall : ℕ → TwoQState → TwoQState
 two_q_after_recall k s = record s { a1out = keys_without k s.a1out }
 
 -- a key that leaves a1in is remembered
-abbrev pub two_q_after_eviction : ℕ → TwoQLeaver → TwoQState → TwoQState
-two_q_after_eviction c NoLeaver s = s
-two_q_after_eviction c (FromA1in v) s =
-    record { a1in = drop 1 s.a1in; a1out = ghost_with (kout c) v s.a1out; am = s.am }
-two_q_after_eviction c (FromAm v) s = record s { am = drop 1 s.am }
+abbrev pub two_q_after_eviction : TwoQSizes → TwoQLeaver → TwoQState → TwoQState
+two_q_after_eviction z NoLeaver s = s
+two_q_after_eviction z (FromA1in v) s =
+    record { a1in = drop 1 s.a1in; a1out = ghost_with z.kout v s.a1out; am = s.am }
+two_q_after_eviction z (FromAm v) s = record s { am = drop 1 s.am }
 
 -- the key joins am where it was remembered, else a1in
 abbrev pub two_q_after_join : GhostPlace → ℕ → TwoQState → TwoQState
 two_q_after_join Unknown k s = record s { a1in = s.a1in ++ k ∷ [] }
 two_q_after_join (Known j older) k s = record s { am = s.am ++ k ∷ [] }
 
-abbrev pub two_q_after_miss : ℕ → ℕ → TwoQState → TwoQState
-two_q_after_miss c k s =
-    two_q_after_join (ghost_place_of k s.a1out) k (two_q_after_eviction c (two_q_leaver c s) (two_q_after_recall k s))
+abbrev pub two_q_after_miss : TwoQSizes → ℕ → ℕ → TwoQState → TwoQState
+two_q_after_miss z c k s =
+    two_q_after_join (ghost_place_of k s.a1out) k (two_q_after_eviction z (two_q_leaver z c s) (two_q_after_recall k s))
 
 abbrev pub two_q_outcome : TwoQLeaver → Outcome
 two_q_outcome NoLeaver = Kept
 two_q_outcome (FromA1in v) = Evicted v
 two_q_outcome (FromAm v) = Evicted v
 
--- an access to k at capacity c: its outcome, and the state after it
-abbrev pub two_q_act : ℕ → ℕ → TwoQState → Outcome × TwoQState
-two_q_act c k s =
+-- an access to k at capacity c with the sizes z: its outcome, and the state after it
+abbrev pub two_q_act : TwoQSizes → ℕ → ℕ → TwoQState → Outcome × TwoQState
+two_q_act z c k s =
     if has_key k s.am
     then (Hit, two_q_after_renewal k s)
-    else if has_key k s.a1in then (Hit, s) else (two_q_outcome (two_q_leaver c s), two_q_after_miss c k s)
+    else if has_key k s.a1in then (Hit, s) else (two_q_outcome (two_q_leaver z c s), two_q_after_miss z c k s)
 
 -- ---- a state of a cache of capacity c
 
-pub record IsTwoQ (c : ℕ) (s : TwoQState) : Type 0 where
+pub record IsTwoQ (z : TwoQSizes) (c : ℕ) (s : TwoQState) : Type 0 where
   pub fits : length s.a1in + length s.am ≤ c
-  pub few : length s.a1out ≤ kout c
+  pub few : length s.a1out ≤ z.kout
   pub distinct : (x : ℕ) → times x s.a1in + times x s.a1out + times x s.am ≤ 1

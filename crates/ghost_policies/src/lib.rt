@@ -7,4 +7,4 @@ pub mod theorems;
 mod two_q;
 
 pub use arc::{ArcForgets, ArcGhost, ArcLeaver, ArcPlan};
-pub use two_q::TwoQLeaver;
+pub use two_q::{TwoQLeaver, TwoQSizes};

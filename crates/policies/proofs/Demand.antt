@@ -19,8 +19,10 @@ use Rattle.demand_cache.specs.DemandQueues.{DemandQueues, empty_cache, queues_ac
 use Rattle.demand_cache.specs.DemandCache.{DemandState, state_with, demand_act}
 use Rattle.demand_cache.specs.Theorems.{DemandKeeps}
 use Rattle.demand_cache.proofs.Keeping.{page-outcomes}
+use Rattle.policies.specs.declared.design.DemandDesign.{DemandDesign}
 use Rattle.policies.specs.declared.design.Design.{Design}
 use Rattle.policies.specs.declared.design.Design.TheVariants.{Queues, KnowsTrace, Demand}
+use Rattle.policies.specs.Design.{demand_policy}
 use Rattle.policies.specs.AnyPolicy.{IsDemandAfter, demand_run, demand_outcomes}
 use Rattle.policies.proofs.Reached.{has-room}
 
@@ -103,7 +105,7 @@ demand-refused d k h =
 -- ---- the accesses that it made
 
 abbrev start_of : (j : Job) (keys : List ℕ) (d : DemandState) → IsDemandAfter j keys d → DemandQueues
-start_of j keys d s = empty_cache s.policy j.config.capacity
+start_of j keys d s = empty_cache (demand_policy s.kind j) j.config.capacity
 
 pub demand_stands : (j : Job) (keys : List ℕ) (d : DemandState) (k : ℕ) (o : Outcome) (e : DemandState) → IsDemandAfter j keys d
     → demand_act d k ≡ Some (o, e) → IsDemandAfter j (keys ++ k ∷ []) e
@@ -111,7 +113,7 @@ demand_stands j keys d k o e s h =
     let a : IsDemandAccess d k o e = demand-access d k o e h in
     let start : DemandQueues = start_of j keys d s in
     record {
-      policy = s.policy;
+      kind = s.kind;
       design = s.design;
       checked = s.checked;
       queues = ap (λ (x : DemandState). x.queues) a.next ∙ (ap (λ q. (queues_act k q).1) s.queues ∙ sym (state-push queues_act start keys k));
@@ -125,14 +127,14 @@ demand_stands j keys d k o e s h =
 pub demand-accesses : (j : Job) (keys : List ℕ) (d : DemandState) → IsDemandAfter j keys d → d.stats.accesses ≡ length keys
 demand-accesses j keys d s = ap (λ (x : Stats). x.accesses) s.stats ∙ outcomes-long queues_act (start_of j keys d s) keys
 
-abbrev policy_or : DemandPolicy → Design → DemandPolicy
-policy_or p (Queues d) = p
-policy_or p KnowsTrace = p
-policy_or p (Demand q) = q
+abbrev kind_or : DemandDesign → Design → DemandDesign
+kind_or p (Queues d) = p
+kind_or p KnowsTrace = p
+kind_or p (Demand q) = q
 
 pub demand-one : (j : Job) (keys : List ℕ) (d e : DemandState) → IsDemandAfter j keys d → IsDemandAfter j keys e → d ≡ e
 demand-one j keys d e a b =
-    let same : a.policy ≡ b.policy = ap (policy_or a.policy) (sym a.design ∙ b.design) in
+    let same : demand_policy a.kind j ≡ demand_policy b.kind j = ap (λ p. demand_policy (kind_or a.kind p) j) (sym a.design ∙ b.design) in
     let queues : d.queues ≡ e.queues =
     a.queues ∙ (ap (λ p. state_after_all queues_act (empty_cache p j.config.capacity) keys) same ∙ sym b.queues) in
     let stats : d.stats ≡ e.stats = a.stats ∙ (ap (λ p. stats_of (demand_run p j.config.capacity keys)) same ∙ sym b.stats) in
@@ -142,7 +144,7 @@ demand-one j keys d e a b =
 
 pub demand-keeping : DemandKeeps → (j : Job) (keys : List ℕ) (d : DemandState) (s : IsDemandAfter j keys d)
     → KeepsResidents j.config.capacity (start_of j keys d s) queues_act queues_residents (IsQueues j.config.capacity)
-demand-keeping law j keys d s = law s.policy j.config.capacity (has-room j.config s.checked)
+demand-keeping law j keys d s = law (demand_policy s.kind j) j.config.capacity (has-room j.config s.checked)
 
 pub demand-sound : DemandKeeps → (j : Job) (keys : List ℕ) (d : DemandState) → IsDemandAfter j keys d → IsQueues j.config.capacity d.queues
 demand-sound law j keys d s =

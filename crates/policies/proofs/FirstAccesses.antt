@@ -13,7 +13,7 @@ use Rattle.policies.specs.QueueCache.{QueueState, queue_state_after, frequency_a
 use Rattle.policies.proofs.Answered.{outcomes-length}
 use Rattle.demand_cache.specs.DemandQueues.{queues_act, empty_cache}
 use Rattle.policies.specs.AnyPolicy.{outcomes_by}
-use Rattle.policies.specs.Design.{design_of}
+use Rattle.policies.specs.Design.{demand_policy, design_of}
 use Rattle.policies.proofs.Demand.{outcomes-first, with-room, demand-room}
 use Rattle.policies.proofs.StepLaws.{any_covers_trace, any_reports, outcomes-of-queues, outcomes-of-optimal}
 use Rattle.policies.proofs.Counting.{after-counts}
@@ -53,8 +53,8 @@ within_trace j trace n (Optimal d) le s =
     ∙ ap stats_of (optimal_first j.config.capacity trace n (length trace) le)
     ∙ ap (λ os. stats_of (take n os)) (sym (outcomes-of-optimal (design_of j.policy) j trace s.policy))
 within_trace j trace n (Demand d) le s =
-    s.stats ∙ ap stats_of (outcomes-first queues_act (empty_cache s.policy j.config.capacity) n trace)
-    ∙ ap (λ os. stats_of (take n os)) (sym (with-room s.policy j.config.capacity trace (demand-room j (take n trace) d s)))
+    s.stats ∙ ap stats_of (outcomes-first queues_act (empty_cache (demand_policy s.kind j) j.config.capacity) n trace)
+    ∙ ap (λ os. stats_of (take n os)) (sym (with-room (demand_policy s.kind j) j.config.capacity trace (demand-room j (take n trace) d s)))
     ∙ ap (λ z. stats_of (take n (outcomes_by z j trace))) (sym s.design)
 
 -- a cache that made the first accesses has counted their outcomes, of which there may be fewer

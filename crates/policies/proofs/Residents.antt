@@ -9,7 +9,7 @@ use Rattle.policies.specs.QueueStep.{recorded_in, queue_act}
 use Rattle.policies.specs.AnyPolicy.{any_residents, outcomes_by, outcomes_on, stats_on, demand_outcomes}
 use Rattle.policies.specs.declared.design.Design.{Design}
 use Rattle.policies.specs.declared.design.Design.TheVariants as design
-use Rattle.policies.specs.Design.{design_of}
+use Rattle.policies.specs.Design.{demand_policy, design_of}
 use Rattle.std.proofs.lemmas.List.Sums.{sum_by-cons}
 use Rattle.step_record.specs.declared.outcome.Outcome.TheVariants.{Rejected}
 use Rattle.demand_cache.specs.declared.demand_policy.DemandPolicy.{DemandPolicy}
@@ -116,7 +116,7 @@ fit-by : DemandKeeps → (x : Design) (j : Job) (trace : List ℕ)
     → (stats_of (outcomes_by x j trace)).misses ≤ (stats_of (outcomes_by x j trace)).evictions + j.config.capacity
 fit-by law (design.Queues q) j trace = subst (λ (s : Stats). s.misses ≤ s.evictions + j.config.capacity) (after-counts j trace) (queues-fit j trace)
 fit-by law design.KnowsTrace j trace = optimal-fit j.config.capacity trace (length trace)
-fit-by law (design.Demand p) j trace = demand-fit law p j.config.capacity trace
+fit-by law (design.Demand p) j trace = demand-fit law (demand_policy p j) j.config.capacity trace
 
 pub misses_fit : DemandKeeps → MissesFit
 unfolding stats_on

@@ -16,7 +16,7 @@ use Rattle.demand_cache.specs.DemandQueues.{queues_act, empty_cache}
 use Rattle.demand_cache.specs.Theorems.{DemandKeeps, HitsAskNothing, AsksWhereOneLeft}
 use Rattle.policies.specs.declared.design.Design.{Design}
 use Rattle.policies.specs.declared.design.Design.TheVariants as design
-use Rattle.policies.specs.Design.{design_of, is_of_queues, is_optimal}
+use Rattle.policies.specs.Design.{demand_policy, design_of, is_of_queues, is_optimal}
 use Rattle.policies.specs.AnyPolicy.{stats_on, outcomes_by, demand_run, IsBeladyAt}
 use Rattle.policies.specs.AnyStep.{as_queues, as_optimal, as_demand}
 use Rattle.policies.specs.AnyCounts.{IsQueueStep, IsOptimalStep, IsDemandStep, queue_step, optimal_step, demand_step}
@@ -152,7 +152,7 @@ any_reports j trace (Optimal d) s =
     ap (λ (x : ClairvoyantState). x.stats) s.gives
     ∙ ap stats_of (sym (outcomes-of-optimal (design_of j.policy) j trace s.policy))
 any_reports j trace (Demand d) s =
-    s.stats ∙ ap stats_of (sym (with-room s.policy j.config.capacity trace (demand-room j trace d s)))
+    s.stats ∙ ap stats_of (sym (with-room (demand_policy s.kind j) j.config.capacity trace (demand-room j trace d s)))
     ∙ ap (λ x. stats_of (outcomes_by x j trace)) (sym s.design)
 
 -- the outcomes over the whole trace
@@ -160,7 +160,7 @@ any_reports j trace (Demand d) s =
 covers-by : (x : Design) (j : Job) (trace : List ℕ) → length (outcomes_by x j trace) ≡ length trace
 covers-by (design.Queues q) j trace = after-length j trace
 covers-by design.KnowsTrace j trace = outcomes-length j.config.capacity trace (length trace)
-covers-by (design.Demand p) j trace = demand-long p j.config.capacity trace
+covers-by (design.Demand p) j trace = demand-long (demand_policy p j) j.config.capacity trace
 
 pub any_covers_trace : AnyCoversTrace
 any_covers_trace j trace = covers-by (design_of j.policy) j trace
@@ -182,12 +182,12 @@ any_answers law j trace keys rest k (Optimal d) o e x t s h =
     ∙ ap (λ os. get_or os (length keys) x) (sym (outcomes-of-optimal (design_of j.policy) j trace s.policy))
 any_answers law j trace keys rest k (Demand d) o e x t s h =
     let q : IsDemandStep (demand_act d k) o e = demand_step (demand_act d k) o e h in
-    let start = empty_cache s.policy j.config.capacity in
+    let start = empty_cache (demand_policy s.kind j) j.config.capacity in
     (demand-access d k o q.next q.steps).outcome
     ∙ ap (λ z. (queues_act k z).0) s.queues
     ∙ sym (outcomes-at queues_act start keys rest k x)
-    ∙ ap (λ l. get_or (demand_run s.policy j.config.capacity l) (length keys) x) (sym t)
-    ∙ ap (λ os. get_or os (length keys) x) (sym (with-room s.policy j.config.capacity trace (demand-room j keys d s)))
+    ∙ ap (λ l. get_or (demand_run (demand_policy s.kind j) j.config.capacity l) (length keys) x) (sym t)
+    ∙ ap (λ os. get_or os (length keys) x) (sym (with-room (demand_policy s.kind j) j.config.capacity trace (demand-room j keys d s)))
     ∙ ap (λ z. get_or (outcomes_by z j trace) (length keys) x) (sym s.design)
 
 -- undoing a hit asks for no room

@@ -15,9 +15,10 @@ use Rattle.demand_cache.specs.DemandQueues.{empty_cache, queues_act, queues_resi
 use Rattle.demand_cache.specs.DemandCache.{DemandState}
 use Rattle.policies.specs.declared.any_policy.AnyPolicy.{AnyPolicy}
 use Rattle.policies.specs.declared.any_policy.AnyPolicy.TheVariants.{Queues, Optimal, Demand}
+use Rattle.policies.specs.declared.design.DemandDesign.{DemandDesign}
 use Rattle.policies.specs.declared.design.Design.{Design}
 use Rattle.policies.specs.declared.design.Design.TheVariants as design
-use Rattle.policies.specs.Design.{design_of, has_queues, knows_trace}
+use Rattle.policies.specs.Design.{demand_policy, design_of, has_queues, knows_trace}
 use Rattle.policies.specs.QueueCache.{outcomes_after, residents_in, StandsFor}
 
 -- ---- a job over a trace
@@ -35,7 +36,7 @@ demand_outcomes p (suc c) trace = outcomes_of_page p (suc c) trace
 abbrev pub outcomes_by : Design → Job → List ℕ → List Outcome
 outcomes_by (design.Queues d) j trace = outcomes_after j trace
 outcomes_by design.KnowsTrace j trace = belady_outcomes j.config.capacity trace (length trace)
-outcomes_by (design.Demand p) j trace = demand_outcomes p j.config.capacity trace
+outcomes_by (design.Demand p) j trace = demand_outcomes (demand_policy p j) j.config.capacity trace
 
 -- the outcomes of a job's accesses to the keys of a trace, in order
 abbrev pub outcomes_on : Job → List ℕ → List Outcome
@@ -72,11 +73,11 @@ pub record IsBeladyAt (j : Job) (trace keys : List ℕ) (d : ClairvoyantState) :
 
 -- a cache of a policy that keeps each missed key made these accesses
 pub record IsDemandAfter (j : Job) (keys : List ℕ) (d : DemandState) : Type 0 where
-  pub policy : DemandPolicy
-  pub design : design_of j.policy ≡ design.Demand policy
+  pub kind : DemandDesign
+  pub design : design_of j.policy ≡ design.Demand kind
   pub checked : config_fault j.config ≡ Ok tt
-  pub queues : d.queues ≡ state_after_all queues_act (empty_cache policy j.config.capacity) keys
-  pub stats : d.stats ≡ stats_of (demand_run policy j.config.capacity keys)
+  pub queues : d.queues ≡ state_after_all queues_act (empty_cache (demand_policy kind j) j.config.capacity) keys
+  pub stats : d.stats ≡ stats_of (demand_run (demand_policy kind j) j.config.capacity keys)
 
 -- the cache runs the job over the trace, and the keys are the accesses that it made
 abbrev pub HasAccessed : Job → List ℕ → List ℕ → AnyPolicy → Type 0

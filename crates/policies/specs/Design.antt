@@ -1,8 +1,10 @@
 -- What each policy is: the one table of policies. The design of a policy of queues stands in the module of its name,
 -- with the source.
-use Rattle.std.specs.Prelude.{Bool, true, false}
+use Rattle.std.specs.Prelude.{ℕ, Bool, true, false}
 use Rattle.step_record.specs.declared.config.Config.{Config}
 use Rattle.step_record.specs.declared.job.Job.{Job}
+use Rattle.step_record.specs.declared.job.Parts.{Parts}
+use Rattle.step_record.specs.Job.{part_size}
 use Rattle.step_record.specs.declared.job.Policy.{Policy}
 use Rattle.step_record.specs.declared.job.Policy.TheVariants.{Lru, SegmentedLru, TinyLfuLru, TinyLfuSegmented}
 use Rattle.step_record.specs.declared.job.Policy.TheVariants.{WindowTinyLfu, Clairvoyant, Fifo, Clock, Sieve, S3Fifo}
@@ -12,7 +14,11 @@ use Rattle.replacement.specs.declared.rules.Placement.{Placement}
 use Rattle.replacement.specs.declared.rules.Placement.TheVariants.{Direct, Windowed}
 use Rattle.replacement.specs.declared.rules.Rules.{Rules}
 use Rattle.replacement.specs.Rules.{one_queue, two_queues, three_queues}
-use Rattle.demand_cache.specs.declared.demand_policy.DemandPolicy.TheVariants as demand
+use Rattle.ghost_policies.specs.declared.two_q.TwoQSizes.{TwoQSizes}
+use Rattle.demand_cache.specs.declared.demand_policy.DemandPolicy.{DemandPolicy}
+use Rattle.demand_cache.specs.declared.demand_policy.DemandPolicy.TheVariants as sized
+use Rattle.policies.specs.declared.design.DemandDesign.{DemandDesign}
+use Rattle.policies.specs.declared.design.DemandDesign.TheVariants as demand
 use Rattle.policies.specs.declared.design.Design.{Design}
 use Rattle.policies.specs.declared.design.Design.TheVariants.{Queues, KnowsTrace, Demand}
 use Rattle.policies.specs.declared.design.Layout.{Layout}
@@ -54,6 +60,19 @@ placement_by ThreeQueues = Windowed
 -- the rules for a configuration
 abbrev pub rules_by : QueueDesign → Config → Rules
 rules_by d c = record (sizes_by d.layout c) { hits = d.hits }
+
+-- ---- a design that keeps each missed key
+
+abbrev pub two_q_sizes : Parts → ℕ → TwoQSizes
+two_q_sizes parts c = record { kin = part_size parts.kin c; kout = part_size parts.kout c }
+
+-- the policy of a job, with the sizes of its parts
+abbrev pub demand_policy : DemandDesign → Job → DemandPolicy
+demand_policy demand.Clock j = sized.Clock
+demand_policy demand.Sieve j = sized.Sieve
+demand_policy demand.S3Fifo j = sized.S3Fifo (part_size j.parts.small j.config.capacity)
+demand_policy demand.TwoQ j = sized.TwoQ (two_q_sizes j.parts j.config.capacity)
+demand_policy demand.Arc j = sized.Arc
 
 -- ---- any design
 

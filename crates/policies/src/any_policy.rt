@@ -56,9 +56,9 @@ impl AnyPolicy {
                 let cache = Clairvoyant::open(alloc, uses, job.config.capacity)?;
                 Ok(AnyPolicy::Optimal(cache))
             }
-            Design::Demand(policy) => Ok(AnyPolicy::Demand(DemandCache::new(
+            Design::Demand(design) => Ok(AnyPolicy::Demand(DemandCache::new(
                 alloc,
-                policy,
+                design.policy(job),
                 job.config.capacity,
             ))),
         }
@@ -81,9 +81,9 @@ impl AnyPolicy {
                 let cache = QueueCache::with_design(alloc, *job, design)?;
                 Ok(AnyPolicy::Queues(cache))
             }
-            Design::Demand(policy) => Ok(AnyPolicy::Demand(DemandCache::new(
+            Design::Demand(design) => Ok(AnyPolicy::Demand(DemandCache::new(
                 alloc,
-                policy,
+                design.policy(job),
                 job.config.capacity,
             ))),
         }

@@ -1,12 +1,15 @@
 //! What each policy is: the one table of policies.
-ghost use Rattle.std.specs.Prelude.{◌≡◌, Ok};
+ghost use Rattle.std.specs.Prelude.{◌≡◌, ◌≤◌, Ok};
 ghost use Rattle.step_record.specs.Config.{config_fault};
-ghost use Rattle.policies.specs.Design.{design_of, placement_by, rules_by};
+ghost use Rattle.step_record.specs.declared.limits.TheConstants.{MAX_CAPACITY};
+ghost use Rattle.step_record.specs.Job.{part_size};
+ghost use Rattle.policies.specs.Design.{demand_policy, design_of, placement_by, rules_by, two_q_sizes};
 
 use demand_cache::DemandPolicy;
+use ghost_policies::TwoQSizes;
 use replacement::{HitRule, Placement, Rules};
 use segments::Queue;
-use step_record::{Config, Policy};
+use step_record::{Config, Job, Parts, Policy};
 
 /// What a policy is.
 #[derive(Clone, Copy)]
@@ -16,7 +19,7 @@ pub enum Design {
     /// A policy that knows the whole trace: Belady's optimal policy.
     KnowsTrace,
     /// A policy that keeps each missed key, in a cache of its own.
-    Demand(DemandPolicy),
+    Demand(DemandDesign),
 }
 
 /// What a policy of queues goes by.
@@ -28,6 +31,21 @@ pub struct QueueDesign {
     pub hits: HitRule,
     /// Whether it counts keys, and admits a new one in a full cache by how often it came.
     pub counts_keys: bool,
+}
+
+/// A policy that keeps each missed key, whatever the sizes of its parts.
+#[derive(Clone, Copy)]
+pub enum DemandDesign {
+    /// CLOCK.
+    Clock,
+    /// SIEVE.
+    Sieve,
+    /// S3-FIFO.
+    S3Fifo,
+    /// 2Q.
+    TwoQ,
+    /// ARC.
+    Arc,
 }
 
 /// The queues of a policy.
@@ -53,11 +71,11 @@ pub fn design_of(policy: Policy) -> Design
         Policy::WindowTinyLfu => Design::Queues(WINDOW_TINY_LFU),
         Policy::Clairvoyant => Design::KnowsTrace,
         Policy::Fifo => Design::Queues(FIFO),
-        Policy::Clock => Design::Demand(DemandPolicy::Clock),
-        Policy::Sieve => Design::Demand(DemandPolicy::Sieve),
-        Policy::S3Fifo => Design::Demand(DemandPolicy::S3Fifo),
-        Policy::TwoQ => Design::Demand(DemandPolicy::TwoQ),
-        Policy::Arc => Design::Demand(DemandPolicy::Arc),
+        Policy::Clock => Design::Demand(DemandDesign::Clock),
+        Policy::Sieve => Design::Demand(DemandDesign::Sieve),
+        Policy::S3Fifo => Design::Demand(DemandDesign::S3Fifo),
+        Policy::TwoQ => Design::Demand(DemandDesign::TwoQ),
+        Policy::Arc => Design::Demand(DemandDesign::Arc),
     }
 }
 
@@ -141,4 +159,40 @@ impl QueueDesign {
             ..rules
         }
     }
+}
+
+impl DemandDesign {
+    /// The policy of a job, with the sizes of its parts. It requires a configuration that `Config::check` accepts.
+    pub fn policy(self, job: &Job) -> DemandPolicy
+        requires { config_fault job.now.config ≡ Ok tt }
+        ensures { result ≡ demand_policy self job.now }
+    {
+        let capacity = job.config.capacity;
+        match self {
+            DemandDesign::Clock => DemandPolicy::Clock,
+            DemandDesign::Sieve => DemandPolicy::Sieve,
+            DemandDesign::S3Fifo => DemandPolicy::S3Fifo(part_size(job.parts.small, capacity)),
+            DemandDesign::TwoQ => DemandPolicy::TwoQ(two_q_sizes(&job.parts, capacity)),
+            DemandDesign::Arc => DemandPolicy::Arc,
+        }
+    }
+}
+
+// The sizes of 2Q's parts.
+fn two_q_sizes(parts: &Parts, capacity: u32) -> TwoQSizes
+    requires { capacity ≤ MAX_CAPACITY }
+    ensures { result ≡ two_q_sizes parts.now capacity }
+{
+    TwoQSizes {
+        kin: part_size(parts.kin, capacity),
+        kout: part_size(parts.kout, capacity),
+    }
+}
+
+// A part of so many percent of the capacity.
+fn part_size(percent: u8, capacity: u32) -> u32
+    requires { capacity ≤ MAX_CAPACITY }
+    ensures { result ≡ part_size percent capacity }
+{
+    (capacity * u32::from(percent) / 100).max(1)
 }

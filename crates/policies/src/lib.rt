@@ -34,7 +34,7 @@ mod window_tiny_lfu;
 pub use actor_fault::ActorFault;
 pub use any_policy::{AnyPolicy, AnyRecord};
 pub use cache_run::CacheRun;
-pub use design::{Design, Layout, QueueDesign, design_of};
+pub use design::{DemandDesign, Design, Layout, QueueDesign, design_of};
 pub use job_checks::{MAX_ACTORS, check_capacities, check_jobs, with_capacity};
 pub use lru::{Lru, LruMark};
 pub use queue_cache::{ByJob, QueueCache};

@@ -8,7 +8,7 @@ use Rattle.step_record.specs.declared.job.Job.{Job}
 use Rattle.step_record.specs.declared.stats.Stats.{Stats}
 use Rattle.policies.specs.declared.design.Design.{Design}
 use Rattle.policies.specs.declared.design.Design.TheVariants as design
-use Rattle.policies.specs.Design.{design_of, has_queues, is_optimal, knows_trace}
+use Rattle.policies.specs.Design.{demand_policy, design_of, has_queues, is_optimal, knows_trace}
 use Rattle.step_record.specs.declared.outcome.Outcome.TheVariants.{Rejected}
 use Rattle.step_record.specs.Stats.{stats_of}
 use Rattle.queue_policies.specs.Residents.{KeepsResidents, outcomes_of_all}
@@ -140,7 +140,7 @@ acts-by best law design.KnowsTrace j trace = record {
   strategy = (best j.config.capacity trace).0;
   same = (best j.config.capacity trace).1 (length trace);
 }
-acts-by best law (design.Demand p) j trace = acts-demand law p j.config.capacity trace
+acts-by best law (design.Demand p) j trace = acts-demand law (demand_policy p j) j.config.capacity trace
 
 pub acts-as-strategy : BeladyIsStrategy → DemandKeeps → (j : Job) (trace : List ℕ) → ActsAsStrategy j.config.capacity trace (stats_on j trace).hits
 unfolding stats_on
@@ -177,7 +177,7 @@ belady_leads law keeps j optimal trace keys (Optimal d) (Optimal e) s b is same 
 belady_leads law keeps j optimal trace keys (Demand d) (Optimal e) s b is same =
     let c : ℕ = j.config.capacity in
     let n : ℕ = length keys in
-    let start : DemandQueues = empty_cache s.policy c in
+    let start : DemandQueues = empty_cache (demand_policy s.kind j) c in
     let within : n ≤ length trace = b.within in
     let own : d.stats.hits ≡ count_by is_hit (outcomes_of_all queues_act start (take n trace)) =
     ap (λ (x : Stats). x.hits) s.stats ∙ ap (λ l. count_by is_hit (outcomes_of_all queues_act start l)) b.first in

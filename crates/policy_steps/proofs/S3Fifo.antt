@@ -55,8 +55,8 @@ low-own : (r : Bool) → IsLowOwn (goes (joins r) 0)
 low-own true = omega arith
 low-own false = omega arith
 
-low-forgets : (c : ℕ) (r : Bool) (s : Queues) → IsLowLeaving (forgets c r s)
-low-forgets c r s = go (r || nat_lt (length (s GHOST)) (s3_fifo_main_size c))
+low-forgets : (size : ℕ) (r : Bool) (s : Queues) → IsLowLeaving (forgets size r s)
+low-forgets size r s = go (r || nat_lt (length (s GHOST)) size)
   where
     go : (f : Bool) → IsLowLeaving (if f then None else leaving GHOST None)
     go true = tt
@@ -70,20 +70,23 @@ low-miss w r x low = record { early = low.0; late = low.1; first = low.2; second
 
 -- ---- a miss
 
-module _ (c k x : ℕ) (r : Bool) (s : Queues) (t : IsTabled s) (some : 1 ≤ c) (state : IsS3Fifo c (s3_fifo_of s)) (absent : has_key k (s3_fifo_residents (s3_fifo_of s)) ≡ false) (is : has_key k (keys_of (s GHOST)) ≡ r) where
+module _ (part c k x : ℕ) (r : Bool) (s : Queues) (t : IsTabled s) (some : 1 ≤ c) (state : IsS3Fifo part c (s3_fifo_of s)) (absent : has_key k (s3_fifo_residents (s3_fifo_of s)) ≡ false) (is : has_key k (keys_of (s GHOST)) ≡ r) where
   abbrev v : S3FifoState
   v = s3_fifo_of s
+
+  abbrev size : ℕ
+  size = s3_fifo_main_size part c
 
   abbrev w : S3FifoState
   w = without_ghost_key k v
 
   abbrev room : Outcome × S3FifoState
-  room = planned_room c w
+  room = planned_room part c w
 
   -- the key is in neither queue once room is made
   none-after : times k (counted.keys_of (room.1.small ++ room.1.main)) ≤ 0
   none-after =
-      let access = (plan-made c k (ghost_place_of k v.ghost) w some absent).moves k in
+      let access = (plan-made part c k (ghost_place_of k v.ghost) w some absent).moves k in
       let before : times k (s3_fifo_residents w) ≡ 0 = times-none k (s3_fifo_residents w) absent in
       let self : one_if (eqb k k) ≡ 1 = ap one_if (eq-eqb k k refl) in
       omega (arith, access, before, self, brought-few k k room.0, join-times k k (ghost_place_of k v.ghost) room.1)
@@ -92,7 +95,7 @@ module _ (c k x : ℕ) (r : Bool) (s : Queues) (t : IsTabled s) (some : 1 ≤ c)
   none-in l m h n = ap (has_key k) (sym (keys-counted l) ∙ ap counted.keys_of h) ∙ no-times k (counted.keys_of m) n
 
   abbrev IsMiss : RoomPlan → Type 0
-  IsMiss m = IsPlannedBy (miss_plan m (goes (joins r) 0) x) k s (λ x. s3_fifo_of) (s3_fifo_act c k v) (has_key k (s3_fifo_residents v))
+  IsMiss m = IsPlannedBy (miss_plan m (goes (joins r) 0) x) k s (λ x. s3_fifo_of) (s3_fifo_act part c k v) (has_key k (s3_fifo_residents v))
 
   -- the plan m comes to the eviction e
   abbrev ComesTo : RoomPlan → Outcome × S3FifoState → Type 0
@@ -107,8 +110,8 @@ module _ (c k x : ℕ) (r : Bool) (s : Queues) (t : IsTabled s) (some : 1 ≤ c)
       let u : IsTabled q = tabled-leaving (after_first p s) first m.second low.3 in
       let left : ComesTo m room = subst (ComesTo m) (sym same) came in
       let both = keys-times k room.1.small room.1.main in
-      let acts : s3_fifo_act c k v ≡ (room.0, s3_fifo_with_key (ghost_place_of k v.ghost) k room.1) =
-      rw absent (ap (λ (a : Outcome × S3FifoState). (a.0, s3_fifo_with_key (ghost_place_of k v.ghost) k a.1)) (sym (room-planned c w))) in
+      let acts : s3_fifo_act part c k v ≡ (room.0, s3_fifo_with_key (ghost_place_of k v.ghost) k room.1) =
+      rw absent (ap (λ (a : Outcome × S3FifoState). (a.0, s3_fifo_with_key (ghost_place_of k v.ghost) k a.1)) (sym (room-planned part c w))) in
       record {
         outcome = left.outcome ∙ ap (λ (a : Outcome × S3FifoState). a.0) (sym acts);
         state = joined r k q u.keys (none-in (q SMALL) room.1.small left.small (omega (arith, none-after, both))) (none-in (q MAIN) room.1.main left.main (omega (arith, none-after, both)))
@@ -120,35 +123,35 @@ module _ (c k x : ℕ) (r : Bool) (s : Queues) (t : IsTabled s) (some : 1 ≤ c)
 
   -- the state once the promotions are made, and the plan's queues then
   abbrev p_state : S3FifoState
-  p_state = after_promotions (promotion_count c v) v
+  p_state = after_promotions (promotion_count size v) v
 
   abbrev a : Queues
-  a = after_run (promotions c s) s
+  a = after_run (promotions size s) s
 
   a-tabled : IsTabled a
-  a-tabled = tabled-turns s t (promotions c s).times SMALL MAIN 0 (omega arith)
+  a-tabled = tabled-turns s t (promotions size s).times SMALL MAIN 0 (omega arith)
 
   a-state : s3_fifo_of a ≡ p_state
   a-state =
-      promoted (s3_fifo_main_size c + 1 - length (s MAIN)) s t (s SMALL) refl
-      ∙ ap (λ l. after_promotions (promotion_count_within (s3_fifo_main_size c + 1 - l) v.small) v) (sym (length-counted (s MAIN)))
+      promoted (size + 1 - length (s MAIN)) s t (s SMALL) refl
+      ∙ ap (λ l. after_promotions (promotion_count_within (size + 1 - l) v.small) v) (sym (length-counted (s MAIN)))
 
   p-counted : BothCounted p_state
-  p-counted = promoted-counted (promotion_count c v) v record { small = counted-first 3 v.small v.main state.counts; main = counted-second 3 v.small v.main state.counts }
+  p-counted = promoted-counted (promotion_count size v) v record { small = counted-first 3 v.small v.main state.counts; main = counted-second 3 v.small v.main state.counts }
 
   full : nat_lt (length (s SMALL) + length (s MAIN)) c ≡ nat_lt (length (s3_fifo_residents w)) c
   full = ap (λ n. nat_lt n c) (let n : length (s SMALL) + length (s MAIN) ≡ length (s3_fifo_residents w) = omega (arith, length-keys (v.small ++ v.main), length-append v.small v.main, length-counted (s SMALL), length-counted (s MAIN)) in n)
 
-  gives : gives_main c a ≡ main_gives c p_state
-  gives = gives-is c a ∙ ap (main_gives c) a-state
+  gives : gives_main size a ≡ main_gives size p_state
+  gives = gives-is size a ∙ ap (main_gives size) a-state
 
-  room-full : nat_lt (length (s3_fifo_residents w)) c ≡ false → room ≡ planned_eviction c (after_promotions (promotion_count c w) w)
+  room-full : nat_lt (length (s3_fifo_residents w)) c ≡ false → room ≡ planned_eviction size (after_promotions (promotion_count size w) w)
   room-full f = rw f refl
 
   -- where there is room
-  fits : nat_lt (length (s SMALL) + length (s MAIN)) c ≡ true → IsMiss (room_plan c r s)
+  fits : nat_lt (length (s SMALL) + length (s MAIN)) c ≡ true → IsMiss (room_plan part c r s)
   fits f =
-      let plan : room_plan c r s ≡ no_room_plan = rw f refl in
+      let plan : room_plan part c r s ≡ no_room_plan = rw f refl in
       subst IsMiss (sym plan)
       (brought no_room_plan (outcome.Kept, w) ((omega arith, omega arith), (omega arith, omega arith), tt, tt) (rw (sym full ∙ f) refl) record { outcome = refl; small = refl; main = refl; ghost = refl })
 
@@ -165,35 +168,35 @@ module _ (c k x : ℕ) (r : Bool) (s : Queues) (t : IsTabled s) (some : 1 ≤ c)
       rw (same SMALL (λ e. omega (arith, e)), same GHOST (λ e. omega (arith, e)), turns-are MAIN n (total_count main) a (omega arith) a-tabled (omega (arith, total-few main counts, length-counted (a MAIN))) (omega arith)) refl
       ∙ ap (λ (y : S3FifoState). made y.small (after_turns (turn_count y.main) y.main) y.ghost) a-state
 
-  main-evicts : nat_lt (length (s3_fifo_residents w)) c ≡ false → gives_main c a ≡ true → IsMiss (main_eviction_plan (promotions c s) a)
+  main-evicts : nat_lt (length (s3_fifo_residents w)) c ≡ false → gives_main size a ≡ true → IsMiss (main_eviction_plan (promotions size s) a)
   main-evicts f g =
-      let evicts : planned_eviction c (after_promotions (promotion_count c w) w) ≡ main_eviction p_state.small (after_turns (turn_count p_state.main) p_state.main) w.ghost = rw (sym gives ∙ g) refl in
-      brought (main_eviction_plan (promotions c s) a) _ ((omega arith, omega arith), (omega arith, omega arith), (omega arith, tt), tt)
+      let evicts : planned_eviction size (after_promotions (promotion_count size w) w) ≡ main_eviction p_state.small (after_turns (turn_count p_state.main) p_state.main) w.ghost = rw (sym gives ∙ g) refl in
+      brought (main_eviction_plan (promotions size s) a) _ ((omega arith, omega arith), (omega arith, omega arith), (omega arith, tt), tt)
       (room-full f ∙ evicts ∙ sym (ap (λ (y : S3FifoState). main_eviction y.small y.main (keys_without k y.ghost)) b-state))
       (main-left k b (tabled-turns a a-tabled (main_turns a).times MAIN MAIN 1 (omega arith)) (b MAIN) refl)
 
   -- where the small queue does
-  small-evicts : nat_lt (length (s3_fifo_residents w)) c ≡ false → gives_main c a ≡ false → IsMiss (small_eviction_plan c r (promotions c s) a)
+  small-evicts : nat_lt (length (s3_fifo_residents w)) c ≡ false → gives_main size a ≡ false → IsMiss (small_eviction_plan size r (promotions size s) a)
   small-evicts f g =
-      let evicts : planned_eviction c (after_promotions (promotion_count c w) w) ≡ small_eviction c p_state.small p_state.main w.ghost = rw (sym gives ∙ g) refl in
+      let evicts : planned_eviction size (after_promotions (promotion_count size w) w) ≡ small_eviction size p_state.small p_state.main w.ghost = rw (sym gives ∙ g) refl in
       let ghost : keys_of (a GHOST) ≡ keys_of (s GHOST) = ap (λ (y : S3FifoState). y.ghost) a-state in
       let small : counted_keys (a SMALL) ≡ p_state.small = ap (λ (y : S3FifoState). y.small) a-state in
       let before : times k (s3_fifo_residents v) ≡ 0 = times-none k (s3_fifo_residents v) absent in
-      let none = none-in (a SMALL) p_state.small small (omega (arith, before, promoted-times k (promotion_count c v) v, keys-times k p_state.small p_state.main)) in
-      brought (small_eviction_plan c r (promotions c s) a) _ ((omega arith, omega arith), (omega arith, omega arith), (omega arith, omega arith), low-forgets c r a)
-      (room-full f ∙ evicts ∙ sym (ap (λ (y : S3FifoState). small_eviction c y.small y.main (keys_without k y.ghost)) a-state))
-      (small-left c k a a-tabled (subst (λ l. length l ≤ s3_fifo_main_size c) (sym ghost) state.ghost_fits) r (ap (has_key k) ghost ∙ is) (a SMALL) refl g none)
+      let none = none-in (a SMALL) p_state.small small (omega (arith, before, promoted-times k (promotion_count size v) v, keys-times k p_state.small p_state.main)) in
+      brought (small_eviction_plan size r (promotions size s) a) _ ((omega arith, omega arith), (omega arith, omega arith), (omega arith, omega arith), low-forgets size r a)
+      (room-full f ∙ evicts ∙ sym (ap (λ (y : S3FifoState). small_eviction size y.small y.main (keys_without k y.ghost)) a-state))
+      (small-left size k a a-tabled (subst (λ l. length l ≤ size) (sym ghost) state.ghost_fits) r (ap (has_key k) ghost ∙ is) (a SMALL) refl g none)
 
-  pub missed : IsMiss (room_plan c r s)
+  pub missed : IsMiss (room_plan part c r s)
   missed =
       elim (cases_Bool (nat_lt (length (s SMALL) + length (s MAIN)) c)) [
         | inl f ↦ fits f
-        | inr f ↦ elim (cases_Bool (gives_main c a)) [
+        | inr f ↦ elim (cases_Bool (gives_main size a)) [
           | inl g ↦
-              let plan : room_plan c r s ≡ main_eviction_plan (promotions c s) a = rw (f, g) refl in
+              let plan : room_plan part c r s ≡ main_eviction_plan (promotions size s) a = rw (f, g) refl in
               subst IsMiss (sym plan) (main-evicts (sym full ∙ f) g)
           | inr g ↦
-              let plan : room_plan c r s ≡ small_eviction_plan c r (promotions c s) a = rw (f, g) refl in
+              let plan : room_plan part c r s ≡ small_eviction_plan size r (promotions size s) a = rw (f, g) refl in
               subst IsMiss (sym plan) (small-evicts (sym full ∙ f) g)
         ]
       ]
@@ -201,9 +204,9 @@ module _ (c k x : ℕ) (r : Bool) (s : Queues) (t : IsTabled s) (some : 1 ≤ c)
 -- ---- an access
 
 -- an access to the key k of the queues s
-module _ (c k x : ℕ) (s : Queues) (some : 1 ≤ c) (w : IsTabled s) (state : IsS3Fifo c (s3_fifo_of s)) where
+module _ (part c k x : ℕ) (s : Queues) (some : 1 ≤ c) (w : IsTabled s) (state : IsS3Fifo part c (s3_fifo_of s)) where
   abbrev IsPlan : Plan → Type 0
-  IsPlan p = IsPlannedBy p k s (λ x. s3_fifo_of) (s3_fifo_act c k (s3_fifo_of s)) (has_key k (s3_fifo_residents (s3_fifo_of s)))
+  IsPlan p = IsPlannedBy p k s (λ x. s3_fifo_of) (s3_fifo_act part c k (s3_fifo_of s)) (has_key k (s3_fifo_residents (s3_fifo_of s)))
 
   has-in : (q : ℕ) (b : Bool) → has_key k (keys_of (s q)) ≡ b → has_key k (counted.keys_of (counted_keys (s q))) ≡ b
   has-in q b h = ap (has_key k) (keys-counted (s q)) ∙ h
@@ -214,7 +217,7 @@ module _ (c k x : ℕ) (s : Queues) (some : 1 ≤ c) (w : IsTabled s) (state : I
   hit : (n : ℕ) → has_key k (s3_fifo_residents (s3_fifo_of s)) ≡ true → count_of k (counted_keys (s SMALL) ++ counted_keys (s MAIN)) ≡ n → IsPlan (own_plan true (counts (hit_count n)) x)
   hit n there count =
       let m : ℕ = hit_count n in
-      let acts : s3_fifo_act c k (s3_fifo_of s) ≡ (outcome.Hit, s3_fifo_with_count k m (s3_fifo_of s)) = rw (there, count) refl in
+      let acts : s3_fifo_act part c k (s3_fifo_of s) ≡ (outcome.Hit, s3_fifo_with_count k m (s3_fifo_of s)) = rw (there, count) refl in
       let ghost : keys_of (entries_counted (item_of k) m (s GHOST)) ≡ keys_of (s GHOST) =
       sym (keys-counted (entries_counted (item_of k) m (s GHOST))) ∙ ap counted.keys_of (recounted-in GHOST m (omega arith)) ∙ keys-with k m (counted_keys (s GHOST)) ∙ keys-counted (s GHOST) in
       record {
@@ -224,11 +227,11 @@ module _ (c k x : ℕ) (s : Queues) (some : 1 ≤ c) (w : IsTabled s) (state : I
         low = record { early = (omega arith, omega arith); late = (omega arith, omega arith); first = tt; second = tt; own = tt };
       }
 
-  miss : (r : Bool) → has_key k (keys_of (s SMALL)) ≡ false → has_key k (keys_of (s MAIN)) ≡ false → has_key k (keys_of (s GHOST)) ≡ r → IsPlan (s3_fifo_miss c r x s)
+  miss : (r : Bool) → has_key k (keys_of (s SMALL)) ≡ false → has_key k (keys_of (s MAIN)) ≡ false → has_key k (keys_of (s GHOST)) ≡ r → IsPlan (s3_fifo_miss part c r x s)
   miss r small main is =
-      missed c k x r s w some state (has-both k (counted_keys (s SMALL)) (counted_keys (s MAIN)) ∙ rw (has-in SMALL false small, has-in MAIN false main) refl) is
+      missed part c k x r s w some state (has-both k (counted_keys (s SMALL)) (counted_keys (s MAIN)) ∙ rw (has-in SMALL false small, has-in MAIN false main) refl) is
 
-  standing-in : (q n : ℕ) → StandsAs k q n s → IsPlan (plan_at c x (Some (q, n)) s)
+  standing-in : (q n : ℕ) → StandsAs k q n s → IsPlan (plan_at part c x (Some (q, n)) s)
   standing-in q n t =
       let both = has-both k (counted_keys (s SMALL)) (counted_keys (s MAIN)) in
       let count = count-append k (counted_keys (s SMALL)) (counted_keys (s MAIN)) in
@@ -250,9 +253,9 @@ module _ (c k x : ℕ) (s : Queues) (some : 1 ≤ c) (w : IsTabled s) (state : I
         ]
       ]
 
-  standing-at : (at : Option (ℕ × ℕ)) → standing (item_of k) s ≡ at → IsPlan (plan_at c x at s)
+  standing-at : (at : Option (ℕ × ℕ)) → standing (item_of k) s ≡ at → IsPlan (plan_at part c x at s)
   standing-at None h = miss false (stands-nowhere s w k h SMALL).0 (stands-nowhere s w k h MAIN).0 (stands-nowhere s w k h GHOST).0
   standing-at (Some p) h = standing-in p.0 p.1 (stands s w k p.0 p.1 h)
 
 pub planned : S3FifoIsPlanned
-planned c k x s some w state = standing-at c k x s some w state (standing (item_of k) s) refl
+planned part c k x s some w state = standing-at part c k x s some w state (standing (item_of k) s) refl

@@ -9,7 +9,7 @@ use Rattle.queue_table.specs.declared.records.Entry.{Entry}
 use Rattle.queue_table.specs.Entries.{entry, oldest_of}
 use Rattle.queue_table.specs.Queues.{Queues, with_queue, after_push}
 use Rattle.queue_policies.specs.CountedKeys.{CountedKey, AreCounted, total_count}
-use Rattle.queue_policies.specs.S3Fifo.{S3FifoState, s3_fifo_main_size, main_gives, main_eviction, small_eviction}
+use Rattle.queue_policies.specs.S3Fifo.{S3FifoState, main_gives, main_eviction, small_eviction}
 use Rattle.queue_policies.specs.Queues.{without_oldest}
 use Rattle.queue_policies.specs.Residents.{times}
 use Rattle.queue_policies.specs.Ghost.{ghost_with}
@@ -72,12 +72,12 @@ total-few (e ∷ l) h = let rest = total-few l h.1 in let own = h.0 in omega (ar
 
 -- ---- which queue gives up a key
 
-pub gives-is : (c : ℕ) (s : Queues) → gives_main c s ≡ main_gives c (s3_fifo_of s)
-gives-is c s = go (s SMALL)
+pub gives-is : (size : ℕ) (s : Queues) → gives_main size s ≡ main_gives size (s3_fifo_of s)
+gives-is size s = go (s SMALL)
   where
-    go : (small : List Entry) → (length small == 0 || nat_lt (s3_fifo_main_size c) (length (s MAIN))) ≡ main_gives c (made (counted_keys small) (counted_keys (s MAIN)) (keys_of (s GHOST)))
+    go : (small : List Entry) → (length small == 0 || nat_lt size (length (s MAIN))) ≡ main_gives size (made (counted_keys small) (counted_keys (s MAIN)) (keys_of (s GHOST)))
     go [] = refl
-    go (e ∷ small) = rw (ne_eqb (suc (length small)) 0 (λ e. omega (arith, e))) (ap (nat_lt (s3_fifo_main_size c)) (sym (length-counted (s MAIN))))
+    go (e ∷ small) = rw (ne_eqb (suc (length small)) 0 (λ e. omega (arith, e))) (ap (nat_lt size) (sym (length-counted (s MAIN))))
 
 -- ---- a key leaves
 
@@ -121,10 +121,7 @@ module _ (size k v : ℕ) (ghost : List ℕ) (apart : eqb k v ≡ false) where
       ∙ ap (ghost_with size v) (sym (without-none k ghost h))
 
 -- the oldest of the small queue leaves for the ghost
-module _ (c k : ℕ) (s : Queues) (t : IsTabled s) (few : length (keys_of (s GHOST)) ≤ s3_fifo_main_size c) where
-  abbrev size : ℕ
-  size = s3_fifo_main_size c
-
+module _ (size k : ℕ) (s : Queues) (t : IsTabled s) (few : length (keys_of (s GHOST)) ≤ size) where
   abbrev same_size : length (keys_of (s GHOST)) ≡ length (s GHOST)
   same_size = length-map (s GHOST) (λ (e : Entry). e.item.key)
 
@@ -133,7 +130,7 @@ module _ (c k : ℕ) (s : Queues) (t : IsTabled s) (few : length (keys_of (s GHO
     sent = after_push GHOST (entry e.item 0) (with_queue SMALL l s)
 
     abbrev goal : Option Leaving → Type 0
-    goal second = IsLeft k (after_leaving second sent) (outcome.Evicted e.item.key) (small_eviction c (counted_keys (e ∷ l)) (counted_keys (s MAIN)) (keys_without k (keys_of (s GHOST))))
+    goal second = IsLeft k (after_leaving second sent) (outcome.Evicted e.item.key) (small_eviction size (counted_keys (e ∷ l)) (counted_keys (s MAIN)) (keys_without k (keys_of (s GHOST))))
 
     joins-ghost : keys_of (sent GHOST) ≡ keys_of (s GHOST) ++ e.item.key ∷ []
     joins-ghost = keys-append (s GHOST) (entry e.item 0 ∷ [])
@@ -150,7 +147,7 @@ module _ (c k : ℕ) (s : Queues) (t : IsTabled s) (few : length (keys_of (s GHO
       ghost = ap (λ (x : S3FifoState). keys_without k x.ghost) view ∙ is;
     }
 
-    second-left : (r : Bool) → has_key k (keys_of (s GHOST)) ≡ r → goal (forgets c r s)
+    second-left : (r : Bool) → has_key k (keys_of (s GHOST)) ≡ r → goal (forgets size r s)
     second-left true is = left-with None _ (ap (made (counted_keys l) (counted_keys (s MAIN))) joins-ghost) (remembered size k e.item.key (keys_of (s GHOST)) apart is few)
     second-left false is =
         let ghost : List ℕ = ghost_with size e.item.key (keys_of (s GHOST)) in
@@ -162,11 +159,11 @@ module _ (c k : ℕ) (s : Queues) (t : IsTabled s) (few : length (keys_of (s GHO
               rw f (left-with (leaving GHOST None) ghost (ghost-left sent sent-tabled (sent GHOST) refl ∙ ap state (ap without_oldest joins-ghost ∙ rw (same_size, f) refl)) gone)
         ]
 
-  pub small-left : (r : Bool) → has_key k (keys_of (s GHOST)) ≡ r → (small : List Entry) → s SMALL ≡ small → gives_main c s ≡ false → has_key k (keys_of small) ≡ false →
-      IsLeft k (after_leaving (forgets c r s) (after_leaving (leaving SMALL (Some (GHOST, 0))) s)) (outcome_after (leaving SMALL (Some (GHOST, 0))) s) (small_eviction c (counted_keys (s SMALL)) (counted_keys (s MAIN)) (keys_without k (keys_of (s GHOST))))
-  small-left r is [] h g a = absurd (let no : true ≡ false = ap (λ (x : List Entry). length x == 0 || nat_lt (s3_fifo_main_size c) (length (s MAIN))) (sym h) ∙ g in cc (no))
+  pub small-left : (r : Bool) → has_key k (keys_of (s GHOST)) ≡ r → (small : List Entry) → s SMALL ≡ small → gives_main size s ≡ false → has_key k (keys_of small) ≡ false →
+      IsLeft k (after_leaving (forgets size r s) (after_leaving (leaving SMALL (Some (GHOST, 0))) s)) (outcome_after (leaving SMALL (Some (GHOST, 0))) s) (small_eviction size (counted_keys (s SMALL)) (counted_keys (s MAIN)) (keys_without k (keys_of (s GHOST))))
+  small-left r is [] h g a = absurd (let no : true ≡ false = ap (λ (x : List Entry). length x == 0 || nat_lt size (length (s MAIN))) (sym h) ∙ g in cc (no))
   small-left r is (e ∷ l) h g a =
-      let P : Queues → List Entry → Type 0 = λ u x. IsLeft k (after_leaving (forgets c r s) u) (evicted (oldest_of x)) (small_eviction c (counted_keys x) (counted_keys (s MAIN)) (keys_without k (keys_of (s GHOST)))) in
+      let P : Queues → List Entry → Type 0 = λ u x. IsLeft k (after_leaving (forgets size r s) u) (evicted (oldest_of x)) (small_eviction size (counted_keys x) (counted_keys (s MAIN)) (keys_without k (keys_of (s GHOST)))) in
       let at : P (sent e l h (apart_of a)) (e ∷ l) = second-left e l h (apart_of a) r is in
       subst (P _) (sym h) (subst (λ u. P u (e ∷ l)) (sym (oldest-sent s t SMALL GHOST e l h)) at)
     where

@@ -46,8 +46,8 @@ module _ (k q n : ℕ) (s : Queues) (t : IsTabled s) (at : standing (item_of k) 
             | inr e ↦ (e, rw e at out)
           ]
 
-pub queues-fit : (c : ℕ) (s : Queues) → IsS3Fifo c (s3_fifo_of s) → length (s SMALL) + length (s MAIN) ≤ c
-queues-fit c s state =
+pub queues-fit : (part c : ℕ) (s : Queues) → IsS3Fifo part c (s3_fifo_of s) → length (s SMALL) + length (s MAIN) ≤ c
+queues-fit part c s state =
     let small = counted_keys (s SMALL) in
     let main = counted_keys (s MAIN) in
     let fits : length (counted.keys_of (small ++ main)) ≤ c = state.residents.fits in
@@ -56,18 +56,18 @@ queues-fit c s state =
 -- ---- room
 
 -- once the promotions are made
-module _ (c : ℕ) (r : Bool) (s a : Queues) (early : Run) (is : early ≡ promotions c s) (after : a ≡ after_run early s) where
-  a-is : a ≡ after_run (promotions c s) s
+module _ (size : ℕ) (r : Bool) (s a : Queues) (early : Run) (is : early ≡ promotions size s) (after : a ≡ after_run early s) where
+  a-is : a ≡ after_run (promotions size s) s
   a-is = after ∙ ap (λ e. after_run e s) is
 
   pub main-few : IsTabled s → length (a MAIN) ≤ length (s SMALL) + length (s MAIN)
   main-few t =
       let small : List CountedKey = counted_keys (s SMALL) in
       let main : List CountedKey = counted_keys (s MAIN) in
-      let m : ℕ = promotion_count_within (s3_fifo_main_size c + 1 - length (s MAIN)) small in
-      let state = ap s3_fifo_of a-is ∙ promoted (s3_fifo_main_size c + 1 - length (s MAIN)) s t (s SMALL) refl in
+      let m : ℕ = promotion_count_within (size + 1 - length (s MAIN)) small in
+      let state = ap s3_fifo_of a-is ∙ promoted (size + 1 - length (s MAIN)) s t (s SMALL) refl in
       let long : length (counted_keys (a MAIN)) ≡ length (main ++ take m small) = ap (λ (x : S3FifoState). length x.main) state in
       omega (arith, long, length-counted (a MAIN), length-counted (s MAIN), length-counted (s SMALL), length-append main (take m small), length-take m small)
 
-  pub room-made : (u : Queues) (m : RoomMoves) → nat_lt (length (s SMALL) + length (s MAIN)) c ≡ false → IsRoomMade (eviction_plan c r early a) s u m → IsRoomMade (room_plan c r s) s u m
-  room-made u m f h = rw f (subst (λ e. IsRoomMade (eviction_plan c r e (after_run e s)) s u m) is (subst (λ b. IsRoomMade (eviction_plan c r early b) s u m) after h))
+  pub room-made : (part c : ℕ) → size ≡ s3_fifo_main_size part c → (u : Queues) (m : RoomMoves) → nat_lt (length (s SMALL) + length (s MAIN)) c ≡ false → IsRoomMade (eviction_plan size r early a) s u m → IsRoomMade (room_plan part c r s) s u m
+  room-made part c same u m f h = rw (f, sym same) (subst (λ e. IsRoomMade (eviction_plan size r e (after_run e s)) s u m) is (subst (λ b. IsRoomMade (eviction_plan size r early b) s u m) after h))

@@ -7,7 +7,8 @@ use Rattle.queue_table.specs.Entries.{entry, oldest_of}
 use Rattle.queue_table.specs.Queues.{QUEUES, Queues, after_send}
 use Rattle.queue_policies.specs.Queues.{without_oldest}
 use Rattle.queue_policies.specs.Ghost.{ghost_place_of, ghost_with}
-use Rattle.ghost_policies.specs.TwoQ.{TwoQState, two_q_residents, kin, kout, leaver_of_a1in, leaver_of_am, two_q_leaver, two_q_after_recall, two_q_after_eviction, two_q_after_join, two_q_outcome, two_q_act, IsTwoQ}
+use Rattle.ghost_policies.specs.TwoQ.{TwoQState, two_q_residents, leaver_of_a1in, leaver_of_am, two_q_leaver, two_q_after_recall, two_q_after_eviction, two_q_after_join, two_q_outcome, two_q_act, IsTwoQ}
+use Rattle.ghost_policies.specs.declared.two_q.TwoQSizes.{TwoQSizes}
 use Rattle.ghost_policies.specs.declared.two_q.TwoQLeaver.{TwoQLeaver}
 use Rattle.ghost_policies.specs.declared.two_q.TwoQLeaver.TheVariants.{NoLeaver}
 use Rattle.queue_policies.proofs.Ghost.{without-length}
@@ -75,20 +76,20 @@ cond-twice false x y z = refl
 
 -- ---- the keys that leave
 
-record Evicts (c k : ℕ) (l : Leavers) (v : TwoQLeaver) (s : Queues) : Type 0 where
+record Evicts (z : TwoQSizes) (k : ℕ) (l : Leavers) (v : TwoQLeaver) (s : Queues) : Type 0 where
   outcome : outcome_after l.first s ≡ two_q_outcome v
-  shows : Shows k (after_leaving l.second (after_leaving l.first s)) (two_q_after_eviction c v (two_q_after_recall k (two_q_of s)))
+  shows : Shows k (after_leaving l.second (after_leaving l.first s)) (two_q_after_eviction z v (two_q_after_recall k (two_q_of s)))
 
-pub leavers-low : (c : ℕ) (r : Bool) (s : Queues) → AreLow (two_q_leavers c r s)
-leavers-low c r s =
+pub leavers-low : (z : TwoQSizes) (c : ℕ) (r : Bool) (s : Queues) → AreLow (two_q_leavers z c r s)
+leavers-low z c r s =
     cond_both (nat_lt (length (s A1IN) + length (s AM)) c) _ _ AreLow (λ e. (tt, tt)) (λ e.
-    cond_both (gives_a1in c s) _ _ AreLow
-    (λ f. ((omega arith, omega arith), cond_both (r || nat_lt (length (s A1OUT)) (kout c)) _ _ IsLowLeaving (λ g. tt) (λ g. (omega arith, tt))))
+    cond_both (gives_a1in z.kin s) _ _ AreLow
+    (λ f. ((omega arith, omega arith), cond_both (r || nat_lt (length (s A1OUT)) z.kout) _ _ IsLowLeaving (λ g. tt) (λ g. (omega arith, tt))))
     (λ f. ((omega arith, tt), tt)))
 
-page-leaver : (c : ℕ) (s : Queues) → two_q_leaver c (two_q_of s)
-    ≡ cond (nat_lt (length (s A1IN) + length (s AM)) c) NoLeaver (cond (gives_a1in c s) (leaver_of_a1in (keys_of (s A1IN))) (leaver_of_am (keys_of (s AM))))
-page-leaver c s =
+page-leaver : (z : TwoQSizes) (c : ℕ) (s : Queues) → two_q_leaver z c (two_q_of s)
+    ≡ cond (nat_lt (length (s A1IN) + length (s AM)) c) NoLeaver (cond (gives_a1in z.kin s) (leaver_of_a1in (keys_of (s A1IN))) (leaver_of_am (keys_of (s AM))))
+page-leaver z c s =
     let a : length (keys_of (s A1IN)) ≡ length (s A1IN) = length-keys (s A1IN) in
     let m : length (keys_of (s AM)) ≡ length (s AM) = length-keys (s AM) in
     let all : length (two_q_residents (two_q_of s)) ≡ length (s A1IN) + length (s AM) = length-append (keys_of (s A1IN)) (keys_of (s AM)) ∙ rw (a, m) refl in
@@ -98,25 +99,25 @@ am-outcome : (l : List Entry) → evicted (oldest_of l) ≡ two_q_outcome (leave
 am-outcome [] = refl
 am-outcome (e ∷ l) = refl
 
-page-am : (c : ℕ) (l : List ℕ) (d : TwoQState) → d.am ≡ l → two_q_after_eviction c (leaver_of_am l) d ≡ record d { am = drop 1 l }
-page-am c [] d h = same-state refl refl h
-page-am c (v ∷ l) d h = same-state refl refl (ap (drop 1) h)
+page-am : (z : TwoQSizes) (l : List ℕ) (d : TwoQState) → d.am ≡ l → two_q_after_eviction z (leaver_of_am l) d ≡ record d { am = drop 1 l }
+page-am z [] d h = same-state refl refl h
+page-am z (v ∷ l) d h = same-state refl refl (ap (drop 1) h)
 
-module _ (c k : ℕ) (r : Bool) (s : Queues) (some : 1 ≤ c) (t : IsTabled s) (i : IsTwoQ c (two_q_of s))
+module _ (z : TwoQSizes) (c k : ℕ) (r : Bool) (s : Queues) (some : 1 ≤ c) (t : IsTabled s) (i : IsTwoQ z c (two_q_of s))
     (no_am : has_key k (keys_of (s AM)) ≡ false) (no_a1in : has_key k (keys_of (s A1IN)) ≡ false)
     (in_a1out : has_key k (keys_of (s A1OUT)) ≡ r) where
-  none-leaves : Evicts c k no_leavers NoLeaver s
+  none-leaves : Evicts z k no_leavers NoLeaver s
   none-leaves = record {
     outcome = refl;
     shows = record { a1in = none-out k (keys_of (s A1IN)) no_a1in; a1out = refl; am = none-out k (keys_of (s AM)) no_am };
   }
 
-  am-leaves : Evicts c k record { first = leaving AM None; second = None } (leaver_of_am (keys_of (s AM))) s
+  am-leaves : Evicts z k record { first = leaving AM None; second = None } (leaver_of_am (keys_of (s AM))) s
   am-leaves =
       let at = λ (j : ℕ). ap (keys_without k) (left-keys s AM t None j) in
       record {
         outcome = am-outcome (s AM);
-        shows = subst (Shows k (after_leaving (leaving AM None) s)) (sym (page-am c (keys_of (s AM)) (two_q_after_recall k (two_q_of s)) refl)) record {
+        shows = subst (Shows k (after_leaving (leaving AM None) s)) (sym (page-am z (keys_of (s AM)) (two_q_after_recall k (two_q_of s)) refl)) record {
           a1in = at A1IN ∙ none-out k (keys_of (s A1IN)) no_a1in;
           a1out = at A1OUT;
           am = at AM ∙ without-drop k (keys_of (s AM)) no_am;
@@ -124,27 +125,27 @@ module _ (c k : ℕ) (r : Bool) (s : Queues) (some : 1 ≤ c) (t : IsTabled s) (
       }
 
   -- the keys once the oldest of a1in has left, and a1out may have forgotten one
-  forgotten-keys : (j : ℕ) → keys_of (after_leaving (forgets c r s) (after_leaving (leaving A1IN (Some (A1OUT, 0))) s) j)
-      ≡ cond (eqb j A1OUT) (cond (r || nat_lt (length (s A1OUT)) (kout c)) (keys_of (s A1OUT) ++ take 1 (keys_of (s A1IN))) (drop 1 (keys_of (s A1OUT) ++ take 1 (keys_of (s A1IN)))))
+  forgotten-keys : (j : ℕ) → keys_of (after_leaving (forgets z.kout r s) (after_leaving (leaving A1IN (Some (A1OUT, 0))) s) j)
+      ≡ cond (eqb j A1OUT) (cond (r || nat_lt (length (s A1OUT)) z.kout) (keys_of (s A1OUT) ++ take 1 (keys_of (s A1IN))) (drop 1 (keys_of (s A1OUT) ++ take 1 (keys_of (s A1IN)))))
       (cond (eqb j A1IN) (drop 1 (keys_of (s A1IN))) (keys_of (s j)))
   forgotten-keys j =
-      elim (cases_Bool (r || nat_lt (length (s A1OUT)) (kout c))) as (λ _. keys_of (after_leaving (forgets c r s) (after_leaving (leaving A1IN (Some (A1OUT, 0))) s) j)
-      ≡ cond (eqb j A1OUT) (cond (r || nat_lt (length (s A1OUT)) (kout c)) (keys_of (s A1OUT) ++ take 1 (keys_of (s A1IN))) (drop 1 (keys_of (s A1OUT) ++ take 1 (keys_of (s A1IN)))))
+      elim (cases_Bool (r || nat_lt (length (s A1OUT)) z.kout)) as (λ _. keys_of (after_leaving (forgets z.kout r s) (after_leaving (leaving A1IN (Some (A1OUT, 0))) s) j)
+      ≡ cond (eqb j A1OUT) (cond (r || nat_lt (length (s A1OUT)) z.kout) (keys_of (s A1OUT) ++ take 1 (keys_of (s A1IN))) (drop 1 (keys_of (s A1OUT) ++ take 1 (keys_of (s A1IN)))))
       (cond (eqb j A1IN) (drop 1 (keys_of (s A1IN))) (keys_of (s j)))) [
         | inl f ↦ rw f (left-keys s A1IN t (Some (A1OUT, 0)) j)
         | inr f ↦ rw f (left-twice s t A1IN (Some (A1OUT, 0)) (omega arith) (omega arith) A1OUT j ∙ cond-twice (eqb j A1OUT) _ _ _)
       ]
 
-  a1in-leaves : 1 ≤ length (s A1IN) → Evicts c k record { first = leaving A1IN (Some (A1OUT, 0)); second = forgets c r s } (leaver_of_a1in (keys_of (s A1IN))) s
+  a1in-leaves : 1 ≤ length (s A1IN) → Evicts z k record { first = leaving A1IN (Some (A1OUT, 0)); second = forgets z.kout r s } (leaver_of_a1in (keys_of (s A1IN))) s
   a1in-leaves n =
       let first = first-of (s A1IN) n in
       let e : Entry = first.0 in
       let keys : keys_of (s A1IN) ≡ e.item.key ∷ keys_of first.1.0 = ap keys_of first.1.1 in
       let at = λ (j : ℕ). ap (keys_without k) (forgotten-keys j) in
       let other : eqb k e.item.key ≡ false = apart-first k e.item.key (keys_of first.1.0) (ap (has_key k) (sym keys) ∙ no_a1in) in
-      let few : length (keys_of (s A1OUT)) ≤ kout c = i.few in
-      let ghost = remembered k (kout c) e.item.key (keys_of (s A1OUT)) r in_a1out other few in
-      subst (λ v. Evicts c k record { first = leaving A1IN (Some (A1OUT, 0)); second = forgets c r s } v s) (sym (ap leaver_of_a1in keys)) record {
+      let few : length (keys_of (s A1OUT)) ≤ z.kout = i.few in
+      let ghost = remembered k z.kout e.item.key (keys_of (s A1OUT)) r in_a1out other few in
+      subst (λ v. Evicts z k record { first = leaving A1IN (Some (A1OUT, 0)); second = forgets z.kout r s } v s) (sym (ap leaver_of_a1in keys)) record {
         outcome = ap (λ z. evicted (oldest_of z)) first.1.1;
         shows = record {
           a1in = at A1IN ∙ without-drop k (keys_of (s A1IN)) no_a1in;
@@ -153,32 +154,32 @@ module _ (c k : ℕ) (r : Bool) (s : Queues) (some : 1 ≤ c) (t : IsTabled s) (
         };
       }
 
-  a1in-some : c ≤ length (s A1IN) + length (s AM) → gives_a1in c s ≡ true → 1 ≤ length (s A1IN)
+  a1in-some : c ≤ length (s A1IN) + length (s AM) → gives_a1in z.kin s ≡ true → 1 ≤ length (s A1IN)
   a1in-some full f =
-      elim (or_cases (nat_lt (kin c) (length (s A1IN))) (eqb (length (s AM)) 0) f) [
-        | inl many ↦ let over = ltb-true (kin c) (length (s A1IN)) many in omega (arith, over)
+      elim (or_cases (nat_lt z.kin (length (s A1IN))) (eqb (length (s AM)) 0) f) [
+        | inl many ↦ let over = ltb-true z.kin (length (s A1IN)) many in omega (arith, over)
         | inr none ↦ let empty = eqb-true (length (s AM)) 0 none in omega (arith, empty, full, some)
       ]
 
-  evicts : Evicts c k (two_q_leavers c r s) (two_q_leaver c (two_q_of s)) s
+  evicts : Evicts z k (two_q_leavers z c r s) (two_q_leaver z c (two_q_of s)) s
   evicts =
-      subst (λ v. Evicts c k (two_q_leavers c r s) v s) (sym (page-leaver c s))
-      (elim (cases_Bool (nat_lt (length (s A1IN) + length (s AM)) c)) as (λ _. Evicts c k (two_q_leavers c r s) (cond (nat_lt (length (s A1IN) + length (s AM)) c) NoLeaver (cond (gives_a1in c s) (leaver_of_a1in (keys_of (s A1IN))) (leaver_of_am (keys_of (s AM))))) s) [
+      subst (λ v. Evicts z k (two_q_leavers z c r s) v s) (sym (page-leaver z c s))
+      (elim (cases_Bool (nat_lt (length (s A1IN) + length (s AM)) c)) as (λ _. Evicts z k (two_q_leavers z c r s) (cond (nat_lt (length (s A1IN) + length (s AM)) c) NoLeaver (cond (gives_a1in z.kin s) (leaver_of_a1in (keys_of (s A1IN))) (leaver_of_am (keys_of (s AM))))) s) [
         | inl e ↦ rw e none-leaves
         | inr e ↦
             let full : c ≤ length (s A1IN) + length (s AM) = ltb-false (length (s A1IN) + length (s AM)) c e in
-            rw e (elim (cases_Bool (gives_a1in c s)) [
+            rw e (elim (cases_Bool (gives_a1in z.kin s)) [
               | inl f ↦ rw f (a1in-leaves (a1in-some full f))
               | inr f ↦ rw f am-leaves
             ])
       ])
 
-  planned-miss : (x : ℕ) → IsPlannedBy (two_q_miss c r x s) k s (λ y. two_q_of) (two_q_act c k (two_q_of s)) (has_key k (two_q_residents (two_q_of s)))
+  planned-miss : (x : ℕ) → IsPlannedBy (two_q_miss z c r x s) k s (λ y. two_q_of) (two_q_act z c k (two_q_of s)) (has_key k (two_q_residents (two_q_of s)))
   planned-miss x =
-      let l : Leavers = two_q_leavers c r s in
+      let l : Leavers = two_q_leavers z c r s in
       let u : Queues = after_leaving l.second (after_leaving l.first s) in
-      let d : TwoQState = two_q_after_eviction c (two_q_leaver c (two_q_of s)) (two_q_after_recall k (two_q_of s)) in
-      let low : AreLow l = leavers-low c r s in
+      let d : TwoQState = two_q_after_eviction z (two_q_leaver z c (two_q_of s)) (two_q_after_recall k (two_q_of s)) in
+      let low : AreLow l = leavers-low z c r s in
       rw (no_am, no_a1in) record {
         outcome = evicts.outcome;
         state = joined r k (keys_of (s A1OUT)) u d in_a1out (tabled-leavers l s low t).keys evicts.shows;
@@ -188,8 +189,8 @@ module _ (c k : ℕ) (r : Bool) (s : Queues) (some : 1 ≤ c) (t : IsTabled s) (
 
 -- ---- an access
 
-module _ (c k x n : ℕ) (s : Queues) (t : IsTabled s) where
-  renewed : StandsAs k AM n s → IsPlannedBy (own_plan true (goes AM 0) x) k s (λ y. two_q_of) (two_q_act c k (two_q_of s)) (has_key k (two_q_residents (two_q_of s)))
+module _ (z : TwoQSizes) (c k x n : ℕ) (s : Queues) (t : IsTabled s) where
+  renewed : StandsAs k AM n s → IsPlannedBy (own_plan true (goes AM 0) x) k s (λ y. two_q_of) (two_q_act z c k (two_q_of s)) (has_key k (two_q_residents (two_q_of s)))
   renewed a = rw a.here record {
     outcome = refl;
     state = same-state (keys-sent k 0 AM s t.keys A1IN ∙ a.off_without A1IN (λ e. omega (arith, e)))
@@ -198,7 +199,7 @@ module _ (c k x n : ℕ) (s : Queues) (t : IsTabled s) where
     low = own-low (goes AM 0) (omega arith);
   }
 
-  unmoved : StandsAs k A1IN n s → IsPlannedBy (own_plan true stays x) k s (λ y. two_q_of) (two_q_act c k (two_q_of s)) (has_key k (two_q_residents (two_q_of s)))
+  unmoved : StandsAs k A1IN n s → IsPlannedBy (own_plan true stays x) k s (λ y. two_q_of) (two_q_act z c k (two_q_of s)) (has_key k (two_q_residents (two_q_of s)))
   unmoved a = rw (a.off AM (λ e. omega (arith, e)), a.here) record {
     outcome = refl;
     state = refl;
@@ -206,18 +207,18 @@ module _ (c k x n : ℕ) (s : Queues) (t : IsTabled s) where
     low = own-low stays tt;
   }
 
-module _ (c k x : ℕ) (s : Queues) (some : 1 ≤ c) (t : IsTabled s) (i : IsTwoQ c (two_q_of s)) where
+module _ (z : TwoQSizes) (c k x : ℕ) (s : Queues) (some : 1 ≤ c) (t : IsTabled s) (i : IsTwoQ z c (two_q_of s)) where
   abbrev Planned : Option (ℕ × ℕ) → Type 0
-  Planned p = IsPlannedBy (plan_at c x p s) k s (λ y. two_q_of) (two_q_act c k (two_q_of s)) (has_key k (two_q_residents (two_q_of s)))
+  Planned p = IsPlannedBy (plan_at z c x p s) k s (λ y. two_q_of) (two_q_act z c k (two_q_of s)) (has_key k (two_q_residents (two_q_of s)))
 
   planned-in : (q n : ℕ) → StandsAs k q n s → Planned (Some (q, n))
   planned-in q n a =
       elim (cases_eq q AM) as (λ _. Planned (Some (q, n))) [
-        | inl e ↦ rw (eq-eqb q AM e) (renewed c k x n s t (subst (λ j. StandsAs k j n s) e a))
+        | inl e ↦ rw (eq-eqb q AM e) (renewed z c k x n s t (subst (λ j. StandsAs k j n s) e a))
         | inr e ↦ rw (ne_eqb q AM e) (elim (cases_eq q A1IN) [
-          | inl f ↦ rw (eq-eqb q A1IN f) (unmoved c k x n s t (subst (λ j. StandsAs k j n s) f a))
+          | inl f ↦ rw (eq-eqb q A1IN f) (unmoved z c k x n s t (subst (λ j. StandsAs k j n s) f a))
           | inr f ↦ rw (ne_eqb q A1IN f)
-              (planned-miss c k (eqb q A1OUT) s some t i (a.off AM (λ z. e (sym z))) (a.off A1IN (λ z. f (sym z))) (elim (cases_eq q A1OUT) [
+              (planned-miss z c k (eqb q A1OUT) s some t i (a.off AM (λ z. e (sym z))) (a.off A1IN (λ z. f (sym z))) (elim (cases_eq q A1OUT) [
                 | inl g ↦ rw (eq-eqb q A1OUT g) (subst (λ j. has_key k (keys_of (s j)) ≡ true) g a.here)
                 | inr g ↦ rw (ne_eqb q A1OUT g) (a.off A1OUT (λ z. g (sym z)))
               ]) x)
@@ -227,17 +228,17 @@ module _ (c k x : ℕ) (s : Queues) (some : 1 ≤ c) (t : IsTabled s) (i : IsTwo
   planned-at : (p : Option (ℕ × ℕ)) → standing (item_of k) s ≡ p → Planned p
   planned-at None h =
       let nowhere = stands-nowhere s t k h in
-      planned-miss c k false s some t i (nowhere AM).0 (nowhere A1IN).0 (nowhere A1OUT).0 x
+      planned-miss z c k false s some t i (nowhere AM).0 (nowhere A1IN).0 (nowhere A1OUT).0 x
   planned-at (Some p) h = planned-in p.0 p.1 (stands s t k p.0 p.1 h)
 
 pub planned : TwoQIsPlanned
-planned c k x s some t i = planned-at c k x s some t i (standing (item_of k) s) refl
+planned z c k x s some t i = planned-at z c k x s some t i (standing (item_of k) s) refl
 
 -- ---- the plan, by the queue where the key stands
 
-module _ (c k x q n : ℕ) (s : Queues) (at : standing (item_of k) s ≡ Some (q, n)) where
-  pub am-plan : q ≡ AM → two_q_plan c k x s ≡ own_plan true (goes AM 0) x
-  am-plan e = ap (λ p. plan_at c x p s) at ∙ rw (eq-eqb q AM e) refl
+module _ (z : TwoQSizes) (c k x q n : ℕ) (s : Queues) (at : standing (item_of k) s ≡ Some (q, n)) where
+  pub am-plan : q ≡ AM → two_q_plan z c k x s ≡ own_plan true (goes AM 0) x
+  am-plan e = ap (λ p. plan_at z c x p s) at ∙ rw (eq-eqb q AM e) refl
 
-  pub a1in-plan : q ≡ A1IN → two_q_plan c k x s ≡ own_plan true stays x
-  a1in-plan e = ap (λ p. plan_at c x p s) at ∙ rw e refl
+  pub a1in-plan : q ≡ A1IN → two_q_plan z c k x s ≡ own_plan true stays x
+  a1in-plan e = ap (λ p. plan_at z c x p s) at ∙ rw e refl

@@ -29,16 +29,16 @@ abbrev pub s3_fifo_of : Queues → S3FifoState
 s3_fifo_of s =
     record { small = counted_keys (s SMALL); main = counted_keys (s MAIN); ghost = keys_of (s GHOST) }
 
--- ---- an eviction
+-- ---- an eviction, where main is to have m keys
 
 -- main takes the oldest keys of the small queue that were hit twice, until it is over its size
 abbrev pub promotions : ℕ → Queues → Run
-promotions c s =
-    run SMALL MAIN 0 (turns_due (s3_fifo_main_size c + 1 - length (s MAIN)) SMALL MAIN 0 2 s)
+promotions m s =
+    run SMALL MAIN 0 (turns_due (m + 1 - length (s MAIN)) SMALL MAIN 0 2 s)
 
 -- main gives up a key, and not the small queue
 abbrev pub gives_main : ℕ → Queues → Bool
-gives_main c s = length (s SMALL) == 0 || nat_lt (s3_fifo_main_size c) (length (s MAIN))
+gives_main m s = length (s SMALL) == 0 || nat_lt m (length (s MAIN))
 
 -- the turns of main, each of which takes 1 from a count of at most 3
 abbrev pub main_turns : Queues → Run
@@ -46,8 +46,8 @@ main_turns s = run MAIN MAIN 1 (turns_due (3 * length (s MAIN)) MAIN MAIN 1 1 s)
 
 -- The ghost, which one more key joins, forgets its oldest where it is over its size. A key that it remembers leaves it.
 abbrev pub forgets : ℕ → Bool → Queues → Option Leaving
-forgets c remembered s =
-    if remembered || nat_lt (length (s GHOST)) (s3_fifo_main_size c) then None else leaving GHOST None
+forgets m remembered s =
+    if remembered || nat_lt (length (s GHOST)) m then None else leaving GHOST None
 
 -- once the promotions are made
 
@@ -56,24 +56,29 @@ main_eviction_plan early s =
     record { early = early; late = main_turns s; first = leaving MAIN None; second = None }
 
 abbrev pub small_eviction_plan : ℕ → Bool → Run → Queues → RoomPlan
-small_eviction_plan c remembered early s = record {
+small_eviction_plan m remembered early s = record {
   early = early;
   late = no_run;
   first = leaving SMALL (Some (GHOST, 0));
-  second = forgets c remembered s;
+  second = forgets m remembered s;
 }
 
 abbrev pub eviction_plan : ℕ → Bool → Run → Queues → RoomPlan
-eviction_plan c remembered early s =
-    if gives_main c s
+eviction_plan m remembered early s =
+    if gives_main m s
     then main_eviction_plan early s
-    else small_eviction_plan c remembered early s
+    else small_eviction_plan m remembered early s
 
-abbrev pub room_plan : ℕ → Bool → Queues → RoomPlan
-room_plan c remembered s =
+-- a full cache: the promotions, and then a key leaves
+abbrev pub full_plan : ℕ → Bool → Queues → RoomPlan
+full_plan m remembered s = eviction_plan m remembered (promotions m s) (after_run (promotions m s) s)
+
+-- the small queue is to have `part` of the c keys
+abbrev pub room_plan : ℕ → ℕ → Bool → Queues → RoomPlan
+room_plan part c remembered s =
     if nat_lt (length (s SMALL) + length (s MAIN)) c
     then no_room_plan
-    else eviction_plan c remembered (promotions c s) (after_run (promotions c s) s)
+    else full_plan (s3_fifo_main_size part c) remembered s
 
 -- ---- an access
 
@@ -81,21 +86,21 @@ room_plan c remembered s =
 abbrev pub joins : Bool → ℕ
 joins remembered = if remembered then MAIN else SMALL
 
-abbrev pub s3_fifo_miss : ℕ → Bool → ℕ → Queues → Plan
-s3_fifo_miss c remembered x s = miss_plan (room_plan c remembered s) (goes (joins remembered) 0) x
+abbrev pub s3_fifo_miss : ℕ → ℕ → Bool → ℕ → Queues → Plan
+s3_fifo_miss part c remembered x s = miss_plan (room_plan part c remembered s) (goes (joins remembered) 0) x
 
 -- a key of this queue is in the cache
 abbrev pub is_resident : ℕ → Bool
 is_resident q = q == SMALL || q == MAIN
 
 -- where the key stands in queue p.0 with the count p.1
-abbrev pub plan_at : ℕ → ℕ → Option (ℕ × ℕ) → Queues → Plan
-plan_at c x None s = s3_fifo_miss c false x s
-plan_at c x (Some p) s =
+abbrev pub plan_at : ℕ → ℕ → ℕ → Option (ℕ × ℕ) → Queues → Plan
+plan_at part c x None s = s3_fifo_miss part c false x s
+plan_at part c x (Some p) s =
     if is_resident p.0
     then own_plan true (counts (hit_count p.1)) x
-    else s3_fifo_miss c (p.0 == GHOST) x s
+    else s3_fifo_miss part c (p.0 == GHOST) x s
 
--- an access to k at capacity c; S3-FIFO has no number of its own
-abbrev pub s3_fifo_plan : ℕ → ℕ → ℕ → Queues → Plan
-s3_fifo_plan c k x s = plan_at c x (standing (item_of k) s) s
+-- an access to k at capacity c, of which the small queue is to have `part`; S3-FIFO has no number of its own
+abbrev pub s3_fifo_plan : ℕ → ℕ → ℕ → ℕ → Queues → Plan
+s3_fifo_plan part c k x s = plan_at part c x (standing (item_of k) s) s

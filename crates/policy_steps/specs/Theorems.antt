@@ -6,6 +6,7 @@ use Rattle.queue_policies.specs.CountedKeys.{keys_of}
 use Rattle.queue_policies.specs.Clock.{clock_act, IsClock}
 use Rattle.queue_policies.specs.Sieve.{sieve_residents, sieve_act, IsSieve}
 use Rattle.queue_policies.specs.S3Fifo.{s3_fifo_act, s3_fifo_residents, IsS3Fifo}
+use Rattle.ghost_policies.specs.declared.two_q.TwoQSizes.{TwoQSizes}
 use Rattle.ghost_policies.specs.TwoQ.{two_q_act, two_q_residents, IsTwoQ}
 use Rattle.ghost_policies.specs.Arc.{arc_act, arc_residents, IsArc}
 use Rattle.queue_moves.specs.Tabled.{IsTabled}
@@ -29,13 +30,16 @@ SieveIsPlanned = (c k x : ℕ) (s : Queues) → 1 ≤ c → IsTabled s → IsWit
     (has_key k (sieve_residents (sieve_of x s)))
     × ((sieve_plan c k x s).scalar ≤ 1)
 
+-- S3-FIFO and 2Q, whatever the sizes of their parts.
 abbrev pub S3FifoIsPlanned : Type 0
-S3FifoIsPlanned = (c k x : ℕ) (s : Queues) → 1 ≤ c → IsTabled s → IsS3Fifo c (s3_fifo_of s)
-    → IsPlannedBy (s3_fifo_plan c k x s) k s (λ y. s3_fifo_of) (s3_fifo_act c k (s3_fifo_of s)) (has_key k (s3_fifo_residents (s3_fifo_of s)))
+S3FifoIsPlanned = (part c k x : ℕ) (s : Queues) → 1 ≤ c → IsTabled s → IsS3Fifo part c (s3_fifo_of s)
+    → IsPlannedBy (s3_fifo_plan part c k x s) k s (λ y. s3_fifo_of) (s3_fifo_act part c k (s3_fifo_of s))
+    (has_key k (s3_fifo_residents (s3_fifo_of s)))
 
 abbrev pub TwoQIsPlanned : Type 0
-TwoQIsPlanned = (c k x : ℕ) (s : Queues) → 1 ≤ c → IsTabled s → IsTwoQ c (two_q_of s)
-    → IsPlannedBy (two_q_plan c k x s) k s (λ y. two_q_of) (two_q_act c k (two_q_of s)) (has_key k (two_q_residents (two_q_of s)))
+TwoQIsPlanned = (z : TwoQSizes) (c k x : ℕ) (s : Queues) → 1 ≤ c → IsTabled s → IsTwoQ z c (two_q_of s)
+    → IsPlannedBy (two_q_plan z c k x s) k s (λ y. two_q_of) (two_q_act z c k (two_q_of s))
+    (has_key k (two_q_residents (two_q_of s)))
 
 -- ARC's number is its target.
 abbrev pub ArcIsPlanned : Type 0

@@ -4,7 +4,8 @@
 use Rattle.std.specs.Prelude.{ℕ, ◌+◌, nat_lt, ◌==◌, ◌||◌, Bool, true, false, if◌then◌else◌, Option, Some, None}
 use Rattle.std.specs.Prelude.{length}
 use Rattle.queue_table.specs.Queues.{Queues}
-use Rattle.ghost_policies.specs.TwoQ.{TwoQState, kin, kout}
+use Rattle.ghost_policies.specs.declared.two_q.TwoQSizes.{TwoQSizes}
+use Rattle.ghost_policies.specs.TwoQ.{TwoQState}
 use Rattle.queue_moves.specs.Moves.{item_of, standing, Leaving, leaving, stays, goes, Plan, own_plan}
 use Rattle.queue_moves.specs.Tabled.{keys_of}
 use Rattle.policy_steps.specs.Misses.{Leavers, no_leavers, miss_plan}
@@ -23,43 +24,43 @@ AM = 2
 abbrev pub two_q_of : Queues → TwoQState
 two_q_of s = record { a1in = keys_of (s A1IN); a1out = keys_of (s A1OUT); am = keys_of (s AM) }
 
--- ---- a miss
+-- ---- a miss, where a1in is to have kin keys, and a1out remembers kout
 
 -- a1in gives up a key, and not am: it is over its size, or am is empty
 abbrev pub gives_a1in : ℕ → Queues → Bool
-gives_a1in c s = nat_lt (kin c) (length (s A1IN)) || length (s AM) == 0
+gives_a1in kin s = nat_lt kin (length (s A1IN)) || length (s AM) == 0
 
 -- a1out, which one more key joins, forgets its oldest where it is over its size. A key that it remembers leaves it.
 abbrev pub forgets : ℕ → Bool → Queues → Option Leaving
-forgets c remembered s =
-    if remembered || nat_lt (length (s A1OUT)) (kout c) then None else leaving A1OUT None
+forgets kout remembered s =
+    if remembered || nat_lt (length (s A1OUT)) kout then None else leaving A1OUT None
 
 -- In a full cache the oldest of a1in leaves for a1out, or the oldest of am for good.
-abbrev pub two_q_leavers : ℕ → Bool → Queues → Leavers
-two_q_leavers c remembered s =
+abbrev pub two_q_leavers : TwoQSizes → ℕ → Bool → Queues → Leavers
+two_q_leavers z c remembered s =
     if nat_lt (length (s A1IN) + length (s AM)) c
     then no_leavers
-    else if gives_a1in c s
-    then record { first = leaving A1IN (Some (A1OUT, 0)); second = forgets c remembered s }
+    else if gives_a1in z.kin s
+    then record { first = leaving A1IN (Some (A1OUT, 0)); second = forgets z.kout remembered s }
     else record { first = leaving AM None; second = None }
 
 -- the key joins am where a1out remembered it, else a1in
 abbrev pub joins : Bool → ℕ
 joins remembered = if remembered then AM else A1IN
 
-abbrev pub two_q_miss : ℕ → Bool → ℕ → Queues → Plan
-two_q_miss c remembered x s = miss_plan (two_q_leavers c remembered s) (goes (joins remembered) 0) x
+abbrev pub two_q_miss : TwoQSizes → ℕ → Bool → ℕ → Queues → Plan
+two_q_miss z c remembered x s = miss_plan (two_q_leavers z c remembered s) (goes (joins remembered) 0) x
 
 -- ---- an access
 
 -- where the key stands in queue p.0 with the count p.1
-abbrev pub plan_at : ℕ → ℕ → Option (ℕ × ℕ) → Queues → Plan
-plan_at c x None s = two_q_miss c false x s
-plan_at c x (Some p) s =
+abbrev pub plan_at : TwoQSizes → ℕ → ℕ → Option (ℕ × ℕ) → Queues → Plan
+plan_at z c x None s = two_q_miss z c false x s
+plan_at z c x (Some p) s =
     if p.0 == AM
     then own_plan true (goes AM 0) x
-    else if p.0 == A1IN then own_plan true stays x else two_q_miss c (p.0 == A1OUT) x s
+    else if p.0 == A1IN then own_plan true stays x else two_q_miss z c (p.0 == A1OUT) x s
 
--- an access to k at capacity c; 2Q has no number of its own
-abbrev pub two_q_plan : ℕ → ℕ → ℕ → Queues → Plan
-two_q_plan c k x s = plan_at c x (standing (item_of k) s) s
+-- an access to k at capacity c with the sizes z; 2Q has no number of its own
+abbrev pub two_q_plan : TwoQSizes → ℕ → ℕ → ℕ → Queues → Plan
+two_q_plan z c k x s = plan_at z c x (standing (item_of k) s) s

@@ -28,34 +28,34 @@ const MAIN: u8 = 1;
 
 const GHOST: u8 = 2;
 
-/// An access to a key, by S3-FIFO's plan. The one error is out of memory; the queues are then as before. S3-FIFO has
-/// no number of its own.
+/// An access to a key, by S3-FIFO's plan, where the small queue is to have `part` keys, any number. The one error is
+/// out of memory; the queues are then as before. S3-FIFO has no number of its own.
 ///
 /// `C` selects an instance: one that is called at a single place becomes part of its caller, and a caller that reads no
 /// record then makes none.
 #[inline(always)]
 pub fn step<C>(
     table: &mut KeyQueues,
+    part: u32,
     capacity: u32,
     scalar: u32,
     key: Key,
 ) -> Result<Accessed, AllocError>
-    requires some { 1 ≤ capacity }
     requires few { capacity ≤ MAX_CAPACITY }
-    requires state { IsS3Fifo capacity (s3_fifo_of (queues table.old)) }
-    ensures accessed { IfOk result (λ a. IsAccessed (s3_fifo_plan capacity key scalar (queues table.old))
+    requires state { IsS3Fifo part capacity (s3_fifo_of (queues table.old)) }
+    ensures accessed { IfOk result (λ a. IsAccessed (s3_fifo_plan part capacity key scalar (queues table.old))
         (item_of key) scalar (queues table.old) (queues table.new) a) }
-    ensures memory { OnErr result ((s3_fifo_plan capacity key scalar (queues table.old)).hits ≡ false) }
+    ensures memory { OnErr result ((s3_fifo_plan part capacity key scalar (queues table.old)).hits ≡ false) }
     ensures err { OnErr result (queues table.new ≡ queues table.old) }
 {
     let Some(found) = table.find(key) else {
-        return new_key::<C>(table, capacity, scalar, key);
+        return new_key::<C>(table, part, capacity, scalar, key);
     };
     if is_resident(found.queue) {
         let own = table.recount(key, found, one_hit_more(found.count));
         Ok(hit(own, scalar))
     } else {
-        Ok(recalled::<C>(table, capacity, scalar, key, found))
+        Ok(recalled::<C>(table, part, capacity, scalar, key, found))
     }
 }
 
@@ -77,21 +77,21 @@ fn one_hit_more(count: u8) -> u8
 #[inline(always)]
 fn new_key<C>(
     table: &mut KeyQueues,
+    part: u32,
     capacity: u32,
     scalar: u32,
     key: Key,
 ) -> Result<Accessed, AllocError>
-    requires some { 1 ≤ capacity }
     requires few { capacity ≤ MAX_CAPACITY }
-    requires state { IsS3Fifo capacity (s3_fifo_of (queues table.old)) }
+    requires state { IsS3Fifo part capacity (s3_fifo_of (queues table.old)) }
     requires absent { queue_holding (item_of key) (queues table.old) ≡ None }
-    ensures accessed { IfOk result (λ a. IsAccessed (s3_fifo_miss capacity false scalar (queues table.old))
+    ensures accessed { IfOk result (λ a. IsAccessed (s3_fifo_miss part capacity false scalar (queues table.old))
         (item_of key) scalar (queues table.old) (queues table.new) a) }
     ensures err { OnErr result (queues table.new ≡ queues table.old) }
 {
     table.reserve()?;
     table.tabled();
-    let room = make_room(table, capacity, false);
+    let room = make_room(table, part, capacity, false);
     let own = table.join(key, SMALL, 0);
     Ok(missed(room, own, scalar, scalar))
 }
@@ -100,23 +100,23 @@ fn new_key<C>(
 #[inline(always)]
 fn recalled<C>(
     table: &mut KeyQueues,
+    part: u32,
     capacity: u32,
     scalar: u32,
     key: Key,
     found: Found,
 ) -> Accessed
-    requires some { 1 ≤ capacity }
     requires few { capacity ≤ MAX_CAPACITY }
-    requires state { IsS3Fifo capacity (s3_fifo_of (queues table.old)) }
+    requires state { IsS3Fifo part capacity (s3_fifo_of (queues table.old)) }
     requires at { HoldsAt found.at (entry (item_of key) found.count) table.old }
     requires stands { standing (item_of key) (queues table.old) ≡ Some (found.queue, found.count) }
     requires out { is_resident found.queue ≡ false }
-    ensures { IsAccessed (s3_fifo_miss capacity (found.queue == GhostQueue) scalar (queues table.old))
+    ensures { IsAccessed (s3_fifo_miss part capacity (found.queue == GhostQueue) scalar (queues table.old))
         (item_of key) scalar (queues table.old) (queues table.new) result }
 {
     table.tabled();
     let remembered = found.queue == GHOST;
-    let room = make_room(table, capacity, remembered);
+    let room = make_room(table, part, capacity, remembered);
     let own = table.send(key, found, queue_of(remembered), 0);
     missed(room, own, scalar, scalar)
 }
@@ -130,11 +130,10 @@ fn queue_of(remembered: bool) -> u8
 
 // Makes room for a key in a full cache.
 #[inline(always)]
-fn make_room(table: &mut KeyQueues, capacity: u32, remembered: bool) -> RoomMoves
-    requires some { 1 ≤ capacity }
+fn make_room(table: &mut KeyQueues, part: u32, capacity: u32, remembered: bool) -> RoomMoves
     requires few { capacity ≤ MAX_CAPACITY }
     requires fits { length (queues table.old SmallQueue) + length (queues table.old MainQueue) ≤ capacity }
-    ensures made { IsRoomMade (room_plan capacity remembered (queues table.old)) (queues table.old) (queues table.new)
+    ensures made { IsRoomMade (room_plan part capacity remembered (queues table.old)) (queues table.old) (queues table.new)
         result }
     ensures spare { spare table.old ≤ spare table.new }
     ensures others { KeepsElsewhere remembered table.old table.new }
@@ -143,47 +142,45 @@ fn make_room(table: &mut KeyQueues, capacity: u32, remembered: bool) -> RoomMove
         return RoomMoves::NONE;
     }
     table.tabled();
-    let early = promote(table, capacity);
-    evict(table, capacity, remembered, early)
+    let main = main_size(part, capacity);
+    let early = promote(table, main);
+    evict(table, main, remembered, early)
 }
 
 // The size that the main queue is to have, and that of the ghost.
-fn main_size(capacity: u32) -> u32
-    requires { 1 ≤ capacity }
-    ensures { result ≡ s3_fifo_main_size capacity }
+fn main_size(part: u32, capacity: u32) -> u32
+    ensures { result ≡ s3_fifo_main_size part capacity }
 {
-    capacity - (capacity / 10).max(1)
+    capacity.saturating_sub(part)
 }
 
 // Main takes the oldest keys of the small queue that were hit twice, until it is over its size.
 #[inline(always)]
-fn promote(table: &mut KeyQueues, capacity: u32) -> Run
-    requires some { 1 ≤ capacity }
-    requires few { capacity ≤ MAX_CAPACITY }
-    ensures promoted { result ≡ promotions capacity (queues table.old) }
+fn promote(table: &mut KeyQueues, main: u32) -> Run
+    requires few { main ≤ MAX_CAPACITY }
+    ensures promoted { result ≡ promotions main (queues table.old) }
     ensures made { IsRun result (queues table.old) (queues table.new) }
     ensures spare { spare table.new ≡ spare table.old }
     ensures others { (j : ℕ) (e : Entry) → HoldsAt j e table.old → occurrences e.item (queues table.old SmallQueue) ≡ 0
         → HoldsAt j e table.new }
 {
-    let room = (main_size(capacity) as usize + 1).saturating_sub(table.len(MAIN));
+    let room = (main as usize + 1).saturating_sub(table.len(MAIN));
     table.run(SMALL, MAIN, 0, 2, room as u32)
 }
 
 // A key leaves, once all are promoted that are to be.
 #[inline(always)]
-fn evict(table: &mut KeyQueues, capacity: u32, remembered: bool, early: Run) -> RoomMoves
-    requires some { 1 ≤ capacity }
+fn evict(table: &mut KeyQueues, main: u32, remembered: bool, early: Run) -> RoomMoves
     requires few { length (queues table.old MainQueue) ≤ MAX_CAPACITY }
     ensures made { (s : Queues) → IsRun early s (queues table.old)
-        → IsRoomMade (eviction_plan capacity remembered early (queues table.old)) s (queues table.new) result }
+        → IsRoomMade (eviction_plan main remembered early (queues table.old)) s (queues table.new) result }
     ensures spare { spare table.old ≤ spare table.new }
     ensures others { KeepsElsewhere remembered table.old table.new }
 {
-    if table.len(SMALL) == 0 || (main_size(capacity) as usize) < table.len(MAIN) {
+    if table.len(SMALL) == 0 || (main as usize) < table.len(MAIN) {
         evict_main(table, early)
     } else {
-        evict_small(table, capacity, remembered, early)
+        evict_small(table, main, remembered, early)
     }
 }
 
@@ -209,14 +206,13 @@ fn evict_main(table: &mut KeyQueues, early: Run) -> RoomMoves
 
 // The oldest key of the small queue leaves for the ghost, which forgets its oldest where it is over its size.
 #[inline(always)]
-fn evict_small(table: &mut KeyQueues, capacity: u32, remembered: bool, early: Run) -> RoomMoves
-    requires some { 1 ≤ capacity }
+fn evict_small(table: &mut KeyQueues, main: u32, remembered: bool, early: Run) -> RoomMoves
     ensures made { (s : Queues) → IsRun early s (queues table.old)
-        → IsRoomMade (small_eviction_plan capacity remembered early (queues table.old)) s (queues table.new) result }
+        → IsRoomMade (small_eviction_plan main remembered early (queues table.old)) s (queues table.new) result }
     ensures spare { spare table.old ≤ spare table.new }
     ensures others { KeepsElsewhere remembered table.old table.new }
 {
-    let forgets = !remembered && table.len(GHOST) >= main_size(capacity) as usize;
+    let forgets = !remembered && table.len(GHOST) >= main as usize;
     let first = table.send_oldest(SMALL, GHOST, 0);
     let second = forget(table, forgets);
     RoomMoves {

@@ -9,7 +9,7 @@ use policies::AnyPolicy;
 use std::alloc::Global;
 use std::process::Abort;
 use std::test::Fail;
-use step_record::{Config, Engine, Job, Key, Outcome, Policy, Spread, Stats, Trace};
+use step_record::{Config, Engine, Job, Key, Outcome, Parts, Policy, Spread, Stats, Trace};
 
 // A worked example: a policy at a capacity, the accesses with their outcomes, what is counted (accesses, hits, misses,
 // evictions and rejections), and the keys that stay.
@@ -32,8 +32,13 @@ fn trace_of(rt: &impl Abort, alloc: Global, accesses: &[(Key, Outcome)]) -> Resu
     Ok(Trace::new(keys))
 }
 
-// The cache of an example, which made no access yet.
-fn opened(rt: &impl Abort, alloc: Global, example: &Example) -> Result<AnyPolicy, Fail> {
+// The cache of an example with parts of these sizes, which made no access yet.
+fn opened(
+    rt: &impl Abort,
+    alloc: Global,
+    example: &Example,
+    parts: Parts,
+) -> Result<AnyPolicy, Fail> {
     let config = Config {
         capacity: example.capacity,
         main_percent: 99,
@@ -44,7 +49,12 @@ fn opened(rt: &impl Abort, alloc: Global, example: &Example) -> Result<AnyPolicy
     assert!(rt; config.check().is_ok());
     let policy = example.policy;
     let trace = trace_of(rt, alloc, example.accesses)?;
-    let cache = AnyPolicy::open(alloc, &Job { policy, config }, &trace)?;
+    let job = Job {
+        policy,
+        config,
+        parts,
+    };
+    let cache = AnyPolicy::open(alloc, &job, &trace)?;
     Ok(cache)
 }
 
@@ -96,9 +106,14 @@ fn assert_example(
     assert_residents(rt, alloc, cache, example.residents)
 }
 
-fn assert_all(rt: &impl Abort, alloc: Global, examples: &[Example]) -> Result<(), Fail> {
+fn assert_all(
+    rt: &impl Abort,
+    alloc: Global,
+    examples: &[Example],
+    parts: Parts,
+) -> Result<(), Fail> {
     for example in examples {
-        let mut cache = opened(rt, alloc, example)?;
+        let mut cache = opened(rt, alloc, example, parts)?;
         assert_example(rt, alloc, &mut cache, example)?;
     }
     Ok(())
@@ -298,18 +313,70 @@ const DEMAND: [Example; 7] = [
     },
 ];
 
+// Parts that are not of the published sizes: of four keys the small queue is to have two, a1in three, and the ghost of 2Q
+// remembers one.
+const PARTS: Parts = Parts {
+    small: 50,
+    kin: 75,
+    kout: 25,
+};
+
+// With the published sizes 4 would have evicted 5 from S3-FIFO, whose main queue could have three keys; and 6 would have
+// evicted 3 from 2Q, and 9 the key 3, which a ghost of two keys would have remembered.
+const SIZED: [Example; 2] = [
+    Example {
+        policy: S3Fifo,
+        capacity: 4,
+        accesses: &[
+            (1, Kept),
+            (1, Hit),
+            (1, Hit),
+            (2, Kept),
+            (3, Kept),
+            (4, Kept),
+            (5, Evicted(2)),
+            (2, Evicted(3)),
+            (3, Evicted(4)),
+            (4, Evicted(2)),
+        ],
+        counted: [10, 2, 8, 4, 0],
+        residents: &[5, 3, 1, 4],
+    },
+    Example {
+        policy: TwoQ,
+        capacity: 4,
+        accesses: &[
+            (1, Kept),
+            (2, Kept),
+            (3, Kept),
+            (4, Kept),
+            (5, Evicted(1)),
+            (1, Evicted(2)),
+            (6, Evicted(1)),
+            (2, Evicted(3)),
+            (7, Evicted(2)),
+            (8, Evicted(4)),
+            (3, Evicted(5)),
+            (9, Evicted(6)),
+        ],
+        counted: [12, 0, 12, 8, 0],
+        residents: &[7, 8, 3, 9],
+    },
+];
+
 #[test]
 fn each_policy_that_keeps_missed_keys_answers_by_its_definition(
     rt: HostRuntime,
 ) -> Result<(), Fail> {
-    assert_all(&rt, rt.alloc(), &DEMAND)
+    assert_all(&rt, rt.alloc(), &DEMAND, Parts::PUBLISHED)?;
+    assert_all(&rt, rt.alloc(), &SIZED, PARTS)
 }
 
 #[test]
 fn each_policy_answers_by_the_table_of_moves(rt: HostRuntime) -> Result<(), Fail> {
-    assert_all(&rt, rt.alloc(), &LEAST_RECENT)?;
-    assert_all(&rt, rt.alloc(), &PROTECTED)?;
-    assert_all(&rt, rt.alloc(), &FILTERED)?;
-    assert_all(&rt, rt.alloc(), &WINDOWED)?;
-    assert_all(&rt, rt.alloc(), &OPTIMAL)
+    assert_all(&rt, rt.alloc(), &LEAST_RECENT, Parts::PUBLISHED)?;
+    assert_all(&rt, rt.alloc(), &PROTECTED, Parts::PUBLISHED)?;
+    assert_all(&rt, rt.alloc(), &FILTERED, Parts::PUBLISHED)?;
+    assert_all(&rt, rt.alloc(), &WINDOWED, Parts::PUBLISHED)?;
+    assert_all(&rt, rt.alloc(), &OPTIMAL, Parts::PUBLISHED)
 }

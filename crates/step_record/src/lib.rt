@@ -33,11 +33,11 @@ pub use engine::{Engine, StepFault};
 pub use entry::Entry;
 pub use gate::{Gate, OpenGate};
 pub use item::{Item, Key, Node};
-pub use job::{Job, POLICIES, Policy};
+pub use job::{Job, POLICIES, Parts, Policy};
 pub use kept::{ByWorker, Kept};
 pub use limits::{
-    MAX_ACCESSES, MAX_BATCH, MAX_CAPACITY, MAX_JOURNAL_LIMIT, MAX_MAIN_PERCENT, MAX_STEPS,
-    MAX_STRIPES, MAX_TRACE_BYTES,
+    MAX_ACCESSES, MAX_BATCH, MAX_CAPACITY, MAX_GHOST_PERCENT, MAX_JOURNAL_LIMIT, MAX_MAIN_PERCENT,
+    MAX_PART_PERCENT, MAX_STEPS, MAX_STRIPES, MAX_TRACE_BYTES,
 };
 pub use outcome::Outcome;
 pub use stats::Stats;

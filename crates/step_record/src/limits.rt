@@ -6,6 +6,12 @@ pub const MAX_CAPACITY: u32 = 1 << 20;
 /// The largest share of the main part, in percent: with 100 a window would be empty.
 pub const MAX_MAIN_PERCENT: u8 = 99;
 
+/// The largest share of a part whose size is a choice, in percent: with 100 nothing would be left.
+pub const MAX_PART_PERCENT: u8 = 99;
+
+/// The largest share of the capacity that a ghost whose size is a choice remembers, in percent.
+pub const MAX_GHOST_PERCENT: u8 = 100;
+
 /// The largest number of read buffers of a concurrent cache.
 pub const MAX_STRIPES: u8 = 64;
 

@@ -2,7 +2,7 @@
 use super::sessions::SMALL;
 use policies::{ActorFault, Report};
 use std::test::Fail;
-use step_record::{Config, Job, Policy, Spread};
+use step_record::{Config, Job, Parts, Policy, Spread};
 
 pub(crate) fn job(policy: Policy, capacity: u32) -> Job {
     let config = Config {
@@ -10,7 +10,11 @@ pub(crate) fn job(policy: Policy, capacity: u32) -> Job {
         spread: Spread::Plain,
         ..SMALL
     };
-    Job { policy, config }
+    Job {
+        policy,
+        config,
+        parts: Parts::PUBLISHED,
+    }
 }
 
 // A job of each kind of policy, at two entries.

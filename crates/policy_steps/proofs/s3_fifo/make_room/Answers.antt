@@ -9,10 +9,10 @@ use Rattle.policy_steps.proofs.Leaving.{off-run}
 use Rattle.policy_steps.proofs.S3FifoStep.{main-few, room-made}
 use Rattle.policy_steps.proofs.s3_fifo.make_room.Goals as goal
 
-pub evict-requires-clause-few : goal.evict-requires-clause-few
-evict-requires-clause-few c =
+pub evict-requires : goal.evict-requires
+evict-requires c =
     let promote = c.promote-early in
-    let few = main-few c.args.capacity c.args.remembered (queues c.args.table.now) (queues promote.new.table) promote.result promote.ensures.promoted promote.ensures.made.after c.tabled.ensures in
+    let few = main-few c.main_size-main.result c.args.remembered (queues c.args.table.now) (queues promote.new.table) promote.result promote.ensures.promoted promote.ensures.made.after c.tabled.ensures in
     let fits = c.requires.fits in
     let limit = c.requires.few in
     omega (arith, few, fits, limit)
@@ -24,7 +24,7 @@ returns-clause-made c =
     let small = c.len.ensures in
     let main = c.len-2.ensures in
     let full = c.if-len-capacity.false in
-    room-made c.args.capacity c.args.remembered s (queues promote.new.table) promote.result promote.ensures.promoted promote.ensures.made.after (queues c.evict.new.table) c.evict.result
+    room-made c.main_size-main.result c.args.remembered s (queues promote.new.table) promote.result promote.ensures.promoted promote.ensures.made.after c.args.part c.args.capacity c.main_size-main.ensures (queues c.evict.new.table) c.evict.result
     (le-ltb _ c.args.capacity (omega (arith, small, main, full))) (c.evict.ensures.made s promote.ensures.made)
 
 pub returns-clause-others : goal.returns-clause-others

@@ -12,5 +12,5 @@ returns-then-is_resident-clause-accessed g c =
     let s : Queues = queues c.args.table.now in
     let u : Queues = queues c.recount-own.new.self in
     let own = subst (λ n. IsOwn (counts n) (item_of c.args.key) s u c.recount-own.result) c.one_hit_more.ensures c.recount-own.ensures.own in
-    subst (λ at. IsAccessed (plan_at c.args.capacity c.args.scalar at s) (item_of c.args.key) c.args.scalar s u c.hit.result) (sym c.in-Some.ensures.stands)
+    subst (λ at. IsAccessed (plan_at c.args.part c.args.capacity c.args.scalar at s) (item_of c.args.key) c.args.scalar s u c.hit.result) (sym c.in-Some.ensures.stands)
     (rw (sym c.is_resident.ensures ∙ c.if-is_resident.true) (c.hit.ensures (counts (hit_count c.in-Some.found.count)) (item_of c.args.key) s u own))

@@ -24,5 +24,5 @@ returns g c =
     let remembered = eqb c.args.found.queue A1OUT in
     let own : IsOwn (goes (joins remembered) 0) (item_of c.args.key) (queues c.evict-left.new.table) (queues c.send-own.new.self) c.send-own.result =
     subst (λ q. IsOwn (goes q 0) (item_of c.args.key) (queues c.evict-left.new.table) (queues c.send-own.new.self) c.send-own.result) c.queue_of.ensures c.send-own.ensures.own in
-    c.missed.ensures (two_q_leavers c.args.capacity remembered (queues c.args.table.now)) (goes (joins remembered) 0) (item_of c.args.key) _ _ _
+    c.missed.ensures (two_q_leavers c.args.sizes c.args.capacity remembered (queues c.args.table.now)) (goes (joins remembered) 0) (item_of c.args.key) _ _ _
     c.evict-left.ensures.left own
