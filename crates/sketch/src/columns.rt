@@ -4,7 +4,10 @@ ghost use Rattle.std.specs.Int.{IsPowerOfTwo};
 ghost use Rattle.sketch.specs.Columns.{column as column_of, mix as mix_of, wrap};
 ghost use Rattle.step_record.specs.Places.{by_place};
 
-use step_record::{Key, Spread};
+use step_record::{Key, MAX_CAPACITY, Spread};
+
+/// The most columns of a row: four for each entry of the largest cache.
+pub const MAX_WIDTH: u32 = 4 * MAX_CAPACITY;
 
 /// The column of a key in a row, of 1 to 2^23 columns. A sketch has the rows 0 to 3; the rows 4 to 6 are there for
 /// the probes of a doorkeeper.

@@ -1,7 +1,7 @@
 //! A key's counter in each row of a table, over the words that hold the rows one after another.
 ghost use Rattle.std.specs.Prelude.{◌≡◌, ◌<◌, ◌≤◌, ◌+◌, ◌-◌, ◌*◌, ◌/◌, ◌%◌, ◌==◌, ◌&&◌, cond, nat_lt, min, true};
 ghost use Rattle.std.specs.Prelude.{length, slice_index, ℕ};
-ghost use Rattle.step_record.specs.declared.limits.TheConstants.{MAX_CAPACITY};
+ghost use Rattle.sketch.specs.declared.columns.TheConstants.{MAX_WIDTH};
 ghost use Rattle.sketch.specs.Counters.{counter_at};
 ghost use Rattle.sketch.specs.Columns.{column as column_of};
 ghost use Rattle.step_record.specs.Places.{by_place};
@@ -16,7 +16,7 @@ use step_record::{Key, Spread};
 /// Raises the counter at a column of each row, and returns what the four were.
 pub fn raise_rows(words: &mut [u64], width: u32, columns: [u32; 4]) -> [u32; 4]
     requires low { 1 ≤ width }
-    requires high { width ≤ MAX_CAPACITY }
+    requires high { width ≤ MAX_WIDTH }
     requires whole { width ≡ 4 * length words.old }
     requires below { (row : ℕ) → row < 4 → slice_index columns row < width }
     ensures counters { (i : ℕ) → counter_at words.new i
@@ -35,7 +35,7 @@ pub fn raise_rows(words: &mut [u64], width: u32, columns: [u32; 4]) -> [u32; 4]
 /// Lowers the key's counter in each row where the touch raised it.
 pub fn lower_rows(words: &mut [u64], width: u32, spread: Spread, done: &TouchRecord)
     requires low { 1 ≤ width }
-    requires high { width ≤ MAX_CAPACITY }
+    requires high { width ≤ MAX_WIDTH }
     requires whole { width ≡ 4 * length words.old }
     requires some { (row : ℕ) → row < 4 → rose_of done.now row ≡ true
         → 0 < counter_at words.old (row * width + column_of spread done.now.key row width) }

@@ -1,7 +1,7 @@
 //! Four rows of counters up to 15.
 ghost use Rattle.std.specs.Prelude.{◌≡◌, ◌<◌, ◌≤◌, ◌*◌, min, slice_index, ℕ, IfOk, OnOk, OnErr};
 ghost use Rattle.std.specs.Int.{IsPowerOfTwo};
-ghost use Rattle.step_record.specs.declared.limits.TheConstants.{MAX_CAPACITY};
+ghost use Rattle.sketch.specs.declared.columns.TheConstants.{MAX_WIDTH};
 ghost use Rattle.step_record.specs.Places.{by_place};
 ghost use Rattle.sketch.specs.Columns.{column as column_of};
 ghost use Rattle.sketch.specs.Sketch.{counter as counter_of, touched_table, halved_table, least_counter as least_of};
@@ -42,7 +42,7 @@ impl Model for Sketch {
     ghost use Rattle.sketch.specs.Counters.{counter_at};
     ghost use Rattle.sketch.specs.Columns.{column as column_of};
     ghost use Rattle.std.specs.Int.{IsPowerOfTwo};
-    ghost use Rattle.step_record.specs.declared.limits.TheConstants.{MAX_CAPACITY};
+    ghost use Rattle.sketch.specs.declared.columns.TheConstants.{MAX_WIDTH};
 
     ghost Value = { Table };
 
@@ -52,7 +52,7 @@ impl Model for Sketch {
       counters = by_place (4 * s.width) (counter_at s.words.items);
     } };
 
-    ghost invariant = { λ s. (16 ≤ s.width) × (s.width ≤ MAX_CAPACITY) × (s.width ≡ 4 * length s.words.items)
+    ghost invariant = { λ s. (16 ≤ s.width) × (s.width ≤ MAX_WIDTH) × (s.width ≡ 4 * length s.words.items)
         × (s.width ≡ 16 * (s.width / 16)) × IsPowerOfTwo s.width
         × IfSome s.last_least (λ n. n ≡ least_of s.last
         record {
@@ -64,12 +64,12 @@ impl Model for Sketch {
 }
 
 impl Sketch {
-    /// A sketch of four rows of `width` columns, a power of two from 16 to 2^20, with all counters 0. The one error is
+    /// A sketch of four rows of `width` columns, a power of two from 16 to `MAX_WIDTH`, with all counters 0. The one error is
     /// out of memory. The allocator is kept for the records of halvings.
     pub fn new(alloc: Global, width: u32, spread: Spread) -> Result<Sketch, AllocError>
         requires power { IsPowerOfTwo width }
         requires low { 16 ≤ width }
-        requires high { width ≤ MAX_CAPACITY }
+        requires high { width ≤ MAX_WIDTH }
         ensures { IfOk result (λ s. s
             ≡ record { width = width; spread = spread; counters = by_place (4 * width) (λ i. 0) }) }
     {

@@ -5,8 +5,8 @@ ghost use Rattle.step_record.specs.Bits.{bits_of};
 
 use std::marker::Model;
 
-/// The most words that a [`BitList`] holds: 2^23 bits.
-pub const MAX_LIST_WORDS: usize = 1 << 17;
+/// The most words that a [`BitList`] holds: 2^24 bits.
+pub const MAX_LIST_WORDS: usize = 1 << 18;
 
 /// A list of bits, 64 to a word, that does not change. Contracts see the list of the bits, and its invariant says that
 /// it holds nothing beside the words: an undo record that holds one holds no more than its bits.
