@@ -112,7 +112,7 @@ def linear(parts, percent):
 
 
 def misses_by_reference(blocks, policies, capacity):
-    rows = rows_of(cache_reference.sweep(blocks, policies, [capacity], 99, "mixed"))
+    rows = rows_of(cache_reference.sweep(blocks, policies, [capacity]))
     return {row["policy"]: int(row["misses"]) for row in rows}
 
 
