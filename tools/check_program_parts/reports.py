@@ -1,10 +1,13 @@
 """The words of a call, and the reports of small traces, worked out by hand from the rules."""
 import re
 
-from .calls import HEADER, PARTING, TOOLS, TOP, lines, part
+from checks import TOP
+
+from .calls import HEADER, PARTING, lines, part
 
 INTERVALS_HEADER = "policy,capacity,first,last,hits,misses,evictions,rejections,rate\n"
 COMPARE_HEADER = "first,second,capacity,accesses,both,first_only,second_only,neither\n"
+ABOUT = "Simulates cache policies over recorded block traces\n\nUsage: cachesim <COMMAND>"
 SMALL = lines(1, 2, 3, 1, 4, 2)
 # Over these seven accesses Lru hits at 3 and 5, and Belady's policy at 3, 5 and 6, since it does not keep 3 at the fourth.
 SEVEN = lines(1, 2, 1, 3, 1, 2, 3)
@@ -50,7 +53,7 @@ def words(check):
     """The words of the call, and the status and the texts that answer them."""
     version = re.search(r"^## ([0-9.]+)$", (TOP / "CHANGELOG.md").read_text(), re.M)[1]
     check.expect("the version", "--version", out=f"cachesim {version}\n")
-    check.expect("the help", "--help", out=(TOOLS / "help/cachesim.txt").read_text())
+    check.expect_same("the help", check.answer("the help", "--help").partition(b"\n\nCommands:\n")[0], ABOUT)
     check.expect("a usage error", "drive", "--capacity", 8, "--stripes", 3, status=2, error="fault: Stripes\n", typed="1\n")
     check.expect("a usage error of replay", "replay", "--journal", check.room / "none", "--capacity", 8, "--stripes", 3,
                  status=2, error="fault: Stripes\n")
