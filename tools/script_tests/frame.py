@@ -41,10 +41,14 @@ def expect_parts(what, text, *parts):
 
 
 def expect_full_disk(script, *words, typed=""):
-    """A script whose output cannot be written ends with status 1 and says so."""
+    """A script whose output cannot be written ends with status 1 and says so; one whose reader is gone as by its signal."""
     with open("/dev/full", "wb") as full:
         _, error = run(script, *words, status=1, typed=typed, stdout=full)
     expect_parts("a full disk", error, "cannot be written: No space left on device")
+    reader, writer = os.pipe()
+    os.close(reader)
+    run(script, *words, status=141, typed=typed, stdout=writer)
+    os.close(writer)
 
 
 def expect_quiet_interrupt(script, folder, *words):
