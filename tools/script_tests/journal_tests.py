@@ -51,7 +51,7 @@ def check_counts(journal, folder, _):
     expect_parts("below the table", rest, "1 reads drained, 1 writes applied, 1 removals applied, 2 evictions, 1 of these rejections",
                  "most tasks waiting: 3, first after step 23", "workers named: 3, read buffers named: 2", "2 of 7 writes were refused")
     lines = whole.splitlines(keepends=True)
-    for cut in ("", whole[:-1], *("".join(lines[:count]) for count in range(1, len(lines))), whole[:200]):
+    for cut in ("", whole[:-1], *("".join(lines[:count]) for count in (1, 2, 14, len(lines) - 1)), whole[:200]):
         run(journal, file_of(folder, "cut", cut), status=1)
     for right, wrong in (("steps 26", "steps 25"), ("steps 26\n", "steps 26\n0 begin = busy\n"),
                          ("look 1 =", "look 01 ="), ("63 put 2", "64 put 2"), ("= idle", "= ideal"),
