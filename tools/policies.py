@@ -11,7 +11,8 @@ from collections import namedtuple
 Policy = namedtuple("Policy", "colour marker dash is_filtered is_default")
 
 OPTIMAL = "clairvoyant"
-WINDOWED = "wtinylfu"# The policies whose hit ratio never falls where the capacity grows, which is proved.
+WINDOWED = "wtinylfu"
+# The policies whose hit ratio never falls where the capacity grows, which is proved.
 MONOTONE = {"lru", OPTIMAL}
 POLICIES = {
     "fifo": Policy("#7f7f7f", 1, "(3,6)", False, False),

@@ -1,7 +1,7 @@
 """The debugger of two policies. A timeline has the text that `show` prints at each position, and what each step from one to
 the next did."""
 from .faults import Fault
-from .policies import opened
+from .options import DEFAULTS, opened
 from .reports import Counts
 from .traces import BLANKS, keys_of, number_of
 
@@ -25,9 +25,9 @@ class Events:
 class Side:
     """One of the two policies of a debugger."""
 
-    def __init__(self, letter, policy, capacity, main, spread, keys):
+    def __init__(self, letter, policy, capacity, options, keys):
         self.letter, self.policy, self.counts = letter, policy, Counts()
-        self.cache = opened(policy, capacity, main, spread, keys)
+        self.cache = opened(policy, capacity, options, keys)
 
     def show(self):
         hits, misses, evictions, rejections = self.counts.values()
@@ -51,8 +51,8 @@ def items(list_of_items):
 class PolicyTimeline:
     odd, whole, at = "part", "part", 0
 
-    def __init__(self, keys, first, second, capacity, main, spread):
-        a, b = Side("a", first, capacity, main, spread, keys), Side("b", second, capacity, main, spread, keys)
+    def __init__(self, keys, first, second, capacity, options):
+        a, b = Side("a", first, capacity, options, keys), Side("b", second, capacity, options, keys)
         self.events, self.shows = [], [a.show() + b.show()]
         for key in keys:
             (a_hit, a_left, a_halved), (b_hit, b_left, b_halved) = a.access(key), b.access(key)
@@ -135,5 +135,5 @@ class Dialogue:
         return self.timeline.whole_answer(self.at)
 
 
-def debug(trace, commands, form, first, second, capacity, main, spread):
-    return Dialogue(PolicyTimeline(keys_of(form, trace), first, second, capacity, main, spread)).answers(commands)
+def debug(trace, commands, form, first, second, capacity, options=DEFAULTS):
+    return Dialogue(PolicyTimeline(keys_of(form, trace), first, second, capacity, options)).answers(commands)

@@ -112,9 +112,9 @@ class S3Fifo(Demand):
     """A small queue before a main one, with a ghost of what left the small one. A key that was hit twice in the small queue
     goes on to the main one, in which each hit spares it one turn; a key that the ghost has goes there at once."""
 
-    def __init__(self, capacity):
+    def __init__(self, capacity, small=10):
         super().__init__(capacity)
-        self.small_size = max(1, capacity // 10)
+        self.small_size = max(1, capacity * small // 100)
         self.main_size = capacity - self.small_size
         self.small, self.main, self.ghost, self.counts = [], [], [], {}
 
@@ -152,9 +152,9 @@ class TwoQ(Demand):
     """A queue of new keys, in which a hit moves nothing, beside an Lru of keys that came back after they left it: a ghost
     remembers them."""
 
-    def __init__(self, capacity):
+    def __init__(self, capacity, new=25, ghost=50):
         super().__init__(capacity)
-        self.kin, self.kout = max(1, capacity // 4), max(1, capacity // 2)
+        self.kin, self.kout = max(1, capacity * new // 100), max(1, capacity * ghost // 100)
         self.a1in, self.am, self.a1out = [], [], []
 
     def hit(self, key):

@@ -26,16 +26,18 @@ def power_of_two(least):
 
 
 class Frequency:
-    def __init__(self, capacity, spread):
-        self.spread, self.period = spread, 10 * capacity
-        self.width, self.bits = power_of_two(max(16, capacity)), power_of_two(max(64, 8 * capacity))
+    """The sketch has so many columns for each entry, and a doorkeeper or none."""
+
+    def __init__(self, capacity, spread, columns=1, has_door=True):
+        self.spread, self.period, self.has_door = spread, 10 * capacity, has_door
+        self.width, self.bits = columns * power_of_two(max(16, capacity)), power_of_two(max(64, 8 * capacity))
         self.counters, self.door, self.age, self.halvings = defaultdict(int), set(), 0, 0
 
     def places(self, key):
         return [(row, column(self.spread, key, row, self.width, 1)) for row in range(4)]
 
     def probes(self, key):
-        return {column(self.spread, key, probe, self.bits, 5) for probe in range(3)}
+        return {column(self.spread, key, probe, self.bits, 5) for probe in range(3)} if self.has_door else set()
 
     def record(self, key):
         probes = self.probes(key)
@@ -52,7 +54,7 @@ class Frequency:
 
     def estimate(self, key):
         least = min(self.counters.get(place, 0) for place in self.places(key))
-        return least + (self.probes(key) <= self.door)
+        return least + (self.has_door and self.probes(key) <= self.door)
 
     def admits(self, candidate, victim):
         return self.estimate(candidate) > self.estimate(victim)

@@ -1,11 +1,8 @@
-"""The policies. Queues are lists, oldest first. An access gives its outcome and the key that left."""
+"""Policies that ask a sketch, those under it, and Belady's. Queues are lists, oldest first. An access gives its outcome and
+the key that left."""
 from collections import defaultdict
 
-from .demand_policies import Arc, Clock, Fifo, S3Fifo, Sieve, TwoQ
 from .frequency import Frequency
-
-DEMAND = {"fifo": Fifo, "clock": Clock, "sieve": Sieve, "s3-fifo": S3Fifo, "2q": TwoQ, "arc": Arc}
-POLICIES = ("lru", "slru", "tinylfu-lru", "tinylfu-slru", "wtinylfu", "clairvoyant", *DEMAND)
 
 
 class Segmented:
@@ -176,14 +173,3 @@ class Clairvoyant:
 
     def residents(self):
         return sorted(self.last)
-
-
-def opened(policy, capacity, main, spread, keys):
-    if policy in DEMAND:
-        return DEMAND[policy](capacity)
-    if policy == "clairvoyant":
-        return Clairvoyant(capacity, keys)
-    if policy == "wtinylfu":
-        return WindowTinyLfu(capacity, main, spread)
-    inner = (SegmentedLru if policy.endswith("slru") else Lru)(capacity)
-    return TinyLfu(inner, capacity, spread) if policy.startswith("tinylfu") else inner

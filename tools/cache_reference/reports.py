@@ -1,7 +1,7 @@
 """Reports: of each policy at each capacity, of each interval of a trace, and of two policies access by access."""
 from collections import Counter
 
-from .policies import opened
+from .options import DEFAULTS, opened
 
 HEADER = "policy,capacity,accesses,hits,misses,evictions,rejections,rate\n"
 INTERVALS_HEADER = "policy,capacity,first,last,hits,misses,evictions,rejections,rate\n"
@@ -24,8 +24,8 @@ class Counts:
         return [self.of[name] for name in ("hits", "misses", "evictions", "rejections")]
 
 
-def outcomes_of(policy, capacity, main, spread, keys):
-    cache = opened(policy, capacity, main, spread, keys)
+def outcomes_of(policy, capacity, options, keys):
+    cache = opened(policy, capacity, options, keys)
     return [cache.access(key)[0] for key in keys]
 
 
@@ -34,17 +34,17 @@ def rate(counts, accesses):
     return f"{hundredths // 100}.{hundredths % 100:02}"
 
 
-def report(policy, capacity, main, spread, keys):
+def report(policy, capacity, options, keys):
     counts = Counts()
-    for outcome in outcomes_of(policy, capacity, main, spread, keys):
+    for outcome in outcomes_of(policy, capacity, options, keys):
         counts.add(outcome)
     numbers = ",".join(map(str, counts.values()))
     return f"{policy},{capacity},{len(keys)},{numbers},{rate(counts, len(keys))}\n"
 
 
-def run(keys, policies, capacities, main, spread):
+def run(keys, policies, capacities, options=DEFAULTS):
     """The reports of each policy at each capacity."""
-    rows = [report(policy, capacity, main, spread, keys) for policy in policies for capacity in capacities]
+    rows = [report(policy, capacity, options, keys) for policy in policies for capacity in capacities]
     return HEADER + "".join(rows)
 
 
@@ -68,18 +68,18 @@ def lru_curve(keys, capacities):
     return HEADER + "".join(rows)
 
 
-def sweep(keys, policies, capacities, main, spread):
+def sweep(keys, policies, capacities, options=DEFAULTS):
     """The reports of `sweep`, those of Lru by its curve."""
-    texts = [lru_curve(keys, capacities) if policy == "lru" else run(keys, [policy], capacities, main, spread)
+    texts = [lru_curve(keys, capacities) if policy == "lru" else run(keys, [policy], capacities, options)
              for policy in policies]
     return HEADER + "".join(text.removeprefix(HEADER) for text in texts)
 
 
-def intervals(keys, policies, every, capacity, main, spread):
+def intervals(keys, policies, every, capacity, options=DEFAULTS):
     """What each policy makes of each interval of so many accesses, by a cache that goes through the whole trace."""
     rows = []
     for policy in policies:
-        outcomes = outcomes_of(policy, capacity, main, spread, keys)
+        outcomes = outcomes_of(policy, capacity, options, keys)
         for start in range(0, len(keys), every):
             piece = outcomes[start:start + every]
             counts = Counts()
@@ -90,18 +90,18 @@ def intervals(keys, policies, every, capacity, main, spread):
     return INTERVALS_HEADER + "".join(rows)
 
 
-def part(keys, first, second, capacity, main, spread):
-    a, b = (opened(policy, capacity, main, spread, keys) for policy in (first, second))
+def part(keys, first, second, capacity, options=DEFAULTS):
+    a, b = (opened(policy, capacity, options, keys) for policy in (first, second))
     for number, key in enumerate(keys, 1):
         if (a.access(key)[0] == "hit") != (b.access(key)[0] == "hit"):
             return f"part {number}\n"
     return "part none\n"
 
 
-def compare(keys, first, second, capacity, main, spread, every=None):
+def compare(keys, first, second, capacity, options=DEFAULTS, every=None):
     """At how many accesses both of two policies hit, only the first, only the second, and neither; or at how many of each
     interval of so many accesses."""
-    hits = ([outcome == "hit" for outcome in outcomes_of(policy, capacity, main, spread, keys)] for policy in (first, second))
+    hits = ([outcome == "hit" for outcome in outcomes_of(policy, capacity, options, keys)] for policy in (first, second))
     pairs, rows = list(zip(*hits)), []
     for start in range(0, len(pairs), every) if every else [0]:
         piece = pairs[start:start + every] if every else pairs

@@ -5,8 +5,8 @@ import subprocess
 from collections import namedtuple
 from pathlib import Path
 
-TOOLS = Path(__file__).resolve().parent.parent
-TOP = TOOLS.parent
+from checks import TOP, patience
+
 RECORDED = TOP / "examples/sqlite.lirs"
 SECONDS = 60
 SECONDS_OF_A_LONG_CALL = 600
@@ -68,7 +68,7 @@ class Check:
             with open(stdin, "rb") as file:
                 return self.call(*words[len(under) + 1:], stdin=file, stdout=stdout, stderr=stderr, seconds=seconds, under=under)
         try:
-            ended = subprocess.run(words, stdout=stdout, stderr=stderr, timeout=seconds, check=False, **how)
+            ended = subprocess.run(words, stdout=stdout, stderr=stderr, timeout=patience(seconds), check=False, **how)
         except subprocess.TimeoutExpired:
             return Ended(f"none within {seconds} seconds", b"", b"")
         return Ended(ended.returncode, ended.stdout or b"", ended.stderr or b"")

@@ -5,6 +5,8 @@ import shutil
 import subprocess
 import time
 
+from checks import patience
+
 from .calls import HEADER, PARTING, RECORDED, SECONDS, Ended, lines, part, shown
 
 # A put, and the maintenance that it brings, cut off after four steps.
@@ -181,13 +183,13 @@ def expect_at_once(check, name, words, dialogue):
                 check.fail(name, f"{command} is answered by {answer} where {wanted} is right")
                 child.kill()
                 return
-        rest, error = child.communicate(b"quit\n", timeout=SECONDS)
+        rest, error = child.communicate(b"quit\n", timeout=patience(SECONDS))
     check.compare(name, Ended(child.returncode, rest, error), Ended(0, b"", b""))
 
 
 def answer_of(stream):
     """The line that a program writes next, or what is there of it after some seconds."""
-    answer, end = b"", time.monotonic() + SECONDS / 6
+    answer, end = b"", time.monotonic() + patience(SECONDS / 6)
     while not answer.endswith(b"\n") and (left := end - time.monotonic()) > 0:
         if select.select([stream], [], [], left)[0]:
             byte = os.read(stream.fileno(), 1)

@@ -8,6 +8,8 @@ import threading
 import time
 from concurrent.futures import ThreadPoolExecutor
 
+from checks import patience
+
 from .calls import SECONDS, Ended, octets, part
 from .workers import crowd
 
@@ -25,11 +27,11 @@ CLEARED = b"\r\x1b[K"
 
 class Shown:
     """A call at a terminal of its own: how it ended, and what was drawn on the terminal, in pieces with the seconds after
-    which they came."""
+    which they came, and by how much this process was late at most, as the machine is busy."""
 
     def __init__(self, words, text, whole):
         terminal, error = pty.openpty()
-        self.terminal, self.whole, self.pieces, self.start = terminal, whole, [], time.monotonic()
+        self.terminal, self.whole, self.pieces, self.start, self.lag = terminal, whole, [], time.monotonic(), 0
         self.process = subprocess.Popen(words, stdin=subprocess.PIPE, stdout=subprocess.PIPE, stderr=error)
         os.close(error)
         self.out, threads = b"", [threading.Thread(target=it) for it in (self.read_terminal, self.read_output)]
@@ -64,7 +66,7 @@ class Shown:
 
     def pace(self):
         """Has the process work and rest in turn, until the line is cleared."""
-        end, working = time.monotonic() + SECONDS, 0
+        end, working = time.monotonic() + patience(SECONDS), 0
         while self.process.poll() is None and not self.drawn().endswith(CLEARED):
             before, last = [0, 0, *self.numbers()][-2:]
             working = max(WORKING, working / 2) if last - before > PART * self.whole else working + WORKING
@@ -72,9 +74,11 @@ class Shown:
             if time.monotonic() > end:
                 self.process.kill()
             self.process.send_signal(signal.SIGSTOP)
+            due = time.monotonic() + RESTING
             time.sleep(RESTING)
+            self.lag = max(self.lag, time.monotonic() - due)
             self.process.send_signal(signal.SIGCONT)
-        self.process.wait(SECONDS)
+        self.process.wait(patience(SECONDS))
 
     def read_terminal(self):
         try:
@@ -112,7 +116,7 @@ def fault_of_pace(shown, first, last):
     """What is wrong with the times and the numbers of the lines that were drawn: these go from below one part of the whole to
     above another."""
     seconds, numbers = shown.seconds_of_last_line(), shown.numbers()
-    if not max(1, seconds - 2) <= times_of(LINE.finditer(shown.drawn()))[-1] <= seconds:
+    if not max(1, seconds - 2 - shown.lag) <= times_of(LINE.finditer(shown.drawn()))[-1] <= seconds:
         return f"the last line shows another time than {seconds:.1f} seconds"
     if len(numbers) > 4 and not (numbers[0] <= first * shown.whole and numbers[-1] >= last * shown.whole):
         return f"the numbers do not go from the beginning to the end, which is {shown.whole}"

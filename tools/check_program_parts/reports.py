@@ -1,13 +1,14 @@
-"""The words of a call, and the reports of small traces, worked out by hand from the rules."""
+"""The words of a call, reports of nothing and of as much as a call takes; tools/check_random has those between."""
 import re
 
-from .calls import HEADER, PARTING, TOOLS, TOP, lines, part
+from checks import TOP
+
+from .calls import PARTING, lines, part
 
 INTERVALS_HEADER = "policy,capacity,first,last,hits,misses,evictions,rejections,rate\n"
 COMPARE_HEADER = "first,second,capacity,accesses,both,first_only,second_only,neither\n"
+ABOUT = "Simulates cache policies over recorded block traces\n\nUsage: cachesim <COMMAND>"
 SMALL = lines(1, 2, 3, 1, 4, 2)
-# Over these seven accesses Lru hits at 3 and 5, and Belady's policy at 3, 5 and 6, since it does not keep 3 at the fourth.
-SEVEN = lines(1, 2, 1, 3, 1, 2, 3)
 REQUIRED = """error: the following required arguments were not provided:
   --capacity <N>
   --first <POLICY>
@@ -56,7 +57,7 @@ def words(check):
     """The words of the call, and the status and the texts that answer them."""
     version = re.search(r"^## ([0-9.]+)$", (TOP / "CHANGELOG.md").read_text(), re.M)[1]
     check.expect("the version", "--version", out=f"cachesim {version}\n")
-    check.expect("the help", "--help", out=(TOOLS / "help/cachesim.txt").read_text())
+    check.expect_same("the help", check.answer("the help", "--help").partition(b"\n\nCommands:\n")[0], ABOUT)
     check.expect("a usage error", "drive", "--capacity", 8, "--stripes", 3, status=2, error="fault: Stripes\n", typed="1\n")
     check.expect("a usage error of replay", "replay", "--journal", check.room / "none", "--capacity", 8, "--stripes", 3,
                  status=2, error="fault: Stripes\n")
@@ -91,45 +92,13 @@ For more information, try '--help'.
 
 @part()
 def reports(check):
-    """Reports of small traces, in each shape that a line may have."""
-    row, run = "lru,3,6,1,5,2,0,16.66\n", ("run", "--capacity", 3)
-    check.expect_report("a trace", row, *run, "lru", typed=SMALL)
-    check.expect_report("no access", "lru,3,0,0,0,0,0,0.00\n", *run, "lru")
-    check.expect_report("carriage returns, empty lines, stars and zeros in front", "lru,3,3,0,3,0,0,0.00\n" * 2, *run, "lru",
-                        "lru", typed="1\r\n\r\n*\r\n007\n5")
-    check.expect_report("a capacity with a sign and a zero", "lru,2,5,0,5,3,0,0.00\n", "run", "--capacity", "+02", "lru",
-                        typed=lines(1, 2, 3, 1, 2))
-    check.expect_report("blocks", row, *run, "--format", "arc", "lru", typed=lines("1 3 0 0", "1 1 0 1", "4 1 0 2", "2 1 0 3"))
-    check.expect_report("the largest capacity", "lru,1048576,2,1,1,0,0,50.00\n", "run", "--format", "lirs", "--capacity",
-                        1048576, "lru", typed=lines(9, 9))
-    # Six accesses, in batches that end before, at and past their end.
-    for batch in (1, 3, 6, 65536):
-        check.expect_report(f"batches of {batch}", row * 2, *run, "--batch", batch, "lru", "lru", typed=SMALL)
-
-
-@part()
-def policies(check):
-    """Reports of the policies, worked out by hand from the rules."""
-    def plain(name, row, capacity, *keys):
-        check.expect_report(name, f"{row}\n", "run", "--spread", "plain", "--capacity", capacity, row.partition(",")[0],
-                            typed=lines(*keys))
-
+    """Reports of no access, of a number with a sign and a zero, and of the largest capacity."""
     check.expect_report("no access of each policy", lines(*(f"{it},3,0,0,0,0,0,0.00" for it in check.policies)),
                         "run", "--capacity", 3, *check.policies)
     check.expect_report("each policy in a cache that holds all", lines(*(f"{it},3,5,2,3,0,0,40.00" for it in check.policies)),
-                        "run", "--capacity", 3, *check.policies, stdin=check.trace)
-    plain("a key found in the window", "wtinylfu,2,5,2,3,1,1,40.00", 2, 1, 2, 1, 3, 1)
-    plain("a window alone", "wtinylfu,1,3,0,3,2,2,0.00", 1, 1, 2, 1)
-    plain("a key kept at last", "tinylfu-lru,1,3,0,3,2,1,0.00", 1, 1, 2, 2)
-    plain("a rejected key", "tinylfu-slru,2,4,1,3,1,1,25.00", 2, 1, 1, 2, 3)
-    check.expect_report("Belady's policy beside Lru", "clairvoyant,2,5,2,3,1,1,40.00\nlru,2,5,0,5,3,0,0.00\n",
-                        "run", "--capacity", 2, "clairvoyant", "lru", typed=lines(1, 2, 3, 1, 2))
-    check.expect_report("two segmented policies", "slru,2,5,2,3,1,0,40.00\nwtinylfu,2,5,2,3,1,1,40.00\n",
-                        "run", "--spread", "plain", "--capacity", 2, "slru", "wtinylfu", stdin=check.trace)
-    # At the fifth access Lru holds 2 and 3; SegmentedLru protected 1 at the second, and holds 3 and 1.
-    check.expect("two policies that part", "part", *PARTING, out="part 5\n", stdin=check.trace)
-    check.expect("a policy beside itself", "part", "--first", "lru", "--second", "lru", "--capacity", 2, out="part none\n",
-                 typed=lines(1, 2, 1))
+                        "run", "--capacity", "+03", *check.policies, stdin=check.trace)
+    check.expect_report("the largest capacity", "lru,1048576,2,1,1,0,0,50.00\n", "run", "--format", "lirs", "--capacity",
+                        1048576, "lru", typed=lines(9, 9))
 
 
 @part()
@@ -165,27 +134,15 @@ def sizes_of_parts(check):
 
 @part()
 def intervals(check):
-    """What policies make of each interval, and of each access beside another policy."""
-    def over(name, rows, every, *policies, typed=SEVEN, **how):
-        check.expect(name, "intervals", "--capacity", 2, "--every", every, *policies, out=INTERVALS_HEADER + rows, typed=typed, **how)
-
-    def compared(name, row, typed, *words):
-        check.expect(name, "compare", *words, out=COMPARE_HEADER + row, typed=typed)
-
-    rows = "lru,2,1,3,1,2,0,0,33.33\nlru,2,4,6,1,2,2,0,33.33\nlru,2,7,7,0,1,1,0,0.00\n"
-    over("intervals, the last of them short", rows * 2, 3, "lru", "lru")
-    over("an interval longer than the trace", "lru,2,1,7,2,5,3,0,28.57\n", 16777216, "lru")
-    over("intervals of an access", "lru,2,1,1,0,1,0,0,0.00\nlru,2,2,2,1,0,0,0,100.00\n", 1, "lru", typed=lines(1, 1))
-    over("no access for an interval", "", 3, "lru", typed="")
-    belady = "--capacity", 2, "--first", "clairvoyant", "--second", "lru"
-    compared("Belady's policy beside Lru, access by access", "clairvoyant,lru,2,7,2,1,0,4\n", SEVEN, *belady)
-    compared("Lru beside Belady's policy, access by access", "lru,clairvoyant,2,7,2,0,1,4\n", SEVEN, "--capacity", 2,
-             "--first", "lru", "--second", "clairvoyant")
-    compared("no access to compare at", "lru,slru,2,0,0,0,0,0\n", "", *PARTING)
+    """Intervals and comparisons of nothing, of many policies, of faulty traces, and to an output that takes nothing."""
     call = "intervals", "--capacity", 2, "--every", 3
+    rows = "lru,2,1,3,1,2,0,0,33.33\nlru,2,4,6,1,2,2,0,33.33\nlru,2,7,7,0,1,1,0,0.00\n"
+    check.expect("intervals, the last of them short", *call, "lru", "lru", out=INTERVALS_HEADER + rows * 2, typed=lines(1, 2, 1, 3, 1, 2, 3))
+    check.expect("no access for an interval", *call, "lru", out=INTERVALS_HEADER)
+    check.expect("no access to compare at", "compare", *PARTING, out=f"{COMPARE_HEADER}lru,slru,2,0,0,0,0,0\n")
     check.expect_fault("intervals of a faulty trace", "fault: BadNumber line 2", *call, "lru", typed="1\nx\n")
     check.expect_fault("a faulty trace to compare over", "fault: BadNumber line 2", "compare", *PARTING, typed="1\nx\n")
-    over("intervals of sixty-four policies", "lru,2,1,1,0,1,0,0,0.00\n" * 64, 3, *["lru"] * 64, typed="1\n")
+    check.expect("intervals of sixty-four policies", *call, *["lru"] * 64, out=INTERVALS_HEADER + "lru,2,1,1,0,1,0,0,0.00\n" * 64, typed="1\n")
     check.expect_fault("intervals of sixty-five", "fault: Actors", *call, *["lru"] * 65, typed="1\n")
     check.expect_fault("intervals of sixty-five over a faulty trace", "fault: BadNumber line 1", *call, *["lru"] * 65, typed="x\n")
     check.expect_full("intervals to a full output", *call, "lru", stdin=check.trace)
@@ -211,28 +168,3 @@ def sweeps(check):
     check.expect_fault("a run of sixty-five over a faulty trace", "fault: BadNumber line 1", "run", "--capacity", 3,
                        *["lru"] * 65, typed="x\n")
     check.expect_fault("a sweep of sixty-five", "fault: Actors", "sweep", 3, *["--policy=lru"] * 65, typed="1\n")
-
-
-@part()
-def traces(check):
-    """The first faulty line of a trace."""
-    for name, text, form, line in (
-            ("a letter after a number", "1\n12a\n", "lirs", "BadNumber line 2"),
-            ("two numbers on a line", "1 2", "lirs", "BadNumber line 1"),
-            ("a number of 65 bits", "18446744073709551616", "lirs", "BadNumber line 1"),
-            ("a block without a length", "10", "arc", "MissingField line 1"),
-            ("a block past the last key", "5 1\n18446744073709551615 2", "arc", "Range line 2"),
-            ("too many blocks", "0 16777217", "arc", "TooLong line 1")):
-        check.expect_fault(name, f"fault: {line}", "run", "--capacity", 3, "--format", form, "lru", typed=text)
-
-
-@part(4)
-def picture(check):
-    """The CSV behind the picture of the recorded trace, by the command that examples/README.md shows."""
-    kept = (TOP / "examples/sqlite_sweep.csv").read_text()
-    rows = [line.split(",") for line in kept.splitlines()[1:]]
-    policies, capacities = (list(dict.fromkeys(row[at] for row in rows)) for at in (0, 1))
-    found = check.answer("the sweep of the picture", "sweep", *(f"--policy={it}" for it in policies), *capacities,
-                         stdin=TOP / "examples/sqlite.lirs")
-    check.expect_same("the sweep of the picture", found, kept)
-    check.expect_same("the header of the picture", kept[:len(HEADER)], HEADER)

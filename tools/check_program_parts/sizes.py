@@ -1,7 +1,9 @@
 """Sizes that a user comes to: by contract the program may be out of memory at any of them."""
 import itertools
 
-from .calls import HEADER, PARTING, RECORDED, SECONDS_OF_A_LONG_CALL, TOP, Ended, lines, part
+from checks import TOP
+
+from .calls import HEADER, PARTING, RECORDED, SECONDS_OF_A_LONG_CALL, Ended, lines, part
 
 FILTERED = ("tinylfu-lru", "tinylfu-slru", "wtinylfu")
 ACCESSES_OF_RECORDED = 84333

@@ -5,7 +5,9 @@ import shlex
 import subprocess
 import sys
 
-from .calls import SECONDS_OF_A_LONG_CALL, TOOLS, Ended, lines, part, skewed_keys
+from checks import TOP, patience
+
+from .calls import SECONDS_OF_A_LONG_CALL, Ended, lines, part, skewed_keys
 
 # How many steps of a cut journal are compared.
 COMPARED = 20000
@@ -19,8 +21,8 @@ def crowd(check, name, times=1):
 
 def check_walks(check, name, *words, typed=""):
     """What tools/check_walks says."""
-    call = [sys.executable, TOOLS / "check_walks", *map(str, words)]
-    ended = subprocess.run(call, input=typed, capture_output=True, text=True, timeout=SECONDS_OF_A_LONG_CALL, check=False)
+    call = [sys.executable, TOP / "tools/check_walks", *map(str, words)]
+    ended = subprocess.run(call, input=typed, capture_output=True, text=True, timeout=patience(SECONDS_OF_A_LONG_CALL), check=False)
     check.compare(name, Ended(ended.returncode, b"", ended.stderr.encode()), Ended(0, b"", b""))
 
 

@@ -12,9 +12,9 @@ import subprocess
 import sys
 import time
 from fractions import Fraction
-from pathlib import Path
 
 import cache_reference
+from checks import patience
 from script_tests.frame import (NOTING, SECONDS, Mistake, Wrong, expect, expect_full_disk, expect_parts, fake, file_of, gnuplot_by,
                                 opened_by_a_reader, rows_of, run, without_texts)
 
@@ -112,7 +112,7 @@ def linear(parts, percent):
 
 
 def misses_by_reference(blocks, policies, capacity):
-    rows = rows_of(cache_reference.sweep(blocks, policies, [capacity], 99, "mixed"))
+    rows = rows_of(cache_reference.sweep(blocks, policies, [capacity]))
     return {row["policy"]: int(row["misses"]) for row in rows}
 
 
@@ -174,7 +174,7 @@ def check_faults(corpus, folder, program):
 
 
 def becomes(is_so, seconds=SECONDS_TO_END):
-    end = time.monotonic() + seconds
+    end = time.monotonic() + patience(seconds)
     while not is_so():
         if time.monotonic() > end:
             return False
@@ -186,7 +186,7 @@ def waiting_run(corpus, folder, words, how):
     """A run whose other jobs have ended, and the end to write to of the pipe that the last one reads."""
     process = subprocess.Popen(["env", "--default-signal=INT,TERM", sys.executable, corpus, *words], stdin=subprocess.DEVNULL,
                                stdout=subprocess.PIPE, stderr=subprocess.PIPE, **how)
-    writer, end = opened_by_a_reader(folder / "pipe", process), time.monotonic() + SECONDS
+    writer, end = opened_by_a_reader(folder / "pipe", process), time.monotonic() + patience(SECONDS)
     while len(list((folder / "out/results").glob("*.json"))) < 2:
         if time.monotonic() > end:
             raise Wrong("its other jobs do not end")
@@ -197,7 +197,7 @@ def waiting_run(corpus, folder, words, how):
 def status_of(process):
     """The status of a run that was sent a signal."""
     try:
-        return process.wait(SECONDS_TO_END)
+        return process.wait(patience(SECONDS_TO_END))
     except subprocess.TimeoutExpired:
         process.kill()
         raise Wrong("it does not end") from None

@@ -10,7 +10,8 @@ import time
 from collections import namedtuple
 from pathlib import Path
 
-SECONDS = 120
+from checks import SECONDS, Wrong, call, expect, patience
+
 POLICIES = ["lru", "slru", "tinylfu-lru", "tinylfu-slru", "wtinylfu", "clairvoyant"]
 
 # A name and a title of which gnuplot or a shell would run a part, if it read it as more than a text: each part makes a file
@@ -21,30 +22,16 @@ UNSAFE = "'`touch made`' \\'`touch made`\\\" . system('touch made') @GPVAL_TERM 
 Mistake = namedtuple("Mistake", "test file old new")
 
 
-class Wrong(Exception):
-    """What a script did other than it should."""
-
-
 def run(script, *words, status=0, typed="", **how):
     """The standard output of a script, or of another program, that ends with this status, and its standard error."""
     # Without the search for packages, which takes as long again.
     command = [sys.executable, "-SE", script] if Path(script).parent.name == "tools" else [script]
-    how = {"input": typed.encode() if isinstance(typed, str) else typed, "stdout": subprocess.PIPE, **how}
-    try:
-        ended = subprocess.run([str(it) for it in (*command, *words)], stderr=subprocess.PIPE, timeout=SECONDS, check=False, **how)
-    except subprocess.TimeoutExpired:
-        raise Wrong(f"{words}: no end after {SECONDS} seconds") from None
-    out, error = (ended.stdout or b"").decode(errors="replace"), ended.stderr.decode(errors="replace")
-    if ended.returncode != status:
-        raise Wrong(f"{words}: status {ended.returncode} where {status} is right: {out}{error}")
+    out, error, ended = call(*command, *words, typed=typed, **how)
+    if ended != status:
+        raise Wrong(f"{words}: status {ended} where {status} is right: {out}{error}")
     if "Traceback" in error:
         raise Wrong(f"{words}: {error}")
     return out, error
-
-
-def expect(what, found, wanted):
-    if found != wanted:
-        raise Wrong(f"{what}: {found} where this is right: {wanted}")
 
 
 def expect_parts(what, text, *parts):
@@ -54,10 +41,14 @@ def expect_parts(what, text, *parts):
 
 
 def expect_full_disk(script, *words, typed=""):
-    """A script whose output cannot be written ends with status 1 and says so."""
+    """A script whose output cannot be written ends with status 1 and says so; one whose reader is gone as by its signal."""
     with open("/dev/full", "wb") as full:
         _, error = run(script, *words, status=1, typed=typed, stdout=full)
     expect_parts("a full disk", error, "cannot be written: No space left on device")
+    reader, writer = os.pipe()
+    os.close(reader)
+    run(script, *words, status=141, typed=typed, stdout=writer)
+    os.close(writer)
 
 
 def expect_quiet_interrupt(script, folder, *words):
@@ -69,7 +60,7 @@ def expect_quiet_interrupt(script, folder, *words):
     with subprocess.Popen(call, stdin=subprocess.DEVNULL, stdout=subprocess.PIPE, stderr=subprocess.PIPE) as process:
         writer = opened_by_a_reader(pipe, process)
         process.send_signal(signal.SIGINT)
-        _, error = process.communicate(timeout=SECONDS)
+        _, error = process.communicate(timeout=patience(SECONDS))
         os.close(writer)
     expect("after an interrupt", (process.returncode, error), (-signal.SIGINT, b""))
 

@@ -51,7 +51,7 @@ def check_counts(journal, folder, _):
     expect_parts("below the table", rest, "1 reads drained, 1 writes applied, 1 removals applied, 2 evictions, 1 of these rejections",
                  "most tasks waiting: 3, first after step 23", "workers named: 3, read buffers named: 2", "2 of 7 writes were refused")
     lines = whole.splitlines(keepends=True)
-    for cut in ("", whole[:-1], *("".join(lines[:count]) for count in range(1, len(lines))), whole[:200]):
+    for cut in ("", whole[:-1], *("".join(lines[:count]) for count in (1, 2, 14, len(lines) - 1)), whole[:200]):
         run(journal, file_of(folder, "cut", cut), status=1)
     for right, wrong in (("steps 26", "steps 25"), ("steps 26\n", "steps 26\n0 begin = busy\n"),
                          ("look 1 =", "look 01 ="), ("63 put 2", "64 put 2"), ("= idle", "= ideal"),
@@ -63,7 +63,7 @@ def check_counts(journal, folder, _):
 def check_beside_replay(journal, folder, program):
     """Journals of one worker and of several: their counts beside what `show` counts at their ends."""
     trace = "".join(f"{it * it % 91}\n" for it in range(500))
-    for workers, stripes in ((1, 1), (5, 4)):
+    for workers, stripes in ((1, 1), (5, 4), (64, 64)):
         cache = "--capacity", 20, "--stripes", stripes
         path = file_of(folder, "run.journal", run(program, "drive", *cache, "--workers", workers, typed=trace)[0])
         rows = rows_of(run(journal, "--csv", path)[0])
@@ -87,25 +87,36 @@ def check_beside_replay(journal, folder, program):
 
 
 def check_many(journal, folder, _):
-    """Twenty workers at sixteen read buffers, a worker of many steps, and the most tasks twice."""
-    steps = [f"{it} offer {it % 16} {it} {it} = kept" for it in range(20)] + ["3 look 7 = miss"] + ["3 begin = busy"] * 1201
+    """All workers at all read buffers, a key of twenty digits, a worker of many steps, and the most tasks twice."""
+    steps = [f"{it} offer {it} {2**64 - 1 - it} {it} = kept" for it in range(64)] + ["3 look 7 = miss"] + ["3 begin = busy"] * 1201
     steps += ["4 put 5 = added 0", "4 drainwrite = applied 5 0"] * 2
     whole = "cachesim journal 2\n" + "".join(f"{it}\n" for it in steps) + f"steps {len(steps)}\n"
     path = file_of(folder, "many", whole)
     rows, rest = rows_of(run(journal, "--csv", path)[0]), run(journal, path)[0]
-    expect("the workers", [row["worker"] for row in rows], [*map(str, range(20)), "all"])
-    expect("steps an access", (rows[3]["steps"], rows[3]["steps an access"]), ("1203", "1203.00"))
-    expect_parts("below the table", rest, "workers named: 20, read buffers named: 16", "most tasks waiting: 1, first after step 1223\n")
-    expect("by a pipe", run(journal, "-", typed=whole)[0], rest)
-    expect("the standard input", run(journal, typed=whole)[0], rest)
+    expect("the workers", [row["worker"] for row in rows], [*map(str, range(64)), "all"])
+    expect("a worker", [rows[3][it] for it in ("steps", "steps an access", "taken", "busy")], ["1203", "1203.00", "0", "1201"])
+    expect_parts("below the table", rest, "workers named: 64, read buffers named: 64", "most tasks waiting: 1, first after step 1267\n")
+
+
+def check_large(journal, folder, _):
+    """A journal of many steps."""
+    steps = "0 begin = busy\n" * 120000 + "0 put 5 = added 0\n"
+    expect_parts("many steps", run(journal, typed=f"cachesim journal 2\n{steps}steps 120001\n")[0], " 120001 ", "first after step 120001\n")
+
+
+def check_ways(journal, folder, _):
+    """A journal by a file, by a pipe and on the standard input; one that cannot be read, and tables that cannot be written."""
+    refused = "cachesim journal 2\n0 look 1 = miss\n0 put 1 = writesfull\nsteps 2\n"
+    path = file_of(folder, "refused", refused)
+    answers = [run(journal, *words, typed=refused)[0] for words in ([path], ["-"], [])]
+    expect("the same", answers, answers[:1] * 3)
+    expect_parts("refused writes", answers[0], "1 of 1 writes was refused")
     expect_full_disk(journal, path)
     expect_parts("no file", run(journal, folder / "none", status=1)[1], "cannot be read")
-    refused = "cachesim journal 2\n0 look 1 = miss\n0 put 1 = writesfull\nsteps 2\n"
     expect_quiet_interrupt(journal, folder)
-    expect_parts("refused writes", run(journal, typed=refused)[0], "1 of 1 writes was refused")
 
 
-TESTS = [check_counts, check_beside_replay, check_many]
+TESTS = [check_counts, check_beside_replay, check_many, check_large, check_ways]
 
 MISTAKES = {
     "a journal cut short": Mistake(check_counts, "journal", "if self.version == 2 and not self.is_ended:", "if False:"),
@@ -116,12 +127,14 @@ MISTAKES = {
     "a worker's steps counted as another's": Mistake(check_counts, "journal", '"all" if worker is None else worker',
                                                      '"all" if worker is None else 0'),
     "workers named": Mistake(check_many, "journal", "workers named: {len({worker for worker, *_ in self.counts})}",
-                             "workers named: {min(9, len({worker for worker, *_ in self.counts}))}"),
+                             "workers named: {min(63, len({worker for worker, *_ in self.counts}))}"),
     "read buffers named": Mistake(check_many, "journal", "read buffers named: {len(self.stripes)}",
-                                  "read buffers named: {min(8, len(self.stripes))}"),
+                                  "read buffers named: {min(63, len(self.stripes))}"),
     "steps an access, many": Mistake(check_many, "journal", "ratio(steps, accesses)]", "ratio(steps % 1000, accesses)]"),
+    "busy counted as taken": Mistake(check_many, "journal", '"taken": [("begin", "began")]', '"taken": [("begin", "began"), ("begin", "busy")]'),
+    "keys of few digits": Mistake(check_many, "journal", "[1-9][0-9]*)", "[1-9][0-9]{0,18})"),
     "most tasks at a later step": Mistake(check_many, "journal", "if self.waiting > self.most:", "if self.waiting >= self.most:"),
-    "an interrupt that is told": Mistake(check_many, "traces.py", "signal.SIG_DFL)", "signal.default_int_handler)"),
-    "a full disk": Mistake(check_many, "traces.py", "    except OSError as fault:\n        sys.exit(f\"{tool}",
+    "an interrupt that is told": Mistake(check_ways, "traces.py", "signal.SIG_DFL)", "signal.default_int_handler)"),
+    "a full disk": Mistake(check_ways, "traces.py", "    except OSError as fault:\n        sys.exit(f\"{tool}",
                            "    except OSError as fault:\n        print(f\"{tool}"),
 }

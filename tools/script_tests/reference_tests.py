@@ -37,8 +37,7 @@ TESTS = [check_beside_program]
 
 MISTAKES = {
     "reports that may pass for the program's": Mistake(check_beside_program, "reference", "    print(NOTE, file=sys.stderr)\n", ""),
-    "a spread that is not handed on": Mistake(check_beside_program, "reference", "[args.capacity], args.main, args.spread)",
-                                              '[args.capacity], args.main, "mixed")'),
+    "a spread that is not handed on": Mistake(check_beside_program, "reference", "**vars(args)}", '**vars(args), "spread": "mixed"}'),
     "the second policy as the first": Mistake(check_beside_program, "reference", "reference.compare(keys, args.first, args.second",
                                               "reference.compare(keys, args.second, args.first"),
     "more policies than a call takes": Mistake(check_beside_program, "reference", "> MAX_POLICIES", "> 99"),

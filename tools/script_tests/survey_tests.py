@@ -36,11 +36,11 @@ def check_best(survey, folder, _):
 def check_nearly_best(survey, folder, _):
     """Half a point below the best is as good, more is not, nor are more than 5 percent more misses: of 20 misses 21 are, 22 are
     not."""
-    trace = file_of(folder, "trace", "".join(f"{it % 19}\n" for it in range(1000)))
-    for hits, best, lost in (("lru=500, slru=495", "lru or slru", "-0.60"), ("lru=980, slru=979, wtinylfu=978", "lru or slru", "-48.60"),
-                             ("wtinylfu=980 if main == 20 else 978, lru=979", "wtinylfu --main 20 or lru", "-48.60")):
-        program = file_of(folder, "fake", fake(folder, f"None if capacity >= distinct else dict({hits}).get(policy, 494)").read_text()
-                          .replace("* percent // 100", "* percent // 1000"))
+    trace = file_of(folder, "trace", "".join(f"{it % 19}\n" for it in range(10000)))
+    for hits, best, lost in (("lru=5000, slru=4950", "lru or slru", "-0.56"), ("lru=9980, slru=9979, wtinylfu=9978", "lru or slru", "-50.36"),
+                             ("wtinylfu=9980 if main == 20 else 9978, lru=9979", "wtinylfu --main 20 or lru", "-50.36")):
+        program = file_of(folder, "fake", fake(folder, f"None if capacity >= distinct else dict({hits}).get(policy, 4944)").read_text()
+                          .replace("* percent // 100", "* percent // 10000"))
         words = survey, trace, "--program", program, "--capacity", "5"
         row = rows_of(run(*words, "--csv")[0])[0]
         expect("the best", (row["best"], row["below optimal"]), (best, lost))
@@ -181,6 +181,13 @@ def check_reach(survey, folder, _):
     expect("jumps", run(survey, trace, "--program", program, "--csv", "--table", "jumps")[0],
            "trace,policy,jumps from,to,hit ratio from,to,points\n"
            f"{trace},lru,122,123,5.00,60.00,55.00\n{trace},lru,199,200,60.00,80.00,20.00\n")
+    small = fake(folder, "None if capacity >= 200 else 100 * capacity if capacity < 5 else 500 + 15 * (capacity >= 91)")
+    small.write_text(small.read_text().replace("* percent // 100", "* percent // 1000"))
+    small_jumps = [run(survey, trace, "--program", small, "--csv", "--table", "jumps", *more)[0].count("\n") for more in ((), ("--jump", "1"))]
+    expect("jumps of one point and a half", small_jumps[1] - small_jumps[0], 1)
+    row = run(survey, trace, "--program", small, *words[4:], "--reach", "20")[0].splitlines()[1]
+    expect("one entry too few", row, f"{trace},20,lru,2,1.0,20.00,1,10.00")
+    program = fake(folder, f"None if capacity >= 200 else {rates}")
     expect("large jumps", run(survey, trace, "--program", program, "--csv", "--table", "jumps", "--jump", "30")[0].count("\n"), 2)
 
 
@@ -243,6 +250,9 @@ def check_lost_row(survey, folder, program):
     trace = file_of(folder, "trace", "1\n2\n1\n")
     _, error = run(survey, trace, "--program", fake(folder, cut="[:-1]"), status=1)
     expect_parts("a report that is left out", error, "other reports")
+    failing = fake(folder)
+    failing.write_text(f"{failing.read_text()}sys.exit(1)\n")
+    run(survey, trace, "--program", failing, status=1)
     for name, part in ((folder / "none", "none: No such file"), (folder, "Is a directory")):
         expect_parts("no file", run(survey, name, "--program", program, status=1)[1], part)
     arc = file_of(folder, "arc", "0 7\n")
@@ -366,6 +376,7 @@ def check_sampled_once(survey, folder, _):
         "trace,accesses,footprint,used once,highest possible %", f"{trace},16000,808,8,94.95",
         "trace,to reach,policy,capacity,% of footprint,hit ratio,not at,hit ratio there",
         f"{trace},90,lru,808,100.0,94.95,800,59.95", f"{trace},95,lru,never,-,-,808,94.95"])
+    expect("less than an entry of a sample", rows_of(run(*words, "--csv", "--capacity", "3")[0])[0]["capacity"], "8")
     text = run(*words[:-2], "--capacity", "1024")[0]
     expect("powers of two of a sample", "power of two" in text, False)
     run(*words, "--plot", folder / "picture.svg", env=gnuplot_by(folder, NOTING), cwd=folder)

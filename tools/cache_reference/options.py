@@ -1,0 +1,40 @@
+"""The words of the policies, and what a call says of them beside the capacity."""
+from collections import namedtuple
+
+from .caffeine import Caffeine
+from .demand_policies import Arc, Clock, Fifo, S3Fifo, Sieve, TwoQ
+from .policies import Clairvoyant, Lru, SegmentedLru, TinyLfu, WindowTinyLfu
+
+# A whole number within bounds, with what holds where it is not given.
+Number = namedtuple("Number", "default low high help")
+NUMBERS = {
+    "main": Number(99, 0, 99, "the main part of wtinylfu in percent (99)"),
+    "period": Number(None, 1, 2**32 - 1, "after how many accesses caffeine moves its window (ten times its capacity)"),
+    "in": Number(25, 1, 99, "the queue of new keys of 2q in percent (25)"),
+    "out": Number(50, 1, 100, "the ghost of 2q in percent (50)"),
+    "small": Number(10, 1, 99, "the small queue of s3-fifo in percent (10)"),
+}
+# Those that the program takes: tools/reference has them, and check_random asks for them.
+TAKEN = ("main",)
+DEFAULTS = {"spread": "mixed", **{name: number.default for name, number in NUMBERS.items()}}
+
+# How each policy is opened: of a capacity, options as those above, and the keys to come.
+POLICIES = {
+    "lru": lambda capacity, *_: Lru(capacity),
+    "slru": lambda capacity, *_: SegmentedLru(capacity),
+    "tinylfu-lru": lambda capacity, options, _: TinyLfu(Lru(capacity), capacity, options["spread"]),
+    "tinylfu-slru": lambda capacity, options, _: TinyLfu(SegmentedLru(capacity), capacity, options["spread"]),
+    "wtinylfu": lambda capacity, options, _: WindowTinyLfu(capacity, options["main"], options["spread"]),
+    "clairvoyant": lambda capacity, _, keys: Clairvoyant(capacity, keys),
+    "fifo": lambda capacity, *_: Fifo(capacity),
+    "clock": lambda capacity, *_: Clock(capacity),
+    "sieve": lambda capacity, *_: Sieve(capacity),
+    "s3-fifo": lambda capacity, options, _: S3Fifo(capacity, options["small"]),
+    "2q": lambda capacity, options, _: TwoQ(capacity, options["in"], options["out"]),
+    "arc": lambda capacity, *_: Arc(capacity),
+    "caffeine": lambda capacity, options, _: Caffeine(capacity, options["main"], options["spread"], options["period"]),
+}
+
+
+def opened(policy, capacity, options, keys):
+    return POLICIES[policy](capacity, options, keys)
