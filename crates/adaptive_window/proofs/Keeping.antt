@@ -110,10 +110,6 @@ adjusted-moved c size s t w m h all few main =
     let b = h.main in
     record { same = h.same; total = omega (arith, a, b, all); window = omega (arith, a, few); main = omega (arith, b, main) }
 
--- two moves, one after the other
-moved-both : (s t u : Queues) (w m : ℕ) → IsMoved s t (length s.window) (main_length s) → IsMoved t u w m → IsMoved s u w m
-moved-both s t u w m a b = record { same = λ j. b.same j ∙ a.same j; window = b.window; main = b.main }
-
 lent : (c size : ℕ) (s : Queues) → IsDistinct s → length s.window + 1 ≤ size → size + main_length s ≤ c + 1 → (c < size + main_length s → 1 ≤ length s.probation)
     → IsAdjusted c size s (queues_after_transfer (loan c size s) s)
 lent c size s d few main some =

@@ -2,10 +2,9 @@
 use Rattle.std.proofs.Common.{◌≡◌, ℕ, zero, suc, ◌+◌, ◌-◌, ◌*◌, ◌<◌, ◌≤◌, min, Bool, true, false, cond, eqb, nat_lt, ◌||◌, Option, Some, None, List, [], ◌∷◌, ◌++◌, length, take, drop, append-nil, ap, ◌∙◌, sym, subst, refl, arith, inl, inr}
 use Rattle.std.proofs.lemmas.Bool.{cond_both, cond-false, cases_eq, eq-eqb, ne_eqb, lt-ltb, le-ltb}
 use Rattle.step_record.specs.Keys.{has_key, keys_without}
-use Rattle.step_record.specs.declared.item.Item.{Item}
 use Rattle.step_record.specs.declared.outcome.Outcome.{Outcome}
 use Rattle.queue_table.specs.declared.records.Entry.{Entry}
-use Rattle.queue_table.specs.Entries.{entry, occurrences, oldest_of}
+use Rattle.queue_table.specs.Entries.{entry, oldest_of}
 use Rattle.queue_table.specs.Queues.{QUEUES, Queues, after_send}
 use Rattle.ghost_policies.specs.Arc.{ArcState, arc_residents, arc_total, forgotten_of_b1, forgotten_of_b2, leaver_to_b1, leaver_to_b2, leaver_dropped, arc_replace, plan_of_new_key, arc_after_recall, arc_after_forgetting, arc_after_eviction, arc_after_join, arc_after_miss, arc_outcome, arc_act, IsArc}
 use Rattle.ghost_policies.specs.declared.arc.ArcPlan.{ArcPlan}
@@ -23,7 +22,7 @@ use Rattle.policy_steps.specs.Planned.{IsPlannedBy}
 use Rattle.policy_steps.specs.Misses.{Leavers, no_leavers, miss_plan}
 use Rattle.policy_steps.specs.Arc.{T1, T2, B1, B2, arc_of, total, step_size, gives_t1, replaced, new_key_leavers, new_key_plan, recall_plan, plan_in, plan_at, arc_plan}
 use Rattle.policy_steps.specs.Theorems.{ArcIsPlanned}
-use Rattle.policy_steps.proofs.Moving.{length-keys, keys-sent, keys_left, left-keys, left-twice, without-rest, without-drop, without-push, apart-first, without-cond, own-low, AreLow, miss-low, tabled-leavers, none-left}
+use Rattle.policy_steps.proofs.Moving.{length-keys, keys-sent, keys_left, left-keys, left-twice, without-rest, without-drop, without-push, apart-first, without-cond, own-low, AreLow, miss-low, tabled-leavers}
 
 -- ---- the state, queue by queue
 

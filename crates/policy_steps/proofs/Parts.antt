@@ -77,13 +77,6 @@ pub absent-turns : (i : Item) (n from to less : ℕ) (s : Queues) → from < QUE
 absent-turns i zero from to less s w h = h
 absent-turns i (suc n) from to less s w h = absent-turns i n from to less (after_turn from to less s) w (absent-turned i to less (s from) s (h from w) h)
 
-absent-departed : (i : Item) (o : Option Entry) (s : Queues) → IsAbsent i s → IsAbsent i (departed None o s)
-absent-departed i None s h = h
-absent-departed i (Some e) s h = still-absent i e.item s h
-
-pub absent-out : (i : Item) (from : ℕ) (s : Queues) → IsAbsent i s → IsAbsent i (after_leaving (leaving from None) s)
-absent-out i from s h = absent-departed i (oldest_of (s from)) s h
-
 pub nowhere : (i : Item) (s : Queues) → standing i s ≡ None → IsAbsent i s
 nowhere i s h = absent i s (nowhere-standing i s h)
 

@@ -4,12 +4,11 @@ use Rattle.step_record.specs.declared.item.Item.{Item}
 use Rattle.queue_table.specs.Queues.{Queues, queue_holding}
 use Rattle.queue_table.proofs.QueueLists.{absent, is_absent}
 use Rattle.queue_moves.specs.declared.records.Accessed.{Accessed}
-use Rattle.queue_moves.specs.declared.records.Left.{Left}
 use Rattle.queue_moves.specs.declared.records.Run.{Run}
-use Rattle.queue_moves.specs.Moves.{standing, standing_at, leaving, Own, Plan, own_plan, after_run, after_leaving}
-use Rattle.queue_moves.specs.Undoing.{IsRun, IsLeft, IsAccessed}
+use Rattle.queue_moves.specs.Moves.{standing, standing_at, Own, Plan, own_plan, after_run}
+use Rattle.queue_moves.specs.Undoing.{IsRun, IsAccessed}
 use Rattle.policy_steps.specs.Planned.{resident_plan}
-use Rattle.policy_steps.proofs.Parts.{absent-turns, absent-out}
+use Rattle.policy_steps.proofs.Parts.{absent-turns}
 
 -- ---- which plan it is, once room is reserved and the queues are as before
 
@@ -40,7 +39,3 @@ module _ (i : Item) (s : Queues) (room : Bool) (hit join : Own) (x : ℕ) (full 
 pub absent-run : (i : Item) (r : Run) (s u : Queues) → IsRun r s u → queue_holding i s ≡ None → queue_holding i u ≡ None
 absent-run i r s u ran none =
     subst (λ v. queue_holding i v ≡ None) (sym ran.after) (is_absent i (after_run r s) (absent-turns i r.times r.from r.to r.less s ran.fits.from (absent i s none)))
-
-pub absent-left : (i : Item) (q : ℕ) (s u : Queues) (r : Left) → IsLeft (leaving q None) s u r → queue_holding i s ≡ None → queue_holding i u ≡ None
-absent-left i q s u r left none =
-    subst (λ v. queue_holding i v ≡ None) (sym left.after) (is_absent i (after_leaving (leaving q None) s) (absent-out i q s (absent i s none)))
