@@ -9,7 +9,7 @@ use Rattle.step_record.specs.declared.config.Spread.TheVariants.{Mixed}
 use Rattle.trace_read.specs.declared.format.Format.TheVariants.{Lirs}
 use Rattle.command_line.specs.Choices.{format_words, policy_named, policy_words, spread_words}
 use Rattle.command_line.specs.Program.{program_app}
-use Rattle.command_line.specs.Values.{asked_in, config_at, number_named, run_in}
+use Rattle.command_line.specs.Values.{asked_in, config_at, number_named, parts_in, run_in}
 use Rattle.command_line.specs.declared.arguments.Arguments.TheVariants.{Run}
 use Rattle.command_line.specs.declared.choices.WordLists.{WordLists}
 

@@ -1,5 +1,4 @@
-use Rattle.std.proofs.Common.{rules, ◌≡◌, length, slice_index_or}
-use Rattle.step_record.specs.Job.{word_of}
+use Rattle.std.proofs.Common.{rules}
 use Rattle.step_record.specs.declared.job.TheConstants.{POLICIES}
 use Rattle.step_record.specs.declared.job.Policy.TheVariants.{Lru}
 use Rattle.command_line.proofs.Words.{no_word, words-by-places}
