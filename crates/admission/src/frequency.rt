@@ -2,9 +2,10 @@
 ghost use Rattle.std.specs.Prelude.{◌≡◌, ◌<◌, ◌≤◌, ◌+◌, ◌-◌, ◌^◌, ◌*◌, ◌++◌, ◌∷◌, List, [], ℕ, nat_lt, cond, Some};
 ghost use Rattle.std.specs.Prelude.{IfOk, OnOk, OnErr, true};
 ghost use Rattle.step_record.specs.declared.limits.TheConstants.{MAX_CAPACITY};
-ghost use Rattle.admission.specs.Shape.{Shape, IsShape};
+ghost use Rattle.admission.specs.Shape.{Shape, IsSized};
 ghost use Rattle.admission.specs.Frequency.{IsFrequencyOf, frequency_of, marked, faded, frequency_with, halves};
-ghost use Rattle.admission.specs.Frequency.{halving_words};
+ghost use Rattle.admission.specs.Frequency.{halving_words, IsOpenFrequencyOf};
+ghost use Rattle.std.specs.Int.{IsPowerOfTwo};
 ghost use Rattle.admission.specs.Frequency.{estimate as estimate_of};
 ghost use Rattle.admission.specs.FreqRecord.{frequency_record, record_of, mark_of, lost_of};
 ghost use Rattle.admission.specs.FreqRecord.{frequency_before, FitsRecord, unmarked, FitsMark, unaged, FitsAging};
@@ -66,6 +67,30 @@ impl Frequency {
         })
     }
 
+    /// The same without a doorkeeper, so that each record touches the key's counters, and with `columns` columns in
+    /// each row of the sketch for each entry, a power of two up to 4. The one error is out of memory.
+    pub fn without_doorkeeper(
+        alloc: Global,
+        capacity: u32,
+        spread: Spread,
+        columns: u32,
+    ) -> Result<Frequency, AllocError>
+        requires some { 1 ≤ capacity }
+        requires few { capacity ≤ MAX_CAPACITY }
+        requires power { IsPowerOfTwo columns }
+        requires columns { columns ≤ 4 }
+        ensures { IfOk result (λ f. IsOpenFrequencyOf columns capacity spread [] f) }
+    {
+        let width = columns * width_for(capacity);
+        Ok(Frequency {
+            capacity,
+            sketch: Sketch::new(alloc, width, spread)?,
+            door: Doorkeeper::of_no_bits(alloc, spread),
+            age: 0,
+            halvings: 0,
+        })
+    }
+
     /// Records a key, and returns what it takes to undo that. A key whose three bits in the doorkeeper are not all
     /// set gets them set, another one has its four counters touched; the age rises by 1, and at ten times the capacity
     /// all counters are halved, the doorkeeper is emptied and the age is halved. The one error is out of memory for a
@@ -82,7 +107,7 @@ impl Frequency {
         ensures memory { OnErr result (halves self.old ≡ true) }
 
         // Of the frequency of a list of keys it makes that of the list with the key at its end.
-        ensures appends { (s : Shape) (keys : List ℕ) → IsShape s → self.old ≡ frequency_of s keys
+        ensures appends { (s : Shape) (keys : List ℕ) → IsSized s → self.old ≡ frequency_of s keys
             → OnOk result (self.new ≡ frequency_of s (keys ++ key ∷ [])) }
     {
         // Inlined, so that what a caller does not read of the record is not written; the halving is apart, as it is
@@ -152,7 +177,8 @@ impl Frequency {
         }
     }
 
-    /// A key's approximate frequency: the least of its four counters, and 1 more if the doorkeeper has it.
+    /// A key's approximate frequency: the least of its four counters, and 1 more if the doorkeeper has it, as one of no
+    /// bits has every key.
     pub fn estimate(&self, key: Key) -> u8
         ensures value { result ≡ estimate_of key self.now }
     {

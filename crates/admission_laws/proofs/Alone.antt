@@ -7,9 +7,9 @@ use Rattle.step_record.specs.declared.config.Spread.{Spread}
 use Rattle.sketch.specs.Columns.{column}
 use Rattle.admission.specs.Shape.{Shape, IsShape}
 use Rattle.admission.specs.Eras.{halvings, begins, era, this_era}
-use Rattle.admission.specs.Doorkeeper.{probe, is_probe, is_held, is_known, main_touches}
+use Rattle.admission.specs.Doorkeeper.{probe, is_probe, is_held, are_held, is_known, main_touches}
 use Rattle.admission.specs.Frequency.{touch_count, start, frequency_of, estimate}
-use Rattle.admission.proofs.Recording.{freq_has}
+use Rattle.admission.proofs.Recording.{freq_has, known_are_held}
 use Rattle.admission_laws.specs.Exact.{records_of, exact_start, exact_estimate}
 use Rattle.admission_laws.specs.Theorems.{CollidesWithNone, EstimatesAreExact}
 use Rattle.admission_laws.proofs.Known.{count-cons, head-among, tail-among, count-more, came-known, touches-few}
@@ -22,12 +22,13 @@ era-among c e k keys =
     let then = sum_by-take-drop (λ y. cond (eqb k y) 1 0) (take (begins c (suc e)) keys) (begins c e) in
     omega (arith, first, then)
 
-module _ (s : Spread) (d k i : ℕ) (below : i < 3) where
+module _ (s : Spread) (d k i : ℕ) (deep : 0 < d) (below : i < 3) where
   abbrev Owns : List ℕ → Type 0
   Owns keys = (x : ℕ) → 1 ≤ records_of x keys → is_probe s d x (probe s k i d) ≡ true → x ≡ k
 
   known-held : (keys : List ℕ) → is_known s d keys k ≡ true → is_held s d keys (probe s k i d) ≡ true
-  known-held keys h =
+  known-held keys known =
+      let h : are_held s d keys k ≡ true = sym (known_are_held s d keys k deep) ∙ known in
       let all = and_parts (is_held s d keys (probe s k 0 d) && is_held s d keys (probe s k 1 d)) (is_held s d keys (probe s k 2 d)) h in
       let two = and_parts (is_held s d keys (probe s k 0 d)) (is_held s d keys (probe s k 1 d)) all.0 in
       one i below two.0 two.1 all.1
@@ -94,7 +95,11 @@ module _ (s : Spread) (d k i : ℕ) (below : i < 3) where
       ]
 
   pub era-few : (keys : List ℕ) → Owns keys → records_of k (main_touches s d [] keys) ≤ records_of k keys - 1
-  era-few keys own = let h = main-few [] keys own in omega (arith, h)
+  era-few keys own =
+      let h = main-few [] keys own in
+      let none : is_known s d [] k ≡ false = known_are_held s d [] k deep in
+      let first : cond (is_known s d [] k) 0 (min 1 (records_of k keys)) ≡ min 1 (records_of k keys) = rw none refl in
+      omega (arith, h, first)
 
   pub door-few : (keys : List ℕ) → Owns keys → cond (is_known s d keys k) 1 0 ≤ min 1 (records_of k keys)
   door-few keys own = elim (cases_Bool (is_known s d keys k)) as (λ _. cond (is_known s d keys k) 1 0 ≤ min 1 (records_of k keys)) [
@@ -116,7 +121,7 @@ module _ (s : Shape) (is : IsShape s) (keys : List ℕ) (key : ℕ) (a : Collide
       (λ x m t.
       let some : 1 ≤ records_of x keys = (let few = touches-few s.spread s.size key (eqb x) [] ks in let among = era-among s.capacity e x keys in omega (arith, few, among, m)) in
       eq-eqb key x (sym (a.own_column x some (eqb-true (column s.spread x a.row s.width) (column s.spread key a.row s.width) t)))) in
-      omega (arith, own, era-few s.spread s.size key a.bit a.bit_below ks (era-owns e))
+      omega (arith, own, era-few s.spread s.size key a.bit (omega (arith, is.size.1)) a.bit_below ks (era-owns e))
 
   start-few : (e : ℕ) → start s e keys a.row (column s.spread key a.row s.width) ≤ exact_start s.capacity keys key e
   start-few zero = omega arith
@@ -129,8 +134,8 @@ module _ (s : Shape) (is : IsShape s) (keys : List ℕ) (key : ℕ) (a : Collide
       let h = halvings s.capacity (length keys) in
       let before = start-few h in
       let touched = touched-few h in
-      let door = door-few s.spread s.size key a.bit a.bit_below (this_era s.capacity keys) (era-owns h) in
-      let known = ap (λ (b : Bool). cond {A = ℕ} b 1 0) (freq_has s keys key wide deep) in
+      let door = door-few s.spread s.size key a.bit deep a.bit_below (this_era s.capacity keys) (era-owns h) in
+      let known = ap (λ (b : Bool). cond {A = ℕ} b 1 0) (freq_has s keys key wide) in
       omega (arith, estimate-more s is keys key, least-most key (frequency_of s keys).table a.row a.row_below, counter-is s wide key keys a.row a.row_below, before, touched, door, known)
 
 pub exact : EstimatesAreExact

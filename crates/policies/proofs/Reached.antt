@@ -129,7 +129,7 @@ recorded-by : (b : Bool) (c : Config) (keys : List ℕ) (k : ℕ) → 1 ≤ c.ca
 recorded-by false c keys k some = refl
 recorded-by true c keys k some =
     let is = shape-is c some in
-    ap Some (recorded_freq (shape_of c) is.some (omega (arith, is.width.1)) (omega (arith, is.size.1)) keys k)
+    ap Some (recorded_freq (shape_of c) is.some (omega (arith, is.width.1)) keys k)
 
 -- for a cache that stands for some accesses: the frequency with the key
 stands-frequency : (j : Job) (keys : List ℕ) (k : ℕ) (d : QueueState) → StandsFor j keys d → recorded_in k d.frequency ≡ frequency_after j (keys ++ k ∷ [])

@@ -41,7 +41,7 @@ frequency-next : (c : Config) → config_fault c ≡ Ok tt → (past : List ℕ)
     → recorded_in k d.frequency ≡ frequency_after (quiet_job c) (past ++ k ∷ [])
 frequency-next c h past d k e =
     let is : IsShape (shape_of c) = shape-is c (has-room c h) in
-    ap (recorded_in k) e ∙ ap (λ (f : FrequencyData). Some f) (recorded_freq (shape_of c) is.some (omega (arith, is.width.1)) (omega (arith, is.size.1)) past k)
+    ap (recorded_in k) e ∙ ap (λ (f : FrequencyData). Some f) (recorded_freq (shape_of c) is.some (omega (arith, is.width.1)) past k)
 
 pub runs : (c : Config) → config_fault c ≡ Ok tt → (ks past : List ℕ) (x : Shell) (d : QueueState) (os : List Outcome) (es : Entries)
     → x.config ≡ c → IsConsistent x → IsQuiet x d → d.frequency ≡ frequency_after (quiet_job c) past
