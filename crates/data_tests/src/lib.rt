@@ -3,6 +3,8 @@
 #![tactic(auto)]
 
 #[cfg(test)]
+mod adaptive_window_tests;
+#[cfg(test)]
 mod assertions;
 #[cfg(test)]
 mod bits_tests;

@@ -22,7 +22,7 @@ pub record UndoesMove (before after : Queues) (r : Option MoveRecord) : Type 0 w
   pub undone : undone_by r after ≡ before
   pub distinct : IsDistinct after
 
-transfer-undone : (t : Option Transfer) (s : Queues) → IsDistinct s → UndoesMove s (queues_after_transfer t s) (transfer_record t s)
+pub transfer-undone : (t : Option Transfer) (s : Queues) → IsDistinct s → UndoesMove s (queues_after_transfer t s) (transfer_record t s)
 transfer-undone None s d = record { fits = tt; undone = refl; distinct = d }
 transfer-undone (Some t) s d =
     let r = move-recorded t.item t.to s (queues_after_move t.item t.to s) (move_record t.item (Some t.to) s) d refl refl in

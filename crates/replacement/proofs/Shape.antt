@@ -5,10 +5,10 @@ use Rattle.std.proofs.lemmas.Bool.Decides.{leb_tells}
 use Rattle.std.specs.Int.{IsPowerOfTwo, IsNextPowerOfTwo}
 use Rattle.step_record.specs.declared.config.Config.{Config}
 use Rattle.step_record.specs.declared.config.Spread.{Spread}
-use Rattle.admission.specs.Shape.{Shape, IsShape}
-use Rattle.admission.specs.Frequency.{FrequencyData, frequency_of, IsFrequencyOf}
+use Rattle.admission.specs.Shape.{Shape, IsShape, IsOpenShape}
+use Rattle.admission.specs.Frequency.{FrequencyData, frequency_of, IsFrequencyOf, IsOpenFrequencyOf}
 use Rattle.admission.proofs.Recording.{next_within}
-use Rattle.replacement.specs.Shape.{doubled, least_power, shape_of}
+use Rattle.replacement.specs.Shape.{doubled, least_power, shape_of, open_shape_of}
 
 power-next : (k : ℕ) → 2 ^ suc k ≡ 2 * 2 ^ k
 power-next k = let q : suc k ≡ 1 + k = omega arith in rw q (pow-add 2 1 k)
@@ -51,3 +51,14 @@ shape-one c s is cap spread =
 
 pub own-shape : (c : Config) (keys : List ℕ) (f : FrequencyData) → IsFrequencyOf c.capacity c.spread keys f → f ≡ frequency_of (shape_of c) keys
 own-shape c keys f h = h.stands ∙ ap (λ s. frequency_of s keys) (shape-one c h.shape h.is h.capacity_is h.spread_is)
+
+open-shape-one : (columns : ℕ) (c : Config) (s : Shape) → IsOpenShape columns s → s.capacity ≡ c.capacity → s.spread ≡ c.spread → s ≡ open_shape_of columns c
+unfolding shape_by
+open-shape-one columns c s is cap spread =
+    let e : is.entries ≡ least_power (max 16 c.capacity) = next-one (max 16 c.capacity) is.entries (least_power (max 16 c.capacity)) (omega arith) (subst (λ n. IsNextPowerOfTwo (max 16 n) is.entries) cap is.is) (least (max 16 c.capacity)) in
+    let w : s.width ≡ columns * least_power (max 16 c.capacity) = is.width ∙ ap (λ x. columns * x) e in
+    ap (λ x. shape_by x s.spread s.width s.size) cap
+    ∙ (ap (λ x. shape_by c.capacity x s.width s.size) spread ∙ (ap (λ x. shape_by c.capacity c.spread x s.size) w ∙ ap (λ x. shape_by c.capacity c.spread (columns * least_power (max 16 c.capacity)) x) is.size))
+
+pub own-open-shape : (columns : ℕ) (c : Config) (keys : List ℕ) (f : FrequencyData) → IsOpenFrequencyOf columns c.capacity c.spread keys f → f ≡ frequency_of (open_shape_of columns c) keys
+own-open-shape columns c keys f h = h.stands ∙ ap (λ s. frequency_of s keys) (open-shape-one columns c h.shape h.is h.capacity_is h.spread_is)

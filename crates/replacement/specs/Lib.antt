@@ -8,3 +8,4 @@ pub mod PlanMoves
 pub mod Effects
 pub mod KeptMoves
 pub mod Theorems
+pub mod Resizing

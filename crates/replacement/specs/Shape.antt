@@ -12,6 +12,15 @@ doubled (suc times) p n = if nat_le n p then p else doubled times (2 * p) n
 unfoldable pub least_power : ℕ → ℕ
 least_power n = doubled n 1 n
 
+-- without a doorkeeper, and with so many columns for each entry
+abbrev pub open_shape_of : ℕ → Config → Shape
+open_shape_of columns c = record {
+  capacity = c.capacity;
+  spread = c.spread;
+  width = columns * least_power (max 16 c.capacity);
+  size = 0;
+}
+
 -- the least powers of two for 16 columns and 64 bits at least, and a column and eight bits for each item
 abbrev pub shape_of : Config → Shape
 shape_of c = record {

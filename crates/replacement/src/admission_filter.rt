@@ -3,7 +3,9 @@ ghost use Rattle.std.specs.Prelude.{◌≡◌, [], Ok, IfOk, option_map};
 ghost use Rattle.step_record.specs.Config.{config_fault};
 ghost use Rattle.admission.specs.Frequency.{frequency_of};
 ghost use Rattle.replacement.specs.Admission.{admits_in};
-ghost use Rattle.replacement.specs.Shape.{shape_of};
+ghost use Rattle.replacement.specs.Shape.{shape_of, open_shape_of};
+ghost use Rattle.std.specs.Prelude.{◌≤◌};
+ghost use Rattle.std.specs.Int.{IsPowerOfTwo};
 
 use admission::Frequency;
 use std::alloc::{AllocError, Global};
@@ -16,6 +18,21 @@ pub fn open_frequency(alloc: Global, config: &Config) -> Result<Frequency, Alloc
     ensures { IfOk result (λ f. f ≡ frequency_of (shape_of config.now) []) }
 {
     let frequency = Frequency::new(alloc, config.capacity, config.spread)?;
+    Ok(frequency)
+}
+
+/// The same without a doorkeeper, with `columns` columns in each row of the sketch for each entry, a power of two up to 4.
+pub fn open_frequency_without_doorkeeper(
+    alloc: Global,
+    config: &Config,
+    columns: u32,
+) -> Result<Frequency, AllocError>
+    requires checked { config_fault config.now ≡ Ok tt }
+    requires power { IsPowerOfTwo columns }
+    requires columns { columns ≤ 4 }
+    ensures { IfOk result (λ f. f ≡ frequency_of (open_shape_of columns config.now) []) }
+{
+    let frequency = Frequency::without_doorkeeper(alloc, config.capacity, config.spread, columns)?;
     Ok(frequency)
 }
 

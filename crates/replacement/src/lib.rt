@@ -13,15 +13,17 @@ mod kept_moves;
 mod misses;
 mod queue_moves;
 mod record;
+mod resizing;
 mod rollback;
 mod rules;
 pub mod theorems;
 
 pub use accesses::access;
-pub use admission_filter::open_frequency;
+pub use admission_filter::{open_frequency, open_frequency_without_doorkeeper};
 pub use hits::hit;
 pub use kept_moves::KeptMoves;
 pub use misses::evict;
 pub use record::{Effect, Moves};
+pub use resizing::{grow_window, shrink_window};
 pub use rollback::undo;
 pub use rules::{HitRule, Placement, Rules};

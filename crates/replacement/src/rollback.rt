@@ -10,7 +10,8 @@ use segments::{MoveRecord, Segments};
 pub fn undo(segments: &mut Segments, done: Moves)
     requires fits { FitsMoves done segments.old.lists }
     requires room { needed_by done.out ≤ segments.old.spare }
-    ensures { segments.new.lists ≡ undone_moves done segments.old.lists }
+    ensures lists { segments.new.lists ≡ undone_moves done segments.old.lists }
+    ensures spare { segments.old.spare ≤ segments.new.spare + needed_by done.out }
 {
     put_back(segments, done.last);
     put_back(segments, done.out);

@@ -1,0 +1,294 @@
+-- What an access makes of the queues, and that it keeps the invariant.
+use Rattle.std.proofs.Common.{◌≡◌, ℕ, ◌+◌, ◌-◌, ◌<◌, ◌≤◌, Bool, cond, nat_lt, Option, Some, None, List, [], ◌∷◌, ◌++◌, length, ◌∙◌, refl, arith, inl, inr, length-append}
+use Rattle.std.specs.Prelude.{count_by}
+use Rattle.std.proofs.lemmas.Bool.{cases_Bool, ltb-true, ltb-false}
+use Rattle.std.proofs.lemmas.List.Sums.{sum_by-append}
+use Rattle.step_record.specs.Stats.{is_hit, is_miss, is_eviction, one_if}
+use Rattle.step_record.specs.declared.item.Item.{Item}
+use Rattle.step_record.specs.declared.outcome.Outcome.{Outcome}
+use Rattle.segments.specs.declared.records.Queue.TheVariants.{Window, Probation}
+use Rattle.segments.specs.Items.{occurrences, items_without, oldest_of}
+use Rattle.segments.specs.Queues.{Queues, queues_after_move, total_items, IsDistinct}
+use Rattle.segments.proofs.ItemLists.{length-without}
+use Rattle.segments.proofs.QueueLists.{first-stands}
+use Rattle.replacement.specs.Counts.{queue_occurrences, main_length}
+use Rattle.replacement.specs.Plan.{demotion, transfer}
+use Rattle.replacement.specs.PlanMoves.{queues_after_transfer, queues_after}
+use Rattle.replacement.proofs.Counting.{queued-kept}
+use Rattle.replacement.proofs.Balance.{IsBalanced, balanced}
+use Rattle.adaptive_window.specs.declared.climber.ClimbRules.{ClimbRules}
+use Rattle.adaptive_window.specs.declared.climber.Climber.{Climber}
+use Rattle.adaptive_window.specs.Climber.{AreClimbRules, distance, ends_period, climber_after, IsClimber}
+use Rattle.replacement.specs.Resizing.{loan, growth_plan, shrinking_plan}
+use Rattle.adaptive_window.specs.AdaptiveWindow.{AdaptiveState, empty_adaptive, rules_at, size_towards, adjustment_plan, response_of, adaptive_act, IsAdaptive}
+use Rattle.adaptive_window.specs.Theorems.{IsAdaptiveAccess, AdaptiveKeeps, Access, adaptive_state_after, adaptive_outcomes, AdaptiveCounts}
+use Rattle.adaptive_window.proofs.Protected.{stays, adjusted}
+use Rattle.adaptive_window.proofs.Climbing.{climber-starts, climber-kept}
+
+-- ---- one item moves between two queues
+
+-- which items stand in the queues, and how many, is as before; the window and the main part have these lengths
+record IsMoved (s t : Queues) (w m : ℕ) : Type 0 where
+  same : (j : Item) → queue_occurrences j t ≡ queue_occurrences j s
+  window : length t.window ≡ w
+  main : main_length t ≡ m
+
+unmoved : (s : Queues) → IsMoved s s (length s.window) (main_length s)
+unmoved s = record { same = λ j. refl; window = refl; main = refl }
+
+-- protected's oldest to probation
+demoted : (x : Item) (s : Queues) → IsDistinct s → oldest_of s.protected ≡ Some x → IsMoved s (queues_after_move x Probation s) (length s.window) (main_length s)
+demoted x s d h =
+    let there : 1 ≤ occurrences x s.protected = first-stands x s.protected h in
+    let few = d x in
+    record {
+      same = λ j. queued-kept j x Probation s (omega (arith, few, there));
+      window = omega (arith, few, there, length-without x s.window);
+      main = omega (arith, few, there, length-without x s.probation, length-without x s.protected, length-append (items_without x s.probation) (x ∷ []));
+    }
+
+-- probation's oldest to the window
+loaned : (x : Item) (s : Queues) → IsDistinct s → oldest_of s.probation ≡ Some x → IsMoved s (queues_after_move x Window s) (length s.window + 1) (main_length s - 1)
+loaned x s d h =
+    let there : 1 ≤ occurrences x s.probation = first-stands x s.probation h in
+    let few = d x in
+    record {
+      same = λ j. queued-kept j x Window s (omega (arith, few, there));
+      window = omega (arith, few, there, length-without x s.window, length-append (items_without x s.window) (x ∷ []));
+      main = omega (arith, few, there, length-without x s.probation, length-without x s.protected);
+    }
+
+-- the window's oldest to probation
+returned : (x : Item) (s : Queues) → IsDistinct s → oldest_of s.window ≡ Some x → IsMoved s (queues_after_move x Probation s) (length s.window - 1) (main_length s + 1)
+returned x s d h =
+    let there : 1 ≤ occurrences x s.window = first-stands x s.window h in
+    let few = d x in
+    record {
+      same = λ j. queued-kept j x Probation s (omega (arith, few, there));
+      window = omega (arith, few, there, length-without x s.window);
+      main = omega (arith, few, there, length-without x s.probation, length-without x s.protected, length-append (items_without x s.probation) (x ∷ []));
+    }
+
+-- ---- the adjustment
+
+-- which items stand there is as before, and the queues fit a window of a size
+record IsAdjusted (c size : ℕ) (s t : Queues) : Type 0 where
+  same : (j : Item) → queue_occurrences j t ≡ queue_occurrences j s
+  total : total_items t ≡ total_items s
+  window : length t.window ≤ size
+  main : size + main_length t ≤ c
+
+none-there : (l : List Item) → oldest_of l ≡ None → length l ≡ 0
+none-there [] h = refl
+none-there (x ∷ l) h = absurd (cc (h))
+
+some-pushed : (l : List Item) (x : Item) → 1 ≤ length (l ++ x ∷ [])
+some-pushed l x = omega (arith, length-append l (x ∷ []))
+
+-- after the demotion probation has an item where the main part is over that size
+record IsDemoted (size : ℕ) (s t : Queues) : Type 0 where
+  moved : IsMoved s t (length s.window) (main_length s)
+  some : size < main_length t → 1 ≤ length t.probation
+
+distinct-moved : (s t : Queues) (w m : ℕ) → IsMoved s t w m → IsDistinct s → IsDistinct t
+distinct-moved s t w m h d j = let a = h.same j in let b = d j in omega (arith, a, b)
+
+demotes : (size : ℕ) (s : Queues) → IsDistinct s → IsDemoted size s (queues_after_transfer (demotion size s) s)
+demotes size s d =
+    elim (cases_Bool (nat_lt size (length s.protected))) as (λ _. IsDemoted size s (queues_after_transfer (demotion size s) s)) [
+      | inl e ↦ rw e (over (oldest_of s.protected) refl)
+      | inr e ↦ let few : length s.protected ≤ size = ltb-false size (length s.protected) e in rw e record { moved = unmoved s; some = λ more. omega (arith, few, more) }
+    ]
+  where
+    over : (o : Option Item) → oldest_of s.protected ≡ o → IsDemoted size s (queues_after_transfer (transfer Probation o) s)
+    over None h = let none = none-there s.protected h in record { moved = unmoved s; some = λ more. omega (arith, none, more) }
+    over (Some x) h = record { moved = demoted x s d h; some = λ more. some-pushed (items_without x s.probation) x }
+
+adjusted-moved : (c size : ℕ) (s t : Queues) (w m : ℕ) → IsMoved s t w m → w + m ≡ total_items s → w ≤ size → size + m ≤ c → IsAdjusted c size s t
+adjusted-moved c size s t w m h all few main =
+    let a = h.window in
+    let b = h.main in
+    record { same = h.same; total = omega (arith, a, b, all); window = omega (arith, a, few); main = omega (arith, b, main) }
+
+-- two moves, one after the other
+moved-both : (s t u : Queues) (w m : ℕ) → IsMoved s t (length s.window) (main_length s) → IsMoved t u w m → IsMoved s u w m
+moved-both s t u w m a b = record { same = λ j. b.same j ∙ a.same j; window = b.window; main = b.main }
+
+lent : (c size : ℕ) (s : Queues) → IsDistinct s → length s.window + 1 ≤ size → size + main_length s ≤ c + 1 → (c < size + main_length s → 1 ≤ length s.probation)
+    → IsAdjusted c size s (queues_after_transfer (loan c size s) s)
+lent c size s d few main some =
+    elim (cases_Bool (nat_lt c (size + main_length s))) as (λ _. IsAdjusted c size s (queues_after_transfer (loan c size s) s)) [
+      | inl e ↦ rw e (over (ltb-true c (size + main_length s) e) (oldest_of s.probation) refl)
+      | inr e ↦
+          let fits : size + main_length s ≤ c = ltb-false c (size + main_length s) e in
+          rw e (adjusted-moved c size s s (length s.window) (main_length s) (unmoved s) (omega arith) (omega (arith, few)) fits)
+    ]
+  where
+    over : c < size + main_length s → (o : Option Item) → oldest_of s.probation ≡ o → IsAdjusted c size s (queues_after_transfer (transfer Window o) s)
+    over more None h = let none = none-there s.probation h in let there = some more in absurd (omega (arith, none, there))
+    over more (Some x) h =
+        let there = some more in
+        adjusted-moved c size s (queues_after_move x Window s) (length s.window + 1) (main_length s - 1) (loaned x s d h) (omega (arith, there)) few (omega (arith, main, there))
+
+grown : (r : ClimbRules) → r.largest ≤ r.capacity → (size : ℕ) (s : Queues) → IsDistinct s → length s.window ≤ size → size + main_length s ≤ r.capacity → size + 1 ≤ r.capacity → IsAdjusted r.capacity (size + 1) s (queues_after (growth_plan (rules_at r (size + 1)) s) s)
+grown r fits size s d few main room =
+    let c : ℕ = r.capacity in
+    let p : ℕ = r.largest - (size + 1) in
+    let t : Queues = queues_after_transfer (demotion p s) s in
+    let h : IsDemoted p s t = demotes p s d in
+    let w = h.moved.window in
+    let m = h.moved.main in
+    let l : IsAdjusted c (size + 1) t (queues_after_transfer (loan c (size + 1) t) t) =
+    lent c (size + 1) t (distinct-moved s t (length s.window) (main_length s) h.moved d) (omega (arith, w, few)) (omega (arith, m, main)) (λ more. h.some (omega (arith, more, fits, room))) in
+    let all = l.total in
+    record { same = λ j. l.same j ∙ h.moved.same j; total = omega (arith, all, w, m); window = l.window; main = l.main }
+
+shrunk : (r : ClimbRules) (size : ℕ) (s : Queues) → IsDistinct s → 1 ≤ size → length s.window ≤ size → size + main_length s ≤ r.capacity → IsAdjusted r.capacity (size - 1) s (queues_after (shrinking_plan (rules_at r (size - 1)) s) s)
+shrunk r size s d some few main =
+    elim (cases_Bool (nat_lt (size - 1) (length s.window))) as (λ _. IsAdjusted r.capacity (size - 1) s (queues_after (shrinking_plan (rules_at r (size - 1)) s) s)) [
+      | inl e ↦ rw e (over (ltb-true (size - 1) (length s.window) e) (oldest_of s.window) refl)
+      | inr e ↦
+          let fits : length s.window ≤ size - 1 = ltb-false (size - 1) (length s.window) e in
+          rw e (adjusted-moved r.capacity (size - 1) s s (length s.window) (main_length s) (unmoved s) (omega arith) fits (omega (arith, main)))
+    ]
+  where
+    over : size - 1 < length s.window → (o : Option Item) → oldest_of s.window ≡ o → IsAdjusted r.capacity (size - 1) s (queues_after_transfer (transfer Probation o) s)
+    over more None h = let none = none-there s.window h in absurd (omega (arith, none, more))
+    over more (Some x) h =
+        adjusted-moved r.capacity (size - 1) s (queues_after_move x Probation s) (length s.window - 1) (main_length s + 1) (returned x s d h) (omega (arith, more)) (omega (arith, few)) (omega (arith, main, some))
+
+-- the adjustment of queues that fit a window of a size, and the size after it
+record IsSettled (r : ClimbRules) (target size : ℕ) (s : Queues) : Type 0 where
+  queues : IsAdjusted r.capacity (size_towards target size) s (queues_after (adjustment_plan r target size s) s)
+  least : 1 ≤ size_towards target size
+  most : size ≤ r.largest → size_towards target size ≤ r.largest
+  near : (size_towards target size ≤ size + 1) × (size ≤ size_towards target size + 1)
+  nearer : distance target (size_towards target size) ≤ distance target size - 1
+
+settled : (r : ClimbRules) → r.largest ≤ r.capacity → (target size : ℕ) (s : Queues) → IsDistinct s → (1 ≤ target) × (target ≤ r.largest) → 1 ≤ size → length s.window ≤ size → size + main_length s ≤ r.capacity → IsSettled r target size s
+settled r fits target size s d t some few main =
+    elim (cases_Bool (nat_lt size target)) as (λ _. IsSettled r target size s) [
+      | inl e ↦
+          let less : size < target = ltb-true size target e in
+          let high = t.1 in
+          record {
+            queues = rw e (grown r fits size s d few main (omega (arith, less, high, fits)));
+            least = rw e (omega arith);
+            most = λ few. rw e (omega (arith, less, high));
+            near = rw e (omega arith, omega arith);
+            nearer = rw e (omega (arith, less));
+          }
+      | inr e ↦ elim (cases_Bool (nat_lt target size)) as (λ _. IsSettled r target size s) [
+        | inl f ↦
+            let more : target < size = ltb-true target size f in
+            let low = t.0 in
+            record {
+              queues = rw (e, f) (shrunk r size s d some few main);
+              least = rw (e, f) (omega (arith, more, low));
+              most = λ few. rw (e, f) (omega (arith, few));
+              near = rw (e, f) (omega arith, omega arith);
+              nearer = rw (e, f) (omega (arith, more));
+            }
+        | inr f ↦ record {
+          queues = rw (e, f) (adjusted-moved r.capacity size s s (length s.window) (main_length s) (unmoved s) (omega arith) few main);
+          least = rw (e, f) some;
+          most = λ few. rw (e, f) few;
+          near = rw (e, f) (omega arith, omega arith);
+          nearer = (let a = ltb-false size target e in let b = ltb-false target size f in rw (e, f) (omega (arith, a, b)));
+        }
+      ]
+    ]
+
+-- ---- an access
+
+module _ (r : ClimbRules) (are : AreClimbRules r) (admits : ℕ → ℕ → Bool) (i : Item) (s : AdaptiveState) (h : IsAdaptive r s) where
+  came-back : IsBalanced (rules_at r s.size) i s.queues (response_of r admits i s)
+  came-back = balanced (rules_at r s.size) admits i s.queues h.distinct (h.window, h.main)
+
+  abbrev next-climber : Climber
+  next-climber = climber_after r (is_hit (response_of r admits i s).outcome) s.climber
+
+  next-kept : IsClimber r next-climber
+  next-kept = climber-kept r (is_hit (response_of r admits i s).outcome) s.climber are h.climber
+
+  next-settled : IsSettled r next-climber.target s.size (response_of r admits i s).queues
+  next-settled = settled r are.fits next-climber.target s.size (response_of r admits i s).queues came-back.once next-kept.target h.least came-back.sizes.0 came-back.sizes.1
+
+  next-near : distance next-climber.target (size_towards next-climber.target s.size) ≤ r.capacity - next-climber.accesses
+  next-near =
+      let nearer = next-settled.nearer in
+      let near = h.near in
+      let low = next-kept.target.0 in
+      let high = next-kept.target.1 in
+      let least = h.least in
+      let main = h.main in
+      let fits = are.fits in
+      elim (cases_Bool (ends_period r s.climber)) as (λ _. distance next-climber.target (size_towards next-climber.target s.size) ≤ r.capacity - next-climber.accesses) [
+        | inl e ↦ let none : next-climber.accesses ≡ 0 = rw e refl in omega (arith, none, nearer, low, high, least, main, fits)
+        | inr e ↦
+            let more : next-climber.accesses ≡ s.climber.accesses + 1 = rw e refl in
+            let same : next-climber.target ≡ s.climber.target = rw e refl in
+            let old : distance next-climber.target s.size ≤ r.capacity - s.climber.accesses = rw same near in
+            omega (arith, more, nearer, old)
+      ]
+
+  pub kept-access : IsAdaptive r (adaptive_act r admits i s).1
+  kept-access = record {
+    distinct = λ j. (let a = next-settled.queues.same j in let b = came-back.once j in omega (arith, a, b));
+    window = next-settled.queues.window;
+    main = next-settled.queues.main;
+    protected = adjusted r next-climber.target s.size (response_of r admits i s).queues (stays r s.size admits i s.queues h.protected h.distinct);
+    least = next-settled.least;
+    most = next-settled.most h.most;
+    climber = next-kept;
+    near = next-near;
+  }
+
+  access-is : IsAdaptiveAccess i s (adaptive_act r admits i s).0 (adaptive_act r admits i s).1
+  access-is = record {
+    hits = came-back.hit;
+    counts = let a = next-settled.queues.total in let b = came-back.counted in omega (arith, a, b);
+    came = λ j. (let a = next-settled.queues.same j in let b = came-back.came j in omega (arith, a, b));
+    size = next-settled.near;
+  }
+
+starts : (r : ClimbRules) (size : ℕ) → AreClimbRules r → 1 ≤ size → size ≤ r.largest → IsAdaptive r (empty_adaptive r size)
+starts r size are low high = record {
+  distinct = λ j. omega arith;
+  window = omega arith;
+  main = (let fits = are.fits in omega (arith, high, fits));
+  protected = omega arith;
+  least = low;
+  most = high;
+  climber = climber-starts r size are low high;
+  near = omega arith;
+}
+
+pub keeps : AdaptiveKeeps
+keeps r size are low high = record {
+  starts = starts r size are low high;
+  keeps = λ admits i s h. kept-access r are admits i s h;
+  accesses = λ admits i s h. access-is r are admits i s h;
+  fits = λ s h. (let w = h.window in let m = h.main in omega (arith, w, m));
+  reached = λ s h late. (let near = h.near in omega (arith, near, late));
+}
+
+count-cons : (p : Outcome → Bool) (o : Outcome) (os : List Outcome) → count_by p (o ∷ os) ≡ one_if (p o) + count_by p os
+count-cons p o os = sum_by-append (λ x. cond (p x) 1 0) (o ∷ []) os ∙ omega arith
+
+counts-from : (r : ClimbRules) → AreClimbRules r → (accesses : List Access) (s : AdaptiveState) → IsAdaptive r s
+    → total_items (adaptive_state_after r s accesses).queues + count_by is_eviction (adaptive_outcomes r s accesses) ≡ total_items s.queues + count_by is_miss (adaptive_outcomes r s accesses)
+counts-from r are [] s h = omega arith
+counts-from r are (a ∷ accesses) s h =
+    let one = (access-is r are a.admits a.item s h).counts in
+    let rest = counts-from r are accesses (adaptive_act r a.admits a.item s).1 (kept-access r are a.admits a.item s h) in
+    let o : Outcome = (adaptive_act r a.admits a.item s).0 in
+    let os : List Outcome = adaptive_outcomes r (adaptive_act r a.admits a.item s).1 accesses in
+    let evictions = count-cons is_eviction o os in
+    let misses = count-cons is_miss o os in
+    omega (arith, one, rest, evictions, misses)
+
+pub counts : AdaptiveCounts
+counts r size accesses are low high =
+    let all = counts-from r are accesses (empty_adaptive r size) (starts r size are low high) in
+    omega (arith, all)

@@ -1,0 +1,7 @@
+pub mod Climbing
+pub mod Undoing
+pub mod Protected
+pub mod Keeping
+pub mod Worked
+pub mod Fitting
+pub mod Running

@@ -1,0 +1,45 @@
+-- An access of the engine, as the fields show it.
+use Rattle.std.proofs.Common.{◌≡◌, ◌≢◌, ℕ, ◌≤◌, false, eqb, Some, Ok, Err, refl, arith, inl, inr}
+use Rattle.std.proofs.lemmas.Bool.{cases_Bool, ne_eqb}
+use Rattle.std.proofs.lemmas.Bool.Decides.{nat_tests}
+use Rattle.step_record.specs.declared.config.Config.{Config}
+use Rattle.step_record.specs.declared.config.ConfigFault.TheVariants.{Capacity}
+use Rattle.step_record.specs.declared.outcome.Outcome.{Outcome}
+use Rattle.step_record.specs.declared.stats.Stats.{Stats}
+use Rattle.step_record.specs.Config.{config_fault, is_from_one}
+use Rattle.step_record.specs.Stats.{stats_with}
+use Rattle.admission.specs.declared.freq_record.FreqRecord.{FreqRecord}
+use Rattle.admission.specs.Frequency.{FrequencyData, frequency_with}
+use Rattle.replacement.specs.Admission.{admits_in}
+use Rattle.adaptive_window.specs.declared.adaptive_cache.AdaptiveRecord.{AdaptiveRecord}
+use Rattle.adaptive_window.specs.declared.climber.ClimbRules.{ClimbRules}
+use Rattle.adaptive_window.specs.declared.window_record.WindowRecord.{WindowRecord}
+use Rattle.adaptive_window.specs.AdaptiveWindow.{AdaptiveState, adaptive_act}
+use Rattle.adaptive_window.specs.WindowRecord.{window_record_of}
+use Rattle.adaptive_window.specs.AdaptiveCache.{AdaptiveCacheState, nodeless_item, cache_act, cache_record_of}
+
+-- an accepted configuration has room
+pub has-room : (c : Config) → config_fault c ≡ Ok tt → 1 ≤ c.capacity
+has-room c h =
+    elim (cases_Bool (is_from_one 1048576 c.capacity)) [
+      | inl e ↦ grind (arith, nat_tests)
+      | inr e ↦ absurd (let no : Err Capacity ≡ Ok tt = rw e at h in cc (no))
+    ]
+
+-- what an accepted access gives
+module _ (r p : ClimbRules) (w v x : AdaptiveState) (f g : FrequencyData) (s z : Stats) (k : ℕ) (o : Outcome)
+    (ep : p ≡ r) (ev : v ≡ w) (eg : g ≡ frequency_with k f) where
+  abbrev before : AdaptiveCacheState
+  before = record { rules = r; window = w; frequency = f; stats = s }
+
+  pub act-is : (q : ClimbRules) → q ≡ p → s.accesses ≢ 4294967296 → o ≡ (adaptive_act p (admits_in (Some g)) (nodeless_item k) v).0
+      → x ≡ (adaptive_act p (admits_in (Some g)) (nodeless_item k) v).1 → z ≡ stats_with o s
+      → cache_act before k ≡ Some (o, record { rules = q; window = x; frequency = g; stats = z })
+  act-is q eq below eo ex ez =
+      let t : eqb s.accesses 4294967296 ≡ false = ne_eqb _ _ below in
+      rw (t, eq, ex, ez, eo, eg, ep, ev) refl
+
+  pub recorded-is : (c : FreqRecord) (m : WindowRecord) → c ≡ (cache_record_of k before).counting
+      → m ≡ window_record_of p (admits_in (Some g)) (nodeless_item k) v
+      → ◌≡◌ {A = AdaptiveRecord} record { counting = c; window = m } (cache_record_of k before)
+  recorded-is c m ec em = rw (ec, em, eg, ep, ev) refl

@@ -1,0 +1,124 @@
+-- A cache with an adaptive window: what it shows after a list of accesses, one access as a step, its undo record, and how
+-- the record undoes it. Keys are counted by sixteen counters for each entry and without a doorkeeper, as Caffeine does.
+use Rattle.std.specs.Prelude.{◌≢◌, ℕ, ◌≤◌, ◌==◌, if◌then◌else◌, Option, Some, None, List, [], ◌∷◌, ◌++◌, map}
+use Rattle.step_record.specs.declared.limits.TheConstants.{MAX_STEPS}
+use Rattle.step_record.specs.declared.config.Config.{Config}
+use Rattle.step_record.specs.declared.item.Item.{Item}
+use Rattle.step_record.specs.declared.outcome.Outcome.{Outcome}
+use Rattle.step_record.specs.declared.stats.Stats.{Stats}
+use Rattle.step_record.specs.Pace.{Pace}
+use Rattle.step_record.specs.Stats.{stats_of, stats_with, stats_without, IsCounted}
+use Rattle.segments.specs.Queues.{Queues}
+use Rattle.admission.specs.Frequency.{FrequencyData, frequency_of, frequency_with, pace_of}
+use Rattle.admission.specs.FreqRecord.{frequency_record, frequency_before, FitsRecord, size_of}
+use Rattle.replacement.specs.Admission.{admits_in}
+use Rattle.replacement.specs.Shape.{open_shape_of}
+use Rattle.adaptive_window.specs.declared.adaptive_cache.TheConstants.{COLUMNS}
+use Rattle.adaptive_window.specs.declared.adaptive_cache.AdaptiveRecord.{AdaptiveRecord}
+use Rattle.adaptive_window.specs.declared.climber.ClimbRules.{ClimbRules}
+use Rattle.adaptive_window.specs.Climber.{caffeine_rules, first_window}
+use Rattle.adaptive_window.specs.AdaptiveWindow.{AdaptiveState, empty_adaptive, adaptive_act}
+use Rattle.adaptive_window.specs.WindowRecord.{window_record_of, window_undone, WindowFits}
+
+pub record AdaptiveCacheState : Type 0 where
+  pub rules : ClimbRules
+  pub window : AdaptiveState
+  pub frequency : FrequencyData
+  pub stats : Stats
+
+-- a key is cached once at a time, so one node serves all
+abbrev pub nodeless_item : ℕ → Item
+nodeless_item k = record { key = k; node = 0 }
+
+-- the keys that are cached, queue by queue, oldest first
+abbrev pub residents_of : Queues → List ℕ
+residents_of q = map (λ i. i.key) q.window ++ map (λ i. i.key) q.probation ++ map (λ i. i.key) q.protected
+
+-- ---- one access: its key is recorded, and then it goes by the window in force
+
+abbrev pub response_to : ℕ → AdaptiveCacheState → Outcome × AdaptiveState
+response_to k d = adaptive_act d.rules (admits_in (Some (frequency_with k d.frequency))) (nodeless_item k) d.window
+
+abbrev pub cache_after : ℕ → AdaptiveCacheState → AdaptiveCacheState
+cache_after k d = record {
+  rules = d.rules;
+  window = (response_to k d).1;
+  frequency = frequency_with k d.frequency;
+  stats = stats_with (response_to k d).0 d.stats;
+}
+
+-- none is accepted after MAX_STEPS
+abbrev pub cache_act : AdaptiveCacheState → ℕ → Option (Outcome × AdaptiveCacheState)
+cache_act d k = if d.stats.accesses == MAX_STEPS then None else Some ((response_to k d).0, cache_after k d)
+
+-- ---- a list of accesses
+
+-- an empty cache, whose period may be chosen
+abbrev pub empty_cache : Config → Option ℕ → AdaptiveCacheState
+empty_cache c period = record {
+  rules = caffeine_rules c.capacity c.main_percent period;
+  window = empty_adaptive (caffeine_rules c.capacity c.main_percent period) (first_window c.capacity c.main_percent);
+  frequency = frequency_of (open_shape_of COLUMNS c) [];
+  stats = stats_of [];
+}
+
+-- what a cache shows after the accesses
+abbrev pub cache_after_all : AdaptiveCacheState → List ℕ → AdaptiveCacheState
+cache_after_all d [] = d
+cache_after_all d (k ∷ ks) = cache_after_all (cache_after k d) ks
+
+-- their outcomes
+abbrev pub outcomes_of_all : AdaptiveCacheState → List ℕ → List Outcome
+outcomes_of_all d [] = []
+outcomes_of_all d (k ∷ ks) = (response_to k d).0 ∷ outcomes_of_all (cache_after k d) ks
+
+-- ---- the record of an access
+
+-- The record of an access to k, from the cache before it. It is this and nothing beside: its only lists are those of a
+-- halving that the recording of the key brought.
+abbrev pub cache_record_of : ℕ → AdaptiveCacheState → AdaptiveRecord
+cache_record_of k d = record {
+  counting = frequency_record k d.frequency;
+  window = window_record_of d.rules (admits_in (Some (frequency_with k d.frequency))) (nodeless_item k) d.window;
+}
+
+-- the state before the access, from its record and the state after it
+abbrev pub cache_undone : AdaptiveRecord → AdaptiveCacheState → AdaptiveCacheState
+cache_undone r d = record {
+  rules = d.rules;
+  window = window_undone r.window d.window;
+  frequency = frequency_before r.counting d.frequency;
+  stats = stats_without r.window.outcome d.stats;
+}
+
+-- undoing the access takes memory: an item left in it, which comes back
+abbrev pub cache_asks : AdaptiveRecord → Type 0
+cache_asks r = r.window.access.out ≢ None
+
+abbrev pub cache_words : AdaptiveRecord → ℕ
+cache_words r = size_of r.counting
+
+abbrev pub cache_pace : AdaptiveCacheState → Pace
+cache_pace d = pace_of d.frequency
+
+-- ---- what holds of a cache
+
+-- each count is within that of the accesses, which are as many as may be applied
+pub record AreWithin (s : Stats) : Type 0 where
+  pub hits : s.hits ≤ s.accesses
+  pub misses : s.misses ≤ s.accesses
+  pub evictions : s.evictions ≤ s.accesses
+  pub rejections : s.rejections ≤ s.accesses
+  pub few : s.accesses ≤ MAX_STEPS
+
+-- there were no more halvings than accesses
+pub record IsRunning (f : FrequencyData) (s : Stats) : Type 0 where
+  pub counts : AreWithin s
+  pub halvings : f.halvings ≤ s.accesses
+
+-- each part of the record fits in its turn, and what undoing it leaves holds of a cache
+pub record CacheFits (r : AdaptiveRecord) (d : AdaptiveCacheState) : Type 0 where
+  pub window : WindowFits d.rules r.window d.window
+  pub counting : FitsRecord r.counting d.frequency
+  pub counted : IsCounted r.window.outcome d.stats
+  pub before : IsRunning (frequency_before r.counting d.frequency) (stats_without r.window.outcome d.stats)

@@ -1,0 +1,39 @@
+-- A worked example.
+use Rattle.std.specs.Prelude.{◌≡◌, ℕ, nat_lt, Bool, false, List, [], ◌∷◌}
+use Rattle.step_record.specs.Stats.{stats_of}
+use Rattle.step_record.specs.declared.item.Item.{Item}
+use Rattle.adaptive_window.specs.declared.climber.ClimbRules.{ClimbRules}
+use Rattle.adaptive_window.specs.AdaptiveWindow.{empty_adaptive}
+use Rattle.adaptive_window.specs.Theorems.{Access, adaptive_outcomes, adaptive_state_after}
+
+abbrev pub item : ℕ → Item
+item k = record { key = k; node = 0 }
+
+abbrev pub is_greater : ℕ → ℕ → Bool
+is_greater candidate victim = nat_lt victim candidate
+
+abbrev pub accesses_to : List ℕ → List Access
+accesses_to [] = []
+accesses_to (k ∷ keys) = record { admits = is_greater; item = item k } ∷ accesses_to keys
+
+abbrev pub example_keys : List ℕ
+example_keys =
+    1 ∷ 2 ∷ 1 ∷ 2 ∷ 2 ∷ 2 ∷ 2 ∷ 6 ∷ 1 ∷ 2 ∷ 4 ∷ 3 ∷ 1 ∷ 1 ∷ 5 ∷ 4 ∷ 1 ∷ 0 ∷ 4 ∷ 3 ∷ 1 ∷ 2 ∷ 0 ∷ 1 ∷ 3 ∷
+    3 ∷ 2 ∷ 4 ∷ 2 ∷ 2 ∷ 0 ∷ 2 ∷ 0 ∷ 2 ∷ 1 ∷ 4 ∷ 3 ∷ 2 ∷ 4 ∷ 4 ∷ []
+
+-- short periods and steps of an item, so that the window moves in few accesses: a step of `caffeine_rules` is less than
+-- an item below capacity 16
+abbrev pub example_rules : ClimbRules
+example_rules = record { capacity = 4; largest = 3; sample = 6; step = 65536 }
+
+-- At capacity 4, 40 accesses, from a window of 2: it shrinks to 1 after the first period, grows to 2 and 3, stays at 3
+-- where the step was less than an item, and shrinks to 2 and 1, where protected is to have 2; a candidate is admitted if
+-- its key is greater.
+pub record WorkedExample : Type 0 where
+  pub counts : stats_of (adaptive_outcomes example_rules (empty_adaptive example_rules 2) (accesses_to example_keys))
+      ≡ record { accesses = 40; hits = 20; misses = 20; evictions = 16; rejections = 13 }
+  pub state : adaptive_state_after example_rules (empty_adaptive example_rules 2) (accesses_to example_keys) ≡ record {
+    queues = record { window = item 4 ∷ []; probation = item 6 ∷ item 1 ∷ []; protected = item 3 ∷ [] };
+    size = 1;
+    climber = record { target = 1; grows = false; step = 64225; accesses = 4; hits = 2; last_hits = 3 };
+  }

@@ -1,0 +1,7 @@
+pub mod Climber
+pub mod AdaptiveWindow
+pub mod WindowRecord
+pub mod AdaptiveCache
+pub mod CacheCounts
+pub mod Theorems
+pub mod Examples

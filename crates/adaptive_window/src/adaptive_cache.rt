@@ -1,0 +1,245 @@
+//! The engine: a cache with an adaptive window, whose accesses are counted and can be undone.
+ghost use Rattle.std.specs.Prelude.{◌≡◌, ◌≢◌, ◌≤◌, ◌<◌, ◌^◌, ◌↔◌, [], ◌++◌, map, length, Ok, Err, Some, None};
+ghost use Rattle.std.specs.Prelude.{IfOk, OnOk, OnErr};
+ghost use Rattle.step_record.specs.declared.limits.TheConstants.{MAX_STEPS};
+ghost use Rattle.step_record.specs.Config.{config_fault};
+ghost use Rattle.segments.specs.Queues.{queue_of};
+ghost use Rattle.adaptive_window.specs.AdaptiveCache.{empty_cache, cache_act, residents_of};
+
+use crate::adaptive_window::AdaptiveWindow;
+use crate::window_record::WindowRecord;
+use admission::{FreqRecord, Frequency};
+use replacement::open_frequency_without_doorkeeper;
+use segments::Queue;
+use std::alloc::{AllocError, Global};
+use std::marker::Model;
+use step_record::{Config, Engine, Item, Key, MAX_STEPS, Outcome, Stats, StepFault};
+
+/// How many columns each of the four rows of the sketch has for an entry: sixteen counters in all, as Caffeine's.
+pub const COLUMNS: u32 = 4;
+
+/// A cache of W-TinyLFU with a window whose size follows the hits. Contracts see the rules of its climber, its window,
+/// its frequency and its counts.
+#[derive(Drop)]
+pub struct AdaptiveCache {
+    window: AdaptiveWindow,
+    frequency: Frequency,
+    stats: Stats,
+}
+
+/// The undo record of an access: that of the recording of its key, and what the access came to and moved. It holds lists
+/// only where the recording brought a halving.
+#[derive(Drop)]
+pub struct AdaptiveRecord {
+    pub(crate) counting: FreqRecord,
+    pub(crate) window: WindowRecord,
+}
+
+impl Model for AdaptiveCache {
+    ghost use Rattle.adaptive_window.specs.AdaptiveCache.{AdaptiveCacheState, IsRunning};
+
+    ghost Value = { AdaptiveCacheState };
+
+    ghost view = { λ q. record {
+      rules = q.window.rules;
+      window = q.window.state;
+      frequency = q.frequency;
+      stats = q.stats;
+    } };
+
+    ghost invariant = { λ q. IsRunning q.frequency q.stats };
+}
+
+impl AdaptiveCache {
+    /// An empty cache for a configuration that `Config::check` accepts. A period has as many accesses as are chosen, one
+    /// for each entry at least, and where none are chosen ten for each entry. The one error is that an allocation failed.
+    pub fn new(
+        alloc: Global,
+        config: &Config,
+        period: Option<u32>,
+    ) -> Result<AdaptiveCache, AllocError>
+        requires { config_fault config.now ≡ Ok tt }
+        ensures { IfOk result (λ q. q ≡ empty_cache config.now period) }
+    {
+        let frequency = open_frequency_without_doorkeeper(alloc, config, COLUMNS)?;
+        Ok(AdaptiveCache {
+            window: AdaptiveWindow::new(alloc, config, period),
+            frequency,
+            stats: Stats::NONE,
+        })
+    }
+
+    /// Makes an access that is not to be undone: that of `apply`, without its undo record.
+    ///
+    /// Errors: `NotNow` exactly where `MAX_STEPS` accesses are applied, and `OutOfMemory`; each leaves the cache as it
+    /// was.
+    ///
+    /// `C` only selects an instance: calls with different `C` are compiled apart, so that one which is called at one
+    /// place is part of the loop there.
+    #[inline(always)]
+    pub fn access<C>(&mut self, key: Key) -> Result<Outcome, StepFault>
+        ensures accepted { IfOk result (λ o. cache_act self.old key ≡ Some (o, self.new)) }
+        ensures not_now { result ≡ Err StepFault.NotNow ↔ cache_act self.old key ≡ None }
+        ensures err { OnErr result (self.new ≡ self.old) }
+    {
+        make_room(&self.stats, &mut self.window)?;
+        let Ok(()) = self.frequency.count(key) else {
+            return Err(StepFault::OutOfMemory);
+        };
+        let item = Item { key, node: 0 };
+        let done = self.window.access::<C>(&self.frequency, item);
+        self.stats.count(done.outcome);
+        Ok(done.outcome)
+    }
+
+    /// What was counted of the applied accesses.
+    pub fn stats(&self) -> Stats
+        ensures { result ≡ self.now.stats }
+    {
+        self.stats
+    }
+
+    /// How often keys came.
+    pub fn frequency(&self) -> &Frequency
+        ensures { result.now ≡ self.now.frequency }
+    {
+        &self.frequency
+    }
+
+    /// The size of the window in force.
+    pub fn window_size(&self) -> u32
+        ensures { result ≡ self.now.window.size }
+    {
+        self.window.size()
+    }
+
+    /// The size that the window is to have.
+    pub fn target(&self) -> u32
+        ensures { result ≡ self.now.window.climber.target }
+    {
+        self.window.target()
+    }
+
+    /// The keys that it holds: those of the window, of probation and of protected in that order, oldest first. The one
+    /// error is that an allocation failed.
+    pub fn residents(&self, alloc: Global) -> Result<Vec<Key>, AllocError>
+        ensures { IfOk result (λ keys. keys.items ≡ residents_of self.now.window.queues) }
+    {
+        let mut keys = Vec::new(alloc);
+        add_keys(&mut keys, &self.window.list(alloc, Queue::Window)?)?;
+        add_keys(&mut keys, &self.window.list(alloc, Queue::Probation)?)?;
+        add_keys(&mut keys, &self.window.list(alloc, Queue::Protected)?)?;
+        Ok(keys)
+    }
+}
+
+impl Engine for AdaptiveCache {
+    ghost use Rattle.adaptive_window.specs.AdaptiveCache.{cache_act, cache_record_of, cache_undone, cache_asks, CacheFits};
+    ghost use Rattle.adaptive_window.specs.AdaptiveCache.{cache_words, cache_pace};
+    ghost use Rattle.adaptive_window.specs.CacheCounts.{act_counts, act_ends, act_paced};
+
+    type Step = Key;
+
+    type Reply = Outcome;
+
+    type Record = AdaptiveRecord;
+
+    type Data = AdaptiveCache;
+
+    ghost seen = { λ q. q };
+
+    ghost act = { cache_act };
+
+    ghost record_of = { cache_record_of };
+
+    // Room for an item is made before it is known whether the access needs any.
+    ghost may_ask = { λ d k. Unit {0} };
+
+    ghost fits = { CacheFits };
+
+    ghost undone = { cache_undone };
+
+    ghost asks = { cache_asks };
+
+    ghost count = { λ d. d.stats.accesses };
+
+    ghost words_of = { cache_words };
+
+    ghost pace = { cache_pace };
+
+    #[inline(always)]
+    fn apply(&mut self, step: &Key) -> Result<(Outcome, AdaptiveRecord), StepFault> {
+        let key = *step;
+        make_room(&self.stats, &mut self.window)?;
+        let Ok(counting) = self.frequency.record(key) else {
+            return Err(StepFault::OutOfMemory);
+        };
+        let item = Item { key, node: 0 };
+        let done = self.window.access::<Recorder>(&self.frequency, item);
+        let outcome = done.outcome;
+        self.stats.count(outcome);
+        let record = AdaptiveRecord {
+            counting,
+            window: done,
+        };
+        Ok((outcome, record))
+    }
+
+    fn undo(&mut self, done: AdaptiveRecord) -> Result<(), AdaptiveRecord> {
+        let asks = done.window.access.moves().out.is_some();
+        if asks && self.window.reserve().is_err() {
+            return Err(done);
+        }
+        let AdaptiveRecord { counting, window } = done;
+        self.stats.uncount(window.outcome);
+        self.window.undo(window);
+        self.frequency.unrecord(counting);
+        Ok(())
+    }
+
+    fn standing(&self) -> u64 {
+        self.stats.accesses
+    }
+
+    fn words(done: &AdaptiveRecord) -> u64 {
+        done.counting.words()
+    }
+
+    ghost counted = { act_counts };
+
+    ghost counted_out = { act_ends };
+
+    ghost paced = { act_paced };
+}
+
+// The caller of an access that keeps its undo record. The code of an access stands in the program once for each type of
+// caller, so that the code for callers that drop the record neither makes nor copies it.
+struct Recorder;
+
+// Makes the room that one more access takes, before its key is counted: what follows takes none.
+#[inline(always)]
+fn make_room(stats: &Stats, window: &mut AdaptiveWindow) -> Result<(), StepFault>
+    ensures below { OnOk result (stats.now.accesses ≢ MAX_STEPS) }
+    ensures room { OnOk result (1 ≤ window.new.spare) }
+    ensures rules { window.new.rules ≡ window.old.rules }
+    ensures state { window.new.state ≡ window.old.state }
+    ensures not_now { result ≡ Err StepFault.NotNow ↔ stats.now.accesses ≡ MAX_STEPS }
+{
+    if stats.accesses == MAX_STEPS {
+        return Err(StepFault::NotNow);
+    }
+    if window.reserve().is_err() {
+        return Err(StepFault::OutOfMemory);
+    }
+    Ok(())
+}
+
+// Adds the keys of the items.
+fn add_keys(keys: &mut Vec<Key>, items: &[Item]) -> Result<(), AllocError>
+    ensures { OnOk result (keys.new.items ≡ keys.old.items ++ map (λ i. i.key) items.now) }
+{
+    for item in items {
+        keys.push(item.key)?;
+    }
+    Ok(())
+}

@@ -1,0 +1,220 @@
+//! The queues of W-TinyLFU with a window whose size follows the hits.
+ghost use Rattle.std.specs.Prelude.{◌≡◌, ◌≤◌, Some, Ok, IfOk, OnOk};
+ghost use Rattle.step_record.specs.Config.{config_fault};
+ghost use Rattle.step_record.specs.Stats.{is_hit as is_hit_of};
+ghost use Rattle.segments.specs.Queues.{IsDistinct, queue_of};
+ghost use Rattle.replacement.specs.Admission.{admits_in};
+ghost use Rattle.replacement.specs.PlanMoves.{queues_after, moves_of, needed_by, UndoesMoves};
+ghost use Rattle.replacement.specs.KeptMoves.{IsKeepable};
+ghost use Rattle.adaptive_window.specs.Climber.{AreSmallRules, caffeine_rules, first_window};
+ghost use Rattle.adaptive_window.specs.AdaptiveWindow.{empty_adaptive, size_towards, adjustment_plan, adaptive_act};
+ghost use Rattle.adaptive_window.specs.WindowRecord.{size_change, size_before as size_before_of, window_record_of, window_undone, WindowFits};
+
+use crate::climber::{ClimbRules, Climber, first_window_of};
+use crate::window_record::{SizeChange, WindowRecord};
+use admission::Frequency;
+use replacement::{KeptMoves, Moves, access, grow_window, shrink_window, undo};
+use segments::{Queue, Segments};
+use std::alloc::{AllocError, Global};
+use std::marker::Model;
+use step_record::{Config, Item, Outcome};
+
+/// The queues of a cache, the size of its window in force, and the climber that says which size it is to have. Contracts
+/// see these with the rules, and for how many more items there is room.
+#[derive(Drop)]
+pub struct AdaptiveWindow {
+    rules: ClimbRules,
+    segments: Segments,
+    size: u32,
+    climber: Climber,
+}
+
+impl Model for AdaptiveWindow {
+    ghost use Rattle.adaptive_window.specs.Climber.{AreClimbRules, AreSmallRules};
+    ghost use Rattle.adaptive_window.specs.AdaptiveWindow.{ShownWindow, IsAdaptive};
+
+    ghost Value = { ShownWindow };
+
+    ghost view = { λ w. record {
+      rules = w.rules;
+      state = record { queues = w.segments.lists; size = w.size; climber = w.climber };
+      spare = w.segments.spare;
+    } };
+
+    ghost invariant = { λ w. AreClimbRules w.rules × AreSmallRules w.rules
+        × IsAdaptive w.rules record { queues = w.segments.lists; size = w.size; climber = w.climber } };
+}
+
+impl AdaptiveWindow {
+    /// An empty cache for a configuration that `Config::check` accepts. Allocates nothing.
+    pub fn new(alloc: Global, config: &Config, period: Option<u32>) -> AdaptiveWindow
+        requires { config_fault config.now ≡ Ok tt }
+        ensures rules { result.rules ≡ caffeine_rules config.now.capacity config.now.main_percent period }
+        ensures state { result.state
+            ≡ empty_adaptive (caffeine_rules config.now.capacity config.now.main_percent period)
+            (first_window config.now.capacity config.now.main_percent) }
+    {
+        let rules = ClimbRules::caffeine(config, period);
+        let size = first_window_of(config);
+        AdaptiveWindow {
+            rules,
+            segments: Segments::for_items(alloc, config.capacity),
+            size,
+            climber: Climber::first(&rules, size),
+        }
+    }
+
+    /// Makes room for one more item. The one error is that an allocation failed; nothing that is seen of the queues
+    /// changes then.
+    #[inline(always)]
+    pub fn reserve(&mut self) -> Result<(), AllocError>
+        ensures room { OnOk result (1 ≤ self.new.spare) }
+        ensures rules { self.new.rules ≡ self.old.rules }
+        ensures state { self.new.state ≡ self.old.state }
+    {
+        self.segments.reserve()
+    }
+
+    /// The size of the window in force.
+    pub fn size(&self) -> u32
+        ensures { result ≡ self.now.state.size }
+    {
+        self.size
+    }
+
+    /// The size that the window is to have.
+    pub fn target(&self) -> u32
+        ensures { result ≡ self.now.state.climber.target }
+    {
+        self.climber.target
+    }
+
+    /// The items of a queue, oldest first. The one error is that an allocation failed.
+    pub fn list(&self, alloc: Global, queue: Queue) -> Result<Vec<Item>, AllocError>
+        ensures { IfOk result (λ items. items.items ≡ queue_of queue self.now.state.queues) }
+    {
+        self.segments.list(alloc, queue)
+    }
+
+    /// Accesses an item, whose key the frequency already has: by the table of moves, with a window of the size in force.
+    /// The access is counted, and then the size in force goes one towards the target. It requires room for one item.
+    ///
+    /// `C` only selects an instance: calls with different `C` are compiled apart, so an instance whose undo record is
+    /// unused makes none.
+    #[inline(always)]
+    pub fn access<C>(&mut self, frequency: &Frequency, item: Item) -> WindowRecord
+        requires room { 1 ≤ self.old.spare }
+        ensures outcome { result.outcome
+            ≡ (adaptive_act self.old.rules (admits_in (Some frequency.now)) item self.old.state).0 }
+        ensures state { self.new.state
+            ≡ (adaptive_act self.old.rules (admits_in (Some frequency.now)) item self.old.state).1 }
+        ensures record { result
+            ≡ window_record_of self.old.rules (admits_in (Some frequency.now)) item self.old.state }
+        ensures fits { WindowFits self.old.rules result self.new.state }
+        ensures undone { window_undone result self.new.state ≡ self.old.state }
+        ensures rules { self.new.rules ≡ self.old.rules }
+    {
+        let rules = self.rules.at(self.size);
+        let effect = access::<C>(&mut self.segments, Some(frequency), &rules, item);
+        let period = self.climber.count(&self.rules, is_hit(effect.outcome));
+        let adjusted = adjust(
+            &mut self.segments,
+            &self.rules,
+            self.climber.target,
+            self.size,
+        );
+        self.size = adjusted.size;
+        WindowRecord {
+            outcome: effect.outcome,
+            access: KeptMoves::of(effect.moves),
+            adjustment: KeptMoves::of(adjusted.moves),
+            size: adjusted.change,
+            period,
+        }
+    }
+
+    /// Undoes an access: first what moved as the window followed its target, then the access. It requires that the record
+    /// fits, and room for the item that left, if one did.
+    pub fn undo(&mut self, done: WindowRecord)
+        requires fits { WindowFits self.old.rules done self.old.state }
+        requires room { needed_by done.access.out ≤ self.old.spare }
+        ensures state { self.new.state ≡ window_undone done self.old.state }
+        ensures rules { self.new.rules ≡ self.old.rules }
+    {
+        undo(&mut self.segments, done.adjustment.moves());
+        undo(&mut self.segments, done.access.moves());
+        self.size = size_before(done.size, self.size);
+        self.climber.uncount(done.period, is_hit(done.outcome));
+    }
+}
+
+// A step of the window towards its target: the size after it, how that changed, and what moved.
+#[derive(Clone, Copy)]
+struct Adjusted {
+    size: u32,
+    change: SizeChange,
+    moves: Moves,
+}
+
+// The size in force goes one towards the target, and the queues follow.
+#[inline(always)]
+fn adjust(segments: &mut Segments, rules: &ClimbRules, target: u32, size: u32) -> Adjusted
+    requires target { target ≤ rules.now.largest }
+    requires size { size ≤ rules.now.largest }
+    requires fits { rules.now.largest ≤ rules.now.capacity }
+    requires distinct { IsDistinct segments.old.lists }
+    ensures size { result.size ≡ size_towards target size }
+    ensures change { result.change ≡ size_change target size }
+    ensures lists { segments.new.lists
+        ≡ queues_after (adjustment_plan rules.now target size segments.old.lists) segments.old.lists }
+    ensures moves { result.moves
+        ≡ moves_of (adjustment_plan rules.now target size segments.old.lists) segments.old.lists }
+    ensures undoes { UndoesMoves segments.old.lists segments.new.lists result.moves }
+    ensures keepable { IsKeepable result.moves }
+{
+    if size < target {
+        let moves = grow_window(segments, &rules.at(size + 1));
+        return Adjusted {
+            size: size + 1,
+            change: SizeChange::Grew,
+            moves,
+        };
+    }
+    if target < size {
+        let moves = shrink_window(segments, &rules.at(size - 1));
+        return Adjusted {
+            size: size - 1,
+            change: SizeChange::Shrank,
+            moves,
+        };
+    }
+    Adjusted {
+        size,
+        change: SizeChange::Stayed,
+        moves: Moves::NONE,
+    }
+}
+
+// The size before a change.
+fn size_before(change: SizeChange, size: u32) -> u32
+    requires some { 1 ≤ size }
+    requires few { size ≤ 1048576 }
+    ensures { result ≡ size_before_of change size }
+{
+    match change {
+        SizeChange::Grew => size - 1,
+        SizeChange::Shrank => size + 1,
+        SizeChange::Stayed => size,
+    }
+}
+
+// Whether an access was a hit.
+#[inline(always)]
+fn is_hit(outcome: Outcome) -> bool
+    ensures { result ≡ is_hit_of outcome }
+{
+    match outcome {
+        Outcome::Hit => true,
+        Outcome::Kept | Outcome::Evicted(_) | Outcome::Rejected(_) => false,
+    }
+}
