@@ -7,11 +7,12 @@ use Rattle.step_record.specs.declared.worker.TheConstants.{MAX_WORKERS}
 use Rattle.command_line.specs.declared.options.OptionName.{OptionName}
 use Rattle.command_line.specs.declared.options.OptionName.TheVariants.{Batch, Capacities, Capacity, ComparedEvery}
 use Rattle.command_line.specs.declared.options.OptionName.TheVariants.{Every, First}
-use Rattle.command_line.specs.declared.options.OptionName.TheVariants.{Format, Journal, Limit, Main, Policies, Second}
-use Rattle.command_line.specs.declared.options.OptionName.TheVariants.{Spread, Stripes, SweptPolicies, Trace, Workers}
+use Rattle.command_line.specs.declared.options.OptionName.TheVariants.{Format, Journal, Limit, Long, Main, Policies}
+use Rattle.command_line.specs.declared.options.OptionName.TheVariants.{Second, Spread, Stripes, SweptPolicies, Trace}
+use Rattle.command_line.specs.declared.options.OptionName.TheVariants.{Workers}
 use Rattle.command_line.specs.declared.options.OptionRow.{OptionRow}
 use Rattle.command_line.specs.declared.options.Place.{Place}
-use Rattle.command_line.specs.declared.options.Place.TheVariants.{Named, NamedOften, Optional, Positional}
+use Rattle.command_line.specs.declared.options.Place.TheVariants.{Named, NamedOften, Optional, Positional, Switch}
 use Rattle.command_line.specs.declared.options.Subcommand.{Subcommand}
 use Rattle.command_line.specs.declared.options.ValueKind.{ValueKind}
 use Rattle.command_line.specs.declared.options.ValueKind.TheVariants as kind
@@ -38,6 +39,7 @@ row_of Capacities = row (codes "capacities") (kind.Number 1 MAX_CAPACITY) Positi
 row_of Main = row (codes "main") (kind.Number 0 MAX_MAIN_PERCENT) Named (Some (codes "99"))
 row_of Spread = row (codes "spread") kind.Spread Named (Some (codes "mixed"))
 row_of Format = row (codes "format") kind.Format Named (Some (codes "lirs"))
+row_of Long = row (codes "long") kind.Flag Switch None
 row_of Batch = row (codes "batch") (kind.Number 1 MAX_BATCH) Named (Some (codes "1024"))
 row_of Every = row (codes "every") (kind.Number 1 MAX_ACCESSES) Named None
 row_of ComparedEvery = row (codes "every") (kind.Number 1 MAX_ACCESSES) Optional None
@@ -63,7 +65,7 @@ abbrev pub defined_subcommand : Subcommand → SubcommandDefinition
 defined_subcommand given = named given.name.now given.options.now
 
 abbrev pub subcommands : List SubcommandDefinition
-subcommands = named (codes "run") (Capacity ∷ Main ∷ Spread ∷ Format ∷ Batch ∷ Policies ∷ [])
+subcommands = named (codes "run") (Capacity ∷ Main ∷ Spread ∷ Format ∷ Long ∷ Batch ∷ Policies ∷ [])
     ∷ named (codes "sweep") (Main ∷ Spread ∷ Format ∷ SweptPolicies ∷ Capacities ∷ [])
     ∷ named (codes "intervals") (Capacity ∷ Every ∷ Main ∷ Spread ∷ Format ∷ Policies ∷ [])
     ∷ named (codes "part") (Capacity ∷ Main ∷ Spread ∷ Format ∷ First ∷ Second ∷ [])

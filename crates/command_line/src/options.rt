@@ -4,7 +4,7 @@ ghost use Rattle.std.specs.Prelude.{◌≡◌};
 ghost use Rattle.command_line.specs.Options.{defined, row_of};
 
 use OptionName::{
-    Batch, Capacities, Capacity, ComparedEvery, Every, First, Format, Journal, Limit, Main,
+    Batch, Capacities, Capacity, ComparedEvery, Every, First, Format, Journal, Limit, Long, Main,
     Policies, Second, Spread, Stripes, SweptPolicies, Trace, Workers,
 };
 use step_record::{
@@ -48,6 +48,7 @@ pub enum OptionName {
     Main,
     Spread,
     Format,
+    Long,
     Batch,
     Every,
     ComparedEvery,
@@ -86,6 +87,8 @@ pub enum ValueKind {
     Spread,
     /// The path of a file.
     File,
+    /// None: whether the option is given is all.
+    Flag,
 }
 
 /// How the values of an option are given.
@@ -99,6 +102,8 @@ pub enum Place {
     NamedOften,
     /// With no name, one or more.
     Positional,
+    /// Its name alone, or not at all.
+    Switch,
 }
 
 /// All subcommands, in the order in which help lists them.
@@ -110,7 +115,7 @@ pub static SUBCOMMANDS: [Subcommand; 8] = [
 The trace comes by a redirection (< FILE) or a pipe. Without one, at a terminal, the program waits
 for you to type the trace, a line each, up to Ctrl-D.",
         example: "Example: cachesim run --capacity 100 lru wtinylfu clairvoyant < trace.lirs",
-        options: &[Capacity, Main, Spread, Format, Batch, Policies],
+        options: &[Capacity, Main, Spread, Format, Long, Batch, Policies],
     },
     Subcommand {
         name: "sweep",
@@ -175,7 +180,7 @@ Give --capacity, --stripes, --main, --spread and --limit as they were given to `
 ];
 
 // The options, in the order of their names.
-static OPTIONS: [OptionRow; 17] = [
+static OPTIONS: [OptionRow; 18] = [
     OptionRow {
         id: "capacity",
         value_name: "N",
@@ -215,6 +220,14 @@ static OPTIONS: [OptionRow; 17] = [
         value: ValueKind::Format,
         place: Place::Named,
         default: Some("lirs"),
+    },
+    OptionRow {
+        id: "long",
+        value_name: "",
+        help: "The trace may have 4294967295 accesses and 2^40 bytes, in place of 16777216 and 2^30; not for clairvoyant",
+        value: ValueKind::Flag,
+        place: Place::Switch,
+        default: None,
     },
     OptionRow {
         id: "batch",
