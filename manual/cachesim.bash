@@ -12,7 +12,7 @@ _cachesim_words() {
     run:--spread) echo 'mixed plain' ;;
     run:--format) echo 'lirs arc' ;;
     run:--batch) echo '' ;;
-    run:*) echo 'lru slru tinylfu-lru tinylfu-slru wtinylfu clairvoyant fifo clock sieve s3-fifo 2q arc --capacity --main --small --in --out --spread --format --batch -h --help' ;;
+    run:*) echo 'lru slru tinylfu-lru tinylfu-slru wtinylfu clairvoyant fifo clock sieve s3-fifo 2q arc --capacity --main --small --in --out --spread --format --long --batch -h --help' ;;
     sweep:--main) echo '' ;;
     sweep:--small) echo '' ;;
     sweep:--in) echo '' ;;

@@ -26,6 +26,7 @@ complete -c cachesim -n '__cachesim_is run' -l in -x -d 'How much of the capacit
 complete -c cachesim -n '__cachesim_is run' -l out -x -d 'How many keys that left the ghost of 2q remembers, in percent of the capacity, from 1 to 100'
 complete -c cachesim -n '__cachesim_is run' -l spread -x -a 'mixed plain' -d 'How keys are spread over the columns of a sketch: mixed by a mixing function, plain by remainders'
 complete -c cachesim -n '__cachesim_is run' -l format -x -a 'lirs arc' -d 'The format of the trace: lirs has a block number a line, arc a first block and how many blocks'
+complete -c cachesim -n '__cachesim_is run' -l long -d 'The trace may have 4294967295 accesses and 2^40 bytes, in place of 16777216 and 2^30; not for clairvoyant'
 complete -c cachesim -n '__cachesim_is run' -l batch -x -d 'How many accesses a policy is given at once, from 1 to 65536; no report depends on it'
 complete -c cachesim -n '__cachesim_is run' -s h -l help -d 'Print help (see a summary with '\''-h'\'')'
 complete -c cachesim -n '__cachesim_is sweep' -l main -x -d 'How much of the capacity of wtinylfu is the main part, in percent, from 0 to 99; the rest is the window'

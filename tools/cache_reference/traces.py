@@ -4,6 +4,7 @@ from .faults import Fault
 BLANKS = b" \t\r"
 ALL_BITS = 2**64 - 1
 MAX_ACCESSES = 2**24
+MAX_LONG_ACCESSES = 2**32 - 1
 
 
 def number_of(field):
@@ -37,12 +38,13 @@ def arc_keys(line, room):
     return range(start, start + count)
 
 
-def keys_of(form, data):
-    """The accesses of a trace, or the fault of its first faulty line."""
+def keys_of(form, data, is_long=False):
+    """The accesses of a trace, or the fault of its first faulty line. One that is long may have more of them."""
+    most = MAX_LONG_ACCESSES if is_long else MAX_ACCESSES
     keys, keys_of_line = [], {"lirs": lirs_keys, "arc": arc_keys}[form]
     for number, line in enumerate(data.split(b"\n"), 1):
         try:
-            keys += keys_of_line(line.strip(BLANKS), MAX_ACCESSES - len(keys))
+            keys += keys_of_line(line.strip(BLANKS), most - len(keys))
         except Fault as fault:
             raise Fault(f"{fault.words} line {number}") from None
     return keys

@@ -54,6 +54,8 @@ def streams(check):
     if not check.is_short:
         check.expect_fault("a trace at the limit", "fault: BadNumber line 1", *run, stdin=largest)
     check.expect_fault("a trace over the limit", "fault: TooLarge", *run, stdin=large)
+    if not check.is_short:
+        check.expect_fault("a long trace over that limit", "fault: BadNumber line 1", *run, "--long", stdin=large)
     with open("/dev/full", "wb") as full:
         check.compare("a fault to a full standard error", check.call(*run, typed="x\n", stderr=full), Ended(1, b"", b""))
     check.expect_full("help to a full output", "--help")

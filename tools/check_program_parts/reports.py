@@ -37,6 +37,8 @@ run --capacity 3 mru
 run --capacity 3 --spread even lru
 run --capacity 3 --batch 0 lru
 run --capacity 3 --batch 65537 lru
+run --capacity 3 --long=3 lru
+sweep --long --policy lru 3
 sweep --policy lru
 sweep 3
 sweep --policy lru 3 0
@@ -86,6 +88,10 @@ error: invalid value 'zzzz-zzzz-zzzz-zzzz' for '<POLICY>...'
   [possible values: {', '.join(check.policies)}]
 
 For more information, try '--help'.
+""")
+    for policies in (["clairvoyant"], ["lru", "clairvoyant", "lru"], ["clairvoyant"] * 65):
+        check.expect_usage_error(f"{len(policies)} policies of a long trace", "run", "--long", "--capacity", 3, *policies, error="""\
+error: clairvoyant has to know the whole trace, which --long does not keep: take a sample of it
 """)
     check.expect_usage_error("the text of what is missing", "debug", error=REQUIRED)
 
@@ -168,3 +174,20 @@ def sweeps(check):
     check.expect_fault("a run of sixty-five over a faulty trace", "fault: BadNumber line 1", "run", "--capacity", 3,
                        *["lru"] * 65, typed="x\n")
     check.expect_fault("a sweep of sixty-five", "fault: Actors", "sweep", 3, *["--policy=lru"] * 65, typed="1\n")
+
+
+@part()
+def long_traces(check):
+    """Traces that are too long to be kept, by `--long`."""
+    run = "run", "--capacity", 3, "--long"
+    check.expect_report("a trace", "lru,3,6,1,5,2,0,16.66\n", *run, "lru", typed=SMALL)
+    check.expect_report("a last line without its end", "lru,3,2,0,2,0,0,0.00\n", *run, "lru", typed="1\n2")
+    check.expect_report("one access more than is kept", "lru,3,16777217,0,16777217,16777214,0,0.00\n" * 2, *run, "--format", "arc",
+                        "lru", "lru", typed="0 16777217")
+    check.expect_report("batches of an access", "fifo,3,300000,299997,3,0,0,99.99\n", *run, "--batch", 1, "fifo",
+                        typed=lines(1, 2, 3) * 100000)
+    check.expect_fault("one access more than a long trace may have", "fault: TooLong line 2", *run, "--format", "arc", "lru",
+                       typed="7 0\n0 4294967296\n1\n")
+    check.expect_fault("a faulty line", "fault: BadNumber line 2", *run, "lru", typed="1\nx\n")
+    check.expect_fault("sixty-five policies", "fault: Actors", *run, *["lru"] * 65, typed="1\n")
+    check.expect_fault("sixty-five policies over a faulty line", "fault: BadNumber line 1", *run, *["lru"] * 65, typed="x\n")

@@ -1,25 +1,30 @@
 -- Configurations that are accepted give no fault of jobs.
-use Rattle.std.proofs.Common.{◌≡◌, ◌≤◌, ◌+◌, refl, Bool, true, false, ℕ, List, [], ◌∷◌, length, map, subst, Option, None, Result, Ok, Err}
-use Rattle.std.specs.List.{AllPass}
+use Rattle.std.proofs.Common.{◌≡◌, ◌≤◌, ◌+◌, refl, ◌||◌, inl, inr, sym, nat_lt, Bool, true, false, ℕ, List, [], ◌∷◌, length, map, subst, Option, None, Result, Ok, Err}
+use Rattle.std.specs.List.{All, AllPass, list_any}
 use Rattle.std.specs.Prelude.{IfErr, if◌then◌else◌}
-use Rattle.std.proofs.lemmas.List.Elements.{All-head, All-tail}
-use Rattle.std.proofs.lemmas.Bool.{le-leb}
+use Rattle.std.proofs.lemmas.List.Elements.{All-head, All-tail, All-nil, All-cons}
+use Rattle.std.proofs.lemmas.Bool.{cases_Bool, le-leb, ltb-false}
 use Rattle.step_record.specs.Config.{config_fault, is_from_one}
 use Rattle.step_record.specs.declared.config.Config.{Config}
 use Rattle.step_record.specs.declared.job.Job.{Job}
 use Rattle.step_record.specs.declared.job.Parts.{Parts}
 use Rattle.step_record.specs.declared.job.Policy.{Policy}
+use Rattle.step_record.specs.declared.job.Policy.TheVariants.{Clairvoyant}
 use Rattle.step_record.specs.declared.config.ConfigFault.{ConfigFault}
 use Rattle.step_record.specs.declared.config.ConfigFault.TheVariants.{Capacity}
-use Rattle.step_record.specs.declared.limits.TheConstants.{MAX_BATCH, MAX_CAPACITY}
+use Rattle.step_record.specs.declared.limits.TheConstants.{MAX_ACCESSES, MAX_BATCH, MAX_CAPACITY}
+use Rattle.policies.specs.Design.{knows_trace}
 use Rattle.policies.specs.FaultyJobs.{at_capacity, faulty_from, faulty_in, ReturnsFault}
 use Rattle.policies.specs.declared.actor_fault.ActorFault.{ActorFault}
 use Rattle.policies.specs.declared.actor_fault.ActorFault.TheVariants.{OutOfMemory}
 use Rattle.sweeps.specs.Sweep.{first_config_fault, sweep_fault}
+use Rattle.policy_actors.specs.Following.{CanFollow}
+use Rattle.policy_actors.proofs.Following.{all_follow}
 use Rattle.policy_actors.specs.Faults.{actor_fault}
 use Rattle.sweeps.specs.Intervals.{intervals_fault}
 use Rattle.policies.specs.declared.job_checks.TheConstants.{MAX_ACTORS}
-use Rattle.command_line.specs.Accepted.{IsAcceptedPart, IsAcceptedRun, IsAcceptedSweep}
+use Rattle.command_line.specs.Accepted.{IsAcceptedPart, IsAcceptedRun, IsAcceptedSweep, is_clairvoyant, needs_whole_trace}
+use Rattle.command_line.specs.declared.arguments.Arguments.TheVariants.{Run}
 use Rattle.command_line.specs.declared.arguments.PartArguments.{PartArguments}
 use Rattle.command_line.specs.declared.arguments.RunArguments.{RunArguments}
 use Rattle.command_line.specs.declared.arguments.SweepArguments.{SweepArguments}
@@ -75,3 +80,34 @@ pair_accepted part accepted = rw (accepted.first, accepted.second) refl
 -- where no fault is due, the one that came is out of memory
 pub memory_alone : {A : Type 0} (due : Option ActorFault) (r : Result A ActorFault) → due ≡ None → ReturnsFault due r → IfErr r (λ f. f ≡ OutOfMemory)
 memory_alone due r none h = subst (λ (d : Option ActorFault). ReturnsFault d r) none h
+
+-- where no policy is named that has to know the whole trace, each can be run over a trace that is not kept
+
+neither : (a b : Bool) → (a || b) ≡ false → (a ≡ false) × (b ≡ false)
+neither true b e = absurd (cc e)
+neither false b e = (refl, e)
+
+forgets : (policy : Policy) → is_clairvoyant policy ≡ false → knows_trace policy ≡ true → ⊥
+forgets Clairvoyant other knows = cc other
+forgets _ other knows = cc knows
+
+each_forgets : (most : ℕ) (config : Config) (policies : List Policy) → list_any is_clairvoyant policies ≡ false
+    → All (CanFollow most) (jobs_by_policy config policies)
+each_forgets most config [] none = All-nil (CanFollow most)
+each_forgets most config (policy ∷ policies) none =
+    let both = neither (is_clairvoyant policy) (list_any is_clairvoyant policies) none in
+    All-cons (CanFollow most) _ _ (λ knows. absurd (forgets policy both.0 knows)) (each_forgets most config policies both.1)
+
+-- the jobs of a `run` that is accepted can be run within its limits
+pub can_follow : (run : RunArguments) (jobs : List Job) → needs_whole_trace (Run run) ≡ false → jobs ≡ jobs_by_policy run.config run.policies
+    → All (CanFollow run.limits.accesses) jobs
+can_follow run jobs kept is = elim (cases_Bool (nat_lt MAX_ACCESSES run.limits.accesses)) [
+  | inl long ↦
+      let none : list_any is_clairvoyant run.policies ≡ false = rw long at kept in
+      subst (All (CanFollow run.limits.accesses)) (sym is) (each_forgets run.limits.accesses run.config run.policies none)
+  | inr short ↦ all_follow run.limits.accesses jobs (ltb-false MAX_ACCESSES run.limits.accesses short)
+]
+
+-- and no job at all can be run
+pub can_pass : (run : RunArguments) → IsAcceptedRun run → actor_fault run.batch [] ≡ None
+can_pass run accepted = rw (in_batch run.batch accepted.some accepted.few) refl

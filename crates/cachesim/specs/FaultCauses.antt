@@ -3,13 +3,14 @@ use Rattle.std.specs.Prelude.{◌≡◌, ◌≢◌, ◌<◌, ◌⊎◌, ℕ, fal
 use Rattle.clap.specs.Words.{Text}
 use Rattle.step_record.specs.History.{Entries}
 use Rattle.step_record.specs.declared.config.Config.{Config}
-use Rattle.step_record.specs.declared.limits.TheConstants.{MAX_TRACE_BYTES}
 use Rattle.shell_model.specs.Shell.{Shell, act}
 use Rattle.maintenance.specs.EmptyShell.{IsOpened}
 use Rattle.step_record.specs.declared.job.Policy.{Policy}
 use Rattle.policies.specs.declared.job_checks.TheConstants.{MAX_ACTORS}
-use Rattle.trace_read.specs.TraceText.{fault_in}
+use Rattle.trace_read.specs.TraceText.{fault_within}
 use Rattle.trace_read.specs.declared.format.Format.{Format}
+use Rattle.trace_read.specs.declared.limits.Limits.{Limits}
+use Rattle.trace_read.specs.declared.limits.TheConstants.Limits.{DEFAULT}
 use Rattle.trace_read.specs.declared.fault.TraceFault.{TraceFault}
 use Rattle.trace_read.specs.declared.fault.TraceFault.TheVariants as trace
 use Rattle.journal_text.specs.Faults.{IsFault}
@@ -39,15 +40,19 @@ IsOfMachine (Debug large.Read) = Unit {0}
 IsOfMachine (Debug large.Write) = Unit {0}
 IsOfMachine fault = ⊥
 
--- the bytes are too many for a trace, or this is the fault of its first faulty line
-abbrev pub IsTraceFault : Format → List ℕ → TraceFault → Type 0
-IsTraceFault format bytes trace.TooLarge = MAX_TRACE_BYTES < length bytes
-IsTraceFault format bytes fault = fault_in format bytes ≡ Some fault
+-- the bytes are too many for a trace within these limits, or this is the fault of its first faulty line
+abbrev pub IsTraceFault : Limits → Format → List ℕ → TraceFault → Type 0
+IsTraceFault limits format bytes trace.TooLarge = limits.bytes < length bytes
+IsTraceFault limits format bytes fault = fault_within limits.accesses format bytes ≡ Some fault
 
--- the fault is that of the bytes as a trace, or they have none and P holds of it
+-- the fault is that of the bytes as a trace within these limits, or they have none and P holds of it
+abbrev pub IsFoundWithin : Limits → Format → (Fault → Type 0) → Fault → List ℕ → Type 0
+IsFoundWithin limits format P (Trace fault) bytes = IsTraceFault limits format bytes fault
+IsFoundWithin limits format P fault bytes = (fault_within limits.accesses format bytes ≡ None) × P fault
+
+-- the same of a trace that is kept
 abbrev pub IsFoundIn : Format → (Fault → Type 0) → Fault → List ℕ → Type 0
-IsFoundIn format P (Trace fault) bytes = IsTraceFault format bytes fault
-IsFoundIn format P fault bytes = (fault_in format bytes ≡ None) × P fault
+IsFoundIn = IsFoundWithin DEFAULT
 
 -- more policies are named than are run at once
 abbrev pub IsTooMany : List Policy → Fault → Type 0
@@ -76,7 +81,8 @@ IsFoundInFile file P fault = IfSome file (P fault)
 
 -- the call of these arguments finds the fault in the bytes of the input or of its file, or in the arguments
 abbrev pub IsFound : Arguments → KnownFiles → Option (List ℕ) → Fault → Type 0
-IsFound (asked.Run run) files input fault = IfSome input (IsFoundIn run.format (IsTooMany run.policies) fault)
+IsFound (asked.Run run) files input fault =
+    IfSome input (IsFoundWithin run.limits run.format (IsTooMany run.policies) fault)
 IsFound (asked.Sweep sweep) files input fault = IfSome input (IsFoundIn sweep.format (IsTooMany sweep.policies) fault)
 IsFound (asked.Intervals intervals) files input fault =
     IfSome input (IsFoundIn intervals.format (IsTooMany intervals.policies) fault)

@@ -4,11 +4,12 @@ use Rattle.step_record.specs.declared.config.Config.{Config}
 use Rattle.step_record.specs.declared.job.Job.{Job}
 use Rattle.step_record.specs.declared.job.Parts.{Parts}
 use Rattle.step_record.specs.declared.job.Policy.{Policy}
+use Rattle.step_record.specs.declared.limits.TheConstants.{MAX_ACCESSES}
 use Rattle.command_line.specs.declared.arguments.Arguments.{Arguments}
 use Rattle.command_line.specs.declared.arguments.Arguments.TheVariants as asked
 use Rattle.command_line.specs.declared.arguments.PartArguments.{PartArguments}
 use Rattle.sweeps.specs.Sweep.{jobs_over}
-use Rattle.trace_read.specs.TraceText.{fault_in, keys_in}
+use Rattle.trace_read.specs.TraceText.{fault_within, keys_in}
 use Rattle.trace_read.specs.declared.format.Format.{Format}
 use Rattle.policies.specs.AnyPolicy.{outcomes_on}
 use Rattle.policies.specs.Reports.{report_on}
@@ -40,9 +41,14 @@ compared_text pair None keys = comparison_text pair.first pair.second (compared_
 compared_text pair (Some every) keys =
     compared_intervals_text pair.first pair.second (compared_intervals_on every pair.first pair.second keys)
 
--- the bytes read have no fault, and P holds of the accesses in them
+-- the bytes read have no fault, of at most so many accesses, and P holds of the accesses in them
+abbrev pub IfFaultlessWithin : ℕ → Format → Option (List ℕ) → (List ℕ → Type 0) → Type 0
+IfFaultlessWithin most format input P =
+    IfSome input (λ bytes. (fault_within most format bytes ≡ None) × P (keys_in format bytes))
+
+-- the same of a trace that is kept
 abbrev pub IfFaultless : Format → Option (List ℕ) → (List ℕ → Type 0) → Type 0
-IfFaultless format input P = IfSome input (λ bytes. (fault_in format bytes ≡ None) × P (keys_in format bytes))
+IfFaultless = IfFaultlessWithin MAX_ACCESSES
 
 -- The text that these arguments ask for, over the accesses: of `run` and `sweep` the report of each policy, at each
 -- capacity; of `intervals` the rows of each policy; of `part` the line of the access at which the two policies part; of
@@ -63,7 +69,8 @@ IsText arguments keys text = ⊥
 
 -- so it is of the bytes of a trace, which have no fault
 abbrev pub IsTextOf : Arguments → Option (List ℕ) → List ℕ → Type 0
-IsTextOf (asked.Run run) input text = IfFaultless run.format input (λ keys. IsText (asked.Run run) keys text)
+IsTextOf (asked.Run run) input text =
+    IfFaultlessWithin run.limits.accesses run.format input (λ keys. IsText (asked.Run run) keys text)
 IsTextOf (asked.Sweep sweep) input text =
     IfFaultless sweep.format input (λ keys. IsText (asked.Sweep sweep) keys text)
 IsTextOf (asked.Intervals intervals) input text =

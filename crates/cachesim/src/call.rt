@@ -25,6 +25,10 @@ use streams::{CountedRead, CountedWrite};
 // The line of a number of read buffers that no cache has, which is a usage error.
 const STRIPES: &[u8] = b"fault: Stripes\n";
 
+// The line of Belady's policy for a long trace, which is a usage error.
+const WHOLE_TRACE: &[u8] =
+    b"error: clairvoyant has to know the whole trace, which --long does not keep: take a sample of it\n";
+
 // The line of arguments that are incomplete, which is a usage error.
 const INCOMPLETE: &[u8] = b"error: a policy or a number is missing\n";
 
@@ -83,6 +87,7 @@ pub fn command<
         }
         Err(ParseFault::Refused(error)) => return answer_help(alloc, &error, out, fault_out),
         Err(ParseFault::Stripes) => return report_usage_error(STRIPES, fault_out),
+        Err(ParseFault::WholeTrace) => return report_usage_error(WHOLE_TRACE, fault_out),
         Err(ParseFault::Incomplete) => return report_usage_error(INCOMPLETE, fault_out),
     };
     let done = perform(rt, alloc, &arguments, input, out, files, watch);

@@ -13,6 +13,7 @@ use step_record::{
     MAX_PART_PERCENT, MAX_STEPS, MAX_STRIPES, MAX_TRACE_BYTES, MAX_WORKERS,
 };
 use streams::INTERRUPTIONS;
+use trace_read::{MAX_LONG_ACCESSES, MAX_LONG_TRACE_BYTES};
 use turn_book::MAX_TURNS;
 
 const _: () = prove!(
@@ -31,6 +32,8 @@ const _: () = prove!(
         && MAX_BATCH == 65_536
         && MAX_ACCESSES == 16_777_216
         && MAX_TRACE_BYTES == 1_073_741_824
+        && MAX_LONG_ACCESSES == 4_294_967_295
+        && MAX_LONG_TRACE_BYTES == 1_099_511_627_776
         && MAX_FILE_BYTES == 1_073_741_824
         && MAX_JOURNAL_BYTES == 1_073_741_824
         && MAX_COMMAND_BYTES == 1_048_576

@@ -1,7 +1,7 @@
 //! What typed arguments ask for.
-ghost use Rattle.std.specs.Prelude.{◌≡◌, ◌≢◌, ◌⊎◌, IfErr, IsErrAnd, IsOkAnd, OnOk, true};
+ghost use Rattle.std.specs.Prelude.{◌≡◌, ◌≢◌, ◌⊎◌, IfErr, IsErrAnd, IsOkAnd, OnOk, false, true};
 ghost use Rattle.std.specs.Io.KnownBytes.{Appends};
-ghost use Rattle.command_line.specs.Accepted.{AreAccepted};
+ghost use Rattle.command_line.specs.Accepted.{AreAccepted, needs_whole_trace};
 ghost use Rattle.streams.specs.Tally.{FailsWhere};
 ghost use Rattle.streams.specs.declared.tally.Tally.{Tally};
 ghost use Rattle.cachesim.specs.CallFaults.{IsOfRead, IsOfWrite};
@@ -32,7 +32,8 @@ pub fn perform<T: Threads + Wait + Sync, R: CountedRead, W: CountedWrite, F: Fil
     files: &F,
     watch: &P,
 ) -> Result<(), Fault>
-    requires { AreAccepted arguments.now }
+    requires accepted { AreAccepted arguments.now }
+    requires kept { needs_whole_trace arguments.now ≡ false }
     ensures done { OnOk result (IsDone arguments.now (F.known files.now) (R.remaining input.old) (W.contents out.old)
         (W.contents out.new)) }
     ensures leaves { IfErr result (λ fault. Leaves arguments.now (F.known files.now) fault (R.remaining input.old)

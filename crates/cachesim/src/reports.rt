@@ -1,7 +1,7 @@
 //! The subcommands that make a text of a trace: `run`, `sweep`, `intervals`, `part` and `compare`.
-ghost use Rattle.std.specs.Prelude.{◌≡◌, ◌≤◌, ◌⊎◌, IfErr, IfOk, None, Some, length};
+ghost use Rattle.std.specs.Prelude.{◌≡◌, ◌≤◌, ◌⊎◌, IfErr, IfOk, None, Some, false, length};
 ghost use Rattle.command_line.specs.Accepted.{AreAcceptedIntervals, IsAcceptedComparison, IsAcceptedPart};
-ghost use Rattle.command_line.specs.Accepted.{IsAcceptedRun, IsAcceptedSweep};
+ghost use Rattle.command_line.specs.Accepted.{IsAcceptedRun, IsAcceptedSweep, needs_whole_trace};
 ghost use Rattle.command_line.specs.declared.arguments.Arguments.TheVariants.{Compare, Intervals, Part, Run, Sweep};
 ghost use Rattle.policies.specs.declared.job_checks.TheConstants.{MAX_ACTORS};
 ghost use Rattle.streams.specs.Tally.{FailsWhere};
@@ -15,7 +15,7 @@ use command_line::{
 };
 use debug_policies::{STRETCH, part_watched, push_compared_intervals, push_comparison, push_part};
 use policies::MAX_ACTORS;
-use policy_actors::run_reading;
+use policy_actors::run_reading_within;
 use progress::Watch;
 use report::{intervals_text, reports_text};
 use std::alloc::{AllocError, Global};
@@ -35,15 +35,18 @@ pub fn run<T: Threads + Wait + Sync, R: CountedRead, P: Watch>(
     input: &mut R,
     watch: &P,
 ) -> Result<Vec<u8>, Fault>
-    requires { IsAcceptedRun arguments.now }
+    requires accepted { IsAcceptedRun arguments.now }
+    requires kept { needs_whole_trace (Run arguments.now) ≡ false }
     ensures text { IfOk result (λ text. IsTextOf (Run arguments.now) (R.remaining input.old) text.items) }
     ensures fault { IfErr result (IsDue (Run arguments.now) (λ path. None) (R.remaining input.old)) }
     ensures reads { FailsWhere (IsOfRead result) (R.tally input.old) (R.tally input.new) }
     ensures unwritten { ¬ IsOfWrite result }
 {
     let policies = arguments.policies.as_slice();
+    let (format, limits) = (arguments.format, arguments.limits);
     if policies.len() > MAX_ACTORS {
-        read_trace(alloc, input, arguments.format)?;
+        let batch = arguments.batch;
+        run_reading_within(rt, alloc, input, format, limits, &[], batch, watch)?;
         return Err(Fault::Actors);
     }
     let jobs = jobs(
@@ -53,8 +56,16 @@ pub fn run<T: Threads + Wait + Sync, R: CountedRead, P: Watch>(
         &arguments.policies,
     )?;
     watch.begin("run", None);
-    let (format, batch) = (arguments.format, arguments.batch);
-    let reports = run_reading(rt, alloc, input, format, jobs.as_slice(), batch, watch);
+    let reports = run_reading_within(
+        rt,
+        alloc,
+        input,
+        format,
+        limits,
+        jobs.as_slice(),
+        arguments.batch,
+        watch,
+    );
     watch.end();
     Ok(reports_text(alloc, reports?.as_slice())?)
 }

@@ -32,7 +32,7 @@ module _ (c : ℕ) (t : List ℕ) (s u : Stats) (o : Outcome) (lt : s.accesses <
 
   pub next-accepted : (k : ℕ) (d : ClairvoyantState) → shown c t s ≡ d → k ≡ get_or t s.accesses 0 → clairvoyant_act d k ≡ Some (o, shown c t u)
   next-accepted k d e same =
-      ap (λ x. clairvoyant_act x k) (sym e) ∙ act-next c t s k o lt r.short same is ∙ ap (λ x. Some (o, shown c t x)) (sym more)
+      ap (λ x. clairvoyant_act x k) (sym e) ∙ act-next c t s k o lt (omega (arith, r.short)) same is ∙ ap (λ x. Some (o, shown c t x)) (sym more)
 
   module _ (done : OptimalRecord) (last : done ≡ record_at c t s.accesses) where
     by : outcome_of done ≡ o

@@ -1,7 +1,7 @@
 -- What the first accesses of a trace give, one access further.
 use Rattle.std.proofs.Common.{◌≡◌, ℕ, suc, zero, ◌+◌, ◌-◌, ◌<◌, ◌≤◌, Bool, true, false, cond, ◌&&◌, eqb, nat_lt, inl, inr, Some, None, List, length, count_by, get_or, ap, ◌∙◌, sym, refl, subst, arith, add-one}
 use Rattle.std.proofs.lemmas.Bool.{cases_Bool, eq-eqb, lt-ltb}
-use Rattle.step_record.specs.declared.limits.TheConstants.{MAX_ACCESSES, MAX_STEPS}
+use Rattle.step_record.specs.declared.limits.TheConstants.{MAX_STEPS}
 use Rattle.step_record.specs.declared.outcome.Outcome.{Outcome}
 use Rattle.step_record.specs.declared.stats.Stats.{Stats}
 use Rattle.step_record.specs.Keys.{has_key, keys_without}
@@ -65,14 +65,14 @@ reached-held c t s r =
 
 -- ---- steps
 
-now-holds : (c : ℕ) (t : List ℕ) (s : Stats) (k : ℕ) → s.accesses < length t → length t ≤ MAX_ACCESSES → k ≡ get_or t s.accesses 0 → is_next (shown c t s) k ≡ true
+now-holds : (c : ℕ) (t : List ℕ) (s : Stats) (k : ℕ) → s.accesses < length t → length t ≤ MAX_STEPS → k ≡ get_or t s.accesses 0 → is_next (shown c t s) k ≡ true
 now-holds c t s k lt few e =
     let a : nat_lt s.accesses MAX_STEPS ≡ true = lt-ltb s.accesses MAX_STEPS (omega arith) in
     let b : nat_lt s.accesses (length t) ≡ true = lt-ltb s.accesses (length t) lt in
     let d : eqb k (get_or t s.accesses 0) ≡ true = eq-eqb k (get_or t s.accesses 0) e in
     rw (a, b, d) refl
 
-pub act-next : (c : ℕ) (t : List ℕ) (s : Stats) (k : ℕ) (o : Outcome) → s.accesses < length t → length t ≤ MAX_ACCESSES → k ≡ get_or t s.accesses 0 → o ≡ belady_outcome c t s.accesses → clairvoyant_act (shown c t s) k ≡ Some (o, shown c t (stats_with o s))
+pub act-next : (c : ℕ) (t : List ℕ) (s : Stats) (k : ℕ) (o : Outcome) → s.accesses < length t → length t ≤ MAX_STEPS → k ≡ get_or t s.accesses 0 → o ≡ belady_outcome c t s.accesses → clairvoyant_act (shown c t s) k ≡ Some (o, shown c t (stats_with o s))
 act-next c t s k o lt few e f =
     let yes : is_next (shown c t s) k ≡ true = now-holds c t s k lt few e in
     ap (λ b. cond b (Some (belady_answer c t s.accesses k (belady_residents c t s.accesses), clairvoyant_after (shown c t s) k)) None) yes

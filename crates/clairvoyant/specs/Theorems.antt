@@ -1,6 +1,6 @@
 -- What an accepted step stands for, for callers that see the cache by its steps alone.
 use Rattle.std.specs.Prelude.{◌≡◌, ℕ, suc, ◌<◌, ◌≤◌, Some, None, length, slice_index}
-use Rattle.step_record.specs.declared.limits.TheConstants.{MAX_ACCESSES}
+use Rattle.step_record.specs.declared.limits.TheConstants.{MAX_STEPS}
 use Rattle.step_record.specs.declared.outcome.Outcome.{Outcome}
 use Rattle.clairvoyant.specs.Belady.{belady_outcome}
 use Rattle.clairvoyant.specs.Clairvoyant.{ClairvoyantState, clairvoyant_at, clairvoyant_act}
@@ -14,7 +14,7 @@ ClairvoyantStepLaw = (d : ClairvoyantState) (k : ℕ) (o : Outcome) (e : Clairvo
     × (o ≡ belady_outcome d.capacity d.trace d.stats.accesses)
     × (e ≡ clairvoyant_at d.capacity d.trace (suc d.stats.accesses))
 
--- A cache that made fewer than all accesses of its trace accepts the next of them.
+-- A cache that made fewer than all accesses of its trace accepts the next of them, of as many as an engine counts.
 abbrev pub ClairvoyantAccepts : Type 0
-ClairvoyantAccepts = (d : ClairvoyantState) → d.stats.accesses < length d.trace → length d.trace ≤ MAX_ACCESSES
+ClairvoyantAccepts = (d : ClairvoyantState) → d.stats.accesses < length d.trace → length d.trace ≤ MAX_STEPS
     → clairvoyant_act d (slice_index d.trace d.stats.accesses) ≡ None → ⊥

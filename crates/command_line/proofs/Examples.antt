@@ -7,6 +7,7 @@ use Rattle.clap.proofs.OnLiterals.{clap_on_literals}
 use Rattle.step_record.specs.declared.job.Policy.TheVariants.{Lru, WindowTinyLfu}
 use Rattle.step_record.specs.declared.config.Spread.TheVariants.{Mixed}
 use Rattle.trace_read.specs.declared.format.Format.TheVariants.{Lirs}
+use Rattle.trace_read.specs.declared.limits.TheConstants.Limits.{DEFAULT}
 use Rattle.command_line.specs.Choices.{format_words, policy_named, policy_words, spread_words}
 use Rattle.command_line.specs.Program.{program_app}
 use Rattle.command_line.specs.Values.{asked_in, config_at, number_named, parts_in, run_in}
@@ -36,6 +37,7 @@ named : asked_in (subcommand_of (program_app lists) words) ≡ Ok (Run (record {
   policies = WindowTinyLfu ∷ Lru ∷ [];
   batch = 1024;
   format = Lirs;
+  limits = DEFAULT;
 }))
 unfolding clap_on_literals lib.Count.ones config_at number_named parts_in policy_named run_in
 named = refl

@@ -1,12 +1,15 @@
 -- The ranges of what a parse gives.
-use Rattle.std.specs.Prelude.{◌≡◌, ◌≤◌, IfSome, Ok}
-use Rattle.std.specs.List.{AllPass}
+use Rattle.std.specs.Prelude.{◌≡◌, ◌≤◌, ◌&&◌, Bool, false, true, nat_lt, IfSome, Ok}
+use Rattle.std.specs.List.{AllPass, list_any}
 use Rattle.step_record.specs.Config.{config_fault, is_from_one}
 use Rattle.step_record.specs.declared.config.Config.{Config}
 use Rattle.step_record.specs.declared.limits.TheConstants.{MAX_ACCESSES, MAX_BATCH, MAX_CAPACITY}
 use Rattle.step_record.specs.declared.limits.TheConstants.{MAX_GHOST_PERCENT, MAX_PART_PERCENT}
 use Rattle.step_record.specs.declared.job.Parts.{Parts}
+use Rattle.step_record.specs.declared.job.Policy.{Policy}
+use Rattle.step_record.specs.declared.job.Policy.TheVariants.{Clairvoyant}
 use Rattle.step_record.specs.declared.worker.TheConstants.{MAX_WORKERS}
+use Rattle.trace_read.specs.declared.limits.TheConstants.{MAX_LONG_ACCESSES, MAX_LONG_TRACE_BYTES}
 use Rattle.command_line.specs.declared.arguments.Arguments.{Arguments}
 use Rattle.command_line.specs.declared.arguments.Arguments.TheVariants.{Compare, Debug, Drive, Intervals, Part}
 use Rattle.command_line.specs.declared.arguments.Arguments.TheVariants.{Replay, Run, Sweep}
@@ -32,6 +35,8 @@ pub record IsAcceptedRun (run : RunArguments) : Type 0 where
   pub parts : AreParts run.parts
   pub some : 1 ≤ run.batch
   pub few : run.batch ≤ MAX_BATCH
+  pub accesses : run.limits.accesses ≤ MAX_LONG_ACCESSES
+  pub bytes : run.limits.bytes ≤ MAX_LONG_TRACE_BYTES
 
 pub record IsAcceptedSweep (sweep : SweepArguments) : Type 0 where
   pub config : config_fault sweep.config ≡ Ok tt
@@ -70,3 +75,13 @@ AreAccepted (Compare compare) = IsAcceptedComparison compare
 AreAccepted (Drive drive) = IsAcceptedDrive drive
 AreAccepted (Debug debug) = IsAcceptedPart debug.policies
 AreAccepted (Replay replay) = config_fault replay.config ≡ Ok tt
+
+-- whether this is Belady's policy, which has to know the whole trace
+abbrev pub is_clairvoyant : Policy → Bool
+is_clairvoyant Clairvoyant = true
+is_clairvoyant policy = false
+
+-- the arguments name a policy that has to know the whole trace, over a trace that may be too long to be kept
+abbrev pub needs_whole_trace : Arguments → Bool
+needs_whole_trace (Run run) = nat_lt MAX_ACCESSES run.limits.accesses && list_any is_clairvoyant run.policies
+needs_whole_trace arguments = false

@@ -13,6 +13,8 @@ use Rattle.step_record.specs.declared.config.Spread.TheVariants.{Mixed, Plain}
 use Rattle.trace_read.specs.Format.{format_word}
 use Rattle.trace_read.specs.declared.format.Format.{Format}
 use Rattle.trace_read.specs.declared.format.Format.TheVariants.{Lirs, Arc}
+use Rattle.trace_read.specs.declared.limits.Limits.{Limits}
+use Rattle.trace_read.specs.declared.limits.TheConstants.Limits.{DEFAULT, LONG}
 use Rattle.command_line.specs.declared.choices.WordLists.{WordLists}
 
 abbrev pub policy_words : List Text
@@ -56,3 +58,7 @@ format_named word =
 -- the spread that a word names, or where there is none
 abbrev pub spread_named : Option Text → Spread
 spread_named word = if option_map_or (λ w. bytes_eq w (codes "plain")) word false then Plain else Mixed
+
+-- the limits of a trace, by what clap has as the value of an option that has none: `true` where it is given
+abbrev pub limits_named : Option Text → Limits
+limits_named word = if option_map_or (λ w. bytes_eq w (codes "true")) word false then LONG else DEFAULT

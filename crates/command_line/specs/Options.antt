@@ -7,11 +7,11 @@ use Rattle.step_record.specs.declared.worker.TheConstants.{MAX_WORKERS}
 use Rattle.command_line.specs.declared.options.OptionName.{OptionName}
 use Rattle.command_line.specs.declared.options.OptionName.TheVariants.{Batch, Capacities, Capacity, ComparedEvery}
 use Rattle.command_line.specs.declared.options.OptionName.TheVariants.{Every, First, In, Out, Small}
-use Rattle.command_line.specs.declared.options.OptionName.TheVariants.{Format, Journal, Limit, Main, Policies, Second}
+use Rattle.command_line.specs.declared.options.OptionName.TheVariants.{Format, Journal, Limit, Long, Main, Policies, Second}
 use Rattle.command_line.specs.declared.options.OptionName.TheVariants.{Spread, Stripes, SweptPolicies, Trace, Workers}
 use Rattle.command_line.specs.declared.options.OptionRow.{OptionRow}
 use Rattle.command_line.specs.declared.options.Place.{Place}
-use Rattle.command_line.specs.declared.options.Place.TheVariants.{Named, NamedOften, Optional, Positional}
+use Rattle.command_line.specs.declared.options.Place.TheVariants.{Named, NamedOften, Optional, Positional, Switch}
 use Rattle.command_line.specs.declared.options.Subcommand.{Subcommand}
 use Rattle.command_line.specs.declared.options.ValueKind.{ValueKind}
 use Rattle.command_line.specs.declared.options.ValueKind.TheVariants as kind
@@ -41,6 +41,7 @@ row_of In = row (codes "in") (kind.Number 1 MAX_PART_PERCENT) Named (Some (codes
 row_of Out = row (codes "out") (kind.Number 1 MAX_GHOST_PERCENT) Named (Some (codes "50"))
 row_of Spread = row (codes "spread") kind.Spread Named (Some (codes "mixed"))
 row_of Format = row (codes "format") kind.Format Named (Some (codes "lirs"))
+row_of Long = row (codes "long") kind.Flag Switch None
 row_of Batch = row (codes "batch") (kind.Number 1 MAX_BATCH) Named (Some (codes "1024"))
 row_of Every = row (codes "every") (kind.Number 1 MAX_ACCESSES) Named None
 row_of ComparedEvery = row (codes "every") (kind.Number 1 MAX_ACCESSES) Optional None
@@ -66,7 +67,7 @@ abbrev pub defined_subcommand : Subcommand → SubcommandDefinition
 defined_subcommand given = named given.name.now given.options.now
 
 abbrev pub subcommands : List SubcommandDefinition
-subcommands = named (codes "run") (Capacity ∷ Main ∷ Small ∷ In ∷ Out ∷ Spread ∷ Format ∷ Batch ∷ Policies ∷ [])
+subcommands = named (codes "run") (Capacity ∷ Main ∷ Small ∷ In ∷ Out ∷ Spread ∷ Format ∷ Long ∷ Batch ∷ Policies ∷ [])
     ∷ named (codes "sweep") (Main ∷ Small ∷ In ∷ Out ∷ Spread ∷ Format ∷ SweptPolicies ∷ Capacities ∷ [])
     ∷ named (codes "intervals") (Capacity ∷ Every ∷ Main ∷ Small ∷ In ∷ Out ∷ Spread ∷ Format ∷ Policies ∷ [])
     ∷ named (codes "part") (Capacity ∷ Main ∷ Small ∷ In ∷ Out ∷ Spread ∷ Format ∷ First ∷ Second ∷ [])

@@ -3,7 +3,7 @@ use Rattle.std.specs.Prelude.{◌≡◌, pos, Bool, true, false, [], ◌∷◌, 
 use Rattle.std.specs.List.{fold}
 use Rattle.clap.specs.Lexer.{usize_max}
 use Rattle.clap.specs.Words.{App, Rule, Text, app_of, new_app, new_rule, with_rule, with_subcommand}
-use Rattle.clap.specs.declared.builder.ArgAction.TheVariants.{Append}
+use Rattle.clap.specs.declared.builder.ArgAction.TheVariants.{Append, SetTrue}
 use Rattle.clap.specs.declared.builder.ValueParser.{ValueParser}
 use Rattle.clap.specs.declared.builder.ValueParser.TheVariants as parser
 use Rattle.clap.specs.declared.builder.command.Command.{Command}
@@ -12,9 +12,10 @@ use Rattle.command_line.specs.Options.{OptionDefinition, SubcommandDefinition, r
 use Rattle.command_line.specs.declared.choices.WordLists.{WordLists}
 use Rattle.command_line.specs.declared.options.OptionName.{OptionName}
 use Rattle.command_line.specs.declared.options.Place.{Place}
-use Rattle.command_line.specs.declared.options.Place.TheVariants.{Named, NamedOften, Optional, Positional}
+use Rattle.command_line.specs.declared.options.Place.TheVariants.{Named, NamedOften, Optional, Positional, Switch}
 use Rattle.command_line.specs.declared.options.ValueKind.{ValueKind}
-use Rattle.command_line.specs.declared.options.ValueKind.TheVariants.{AnyNumber, File, Format, Number, Policy, Spread}
+use Rattle.command_line.specs.declared.options.ValueKind.TheVariants.{AnyNumber, File, Flag, Format, Number, Policy}
+use Rattle.command_line.specs.declared.options.ValueKind.TheVariants.{Spread}
 
 -- what clap takes as a value
 abbrev pub parser_of : WordLists → ValueKind → ValueParser
@@ -24,12 +25,14 @@ parser_of lists Policy = parser.Names lists.policies
 parser_of lists Format = parser.Names lists.formats
 parser_of lists Spread = parser.Names lists.spreads
 parser_of lists File = parser.String
+parser_of lists Flag = parser.Bool
 
 -- how values are given to the option of this name
 abbrev pub with_place : Place → Text → Rule → Rule
 with_place Named id rule = record rule { long = Some id }
 with_place Optional id rule = record rule { long = Some id }
 with_place NamedOften id rule = record rule { long = Some id; action = Some Append }
+with_place Switch id rule = record rule { long = Some id; action = Some SetTrue }
 with_place Positional id rule = record rule {
   range = Some (record { start_inclusive = 1; end_inclusive = usize_max });
   action = Some Append;
@@ -37,6 +40,7 @@ with_place Positional id rule = record rule {
 
 abbrev pub is_required : Place → Bool
 is_required Optional = false
+is_required Switch = false
 is_required _ = true
 
 -- an option with no default is required, unless its place says otherwise

@@ -15,13 +15,15 @@ use Rattle.step_record.specs.declared.config.Spread.{Spread}
 use Rattle.step_record.specs.declared.job.Parts.{Parts}
 use Rattle.step_record.specs.declared.job.Policy.{Policy}
 use Rattle.trace_read.specs.declared.format.Format.{Format}
+use Rattle.trace_read.specs.declared.limits.Limits.{Limits}
+use Rattle.command_line.specs.Accepted.{needs_whole_trace}
 use Rattle.command_line.specs.Options.{row_of}
-use Rattle.command_line.specs.Choices.{all_named, format_named, policy_named, spread_named}
+use Rattle.command_line.specs.Choices.{all_named, format_named, limits_named, policy_named, spread_named}
 use Rattle.command_line.specs.declared.arguments.Arguments.{Arguments}
 use Rattle.command_line.specs.declared.arguments.Arguments.TheVariants as asked
 use Rattle.command_line.specs.declared.arguments.PartArguments.{PartArguments}
 use Rattle.command_line.specs.declared.fault.ParseFault.{ParseFault}
-use Rattle.command_line.specs.declared.fault.ParseFault.TheVariants.{Incomplete, Stripes}
+use Rattle.command_line.specs.declared.fault.ParseFault.TheVariants.{Incomplete, Stripes, WholeTrace}
 use Rattle.command_line.specs.declared.fault.ValueFault.{ValueFault}
 use Rattle.command_line.specs.declared.fault.ValueFault.TheVariants as fault
 use Rattle.command_line.specs.declared.options.OptionName.{OptionName}
@@ -71,6 +73,9 @@ spread_in rows = spread_named (first_of (row_of option.Spread).id rows)
 
 abbrev pub format_in : List Row → Format
 format_in rows = format_named (first_of (row_of option.Format).id rows)
+
+abbrev pub limits_in : List Row → Limits
+limits_in rows = limits_named (first_of (row_of option.Long).id rows)
 
 -- the policy that is given to an option
 abbrev pub policy_in : OptionName → List Row → Option Policy
@@ -126,7 +131,14 @@ parts_in rows = option_and_then (λ small. option_and_then (λ kin. option_map (
 
 unfoldable pub run_in : List Row → Option Arguments
 run_in rows = option_and_then (λ config. option_and_then (λ parts. option_and_then (λ batch. option_map (λ policies.
-    asked.Run (record { config = config; parts = parts; policies = policies; batch = batch; format = format_in rows }))
+    asked.Run (record {
+      config = config;
+      parts = parts;
+      policies = policies;
+      batch = batch;
+      format = format_in rows;
+      limits = limits_in rows;
+    }))
     (policies_in option.Policies rows)) (number_in option.Batch rows)) (parts_in rows)) (config_in rows)
 
 -- each capacity replaces the configuration's
@@ -196,10 +208,10 @@ asked_of name rows = if bytes_eq name (codes "run") then run_in rows
 abbrev pub has_wrong_stripes : List Row → Bool
 has_wrong_stripes rows = option_map_or (λ n. is_none (stripes_from n)) (wide_number_in option.Stripes rows) false
 
--- the arguments, where all are there
+-- the arguments, where all are there, and no policy is named that they give too little to
 abbrev pub complete : Option Arguments → Result Arguments ParseFault
 complete None = Err Incomplete
-complete (Some arguments) = Ok arguments
+complete (Some arguments) = if needs_whole_trace arguments then Err WholeTrace else Ok arguments
 
 -- what is asked for by the subcommand that was called
 abbrev pub asked_in : Option (Text × List Row) → Result Arguments ParseFault

@@ -10,7 +10,7 @@ use crate::options::OptionName;
 use crate::values::{Matches, stripes_from};
 use std::alloc::Global;
 use step_record::{Config, Job, Parts};
-use trace_read::Format;
+use trace_read::{Format, Limits};
 
 /// What a call asks for: its subcommand, with its arguments.
 #[derive(Drop)]
@@ -46,6 +46,8 @@ pub struct RunArguments {
     pub batch: u32,
     /// The format of the trace.
     pub format: Format,
+    /// The most accesses and bytes of the trace.
+    pub limits: Limits,
 }
 
 /// The arguments of `sweep`.
@@ -142,6 +144,7 @@ pub(crate) fn run(alloc: Global, asked: &Matches<'_, '_>) -> ValueResult<Argumen
         policies,
         batch,
         format: asked.format(),
+        limits: asked.limits(),
     }))
 }
 

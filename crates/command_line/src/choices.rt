@@ -1,19 +1,24 @@
 //! The words by which policies, formats and spreads are named.
-ghost use Rattle.std.specs.Prelude.{◌≡◌, find, option_map};
+ghost use Rattle.std.specs.Prelude.{◌≡◌, ◌≤◌, find, option_map};
 ghost use Rattle.std.specs.Str.{bytes_eq};
 ghost use Rattle.step_record.specs.Job.{word_of};
 ghost use Rattle.command_line.specs.Choices.{AreWords, format_named as format_by, format_words};
+ghost use Rattle.command_line.specs.Choices.{limits_named as limits_by};
 ghost use Rattle.command_line.specs.Choices.{policy_named as policy_by, policy_words, spread_named as spread_by};
 ghost use Rattle.command_line.specs.Choices.{spread_words};
+ghost use Rattle.trace_read.specs.declared.limits.TheConstants.{MAX_LONG_ACCESSES, MAX_LONG_TRACE_BYTES};
 
 use step_record::{POLICIES, Policy, Spread};
-use trace_read::Format;
+use trace_read::{Format, Limits};
 
 // The word of `Spread::Mixed`.
 const MIXED: &str = "mixed";
 
 // The word of `Spread::Plain`.
 const PLAIN: &str = "plain";
+
+// What `clap` has as the value of an option that has none, where it is given.
+const GIVEN: &str = "true";
 
 /// The words that values are chosen from.
 #[derive(Clone, Copy)]
@@ -83,5 +88,17 @@ pub(crate) fn spread_named(word: Option<&str>) -> Spread
     match word {
         Some(word) if word == PLAIN => Spread::Plain,
         _ => Spread::Mixed,
+    }
+}
+
+/// The limits of a trace, by what `clap` has as the value of an option that has none: `true` where it is given.
+pub(crate) fn limits_named(word: Option<&str>) -> Limits
+    ensures value { result ≡ limits_by (option_map (λ s. s.now) word.entry) }
+    ensures accesses { result.accesses ≤ MAX_LONG_ACCESSES }
+    ensures bytes { result.bytes ≤ MAX_LONG_TRACE_BYTES }
+{
+    match word {
+        Some(word) if word == GIVEN => Limits::LONG,
+        _ => Limits::DEFAULT,
     }
 }

@@ -93,6 +93,7 @@ fn placed<'a>(alloc: Global, row: &OptionRow) -> Arg<'a>
     match row.place {
         Place::Named | Place::Optional => arg.long(row.id),
         Place::NamedOften => arg.long(row.id).action(ArgAction::Append),
+        Place::Switch => arg.long(row.id).action(ArgAction::SetTrue),
         Place::Positional => arg.num_args(1..).action(ArgAction::Append),
     }
 }
@@ -101,7 +102,7 @@ fn placed<'a>(alloc: Global, row: &OptionRow) -> Arg<'a>
 fn is_required(place: Place) -> bool
     ensures { result ≡ is_required place }
 {
-    !matches!(place, Place::Optional)
+    !matches!(place, Place::Optional | Place::Switch)
 }
 
 // What `clap` takes as a value.
@@ -115,5 +116,6 @@ fn parser<'a>(value: ValueKind, lists: &WordLists<'a>) -> ValueParser<'a>
         ValueKind::Format => ValueParser::Names(lists.formats),
         ValueKind::Spread => ValueParser::Names(lists.spreads),
         ValueKind::File => ValueParser::String,
+        ValueKind::Flag => ValueParser::Bool,
     }
 }

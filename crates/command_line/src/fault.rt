@@ -18,6 +18,8 @@ pub enum ParseFault {
     Incomplete,
     /// The number of read buffers is not a power of two up to `MAX_STRIPES`.
     Stripes,
+    /// A policy that has to know the whole trace is named for one that may be too long to be kept.
+    WholeTrace,
 }
 
 impl From<AllocError> for ParseFault {

@@ -4,8 +4,8 @@ ghost use Rattle.std.specs.Prelude.{◌≡◌};
 ghost use Rattle.command_line.specs.Options.{defined, row_of};
 
 use OptionName::{
-    Batch, Capacities, Capacity, ComparedEvery, Every, First, Format, In, Journal, Limit, Main,
-    Out, Policies, Second, Small, Spread, Stripes, SweptPolicies, Trace, Workers,
+    Batch, Capacities, Capacity, ComparedEvery, Every, First, Format, In, Journal, Limit, Long,
+    Main, Out, Policies, Second, Small, Spread, Stripes, SweptPolicies, Trace, Workers,
 };
 use step_record::{
     MAX_ACCESSES, MAX_BATCH, MAX_CAPACITY, MAX_GHOST_PERCENT, MAX_JOURNAL_LIMIT, MAX_MAIN_PERCENT,
@@ -52,6 +52,7 @@ pub enum OptionName {
     Out,
     Spread,
     Format,
+    Long,
     Batch,
     Every,
     ComparedEvery,
@@ -90,6 +91,8 @@ pub enum ValueKind {
     Spread,
     /// The path of a file.
     File,
+    /// None: whether the option is given is all.
+    Flag,
 }
 
 /// How the values of an option are given.
@@ -103,6 +106,8 @@ pub enum Place {
     NamedOften,
     /// With no name, one or more.
     Positional,
+    /// Its name alone, or not at all.
+    Switch,
 }
 
 /// All subcommands, in the order in which help lists them.
@@ -115,7 +120,7 @@ The trace comes by a redirection (< FILE) or a pipe. Without one, at a terminal,
 for you to type the trace, a line each, up to Ctrl-D.",
         example: "Example: cachesim run --capacity 100 lru wtinylfu clairvoyant < trace.lirs",
         options: &[
-            Capacity, Main, Small, In, Out, Spread, Format, Batch, Policies,
+            Capacity, Main, Small, In, Out, Spread, Format, Long, Batch, Policies,
         ],
     },
     Subcommand {
@@ -211,7 +216,7 @@ Give --capacity, --stripes, --main, --spread and --limit as they were given to `
 ];
 
 // The options, in the order of their names.
-static OPTIONS: [OptionRow; 20] = [
+static OPTIONS: [OptionRow; 21] = [
     OptionRow {
         id: "capacity",
         value_name: "N",
@@ -275,6 +280,14 @@ static OPTIONS: [OptionRow; 20] = [
         value: ValueKind::Format,
         place: Place::Named,
         default: Some("lirs"),
+    },
+    OptionRow {
+        id: "long",
+        value_name: "",
+        help: "The trace may have 4294967295 accesses and 2^40 bytes, in place of 16777216 and 2^30; not for clairvoyant",
+        value: ValueKind::Flag,
+        place: Place::Switch,
+        default: None,
     },
     OptionRow {
         id: "batch",

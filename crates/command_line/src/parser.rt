@@ -1,7 +1,7 @@
 //! The words of a call, to its arguments.
-ghost use Rattle.std.specs.Prelude.{◌≡◌, IfOk, map};
+ghost use Rattle.std.specs.Prelude.{◌≡◌, false, IfOk, map};
 ghost use Rattle.clap.specs.Words.{subcommand_rows_of};
-ghost use Rattle.command_line.specs.Accepted.{AreAccepted};
+ghost use Rattle.command_line.specs.Accepted.{AreAccepted, needs_whole_trace};
 ghost use Rattle.command_line.specs.ParseResult.{IsAskedFor, ParsedBy};
 ghost use Rattle.command_line.specs.Values.{Answers, asked_in, asked_of, has_wrong_stripes};
 
@@ -13,14 +13,17 @@ use crate::options::OptionName;
 use crate::values::{Matches, stripes_from};
 use clap::ArgMatches;
 use std::alloc::Global;
+use step_record::{MAX_ACCESSES, Policy};
 
 /// What the words after the program's name ask for. `Refused` comes exactly where `clap` refuses
 /// them by the commands' rules, also where they ask for help or the version, or where it ran out
 /// of memory; `Stripes` where the number of read buffers is not a power of two from 1 to 64; `Incomplete`
-/// where they lack another number in its range or a known policy.
+/// where they lack another number in its range or a known policy; `WholeTrace` where they name a policy that has to
+/// know the whole trace, for one that may be too long to be kept.
 pub fn parse(alloc: Global, words: &[&str]) -> Result<Arguments, ParseFault>
     ensures parsed { ParsedBy (map (λ s. s.now) words.now) result }
     ensures accepted { IfOk result AreAccepted }
+    ensures kept { IfOk result (λ arguments. needs_whole_trace arguments ≡ false) }
 {
     let policies = policy_words();
     let formats = format_words();
@@ -39,6 +42,7 @@ pub fn parse(alloc: Global, words: &[&str]) -> Result<Arguments, ParseFault>
 fn arguments(alloc: Global, matches: &ArgMatches<'_>) -> Result<Arguments, ParseFault>
     ensures asked { IsAskedFor (asked_in (subcommand_rows_of matches.now)) result }
     ensures accepted { IfOk result AreAccepted }
+    ensures kept { IfOk result (λ arguments. needs_whole_trace arguments ≡ false) }
 {
     let Some((name, asked)) = matches.subcommand() else {
         return Err(ParseFault::Incomplete);
@@ -48,6 +52,7 @@ fn arguments(alloc: Global, matches: &ArgMatches<'_>) -> Result<Arguments, Parse
         return Err(ParseFault::Stripes);
     }
     match arguments_of(alloc, name, &asked) {
+        Ok(arguments) if needs_whole_trace(&arguments) => Err(ParseFault::WholeTrace),
         Ok(arguments) => Ok(arguments),
         Err(ValueFault::OutOfMemory) => Err(ParseFault::OutOfMemory),
         Err(ValueFault::Incomplete) => Err(ParseFault::Incomplete),
@@ -78,5 +83,18 @@ fn has_wrong_stripes(asked: &Matches<'_, '_>) -> bool
     match asked.wide_number(OptionName::Stripes) {
         Some(number) => stripes_from(number).is_none(),
         None => false,
+    }
+}
+
+// Whether a policy is named that has to know the whole trace, for one that may be too long to be kept.
+fn needs_whole_trace(arguments: &Arguments) -> bool
+    ensures { result ≡ needs_whole_trace arguments.now }
+{
+    match arguments {
+        Arguments::Run(run) => {
+            run.limits.accesses > MAX_ACCESSES
+                && run.policies.as_slice().contains(&Policy::Clairvoyant)
+        }
+        _ => false,
     }
 }

@@ -1,17 +1,19 @@
 //! The values that the matches of a subcommand have for an option.
-ghost use Rattle.std.specs.Prelude.{◌≡◌, IfOk, IfSome, map, option_and_then, option_map, true};
+ghost use Rattle.std.specs.Prelude.{◌≡◌, ◌≤◌, IfOk, IfSome, map, option_and_then, option_map, true};
 ghost use Rattle.std.specs.List.{AllPass};
 ghost use Rattle.clap.specs.Words.{all_of, first_of};
 ghost use Rattle.step_record.specs.Config.{is_from_one};
 ghost use Rattle.step_record.specs.declared.limits.TheConstants.{MAX_CAPACITY};
 ghost use Rattle.command_line.specs.Choices.{all_named, policy_named as policy_by};
 ghost use Rattle.command_line.specs.Options.{row_of};
-ghost use Rattle.command_line.specs.Values.{Answers, AnswersWith, IsIn, capacities_in, format_in, in_range as within, number_in};
+ghost use Rattle.command_line.specs.Values.{Answers, AnswersWith, IsIn, capacities_in, format_in, in_range as within};
+ghost use Rattle.command_line.specs.Values.{limits_in, number_in};
 ghost use Rattle.command_line.specs.Values.{number_named as number_by, policies_in, policy_in, spread_in};
 ghost use Rattle.command_line.specs.Values.{stripes_from as stripes_by, value_named as value_by, wide_number_in};
 ghost use Rattle.command_line.specs.declared.options.OptionName.TheVariants.{Capacities};
+ghost use Rattle.trace_read.specs.declared.limits.TheConstants.{MAX_LONG_ACCESSES, MAX_LONG_TRACE_BYTES};
 
-use crate::choices::{format_named, policy_named, spread_named};
+use crate::choices::{format_named, limits_named, policy_named, spread_named};
 use crate::fault::{ValueFault, ValueResult};
 use crate::lists::{CapacityList, FilePath, NamedList, PolicyList};
 use crate::options::{OptionName, ValueKind};
@@ -19,7 +21,7 @@ use clap::ArgMatches;
 use std::alloc::Global;
 use std::marker::Model;
 use step_record::{MAX_STRIPES, Policy, Spread};
-use trace_read::Format;
+use trace_read::{Format, Limits};
 
 /// The matches of a subcommand, which contracts see as the rows of what was found.
 #[derive(Drop)]
@@ -72,6 +74,15 @@ impl<'m, 'a> Matches<'m, 'a> {
         ensures { result ≡ format_in self.now }
     {
         format_named(self.word(OptionName::Format))
+    }
+
+    /// The most accesses and bytes of the trace.
+    pub(crate) fn limits(&self) -> Limits
+        ensures value { result ≡ limits_in self.now }
+        ensures accesses { result.accesses ≤ MAX_LONG_ACCESSES }
+        ensures bytes { result.bytes ≤ MAX_LONG_TRACE_BYTES }
+    {
+        limits_named(self.word(OptionName::Long))
     }
 
     /// The policy that is given to an option.

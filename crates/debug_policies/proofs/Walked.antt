@@ -32,7 +32,7 @@ pub ready : AnyAccepts → (j : Job) (trace keys : List ℕ) (i : ℕ) (d : AnyP
     → length trace ≤ MAX_ACCESSES → HasAccessed j trace (take i trace) d → any_act d (slice_index keys i) ≢ None
 ready law j trace keys i d same lt few s none =
     let below : i < length trace = subst (λ (l : List ℕ). i < length l) same lt in
-    law j trace (take i trace) (drop (suc i) trace ++ []) (slice_index trace i) d (next-of trace i below) few s
+    law j trace (take i trace) (drop (suc i) trace ++ []) (slice_index trace i) d (next-of trace i below) (omega (arith, few)) s
     (subst (λ (l : List ℕ). any_act d (slice_index l i) ≡ None) same none)
 
 pub moves : AnyStepLaw → (j : Job) (trace keys : List ℕ) (i : ℕ) (d : AnyPolicy) (o : Outcome) (e : AnyPolicy) → keys ≡ trace

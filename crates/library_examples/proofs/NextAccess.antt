@@ -22,7 +22,7 @@ module _ (j : Job) (trace : List ℕ) where
       → HasAccessed j trace (take i trace) d → any_act d (slice_index keys i) ≡ None → ⊥
   accepted law keys i d same lt few s none =
       let below : i < length trace = subst (λ (l : List ℕ). i < length l) same lt in
-      law j trace (take i trace) (drop (suc i) trace ++ []) (slice_index trace i) d (next_of i below) few s
+      law j trace (take i trace) (drop (suc i) trace ++ []) (slice_index trace i) d (next_of i below) (omega (arith, few)) s
       (subst (λ (l : List ℕ). any_act d (slice_index l i) ≡ None) same none)
 
   -- once it is made, the cache made one access more, and its outcome is that of the job over the whole trace

@@ -1,7 +1,7 @@
 -- Accesses that a cache is ready for.
 use Rattle.std.specs.Prelude.{◌≡◌, ℕ, ◌≤◌, List, ◌++◌, length}
 use Rattle.step_record.specs.declared.job.Job.{Job}
-use Rattle.step_record.specs.declared.limits.TheConstants.{MAX_ACCESSES}
+use Rattle.step_record.specs.declared.limits.TheConstants.{MAX_STEPS}
 use Rattle.policies.specs.declared.any_policy.AnyPolicy.{AnyPolicy}
 use Rattle.policies.specs.AnyPolicy.{HasAccessed}
 
@@ -13,4 +13,4 @@ pub record IsNext (keys : List ℕ) (d : AnyPolicy) : Type 0 where
   pub rest : List ℕ
   pub stands : HasAccessed job trace before d
   pub ahead : trace ≡ before ++ (keys ++ rest)
-  pub few : length trace ≤ MAX_ACCESSES
+  pub few : length trace ≤ MAX_STEPS

@@ -1,6 +1,6 @@
 -- What the definitions of the policies promise to callers that see a cache by its steps alone.
 use Rattle.std.specs.Prelude.{◌≡◌, ℕ, ◌≤◌, true, Some, None, option_map, List, [], ◌∷◌, ◌++◌, length, slice_index_or}
-use Rattle.step_record.specs.declared.limits.TheConstants.{MAX_ACCESSES, MAX_STEPS}
+use Rattle.step_record.specs.declared.limits.TheConstants.{MAX_STEPS}
 use Rattle.step_record.specs.declared.job.Job.{Job}
 use Rattle.step_record.specs.declared.job.Policy.TheVariants.{Fifo, Lru}
 use Rattle.step_record.specs.declared.outcome.Outcome.{Outcome}
@@ -58,10 +58,11 @@ abbrev pub AnyStepLaw : Type 0
 AnyStepLaw = (j : Job) (trace keys : List ℕ) (d : AnyPolicy) (k : ℕ) (o : Outcome) (e : AnyPolicy)
     → HasAccessed j trace keys d → any_act d k ≡ Some (o, e) → HasAccessed j trace (keys ++ k ∷ []) e
 
--- One that made the first accesses of a trace, fewer than all, accepts the next of them.
+-- One that made the first accesses of a trace, fewer than all, accepts the next of them, of as many as an engine
+-- counts.
 abbrev pub AnyAccepts : Type 0
 AnyAccepts = (j : Job) (trace keys rest : List ℕ) (k : ℕ) (d : AnyPolicy)
-    → trace ≡ keys ++ k ∷ rest → length trace ≤ MAX_ACCESSES → HasAccessed j trace keys d → any_act d k ≡ None → ⊥
+    → trace ≡ keys ++ k ∷ rest → length trace ≤ MAX_STEPS → HasAccessed j trace keys d → any_act d k ≡ None → ⊥
 
 -- What a cache shows after some accesses is determined by the job, the trace and the accesses.
 abbrev pub AnyIsOne : Type 0

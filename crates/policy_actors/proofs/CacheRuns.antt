@@ -3,7 +3,8 @@ use Rattle.std.proofs.Common.{◌≡◌, ℕ, ◌+◌, ◌*◌, ◌<◌, ◌≤�
 use Rattle.std.specs.Prelude.{◌↔◌}
 use Rattle.std.proofs.lemmas.Bool.{cases_lt}
 use Rattle.step_record.specs.declared.job.Job.{Job}
-use Rattle.step_record.specs.declared.limits.TheConstants.{MAX_ACCESSES}
+use Rattle.step_record.specs.declared.limits.TheConstants.{MAX_STEPS}
+use Rattle.policy_actors.specs.Following.{CanFollow}
 use Rattle.policy_actors.specs.CacheRuns.{IsAfter}
 use Rattle.policies.specs.CacheRun.{CanTake, HasTaken}
 use Rattle.policies.specs.declared.cache_run.CacheRun.{CacheRun}
@@ -17,29 +18,29 @@ nothing None size = tt
 nothing (Some all) size = let z : 0 * size ≡ 0 = omega arith in sym (ap (λ (n : ℕ). take n all) z)
 
 -- before the first batch
-pub begun : (known : Option (List ℕ)) (j : Job) (size : ℕ) (run : CacheRun) → ((trace : List ℕ) → HasTaken j trace [] run) → IsAfter known j size 0 run
-begun known j size run taken = record { done = []; taken = taken; within = omega arith; few = omega arith; first = nothing known size }
+pub begun : (known : Option (List ℕ)) (most : ℕ) (j : Job) (size : ℕ) (run : CacheRun) → ((trace : List ℕ) → HasTaken j trace [] run) → IsAfter known most j size 0 run
+begun known most j size run taken = record { done = []; taken = taken; within = omega arith; few = omega arith; first = nothing known size }
 
-module _ (known : Option (List ℕ)) (j : Job) (size k : ℕ) (b : Batch) (is : IsBatch known size k b) where
-  few_more : (done : List ℕ) → length done ≤ k * size → length done ≤ MAX_ACCESSES → length (done ++ b.keys) ≤ MAX_ACCESSES
+module _ (known : Option (List ℕ)) (most : ℕ) (j : Job) (size k : ℕ) (b : Batch) (is : IsBatch known most size k b) where
+  few_more : (done : List ℕ) → length done ≤ k * size → length done ≤ most → length (done ++ b.keys) ≤ most
   few_more done within few = ⊎_elim
       (λ (some : 0 < length b.keys). let h = is.few some in omega (arith, length-append done b.keys, h))
       (λ (none : length b.keys ≤ 0). omega (arith, length-append done b.keys))
       (cases_lt 0 (length b.keys))
 
   -- it is ready for the next batch
-  pub ready : (run : CacheRun) → IsAfter known j size k run → CanTake b.keys run
-  ready (NextUses found) s = omega (arith, length-append s.done b.keys, few_more s.done s.within s.few, ap (λ (l : List ℕ). length l) (s.taken []))
-  ready (Cache d) s = record {
+  pub ready : most ≤ MAX_STEPS → CanFollow most j → (run : CacheRun) → IsAfter known most j size k run → CanTake b.keys run
+  ready room follows (NextUses found) s = omega (arith, length-append s.done b.keys, few_more s.done s.within s.few, follows (s.taken []).0, ap (λ (l : List ℕ). length l) (s.taken []).1)
+  ready room follows (Cache d) s = record {
     job = j;
     trace = s.done ++ b.keys;
     before = s.done;
     rest = [];
     stands = s.taken (s.done ++ b.keys);
     ahead = ap (λ (l : List ℕ). s.done ++ l) (sym (append-nil b.keys));
-    few = few_more s.done s.within s.few;
+    few = omega (arith, room, few_more s.done s.within s.few);
   }
-  ready OutOfMemory s = tt
+  ready room follows OutOfMemory s = tt
 
   first_more : (o : Option (List ℕ)) (done : List ℕ) → IfSome o (λ all. done ≡ take (k * size) all)
       → IfSome o (λ all. b.keys ≡ take size (drop (k * size) all)) → IfSome o (λ all. done ++ b.keys ≡ take ((k + 1) * size) all)
@@ -47,8 +48,8 @@ module _ (known : Option (List ℕ)) (j : Job) (size k : ℕ) (b : Batch) (is : 
   first_more (Some all) done f p = ap (λ (l : List ℕ). l ++ b.keys) f ∙ taken-more size k all b.keys p
 
   -- and took one more after it
-  pub moved : (old new : CacheRun) → IsAfter known j size k old
-      → ((i : Job) (trace done : List ℕ) → HasTaken i trace done old → HasTaken i trace (done ++ b.keys) new) → IsAfter known j size (k + 1) new
+  pub moved : (old new : CacheRun) → IsAfter known most j size k old
+      → ((i : Job) (trace done : List ℕ) → HasTaken i trace done old → HasTaken i trace (done ++ b.keys) new) → IsAfter known most j size (k + 1) new
   moved old new s step =
       let more : (k + 1) * size ≡ k * size + size = omega arith in
       record {
@@ -60,7 +61,7 @@ module _ (known : Option (List ℕ)) (j : Job) (size k : ℕ) (b : Batch) (is : 
       }
 
   -- after the last batch it took all that was fed
-  pub ended : (run : CacheRun) → IsAfter known j size (k + 1) run → IsTrue b.last → (all : List ℕ) → known ≡ Some all → HasTaken j all all run
+  pub ended : (run : CacheRun) → IsAfter known most j size (k + 1) run → IsTrue b.last → (all : List ℕ) → known ≡ Some all → HasTaken j all all run
   ended run s last all e =
       let ends : IsTrue b.last ↔ (length all ≤ k * size + size) = subst (λ o. IfSome o (λ a. IsTrue b.last ↔ (length a ≤ k * size + size))) e is.last in
       let first : s.done ≡ take ((k + 1) * size) all = subst (λ o. IfSome o (λ a. s.done ≡ take ((k + 1) * size) a)) e s.first in

@@ -1,4 +1,5 @@
 pub mod CacheRuns
+pub mod Following
 pub mod Handles
 pub mod Lumps
 pub mod Moves

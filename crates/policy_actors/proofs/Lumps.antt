@@ -3,7 +3,6 @@ use Rattle.std.proofs.Common.{◌≡◌, ℕ, ◌+◌, ◌-◌, ◌*◌, ◌<◌
 use Rattle.std.specs.Prelude.{◌↔◌}
 use Rattle.std.proofs.lemmas.List.{drop-drop, drop-take, take_all, take-take}
 use Rattle.std.proofs.lemmas.Bool.{cases_lt}
-use Rattle.step_record.specs.declared.limits.TheConstants.{MAX_ACCESSES}
 use Rattle.policy_actors.specs.ChannelProtocol.{IsBatch}
 use Rattle.policy_actors.specs.declared.channel_protocol.Batch.{Batch}
 
@@ -71,12 +70,12 @@ module _ (size k place start n : ℕ) (is_end last : Bool) (keys : List ℕ)
       ∙ ap (λ (i : ℕ). take size (drop i all)) (sym at)
 
   -- a part of a lump is the batch with the number of its place
-  pub is_batch : (known : Option (List ℕ)) (b : Batch) → b.number ≡ k → b.keys ≡ take n (drop start keys) → b.last ≡ last
-      → (0 < length keys → place + length keys ≤ MAX_ACCESSES)
+  pub is_batch : (most : ℕ) (known : Option (List ℕ)) (b : Batch) → b.number ≡ k → b.keys ≡ take n (drop start keys) → b.last ≡ last
+      → (0 < length keys → place + length keys ≤ most)
       → IfSome known (λ all. keys ≡ take (length keys) (drop place all)) → IfSome known (λ all. is_end ≡ true → keys ≡ drop place all)
       → IfSome known (λ all. is_end ≡ false → 0 < length keys → place + length keys < length all)
-      → IsBatch known size k b
-  is_batch known b number is last_same few piece at_end before_end = record {
+      → IsBatch known most size k b
+  is_batch most known b number is last_same few piece at_end before_end = record {
     number = number;
     within = let e = ap (λ (l : List ℕ). length l) is in omega (arith, e, length_is, cut);
     few = λ some_keys. let e = ap (λ (l : List ℕ). length l) is in let f = few (omega (arith, e, length_is, cut, some_keys)) in omega (arith, e, length_is, cut, f, at, within, some_keys);

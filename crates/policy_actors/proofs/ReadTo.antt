@@ -4,12 +4,13 @@ use Rattle.trace_read.specs.declared.format.Format.{Format}
 use Rattle.trace_read.specs.declared.fault.TraceFault.{TraceFault}
 use Rattle.trace_read.specs.declared.fault.TraceFault.TheVariants.{OutOfMemory, TooLarge}
 use Rattle.trace_read.specs.TraceText.{keys_in, keys_of_file}
-use Rattle.trace_read.specs.ReadTrace.{IsReadTo}
+use Rattle.trace_read.specs.ReadTrace.{IsReadWithin}
+use Rattle.trace_read.specs.declared.limits.Limits.{Limits}
 
-module _ {T U : Type 0} (format : Format) (old new : Option (List ℕ)) where
+module _ {T U : Type 0} (limits : Limits) (format : Format) (old new : Option (List ℕ)) where
   -- the fault of the reading is that of the run
-  pub with_fault : (r : Result T TraceFault) (e : TraceFault) → r ≡ Err e → IsReadTo format old new r → IsReadTo {T = U} format old new (Err e)
-  with_fault r e is h = let k : IsReadTo {T = T} format old new (Err e) = subst (λ (x : Result T TraceFault). IsReadTo format old new x) is h in record {
+  pub with_fault : (r : Result T TraceFault) (e : TraceFault) → r ≡ Err e → IsReadWithin limits format old new r → IsReadWithin {T = U} limits format old new (Err e)
+  with_fault r e is h = let k : IsReadWithin {T = T} limits format old new (Err e) = subst (λ (x : Result T TraceFault). IsReadWithin limits format old new x) is h in record {
     ok = tt;
     end = tt;
     faulty = k.faulty;
@@ -19,8 +20,8 @@ module _ {T U : Type 0} (format : Format) (old new : Option (List ℕ)) where
   }
 
   -- it was read to its end, and then
-  pub with_end : (r : Result T TraceFault) (t : T) (v : U) → r ≡ Ok t → IsReadTo format old new r → IsReadTo {T = U} format old new (Ok v)
-  with_end r t v is h = let k : IsReadTo {T = T} format old new (Ok t) = subst (λ (x : Result T TraceFault). IsReadTo format old new x) is h in record {
+  pub with_end : (r : Result T TraceFault) (t : T) (v : U) → r ≡ Ok t → IsReadWithin limits format old new r → IsReadWithin {T = U} limits format old new (Ok v)
+  with_end r t v is h = let k : IsReadWithin {T = T} limits format old new (Ok t) = subst (λ (x : Result T TraceFault). IsReadWithin limits format old new x) is h in record {
     ok = k.ok;
     end = k.end;
     faulty = tt;
@@ -29,8 +30,8 @@ module _ {T U : Type 0} (format : Format) (old new : Option (List ℕ)) where
     within = λ n. k.within (λ q. absurd (cc q));
   }
 
-  pub without_memory : (r : Result T TraceFault) (t : T) → r ≡ Ok t → IsReadTo format old new r → IsReadTo {T = U} format old new (Err OutOfMemory)
-  without_memory r t is h = let k : IsReadTo {T = T} format old new (Ok t) = subst (λ (x : Result T TraceFault). IsReadTo format old new x) is h in record {
+  pub without_memory : (r : Result T TraceFault) (t : T) → r ≡ Ok t → IsReadWithin limits format old new r → IsReadWithin {T = U} limits format old new (Err OutOfMemory)
+  without_memory r t is h = let k : IsReadWithin {T = T} limits format old new (Ok t) = subst (λ (x : Result T TraceFault). IsReadWithin limits format old new x) is h in record {
     ok = tt;
     end = tt;
     faulty = λ q. absurd q;

@@ -1,4 +1,5 @@
 pub mod Faults
+pub mod Following
 pub mod Lumps
 pub mod CacheRuns
 pub mod ChannelProtocol

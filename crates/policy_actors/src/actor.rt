@@ -1,7 +1,9 @@
 //! One actor: a job's policy, fed with batches.
-ghost use Rattle.std.specs.Prelude.{◌≡◌, ℕ, List, Ok, Some, IfSome};
+ghost use Rattle.std.specs.Prelude.{◌≡◌, ◌≤◌, ℕ, List, Ok, Some, IfSome};
 ghost use Rattle.step_record.specs.Config.{config_fault};
+ghost use Rattle.step_record.specs.declared.limits.TheConstants.{MAX_STEPS};
 ghost use Rattle.policies.specs.Reports.{report_on};
+ghost use Rattle.policy_actors.specs.Following.{CanFollow};
 
 use crate::lump::FedTrace;
 use crate::mail::Inbox;
@@ -26,6 +28,8 @@ pub fn run_actor<S: FedTrace, R: Wait, G: Gate>(
 ) -> Option<Report>
     requires start { inbox.taken ≡ 0 }
     requires checked { config_fault job.config ≡ Ok tt }
+    requires few { S.most ≤ MAX_STEPS }
+    requires follows { CanFollow S.most job }
     ensures { (all : List ℕ) → S.known ≡ Some all → IfSome result (λ r. r ≡ report_on job all) }
 {
     let mut run = CacheRun::open(alloc, &job);

@@ -30,7 +30,7 @@ impl<S: FedTrace> Protocol<Batch, ChannelLog> for BatchesInOrder<S> {
     ghost use Rattle.std.specs.Prelude.{true};
     ghost use Rattle.policy_actors.specs.ChannelProtocol.{channel_log, AreKept};
 
-    ghost holds = { AreKept S.known S.size };
+    ghost holds = { AreKept S.known S.most S.size };
 
     ghost first = { channel_log true true 0 0 };
 }
@@ -67,7 +67,8 @@ impl<S: FedTrace> Outcome<Batch, ChannelLog> for Received<S> {
     ghost use Rattle.std.specs.Prelude.{◌≡◌, ◌+◌};
     ghost use Rattle.policy_actors.specs.ChannelProtocol.{channel_log, IsBatch};
 
-    ghost then = { λ v x w. (w ≡ channel_log v.gives v.takes v.given (v.taken + 1)) × IsBatch S.known S.size v.taken x };
+    ghost then = { λ v x w. (w ≡ channel_log v.gives v.takes v.given (v.taken + 1))
+        × IsBatch S.known S.most S.size v.taken x };
 }
 
 impl<S: FedTrace> Lesson<Batch, ChannelLog> for Received<S> {

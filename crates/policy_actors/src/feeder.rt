@@ -1,6 +1,5 @@
 //! What feeds the actors of a run, and how far they are.
 ghost use Rattle.std.specs.Prelude.{◌≡◌, ◌+◌, ◌-◌, ◌*◌, ◌<◌, ◌≤◌, IfOk, IfSome, IsTrue, OnErr, OnOk, length, take, drop};
-ghost use Rattle.step_record.specs.declared.limits.TheConstants.{MAX_ACCESSES};
 ghost use Rattle.policy_actors.specs.Lumps.{AreAt, batches_of};
 
 use crate::lump::{BatchSize, FedTrace, Lump};
@@ -10,7 +9,7 @@ use std::mem;
 use std::sync::Wait;
 use std::sync::atomic::AtomicU64;
 use std::sync::atomic::Ordering::Relaxed;
-use step_record::{Key, Trace};
+use step_record::Key;
 use trace_read::Follower;
 
 // Fewer accesses than this are not handed over before the end: it bounds how often an actor that is faster than the
@@ -44,15 +43,21 @@ impl<'b, S: FedTrace, W: Wait> Follower for Feeder<'b, S, W> {
 
     ghost taken = { λ f. f.place };
 
-    ghost most = { λ f. MAX_ACCESSES };
+    ghost most = { λ f. S.most };
 
+    // Where an actor is gone the accesses are only counted, so that none of them stay in memory.
     fn follow(&mut self, keys: &mut Vec<Key>) {
+        if !self.is_open {
+            self.place += keys.len();
+            keys.clear();
+            return;
+        }
         let batches = self.batches_due(keys.len());
         if batches == 0 {
             return;
         }
         match take_front(self.alloc, keys, batches * self.size.accesses) {
-            Ok(front) => self.give(Trace::new(front), false),
+            Ok(front) => self.give(front, false),
             Err(_) => self.is_open = false,
         }
     }
@@ -82,12 +87,12 @@ impl<'b, S: FedTrace, W: Wait> Feeder<'b, S, W> {
 
     /// Gives each end these accesses, which come next: each batch to all of them before the next. At the end they are
     /// all that is left of the trace; before that they are whole batches, with an access after them.
-    pub fn give(&mut self, accesses: Trace, is_end: bool)
-        requires few { self.old.place + length accesses ≤ MAX_ACCESSES }
-        requires next { IfSome S.known (λ all. AreAt all self.old.place is_end accesses) }
-        ensures place { self.new.place ≡ self.old.place + length accesses }
+    pub fn give(&mut self, accesses: Vec<Key>, is_end: bool)
+        requires few { self.old.place + length accesses.items ≤ S.most }
+        requires next { IfSome S.known (λ all. AreAt all self.old.place is_end accesses.items) }
+        ensures place { self.new.place ≡ self.old.place + length accesses.items }
         ensures sent { IsTrue self.new.is_open → self.new.ends.sent
-            ≡ self.old.ends.sent + batches_of (length accesses) self.old.size.accesses }
+            ≡ self.old.ends.sent + batches_of (length accesses.items) self.old.size.accesses }
     {
         let place = self.place;
         self.place += accesses.len();
@@ -110,7 +115,7 @@ impl<'b, S: FedTrace, W: Wait> Feeder<'b, S, W> {
         let waiting = sent.saturating_sub(self.finished.load(Relaxed));
         let is_behind = waiting.saturating_mul(size as u64) > LONG_LUMP as u64;
         let least = if is_behind { LONG_LUMP } else { MIN_LUMP };
-        if !self.is_open || read <= least {
+        if read <= least {
             return 0;
         }
         (read - 1) / size

@@ -12,11 +12,6 @@ use crossbeam_channel::bounded_with;
 use std::alloc::{AllocError, Global};
 use std::sync::Wait;
 
-// The most batches that wait in a channel. At the size that the program has by default these are four million accesses,
-// 32 MiB that all actors share: an actor can lag that far before the feeder waits for it. All places are
-// written when the channel is made, 0.07 ms for a thousand.
-const MAX_WAITING: usize = 4096;
-
 /// The sending ends of several actors' channels. A batch goes to every end before the next one goes to any: between two
 /// calls each end was sent as many.
 #[derive(Drop)]
@@ -84,7 +79,7 @@ pub struct Inbox<S: FedTrace> {
 impl<S: FedTrace> Inbox<S> {
     /// Takes the next batch. `None` where the feeder is gone.
     pub fn take<R: Wait>(&mut self, rt: &R) -> Option<Batch>
-        ensures batch { IfSome result (IsBatch S.known S.size self.old.taken) }
+        ensures batch { IfSome result (IsBatch S.known S.most S.size self.old.taken) }
         ensures taken { IfSome result (λ b. self.new.taken ≡ self.old.taken + 1) }
     {
         let next = self.taken.checked_add(1)?;
@@ -111,7 +106,7 @@ pub struct Outbox<S: FedTrace> {
 impl<S: FedTrace> Outbox<S> {
     // Sends the next batch. False where the actor is gone.
     fn send<R: Wait>(&mut self, rt: &R, batch: Batch) -> bool
-        requires { IsBatch S.known S.size self.old.sent batch }
+        requires { IsBatch S.known S.most S.size self.old.sent batch }
         ensures { IsTrue result → self.new.sent ≡ self.old.sent + 1 }
     {
         let Some(next) = self.sent.checked_add(1) else {
@@ -150,14 +145,13 @@ fn send_each<S: FedTrace, R: Wait>(
     true
 }
 
-// A channel with room for this number of batches, up to `MAX_WAITING`.
+// A channel with room for this number of batches.
 fn channel<S: FedTrace>(alloc: Global, batches: usize) -> Result<(Outbox<S>, Inbox<S>), AllocError>
     requires { 0 < batches }
     ensures { IfOk result (λ r. (r.0.sent ≡ 0) × (r.1.taken ≡ 0)) }
 {
     let (sender, receiver, mut pass) = bounded_with::<Batch, ChannelLog, BatchesInOrder<S>, Global>(
-        alloc,
-        batches.min(MAX_WAITING),
+        alloc, batches,
     )?;
     let theirs = sender.another::<Ends>(&mut pass);
     let outbox = Outbox {

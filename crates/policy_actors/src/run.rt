@@ -1,11 +1,14 @@
 //! Each job on a thread of its own.
-ghost use Rattle.std.specs.Prelude.{◌≡◌, ◌<◌, ◌≤◌, ◌++◌, ◌∷◌, [], ℕ, List, length, map, Ok, Err, None, Some, IfOk, IsOk, OnOk, IfSome, IsSome, MatchResult};
+ghost use Rattle.std.specs.Prelude.{◌≡◌, ◌<◌, ◌≤◌, ◌++◌, ◌∷◌, [], ℕ, List, All, length, map, Ok, Err, None, Some, IfOk, IsOk, OnOk, IfSome, IsSome, MatchResult};
 ghost use denote.Param.Send.{IsSync};
 ghost use Rattle.step_record.specs.Config.{config_fault};
+ghost use Rattle.step_record.specs.declared.limits.TheConstants.{MAX_STEPS};
 ghost use Rattle.policies.specs.declared.job_checks.TheConstants.{MAX_ACTORS};
 ghost use Rattle.policy_actors.specs.Actors.{jobs_of};
 ghost use Rattle.policy_actors.specs.Faults.{actor_fault};
-ghost use Rattle.trace_read.specs.ReadTrace.{IsReadTo};
+ghost use Rattle.policy_actors.specs.Following.{CanFollow};
+ghost use Rattle.trace_read.specs.ReadTrace.{IsReadTo, IsReadWithin};
+ghost use Rattle.trace_read.specs.declared.limits.TheConstants.{MAX_LONG_ACCESSES, MAX_LONG_TRACE_BYTES};
 ghost use Rattle.policies.specs.FaultyJobs.{faulty_in, ReturnsFault};
 ghost use Rattle.policies.specs.Reports.{report_on};
 ghost use Rattle.streams.specs.Tally.{FailsWhere};
@@ -25,7 +28,7 @@ use std::thread;
 use std::thread::{Promise, Threads};
 use step_record::{Gate, Job, MAX_BATCH, Trace};
 use streams::CountedRead;
-use trace_read::{Format, TraceFault};
+use trace_read::{Format, Limits, TraceFault};
 
 /// The reports of the jobs over the trace, in the order of the jobs. Each job is an actor on a thread of its own, fed
 /// through a channel: batch j goes to every actor before batch j + 1 goes to any. A batch is `batch` accesses of the
@@ -47,6 +50,7 @@ pub fn run_actors<R: Threads + Wait + Sync, G: Gate>(
     ensures fault { ReturnsFault (actor_fault batch jobs.now) result }
 {
     check_run(batch, jobs)?;
+    trace.bounded();
     let finished = AtomicU64::new(0);
     let source = TraceSource { trace };
     let size = batch as usize;
@@ -79,8 +83,45 @@ pub fn run_reading<T: Threads + Wait + Sync, R: CountedRead, G: Gate>(
     // `Read` comes just where a read failed, or the millionth was interrupted.
     ensures tally { FailsWhere (result ≡ Err TraceFault.Read) (R.tally reader.old) (R.tally reader.new) }
 {
+    run_reading_within(
+        rt,
+        alloc,
+        reader,
+        format,
+        Limits::DEFAULT,
+        jobs,
+        batch,
+        gate,
+    )
+}
+
+/// The same within these limits, which may be those of a long trace: no policy among the jobs has to know the whole
+/// trace then. At most four million accesses wait for an actor, so the memory does not grow with the trace.
+pub fn run_reading_within<T: Threads + Wait + Sync, R: CountedRead, G: Gate>(
+    rt: &T,
+    alloc: Global,
+    reader: &mut R,
+    format: Format,
+    limits: Limits,
+    jobs: &[Job],
+    batch: u32,
+    gate: &G,
+) -> Result<Vec<Report>, TraceFault>
+    requires due { actor_fault batch jobs.now ≡ None }
+    requires accesses { limits.accesses ≤ MAX_LONG_ACCESSES }
+    requires bytes { limits.bytes ≤ MAX_LONG_TRACE_BYTES }
+    requires follow { All (CanFollow limits.accesses) jobs.now }
+    ensures reports { IfOk result (λ v. IfSome (R.remaining reader.old)
+        (λ bytes. v.items ≡ map (λ j. report_on j (keys_in format bytes)) jobs.now)) }
+    ensures read { IsReadWithin limits format (R.remaining reader.old) (R.remaining reader.new) result }
+    ensures tally { FailsWhere (result ≡ Err TraceFault.Read) (R.tally reader.old) (R.tally reader.new) }
+{
     let finished = AtomicU64::new(0);
-    let source = ReaderSource { reader, format };
+    let source = ReaderSource {
+        reader,
+        format,
+        limits,
+    };
     let size = batch as usize;
     let ((reader, read), reports) = run_actors_from::<Brand, T, G, _, _>(
         rt, alloc, source, jobs, size, gate, &finished,
@@ -142,8 +183,10 @@ fn run_actors_from<
     gate: &G,
     finished: &AtomicU64,
 ) -> (O, Result<Vec<Report>, AllocError>)
-    requires source { A.gives source S.known }
+    requires source { A.gives source S.known S.most }
     requires size { (size ≡ S.size) × (0 < size) }
+    requires most { S.most ≤ MAX_STEPS }
+    requires follow { All (CanFollow S.most) jobs.now }
     requires few { length jobs.now ≤ MAX_ACTORS }
     requires checked { faulty_in jobs.now ≡ None }
     ensures source { A.becomes source result.0 }
@@ -155,13 +198,14 @@ fn run_actors_from<
         rt,
         move |scope| -> (O, Result<Vec<Report>, AllocError>)
             requires { IsSync R.row × IsSync G.row × (length jobs.now ≤ MAX_ACTORS) × (faulty_in jobs.now ≡ None)
-                × (size ≡ S.size) × (0 < size) × A.gives source S.known }
+                × (size ≡ S.size) × (0 < size) × A.gives source S.known S.most × (S.most ≤ MAX_STEPS)
+                × All (CanFollow S.most) jobs.now }
             ensures { A.becomes source result.0
                 × ((all : List ℕ) → S.known ≡ Some all
                 → IfOk result.1 (λ v. v.items ≡ map (λ j. report_on j all) jobs.entry.now)) }
         {
             let size = BatchSize::<S>::new(size);
-            let batches = size.batches(source.max_accesses());
+            let batches = size.waiting(source.max_accesses());
             let mut handles = Vec::new(alloc);
             let mut ends = Outboxes::new(alloc);
             for i in 0..jobs.len() {
@@ -177,7 +221,8 @@ fn run_actors_from<
                 let started = scope.spawn_with(
                     promised,
                     move || -> Option<Report>
-                        requires { (inbox.taken ≡ 0) × (config_fault job.config ≡ Ok tt) }
+                        requires { (inbox.taken ≡ 0) × (config_fault job.config ≡ Ok tt) × (S.most ≤ MAX_STEPS)
+                            × CanFollow S.most job }
                         ensures { (all : List ℕ) → S.known ≡ Some all → IfSome result (λ x. x ≡ report_on job all) }
                     { run_actor::<S, R, G>(rt, alloc, inbox, job, who, gate, finished) },
                 );

@@ -1,12 +1,12 @@
 //! Where the accesses of a run come from.
-ghost use Rattle.std.specs.Prelude.{◌≡◌, ℕ, List, Option};
+ghost use Rattle.std.specs.Prelude.{◌≡◌, ◌≤◌, ℕ, List, Option, length};
 ghost use Rattle.trace_read.specs.TraceText.{AreOfFile};
 
 use crate::feeder::Feeder;
 use crate::lump::FedTrace;
 use std::alloc::AllocError;
 use std::sync::Wait;
-use step_record::{MAX_ACCESSES, Trace};
+use step_record::Trace;
 use streams::CountedRead;
 use trace_read::{Follower, Format, Limits, TraceFault, read_followed};
 
@@ -18,8 +18,8 @@ pub trait AccessSource: Drop {
     /// The result of feeding the actors.
     type Outcome;
 
-    // these are its accesses, as far as they are known
-    ghost gives: { Self → Option (List ℕ) → Type 0 };
+    // these are its accesses, as far as they are known, and it gives at most so many
+    ghost gives: { Self → Option (List ℕ) → ℕ → Type 0 };
 
     ghost becomes: { Self → Self.Outcome → Type 0 };
 
@@ -28,7 +28,7 @@ pub trait AccessSource: Drop {
 
     /// Gives the feeder all accesses, in order.
     fn feed<S: FedTrace, W: Wait>(self, feeder: Feeder<'_, S, W>) -> Self::Outcome
-        requires gives { gives self S.known }
+        requires gives { gives self S.known S.most }
         requires none { feeder.place ≡ 0 }
         ensures { becomes self result };
 
@@ -46,9 +46,9 @@ pub struct TraceSource<'t> {
 impl<'t> AccessSource for TraceSource<'t> {
     type Outcome = ();
 
-    ghost use Rattle.std.specs.Prelude.{⊤, ◌≡◌, Some};
+    ghost use Rattle.std.specs.Prelude.{⊤, ◌≡◌, ◌≤◌, Some, length};
 
-    ghost gives = { λ s known. known ≡ Some s.trace.now };
+    ghost gives = { λ s known most. (known ≡ Some s.trace.now) × (length s.trace.now ≤ most) };
 
     ghost becomes = { λ s o. ⊤ };
 
@@ -63,46 +63,53 @@ impl<'t> AccessSource for TraceSource<'t> {
     fn cancel(self) {}
 }
 
-/// A trace that a reader gives.
+/// A trace that a reader gives, within these limits.
 #[derive(Drop)]
 pub struct ReaderSource<'r, R> {
     pub reader: &'r mut R,
     pub format: Format,
+    pub limits: Limits,
 }
 
 impl<'r, R: CountedRead> AccessSource for ReaderSource<'r, R> {
     type Outcome = (&'r mut R, Result<(), TraceFault>);
 
-    ghost use Rattle.std.specs.Prelude.{◌≡◌, Err};
+    ghost use Rattle.std.specs.Prelude.{◌≡◌, ◌≤◌, Err};
     ghost use Rattle.streams.specs.Tally.{FailsWhere};
     ghost use Rattle.trace_read.specs.declared.fault.TraceFault.TheVariants.{Read};
-    ghost use Rattle.trace_read.specs.ReadTrace.{IsReadTo};
+    ghost use Rattle.trace_read.specs.ReadTrace.{IsReadWithin};
     ghost use Rattle.trace_read.specs.TraceText.{AreOfFile};
+    ghost use Rattle.trace_read.specs.declared.limits.TheConstants.{MAX_LONG_TRACE_BYTES};
 
-    ghost gives = { λ s known. AreOfFile s.format (R.remaining s.reader.now) known };
+    ghost gives = { λ s known most. AreOfFile s.format (R.remaining s.reader.now) known
+        × (s.limits.accesses ≤ most) × (s.limits.bytes ≤ MAX_LONG_TRACE_BYTES) };
 
     ghost becomes = { λ s o. (o.0.ghost_name ≡ s.reader.ghost_name)
-        × IsReadTo s.format (R.remaining s.reader.now) (R.remaining o.0.now) o.1
+        × IsReadWithin s.limits s.format (R.remaining s.reader.now) (R.remaining o.0.now) o.1
         × FailsWhere (o.1 ≡ Err Read) (R.tally s.reader.now) (R.tally o.0.now) };
 
     fn max_accesses(&self) -> usize {
-        MAX_ACCESSES
+        self.limits.accesses
     }
 
     fn feed<S: FedTrace, W: Wait>(
         self,
         mut feeder: Feeder<'_, S, W>,
     ) -> (&'r mut R, Result<(), TraceFault>) {
-        let ReaderSource { reader, format } = self;
-        let read = match read_followed(feeder.alloc, reader, format, Limits::DEFAULT, &mut feeder) {
-            Ok(rest) => Ok(feeder.give(Trace::new(rest), true)),
+        let ReaderSource {
+            reader,
+            format,
+            limits,
+        } = self;
+        let read = match read_followed(feeder.alloc, reader, format, limits, &mut feeder) {
+            Ok(rest) => Ok(feeder.give(rest, true)),
             Err(fault) => Err(fault),
         };
         (reader, read)
     }
 
     fn cancel(self) -> (&'r mut R, Result<(), TraceFault>) {
-        let ReaderSource { reader, format: _ } = self;
+        let ReaderSource { reader, .. } = self;
         (reader, Err(TraceFault::OutOfMemory))
     }
 }
@@ -113,6 +120,7 @@ fn feed_trace<S: FedTrace, W: Wait>(
     trace: &Trace,
 ) -> Result<(), AllocError>
     requires known { S.known ≡ Some trace.now }
+    requires few { length trace.now ≤ S.most }
     requires none { feeder.old.place ≡ 0 }
 {
     let mut read = Vec::new(feeder.alloc);
@@ -124,6 +132,6 @@ fn feed_trace<S: FedTrace, W: Wait>(
         rest = later;
     }
     read.extend_from_slice(rest)?;
-    feeder.give(Trace::new(read), true);
+    feeder.give(read, true);
     Ok(())
 }

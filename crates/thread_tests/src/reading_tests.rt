@@ -1,9 +1,9 @@
 //! Runs of actors while the trace is read, whose reports were worked out by hand.
 use super::assertions::assert_equal;
 use super::gates::{Hold, Turns};
-use super::jobs::{failed, four_jobs, four_reports, job, one_key};
+use super::jobs::{counted, failed, four_jobs, four_reports, job, one_key};
 use policies::Report;
-use policy_actors::{check_run, run_reading};
+use policy_actors::{check_run, run_reading, run_reading_within};
 use std::alloc::Global;
 use std::io;
 use std::io::{Error, ErrorKind, Read};
@@ -13,7 +13,7 @@ use std::test::Fail;
 use std::thread::Threads;
 use step_record::{Gate, Job, OpenGate, Policy};
 use streams::CountedReader;
-use trace_read::{Format, TraceFault};
+use trace_read::{Format, Limits, TraceFault};
 
 /// A reader of a text so many times, in pieces of a size, that then ends or fails. It reads its last text only once a
 /// gate, where there is one, has seen two batches begin.
@@ -97,6 +97,59 @@ fn reports_are_made_while_a_text_is_read(rt: HostRuntime) -> Result<(), Fail> {
             Ok(wanted.as_slice())
         };
         assert_reading(&rt, rt.alloc(), text, (&jobs, batch), &OpenGate, wanted)?;
+    }
+    Ok(())
+}
+
+// At most three accesses.
+const THREE: Limits = Limits {
+    accesses: 3,
+    bytes: 64,
+};
+
+// A text, whether a read fails after it, and the counts of its report or its fault, of three accesses at most.
+const AT_THREE: [(&str, bool, Result<[u64; 5], TraceFault>); 5] = [
+    ("1\n1\n2\n*\n", false, Ok([3, 1, 2, 0, 0])),
+    ("1\n1\n2", false, Ok([3, 1, 2, 0, 0])),
+    ("1\n1\n2\n3", false, Err(TraceFault::TooLong { line: 4 })),
+    (
+        "1\n1\n2\n3\nx\n",
+        false,
+        Err(TraceFault::TooLong { line: 4 }),
+    ),
+    ("1\n1\n2\n3\n", true, Err(TraceFault::Read)),
+];
+
+#[test]
+fn a_run_ends_at_its_limits(rt: HostRuntime) -> Result<(), Fail> {
+    let jobs = [job(Policy::Lru, 2)];
+    check_run(1, &jobs).map_err(failed)?;
+    for size in [1, 3, 64] {
+        for (text, fails, wanted) in AT_THREE {
+            let mut pieces = Pieces::of(text, size, 1);
+            pieces.fails = fails;
+            let mut reader = CountedReader::new(pieces);
+            let read = run_reading_within(
+                &rt,
+                rt.alloc(),
+                &mut reader,
+                Format::Lirs,
+                THREE,
+                &jobs,
+                1,
+                &OpenGate,
+            );
+            let reports = read
+                .as_ref()
+                .map(|reports| reports.as_slice())
+                .map_err(|fault| *fault);
+            let wanted = wanted.map(|counts| [counted(Policy::Lru, 2, counts)]);
+            let wanted = wanted
+                .as_ref()
+                .map(|reports| reports.as_slice())
+                .map_err(|fault| *fault);
+            assert_eq!(rt; reports, wanted, "of {text:?} by {size}");
+        }
     }
     Ok(())
 }

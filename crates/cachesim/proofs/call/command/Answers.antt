@@ -10,7 +10,7 @@ use Rattle.clap.specs.declared.error.ErrorKind.TheVariants as kind
 use Rattle.command_line.specs.ParseResult.{IsRefused, ParsedBy}
 use Rattle.command_line.specs.declared.arguments.Arguments.{Arguments}
 use Rattle.command_line.specs.declared.fault.ParseFault.{ParseFault}
-use Rattle.command_line.specs.declared.fault.ParseFault.TheVariants.{Incomplete, Refused, Stripes}
+use Rattle.command_line.specs.declared.fault.ParseFault.TheVariants.{Incomplete, Refused, Stripes, WholeTrace}
 use Rattle.streams.proofs.Tallies.{uncalled}
 use Rattle.cachesim.specs.CallFaults.{AreServed, BlamesCalls, IsOfRead, IsOfWrite}
 use Rattle.cachesim.specs.declared.fault.Fault.{Fault}
@@ -74,6 +74,11 @@ pub returns-in-Err-Stripes-clause-refused : goal.returns-in-Err-Stripes-clause-r
 returns-in-Err-Stripes-clause-refused g c two =
     let e : c.parse.result ≡ Err Stripes = search rules in
     (inr (Stripes, parsed _ _ _ e c.parse.ensures.parsed, search rules), refl, refl)
+
+pub returns-in-Err-WholeTrace-clause-refused : goal.returns-in-Err-WholeTrace-clause-refused
+returns-in-Err-WholeTrace-clause-refused g c two =
+    let e : c.parse.result ≡ Err WholeTrace = search rules in
+    (inr (WholeTrace, parsed _ _ _ e c.parse.ensures.parsed, search rules), refl, refl)
 
 pub returns-in-Err-Incomplete-clause-refused : goal.returns-in-Err-Incomplete-clause-refused
 returns-in-Err-Incomplete-clause-refused g c two =

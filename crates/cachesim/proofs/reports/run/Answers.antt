@@ -7,16 +7,28 @@ use Rattle.trace_read.specs.TraceText.{keys_in}
 use Rattle.policy_actors.specs.Faults.{actor_fault}
 use Rattle.report.specs.Text.{reports_text}
 use Rattle.cachesim.specs.TraceOutput.{reports_on}
-use Rattle.cachesim.proofs.Accepting.{can_run}
+use Rattle.std.proofs.lemmas.List.Elements.{All-nil}
+use Rattle.policy_actors.specs.Following.{CanFollow}
+use Rattle.cachesim.proofs.Accepting.{can_follow, can_pass, can_run}
 use Rattle.cachesim.proofs.reports.run.Goals as goal
 
-pub run_reading-reports-requires : goal.run_reading-reports-requires
-run_reading-reports-requires g c =
+pub run_reading_within-reports-requires-clause-due : goal.run_reading_within-reports-requires-clause-due
+run_reading_within-reports-requires-clause-due g c =
     let jobs = c.as_slice.ensures.value ∙ c.in_ok-jobs.ensures in
     let few = ap (λ (l : List Job). length l) jobs ∙ length-map c.args.arguments.now.policies _ in
-    let can : actor_fault c.args.arguments.now.batch c.as_slice.result.now ≡ None = can_run c.args.arguments.now c.as_slice.result.now c.requires jobs
+    let can : actor_fault c.args.arguments.now.batch c.as_slice.result.now ≡ None = can_run c.args.arguments.now c.as_slice.result.now c.requires.accepted jobs
     (omega (arith, few, ap (λ (l : List Policy). length l) c.as_slice-policies.ensures)) in
     search rules
+
+pub run_reading_within-reports-requires-clause-follow : goal.run_reading_within-reports-requires-clause-follow
+run_reading_within-reports-requires-clause-follow g c =
+    can_follow c.args.arguments.now c.as_slice.result.now c.requires.kept (c.as_slice.ensures.value ∙ c.in_ok-jobs.ensures)
+
+pub run_reading_within-requires-clause-due : goal.run_reading_within-requires-clause-due
+run_reading_within-requires-clause-due g c = can_pass c.args.arguments.now c.requires.accepted
+
+pub run_reading_within-requires-clause-follow : goal.run_reading_within-requires-clause-follow
+run_reading_within-requires-clause-follow g c = All-nil (CanFollow c.args.arguments.now.limits.accesses)
 
 pub returns-clause-text : goal.returns-clause-text
 returns-clause-text g c =

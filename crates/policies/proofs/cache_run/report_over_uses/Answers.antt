@@ -1,4 +1,4 @@
-use Rattle.std.proofs.Common.{[], ap, ◌∙◌, sym, append-nil}
+use Rattle.std.proofs.Common.{[], ap, ◌∙◌, sym, append-nil, arith}
 use Rattle.policies.specs.Reports.{report_on}
 use Rattle.policies.proofs.cache_run.report_over_uses.Goals as goal
 
@@ -11,7 +11,7 @@ access_whole-made-requires c =
       rest = [];
       stands = c.in_ok-cache.ensures.stands;
       ahead = sym (append-nil c.in_ok-uses.uses);
-      few = c.bounded.ensures;
+      few = omega (arith, c.bounded.ensures);
     }
 
 pub returns : goal.returns

@@ -1,4 +1,4 @@
-use Rattle.std.proofs.Common.{[], ◌∙◌, sym, append-nil, subst}
+use Rattle.std.proofs.Common.{[], ◌∙◌, sym, append-nil, subst, arith}
 use Rattle.policies.specs.AnyPolicy.{HasAccessed}
 use Rattle.policies.proofs.trace_run.report_over.Goals as goal
 
@@ -12,7 +12,7 @@ access_in_batches-made-requires g c = (
     rest = [];
     stands = c.in_ok-cache.ensures;
     ahead = sym (append-nil _ ∙ c.keys.ensures.keys);
-    few = c.keys.ensures.few;
+    few = omega (arith, c.keys.ensures.few);
   },
 )
 

@@ -4,21 +4,21 @@ use Rattle.policy_actors.proofs.CacheRuns.{begun, ready, moved, ended}
 use Rattle.policy_actors.proofs.actor.run_actor.Goals as goal
 
 pub take-requires-in-loop : goal.take-requires-in-loop
-take-requires-in-loop g c = rw c.as_slice.ensures (ready g.S.FedTrace.known c.args.job g.S.FedTrace.size c.loop.inbox.taken c.in-Some-take.batch c.in-Some-take.ensures.batch c.loop.run c.loop.invariant)
+take-requires-in-loop g c = rw c.as_slice.ensures (ready g.S.FedTrace.known g.S.FedTrace.most c.args.job g.S.FedTrace.size c.loop.inbox.taken c.in-Some-take.batch c.in-Some-take.ensures.batch c.requires.few c.requires.follows c.loop.run c.loop.invariant)
 
 pub returns-then-batch : goal.returns-then-batch
 returns-then-batch g c = let known = g.S.FedTrace.known in let j = c.args.job in let size = g.S.FedTrace.size in
     let k = c.loop.inbox.taken in let b = c.in-Some-take.batch in let is = c.in-Some-take.ensures.batch in
-    let after = moved known j size k b is c.loop.run c.take-in-loop.new.self c.loop.invariant (rw c.as_slice.ensures at c.take-in-loop.ensures) in
-    λ all e. c.finish-report.ensures all (ended known j size k b is c.take-in-loop.new.self after c.if-batch.true all e)
+    let after = moved known g.S.FedTrace.most j size k b is c.loop.run c.take-in-loop.new.self c.loop.invariant (rw c.as_slice.ensures at c.take-in-loop.ensures) in
+    λ all e. c.finish-report.ensures all (ended known g.S.FedTrace.most j size k b is c.take-in-loop.new.self after c.if-batch.true all e)
 
 pub loop-preserved : goal.loop-preserved
 loop-preserved g c = let known = g.S.FedTrace.known in let j = c.args.job in let size = g.S.FedTrace.size in
     let k = c.loop.inbox.taken in let b = c.in-Some-take.batch in let is = c.in-Some-take.ensures.batch in
-    subst (λ (n : ℕ). IsAfter known j size n c.take-in-loop.new.self) (sym c.in-Some-take.ensures.taken)
-    (moved known j size k b is c.loop.run c.take-in-loop.new.self c.loop.invariant (rw c.as_slice.ensures at c.take-in-loop.ensures))
+    subst (λ (n : ℕ). IsAfter known g.S.FedTrace.most j size n c.take-in-loop.new.self) (sym c.in-Some-take.ensures.taken)
+    (moved known g.S.FedTrace.most j size k b is c.loop.run c.take-in-loop.new.self c.loop.invariant (rw c.as_slice.ensures at c.take-in-loop.ensures))
 
 pub loop-init : goal.loop-init
 loop-init g c = let known = g.S.FedTrace.known in let size = g.S.FedTrace.size in
-    subst (λ (n : ℕ). IsAfter known c.args.job size n c.open-run.result) (sym c.requires.start)
-    (begun known c.args.job size c.open-run.result c.open-run.ensures)
+    subst (λ (n : ℕ). IsAfter known g.S.FedTrace.most c.args.job size n c.open-run.result) (sym c.requires.start)
+    (begun known g.S.FedTrace.most c.args.job size c.open-run.result c.open-run.ensures)

@@ -10,7 +10,7 @@ pub follow-requires-clause-few : goal.follow-requires-clause-few
 follow-requires-clause-few g c = let l = c.loop-rest in let all = c.args.trace.now in let s = c.split_at in let read = c.extend_from_slice.new.self.items in
     omega (
       arith,
-      c.keys-rest.ensures.few,
+      c.requires.few,
       room all read s.result.1.now l.feeder.place l.invariant.0
           (grown all l.read.items l.rest.now s.result.0.now read s.result.1.now l.feeder.place 65536 l.invariant.1 c.in_ok-extend_from_slice.ensures.items s.ensures.front s.ensures.back),
     )
@@ -30,12 +30,9 @@ loop-rest-preserved g c = let l = c.loop-rest in let all = c.args.trace.now in l
     (grown all l.read.items l.rest.now s.result.0.now read s.result.1.now l.feeder.place 65536 l.invariant.1 c.in_ok-extend_from_slice.ensures.items s.ensures.front s.ensures.back)
     c.follow.new.keys.items c.follow.new.self.place f.order f.taken f.left
 
-pub new-requires : goal.new-requires
-new-requires g c = let l = c.loop-rest in let all = c.args.trace.now in
-    omega (arith, c.keys-rest.ensures.few, (ended all l.read.items l.rest.now _ l.feeder.place l.invariant.0 l.invariant.1 c.in_ok-extend_from_slice-2.ensures.items).0)
-
 pub give-requires-clause-few : goal.give-requires-clause-few
-give-requires-clause-few g c = grind (arith, common_steps)
+give-requires-clause-few g c = let l = c.loop-rest in let all = c.args.trace.now in
+    omega (arith, c.requires.few, (ended all l.read.items l.rest.now _ l.feeder.place l.invariant.0 l.invariant.1 c.in_ok-extend_from_slice-2.ensures.items).0)
 
 pub give-requires-clause-next : goal.give-requires-clause-next
 give-requires-clause-next g c = grind (arith, common_steps)

@@ -8,9 +8,9 @@ use Rattle.policy_actors.proofs.mail.Outbox.send.Goals as goal
 pub send_as-requires-clause-rule : goal.send_as-requires-clause-rule
 send_as-requires-clause-rule g c = let e = c.args.self.now in let v = view e.pass in
     let given : v.given ≡ e.sent = ap (λ (y : ChannelLog). y.given) e.viewed in (
-      gives _ _ _ _ v _ (ap (λ (y : ChannelLog). y.gives) e.viewed)
-          (subst (λ (n : ℕ). IsBatch g.S.FedTrace.known g.S.FedTrace.size n c.args.batch) (sym given) c.requires),
-      learns _ _ _ _,
+      gives _ _ _ _ _ v _ (ap (λ (y : ChannelLog). y.gives) e.viewed)
+          (subst (λ (n : ℕ). IsBatch g.S.FedTrace.known g.S.FedTrace.most g.S.FedTrace.size n c.args.batch) (sym given) c.requires),
+      learns _ _ _ _ _,
     )
 
 pub invariant_of-self-clause-viewed : goal.invariant_of-self-clause-viewed

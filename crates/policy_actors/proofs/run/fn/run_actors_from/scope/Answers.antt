@@ -13,7 +13,7 @@ loop-i-preserved g c = (
 )
 
 pub spawn_with-started-requires-clause-runs : goal.spawn_with-started-requires-clause-runs
-spawn_with-started-requires-clause-runs g c κs within = ((c.in-Ok.ensures.taken, accepted 0 c.captures.jobs.now c.loop-i.i _ c.requires.3 c.loop-i-test.true), search rules)
+spawn_with-started-requires-clause-runs g c κs within = ((c.in-Ok.ensures.taken, accepted 0 c.captures.jobs.now c.loop-i.i _ c.requires.3 c.loop-i-test.true, c.requires.7, c.requires.8 c.loop-i.i _ c.loop-i-test.true), search rules)
 
 pub returns : goal.returns
 returns g c = grind (arith, common_steps)
