@@ -15,7 +15,7 @@ NUMBERS = {
     "small": Number(10, 1, 99, "the small queue of s3-fifo in percent (10)"),
 }
 # Those that the program takes: tools/reference has them, and check_random asks for them.
-TAKEN = ("main",)
+TAKEN = ("main", "in", "out", "small")
 DEFAULTS = {"spread": "mixed", **{name: number.default for name, number in NUMBERS.items()}}
 
 # How each policy is opened: of a capacity, options as those above, and the keys to come.
