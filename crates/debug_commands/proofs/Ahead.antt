@@ -33,19 +33,19 @@ behind_behind w v d = ap (λ t. record { text = t; at = d.at; fits = d.fits }) (
 -- ---- the first line
 
 module _ (t : TimelineData) where
-  fed_step : (room : ℕ) (l : List ℕ) (ls : List (List ℕ)) (p : TimelinePlace) → (ls ≡ [] → ⊥) → length l + 1 ≤ room → is_quit (command_line_of t.dialect l) ≡ false
+  pub fed_step : (room : ℕ) (l : List ℕ) (ls : List (List ℕ)) (p : TimelinePlace) → (ls ≡ [] → ⊥) → length l + 1 ≤ room → is_quit (command_line_of t.dialect l) ≡ false
       → dialogue_from t room (l ∷ ls) p ≡ answers (answer_to t p (command_line_of t.dialect l)) (dialogue_from t (room - (length l + 1)) ls)
   unfolding dialogue_from
   fed_step room l [] p some within other = absurd (some refl)
   fed_step room l (m ∷ ms) p some within other = cond-false _ _ _ (le-ltb room (length l + 1) within) ∙ cond-false _ _ _ other
 
-  quit_step : (room : ℕ) (l : List ℕ) (ls : List (List ℕ)) (p : TimelinePlace) → (ls ≡ [] → ⊥) → length l + 1 ≤ room → is_quit (command_line_of t.dialect l) ≡ true
+  pub quit_step : (room : ℕ) (l : List ℕ) (ls : List (List ℕ)) (p : TimelinePlace) → (ls ≡ [] → ⊥) → length l + 1 ≤ room → is_quit (command_line_of t.dialect l) ≡ true
       → dialogue_from t room (l ∷ ls) p ≡ ends p true
   unfolding dialogue_from
   quit_step room l [] p some within quits = absurd (some refl)
   quit_step room l (m ∷ ms) p some within quits = cond-false _ _ _ (le-ltb room (length l + 1) within) ∙ cond-true _ _ _ quits
 
-  last_step : (room : ℕ) (l : List ℕ) (p : TimelinePlace) → length l ≤ room
+  pub last_step : (room : ℕ) (l : List ℕ) (p : TimelinePlace) → length l ≤ room
       → dialogue_from t room (l ∷ []) p ≡ answers (answer_to t p (command_line_of t.dialect l)) (λ q. ends q true)
   unfolding dialogue_from
   last_step room l p within = cond-false _ _ _ (le-ltb room (length l) within)
@@ -62,19 +62,19 @@ module _ (t : TimelineData) where
 
 -- ---- what was read of a line
 
-fed_read : (fed : Bool) (left rest : Option (List ℕ)) (l : List ℕ) → fed ≡ true → Consumes left rest (l ++ feed fed) → Consumes left rest (l ++ 10 ∷ [])
+pub fed_read : (fed : Bool) (left rest : Option (List ℕ)) (l : List ℕ) → fed ≡ true → Consumes left rest (l ++ feed fed) → Consumes left rest (l ++ 10 ∷ [])
 fed_read true left rest l h c = c
 fed_read false left rest l h c = absurd (true≢false (sym h))
 
-unfed_read : (fed : Bool) (left rest : Option (List ℕ)) (l : List ℕ) → fed ≡ false → Consumes left rest (l ++ feed fed) → Consumes left rest (l ++ [])
+pub unfed_read : (fed : Bool) (left rest : Option (List ℕ)) (l : List ℕ) → fed ≡ false → Consumes left rest (l ++ feed fed) → Consumes left rest (l ++ [])
 unfed_read false left rest l h c = c
 unfed_read true left rest l h c = absurd (true≢false h)
 
-fed_room : (fed : Bool) (less n room : ℕ) → fed ≡ true → less + n + length (feed fed) ≡ room → less + n + 1 ≡ room
+pub fed_room : (fed : Bool) (less n room : ℕ) → fed ≡ true → less + n + length (feed fed) ≡ room → less + n + 1 ≡ room
 fed_room true less n room h e = omega (arith, e)
 fed_room false less n room h e = absurd (true≢false (sym h))
 
-unfed_room : (fed : Bool) (less n room : ℕ) → fed ≡ false → less + n + length (feed fed) ≡ room → less + n + 0 ≡ room
+pub unfed_room : (fed : Bool) (less n room : ℕ) → fed ≡ false → less + n + length (feed fed) ≡ room → less + n + 0 ≡ room
 unfed_room false less n room h e = omega (arith, e)
 unfed_room true less n room h e = absurd (true≢false h)
 
@@ -96,11 +96,11 @@ pub record IsAhead (t : TimelineData) (first : ℕ) (p : TimelinePlace) (room : 
   pub appended : Appends had has written
   pub follows : (bytes : List ℕ) → dialogue_of t first (read ++ bytes) ≡ behind written (dialogue_from t room (lines_of bytes) p)
 
-Consumes-none : (known : Option (List ℕ)) → Consumes known known []
+pub Consumes-none : (known : Option (List ℕ)) → Consumes known known []
 Consumes-none None = tt
 Consumes-none (Some xs) = refl
 
-Appends-none : (known : Option (List ℕ)) → Appends known known []
+pub Appends-none : (known : Option (List ℕ)) → Appends known known []
 Appends-none None = tt
 Appends-none (Some xs) = sym (append-nil xs)
 
@@ -175,11 +175,11 @@ over t first p room (Some xs) (Some ys) (Some zs) had has more used d a c w e =
       at = sym (ap (λ (x : Dialogue). x.at) whole);
     }
 
-always : (rest : Option (List ℕ)) (P : List ℕ → Type 0) → ((bytes : List ℕ) → P bytes) → IfSome rest P
+pub always : (rest : Option (List ℕ)) (P : List ℕ → Type 0) → ((bytes : List ℕ) → P bytes) → IfSome rest P
 always None P h = tt
 always (Some xs) P h = h xs
 
-at_the_end : (rest : Option (List ℕ)) (P : List ℕ → Type 0) → IsAtEnd rest → P [] → IfSome rest P
+pub at_the_end : (rest : Option (List ℕ)) (P : List ℕ → Type 0) → IsAtEnd rest → P [] → IfSome rest P
 at_the_end None P e h = tt
 at_the_end (Some xs) P e h = subst P (sym e) h
 
@@ -214,7 +214,7 @@ quit_line t p (Known command.Show) h = absurd (true≢false (sym h))
 quit_line t p (Known command.Own) h = absurd (true≢false (sym h))
 quit_line t p (Known command.Quit) h = refl
 
-quit_answer : (t : TimelineData) (p : TimelinePlace) (l : List ℕ) → is_quit (command_line_of t.dialect l) ≡ true
+pub quit_answer : (t : TimelineData) (p : TimelinePlace) (l : List ℕ) → is_quit (command_line_of t.dialect l) ≡ true
     → answer_to t p (command_line_of t.dialect l) ≡ record { text = []; place = p }
 quit_answer t p l h = quit_line t p (command_line_of t.dialect l) h
 

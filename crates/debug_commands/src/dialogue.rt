@@ -11,6 +11,7 @@ ghost use Rattle.debug_commands.specs.declared.breakpoint.Breakpoint.{Breakpoint
 ghost use Rattle.debug_commands.specs.declared.command.Command.TheVariants as command;
 ghost use Rattle.streams.specs.Tally.{Exhausts, FailsWhere, Spends};
 ghost use Rattle.streams.specs.Feeds.{HasNoFeed};
+ghost use Rattle.streams.specs.Part.{AppendsPart};
 
 use crate::breakpoint::{Breakpoint, first_holding};
 use crate::command::{Command, InputLine};
@@ -33,7 +34,8 @@ pub const MAX_BREAKPOINTS: usize = 64;
 /// the input. The output is flushed after each answer. Reads share their interruptions, and so do writes and flushes.
 ///
 /// Errors: `TooLarge` where a line goes past `MAX_COMMAND_BYTES` bytes of input; the lines before it are answered.
-/// `OutOfMemory`, `Read` and `Write` where an allocation, the input or the output failed; output may be partial then.
+/// `OutOfMemory`, `Read` and `Write` where an allocation, the input or the output failed: the answers that were written
+/// are then a beginning of those to all lines.
 pub fn answer_commands<T: Timeline, R: CountedRead, W: CountedWrite>(
     alloc: Global,
     timeline: &mut T,
@@ -49,6 +51,10 @@ pub fn answer_commands<T: Timeline, R: CountedRead, W: CountedWrite>(
     ensures large { result ≡ Err DebugFault.TooLarge → IfSome (R.remaining input.old) (λ bytes.
         WritesDialogue (dialogue_of (T.timeline timeline.old) (T.position timeline.old) bytes) false
         (W.contents out.old) (W.contents out.new) (T.position timeline.new)) }
+    // Whatever failed, it has written a beginning of that text.
+    ensures part { OnErr result (IfSome (R.remaining input.old) (λ bytes.
+        AppendsPart (W.contents out.old) (W.contents out.new)
+        (dialogue_of (T.timeline timeline.old) (T.position timeline.old) bytes).text)) }
     // The timeline's source never changes, also on errors.
     ensures source { T.source timeline.new ≡ T.source timeline.old }
     ensures usable { OnOk result (T.IsUsable timeline.new) }
@@ -133,6 +139,7 @@ fn send<W: CountedWrite>(
     budget: &mut RetryBudget,
 ) -> Result<(), WriteAllFault>
     ensures bytes { OnOk result (Appends (W.contents out.old) (W.contents out.new) text.now) }
+    ensures part { OnErr result (AppendsPart (W.contents out.old) (W.contents out.new) text.now) }
     ensures flushed { OnOk result (W.is_flushed out.new ≡ true) }
     ensures spent { OnOk result (Spends budget.old budget.new (W.tally out.old) (W.tally out.new)) }
     ensures exhausted { OnErr result (Exhausts budget.old (W.tally out.old) (W.tally out.new)) }

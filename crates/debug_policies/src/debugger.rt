@@ -1,11 +1,12 @@
 //! The debugger of two policies over one trace, and the two as it walks them.
-ghost use Rattle.std.specs.Prelude.{◌≡◌, Ok, Err, IfOk, IfErr, IfSome, OnOk, [], ◌∷◌, ℕ, true, false};
+ghost use Rattle.std.specs.Prelude.{◌≡◌, Ok, Err, IfOk, IfErr, IfSome, OnOk, OnErr, [], ◌∷◌, ℕ, true, false};
 ghost use Rattle.debug_commands.specs.Dialogue.{dialogue_of, WritesDialogue};
 ghost use Rattle.policies.specs.FaultyJobs.{faulty_in};
 ghost use Rattle.step_record.specs.Config.{config_fault};
 ghost use Rattle.debug_policies.specs.ConfigFault.{ReturnsConfig, UntouchedAtConfig};
 ghost use Rattle.debug_policies.specs.TwoPolicies.{access_facts, just_one, left_on_access, policies_timeline};
 ghost use Rattle.debug_policies.specs.TwoPolicies.{IsPartWalk};
+ghost use Rattle.streams.specs.Part.{AppendsPart};
 ghost use Rattle.streams.specs.Tally.{FailsWhere};
 
 use crate::divergence::{part, push_part};
@@ -23,7 +24,8 @@ use streams::{CountedRead, CountedWrite};
 ///
 /// Errors: `Config` with the index of the first job whose configuration `Config::check` refuses, before anything is
 /// read; `TooLarge` where a line goes past 2^20 bytes of input, with the lines before it answered; `OutOfMemory`,
-/// `Read` and `Write` where an allocation, the input or the output failed, after which output may be partial.
+/// `Read` and `Write` where an allocation, the input or the output failed: the answers that were written are then a
+/// beginning of those to all lines.
 pub fn run_debug<T: Threads, R: CountedRead, W: CountedWrite>(
     rt: &T,
     alloc: Global,

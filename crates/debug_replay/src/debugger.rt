@@ -1,8 +1,9 @@
 //! The debugger of a concurrent cache's journal, which walks a session.
-ghost use Rattle.std.specs.Prelude.{◌≡◌, ◌++◌, ℕ, Err, IfSome, OnOk, length, true, false};
+ghost use Rattle.std.specs.Prelude.{◌≡◌, ◌++◌, ℕ, Err, IfSome, OnOk, OnErr, length, true, false};
 ghost use Rattle.debug_commands.specs.Dialogue.{dialogue_of, WritesDialogue};
 ghost use Rattle.journal.specs.Session.{IsMovedTo};
 ghost use Rattle.debug_replay.specs.Replay.{replay_timeline, step_facts, hit_key, is_dropped, left_on_step};
+ghost use Rattle.streams.specs.Part.{AppendsPart};
 ghost use Rattle.streams.specs.Tally.{FailsWhere};
 
 use crate::shell_text::push_shell;
@@ -19,7 +20,8 @@ use streams::{CountedRead, CountedWrite, CountedWriter};
 /// where the commands brought it; its steps, applied and undone together, stay as they were, also where it fails.
 ///
 /// Errors: `TooLarge` where a line goes past 2^20 bytes of input, with the lines before it answered; `OutOfMemory`,
-/// `Read` and `Write` where an allocation, the input or the output failed, after which output may be partial.
+/// `Read` and `Write` where an allocation, the input or the output failed: the answers that were written are then a
+/// beginning of those to all lines.
 pub fn run_replay<R: CountedRead, W: CountedWrite>(
     alloc: Global,
     session: &mut Session<Shell>,
@@ -37,6 +39,10 @@ pub fn run_replay<R: CountedRead, W: CountedWrite>(
         (dialogue_of (replay_timeline session.old.opening (session.old.kept ++ session.old.tail))
         (length session.old.kept) bytes)
         false (W.contents out.old) (W.contents out.new) (length session.new.kept)) }
+    // Whatever failed, it has written a beginning of that text.
+    ensures part { OnErr result (IfSome (R.remaining commands.old) (λ bytes. AppendsPart (W.contents out.old)
+        (W.contents out.new) (dialogue_of (replay_timeline session.old.opening (session.old.kept ++ session.old.tail))
+        (length session.old.kept) bytes).text)) }
     // Whatever comes, the session stands somewhere in its own steps.
     ensures walked { IsMovedTo (length session.new.kept) session.old session.new }
     ensures config { (i : ℕ) → result ≡ Err (DebugFault.Config i) → ⊥ }

@@ -8,6 +8,9 @@ use Rattle.debug_commands.specs.Timeline.{TimelineData}
 use Rattle.debug_commands.specs.declared.fault.DebugFault.{DebugFault}
 use Rattle.debug_commands.specs.declared.fault.DebugFault.TheVariants.{TooLarge}
 use Rattle.debug_commands.proofs.Ahead.{a_round, begins, ends_at_large, ends_here, goes_on, said_is}
+use Rattle.debug_commands.proofs.Parts.{appends_known, cut_off, on_err, stops_here}
+use Rattle.std.specs.Io.KnownBytes.{append_known}
+use Rattle.streams.specs.Part.{AppendsPart}
 use Rattle.debug_commands.proofs.dialogue.answer_commands.Goals as goal
 
 pub lines-init : goal.lines-init
@@ -76,3 +79,19 @@ returns-then-is_last-clause-reads g c = grind (arith, common_steps)
 
 pub returns-then-is_last-clause-source : goal.returns-then-is_last-clause-source
 returns-then-is_last-clause-source g c = grind (arith, common_steps)
+
+pub returns-in_err-ended-clause-part : goal.returns-in_err-ended-clause-part
+returns-in_err-ended-clause-part g c = on_err c.from_residual.result (stops_here c.lines.invariant.ahead)
+
+pub returns-in_err-answer-clause-part : goal.returns-in_err-answer-clause-part
+returns-in_err-answer-clause-part g c = on_err c.from_residual-in_err-answer.result (stops_here c.lines.invariant.ahead)
+
+pub returns-in_err-send-clause-part : goal.returns-in_err-send-clause-part
+returns-in_err-send-clause-part g c =
+    let has = g.W.CountedWrite.contents c.lines.out in
+    let shown = c.as_slice-in-lines.result.now in
+    on_err c.from_residual-in_err-send.result (cut_off (g.W.CountedWrite.contents c.send.new.out) c.in_ok-ended.ended
+    (a_round (g.R.CountedRead.remaining c.read_line.new.input) (append_known has shown) c.lines.invariant.ahead c.lines.invariant.same
+    c.dialect.ensures c.as_slice.ensures.value c.line-input_line.ensures c.clear-in-lines.ensures.items c.in_ok-answer.ensures.answer
+    c.in_ok-ended.ensures.read c.in_ok-ended.ensures.feeds c.in_ok-ended.ensures.room c.as_slice-in-lines.ensures.value (appends_known has shown))
+    (λ none. c.in_ok-ended.ensures.end (ap Ok none)) (subst (AppendsPart has (g.W.CountedWrite.contents c.send.new.out)) c.as_slice-in-lines.ensures.value c.in_err-send.ensures.part))

@@ -1,3 +1,5 @@
+use Rattle.std.proofs.Common.{arith}
+use Rattle.std.proofs.lemmas.Grind.{elements}
 use Rattle.streams.proofs.Tallies.{further, later}
 use Rattle.debug_commands.proofs.Ahead.{flushed}
 use Rattle.debug_commands.proofs.Results.{at_fault, at_success}
@@ -13,3 +15,6 @@ returns-clause-spent g c = at_success c.flush.result _ _ (further _ _ _ _ _ _ c.
 
 pub returns-clause-exhausted : goal.returns-clause-exhausted
 returns-clause-exhausted g c = at_fault c.flush.result _ _ (later _ _ _ _ _ c.in_ok-write_some.ensures.spent) c.flush.ensures.exhausted
+
+pub returns-clause-part : goal.returns-clause-part
+returns-clause-part g c = grind (arith, elements)
