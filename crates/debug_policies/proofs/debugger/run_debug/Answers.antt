@@ -1,6 +1,6 @@
 use Rattle.std.proofs.Common.{◌≡◌, ◌∙◌, sym, Ok, true, false}
 use Rattle.step_record.specs.Config.{config_fault}
-use Rattle.debug_policies.proofs.Facts.{accepted, done_held, large_held, no_fault, none_written, part_held, untouched}
+use Rattle.debug_policies.proofs.Facts.{accepted, done_held, large_held, no_fault, untouched}
 use Rattle.debug_policies.proofs.debugger.run_debug.Goals as goal
 
 pub returns-clause-done : goal.returns-clause-done
