@@ -121,15 +121,15 @@ return-named q o e s =
     ∙ ap (λ (l : List Item). with_queue q l (named s)) (items-put o e (s (number_of q)) ∙ ap (put_behind o e.item) (queue-named q s))
 
 with-kept : (q : Queue) (l : List Entry) (s : ByNumber.Queues) → IsNamed s → IsNamed (ByNumber.with_queue (number_of q) l s)
-with-kept Window l s h = record { fourth = h.fourth; fifth = h.fifth }
-with-kept Probation l s h = record { fourth = h.fourth; fifth = h.fifth }
-with-kept Protected l s h = record { fourth = h.fourth; fifth = h.fifth }
+with-kept Window l s h = record { fourth = h.fourth }
+with-kept Probation l s h = record { fourth = h.fourth }
+with-kept Protected l s h = record { fourth = h.fourth }
 
 pub push-kept : (q : Queue) (e : Entry) (s : ByNumber.Queues) → IsNamed s → IsNamed (ByNumber.after_push (number_of q) e s)
 push-kept q e s h = with-kept q (s (number_of q) ++ e ∷ []) s h
 
 pub without-kept : (i : Item) (s : ByNumber.Queues) → IsNamed s → IsNamed (ByNumber.after_removal i s)
-without-kept i s h = record { fourth = ap (Entries.entries_without i) h.fourth; fifth = ap (Entries.entries_without i) h.fifth }
+without-kept i s h = record { fourth = ap (Entries.entries_without i) h.fourth }
 
 pub return-kept : (q : Queue) (o : Option Item) (e : Entry) (s : ByNumber.Queues) → IsNamed s → IsNamed (ByNumber.after_return (number_of q) o e s)
 return-kept q o e s h = with-kept q (Entries.put_behind o e (s (number_of q))) s h
@@ -156,25 +156,24 @@ holding-shown i s d h =
     let p = times-is i (s 1) in
     let r = times-is i (s 2) in
     let z : nat_lt 0 (Entries.occurrences i (s 3)) ≡ false = has-none (Entries.occurrences i (s 3)) (ap (Entries.occurrences i) h.fourth) in
-    let u : nat_lt 0 (Entries.occurrences i (s 4)) ≡ false = has-none (Entries.occurrences i (s 4)) (ap (Entries.occurrences i) h.fifth) in
     elim (cases_lt 0 (Entries.occurrences i (s 0))) [
       | inl a ↦
           let x = has-one (Entries.occurrences i (s 0)) (omega (arith, a)) in
           let y = has-none (Entries.occurrences i (s 1)) (omega (arith, few, a)) in
           let v = has-none (Entries.occurrences i (s 2)) (omega (arith, few, a)) in
-          rw (w, u, z, x, v, y) (in_queue Window)
+          rw (w, z, x, v, y) (in_queue Window)
       | inr a ↦
           let x = has-none (Entries.occurrences i (s 0)) (omega (arith, a)) in
           elim (cases_lt 0 (Entries.occurrences i (s 1))) [
             | inl b ↦
                 let y = has-one (Entries.occurrences i (s 1)) (omega (arith, b)) in
                 let v = has-none (Entries.occurrences i (s 2)) (omega (arith, few, b)) in
-                rw (w, p, u, z, x, v, y) (in_queue Probation)
+                rw (w, p, z, x, v, y) (in_queue Probation)
             | inr b ↦
                 let y = has-none (Entries.occurrences i (s 1)) (omega (arith, b)) in
                 elim (cases_lt 0 (Entries.occurrences i (s 2))) [
-                  | inl c ↦ let v = has-one (Entries.occurrences i (s 2)) (omega (arith, c)) in rw (w, p, r, u, z, x, y, v) (in_queue Protected)
-                  | inr c ↦ let v = has-none (Entries.occurrences i (s 2)) (omega (arith, c)) in rw (w, p, r, u, z, x, y, v) nowhere
+                  | inl c ↦ let v = has-one (Entries.occurrences i (s 2)) (omega (arith, c)) in rw (w, p, r, z, x, y, v) (in_queue Protected)
+                  | inr c ↦ let v = has-none (Entries.occurrences i (s 2)) (omega (arith, c)) in rw (w, p, r, z, x, y, v) nowhere
                 ]
           ]
     ]
@@ -199,8 +198,7 @@ missing-numbered i s h e =
     let p = has-none (Entries.occurrences i (s 1)) (sym (times-is i (s 1)) ∙ a.probation) in
     let r = has-none (Entries.occurrences i (s 2)) (sym (times-is i (s 2)) ∙ a.protected) in
     let z : nat_lt 0 (Entries.occurrences i (s 3)) ≡ false = has-none (Entries.occurrences i (s 3)) (ap (Entries.occurrences i) h.fourth) in
-    let u : nat_lt 0 (Entries.occurrences i (s 4)) ≡ false = has-none (Entries.occurrences i (s 4)) (ap (Entries.occurrences i) h.fifth) in
-    rw (u, z, r, p, w) refl
+    rw (z, r, p, w) refl
 
 place-at : (i : Item) (p : Place) (o : Option ℕ) (q : Option Queue) (s : ByNumber.Queues) → IsShown o q → Some p ≡ ByNumber.place_at i o s → Some (named_place p) ≡ item_place i q (named s)
 place-at i p o q s nowhere h = absurd (cc h)

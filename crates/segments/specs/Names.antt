@@ -29,7 +29,6 @@ shown_of s spare = record { lists = named s; spare = spare }
 -- the queues that have no name are empty
 pub record IsNamed (s : ByNumber.Queues) : Type 0 where
   pub fourth : s 3 ≡ []
-  pub fifth : s 4 ≡ []
 
 abbrev pub named_place : Place → QueuePlace
 named_place p = record { queue = name_of p.queue; older = p.older }

@@ -6,7 +6,7 @@ use Rattle.segments.proofs.NamedQueues.{distinct-named}
 use Rattle.segments.proofs.segments.Segments.for_items.Goals as goal
 
 empty : IsNamed ByNumber.empty_queues
-empty = record { fourth = refl; fifth = refl }
+empty = record { fourth = refl }
 
 pub invariant_of-result : goal.invariant_of-result
 invariant_of-result c = subst IsNamed (sym c.for_items.ensures.queues) empty
