@@ -13,7 +13,6 @@ returns-clause-large g c e =
     large_held (g.R.CountedRead.remaining c.args.commands.now) _ _ _ false (g.W.CountedWrite.contents c.args.out.now)
     (g.W.CountedWrite.contents c.answer_commands-answered.new.out) c.answer_commands-answered.new.timeline.first.at c.in_ok-both.ensures.timeline c.in_ok-both.ensures.start (c.answer_commands-answered.ensures.large e)
 
-
 pub returns-clause-config : goal.returns-clause-config
 returns-clause-config g c =
     let one : config_fault c.args.first.now.config ≡ Ok tt = sym c.check.ensures ∙ no_fault c.check.result (sym c.is_err.ensures.value ∙ c.if-is_err.false) in

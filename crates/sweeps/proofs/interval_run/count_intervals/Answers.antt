@@ -23,7 +23,7 @@ access_in_batches-requires g c =
         rest = drop every (drop (n * every) trace) ++ [];
         stands = c.loop-number.invariant.1;
         ahead = next-piece trace [] trace [] c.split_at.result.0.now (n * every) every piece (sym (append-nil trace));
-        few = c.keys-rest.ensures.few;
+        few = omega (arith, c.keys-rest.ensures.few);
       },
     )
 
