@@ -91,20 +91,20 @@ forgets : (policy : Policy) → is_clairvoyant policy ≡ false → knows_trace 
 forgets Clairvoyant other knows = cc other
 forgets _ other knows = cc knows
 
-each_forgets : (most : ℕ) (config : Config) (policies : List Policy) → list_any is_clairvoyant policies ≡ false
-    → All (CanFollow most) (jobs_by_policy config policies)
-each_forgets most config [] none = All-nil (CanFollow most)
-each_forgets most config (policy ∷ policies) none =
+each_forgets : (most : ℕ) (config : Config) (parts : Parts) (policies : List Policy) → list_any is_clairvoyant policies ≡ false
+    → All (CanFollow most) (jobs_by_policy config parts policies)
+each_forgets most config parts [] none = All-nil (CanFollow most)
+each_forgets most config parts (policy ∷ policies) none =
     let both = neither (is_clairvoyant policy) (list_any is_clairvoyant policies) none in
-    All-cons (CanFollow most) _ _ (λ knows. absurd (forgets policy both.0 knows)) (each_forgets most config policies both.1)
+    All-cons (CanFollow most) _ _ (λ knows. absurd (forgets policy both.0 knows)) (each_forgets most config parts policies both.1)
 
 -- the jobs of a `run` that is accepted can be run within its limits
-pub can_follow : (run : RunArguments) (jobs : List Job) → needs_whole_trace (Run run) ≡ false → jobs ≡ jobs_by_policy run.config run.policies
+pub can_follow : (run : RunArguments) (jobs : List Job) → needs_whole_trace (Run run) ≡ false → jobs ≡ jobs_by_policy run.config run.parts run.policies
     → All (CanFollow run.limits.accesses) jobs
 can_follow run jobs kept is = elim (cases_Bool (nat_lt MAX_ACCESSES run.limits.accesses)) [
   | inl long ↦
       let none : list_any is_clairvoyant run.policies ≡ false = rw long at kept in
-      subst (All (CanFollow run.limits.accesses)) (sym is) (each_forgets run.limits.accesses run.config run.policies none)
+      subst (All (CanFollow run.limits.accesses)) (sym is) (each_forgets run.limits.accesses run.config run.parts run.policies none)
   | inr short ↦ all_follow run.limits.accesses jobs (ltb-false MAX_ACCESSES run.limits.accesses short)
 ]
 

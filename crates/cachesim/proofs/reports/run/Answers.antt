@@ -21,14 +21,14 @@ run_reading_within-reports-requires-clause-due g c =
     search rules
 
 pub run_reading_within-reports-requires-clause-follow : goal.run_reading_within-reports-requires-clause-follow
-run_reading_within-reports-requires-clause-follow g c =
+run_reading_within-reports-requires-clause-follow g c κs within =
     can_follow c.args.arguments.now c.as_slice.result.now c.requires.kept (c.as_slice.ensures.value ∙ c.in_ok-jobs.ensures)
 
 pub run_reading_within-requires-clause-due : goal.run_reading_within-requires-clause-due
-run_reading_within-requires-clause-due g c = can_pass c.args.arguments.now c.requires.accepted
+run_reading_within-requires-clause-due g c κs within = can_pass c.args.arguments.now c.requires.accepted
 
 pub run_reading_within-requires-clause-follow : goal.run_reading_within-requires-clause-follow
-run_reading_within-requires-clause-follow g c = All-nil (CanFollow c.args.arguments.now.limits.accesses)
+run_reading_within-requires-clause-follow g c κs within = All-nil (CanFollow c.args.arguments.now.limits.accesses)
 
 pub returns-clause-text : goal.returns-clause-text
 returns-clause-text g c =
