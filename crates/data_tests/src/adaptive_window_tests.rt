@@ -48,8 +48,8 @@ fn step_over(
     apart: Key,
     target: u32,
 ) -> Result<(), Fail> {
-    for i in 0..160 {
-        session.step(first + i * apart)?;
+    for i in 0..160_u64 {
+        session.step(first.wrapping_add(i.wrapping_mul(apart)))?;
     }
     assert_equal(rt, session.engine().target(), target);
     Ok(())
