@@ -515,7 +515,7 @@ MISTAKES = {
     "a search that ends early": Mistake(check_percent_of_reach, "measures.py", "max(1, high // 100)", "max(1, high // 10)"),
     "a block that comes twice counted as used once": Mistake(check_beside_run, "measures.py", "if times == 1", "if times <= 2"),
     "options that are not handed on": Mistake(check_beside_run, "reports.py",
-                                              '"--spread", options.spread, "--main", main or options.main]', '"--main", "99"]'),
+                                              '"--spread", options.spread, "--main", main or options.main, *part]', '"--main", "99", *part]'),
     "no main": Mistake(check_beside_run, "reports.py", "main or options.main", '"99"'),
     "no large power of two": Mistake(check_jumps_and_powers, "measures.py", "for bits in range(1, 20)", "for bits in range(1, 13)"),
     "the largest power of two left out": Mistake(check_jumps_and_powers, "measures.py", "range(1, 20)", "range(1, 19)"),
