@@ -7,7 +7,7 @@ use Rattle.std.proofs.lemmas.Bool.{cases_Bool, le-leb, ltb-false}
 use Rattle.step_record.specs.Config.{config_fault, is_from_one}
 use Rattle.step_record.specs.declared.config.Config.{Config}
 use Rattle.step_record.specs.declared.job.Job.{Job}
-use Rattle.step_record.specs.declared.job.Parts.{Parts}
+use Rattle.step_record.specs.declared.job.Tuning.{Tuning}
 use Rattle.step_record.specs.declared.job.Policy.{Policy}
 use Rattle.step_record.specs.declared.job.Policy.TheVariants.{Clairvoyant}
 use Rattle.step_record.specs.declared.config.ConfigFault.{ConfigFault}
@@ -30,9 +30,9 @@ use Rattle.command_line.specs.declared.arguments.RunArguments.{RunArguments}
 use Rattle.command_line.specs.declared.arguments.SweepArguments.{SweepArguments}
 use Rattle.cachesim.specs.TraceOutput.{jobs_by_policy}
 
-no_fault : (config : Config) (parts : Parts) (i : ℕ) (policies : List Policy) → config_fault config ≡ Ok tt → faulty_from i (jobs_by_policy config parts policies) ≡ None
-no_fault config parts i [] ok = refl
-no_fault config parts i (policy ∷ policies) ok = rw ok (no_fault config parts (i + 1) policies ok)
+no_fault : (config : Config) (tuning : Tuning) (i : ℕ) (policies : List Policy) → config_fault config ≡ Ok tt → faulty_from i (jobs_by_policy config tuning policies) ≡ None
+no_fault config tuning i [] ok = refl
+no_fault config tuning i (policy ∷ policies) ok = rw ok (no_fault config tuning (i + 1) policies ok)
 
 in_batch : (batch : ℕ) → 1 ≤ batch → batch ≤ MAX_BATCH → is_from_one MAX_BATCH batch ≡ true
 in_batch batch some few = rw (le-leb 1 batch some, le-leb batch MAX_BATCH few) refl
@@ -50,28 +50,28 @@ at_each job i [] ok all = refl
 at_each job i (c ∷ cs) ok all =
     rw (at_other job.config c ok (All-head (λ n. is_from_one MAX_CAPACITY n ≡ true) c cs all)) (at_each job (i + 1) cs ok (All-tail (λ n. is_from_one MAX_CAPACITY n ≡ true) c cs all))
 
-no_config_fault : (config : Config) (parts : Parts) (policies : List Policy) (cs : List ℕ) → config_fault config ≡ Ok tt → AllPass (is_from_one MAX_CAPACITY) cs
-    → first_config_fault (jobs_by_policy config parts policies) cs ≡ None
-no_config_fault config parts [] cs ok all = refl
-no_config_fault config parts (policy ∷ policies) cs ok all =
-    rw (at_each (record { policy = policy; config = config; parts = parts }) 0 cs ok all) (no_config_fault config parts policies cs ok all)
+no_config_fault : (config : Config) (tuning : Tuning) (policies : List Policy) (cs : List ℕ) → config_fault config ≡ Ok tt → AllPass (is_from_one MAX_CAPACITY) cs
+    → first_config_fault (jobs_by_policy config tuning policies) cs ≡ None
+no_config_fault config tuning [] cs ok all = refl
+no_config_fault config tuning (policy ∷ policies) cs ok all =
+    rw (at_each (record { policy = policy; config = config; tuning = tuning }) 0 cs ok all) (no_config_fault config tuning policies cs ok all)
 
 -- so the jobs of an accepted `sweep` have no fault, if they are not too many
-pub can_sweep : (sweep : SweepArguments) (jobs : List Job) (capacities : List ℕ) → IsAcceptedSweep sweep → jobs ≡ jobs_by_policy sweep.config sweep.parts sweep.policies
+pub can_sweep : (sweep : SweepArguments) (jobs : List Job) (capacities : List ℕ) → IsAcceptedSweep sweep → jobs ≡ jobs_by_policy sweep.config sweep.tuning sweep.policies
     → capacities ≡ sweep.capacities → length jobs ≤ MAX_ACTORS → sweep_fault jobs capacities ≡ None
 can_sweep sweep jobs capacities accepted is same few =
-    rw (le-leb (length jobs) MAX_ACTORS few, is, same) (no_config_fault sweep.config sweep.parts sweep.policies sweep.capacities accepted.config accepted.capacities)
+    rw (le-leb (length jobs) MAX_ACTORS few, is, same) (no_config_fault sweep.config sweep.tuning sweep.policies sweep.capacities accepted.config accepted.capacities)
 
 -- so those of an accepted `intervals` have none
-pub can_count : (config : Config) (parts : Parts) (policies : List Policy) (jobs : List Job) → config_fault config ≡ Ok tt → jobs ≡ jobs_by_policy config parts policies
+pub can_count : (config : Config) (tuning : Tuning) (policies : List Policy) (jobs : List Job) → config_fault config ≡ Ok tt → jobs ≡ jobs_by_policy config tuning policies
     → length jobs ≤ MAX_ACTORS → intervals_fault jobs ≡ None
-can_count config parts policies jobs ok is few = rw (le-leb (length jobs) MAX_ACTORS few, is) (no_fault config parts 0 policies ok)
+can_count config tuning policies jobs ok is few = rw (le-leb (length jobs) MAX_ACTORS few, is) (no_fault config tuning 0 policies ok)
 
 -- and those of an accepted `run` can be run, if they are not too many
-pub can_run : (run : RunArguments) (jobs : List Job) → IsAcceptedRun run → jobs ≡ jobs_by_policy run.config run.parts run.policies → length jobs ≤ MAX_ACTORS
+pub can_run : (run : RunArguments) (jobs : List Job) → IsAcceptedRun run → jobs ≡ jobs_by_policy run.config run.tuning run.policies → length jobs ≤ MAX_ACTORS
     → actor_fault run.batch jobs ≡ None
 can_run run jobs accepted is few =
-    rw (in_batch run.batch accepted.some accepted.few) (can_count run.config run.parts run.policies jobs accepted.config is few)
+    rw (in_batch run.batch accepted.some accepted.few) (can_count run.config run.tuning run.policies jobs accepted.config is few)
 
 -- and the two of an accepted `part` have no fault
 pub pair_accepted : (part : PartArguments) → IsAcceptedPart part → faulty_in (part.first ∷ part.second ∷ []) ≡ None
@@ -91,20 +91,20 @@ forgets : (policy : Policy) → is_clairvoyant policy ≡ false → knows_trace 
 forgets Clairvoyant other knows = cc other
 forgets _ other knows = cc knows
 
-each_forgets : (most : ℕ) (config : Config) (parts : Parts) (policies : List Policy) → list_any is_clairvoyant policies ≡ false
-    → All (CanFollow most) (jobs_by_policy config parts policies)
-each_forgets most config parts [] none = All-nil (CanFollow most)
-each_forgets most config parts (policy ∷ policies) none =
+each_forgets : (most : ℕ) (config : Config) (tuning : Tuning) (policies : List Policy) → list_any is_clairvoyant policies ≡ false
+    → All (CanFollow most) (jobs_by_policy config tuning policies)
+each_forgets most config tuning [] none = All-nil (CanFollow most)
+each_forgets most config tuning (policy ∷ policies) none =
     let both = neither (is_clairvoyant policy) (list_any is_clairvoyant policies) none in
-    All-cons (CanFollow most) _ _ (λ knows. absurd (forgets policy both.0 knows)) (each_forgets most config parts policies both.1)
+    All-cons (CanFollow most) _ _ (λ knows. absurd (forgets policy both.0 knows)) (each_forgets most config tuning policies both.1)
 
 -- the jobs of a `run` that is accepted can be run within its limits
-pub can_follow : (run : RunArguments) (jobs : List Job) → needs_whole_trace (Run run) ≡ false → jobs ≡ jobs_by_policy run.config run.parts run.policies
+pub can_follow : (run : RunArguments) (jobs : List Job) → needs_whole_trace (Run run) ≡ false → jobs ≡ jobs_by_policy run.config run.tuning run.policies
     → All (CanFollow run.limits.accesses) jobs
 can_follow run jobs kept is = elim (cases_Bool (nat_lt MAX_ACCESSES run.limits.accesses)) [
   | inl long ↦
       let none : list_any is_clairvoyant run.policies ≡ false = rw long at kept in
-      subst (All (CanFollow run.limits.accesses)) (sym is) (each_forgets run.limits.accesses run.config run.parts run.policies none)
+      subst (All (CanFollow run.limits.accesses)) (sym is) (each_forgets run.limits.accesses run.config run.tuning run.policies none)
   | inr short ↦ all_follow run.limits.accesses jobs (ltb-false MAX_ACCESSES run.limits.accesses short)
 ]
 

@@ -2,7 +2,7 @@
 use Rattle.std.specs.Prelude.{◌≡◌, ℕ, List, Option, None, Some, IfSome, flat_map, map}
 use Rattle.step_record.specs.declared.config.Config.{Config}
 use Rattle.step_record.specs.declared.job.Job.{Job}
-use Rattle.step_record.specs.declared.job.Parts.{Parts}
+use Rattle.step_record.specs.declared.job.Tuning.{Tuning}
 use Rattle.step_record.specs.declared.job.Policy.{Policy}
 use Rattle.step_record.specs.declared.limits.TheConstants.{MAX_ACCESSES}
 use Rattle.command_line.specs.declared.arguments.Arguments.{Arguments}
@@ -22,10 +22,10 @@ use Rattle.debug_policies.specs.ComparedIntervals.{compared_intervals_on, compar
 use Rattle.debug_policies.specs.Comparison.{compared_on, comparison_text}
 use Rattle.debug_policies.specs.Part.{part_line, IsPart}
 
--- one job for each policy, all on one configuration with parts of one size
-abbrev pub jobs_by_policy : Config → Parts → List Policy → List Job
-jobs_by_policy config parts policies =
-    map (λ policy. record { policy = policy; config = config; parts = parts }) policies
+-- one job for each policy, all on one configuration with one tuning
+abbrev pub jobs_by_policy : Config → Tuning → List Policy → List Job
+jobs_by_policy config tuning policies =
+    map (λ policy. record { policy = policy; config = config; tuning = tuning }) policies
 
 -- the report of each job over the accesses: it counts the outcomes of its policy's definition
 abbrev pub reports_on : List Job → List ℕ → List Report
@@ -55,12 +55,12 @@ IfFaultless = IfFaultlessWithin MAX_ACCESSES
 -- `compare` the header and the row of what is counted of both, or a row for each interval.
 abbrev pub IsText : Arguments → List ℕ → List ℕ → Type 0
 IsText (asked.Run run) keys text =
-    text ≡ reports_text (reports_on (jobs_by_policy run.config run.parts run.policies) keys)
+    text ≡ reports_text (reports_on (jobs_by_policy run.config run.tuning run.policies) keys)
 IsText (asked.Sweep sweep) keys text =
-    text ≡ reports_text (reports_on (jobs_over (jobs_by_policy sweep.config sweep.parts sweep.policies) sweep.capacities)
+    text ≡ reports_text (reports_on (jobs_over (jobs_by_policy sweep.config sweep.tuning sweep.policies) sweep.capacities)
     keys)
 IsText (asked.Intervals intervals) keys text =
-    text ≡ intervals_text (rows_on intervals.every (jobs_by_policy intervals.config intervals.parts intervals.policies)
+    text ≡ intervals_text (rows_on intervals.every (jobs_by_policy intervals.config intervals.tuning intervals.policies)
     keys)
 IsText (asked.Part part) keys text = (found : Option ℕ)
     × IsPart (outcomes_on part.first keys) (outcomes_on part.second keys) found × (text ≡ part_line found)

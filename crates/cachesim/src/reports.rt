@@ -21,7 +21,7 @@ use report::{intervals_text, reports_text};
 use std::alloc::{AllocError, Global};
 use std::sync::Wait;
 use std::thread::Threads;
-use step_record::{Config, Job, MAX_BATCH, Parts, Trace};
+use step_record::{Config, Job, MAX_BATCH, Tuning, Trace};
 use streams::CountedRead;
 use sweeps::{sweep_batches, sweep_each};
 use trace_read::read_trace;
@@ -52,7 +52,7 @@ pub fn run<T: Threads + Wait + Sync, R: CountedRead, P: Watch>(
     let jobs = jobs(
         alloc,
         arguments.config,
-        arguments.parts,
+        arguments.tuning,
         &arguments.policies,
     )?;
     watch.begin("run", None);
@@ -86,7 +86,7 @@ pub fn sweep<T: Threads + Sync, P: Watch>(
     let jobs = few_jobs(
         alloc,
         arguments.config,
-        arguments.parts,
+        arguments.tuning,
         &arguments.policies,
     )?;
     let capacities = arguments.capacities.as_slice();
@@ -115,7 +115,7 @@ pub fn intervals<T: Threads + Sync, P: Watch>(
     let jobs = few_jobs(
         alloc,
         arguments.config,
-        arguments.parts,
+        arguments.tuning,
         &arguments.policies,
     )?;
     let every = arguments.every as usize;
@@ -226,14 +226,14 @@ fn interval_batches(accesses: usize, every: usize) -> usize
     whole.saturating_add((accesses % every).div_ceil(size))
 }
 
-// A job for each policy, in order, all on one configuration with parts of one size. The one error is out of memory.
+// A job for each policy, in order, all on one configuration with one tuning. The one error is out of memory.
 fn jobs(
     alloc: Global,
     config: Config,
-    parts: Parts,
+    tuning: Tuning,
     policies: &PolicyList,
 ) -> Result<Vec<Job>, AllocError>
-    ensures { IfOk result (λ jobs. jobs.items ≡ jobs_by_policy config parts policies.now) }
+    ensures { IfOk result (λ jobs. jobs.items ≡ jobs_by_policy config tuning policies.now) }
 {
     policies
         .as_slice()
@@ -241,7 +241,7 @@ fn jobs(
         .map(|policy| Job {
             policy: *policy,
             config,
-            parts,
+            tuning,
         })
         .collect(alloc)
 }
@@ -250,14 +250,14 @@ fn jobs(
 fn few_jobs(
     alloc: Global,
     config: Config,
-    parts: Parts,
+    tuning: Tuning,
     policies: &PolicyList,
 ) -> Result<Vec<Job>, Fault>
-    ensures jobs { IfOk result (λ jobs. jobs.items ≡ jobs_by_policy config parts policies.now) }
+    ensures jobs { IfOk result (λ jobs. jobs.items ≡ jobs_by_policy config tuning policies.now) }
     ensures few { IfOk result (λ jobs. length jobs.items ≤ MAX_ACTORS) }
     ensures fault { IfErr result (λ fault. (fault ≡ Fault.OutOfMemory) ⊎ IsTooMany policies.now fault) }
 {
-    let jobs = jobs(alloc, config, parts, policies)?;
+    let jobs = jobs(alloc, config, tuning, policies)?;
     if jobs.len() > MAX_ACTORS {
         return Err(Fault::Actors);
     }

@@ -10,7 +10,7 @@ use Rattle.trace_read.specs.declared.format.Format.TheVariants.{Lirs}
 use Rattle.trace_read.specs.declared.limits.TheConstants.Limits.{DEFAULT}
 use Rattle.command_line.specs.Choices.{format_words, policy_named, policy_words, spread_words}
 use Rattle.command_line.specs.Program.{program_app}
-use Rattle.command_line.specs.Values.{asked_in, config_at, number_named, parts_in, run_in}
+use Rattle.command_line.specs.Values.{asked_in, config_at, number_named, tuning_in, run_in}
 use Rattle.command_line.specs.declared.arguments.Arguments.TheVariants.{Run}
 use Rattle.command_line.specs.declared.choices.WordLists.{WordLists}
 
@@ -33,13 +33,13 @@ taken = refl
 
 named : asked_in (subcommand_of (program_app lists) words) ≡ Ok (Run (record {
   config = record { capacity = 3; main_percent = 50; spread = Mixed; stripes = 1; journal_limit = 1 };
-  parts = record { small = 10; kin = 25; kout = 40 };
+  tuning = record { small = 10; kin = 25; kout = 40 };
   policies = WindowTinyLfu ∷ Lru ∷ [];
   batch = 1024;
   format = Lirs;
   limits = DEFAULT;
 }))
-unfolding clap_on_literals lib.Count.ones config_at number_named parts_in policy_named run_in
+unfolding clap_on_literals lib.Count.ones config_at number_named tuning_in policy_named run_in
 named = refl
 
 answered : (fault_of (program_app lists) (codes "run" ∷ codes "--help" ∷ []) ≡ kind.DisplayHelp ∷ [])

@@ -5,7 +5,7 @@ use Rattle.step_record.specs.Config.{config_fault, is_from_one}
 use Rattle.step_record.specs.declared.config.Config.{Config}
 use Rattle.step_record.specs.declared.limits.TheConstants.{MAX_ACCESSES, MAX_BATCH, MAX_CAPACITY}
 use Rattle.step_record.specs.declared.limits.TheConstants.{MAX_GHOST_PERCENT, MAX_PART_PERCENT}
-use Rattle.step_record.specs.declared.job.Parts.{Parts}
+use Rattle.step_record.specs.declared.job.Tuning.{Tuning}
 use Rattle.step_record.specs.declared.job.Policy.{Policy}
 use Rattle.step_record.specs.declared.job.Policy.TheVariants.{Clairvoyant}
 use Rattle.step_record.specs.declared.worker.TheConstants.{MAX_WORKERS}
@@ -25,14 +25,14 @@ abbrev pub IsConfig : Config → Type 0
 IsConfig config = config_fault config ≡ Ok tt
 
 -- each part has a size that is one of such a part
-pub record AreParts (parts : Parts) : Type 0 where
-  pub small : (1 ≤ parts.small) × (parts.small ≤ MAX_PART_PERCENT)
-  pub kin : (1 ≤ parts.kin) × (parts.kin ≤ MAX_PART_PERCENT)
-  pub kout : (1 ≤ parts.kout) × (parts.kout ≤ MAX_GHOST_PERCENT)
+pub record IsTuning (tuning : Tuning) : Type 0 where
+  pub small : (1 ≤ tuning.small) × (tuning.small ≤ MAX_PART_PERCENT)
+  pub kin : (1 ≤ tuning.kin) × (tuning.kin ≤ MAX_PART_PERCENT)
+  pub kout : (1 ≤ tuning.kout) × (tuning.kout ≤ MAX_GHOST_PERCENT)
 
 pub record IsAcceptedRun (run : RunArguments) : Type 0 where
   pub config : config_fault run.config ≡ Ok tt
-  pub parts : AreParts run.parts
+  pub tuning : IsTuning run.tuning
   pub some : 1 ≤ run.batch
   pub few : run.batch ≤ MAX_BATCH
   pub accesses : run.limits.accesses ≤ MAX_LONG_ACCESSES
@@ -40,20 +40,20 @@ pub record IsAcceptedRun (run : RunArguments) : Type 0 where
 
 pub record IsAcceptedSweep (sweep : SweepArguments) : Type 0 where
   pub config : config_fault sweep.config ≡ Ok tt
-  pub parts : AreParts sweep.parts
+  pub tuning : IsTuning sweep.tuning
   pub capacities : AllPass (is_from_one MAX_CAPACITY) sweep.capacities
 
 pub record AreAcceptedIntervals (intervals : IntervalsArguments) : Type 0 where
   pub config : config_fault intervals.config ≡ Ok tt
-  pub parts : AreParts intervals.parts
+  pub tuning : IsTuning intervals.tuning
   pub some : 1 ≤ intervals.every
   pub few : intervals.every ≤ MAX_ACCESSES
 
 pub record IsAcceptedPart (part : PartArguments) : Type 0 where
   pub first : config_fault part.first.config ≡ Ok tt
   pub second : config_fault part.second.config ≡ Ok tt
-  pub first_parts : AreParts part.first.parts
-  pub second_parts : AreParts part.second.parts
+  pub first_tuning : IsTuning part.first.tuning
+  pub second_tuning : IsTuning part.second.tuning
 
 -- an interval has at least one access, where the accesses are cut into such
 pub record IsAcceptedComparison (compare : CompareArguments) : Type 0 where

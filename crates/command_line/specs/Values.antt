@@ -12,7 +12,7 @@ use Rattle.step_record.specs.Config.{config_fault}
 use Rattle.step_record.specs.declared.limits.TheConstants.{MAX_STRIPES}
 use Rattle.step_record.specs.declared.config.Config.{Config}
 use Rattle.step_record.specs.declared.config.Spread.{Spread}
-use Rattle.step_record.specs.declared.job.Parts.{Parts}
+use Rattle.step_record.specs.declared.job.Tuning.{Tuning}
 use Rattle.step_record.specs.declared.job.Policy.{Policy}
 use Rattle.trace_read.specs.declared.format.Format.{Format}
 use Rattle.trace_read.specs.declared.limits.Limits.{Limits}
@@ -121,54 +121,54 @@ concurrent_in rows = option_and_then (λ stripes. option_and_then (λ capacity. 
     (number_in option.Limit rows)) (number_in option.Capacity rows))
     (option_and_then stripes_from (wide_number_in option.Stripes rows))
 
--- the sizes of the parts of policies
-unfoldable pub parts_in : List Row → Option Parts
-parts_in rows = option_and_then (λ small. option_and_then (λ kin. option_map (λ kout.
+-- the tuning of policies
+unfoldable pub tuning_in : List Row → Option Tuning
+tuning_in rows = option_and_then (λ small. option_and_then (λ kin. option_map (λ kout.
     record { small = small; kin = kin; kout = kout })
     (number_in option.Out rows)) (number_in option.In rows)) (number_in option.Small rows)
 
 -- ---- what a subcommand is asked for; none where its matches are incomplete
 
 unfoldable pub run_in : List Row → Option Arguments
-run_in rows = option_and_then (λ config. option_and_then (λ parts. option_and_then (λ batch. option_map (λ policies.
+run_in rows = option_and_then (λ config. option_and_then (λ tuning. option_and_then (λ batch. option_map (λ policies.
     asked.Run (record {
       config = config;
-      parts = parts;
+      tuning = tuning;
       policies = policies;
       batch = batch;
       format = format_in rows;
       limits = limits_in rows;
     }))
-    (policies_in option.Policies rows)) (number_in option.Batch rows)) (parts_in rows)) (config_in rows)
+    (policies_in option.Policies rows)) (number_in option.Batch rows)) (tuning_in rows)) (config_in rows)
 
 -- each capacity replaces the configuration's
 unfoldable pub sweep_in : List Row → Option Arguments
-sweep_in rows = option_and_then (λ config. option_and_then (λ parts. option_and_then (λ policies. option_map (λ capacities.
+sweep_in rows = option_and_then (λ config. option_and_then (λ tuning. option_and_then (λ policies. option_map (λ capacities.
     asked.Sweep (record {
       config = config;
-      parts = parts;
+      tuning = tuning;
       policies = policies;
       capacities = capacities;
       format = format_in rows;
-    })) (capacities_in rows)) (policies_in option.SweptPolicies rows)) (parts_in rows)) (config_at 1 1 1 rows)
+    })) (capacities_in rows)) (policies_in option.SweptPolicies rows)) (tuning_in rows)) (config_at 1 1 1 rows)
 
 unfoldable pub intervals_in : List Row → Option Arguments
-intervals_in rows = option_and_then (λ config. option_and_then (λ parts. option_and_then (λ every. option_map (λ policies.
+intervals_in rows = option_and_then (λ config. option_and_then (λ tuning. option_and_then (λ every. option_map (λ policies.
     asked.Intervals (record {
       config = config;
-      parts = parts;
+      tuning = tuning;
       policies = policies;
       every = every;
       format = format_in rows;
-    })) (policies_in option.Policies rows)) (number_in option.Every rows)) (parts_in rows)) (config_in rows)
+    })) (policies_in option.Policies rows)) (number_in option.Every rows)) (tuning_in rows)) (config_in rows)
 
--- two policies on one configuration with parts of one size
+-- two policies on one configuration with one tuning
 unfoldable pub part_in : List Row → Option PartArguments
-part_in rows = option_and_then (λ config. option_and_then (λ parts. option_and_then (λ first. option_map (λ second. record {
-  first = record { policy = first; config = config; parts = parts };
-  second = record { policy = second; config = config; parts = parts };
+part_in rows = option_and_then (λ config. option_and_then (λ tuning. option_and_then (λ first. option_map (λ second. record {
+  first = record { policy = first; config = config; tuning = tuning };
+  second = record { policy = second; config = config; tuning = tuning };
   format = format_in rows;
-}) (policy_in option.Second rows)) (policy_in option.First rows)) (parts_in rows)) (config_in rows)
+}) (policy_in option.Second rows)) (policy_in option.First rows)) (tuning_in rows)) (config_in rows)
 
 -- how long an interval is, where it is given
 unfoldable pub compare_in : List Row → Option Arguments

@@ -1,15 +1,15 @@
 //! What a call asks for, as typed values, and how they are made of the matches of a subcommand.
 ghost use Rattle.std.specs.Prelude.{◌≡◌};
-ghost use Rattle.command_line.specs.Accepted.{AreAccepted, AreParts, IsAcceptedPart, IsConfig};
+ghost use Rattle.command_line.specs.Accepted.{AreAccepted, IsTuning, IsAcceptedPart, IsConfig};
 ghost use Rattle.command_line.specs.Values.{Answers, compare_in, concurrent_in, config_at, config_in, debug_in, drive_in};
-ghost use Rattle.command_line.specs.Values.{intervals_in, part_in, parts_in, replay_in, run_in, sweep_in};
+ghost use Rattle.command_line.specs.Values.{intervals_in, part_in, tuning_in, replay_in, run_in, sweep_in};
 
 use crate::fault::{ValueFault, ValueResult};
 use crate::lists::{CapacityList, FilePath, PolicyList};
 use crate::options::OptionName;
 use crate::values::{Matches, stripes_from};
 use std::alloc::Global;
-use step_record::{Config, Job, Parts};
+use step_record::{Config, Job, Tuning};
 use trace_read::{Format, Limits};
 
 /// What a call asks for: its subcommand, with its arguments.
@@ -38,8 +38,8 @@ pub enum Arguments {
 pub struct RunArguments {
     /// The configuration of each policy. Its numbers are in their ranges.
     pub config: Config,
-    /// The sizes of the parts of the policies.
-    pub parts: Parts,
+    /// What is chosen of the policies.
+    pub tuning: Tuning,
     /// The policies, in the order of their reports.
     pub policies: PolicyList,
     /// How many accesses a policy is given at once: 1 to `MAX_BATCH`.
@@ -55,8 +55,8 @@ pub struct RunArguments {
 pub struct SweepArguments {
     /// The configuration of each policy at capacity 1, which each of `capacities` replaces.
     pub config: Config,
-    /// The sizes of the parts of the policies.
-    pub parts: Parts,
+    /// What is chosen of the policies.
+    pub tuning: Tuning,
     /// The policies, in the order of their reports: those of the first at each capacity come first.
     pub policies: PolicyList,
     /// The capacities, in the order of a policy's reports: each is 1 to `MAX_CAPACITY`.
@@ -70,8 +70,8 @@ pub struct SweepArguments {
 pub struct IntervalsArguments {
     /// The configuration of each policy. Its numbers are in their ranges.
     pub config: Config,
-    /// The sizes of the parts of the policies.
-    pub parts: Parts,
+    /// What is chosen of the policies.
+    pub tuning: Tuning,
     /// The policies, in the order of their rows.
     pub policies: PolicyList,
     /// How many accesses an interval has: 1 to `MAX_ACCESSES`.
@@ -83,7 +83,7 @@ pub struct IntervalsArguments {
 /// The arguments of `part`, and of each call about two policies.
 #[derive(Clone, Copy)]
 pub struct PartArguments {
-    /// The one policy, with the configuration and the sizes of parts of both.
+    /// The one policy, with the configuration and the tuning of both.
     pub first: Job,
     /// The other policy.
     pub second: Job,
@@ -135,12 +135,12 @@ pub(crate) fn run(alloc: Global, asked: &Matches<'_, '_>) -> ValueResult<Argumen
     ensures { Answers (run_in asked.now) AreAccepted result }
 {
     let config = policy_config(asked)?;
-    let parts = parts(asked)?;
+    let tuning = tuning(asked)?;
     let batch = asked.number(OptionName::Batch)?;
     let policies = asked.policies(alloc, OptionName::Policies)?;
     Ok(Arguments::Run(RunArguments {
         config,
-        parts,
+        tuning,
         policies,
         batch,
         format: asked.format(),
@@ -154,12 +154,12 @@ pub(crate) fn sweep(alloc: Global, asked: &Matches<'_, '_>) -> ValueResult<Argum
     ensures { Answers (sweep_in asked.now) AreAccepted result }
 {
     let config = config(asked, 1, 1, 1)?;
-    let parts = parts(asked)?;
+    let tuning = tuning(asked)?;
     let policies = asked.policies(alloc, OptionName::SweptPolicies)?;
     let capacities = asked.capacities(alloc)?;
     Ok(Arguments::Sweep(SweepArguments {
         config,
-        parts,
+        tuning,
         policies,
         capacities,
         format: asked.format(),
@@ -172,12 +172,12 @@ pub(crate) fn intervals(alloc: Global, asked: &Matches<'_, '_>) -> ValueResult<A
     ensures { Answers (intervals_in asked.now) AreAccepted result }
 {
     let config = policy_config(asked)?;
-    let parts = parts(asked)?;
+    let tuning = tuning(asked)?;
     let every = asked.number(OptionName::Every)?;
     let policies = asked.policies(alloc, OptionName::Policies)?;
     Ok(Arguments::Intervals(IntervalsArguments {
         config,
-        parts,
+        tuning,
         policies,
         every,
         format: asked.format(),
@@ -190,19 +190,19 @@ pub(crate) fn part(asked: &Matches<'_, '_>) -> ValueResult<PartArguments>
     ensures { Answers (part_in asked.now) IsAcceptedPart result }
 {
     let config = policy_config(asked)?;
-    let parts = parts(asked)?;
+    let tuning = tuning(asked)?;
     let first = asked.policy(OptionName::First)?;
     let second = asked.policy(OptionName::Second)?;
     Ok(PartArguments {
         first: Job {
             policy: first,
             config,
-            parts,
+            tuning,
         },
         second: Job {
             policy: second,
             config,
-            parts,
+            tuning,
         },
         format: asked.format(),
     })
@@ -260,15 +260,15 @@ fn policy_config(asked: &Matches<'_, '_>) -> ValueResult<Config>
     config(asked, capacity, 1, 1)
 }
 
-// The sizes of the parts of policies that the matches name.
-#[tactic(auto, unfolding(crate::specs::Values::parts_in))]
-fn parts(asked: &Matches<'_, '_>) -> ValueResult<Parts>
-    ensures { Answers (parts_in asked.now) AreParts result }
+// The tuning of policies that the matches name.
+#[tactic(auto, unfolding(crate::specs::Values::tuning_in))]
+fn tuning(asked: &Matches<'_, '_>) -> ValueResult<Tuning>
+    ensures { Answers (tuning_in asked.now) IsTuning result }
 {
     let small = asked.number(OptionName::Small)?;
     let kin = asked.number(OptionName::In)?;
     let kout = asked.number(OptionName::Out)?;
-    Ok(Parts {
+    Ok(Tuning {
         small: small as u8,
         kin: kin as u8,
         kout: kout as u8,

@@ -12,7 +12,7 @@ use std::sync::atomic::AtomicU64;
 use std::sync::atomic::Ordering::SeqCst;
 use std::test::Fail;
 use std::thread::Threads;
-use step_record::{Config, Gate, Job, Key, OpenGate, Parts, Policy, Spread, Trace};
+use step_record::{Config, Gate, Job, Key, OpenGate, Tuning, Policy, Spread, Trace};
 use streams::{CountedReader, CountedWriter};
 
 const fn at_two(policy: Policy) -> Job {
@@ -25,7 +25,7 @@ const fn at_two(policy: Policy) -> Job {
             stripes: 1,
             journal_limit: 1,
         },
-        parts: Parts::PUBLISHED,
+        tuning: Tuning::PUBLISHED,
     }
 }
 
@@ -39,7 +39,7 @@ fn trace_of(alloc: Global, keys: &[Key]) -> Result<Trace, Fail> {
 // Accesses, a policy beside Lru, and the first access at which just one of the two hits. At the fifth access Lru
 // holds 2 and 3; SegmentedLru protected 1 at the second, and holds 3 and 1. The optimal policy rejects 3 and hits 1
 // and 2, of which Lru evicts 1 for 3 and 2 for 1; where no key comes twice, neither hits.
-const PARTS: [(&[Key], Policy, Option<u64>); 3] = [
+const CHOSEN: [(&[Key], Policy, Option<u64>); 3] = [
     (&[1, 1, 2, 3, 1], Policy::SegmentedLru, Some(5)),
     (&[1, 2, 3, 1, 2], Policy::Clairvoyant, Some(4)),
     (&[1, 2, 3, 4], Policy::Clairvoyant, None),
@@ -47,7 +47,7 @@ const PARTS: [(&[Key], Policy, Option<u64>); 3] = [
 
 #[test]
 fn the_first_access_at_which_just_one_hits(rt: HostRuntime) -> Result<(), Fail> {
-    for (keys, policy, wanted) in PARTS {
+    for (keys, policy, wanted) in CHOSEN {
         let trace = trace_of(rt.alloc(), keys)?;
         let (lru, other) = (at_two(Policy::Lru), at_two(policy));
         match part(&rt, rt.alloc(), &trace, &lru, &other) {

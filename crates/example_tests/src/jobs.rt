@@ -1,5 +1,5 @@
 //! The configuration and the job of the tests.
-use step_record::{Config, Job, Parts, Policy, Spread};
+use step_record::{Config, Job, Tuning, Policy, Spread};
 
 // A small cache with one read buffer.
 pub(crate) const SMALL: Config = Config {
@@ -14,5 +14,5 @@ pub(crate) const SMALL: Config = Config {
 pub(crate) const LRU: Job = Job {
     policy: Policy::Lru,
     config: SMALL,
-    parts: Parts::PUBLISHED,
+    tuning: Tuning::PUBLISHED,
 };

@@ -3,7 +3,7 @@
 use Rattle.std.specs.Prelude.{ℕ, Bool, true, false}
 use Rattle.step_record.specs.declared.config.Config.{Config}
 use Rattle.step_record.specs.declared.job.Job.{Job}
-use Rattle.step_record.specs.declared.job.Parts.{Parts}
+use Rattle.step_record.specs.declared.job.Tuning.{Tuning}
 use Rattle.step_record.specs.Job.{part_size}
 use Rattle.step_record.specs.declared.job.Policy.{Policy}
 use Rattle.step_record.specs.declared.job.Policy.TheVariants.{Lru, SegmentedLru, TinyLfuLru, TinyLfuSegmented}
@@ -63,15 +63,15 @@ rules_by d c = record (sizes_by d.layout c) { hits = d.hits }
 
 -- ---- a design that keeps each missed key
 
-abbrev pub two_q_sizes : Parts → ℕ → TwoQSizes
-two_q_sizes parts c = record { kin = part_size parts.kin c; kout = part_size parts.kout c }
+abbrev pub two_q_sizes : Tuning → ℕ → TwoQSizes
+two_q_sizes tuning c = record { kin = part_size tuning.kin c; kout = part_size tuning.kout c }
 
 -- the policy of a job, with the sizes of its parts
 abbrev pub demand_policy : DemandDesign → Job → DemandPolicy
 demand_policy demand.Clock j = sized.Clock
 demand_policy demand.Sieve j = sized.Sieve
-demand_policy demand.S3Fifo j = sized.S3Fifo (part_size j.parts.small j.config.capacity)
-demand_policy demand.TwoQ j = sized.TwoQ (two_q_sizes j.parts j.config.capacity)
+demand_policy demand.S3Fifo j = sized.S3Fifo (part_size j.tuning.small j.config.capacity)
+demand_policy demand.TwoQ j = sized.TwoQ (two_q_sizes j.tuning j.config.capacity)
 demand_policy demand.Arc j = sized.Arc
 
 -- ---- any design

@@ -9,7 +9,7 @@ use demand_cache::DemandPolicy;
 use ghost_policies::TwoQSizes;
 use replacement::{HitRule, Placement, Rules};
 use segments::Queue;
-use step_record::{Config, Job, Parts, Policy};
+use step_record::{Config, Job, Tuning, Policy};
 
 /// What a policy is.
 #[derive(Clone, Copy)]
@@ -171,21 +171,21 @@ impl DemandDesign {
         match self {
             DemandDesign::Clock => DemandPolicy::Clock,
             DemandDesign::Sieve => DemandPolicy::Sieve,
-            DemandDesign::S3Fifo => DemandPolicy::S3Fifo(part_size(job.parts.small, capacity)),
-            DemandDesign::TwoQ => DemandPolicy::TwoQ(two_q_sizes(&job.parts, capacity)),
+            DemandDesign::S3Fifo => DemandPolicy::S3Fifo(part_size(job.tuning.small, capacity)),
+            DemandDesign::TwoQ => DemandPolicy::TwoQ(two_q_sizes(&job.tuning, capacity)),
             DemandDesign::Arc => DemandPolicy::Arc,
         }
     }
 }
 
 // The sizes of 2Q's parts.
-fn two_q_sizes(parts: &Parts, capacity: u32) -> TwoQSizes
+fn two_q_sizes(tuning: &Tuning, capacity: u32) -> TwoQSizes
     requires { capacity ≤ MAX_CAPACITY }
-    ensures { result ≡ two_q_sizes parts.now capacity }
+    ensures { result ≡ two_q_sizes tuning.now capacity }
 {
     TwoQSizes {
-        kin: part_size(parts.kin, capacity),
-        kout: part_size(parts.kout, capacity),
+        kin: part_size(tuning.kin, capacity),
+        kout: part_size(tuning.kout, capacity),
     }
 }
 

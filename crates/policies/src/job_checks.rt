@@ -18,7 +18,7 @@ pub fn with_capacity(job: &Job, capacity: u32) -> Job
             capacity,
             ..job.config
         },
-        parts: job.parts,
+        tuning: job.tuning,
     }
 }
 

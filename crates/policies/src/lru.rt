@@ -1,12 +1,12 @@
 //! The policy that evicts the key whose last access is oldest.
 ghost use Rattle.std.specs.Prelude.{◌≡◌, IfOk, Ok, []};
 ghost use Rattle.step_record.specs.Config.{config_fault};
-ghost use Rattle.step_record.specs.Job.{published_parts};
+ghost use Rattle.step_record.specs.Job.{published_tuning};
 
 use crate::design::LRU;
 use crate::queue_cache::QueueCache;
 use std::alloc::{AllocError, Global};
-use step_record::{Config, Job, Parts, Policy};
+use step_record::{Config, Job, Tuning, Policy};
 
 /// A cache that holds the keys that were accessed last, as many distinct ones as its capacity. A miss in a full cache
 /// evicts the key whose last access is oldest. It counts no keys.
@@ -23,13 +23,13 @@ impl QueueCache<LruMark> {
     /// failed.
     pub fn open(alloc: Global, config: &Config) -> Result<Lru, AllocError>
         requires { config_fault config.now ≡ Ok tt }
-        ensures stands { IfOk result (λ l. StandsFor record { policy = Policy.Lru; config = config.now; parts = published_parts } [] l) }
+        ensures stands { IfOk result (λ l. StandsFor record { policy = Policy.Lru; config = config.now; tuning = published_tuning } [] l) }
         ensures fresh { IfOk result (λ l. l.stats.accesses ≡ 0) }
     {
         let job = Job {
             policy: Policy::Lru,
             config: *config,
-            parts: Parts::PUBLISHED,
+            tuning: Tuning::PUBLISHED,
         };
         QueueCache::with_design(alloc, job, LRU)
     }

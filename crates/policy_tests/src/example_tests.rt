@@ -9,7 +9,7 @@ use policies::AnyPolicy;
 use std::alloc::Global;
 use std::process::Abort;
 use std::test::Fail;
-use step_record::{Config, Engine, Job, Key, Outcome, Parts, Policy, Spread, Stats, Trace};
+use step_record::{Config, Engine, Job, Key, Outcome, Tuning, Policy, Spread, Stats, Trace};
 
 // A worked example: a policy at a capacity, the accesses with their outcomes, what is counted (accesses, hits, misses,
 // evictions and rejections), and the keys that stay.
@@ -32,12 +32,12 @@ fn trace_of(rt: &impl Abort, alloc: Global, accesses: &[(Key, Outcome)]) -> Resu
     Ok(Trace::new(keys))
 }
 
-// The cache of an example with parts of these sizes, which made no access yet.
+// The cache of an example with this tuning, which made no access yet.
 fn opened(
     rt: &impl Abort,
     alloc: Global,
     example: &Example,
-    parts: Parts,
+    tuning: Tuning,
 ) -> Result<AnyPolicy, Fail> {
     let config = Config {
         capacity: example.capacity,
@@ -52,7 +52,7 @@ fn opened(
     let job = Job {
         policy,
         config,
-        parts,
+        tuning,
     };
     let cache = AnyPolicy::open(alloc, &job, &trace)?;
     Ok(cache)
@@ -110,10 +110,10 @@ fn assert_all(
     rt: &impl Abort,
     alloc: Global,
     examples: &[Example],
-    parts: Parts,
+    tuning: Tuning,
 ) -> Result<(), Fail> {
     for example in examples {
-        let mut cache = opened(rt, alloc, example, parts)?;
+        let mut cache = opened(rt, alloc, example, tuning)?;
         assert_example(rt, alloc, &mut cache, example)?;
     }
     Ok(())
@@ -313,12 +313,13 @@ const DEMAND: [Example; 7] = [
     },
 ];
 
-// Parts that are not of the published sizes: of four keys the small queue is to have two, a1in three, and the ghost of 2Q
+// Sizes other than the published ones: of four keys the small queue is to have two, a1in three, and the ghost of 2Q
 // remembers one.
-const PARTS: Parts = Parts {
+const CHOSEN: Tuning = Tuning {
     small: 50,
     kin: 75,
     kout: 25,
+    period: None,
 };
 
 // With the published sizes 4 would have evicted 5 from S3-FIFO, whose main queue could have three keys; and 6 would have
@@ -368,15 +369,15 @@ const SIZED: [Example; 2] = [
 fn each_policy_that_keeps_missed_keys_answers_by_its_definition(
     rt: HostRuntime,
 ) -> Result<(), Fail> {
-    assert_all(&rt, rt.alloc(), &DEMAND, Parts::PUBLISHED)?;
-    assert_all(&rt, rt.alloc(), &SIZED, PARTS)
+    assert_all(&rt, rt.alloc(), &DEMAND, Tuning::PUBLISHED)?;
+    assert_all(&rt, rt.alloc(), &SIZED, CHOSEN)
 }
 
 #[test]
 fn each_policy_answers_by_the_table_of_moves(rt: HostRuntime) -> Result<(), Fail> {
-    assert_all(&rt, rt.alloc(), &LEAST_RECENT, Parts::PUBLISHED)?;
-    assert_all(&rt, rt.alloc(), &PROTECTED, Parts::PUBLISHED)?;
-    assert_all(&rt, rt.alloc(), &FILTERED, Parts::PUBLISHED)?;
-    assert_all(&rt, rt.alloc(), &WINDOWED, Parts::PUBLISHED)?;
-    assert_all(&rt, rt.alloc(), &OPTIMAL, Parts::PUBLISHED)
+    assert_all(&rt, rt.alloc(), &LEAST_RECENT, Tuning::PUBLISHED)?;
+    assert_all(&rt, rt.alloc(), &PROTECTED, Tuning::PUBLISHED)?;
+    assert_all(&rt, rt.alloc(), &FILTERED, Tuning::PUBLISHED)?;
+    assert_all(&rt, rt.alloc(), &WINDOWED, Tuning::PUBLISHED)?;
+    assert_all(&rt, rt.alloc(), &OPTIMAL, Tuning::PUBLISHED)
 }

@@ -4,7 +4,7 @@ use Rattle.step_record.specs.declared.config.Config.{Config}
 use Rattle.step_record.specs.declared.item.Item.{Item}
 use Rattle.step_record.specs.declared.job.Job.{Job}
 use Rattle.step_record.specs.declared.job.Policy.TheVariants.{WindowTinyLfu}
-use Rattle.step_record.specs.Job.{published_parts}
+use Rattle.step_record.specs.Job.{published_tuning}
 use Rattle.step_record.specs.declared.drain.Drain.TheVariants.{Idle}
 use Rattle.segments.specs.Items.{occurrences}
 use Rattle.policies.specs.QueueCache.{QueueState}
@@ -14,7 +14,7 @@ use Rattle.quiet_run.specs.Nodes.{nodeless_queues, HasKeysOnce}
 
 -- the policy of the same configuration
 abbrev pub quiet_job : Config → Job
-quiet_job c = record { policy = WindowTinyLfu; config = c; parts = published_parts }
+quiet_job c = record { policy = WindowTinyLfu; config = c; tuning = published_tuning }
 
 -- The shell x holds what the policy's cache d holds, and nothing waits in it: the three queues have the same keys in
 -- the same order, the table lists just what is queued, each key once, and the frequency is the same.

@@ -33,7 +33,7 @@ pub use engine::{Engine, StepFault};
 pub use entry::Entry;
 pub use gate::{Gate, OpenGate};
 pub use item::{Item, Key, Node};
-pub use job::{Job, POLICIES, Parts, Policy};
+pub use job::{Job, POLICIES, Policy, Tuning};
 pub use kept::{ByWorker, Kept};
 pub use limits::{
     MAX_ACCESSES, MAX_BATCH, MAX_CAPACITY, MAX_GHOST_PERCENT, MAX_JOURNAL_LIMIT, MAX_MAIN_PERCENT,

@@ -2,7 +2,7 @@
 use super::sessions::SMALL;
 use policies::{ActorFault, Report};
 use std::test::Fail;
-use step_record::{Config, Job, Parts, Policy, Spread};
+use step_record::{Config, Job, Tuning, Policy, Spread};
 
 pub(crate) fn job(policy: Policy, capacity: u32) -> Job {
     let config = Config {
@@ -13,7 +13,7 @@ pub(crate) fn job(policy: Policy, capacity: u32) -> Job {
     Job {
         policy,
         config,
-        parts: Parts::PUBLISHED,
+        tuning: Tuning::PUBLISHED,
     }
 }
 
