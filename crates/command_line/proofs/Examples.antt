@@ -1,5 +1,5 @@
 -- The definitions at words that are written out: what clap takes, and what it refuses.
-use Rattle.std.proofs.Common.{◌≡◌, refl, List, [], ◌∷◌, ℕ, Ok, map, codes}
+use Rattle.std.proofs.Common.{◌≡◌, refl, List, [], ◌∷◌, ℕ, Ok, Some, map, codes}
 use Rattle.std.specs.Borrow.{Bor}
 use Rattle.clap.specs.Words.{Text, fault_of, subcommand_of}
 use Rattle.clap.specs.declared.error.ErrorKind.TheVariants as kind
@@ -25,7 +25,7 @@ lists = record {
 }
 
 abbrev words : List Text
-words = codes "run" ∷ codes "--capacity" ∷ codes "3" ∷ codes "--main" ∷ codes "50" ∷ codes "--out" ∷ codes "40" ∷ codes "wtinylfu" ∷ codes "lru" ∷ []
+words = codes "run" ∷ codes "--capacity" ∷ codes "3" ∷ codes "--main" ∷ codes "50" ∷ codes "--out" ∷ codes "40" ∷ codes "--period" ∷ codes "64" ∷ codes "wtinylfu" ∷ codes "lru" ∷ []
 
 taken : fault_of (program_app lists) words ≡ []
 unfolding clap_on_literals
@@ -33,7 +33,7 @@ taken = refl
 
 named : asked_in (subcommand_of (program_app lists) words) ≡ Ok (Run (record {
   config = record { capacity = 3; main_percent = 50; spread = Mixed; stripes = 1; journal_limit = 1 };
-  tuning = record { small = 10; kin = 25; kout = 40 };
+  tuning = record { small = 10; kin = 25; kout = 40; period = Some 64 };
   policies = WindowTinyLfu ∷ Lru ∷ [];
   batch = 1024;
   format = Lirs;

@@ -6,7 +6,7 @@ use Rattle.step_record.specs.declared.limits.TheConstants.{MAX_GHOST_PERCENT, MA
 use Rattle.step_record.specs.declared.worker.TheConstants.{MAX_WORKERS}
 use Rattle.command_line.specs.declared.options.OptionName.{OptionName}
 use Rattle.command_line.specs.declared.options.OptionName.TheVariants.{Batch, Capacities, Capacity, ComparedEvery}
-use Rattle.command_line.specs.declared.options.OptionName.TheVariants.{Every, First, In, Out, Small}
+use Rattle.command_line.specs.declared.options.OptionName.TheVariants.{Every, First, In, Out, Period, Small}
 use Rattle.command_line.specs.declared.options.OptionName.TheVariants.{Format, Journal, Limit, Long, Main, Policies, Second}
 use Rattle.command_line.specs.declared.options.OptionName.TheVariants.{Spread, Stripes, SweptPolicies, Trace, Workers}
 use Rattle.command_line.specs.declared.options.OptionRow.{OptionRow}
@@ -39,6 +39,7 @@ row_of Main = row (codes "main") (kind.Number 0 MAX_MAIN_PERCENT) Named (Some (c
 row_of Small = row (codes "small") (kind.Number 1 MAX_PART_PERCENT) Named (Some (codes "10"))
 row_of In = row (codes "in") (kind.Number 1 MAX_PART_PERCENT) Named (Some (codes "25"))
 row_of Out = row (codes "out") (kind.Number 1 MAX_GHOST_PERCENT) Named (Some (codes "50"))
+row_of Period = row (codes "period") (kind.Number 1 4294967295) Optional None
 row_of Spread = row (codes "spread") kind.Spread Named (Some (codes "mixed"))
 row_of Format = row (codes "format") kind.Format Named (Some (codes "lirs"))
 row_of Long = row (codes "long") kind.Flag Switch None
@@ -67,12 +68,14 @@ abbrev pub defined_subcommand : Subcommand → SubcommandDefinition
 defined_subcommand given = named given.name.now given.options.now
 
 abbrev pub subcommands : List SubcommandDefinition
-subcommands = named (codes "run") (Capacity ∷ Main ∷ Small ∷ In ∷ Out ∷ Spread ∷ Format ∷ Long ∷ Batch ∷ Policies ∷ [])
-    ∷ named (codes "sweep") (Main ∷ Small ∷ In ∷ Out ∷ Spread ∷ Format ∷ SweptPolicies ∷ Capacities ∷ [])
-    ∷ named (codes "intervals") (Capacity ∷ Every ∷ Main ∷ Small ∷ In ∷ Out ∷ Spread ∷ Format ∷ Policies ∷ [])
-    ∷ named (codes "part") (Capacity ∷ Main ∷ Small ∷ In ∷ Out ∷ Spread ∷ Format ∷ First ∷ Second ∷ [])
-    ∷ named (codes "compare") (Capacity ∷ ComparedEvery ∷ Main ∷ Small ∷ In ∷ Out ∷ Spread ∷ Format ∷ First ∷ Second ∷ [])
-    ∷ named (codes "drive") (Capacity ∷ Main ∷ Small ∷ In ∷ Out ∷ Spread ∷ Format ∷ Workers ∷ Stripes ∷ Limit ∷ [])
-    ∷ named (codes "debug") (Capacity ∷ Main ∷ Small ∷ In ∷ Out ∷ Spread ∷ Format ∷ First ∷ Second ∷ Trace ∷ [])
-    ∷ named (codes "replay") (Capacity ∷ Main ∷ Small ∷ In ∷ Out ∷ Spread ∷ Journal ∷ Stripes ∷ Limit ∷ [])
+subcommands =
+    named (codes "run") (Capacity ∷ Main ∷ Small ∷ In ∷ Out ∷ Period ∷ Spread ∷ Format ∷ Long ∷ Batch ∷ Policies ∷ [])
+    ∷ named (codes "sweep") (Main ∷ Small ∷ In ∷ Out ∷ Period ∷ Spread ∷ Format ∷ SweptPolicies ∷ Capacities ∷ [])
+    ∷ named (codes "intervals") (Capacity ∷ Every ∷ Main ∷ Small ∷ In ∷ Out ∷ Period ∷ Spread ∷ Format ∷ Policies ∷ [])
+    ∷ named (codes "part") (Capacity ∷ Main ∷ Small ∷ In ∷ Out ∷ Period ∷ Spread ∷ Format ∷ First ∷ Second ∷ [])
+    ∷ named (codes "compare")
+    (Capacity ∷ ComparedEvery ∷ Main ∷ Small ∷ In ∷ Out ∷ Period ∷ Spread ∷ Format ∷ First ∷ Second ∷ [])
+    ∷ named (codes "drive") (Capacity ∷ Main ∷ Small ∷ In ∷ Out ∷ Period ∷ Spread ∷ Format ∷ Workers ∷ Stripes ∷ Limit ∷ [])
+    ∷ named (codes "debug") (Capacity ∷ Main ∷ Small ∷ In ∷ Out ∷ Period ∷ Spread ∷ Format ∷ First ∷ Second ∷ Trace ∷ [])
+    ∷ named (codes "replay") (Capacity ∷ Main ∷ Small ∷ In ∷ Out ∷ Period ∷ Spread ∷ Journal ∷ Stripes ∷ Limit ∷ [])
     ∷ []

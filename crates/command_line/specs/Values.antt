@@ -124,7 +124,7 @@ concurrent_in rows = option_and_then (λ stripes. option_and_then (λ capacity. 
 -- the tuning of policies
 unfoldable pub tuning_in : List Row → Option Tuning
 tuning_in rows = option_and_then (λ small. option_and_then (λ kin. option_map (λ kout.
-    record { small = small; kin = kin; kout = kout })
+    record { small = small; kin = kin; kout = kout; period = number_in option.Period rows })
     (number_in option.Out rows)) (number_in option.In rows)) (number_in option.Small rows)
 
 -- ---- what a subcommand is asked for; none where its matches are incomplete

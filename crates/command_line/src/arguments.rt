@@ -272,6 +272,7 @@ fn tuning(asked: &Matches<'_, '_>) -> ValueResult<Tuning>
         small: small as u8,
         kin: kin as u8,
         kout: kout as u8,
+        period: asked.optional_number(OptionName::Period),
     })
 }
 

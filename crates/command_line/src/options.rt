@@ -5,7 +5,7 @@ ghost use Rattle.command_line.specs.Options.{defined, row_of};
 
 use OptionName::{
     Batch, Capacities, Capacity, ComparedEvery, Every, First, Format, In, Journal, Limit, Long,
-    Main, Out, Policies, Second, Small, Spread, Stripes, SweptPolicies, Trace, Workers,
+    Main, Out, Period, Policies, Second, Small, Spread, Stripes, SweptPolicies, Trace, Workers,
 };
 use step_record::{
     MAX_ACCESSES, MAX_BATCH, MAX_CAPACITY, MAX_GHOST_PERCENT, MAX_JOURNAL_LIMIT, MAX_MAIN_PERCENT,
@@ -50,6 +50,7 @@ pub enum OptionName {
     Small,
     In,
     Out,
+    Period,
     Spread,
     Format,
     Long,
@@ -120,7 +121,7 @@ The trace comes by a redirection (< FILE) or a pipe. Without one, at a terminal,
 for you to type the trace, a line each, up to Ctrl-D.",
         example: "Example: cachesim run --capacity 100 lru wtinylfu clairvoyant < trace.lirs",
         options: &[
-            Capacity, Main, Small, In, Out, Spread, Format, Long, Batch, Policies,
+            Capacity, Main, Small, In, Out, Period, Spread, Format, Long, Batch, Policies,
         ],
     },
     Subcommand {
@@ -134,6 +135,7 @@ The trace comes by a redirection (< FILE) or a pipe.",
             Small,
             In,
             Out,
+            Period,
             Spread,
             Format,
             SweptPolicies,
@@ -148,7 +150,7 @@ each --every accesses. The caches stay as they are from one interval to the next
 redirection (< FILE) or a pipe.",
         example: "Example: cachesim intervals --capacity 100 --every 1000 lru wtinylfu < trace.lirs",
         options: &[
-            Capacity, Every, Main, Small, In, Out, Spread, Format, Policies,
+            Capacity, Every, Main, Small, In, Out, Period, Spread, Format, Policies,
         ],
     },
     Subcommand {
@@ -158,7 +160,7 @@ redirection (< FILE) or a pipe.",
 from 1, at which just one of them hits, or `part none`. The trace comes by a redirection (< FILE) or a pipe.",
         example: "Example: cachesim part --capacity 100 --first lru --second slru < trace.lirs",
         options: &[
-            Capacity, Main, Small, In, Out, Spread, Format, First, Second,
+            Capacity, Main, Small, In, Out, Period, Spread, Format, First, Second,
         ],
     },
     Subcommand {
@@ -175,6 +177,7 @@ redirection (< FILE) or a pipe.",
             Small,
             In,
             Out,
+            Period,
             Spread,
             Format,
             First,
@@ -188,7 +191,7 @@ redirection (< FILE) or a pipe.",
 `replay` reads. The trace comes by a redirection (< FILE) or a pipe.",
         example: "Example: cachesim drive --capacity 100 --workers 4 < trace.lirs > run.journal",
         options: &[
-            Capacity, Main, Small, In, Out, Spread, Format, Workers, Stripes, Limit,
+            Capacity, Main, Small, In, Out, Period, Spread, Format, Workers, Stripes, Limit,
         ],
     },
     Subcommand {
@@ -199,7 +202,7 @@ step N, back N, goto N, run, break hit K, break evict K, break halve, break part
 Here standard input has the commands, and --trace names the file of the trace.",
         example: "Example: cachesim debug --trace trace.lirs --capacity 100 --first lru --second slru",
         options: &[
-            Capacity, Main, Small, In, Out, Spread, Format, First, Second, Trace,
+            Capacity, Main, Small, In, Out, Period, Spread, Format, First, Second, Trace,
         ],
     },
     Subcommand {
@@ -210,13 +213,13 @@ line: step N, back N, goto N, run, break hit K, break evict K, break halve, brea
 Give --capacity, --stripes, --main, --spread and --limit as they were given to `drive`.",
         example: "Example: cachesim replay --journal run.journal --capacity 100",
         options: &[
-            Capacity, Main, Small, In, Out, Spread, Journal, Stripes, Limit,
+            Capacity, Main, Small, In, Out, Period, Spread, Journal, Stripes, Limit,
         ],
     },
 ];
 
 // The options, in the order of their names.
-static OPTIONS: [OptionRow; 21] = [
+static OPTIONS: [OptionRow; 22] = [
     OptionRow {
         id: "capacity",
         value_name: "N",
@@ -236,7 +239,7 @@ static OPTIONS: [OptionRow; 21] = [
     OptionRow {
         id: "main",
         value_name: "N",
-        help: "How much of the capacity of wtinylfu is the main part, in percent, from 0 to 99; the rest is the window",
+        help: "How much of the capacity of wtinylfu, and of caffeine at first, is the main part, in percent, from 0 to 99; the rest is the window",
         value: ValueKind::Number(0, MAX_MAIN_PERCENT as u32),
         place: Place::Named,
         default: Some("99"),
@@ -264,6 +267,14 @@ static OPTIONS: [OptionRow; 21] = [
         value: ValueKind::Number(1, MAX_GHOST_PERCENT as u32),
         place: Place::Named,
         default: Some("50"),
+    },
+    OptionRow {
+        id: "period",
+        value_name: "N",
+        help: "After how many accesses caffeine moves its window, from 1 to 4294967295, though no fewer than its entries; by itself 10 an entry",
+        value: ValueKind::Number(1, u32::MAX),
+        place: Place::Optional,
+        default: None,
     },
     OptionRow {
         id: "spread",
