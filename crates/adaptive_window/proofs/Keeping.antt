@@ -240,7 +240,7 @@ module _ (r : ClimbRules) (are : AreClimbRules r) (admits : ℕ → ℕ → Bool
     near = next-near;
   }
 
-  access-is : IsAdaptiveAccess i s (adaptive_act r admits i s).0 (adaptive_act r admits i s).1
+  pub access-is : IsAdaptiveAccess i s (adaptive_act r admits i s).0 (adaptive_act r admits i s).1
   access-is = record {
     hits = came-back.hit;
     counts = let a = next-settled.queues.total in let b = came-back.counted in omega (arith, a, b);
@@ -248,7 +248,7 @@ module _ (r : ClimbRules) (are : AreClimbRules r) (admits : ℕ → ℕ → Bool
     size = next-settled.near;
   }
 
-starts : (r : ClimbRules) (size : ℕ) → AreClimbRules r → 1 ≤ size → size ≤ r.largest → IsAdaptive r (empty_adaptive r size)
+pub starts : (r : ClimbRules) (size : ℕ) → AreClimbRules r → 1 ≤ size → size ≤ r.largest → IsAdaptive r (empty_adaptive r size)
 starts r size are low high = record {
   distinct = λ j. omega arith;
   window = omega arith;

@@ -5,3 +5,4 @@ pub mod Keeping
 pub mod Worked
 pub mod Fitting
 pub mod Running
+pub mod Residents

@@ -8,6 +8,7 @@ use Rattle.step_record.specs.declared.outcome.Outcome.{Outcome}
 use Rattle.step_record.specs.declared.stats.Stats.{Stats}
 use Rattle.step_record.specs.Config.{config_fault, is_from_one}
 use Rattle.step_record.specs.Stats.{stats_with}
+use Rattle.segments.specs.Items.{nodeless_item}
 use Rattle.admission.specs.declared.freq_record.FreqRecord.{FreqRecord}
 use Rattle.admission.specs.Frequency.{FrequencyData, frequency_with}
 use Rattle.replacement.specs.Admission.{admits_in}
@@ -16,7 +17,7 @@ use Rattle.adaptive_window.specs.declared.climber.ClimbRules.{ClimbRules}
 use Rattle.adaptive_window.specs.declared.window_record.WindowRecord.{WindowRecord}
 use Rattle.adaptive_window.specs.AdaptiveWindow.{AdaptiveState, adaptive_act}
 use Rattle.adaptive_window.specs.WindowRecord.{window_record_of}
-use Rattle.adaptive_window.specs.AdaptiveCache.{AdaptiveCacheState, nodeless_item, cache_act, cache_record_of}
+use Rattle.adaptive_window.specs.AdaptiveCache.{AdaptiveCacheState, cache_act, cache_record_of}
 
 -- an accepted configuration has room
 pub has-room : (c : Config) → config_fault c ≡ Ok tt → 1 ≤ c.capacity
@@ -25,6 +26,10 @@ has-room c h =
       | inl e ↦ grind (arith, nat_tests)
       | inr e ↦ absurd (let no : Err Capacity ≡ Ok tt = rw e at h in cc (no))
     ]
+
+-- its main part is not the whole cache
+pub main-few : (c : Config) → config_fault c ≡ Ok tt → c.main_percent ≤ 99
+main-few c h = grind (arith, nat_tests, h)
 
 -- what an accepted access gives
 module _ (r p : ClimbRules) (w v x : AdaptiveState) (f g : FrequencyData) (s z : Stats) (k : ℕ) (o : Outcome)

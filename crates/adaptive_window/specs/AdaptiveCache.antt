@@ -3,12 +3,11 @@
 use Rattle.std.specs.Prelude.{◌≢◌, ℕ, ◌≤◌, ◌==◌, if◌then◌else◌, Option, Some, None, List, [], ◌∷◌, ◌++◌, map}
 use Rattle.step_record.specs.declared.limits.TheConstants.{MAX_STEPS}
 use Rattle.step_record.specs.declared.config.Config.{Config}
-use Rattle.step_record.specs.declared.item.Item.{Item}
 use Rattle.step_record.specs.declared.outcome.Outcome.{Outcome}
 use Rattle.step_record.specs.declared.stats.Stats.{Stats}
 use Rattle.step_record.specs.Pace.{Pace}
 use Rattle.step_record.specs.Stats.{stats_of, stats_with, stats_without, IsCounted}
-use Rattle.segments.specs.Queues.{Queues}
+use Rattle.segments.specs.Items.{nodeless_item}
 use Rattle.admission.specs.Frequency.{FrequencyData, frequency_of, frequency_with, pace_of}
 use Rattle.admission.specs.FreqRecord.{frequency_record, frequency_before, FitsRecord, size_of}
 use Rattle.replacement.specs.Admission.{admits_in}
@@ -26,14 +25,6 @@ pub record AdaptiveCacheState : Type 0 where
   pub frequency : FrequencyData
   pub stats : Stats
 
--- a key is cached once at a time, so one node serves all
-abbrev pub nodeless_item : ℕ → Item
-nodeless_item k = record { key = k; node = 0 }
-
--- the keys that are cached, queue by queue, oldest first
-abbrev pub residents_of : Queues → List ℕ
-residents_of q = map (λ i. i.key) q.window ++ map (λ i. i.key) q.probation ++ map (λ i. i.key) q.protected
-
 -- ---- one access: its key is recorded, and then it goes by the window in force
 
 abbrev pub response_to : ℕ → AdaptiveCacheState → Outcome × AdaptiveState
@@ -47,11 +38,12 @@ cache_after k d = record {
   stats = stats_with (response_to k d).0 d.stats;
 }
 
+abbrev pub cache_access : ℕ → AdaptiveCacheState → Outcome × AdaptiveCacheState
+cache_access k d = ((response_to k d).0, cache_after k d)
+
 -- none is accepted after MAX_STEPS
 abbrev pub cache_act : AdaptiveCacheState → ℕ → Option (Outcome × AdaptiveCacheState)
-cache_act d k = if d.stats.accesses == MAX_STEPS then None else Some ((response_to k d).0, cache_after k d)
-
--- ---- a list of accesses
+cache_act d k = if d.stats.accesses == MAX_STEPS then None else Some (cache_access k d)
 
 -- an empty cache, whose period may be chosen
 abbrev pub empty_cache : Config → Option ℕ → AdaptiveCacheState
@@ -61,16 +53,6 @@ empty_cache c period = record {
   frequency = frequency_of (open_shape_of COLUMNS c) [];
   stats = stats_of [];
 }
-
--- what a cache shows after the accesses
-abbrev pub cache_after_all : AdaptiveCacheState → List ℕ → AdaptiveCacheState
-cache_after_all d [] = d
-cache_after_all d (k ∷ ks) = cache_after_all (cache_after k d) ks
-
--- their outcomes
-abbrev pub outcomes_of_all : AdaptiveCacheState → List ℕ → List Outcome
-outcomes_of_all d [] = []
-outcomes_of_all d (k ∷ ks) = (response_to k d).0 ∷ outcomes_of_all (cache_after k d) ks
 
 -- ---- the record of an access
 

@@ -3,5 +3,6 @@ pub mod AdaptiveWindow
 pub mod WindowRecord
 pub mod AdaptiveCache
 pub mod CacheCounts
+pub mod Residents
 pub mod Theorems
 pub mod Examples

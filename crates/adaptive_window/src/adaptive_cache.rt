@@ -3,20 +3,22 @@ ghost use Rattle.std.specs.Prelude.{◌≡◌, ◌≢◌, ◌≤◌, ◌<◌, �
 ghost use Rattle.std.specs.Prelude.{IfOk, OnOk, OnErr};
 ghost use Rattle.step_record.specs.declared.limits.TheConstants.{MAX_STEPS};
 ghost use Rattle.step_record.specs.Config.{config_fault};
-ghost use Rattle.segments.specs.Queues.{queue_of};
-ghost use Rattle.adaptive_window.specs.AdaptiveCache.{empty_cache, cache_act, residents_of};
+ghost use Rattle.segments.specs.Queues.{residents_in};
+ghost use Rattle.adaptive_window.specs.AdaptiveCache.{empty_cache, cache_act};
 
 use crate::adaptive_window::AdaptiveWindow;
 use crate::window_record::WindowRecord;
 use admission::{FreqRecord, Frequency};
 use replacement::open_frequency_without_doorkeeper;
-use segments::Queue;
 use std::alloc::{AllocError, Global};
 use std::marker::Model;
 use step_record::{Config, Engine, Item, Key, MAX_STEPS, Outcome, Stats, StepFault};
 
 /// How many columns each of the four rows of the sketch has for an entry: sixteen counters in all, as Caffeine's.
 pub const COLUMNS: u32 = 4;
+
+// The least capacity at which keys are prefetched: in smaller caches it costs more than it spares.
+const PREFETCH_FROM: u32 = 4096;
 
 /// A cache of W-TinyLFU with a window whose size follows the hits. Contracts see the rules of its climber, its window,
 /// its frequency and its counts.
@@ -67,6 +69,17 @@ impl AdaptiveCache {
             frequency,
             stats: Stats::NONE,
         })
+    }
+
+    /// Reads ahead what accesses to these keys read first. It changes nothing, and pays where the queues and the sketch
+    /// are larger than the processor's caches.
+    #[inline(always)]
+    pub fn prefetch(&mut self, keys: &[Key])
+        ensures { self.new ≡ self.old }
+    {
+        if self.window.capacity() >= PREFETCH_FROM {
+            self.window.prefetch(keys);
+        }
     }
 
     /// Makes an access that is not to be undone: that of `apply`, without its undo record.
@@ -123,13 +136,9 @@ impl AdaptiveCache {
     /// The keys that it holds: those of the window, of probation and of protected in that order, oldest first. The one
     /// error is that an allocation failed.
     pub fn residents(&self, alloc: Global) -> Result<Vec<Key>, AllocError>
-        ensures { IfOk result (λ keys. keys.items ≡ residents_of self.now.window.queues) }
+        ensures { IfOk result (λ keys. keys.items ≡ residents_in self.now.window.queues) }
     {
-        let mut keys = Vec::new(alloc);
-        add_keys(&mut keys, &self.window.list(alloc, Queue::Window)?)?;
-        add_keys(&mut keys, &self.window.list(alloc, Queue::Probation)?)?;
-        add_keys(&mut keys, &self.window.list(alloc, Queue::Protected)?)?;
-        Ok(keys)
+        self.window.keys(alloc)
     }
 }
 
@@ -230,16 +239,6 @@ fn make_room(stats: &Stats, window: &mut AdaptiveWindow) -> Result<(), StepFault
     }
     if window.reserve().is_err() {
         return Err(StepFault::OutOfMemory);
-    }
-    Ok(())
-}
-
-// Adds the keys of the items.
-fn add_keys(keys: &mut Vec<Key>, items: &[Item]) -> Result<(), AllocError>
-    ensures { OnOk result (keys.new.items ≡ keys.old.items ++ map (λ i. i.key) items.now) }
-{
-    for item in items {
-        keys.push(item.key)?;
     }
     Ok(())
 }

@@ -2,7 +2,7 @@
 ghost use Rattle.std.specs.Prelude.{◌≡◌, ◌≤◌, Some, Ok, IfOk, OnOk};
 ghost use Rattle.step_record.specs.Config.{config_fault};
 ghost use Rattle.step_record.specs.Stats.{is_hit as is_hit_of};
-ghost use Rattle.segments.specs.Queues.{IsDistinct, queue_of};
+ghost use Rattle.segments.specs.Queues.{IsDistinct, residents_in};
 ghost use Rattle.replacement.specs.Admission.{admits_in};
 ghost use Rattle.replacement.specs.PlanMoves.{queues_after, moves_of, needed_by, UndoesMoves};
 ghost use Rattle.replacement.specs.KeptMoves.{IsKeepable};
@@ -14,10 +14,10 @@ use crate::climber::{ClimbRules, Climber, first_window_of};
 use crate::window_record::{SizeChange, WindowRecord};
 use admission::Frequency;
 use replacement::{KeptMoves, Moves, access, grow_window, shrink_window, undo};
-use segments::{Queue, Segments};
+use segments::Segments;
 use std::alloc::{AllocError, Global};
 use std::marker::Model;
-use step_record::{Config, Item, Outcome};
+use step_record::{Config, Item, Key, Outcome};
 
 /// The queues of a cache, the size of its window in force, and the climber that says which size it is to have. Contracts
 /// see these with the rules, and for how many more items there is room.
@@ -75,6 +75,22 @@ impl AdaptiveWindow {
         self.segments.reserve()
     }
 
+    /// Prefetches what a search for each of these keys reads first. It changes nothing.
+    #[inline(always)]
+    pub fn prefetch(&mut self, keys: &[Key])
+        ensures { self.new ≡ self.old }
+    {
+        self.segments.prefetch(keys, 0);
+    }
+
+    /// How many items it holds.
+    #[inline(always)]
+    pub fn capacity(&self) -> u32
+        ensures { result ≡ self.now.rules.capacity }
+    {
+        self.rules.capacity
+    }
+
     /// The size of the window in force.
     pub fn size(&self) -> u32
         ensures { result ≡ self.now.state.size }
@@ -89,11 +105,12 @@ impl AdaptiveWindow {
         self.climber.target
     }
 
-    /// The items of a queue, oldest first. The one error is that an allocation failed.
-    pub fn list(&self, alloc: Global, queue: Queue) -> Result<Vec<Item>, AllocError>
-        ensures { IfOk result (λ items. items.items ≡ queue_of queue self.now.state.queues) }
+    /// The keys of the window, of probation and of protected in that order, oldest first. The one error is that an
+    /// allocation failed.
+    pub fn keys(&self, alloc: Global) -> Result<Vec<Key>, AllocError>
+        ensures { IfOk result (λ keys. keys.items ≡ residents_in self.now.state.queues) }
     {
-        self.segments.list(alloc, queue)
+        self.segments.keys(alloc)
     }
 
     /// Accesses an item, whose key the frequency already has: by the table of moves, with a window of the size in force.

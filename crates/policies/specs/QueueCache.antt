@@ -1,13 +1,13 @@
 -- What a cache of queues shows after a list of accesses: the table of moves, folded from empty queues, with the
 -- frequency of the accesses so far in each admission. One engine carries all policies of queues: each is a design, in
 -- the module of its name.
-use Rattle.std.specs.Prelude.{◌≡◌, ℕ, Bool, true, false, Option, Some, None, Ok, List, [], ◌∷◌, ◌++◌, map}
-use Rattle.step_record.specs.declared.item.Item.{Item}
+use Rattle.std.specs.Prelude.{◌≡◌, ℕ, Bool, true, false, Option, Some, None, Ok, List, [], ◌∷◌, ◌++◌}
 use Rattle.step_record.specs.declared.job.Job.{Job}
 use Rattle.step_record.specs.declared.outcome.Outcome.{Outcome}
 use Rattle.step_record.specs.declared.stats.Stats.{Stats}
 use Rattle.step_record.specs.Config.{config_fault}
 use Rattle.step_record.specs.Stats.{stats_of, stats_with}
+use Rattle.segments.specs.Items.{nodeless_item}
 use Rattle.segments.specs.Queues.{Queues, empty_queues}
 use Rattle.admission.specs.Shape.{Shape}
 use Rattle.admission.specs.Frequency.{FrequencyData, frequency_of}
@@ -16,10 +16,6 @@ use Rattle.replacement.specs.Shape.{shape_of}
 use Rattle.replacement.specs.Table.{Response, access}
 use Rattle.policies.specs.Design.{rules_of, is_counting}
 
--- a key is cached once at a time, so one node serves all
-abbrev pub nodeless_item : ℕ → Item
-nodeless_item k = record { key = k; node = 0 }
-
 -- ---- the state
 
 pub record QueueState : Type 0 where
@@ -27,10 +23,6 @@ pub record QueueState : Type 0 where
   pub queues : Queues
   pub frequency : Option FrequencyData
   pub stats : Stats
-
--- the keys that are cached, queue by queue, oldest first
-abbrev pub residents_in : Queues → List ℕ
-residents_in q = map (λ i. i.key) q.window ++ map (λ i. i.key) q.probation ++ map (λ i. i.key) q.protected
 
 -- ---- one access, where the frequency f has the key already
 

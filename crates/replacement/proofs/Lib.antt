@@ -5,3 +5,5 @@ pub mod Served
 pub mod Oldest
 pub mod Counting
 pub mod Balance
+pub mod Residents
+pub mod Leaving

@@ -1,10 +1,10 @@
 //! The queues, over a table of queues by number.
-ghost use Rattle.std.specs.Prelude.{◌≡◌, ◌↔◌, ◌+◌, ◌≤◌, Ok, [], length, Option, Some, None, MatchOption};
+ghost use Rattle.std.specs.Prelude.{◌≡◌, ◌↔◌, ◌+◌, ◌≤◌, Ok, [], ◌++◌, map, length, Option, Some, None, MatchOption};
 ghost use Rattle.std.specs.Prelude.{IfOk, OnOk, IfSome, IfNone};
 ghost use Rattle.queue_table.specs.Entries.{entry};
 ghost use Rattle.segments.specs.Items.{oldest_of};
 ghost use Rattle.segments.specs.Queues.{empty_queues, queue_of, queue_holding, IsDistinct, queues_after_push, queues_without, queues_after_move, queues_after_pop};
-ghost use Rattle.segments.specs.Queues.{queue_after_access, total_items};
+ghost use Rattle.segments.specs.Queues.{queue_after_access, total_items, residents_in};
 ghost use Rattle.segments.specs.Moves.{IsMoveRecord, FitsMove, queues_before_move, room_needed};
 
 use crate::names::{name, number, queue_place, table_place};
@@ -301,6 +301,18 @@ impl Segments {
         self.table.list(alloc, number(queue))
     }
 
+    /// The keys of the window, of probation and of protected in that order, oldest first. The one error is that an
+    /// allocation failed.
+    pub fn keys(&self, alloc: Global) -> Result<Vec<Key>, AllocError>
+        ensures { IfOk result (λ keys. keys.items ≡ residents_in self.now.lists) }
+    {
+        let mut keys = Vec::new(alloc);
+        add_keys(&mut keys, &self.list(alloc, Queue::Window)?)?;
+        add_keys(&mut keys, &self.list(alloc, Queue::Probation)?)?;
+        add_keys(&mut keys, &self.list(alloc, Queue::Protected)?)?;
+        Ok(keys)
+    }
+
     /// How many items stand in the queue.
     #[inline(always)]
     pub fn len(&self, queue: Queue) -> usize
@@ -326,4 +338,14 @@ impl Segments {
         let found = self.table.find(item)?;
         Some(name(found.queue))
     }
+}
+
+// Adds the keys of the items.
+fn add_keys(keys: &mut Vec<Key>, items: &[Item]) -> Result<(), AllocError>
+    ensures { OnOk result (keys.new.items ≡ keys.old.items ++ map (λ i. i.key) items.now) }
+{
+    for item in items {
+        keys.push(item.key)?;
+    }
+    Ok(())
 }

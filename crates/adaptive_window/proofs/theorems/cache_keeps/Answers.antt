@@ -1,0 +1,5 @@
+use Rattle.adaptive_window.proofs.Residents.{cache_keeps}
+use Rattle.adaptive_window.proofs.theorems.cache_keeps.Goals as goal
+
+pub returns : goal.returns
+returns c = cache_keeps
