@@ -14,7 +14,7 @@ use Rattle.queue_policies.proofs.Residents.{times-none, no-times}
 use Rattle.queue_policies.proofs.CountedKeys.{length-keys, keys-with}
 use Rattle.queue_policies.proofs.Turns.{settled, turns-times, turns-length, turns-counted}
 use Rattle.queue_policies.proofs.Clock.{keeps}
-use Rattle.policy_laws.proofs.Strategies.{next-is, kept-at}
+use Rattle.policy_laws.proofs.Strategies.{serves, next-is, kept-at}
 use Rattle.conservative_laws.specs.Conservative.{stretch, IsConservative}
 use Rattle.conservative_laws.proofs.Misses.{misses-next}
 use Rattle.conservative_laws.proofs.Stretches.{once-few, in-stretch}
@@ -110,7 +110,7 @@ module _ (c : ℕ) (t : List ℕ) (room : 1 ≤ c) (i m : ℕ) (l : m ≤ length
   misses_at n = strategy_misses t (clock_keys c t) n
 
   is-clock : (n : ℕ) → IsClock c (clock_queue c t n)
-  is-clock n = kept-at c [] (clock_act c) keys_of (IsClock c) (keeps c room) t n
+  is-clock n = kept-at c [] (clock_act c) keys_of (IsClock c) (serves (keeps c room)) t n
 
   abbrev IsAhead : ℕ → Type 0
   IsAhead n = misses_at n + evictions_ahead (stretch t i m) (clock_queue c t n) ≤ misses_at i + length (clock_queue c t n)
@@ -125,7 +125,7 @@ module _ (c : ℕ) (t : List ℕ) (room : 1 ≤ c) (i m : ℕ) (l : m ≤ length
       let k : ℕ = get_or t n 0 in
       let ks : List ℕ = stretch t i m in
       let next : misses_at (suc n) ≡ misses_at n + one_if (not (has_key k (clock_keys c t n))) = misses-next t (clock_keys c t) n in
-      let after : clock_queue c t (suc n) ≡ (clock_act c k (clock_queue c t n)).1 = next-is c [] (clock_act c) keys_of (IsClock c) (keeps c room) t n (omega (arith, g, l)) in
+      let after : clock_queue c t (suc n) ≡ (clock_act c k (clock_queue c t n)).1 = next-is c [] (clock_act c) keys_of (IsClock c) (serves (keeps c room)) t n (omega (arith, g, l)) in
       let ahead : evictions_ahead ks (clock_queue c t (suc n)) ≡ evictions_ahead ks (clock_act c k (clock_queue c t n)).1 = ap (evictions_ahead ks) after in
       let long : length (clock_queue c t (suc n)) ≡ length (clock_act c k (clock_queue c t n)).1 = ap length after in
       let one = act-ahead c k ks (clock_queue c t n) (in-stretch t i n m h g l) few (is-clock n) in

@@ -10,7 +10,7 @@ use Rattle.queue_policies.specs.Residents.{times, AreResidents, state_after_all}
 use Rattle.queue_policies.specs.Fifo.{fifo_eviction, fifo_act}
 use Rattle.queue_policies.proofs.Residents.{times-append, times-none}
 use Rattle.queue_policies.proofs.Fifo.{keeps}
-use Rattle.policy_laws.proofs.Strategies.{next-is, kept-at}
+use Rattle.policy_laws.proofs.Strategies.{serves, next-is, kept-at}
 use Rattle.conservative_laws.specs.Conservative.{stretch, IsConservative}
 use Rattle.conservative_laws.proofs.Misses.{misses-next}
 use Rattle.conservative_laws.proofs.Stretches.{once-few, one-of, in-stretch}
@@ -70,7 +70,7 @@ module _ (c : ℕ) (t : List ℕ) (room : 1 ≤ c) (i m : ℕ) (l : m ≤ length
       let q : List ℕ = fifo_queue c t n in
       let count : strategy_misses t (fifo_queue c t) n ≡ strategy_misses t (fifo_queue c t) i + length now.new = now.misses in
       let next : strategy_misses t (fifo_queue c t) (suc n) ≡ strategy_misses t (fifo_queue c t) n + one_if (not (has_key k q)) = misses-next t (fifo_queue c t) n in
-      let after : fifo_queue c t (suc n) ≡ (fifo_act c k q).1 = next-is c [] (fifo_act c) (λ queue. queue) (AreResidents c) (keeps c room) t n (omega (arith, g, l)) in
+      let after : fifo_queue c t (suc n) ≡ (fifo_act c k q).1 = next-is c [] (fifo_act c) (λ queue. queue) (AreResidents c) (serves (keeps c room)) t n (omega (arith, g, l)) in
       elim (cases_Bool (has_key k q)) [
         | inl e ↦
             let same : (fifo_act c k q).1 ≡ q = rw e refl in
@@ -79,7 +79,7 @@ module _ (c : ℕ) (t : List ℕ) (room : 1 ≤ c) (i m : ℕ) (l : m ≤ length
         | inr e ↦
             let one : one_if (not (has_key k q)) ≡ 1 = ap (λ b. one_if (not b)) e in
             let out : has_key k (now.old ++ now.new) ≡ false = ap (has_key k) (sym now.queue) ∙ e in
-            let kept : AreResidents c q = kept-at c [] (fifo_act c) (λ queue. queue) (AreResidents c) (keeps c room) t n in
+            let kept : AreResidents c q = kept-at c [] (fifo_act c) (λ queue. queue) (AreResidents c) (serves (keeps c room)) t n in
             let once : (x : ℕ) → times x (now.old ++ now.new) ≤ 1 = λ x. (let d : times x q ≤ 1 = kept.distinct x in let same : times x q ≡ times x (now.old ++ now.new) = ap (times x) now.queue in omega (arith, d, same)) in
             let here : has_key k (stretch t i m) ≡ true = in-stretch t i n m h g l in
             let less : length (k ∷ now.new) ≤ length (distinct_keys (stretch t i m)) = once-few (k ∷ now.new) (stretch t i m) (once-more k now.old now.new out once)

@@ -10,7 +10,7 @@ use Rattle.optimality.specs.Strategy.{IsStrategy, strategy_misses}
 use Rattle.queue_policies.specs.Residents.{IsAccess, AreResidents, KeepsResidents, outcomes_of_all}
 use Rattle.policies.proofs.Counting.{hits-misses}
 use Rattle.policies.proofs.Demand.{outcomes-long}
-use Rattle.policy_laws.proofs.Strategies.{state_at, residents_at, next-is, kept-at, strategy, hits-are}
+use Rattle.policy_laws.proofs.Strategies.{Serves, serves, state_at, residents_at, next-is, kept-at, strategy, hits-are}
 use Rattle.conservative_laws.specs.Conservative.{FillsFirst}
 use Rattle.conservative_laws.proofs.Misses.{misses-next}
 use Rattle.conservative_laws.proofs.Stretches.{once-few, stretch-next, has-first, has-last}
@@ -41,26 +41,31 @@ among h t residents is (suc n) l x g =
       | inr r ↦ ap (has_key x) longer ∙ has-first x (take n t) (k ∷ []) (among h t residents is n (omega (arith, l)) x r)
     ]
 
-module _ {S : Type 0} (c : ℕ) (start : S) (act : ℕ → S → Outcome × S) (residents : S → List ℕ) (IsState : S → Type 0) (all : KeepsResidents c start act residents IsState) (t : List ℕ) where
-  abbrev held : ℕ → List ℕ
-  held = residents_at c start act residents IsState all t
-
-  pub misses-are : (n : ℕ) → n ≤ length t → count_by is_miss (outcomes_of_all act start (take n t)) ≡ strategy_misses t held n
-  misses-are n l =
+module _ {S : Type 0} (c : ℕ) (start : S) (act : ℕ → S → Outcome × S) (residents : S → List ℕ) (IsState : S → Type 0) (all : Serves c start act residents IsState) (t : List ℕ) where
+  pub misses-served : (n : ℕ) → n ≤ length t
+      → count_by is_miss (outcomes_of_all act start (take n t)) ≡ strategy_misses t (residents_at c start act residents IsState all t) n
+  misses-served n l =
       let both = hits-misses (outcomes_of_all act start (take n t)) in
       omega (arith, hits-are c start act residents IsState all t n l, both, outcomes-long act start (take n t), length-take-le n t l)
 
-  access-at : (n : ℕ) → n < length t → IsAccess c (get_or t n 0) (held n) (act (get_or t n 0) (state_at c start act residents IsState all t n)).0 (held (suc n))
+module _ {S : Type 0} (c : ℕ) (start : S) (act : ℕ → S → Outcome × S) (residents : S → List ℕ) (IsState : S → Type 0) (all : KeepsResidents c start act residents IsState) (t : List ℕ) where
+  abbrev held : ℕ → List ℕ
+  held = residents_at c start act residents IsState (serves all) t
+
+  pub misses-are : (n : ℕ) → n ≤ length t → count_by is_miss (outcomes_of_all act start (take n t)) ≡ strategy_misses t held n
+  misses-are n l = misses-served c start act residents IsState (serves all) t n l
+
+  access-at : (n : ℕ) → n < length t → IsAccess c (get_or t n 0) (held n) (act (get_or t n 0) (state_at c start act residents IsState (serves all) t n)).0 (held (suc n))
   access-at n l =
-      let after = next-is c start act residents IsState all t n l in
-      rw after (all.accesses (get_or t n 0) (state_at c start act residents IsState all t n) (kept-at c start act residents IsState all t n))
+      let after = next-is c start act residents IsState (serves all) t n l in
+      rw after (all.accesses (get_or t n 0) (state_at c start act residents IsState (serves all) t n) (kept-at c start act residents IsState (serves all) t n))
 
   -- so long as it has missed at most c times, it holds a key for each miss
   one-each : (n : ℕ) → n ≤ length t → strategy_misses t held n ≤ c → length (held n) ≡ strategy_misses t held n
   one-each zero l few = ap length all.starts.1
   one-each (suc n) l few =
       let k : ℕ = get_or t n 0 in
-      let o : Outcome = (act k (state_at c start act residents IsState all t n)).0 in
+      let o : Outcome = (act k (state_at c start act residents IsState (serves all) t n)).0 in
       let a : IsAccess c k (held n) o (held (suc n)) = access-at n (omega (arith, l)) in
       let next : strategy_misses t held (suc n) ≡ strategy_misses t held n + one_if (not (has_key k (held n))) = misses-next t held n in
       let rest : length (held n) ≡ strategy_misses t held n = one-each n (omega (arith, l)) (omega (arith, few, next)) in
@@ -74,5 +79,5 @@ module _ {S : Type 0} (c : ℕ) (start : S) (act : ℕ → S → Outcome × S) (
 
   pub fills-first : FillsFirst c t (strategy_misses t held)
   fills-first n l few =
-      let own : AreResidents c (held n) = all.holds _ (kept-at c start act residents IsState all t n) in
-      omega (arith, one-each n l few, once-few (held n) (take n t) own.distinct (among c t held (strategy c start act residents IsState all t) n l))
+      let own : AreResidents c (held n) = all.holds _ (kept-at c start act residents IsState (serves all) t n) in
+      omega (arith, one-each n l few, once-few (held n) (take n t) own.distinct (among c t held (strategy c start act residents IsState (serves all) t) n l))

@@ -1,7 +1,9 @@
 -- The jobs of Lru, FIFO and CLOCK: their misses are those of the definitions over plain keys.
-use Rattle.std.proofs.Common.{◌≡◌, ℕ, ◌+◌, ◌-◌, ◌*◌, ◌≤◌, map, List, [], ◌∷◌, length, take, count_by, ap, ◌∙◌, sym, refl, subst, arith, inl, inr}
+use Rattle.std.proofs.Common.{◌≡◌, ℕ, ◌+◌, ◌-◌, ◌*◌, ◌≤◌, Result, map, List, [], ◌∷◌, length, take, count_by, ap, ◌∙◌, sym, refl, subst, arith, inl, inr}
 use Rattle.std.proofs.lemmas.Bool.{cases_lt}
 use Rattle.std.proofs.lemmas.List.{take_all, length-take-le}
+use Rattle.step_record.specs.Config.{config_fault}
+use Rattle.step_record.specs.declared.config.ConfigFault.{ConfigFault}
 use Rattle.step_record.specs.declared.job.Job.{Job}
 use Rattle.step_record.specs.declared.job.Policy.TheVariants.{Lru, Fifo, Clock}
 use Rattle.step_record.specs.declared.outcome.Outcome.TheVariants.{Rejected}
@@ -12,11 +14,12 @@ use Rattle.queue_policies.specs.Fifo.{fifo_act}
 use Rattle.queue_policies.specs.Clock.{clock_act, IsClock}
 use Rattle.queue_policies.proofs.Fifo.{keeps as fifo-keeps}
 use Rattle.queue_policies.proofs.Clock.{keeps as clock-keeps}
+use Rattle.adaptive_window.specs.Residents.{CacheKeeps}
 use Rattle.demand_cache.specs.Theorems.{DemandKeeps, RunsByPage}
 use Rattle.policies.specs.declared.design.DemandDesign.{DemandDesign}
 use Rattle.policies.specs.declared.design.DemandDesign.TheVariants as demand
 use Rattle.policies.specs.declared.design.Design.TheVariants as design
-use Rattle.policies.specs.AnyPolicy.{demand_run, demand_outcomes, outcomes_by, outcomes_on, stats_on}
+use Rattle.policies.specs.AnyPolicy.{demand_run, demand_outcomes, adaptive_outcomes, outcomes_by, outcomes_on, stats_on}
 use Rattle.policies.specs.Design.{demand_policy, design_of, has_queues}
 use Rattle.policies.specs.Theorems.{LruStepLaw, FifoStepLaw, AnyCoversTrace}
 use Rattle.policies.proofs.Counting.{count-cons}
@@ -52,7 +55,7 @@ clock-misses law j keys is room =
     demand-misses demand.Clock j keys (ap design_of is) room ∙ ap (count_by is_miss) (law (demand_policy demand.Clock j) j.config.capacity keys room)
 
 -- without room each access is a miss
-all-rejected : (keys : List ℕ) → count_by is_miss (map (λ k. Rejected k) keys) ≡ length keys
+pub all-rejected : (keys : List ℕ) → count_by is_miss (map (λ k. Rejected k) keys) ≡ length keys
 all-rejected [] = refl
 all-rejected (k ∷ keys) = let rest = all-rejected keys in omega (arith, rest, count-cons is_miss (Rejected k) (map (λ k. Rejected k) keys))
 
@@ -61,6 +64,11 @@ demand-misses-all p j keys is none =
     misses-counted j keys
     ∙ (ap (λ d. count_by is_miss (outcomes_by d j keys)) is
     ∙ (ap (λ c. count_by is_miss (demand_outcomes (demand_policy p j) c keys)) none ∙ all-rejected keys))
+
+pub adaptive-misses : (j : Job) (keys : List ℕ) (f : Result (Unit {0}) ConfigFault) → design_of j.policy ≡ design.Adaptive → config_fault j.config ≡ f
+    → (stats_on j keys).misses ≡ count_by is_miss (adaptive_outcomes f j keys)
+adaptive-misses j keys f is ok =
+    misses-counted j keys ∙ (ap (λ d. count_by is_miss (outcomes_by d j keys)) is ∙ ap (λ x. count_by is_miss (adaptive_outcomes x j keys)) ok)
 
 -- ---- as a conservative cache
 
@@ -140,11 +148,11 @@ pub twice_as_large : LruFifoClockCompete → LruFifoClockTwiceAsLarge
 twice_as_large law j t h strategy n is wide s l =
     at-most-twice j.config.capacity h (misses_on j t n) (strategy_misses t strategy n) wide (law j t h strategy n is s l)
 
-pub compete_with_any : LruFifoClockCompete → AnyCoversTrace → BeladyIsStrategy → DemandKeeps → LruFifoClockCompeteWithAny
-compete_with_any law covers best keeps j other t is =
+pub compete_with_any : LruFifoClockCompete → AnyCoversTrace → BeladyIsStrategy → DemandKeeps → CacheKeeps → LruFifoClockCompeteWithAny
+compete_with_any law covers best keeps held j other t is =
     let h : ℕ = other.config.capacity in
     let n : ℕ = length t in
     let all : take n t ≡ t = take_all n t (omega arith) in
-    let own : ActsAsStrategy h t (stats_on other t).hits = acts-as-strategy best keeps other t in
+    let own : ActsAsStrategy h t (stats_on other t).hits = acts-as-strategy best keeps held other t in
     let same = misses-by t own.residents n _ _ (stats-misses covers other t) own.same in
     rw same (subst (λ l. (j.config.capacity + 1 - h) * (stats_on j l).misses ≤ (j.config.capacity + 1) * strategy_misses t own.residents n) all (law j t h own.residents n is own.strategy (omega arith)))

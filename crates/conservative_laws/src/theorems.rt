@@ -78,6 +78,7 @@ pub fn lru_fifo_clock_compete_with_any()
     policies::theorems::any_covers_trace();
     optimality::theorems::belady_is_strategy();
     demand_cache::theorems::demand_keeps();
+    adaptive_window::theorems::cache_keeps();
 }
 
 /// So the reports of jobs over a trace, whichever call made them, obey laws that their reader can check: the counts add
@@ -100,6 +101,7 @@ pub fn no_factor_is_smaller()
 {
     policies::theorems::any_covers_trace();
     demand_cache::theorems::demand_keeps();
+    adaptive_window::theorems::cache_keeps();
 }
 
 /// FIFO and CLOCK can miss more often in a larger cache. (Belady's anomaly: Belady, Nelson and Shedler 1969.)

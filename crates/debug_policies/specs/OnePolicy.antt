@@ -12,17 +12,20 @@ use Rattle.step_record.specs.declared.stats.Stats.{Stats}
 use Rattle.step_record.specs.Job.{word_of}
 use Rattle.step_record.specs.Stats.{stats_of}
 use Rattle.admission.specs.Frequency.{FrequencyData}
+use Rattle.adaptive_window.specs.AdaptiveCache.{cache_access}
+use Rattle.adaptive_window.specs.Residents.{cache_residents}
 use Rattle.clairvoyant.specs.Belady.{belady_residents}
 use Rattle.debug_commands.specs.Texts.{count_text}
 use Rattle.journal.specs.Session.{SessionState}
+use Rattle.segments.specs.Queues.{residents_in}
 use Rattle.policies.specs.declared.any_policy.AnyPolicy.{AnyPolicy}
 use Rattle.queue_policies.specs.Residents.{state_after_all}
 use Rattle.demand_cache.specs.DemandQueues.{empty_cache, queues_act, queues_residents}
 use Rattle.policies.specs.declared.design.Design.{Design}
-use Rattle.policies.specs.declared.design.Design.TheVariants.{KnowsTrace, Queues as OfQueues, Demand as OfDemand}
+use Rattle.policies.specs.declared.design.Design.TheVariants.{KnowsTrace, Queues as OfQueues, Demand as OfDemand, Adaptive as OfAdaptive}
 use Rattle.policies.specs.Design.{demand_policy, design_of}
-use Rattle.policies.specs.AnyPolicy.{outcomes_on, HasAccessed}
-use Rattle.policies.specs.QueueCache.{frequency_after, residents_in, state_after}
+use Rattle.policies.specs.AnyPolicy.{adaptive_start, outcomes_on, HasAccessed}
+use Rattle.policies.specs.QueueCache.{frequency_after, state_after}
 
 -- ---- by the definitions
 
@@ -41,6 +44,7 @@ residents_by (OfQueues d) j trace n = residents_in (state_after j (take n trace)
 residents_by KnowsTrace j trace n = belady_residents j.config.capacity trace n
 residents_by (OfDemand p) j trace n =
     queues_residents (state_after_all queues_act (empty_cache (demand_policy p j) j.config.capacity) (take n trace))
+residents_by OfAdaptive j trace n = cache_residents (state_after_all cache_access (adaptive_start j) (take n trace))
 
 abbrev pub residents_at : Job → List ℕ → ℕ → List ℕ
 residents_at j trace n = residents_by (design_of j.policy) j trace n
@@ -49,9 +53,15 @@ abbrev pub age_in : Option FrequencyData → ℕ
 age_in None = 0
 age_in (Some f) = f.age
 
+abbrev pub age_by : Design → Job → List ℕ → ℕ
+age_by (OfQueues d) j keys = age_in (frequency_after j keys)
+age_by KnowsTrace j keys = 0
+age_by (OfDemand p) j keys = 0
+age_by OfAdaptive j keys = (state_after_all cache_access (adaptive_start j) keys).frequency.age
+
 -- the age of the sketch after them, 0 where there is none
 abbrev pub age_at : Job → List ℕ → ℕ → ℕ
-age_at j trace n = age_in (frequency_after j (take n trace))
+age_at j trace n = age_by (design_of j.policy) j (take n trace)
 
 -- ---- the text
 

@@ -21,7 +21,7 @@ use Rattle.demand_cache.specs.Theorems.{DemandKeeps}
 use Rattle.demand_cache.proofs.Keeping.{page-outcomes}
 use Rattle.policies.specs.declared.design.DemandDesign.{DemandDesign}
 use Rattle.policies.specs.declared.design.Design.{Design}
-use Rattle.policies.specs.declared.design.Design.TheVariants.{Queues, KnowsTrace, Demand}
+use Rattle.policies.specs.declared.design.Design.TheVariants.{Queues, KnowsTrace, Demand, Adaptive}
 use Rattle.policies.specs.Design.{demand_policy}
 use Rattle.policies.specs.AnyPolicy.{IsDemandAfter, demand_run, demand_outcomes}
 use Rattle.policies.proofs.Reached.{has-room}
@@ -131,6 +131,7 @@ abbrev kind_or : DemandDesign → Design → DemandDesign
 kind_or p (Queues d) = p
 kind_or p KnowsTrace = p
 kind_or p (Demand q) = q
+kind_or p Adaptive = p
 
 pub demand-one : (j : Job) (keys : List ℕ) (d e : DemandState) → IsDemandAfter j keys d → IsDemandAfter j keys e → d ≡ e
 demand-one j keys d e a b =

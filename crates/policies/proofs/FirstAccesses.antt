@@ -7,14 +7,16 @@ use Rattle.step_record.specs.Stats.{stats_of}
 use Rattle.clairvoyant.specs.Belady.{belady_outcomes, belady_outcome}
 use Rattle.clairvoyant.specs.Clairvoyant.{ClairvoyantState}
 use Rattle.policies.specs.declared.any_policy.AnyPolicy.{AnyPolicy}
-use Rattle.policies.specs.declared.any_policy.AnyPolicy.TheVariants.{Queues, Optimal, Demand}
+use Rattle.policies.specs.declared.any_policy.AnyPolicy.TheVariants.{Queues, Optimal, Demand, Adaptive}
 use Rattle.policies.specs.AnyPolicy.{stats_in, stats_on, outcomes_on, HasAccessed}
 use Rattle.policies.specs.QueueCache.{QueueState, queue_state_after, frequency_after, empty_queue_state, outcomes_after, outcomes_from, access_response}
 use Rattle.policies.proofs.Answered.{outcomes-length}
 use Rattle.demand_cache.specs.DemandQueues.{queues_act, empty_cache}
-use Rattle.policies.specs.AnyPolicy.{outcomes_by}
+use Rattle.adaptive_window.specs.AdaptiveCache.{cache_access}
+use Rattle.policies.specs.AnyPolicy.{outcomes_by, adaptive_start}
 use Rattle.policies.specs.Design.{demand_policy, design_of}
 use Rattle.policies.proofs.Demand.{outcomes-first, with-room, demand-room}
+use Rattle.policies.proofs.Adaptive.{adaptive-stats, when-checked}
 use Rattle.policies.proofs.StepLaws.{any_covers_trace, any_reports, outcomes-of-queues, outcomes-of-optimal}
 use Rattle.policies.proofs.Counting.{after-counts}
 
@@ -55,6 +57,10 @@ within_trace j trace n (Optimal d) le s =
 within_trace j trace n (Demand d) le s =
     s.stats ∙ ap stats_of (outcomes-first queues_act (empty_cache (demand_policy s.kind j) j.config.capacity) n trace)
     ∙ ap (λ os. stats_of (take n os)) (sym (with-room (demand_policy s.kind j) j.config.capacity trace (demand-room j (take n trace) d s)))
+    ∙ ap (λ z. stats_of (take n (outcomes_by z j trace))) (sym s.design)
+within_trace j trace n (Adaptive d) le s =
+    adaptive-stats j (take n trace) d s ∙ ap stats_of (outcomes-first cache_access (adaptive_start j) n trace)
+    ∙ ap (λ os. stats_of (take n os)) (sym (when-checked j trace s.checked))
     ∙ ap (λ z. stats_of (take n (outcomes_by z j trace))) (sym s.design)
 
 -- a cache that made the first accesses has counted their outcomes, of which there may be fewer

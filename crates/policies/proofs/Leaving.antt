@@ -1,204 +1,23 @@
 -- Which item the record of an access moves out.
-use Rattle.std.proofs.Common.{◌≡◌, ℕ, Bool, true, false, nat_lt, List, Option, Some, None, option_map, length, ◌==◌, ap, ◌∙◌, sym, refl, subst, inl, inr}
-use Rattle.std.specs.Prelude.{if◌then◌else◌}
+use Rattle.std.proofs.Common.{◌≡◌, ℕ, true, List, Option, Some, None, option_map, ◌==◌, ap, sym, refl, subst, inl, inr}
 use Rattle.std.proofs.lemmas.Bool.{cases_Bool}
 use Rattle.step_record.specs.declared.limits.TheConstants.{MAX_STEPS}
-use Rattle.step_record.specs.declared.item.Item.{Item}
-use Rattle.step_record.specs.declared.outcome.Outcome.{Outcome}
-use Rattle.step_record.specs.declared.outcome.Outcome.TheVariants.{Hit, Evicted, Rejected}
-use Rattle.step_record.specs.Stats.{is_eviction, is_hit}
 use Rattle.step_record.specs.declared.job.Job.{Job}
-use Rattle.segments.specs.declared.records.Queue.{Queue}
-use Rattle.segments.specs.declared.records.MoveRecord.{MoveRecord}
-use Rattle.segments.specs.declared.records.Queue.TheVariants.{Window, Probation}
-use Rattle.segments.specs.Items.{is_same_item, oldest_of}
-use Rattle.segments.specs.Queues.{Queues, queue_of, queue_holding, queues_after_push, queues_without, queues_after_move, total_items, IsDistinct}
-use Rattle.replacement.specs.declared.rules.Placement.{Placement}
-use Rattle.replacement.specs.declared.rules.Placement.TheVariants.{Direct, Windowed}
-use Rattle.replacement.specs.declared.rules.HitRule.{HitRule}
-use Rattle.replacement.specs.declared.rules.HitRule.TheVariants.{Renews, Stays}
-use Rattle.replacement.specs.declared.rules.Rules.{Rules}
+use Rattle.step_record.specs.declared.outcome.Outcome.{Outcome}
+use Rattle.step_record.specs.declared.outcome.Outcome.TheVariants.{Hit}
+use Rattle.step_record.specs.Stats.{is_eviction}
+use Rattle.segments.specs.Items.{nodeless_item}
+use Rattle.segments.specs.Queues.{queue_holding, IsDistinct}
 use Rattle.replacement.specs.Admission.{admits_in}
-use Rattle.replacement.specs.Table.{Response, rejection, kept_in, contest, trial_of, eviction, response_with_victim, response_without_trial, miss_by, miss, access_in, access}
-use Rattle.replacement.specs.Plan.{Plan, hit_plan_by, plan}
-use Rattle.replacement.specs.PlanMoves.{removal_record, moves_of, queues_after_transfer}
-use Rattle.replacement.proofs.Planned.{plan-at, access-at, accesses-planned}
+use Rattle.replacement.proofs.Leaving.{hit-keeps, leaver-shown, asks-evicts}
 use Rattle.policies.specs.Design.{rules_of}
-use Rattle.policies.specs.QueueCache.{QueueState, StandsFor, nodeless_item, access_response, queue_state_after}
+use Rattle.policies.specs.QueueCache.{QueueState, StandsFor, access_response, queue_state_after}
 use Rattle.policies.proofs.Balance.{after-balanced}
 use Rattle.policies.specs.QueueStep.{IsReached, recorded_in, queue_act, queue_asks, queue_record_of}
-
--- ---- no miss is a hit
-
-contest-misses : (a : ℕ → ℕ → Bool) (c : Item) (v : Option Item) (s : Queues) → is_hit (contest a c v s).outcome ≡ false
-contest-misses a c None s = refl
-contest-misses a c (Some v) s = by (is_same_item c v) (a c.key v.key)
-  where
-    by : (b e : Bool) → is_hit (if b then rejection c s else if e then record { outcome = Evicted v.key; left = Some v; queues = queues_without v s } else rejection c s).outcome ≡ false
-    by true e = refl
-    by false true = refl
-    by false false = refl
-
-trial-misses : (r : Rules) (a : ℕ → ℕ → Bool) (c : Option Item) (s : Queues) → is_hit (trial_of r a c s).outcome ≡ false
-trial-misses r a None s = refl
-trial-misses r a (Some c) s = by (nat_lt r.capacity (total_items t))
-  where
-    t : Queues
-    t = queues_after_move c Probation s
-
-    by : (b : Bool) → is_hit (if b then contest a c (oldest_of t.probation) t else kept_in t).outcome ≡ false
-    by true = contest-misses a c (oldest_of t.probation) t
-    by false = refl
-
-eviction-misses : (r : Rules) (a : ℕ → ℕ → Bool) (s : Queues) → is_hit (eviction r a s).outcome ≡ false
-eviction-misses r a s = by (nat_lt r.window (length s.window))
-  where
-    by : (b : Bool) → is_hit (if b then trial_of r a (oldest_of s.window) s else kept_in s).outcome ≡ false
-    by true = trial-misses r a (oldest_of s.window) s
-    by false = refl
-
-replacing-misses : (a : ℕ → ℕ → Bool) (q : Queue) (i : Item) (o : Option Item) (s : Queues) → is_hit (response_with_victim a q i o s).outcome ≡ false
-replacing-misses a q i None s = refl
-replacing-misses a q i (Some v) s =
-    elim (cases_Bool (a i.key v.key)) as (λ _. is_hit (response_with_victim a q i (Some v) s).outcome ≡ false) [
-      | inl e ↦ rw e refl
-      | inr e ↦ rw e refl
-    ]
-
-direct-misses : (r : Rules) (a : ℕ → ℕ → Bool) (q : Queue) (i : Item) (s : Queues) → is_hit (response_without_trial r a q i s).outcome ≡ false
-direct-misses r a q i s =
-    elim (cases_Bool (nat_lt (total_items s) r.capacity)) as (λ _. is_hit (response_without_trial r a q i s).outcome ≡ false) [
-      | inl e ↦ rw e refl
-      | inr e ↦ rw e (replacing-misses a q i (oldest_of (queue_of q s)) s)
-    ]
-
-miss-misses : (r : Rules) (a : ℕ → ℕ → Bool) (i : Item) (s : Queues) → is_hit (miss r a i s).outcome ≡ false
-miss-misses r a i s = by r.placement
-  where
-    by : (p : Placement) → is_hit (miss_by p r a i s).outcome ≡ false
-    by (Direct q) = direct-misses r a q i s
-    by Windowed = eviction-misses r a (queues_after_push Window i s)
-
--- ---- a hit
-
-hit-plan-keeps : (h : HitRule) (size : ℕ) (i : Item) (q : Queue) (s : Queues) → (moves_of (hit_plan_by h size i q s) s).out ≡ None
-hit-plan-keeps Renews size i q s = refl
-hit-plan-keeps Stays size i q s = refl
-
-hit-keeps : (r : Rules) (a : ℕ → ℕ → Bool) (i : Item) (s : Queues) (p : Option Queue) → queue_holding i s ≡ p
-    → (access r a i s).outcome ≡ Hit → (moves_of (plan r a i s) s).out ≡ None
-hit-keeps r a i s (Some q) h o = rw (plan-at r a i s (Some q) h) (hit-plan-keeps r.hits r.protected i q s)
-hit-keeps r a i s None h o =
-    let hits : is_hit (access_in r a i None s).outcome ≡ true = ap (λ (x : Response). is_hit x.outcome) (sym (access-at r a i s None h)) ∙ ap is_hit o in
-    absurd (let no : true ≡ false = sym hits ∙ miss-misses r a i s in cc (no))
 
 answer_in : Option (Outcome × QueueState) → Outcome → Outcome
 answer_in None o = o
 answer_in (Some p) o = p.0
-
-pub hits_keep_all : (d : QueueState) (k : ℕ) (e : QueueState) → queue_act d k ≡ Some (Hit, e) → (queue_record_of k d).moves.out ≡ None
-unfolding answer_in
-hits_keep_all d k e h =
-    elim (cases_Bool (d.stats.accesses == MAX_STEPS)) [
-      | inl f ↦ absurd (let no : None ≡ Some (Hit, e) = rw f at h in cc (no))
-      | inr f ↦
-          let b : Some ((access_response (recorded_in k d.frequency) k d).outcome, queue_state_after (recorded_in k d.frequency) k d) ≡ Some (Hit, e) = rw f at h in
-          hit-keeps (rules_of d.job) (admits_in (recorded_in k d.frequency)) (nodeless_item k) d.queues (queue_holding (nodeless_item k) d.queues) refl
-          (ap (λ x. answer_in x Hit) b)
-    ]
-
--- ---- any access
-
-removed-item : (o : Option Item) (s : Queues) → option_map (λ m. m.item) (removal_record o s) ≡ o
-removed-item None s = refl
-removed-item (Some i) s = refl
-
-leaver-shown : (j : Job) (keys : List ℕ) (d : QueueState) (k : ℕ) → StandsFor j keys d
-    → option_map (λ m. m.item) (queue_record_of k d).moves.out ≡ (access_response (recorded_in k d.frequency) k d).left
-leaver-shown j keys d k s =
-    let u : IsDistinct d.queues = subst (λ (x : QueueState). IsDistinct x.queues) (sym s.gives) (after-balanced j keys).once in
-    let f = recorded_in k d.frequency in
-    let p : Plan = plan (rules_of d.job) (admits_in f) (nodeless_item k) d.queues in
-    removed-item p.leaves (queues_after_transfer p.first d.queues)
-    ∙ ap (λ (x : Response). x.left) (sym (accesses-planned (rules_of d.job) (admits_in f) (nodeless_item k) d.queues u))
-
-pub records_show_leaver : (d : QueueState) (k : ℕ) → IsReached d
-    → option_map (λ m. m.item) (queue_record_of k d).moves.out ≡ (access_response (recorded_in k d.frequency) k d).left
-records_show_leaver d k r = leaver-shown d.job r.keys d k r.stands
-
--- ---- an item leaves only by an eviction
-
-abbrev Evicts : Response → Type 0
-Evicts w = (w.left ≡ None → ⊥) → is_eviction w.outcome ≡ true
-
-contest-evicts : (a : ℕ → ℕ → Bool) (c : Item) (v : Option Item) (s : Queues) → Evicts (contest a c v s)
-contest-evicts a c None s = λ h. refl
-contest-evicts a c (Some v) s = by (is_same_item c v) (a c.key v.key)
-  where
-    by : (b e : Bool) → Evicts (if b then rejection c s else if e then record { outcome = Evicted v.key; left = Some v; queues = queues_without v s } else rejection c s)
-    by true e = λ h. refl
-    by false true = λ h. refl
-    by false false = λ h. refl
-
-trial-evicts : (r : Rules) (a : ℕ → ℕ → Bool) (c : Option Item) (s : Queues) → Evicts (trial_of r a c s)
-trial-evicts r a None s = λ h. absurd (h refl)
-trial-evicts r a (Some c) s = by (nat_lt r.capacity (total_items t))
-  where
-    t : Queues
-    t = queues_after_move c Probation s
-
-    by : (b : Bool) → Evicts (if b then contest a c (oldest_of t.probation) t else kept_in t)
-    by true = contest-evicts a c (oldest_of t.probation) t
-    by false = λ h. absurd (h refl)
-
-eviction-evicts : (r : Rules) (a : ℕ → ℕ → Bool) (s : Queues) → Evicts (eviction r a s)
-eviction-evicts r a s = by (nat_lt r.window (length s.window))
-  where
-    by : (b : Bool) → Evicts (if b then trial_of r a (oldest_of s.window) s else kept_in s)
-    by true = trial-evicts r a (oldest_of s.window) s
-    by false = λ h. absurd (h refl)
-
-replacing-evicts : (a : ℕ → ℕ → Bool) (q : Queue) (i : Item) (o : Option Item) (s : Queues) → Evicts (response_with_victim a q i o s)
-replacing-evicts a q i None s = λ h. refl
-replacing-evicts a q i (Some v) s = by (a i.key v.key)
-  where
-    by : (b : Bool) → Evicts (if b then record { outcome = Evicted v.key; left = Some v; queues = queues_after_push q i (queues_without v s) } else record { outcome = Rejected i.key; left = None; queues = s })
-    by true = λ h. refl
-    by false = λ h. refl
-
-direct-evicts : (r : Rules) (a : ℕ → ℕ → Bool) (q : Queue) (i : Item) (s : Queues) → Evicts (response_without_trial r a q i s)
-direct-evicts r a q i s = by (nat_lt (total_items s) r.capacity)
-  where
-    by : (b : Bool) → Evicts (if b then kept_in (queues_after_push q i s) else response_with_victim a q i (oldest_of (queue_of q s)) s)
-    by true = λ h. absurd (h refl)
-    by false = replacing-evicts a q i (oldest_of (queue_of q s)) s
-
-miss-evicts : (r : Rules) (a : ℕ → ℕ → Bool) (i : Item) (s : Queues) → Evicts (miss r a i s)
-miss-evicts r a i s = by r.placement
-  where
-    by : (p : Placement) → Evicts (miss_by p r a i s)
-    by (Direct q) = direct-evicts r a q i s
-    by Windowed = eviction-evicts r a (queues_after_push Window i s)
-
-access-evicts : (r : Rules) (a : ℕ → ℕ → Bool) (i : Item) (s : Queues) → Evicts (access r a i s)
-unfolding access
-access-evicts r a i s = by (queue_holding i s)
-  where
-    by : (p : Option Queue) → Evicts (access_in r a i p s)
-    by (Some q) = λ h. absurd (h refl)
-    by None = miss-evicts r a i s
-
-no-item : (o : Option MoveRecord) → option_map (λ m. m.item) o ≡ None → o ≡ None
-no-item None h = refl
-no-item (Some m) h = absurd (cc (h))
-
--- a record that asks for memory is of an access by which an item left
-pub asks-evicts : (j : Job) (keys : List ℕ) (d : QueueState) (k : ℕ) → StandsFor j keys d → queue_asks (queue_record_of k d)
-    → is_eviction (queue_record_of k d).outcome ≡ true
-asks-evicts j keys d k s asks =
-    let f = recorded_in k d.frequency in
-    access-evicts (rules_of d.job) (admits_in f) (nodeless_item k) d.queues
-    (λ none. asks (no-item (queue_record_of k d).moves.out (leaver-shown j keys d k s ∙ none)))
 
 pub act-answers : (d : QueueState) (k : ℕ) (o : Outcome) (e : QueueState) → queue_act d k ≡ Some (o, e) → (queue_record_of k d).outcome ≡ o
 unfolding answer_in
@@ -209,3 +28,22 @@ act-answers d k o e h =
           let b : Some ((access_response (recorded_in k d.frequency) k d).outcome, queue_state_after (recorded_in k d.frequency) k d) ≡ Some (o, e) = rw f at h in
           ap (λ x. answer_in x o) b
     ]
+
+pub hits_keep_all : (d : QueueState) (k : ℕ) (e : QueueState) → queue_act d k ≡ Some (Hit, e) → (queue_record_of k d).moves.out ≡ None
+hits_keep_all d k e h =
+    let i = nodeless_item k in
+    hit-keeps (rules_of d.job) (admits_in (recorded_in k d.frequency)) i d.queues (queue_holding i d.queues) refl (act-answers d k Hit e h)
+
+distinct : (j : Job) (keys : List ℕ) (d : QueueState) → StandsFor j keys d → IsDistinct d.queues
+distinct j keys d s = subst (λ (x : QueueState). IsDistinct x.queues) (sym s.gives) (after-balanced j keys).once
+
+pub records_show_leaver : (d : QueueState) (k : ℕ) → IsReached d
+    → option_map (λ m. m.item) (queue_record_of k d).moves.out ≡ (access_response (recorded_in k d.frequency) k d).left
+records_show_leaver d k r =
+    leaver-shown (rules_of d.job) (admits_in (recorded_in k d.frequency)) (nodeless_item k) d.queues (distinct d.job r.keys d r.stands)
+
+-- a record that asks for memory is of an access by which an item left
+pub queue-asks-evicts : (j : Job) (keys : List ℕ) (d : QueueState) (k : ℕ) → StandsFor j keys d → queue_asks (queue_record_of k d)
+    → is_eviction (queue_record_of k d).outcome ≡ true
+queue-asks-evicts j keys d k s asks =
+    asks-evicts (rules_of d.job) (admits_in (recorded_in k d.frequency)) (nodeless_item k) d.queues (distinct j keys d s) asks

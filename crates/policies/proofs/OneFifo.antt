@@ -6,7 +6,7 @@ use Rattle.step_record.specs.declared.job.Job.{Job}
 use Rattle.step_record.specs.declared.job.Policy.TheVariants.{Fifo}
 use Rattle.step_record.specs.Keys.{has_key}
 use Rattle.segments.specs.declared.records.Queue.TheVariants.{Window}
-use Rattle.segments.specs.Items.{oldest_of}
+use Rattle.segments.specs.Items.{oldest_of, nodeless_item}
 use Rattle.segments.specs.Queues.{Queues, queue_holding, queues_after_push}
 use Rattle.admission.specs.Frequency.{FrequencyData}
 use Rattle.replacement.specs.declared.rules.Placement.TheVariants.{Direct}
@@ -21,7 +21,7 @@ use Rattle.queue_policies.specs.Residents.{times, AreResidents, KeepsResidents, 
 use Rattle.queue_policies.specs.Theorems.{FifoKeeps}
 use Rattle.queue_policies.proofs.Residents.{no-times}
 use Rattle.policies.specs.Design.{design_of, rules_in, rules_of, is_counting}
-use Rattle.policies.specs.QueueCache.{QueueState, nodeless_item, access_response, queue_state_after, frequency_by, frequency_after, state_from, empty_queue_state, state_after, outcomes_from, outcomes_after}
+use Rattle.policies.specs.QueueCache.{QueueState, access_response, queue_state_after, frequency_by, frequency_after, state_from, empty_queue_state, state_after, outcomes_from, outcomes_after}
 use Rattle.policies.specs.AnyPolicy.{outcomes_by}
 use Rattle.policies.specs.SingleQueue.{single_queue}
 use Rattle.policies.specs.Theorems.{FifoStepLaw}

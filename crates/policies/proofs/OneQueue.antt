@@ -8,7 +8,7 @@ use Rattle.step_record.specs.declared.job.Policy.TheVariants.{Lru}
 use Rattle.step_record.specs.declared.outcome.Outcome.TheVariants.{Hit}
 use Rattle.step_record.specs.Keys.{has_key, keys_without as without_key}
 use Rattle.segments.specs.declared.records.Queue.TheVariants.{Window}
-use Rattle.segments.specs.Items.{has_item, occurrences, items_without, oldest_of}
+use Rattle.segments.specs.Items.{has_item, occurrences, items_without, oldest_of, nodeless_item}
 use Rattle.segments.specs.Queues.{Queues, queue_holding, queues_after_push, total_items}
 use Rattle.admission.specs.Frequency.{FrequencyData}
 use Rattle.replacement.specs.declared.rules.Placement.TheVariants.{Direct}
@@ -20,7 +20,7 @@ use Rattle.replacement.specs.Table.{Response, kept_in, hit_in, response_with_vic
 use Rattle.replacement.proofs.Planned.{access-at}
 use Rattle.policies.specs.Lru.{lru_residents, lru_outcome, distinct_keys}
 use Rattle.policies.specs.Design.{design_of, rules_in, rules_of, is_counting}
-use Rattle.policies.specs.QueueCache.{QueueState, nodeless_item, queue_state_after, frequency_by, frequency_after, state_from, empty_queue_state, state_after, outcome_after}
+use Rattle.policies.specs.QueueCache.{QueueState, queue_state_after, frequency_by, frequency_after, state_from, empty_queue_state, state_after, outcome_after}
 use Rattle.policies.specs.SingleQueue.{single_queue}
 use Rattle.policies.proofs.Recency.{IsDistinct, moved, answer, two, without-none, distinct-distinct, residents-snoc, outcome-residents}
 

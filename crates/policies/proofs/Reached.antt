@@ -24,8 +24,9 @@ use Rattle.replacement.specs.Admission.{admits_in}
 use Rattle.replacement.specs.Shape.{shape_of}
 use Rattle.replacement.specs.Table.{Response, access}
 use Rattle.replacement.proofs.Shape.{shape-is}
+use Rattle.segments.specs.Items.{nodeless_item}
 use Rattle.policies.specs.Design.{is_counting, rules_of}
-use Rattle.policies.specs.QueueCache.{QueueState, nodeless_item, access_response, queue_state_after, frequency_by, frequency_after, state_from, empty_queue_state, state_after, outcome_after, StandsFor}
+use Rattle.policies.specs.QueueCache.{QueueState, access_response, queue_state_after, frequency_by, frequency_after, state_from, empty_queue_state, state_after, outcome_after, StandsFor}
 use Rattle.policies.specs.QueueStep.{IsReached, recorded_in, queue_act, FitsCounting, unrecorded, pace_by}
 use Rattle.admission.specs.FreqRecord.{size_of}
 use Rattle.policies.specs.QueueFields.{FewHalvings}

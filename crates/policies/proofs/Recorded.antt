@@ -13,9 +13,9 @@ use Rattle.replacement.specs.Admission.{admits_in}
 use Rattle.replacement.specs.Table.{Response, access}
 use Rattle.replacement.specs.Plan.{plan}
 use Rattle.replacement.specs.PlanMoves.{moves_of}
+use Rattle.segments.specs.Items.{nodeless_item}
 use Rattle.policies.specs.declared.record.AccessRecord.{AccessRecord}
 use Rattle.policies.specs.Design.{rules_of}
-use Rattle.policies.specs.QueueCache.{nodeless_item}
 use Rattle.policies.specs.QueueStep.{recorded_in, counting_record, queue_record_of}
 
 abbrev pub record_with : FreqRecord → Moves → Outcome → AccessRecord

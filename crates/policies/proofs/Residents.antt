@@ -1,12 +1,13 @@
 -- How many keys are resident in a cache of any policy.
-use Rattle.std.proofs.Common.{◌≡◌, ℕ, zero, suc, ◌+◌, ◌≤◌, eqb, nat_lt, ◌==◌, cond, map, Option, Some, None, List, [], ◌∷◌, length, get_or, ap, ◌∙◌, sym, refl, subst, arith, inl, inr}
+use Rattle.std.proofs.Common.{◌≡◌, ℕ, zero, suc, ◌+◌, ◌≤◌, eqb, nat_lt, ◌==◌, cond, map, Option, Some, None, Result, Ok, Err, List, [], ◌∷◌, length, get_or, ap, ◌∙◌, sym, refl, subst, arith, inl, inr}
 use Rattle.std.specs.List.{count_by}
 use Rattle.std.proofs.lemmas.Bool.{cases_Bool}
 use Rattle.step_record.specs.declared.limits.TheConstants.{MAX_STEPS}
 use Rattle.step_record.specs.declared.outcome.Outcome.{Outcome}
 use Rattle.clairvoyant.specs.Clairvoyant.{ClairvoyantState, is_next, clairvoyant_after, clairvoyant_act}
+use Rattle.segments.specs.Queues.{residents_in}
 use Rattle.policies.specs.QueueStep.{recorded_in, queue_act}
-use Rattle.policies.specs.AnyPolicy.{any_residents, outcomes_by, outcomes_on, stats_on, demand_outcomes}
+use Rattle.policies.specs.AnyPolicy.{any_residents, outcomes_by, outcomes_on, stats_on, demand_outcomes, adaptive_outcomes}
 use Rattle.policies.specs.declared.design.Design.{Design}
 use Rattle.policies.specs.declared.design.Design.TheVariants as design
 use Rattle.policies.specs.Design.{demand_policy, design_of}
@@ -19,10 +20,15 @@ use Rattle.demand_cache.specs.Theorems.{DemandKeeps}
 use Rattle.queue_policies.specs.Residents.{KeepsResidents, state_after_all}
 use Rattle.queue_policies.proofs.Residents.{counts-residents}
 use Rattle.policies.proofs.Demand.{demand-access, demand-holds, demand-is-access, demand-counted, demand-came-from, times-by, kept-after, with-room}
+use Rattle.step_record.specs.Config.{config_fault}
+use Rattle.step_record.specs.declared.config.ConfigFault.{ConfigFault}
+use Rattle.adaptive_window.specs.AdaptiveCache.{cache_access, cache_act}
+use Rattle.adaptive_window.specs.Residents.{CacheKeeps}
+use Rattle.policies.proofs.Adaptive.{adaptive-access, adaptive-sound, adaptive-counted, adaptive-fit}
 use Rattle.policies.specs.Theorems.{AnyCoversTrace}
 use Rattle.policies.proofs.Counting.{after-counts, hits-misses}
 use Rattle.step_record.specs.declared.job.Job.{Job}
-use Rattle.policies.specs.AnyCounts.{IsQueueStep, IsOptimalStep, IsDemandStep, queue_step, optimal_step, demand_step}
+use Rattle.policies.specs.AnyCounts.{IsQueueStep, IsOptimalStep, IsDemandStep, IsAdaptiveStep, queue_step, optimal_step, demand_step, adaptive_step}
 use Rattle.step_record.specs.Keys.{has_key, keys_without}
 use Rattle.step_record.specs.Stats.{is_hit, is_miss, is_eviction, one_if, stats_of}
 use Rattle.step_record.specs.declared.stats.Stats.{Stats}
@@ -32,18 +38,20 @@ use Rattle.clairvoyant.specs.Keys.{residents_with, IsAscendingKeys}
 use Rattle.clairvoyant.proofs.Belady.{residents-ascending, full-length, served-has, hit-resident, residents-fit as belady-residents-fit}
 use Rattle.clairvoyant.proofs.Listing.{one-few, times-sum, times-has}
 use Rattle.clairvoyant.proofs.Keys.{length-put}
-use Rattle.policies.specs.QueueCache.{QueueState, residents_in, access_response, queue_state_after, state_after}
-use Rattle.policies.specs.declared.any_policy.AnyPolicy.TheVariants.{Queues, Optimal, Demand}
+use Rattle.policies.specs.QueueCache.{QueueState, access_response, queue_state_after, state_after}
+use Rattle.policies.specs.declared.any_policy.AnyPolicy.TheVariants.{Queues, Optimal, Demand, Adaptive}
 use Rattle.policies.specs.Residents.{StatsAddUp, MissesFit, ResidentsFit, ResidentsDistinct, ResidentsCounted, HitsAreResidents, FetchesOnDemand}
-use Rattle.policies.proofs.Balance.{IsBalancedCache, step-balanced, after-balanced, residents-length, residents-fit, resident-queued, came-from, resident-once}
+use Rattle.replacement.proofs.Residents.{residents-length, resident-queued, resident-once}
+use Rattle.policies.proofs.Balance.{IsBalancedCache, step-balanced, after-balanced, residents-fit, came-from}
 
-pub residents_fit : DemandKeeps → ResidentsFit
-residents_fit law j trace keys (Queues d) s =
+pub residents_fit : DemandKeeps → CacheKeeps → ResidentsFit
+residents_fit law own j trace keys (Queues d) s =
     subst (λ (x : QueueState). length (residents_in x.queues) ≤ j.config.capacity) (sym s.1.gives) (residents-fit j keys)
-residents_fit law j trace keys (Optimal d) s =
+residents_fit law own j trace keys (Optimal d) s =
     subst (λ (x : ClairvoyantState). length x.residents ≤ j.config.capacity) (sym s.gives)
     (belady-residents-fit j.config.capacity trace (length keys))
-residents_fit law j trace keys (Demand d) s = (demand-holds law j keys d s).fits
+residents_fit law own j trace keys (Demand d) s = (demand-holds law j keys d s).fits
+residents_fit law own j trace keys (Adaptive d) s = (own j.config j.tuning.period s.checked).fits d (adaptive-sound own j keys d s)
 
 one-in : (c : ℕ) (t : List ℕ) (i k : ℕ) (r : List ℕ) → IsAscendingKeys r → length (belady_residents_after c t i k r) + one_if (is_eviction (belady_answer c t i k r)) ≡ length r + one_if (is_miss (belady_answer c t i k r))
 one-in c t i k r s =
@@ -72,11 +80,12 @@ belady-counted c t (suc i) =
 queues-counted : (d : QueueState) → IsBalancedCache d → length (residents_in d.queues) + d.stats.evictions ≡ d.stats.misses
 queues-counted d s = let counted = s.counted in omega (arith, counted, residents-length d.queues)
 
-pub residents_counted : DemandKeeps → ResidentsCounted
-residents_counted law j trace keys (Queues d) s = queues-counted d (subst IsBalancedCache (sym s.1.gives) (after-balanced j keys))
-residents_counted law j trace keys (Optimal d) s =
+pub residents_counted : DemandKeeps → CacheKeeps → ResidentsCounted
+residents_counted law own j trace keys (Queues d) s = queues-counted d (subst IsBalancedCache (sym s.1.gives) (after-balanced j keys))
+residents_counted law own j trace keys (Optimal d) s =
     subst (λ (x : ClairvoyantState). length x.residents + x.stats.evictions ≡ x.stats.misses) (sym s.gives) (belady-counted j.config.capacity trace (length keys))
-residents_counted law j trace keys (Demand d) s = demand-counted law j keys d s
+residents_counted law own j trace keys (Demand d) s = demand-counted law j keys d s
+residents_counted law own j trace keys (Adaptive d) s = adaptive-counted own j keys d s
 
 -- ---- the statistics of a job over a trace
 
@@ -112,30 +121,39 @@ demand-fit law p (suc c) t =
     let few = (all.holds state (kept-after (suc c) start queues_act queues_residents (IsQueues (suc c)) all t)).fits in
     subst (λ os. (stats_of os).misses ≤ (stats_of os).evictions + suc c) (sym (with-room p (suc c) t (omega arith))) (omega (arith, sum, few))
 
-fit-by : DemandKeeps → (x : Design) (j : Job) (trace : List ℕ)
-    → (stats_of (outcomes_by x j trace)).misses ≤ (stats_of (outcomes_by x j trace)).evictions + j.config.capacity
-fit-by law (design.Queues q) j trace = subst (λ (s : Stats). s.misses ≤ s.evictions + j.config.capacity) (after-counts j trace) (queues-fit j trace)
-fit-by law design.KnowsTrace j trace = optimal-fit j.config.capacity trace (length trace)
-fit-by law (design.Demand p) j trace = demand-fit law (demand_policy p j) j.config.capacity trace
+unopened-fit : CacheKeeps → (f : Result (Unit {0}) ConfigFault) (j : Job) (trace : List ℕ) → config_fault j.config ≡ f
+    → (stats_of (adaptive_outcomes f j trace)).misses ≤ (stats_of (adaptive_outcomes f j trace)).evictions + j.config.capacity
+unopened-fit law (Ok u) j trace ok = adaptive-fit law j trace ok
+unopened-fit law (Err e) j trace ok = let few = none-kept trace in omega (arith, few)
 
-pub misses_fit : DemandKeeps → MissesFit
+fit-by : DemandKeeps → CacheKeeps → (x : Design) (j : Job) (trace : List ℕ)
+    → (stats_of (outcomes_by x j trace)).misses ≤ (stats_of (outcomes_by x j trace)).evictions + j.config.capacity
+fit-by law own (design.Queues q) j trace = subst (λ (s : Stats). s.misses ≤ s.evictions + j.config.capacity) (after-counts j trace) (queues-fit j trace)
+fit-by law own design.KnowsTrace j trace = optimal-fit j.config.capacity trace (length trace)
+fit-by law own (design.Demand p) j trace = demand-fit law (demand_policy p j) j.config.capacity trace
+fit-by law own design.Adaptive j trace = unopened-fit own (config_fault j.config) j trace refl
+
+pub misses_fit : DemandKeeps → CacheKeeps → MissesFit
 unfolding stats_on
-misses_fit law j trace = fit-by law (design_of j.policy) j trace
+misses_fit law own j trace = fit-by law own (design_of j.policy) j trace
 
 -- ---- no key twice
 
 ascending-once : (k : ℕ) (r : List ℕ) → IsAscendingKeys r → count_by (eqb k) r ≡ one_if (has_key k r)
 ascending-once k r s = sym (times-sum k r) ∙ times-has k r s
 
-pub residents_distinct : DemandKeeps → ResidentsDistinct
-residents_distinct law j trace keys (Queues d) k s = resident-once k d (subst IsBalancedCache (sym s.1.gives) (after-balanced j keys))
-residents_distinct law j trace keys (Optimal d) k s =
+pub residents_distinct : DemandKeeps → CacheKeeps → ResidentsDistinct
+residents_distinct law own j trace keys (Queues d) k s =
+    let sound : IsBalancedCache d = subst IsBalancedCache (sym s.1.gives) (after-balanced j keys) in
+    resident-once k d.queues sound.once sound.nodeless
+residents_distinct law own j trace keys (Optimal d) k s =
     let r : List ℕ = belady_residents j.config.capacity trace (length keys) in
     let once : count_by (eqb k) r ≤ 1 = omega (arith, ascending-once k r (residents-ascending j.config.capacity trace (length keys)), one-few (has_key k r)) in
     subst (λ (x : ClairvoyantState). count_by (eqb k) x.residents ≤ 1) (sym s.gives) once
-residents_distinct law j trace keys (Demand d) k s =
+residents_distinct law own j trace keys (Demand d) k s =
     let once = (demand-holds law j keys d s).distinct k in
     omega (arith, once, times-by k (queues_residents d.queues))
+residents_distinct law own j trace keys (Adaptive d) k s = (own j.config j.tuning.period s.checked).distinct d k (adaptive-sound own j keys d s)
 
 -- ---- an accepted step
 
@@ -183,30 +201,39 @@ optimal-access d k o e h =
       | inr f ↦ absurd (let no : None ≡ Some (o, e) = rw f at h in cc (no))
     ]
 
-pub hits_are_residents : DemandKeeps → HitsAreResidents
-hits_are_residents law j trace keys (Queues d) k o e s h =
+pub hits_are_residents : DemandKeeps → CacheKeeps → HitsAreResidents
+hits_are_residents law own j trace keys (Queues d) k o e s h =
     let sound : IsBalancedCache d = subst IsBalancedCache (sym s.1.gives) (after-balanced j keys) in
     let q : IsQueueStep (queue_act d k) o e = queue_step (queue_act d k) o e h in
     ap is_hit (queue-access d k o q.next q.steps).outcome ∙ ((step-balanced (recorded_in k d.frequency) k d sound).hit ∙ sym (resident-queued k d.queues sound.nodeless))
-hits_are_residents law j trace keys (Optimal d) k o e s h =
+hits_are_residents law own j trace keys (Optimal d) k o e s h =
     let q : IsOptimalStep (clairvoyant_act d k) o e = optimal_step (clairvoyant_act d k) o e h in
     ap is_hit (optimal-access d k o q.next q.steps).outcome ∙ hit-resident d.capacity d.trace d.stats.accesses k d.residents
-hits_are_residents law j trace keys (Demand d) k o e s h =
+hits_are_residents law own j trace keys (Demand d) k o e s h =
     let q : IsDemandStep (demand_act d k) o e = demand_step (demand_act d k) o e h in
     ap is_hit (demand-access d k o q.next q.steps).outcome ∙ (demand-is-access law j keys d k s).hits
+hits_are_residents law own j trace keys (Adaptive d) k o e s h =
+    let q : IsAdaptiveStep (cache_act d k) o e = adaptive_step (cache_act d k) o e h in
+    ap is_hit (adaptive-access d k o q.next q.steps).outcome
+    ∙ ((own j.config j.tuning.period s.checked).accesses k d (adaptive-sound own j keys d s)).hits
 
-pub fetches_on_demand : DemandKeeps → FetchesOnDemand
-fetches_on_demand law j trace keys (Queues d) k o e x s h there =
+pub fetches_on_demand : DemandKeeps → CacheKeeps → FetchesOnDemand
+fetches_on_demand law own j trace keys (Queues d) k o e x s h there =
     let sound : IsBalancedCache d = subst IsBalancedCache (sym s.1.gives) (after-balanced j keys) in
     let q : IsQueueStep (queue_act d k) o e = queue_step (queue_act d k) o e h in
     let next : e ≡ Queues (queue_state_after (recorded_in k d.frequency) k d) = q.is ∙ ap Queues (queue-access d k o q.next q.steps).next in
     came-from (recorded_in k d.frequency) k x d sound (ap (λ y. has_key x (any_residents y)) (sym next) ∙ there)
-fetches_on_demand law j trace keys (Optimal d) k o e x s h there =
+fetches_on_demand law own j trace keys (Optimal d) k o e x s h there =
     let q : IsOptimalStep (clairvoyant_act d k) o e = optimal_step (clairvoyant_act d k) o e h in
     let next : e ≡ Optimal (clairvoyant_after d k) = q.is ∙ ap Optimal (optimal-access d k o q.next q.steps).next in
     served-has d.capacity d.trace d.stats.accesses k x d.residents (ap (λ y. has_key x (any_residents y)) (sym next) ∙ there)
-fetches_on_demand law j trace keys (Demand d) k o e x s h there =
+fetches_on_demand law own j trace keys (Demand d) k o e x s h there =
     let q : IsDemandStep (demand_act d k) o e = demand_step (demand_act d k) o e h in
     let next : e ≡ Demand (state_with d.stats (queues_act k d.queues)) = q.is ∙ ap Demand (demand-access d k o q.next q.steps).next in
     demand-came-from j.config.capacity k x (queues_residents d.queues) (queues_act k d.queues).0 (queues_residents (queues_act k d.queues).1)
     (demand-is-access law j keys d k s) (ap (λ y. has_key x (any_residents y)) (sym next) ∙ there)
+fetches_on_demand law own j trace keys (Adaptive d) k o e x s h there =
+    let q : IsAdaptiveStep (cache_act d k) o e = adaptive_step (cache_act d k) o e h in
+    let next : e ≡ Adaptive (cache_access k d).1 = q.is ∙ ap Adaptive (adaptive-access d k o q.next q.steps).next in
+    ((own j.config j.tuning.period s.checked).accesses k d (adaptive-sound own j keys d s)).came x
+    (ap (λ y. has_key x (any_residents y)) (sym next) ∙ there)

@@ -1,6 +1,7 @@
 -- What a cache of any policy stands for.
-use Rattle.std.proofs.Common.{◌≡◌, ℕ, true, false, suc, ◌+◌, ◌<◌, Option, Some, None, List, [], ◌∷◌, ◌++◌, length, take, get_or, ap, ◌∙◌, sym, refl, arith, subst, length-append}
+use Rattle.std.proofs.Common.{◌≡◌, ℕ, Bool, true, false, suc, ◌+◌, ◌<◌, Option, Some, None, List, [], ◌∷◌, ◌++◌, length, take, get_or, ap, ◌∙◌, sym, refl, arith, subst, length-append}
 use Rattle.std.proofs.lemmas.List.{take_more}
+use Rattle.step_record.specs.Config.{config_fault}
 use Rattle.step_record.specs.declared.job.Job.{Job}
 use Rattle.step_record.specs.declared.outcome.Outcome.{Outcome}
 use Rattle.step_record.specs.declared.outcome.Outcome.TheVariants.{Hit}
@@ -8,23 +9,27 @@ use Rattle.step_record.specs.Stats.{is_eviction, stats_of}
 use Rattle.clairvoyant.specs.Belady.{belady_outcomes, belady_outcome as outcome_at}
 use Rattle.clairvoyant.specs.Theorems.{ClairvoyantStepLaw, ClairvoyantAccepts}
 use Rattle.clairvoyant.specs.Clairvoyant.{ClairvoyantState, clairvoyant_at, clairvoyant_act}
-use Rattle.policies.specs.declared.any_policy.AnyPolicy.TheVariants.{Queues, Optimal, Demand}
+use Rattle.policies.specs.declared.any_policy.AnyPolicy.TheVariants.{Queues, Optimal, Demand, Adaptive}
 use Rattle.policies.specs.QueueCache.{QueueState, outcomes_after}
 use Rattle.policies.specs.QueueStep.{queue_act}
 use Rattle.demand_cache.specs.DemandCache.{DemandState, demand_act}
 use Rattle.demand_cache.specs.DemandQueues.{queues_act, empty_cache}
 use Rattle.demand_cache.specs.Theorems.{DemandKeeps, HitsAskNothing, AsksWhereOneLeft}
+use Rattle.queue_policies.specs.Residents.{outcomes_of_all}
+use Rattle.adaptive_window.specs.AdaptiveCache.{AdaptiveCacheState, cache_access, cache_act}
+use Rattle.adaptive_window.specs.Residents.{CacheKeeps, CacheHitsAskNothing, CacheAsksWhereOneLeft}
 use Rattle.policies.specs.declared.design.Design.{Design}
 use Rattle.policies.specs.declared.design.Design.TheVariants as design
 use Rattle.policies.specs.Design.{demand_policy, design_of, is_of_queues, is_optimal}
-use Rattle.policies.specs.AnyPolicy.{stats_on, outcomes_by, demand_run, IsBeladyAt}
-use Rattle.policies.specs.AnyStep.{as_queues, as_optimal, as_demand}
-use Rattle.policies.specs.AnyCounts.{IsQueueStep, IsOptimalStep, IsDemandStep, queue_step, optimal_step, demand_step}
+use Rattle.policies.specs.AnyPolicy.{stats_on, outcomes_by, adaptive_outcomes, adaptive_start, demand_run, IsBeladyAt}
+use Rattle.policies.specs.AnyStep.{as_queues, as_optimal, as_demand, as_adaptive}
+use Rattle.policies.specs.AnyCounts.{IsQueueStep, IsOptimalStep, IsDemandStep, IsAdaptiveStep, queue_step, optimal_step, demand_step, adaptive_step}
 use Rattle.policies.specs.Theorems.{AnyStepLaw, AnyAccepts, AnyIsOne, AnyReports, AnyAnswers, AnyCoversTrace, AnyHitsKeepAll, AnyAsksWhereOneLeft}
-use Rattle.policies.proofs.Leaving.{hits_keep_all, asks-evicts, act-answers}
+use Rattle.policies.proofs.Leaving.{hits_keep_all, queue-asks-evicts, act-answers}
 use Rattle.policies.proofs.Counting.{after-counts}
 use Rattle.policies.proofs.Answered.{after-answers, after-length, at-answers, outcomes-length}
 use Rattle.policies.proofs.Demand.{demand-access, demand_stands, demand-refused, demand-accesses, demand-one, outcomes-at, with-room, demand-room, demand-long, demand-sound}
+use Rattle.policies.proofs.Adaptive.{adaptive-access, adaptive-refused, adaptive_stands, adaptive-stats, adaptive-accesses, adaptive-sound, when-checked, adaptive-long}
 use Rattle.policies.proofs.Reached.{act_stands, act_accepts, stands-accesses}
 
 -- a cache that knows the trace, at its place
@@ -75,6 +80,9 @@ any_step_law law j trace keys (Optimal d) k o e s h =
 any_step_law law j trace keys (Demand d) k o e s h =
     let q : IsDemandStep (demand_act d k) o e = demand_step (demand_act d k) o e h in
     rw q.is (demand_stands j keys d k o q.next s q.steps)
+any_step_law law j trace keys (Adaptive d) k o e s h =
+    let q : IsAdaptiveStep (cache_act d k) o e = adaptive_step (cache_act d k) o e h in
+    rw q.is (adaptive_stands j keys d k o q.next s q.steps)
 
 at-length : (keys rest : List ℕ) (k : ℕ) → get_or (keys ++ k ∷ rest) (length keys) 0 ≡ k
 at-length [] rest k = refl
@@ -91,6 +99,10 @@ no-optimal (Some p) h = absurd (cc (h))
 no-demand : (x : Option (Outcome × DemandState)) → as_demand x ≡ None → x ≡ None
 no-demand None h = refl
 no-demand (Some p) h = absurd (cc (h))
+
+no-adaptive : (x : Option (Outcome × AdaptiveCacheState)) → as_adaptive x ≡ None → x ≡ None
+no-adaptive None h = refl
+no-adaptive (Some p) h = absurd (cc (h))
 
 pub any_accepts : ClairvoyantAccepts → AnyAccepts
 any_accepts law j trace keys rest k (Queues d) t few s h =
@@ -112,12 +124,22 @@ any_accepts law j trace keys rest k (Demand d) t few s h =
     let e : d.stats.accesses ≡ 4294967296 = demand-refused d k (no-demand (demand_act d k) h) in
     let l : length trace ≡ length keys + length (k ∷ rest) = ap length t ∙ length-append keys (k ∷ rest) in
     omega (arith, n, e, l, few)
+any_accepts law j trace keys rest k (Adaptive d) t few s h =
+    let n : d.stats.accesses ≡ length keys = adaptive-accesses j keys d s in
+    let e : d.stats.accesses ≡ 4294967296 = adaptive-refused d k (no-adaptive (cache_act d k) h) in
+    let l : length trace ≡ length keys + length (k ∷ rest) = ap length t ∙ length-append keys (k ∷ rest) in
+    omega (arith, n, e, l, few)
 
 -- no design is of queues and knows the trace
 apart-kinds : (x : Design) → is_of_queues x ≡ true → is_optimal x ≡ true → ⊥
 apart-kinds (design.Queues q) a b = cc (b)
 apart-kinds design.KnowsTrace a b = cc (a)
 apart-kinds (design.Demand p) a b = cc (a)
+apart-kinds design.Adaptive a b = cc (a)
+
+abbrev is-adaptive : Design → Bool
+is-adaptive design.Adaptive = true
+is-adaptive other = false
 
 pub any_one : AnyIsOne
 any_one j trace keys (Queues d) (Queues e) a b = ap Queues (a.1.gives ∙ sym b.1.gives)
@@ -128,6 +150,13 @@ any_one j trace keys (Optimal d) (Demand e) a b = absurd (let no : false ≡ tru
 any_one j trace keys (Demand d) (Queues e) a b = absurd (let no : false ≡ true = ap is_of_queues (sym a.design) ∙ b.0 in cc (no))
 any_one j trace keys (Demand d) (Optimal e) a b = absurd (let no : false ≡ true = ap is_optimal (sym a.design) ∙ b.policy in cc (no))
 any_one j trace keys (Demand d) (Demand e) a b = ap Demand (demand-one j keys d e a b)
+any_one j trace keys (Demand d) (Adaptive e) a b = absurd (let no : false ≡ true = ap is-adaptive (sym a.design ∙ b.design) in cc (no))
+any_one j trace keys (Adaptive d) (Demand e) a b = absurd (let no : false ≡ true = ap is-adaptive (sym b.design ∙ a.design) in cc (no))
+any_one j trace keys (Adaptive d) (Queues e) a b = absurd (let no : false ≡ true = ap is_of_queues (sym a.design) ∙ b.0 in cc (no))
+any_one j trace keys (Adaptive d) (Optimal e) a b = absurd (let no : false ≡ true = ap is_optimal (sym a.design) ∙ b.policy in cc (no))
+any_one j trace keys (Queues d) (Adaptive e) a b = absurd (let no : false ≡ true = ap is_of_queues (sym b.design) ∙ a.0 in cc (no))
+any_one j trace keys (Optimal d) (Adaptive e) a b = absurd (let no : false ≡ true = ap is_optimal (sym b.design) ∙ a.policy in cc (no))
+any_one j trace keys (Adaptive d) (Adaptive e) a b = ap Adaptive (a.gives ∙ sym b.gives)
 any_one j trace keys (Optimal d) (Optimal e) a b = ap Optimal (a.gives ∙ sym b.gives)
 
 -- the statistics after the whole trace
@@ -136,12 +165,14 @@ pub outcomes-of-queues : (x : Design) (j : Job) (trace : List ℕ) → is_of_que
 outcomes-of-queues (design.Queues q) j trace h = refl
 outcomes-of-queues design.KnowsTrace j trace h = absurd (cc (h))
 outcomes-of-queues (design.Demand p) j trace h = absurd (cc (h))
+outcomes-of-queues design.Adaptive j trace h = absurd (cc (h))
 
 pub outcomes-of-optimal : (x : Design) (j : Job) (trace : List ℕ) → is_optimal x ≡ true
     → outcomes_by x j trace ≡ belady_outcomes j.config.capacity trace (length trace)
 outcomes-of-optimal (design.Queues q) j trace h = absurd (cc (h))
 outcomes-of-optimal design.KnowsTrace j trace h = refl
 outcomes-of-optimal (design.Demand p) j trace h = absurd (cc (h))
+outcomes-of-optimal design.Adaptive j trace h = absurd (cc (h))
 
 pub any_reports : AnyReports
 unfolding stats_on
@@ -154,6 +185,9 @@ any_reports j trace (Optimal d) s =
 any_reports j trace (Demand d) s =
     s.stats ∙ ap stats_of (sym (with-room (demand_policy s.kind j) j.config.capacity trace (demand-room j trace d s)))
     ∙ ap (λ x. stats_of (outcomes_by x j trace)) (sym s.design)
+any_reports j trace (Adaptive d) s =
+    adaptive-stats j trace d s ∙ ap stats_of (sym (when-checked j trace s.checked))
+    ∙ ap (λ x. stats_of (outcomes_by x j trace)) (sym s.design)
 
 -- the outcomes over the whole trace
 
@@ -161,6 +195,7 @@ covers-by : (x : Design) (j : Job) (trace : List ℕ) → length (outcomes_by x 
 covers-by (design.Queues q) j trace = after-length j trace
 covers-by design.KnowsTrace j trace = outcomes-length j.config.capacity trace (length trace)
 covers-by (design.Demand p) j trace = demand-long (demand_policy p j) j.config.capacity trace
+covers-by design.Adaptive j trace = adaptive-long (config_fault j.config) j trace
 
 pub any_covers_trace : AnyCoversTrace
 any_covers_trace j trace = covers-by (design_of j.policy) j trace
@@ -189,24 +224,39 @@ any_answers law j trace keys rest k (Demand d) o e x t s h =
     ∙ ap (λ l. get_or (demand_run (demand_policy s.kind j) j.config.capacity l) (length keys) x) (sym t)
     ∙ ap (λ os. get_or os (length keys) x) (sym (with-room (demand_policy s.kind j) j.config.capacity trace (demand-room j keys d s)))
     ∙ ap (λ z. get_or (outcomes_by z j trace) (length keys) x) (sym s.design)
+any_answers law j trace keys rest k (Adaptive d) o e x t s h =
+    let q : IsAdaptiveStep (cache_act d k) o e = adaptive_step (cache_act d k) o e h in
+    (adaptive-access d k o q.next q.steps).outcome
+    ∙ ap (λ z. (cache_access k z).0) s.gives
+    ∙ sym (outcomes-at cache_access (adaptive_start j) keys rest k x)
+    ∙ ap (λ l. get_or (outcomes_of_all cache_access (adaptive_start j) l) (length keys) x) (sym t)
+    ∙ ap (λ os. get_or os (length keys) x) (sym (when-checked j trace s.checked))
+    ∙ ap (λ z. get_or (outcomes_by z j trace) (length keys) x) (sym s.design)
 
 -- undoing a hit asks for no room
 
-pub any_hits_keep_all : HitsAskNothing → AnyHitsKeepAll
-any_hits_keep_all law (Queues d) k e h =
+pub any_hits_keep_all : HitsAskNothing → CacheHitsAskNothing → AnyHitsKeepAll
+any_hits_keep_all law own (Queues d) k e h =
     let q : IsQueueStep (queue_act d k) Hit e = queue_step (queue_act d k) Hit e h in
     λ asks. asks (hits_keep_all d k q.next q.steps)
-any_hits_keep_all law (Optimal d) k e h = λ asks. asks
-any_hits_keep_all law (Demand d) k e h =
+any_hits_keep_all law own (Optimal d) k e h = λ asks. asks
+any_hits_keep_all law own (Demand d) k e h =
     let q : IsDemandStep (demand_act d k) Hit e = demand_step (demand_act d k) Hit e h in
     law k d.queues (sym (demand-access d k Hit q.next q.steps).outcome)
+any_hits_keep_all law own (Adaptive d) k e h =
+    let q : IsAdaptiveStep (cache_act d k) Hit e = adaptive_step (cache_act d k) Hit e h in
+    own k d (sym (adaptive-access d k Hit q.next q.steps).outcome)
 
-pub any_asks_where_one_left : DemandKeeps → AsksWhereOneLeft → AnyAsksWhereOneLeft
-any_asks_where_one_left keeps law j trace keys (Queues d) k o e s h asks =
+pub any_asks_where_one_left : DemandKeeps → AsksWhereOneLeft → CacheKeeps → CacheAsksWhereOneLeft → AnyAsksWhereOneLeft
+any_asks_where_one_left keeps law kept own j trace keys (Queues d) k o e s h asks =
     let q : IsQueueStep (queue_act d k) o e = queue_step (queue_act d k) o e h in
-    ap is_eviction (sym (act-answers d k o q.next q.steps)) ∙ asks-evicts j keys d k s.1 asks
-any_asks_where_one_left keeps law j trace keys (Optimal d) k o e s h asks = absurd asks
-any_asks_where_one_left keeps law j trace keys (Demand d) k o e s h asks =
+    ap is_eviction (sym (act-answers d k o q.next q.steps)) ∙ queue-asks-evicts j keys d k s.1 asks
+any_asks_where_one_left keeps law kept own j trace keys (Optimal d) k o e s h asks = absurd asks
+any_asks_where_one_left keeps law kept own j trace keys (Demand d) k o e s h asks =
     let q : IsDemandStep (demand_act d k) o e = demand_step (demand_act d k) o e h in
     ap is_eviction (demand-access d k o q.next q.steps).outcome
     ∙ law j.config.capacity k d.queues (demand-sound keeps j keys d s) asks
+any_asks_where_one_left keeps law kept own j trace keys (Adaptive d) k o e s h asks =
+    let q : IsAdaptiveStep (cache_act d k) o e = adaptive_step (cache_act d k) o e h in
+    ap is_eviction (adaptive-access d k o q.next q.steps).outcome
+    ∙ own j.config.capacity k d (adaptive-sound kept j keys d s) asks

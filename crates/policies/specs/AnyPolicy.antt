@@ -1,5 +1,6 @@
 -- What a cache of any policy shows, and what a job over a trace comes to.
-use Rattle.std.specs.Prelude.{◌≡◌, ℕ, zero, suc, ◌≤◌, true, Option, None, Ok, List, length, map, take}
+use Rattle.std.specs.Prelude.{◌≡◌, ℕ, zero, suc, ◌≤◌, true, Option, Some, None, Result, Ok, Err, List, length, map, take}
+use Rattle.step_record.specs.declared.config.ConfigFault.{ConfigFault}
 use Rattle.step_record.specs.declared.job.Job.{Job}
 use Rattle.step_record.specs.declared.outcome.Outcome.{Outcome}
 use Rattle.step_record.specs.declared.outcome.Outcome.TheVariants.{Rejected}
@@ -7,19 +8,23 @@ use Rattle.step_record.specs.declared.stats.Stats.{Stats}
 use Rattle.step_record.specs.Config.{config_fault}
 use Rattle.step_record.specs.Stats.{stats_of}
 use Rattle.admission.specs.Frequency.{FrequencyData}
+use Rattle.adaptive_window.specs.AdaptiveCache.{AdaptiveCacheState, cache_access}
+use Rattle.adaptive_window.specs.AdaptiveCache.{empty_cache as empty_adaptive_cache}
+use Rattle.adaptive_window.specs.Residents.{cache_residents}
 use Rattle.clairvoyant.specs.Belady.{belady_outcomes}
 use Rattle.clairvoyant.specs.Clairvoyant.{ClairvoyantState, clairvoyant_at}
 use Rattle.queue_policies.specs.Residents.{state_after_all, outcomes_of_all}
 use Rattle.demand_cache.specs.declared.demand_policy.DemandPolicy.{DemandPolicy}
 use Rattle.demand_cache.specs.DemandQueues.{empty_cache, queues_act, queues_residents, outcomes_of_page}
 use Rattle.demand_cache.specs.DemandCache.{DemandState}
+use Rattle.segments.specs.Queues.{residents_in}
 use Rattle.policies.specs.declared.any_policy.AnyPolicy.{AnyPolicy}
-use Rattle.policies.specs.declared.any_policy.AnyPolicy.TheVariants.{Queues, Optimal, Demand}
+use Rattle.policies.specs.declared.any_policy.AnyPolicy.TheVariants.{Queues, Optimal, Demand, Adaptive}
 use Rattle.policies.specs.declared.design.DemandDesign.{DemandDesign}
 use Rattle.policies.specs.declared.design.Design.{Design}
 use Rattle.policies.specs.declared.design.Design.TheVariants as design
 use Rattle.policies.specs.Design.{demand_policy, design_of, has_queues, knows_trace}
-use Rattle.policies.specs.QueueCache.{outcomes_after, residents_in, StandsFor}
+use Rattle.policies.specs.QueueCache.{outcomes_after, StandsFor}
 
 -- ---- a job over a trace
 
@@ -33,10 +38,21 @@ abbrev pub demand_outcomes : DemandPolicy → ℕ → List ℕ → List Outcome
 demand_outcomes p zero trace = map (λ k. Rejected k) trace
 demand_outcomes p (suc c) trace = outcomes_of_page p (suc c) trace
 
+-- an empty cache with an adaptive window
+abbrev pub adaptive_start : Job → AdaptiveCacheState
+adaptive_start j = empty_adaptive_cache j.config j.tuning.period
+
+-- The outcomes of the accesses to the keys of a trace. A cache whose configuration is not accepted would keep no key (none is
+-- ever opened).
+abbrev pub adaptive_outcomes : Result (Unit {0}) ConfigFault → Job → List ℕ → List Outcome
+adaptive_outcomes (Ok u) j trace = outcomes_of_all cache_access (adaptive_start j) trace
+adaptive_outcomes (Err e) j trace = map (λ k. Rejected k) trace
+
 abbrev pub outcomes_by : Design → Job → List ℕ → List Outcome
 outcomes_by (design.Queues d) j trace = outcomes_after j trace
 outcomes_by design.KnowsTrace j trace = belady_outcomes j.config.capacity trace (length trace)
 outcomes_by (design.Demand p) j trace = demand_outcomes (demand_policy p j) j.config.capacity trace
+outcomes_by design.Adaptive j trace = adaptive_outcomes (config_fault j.config) j trace
 
 -- the outcomes of a job's accesses to the keys of a trace, in order
 abbrev pub outcomes_on : Job → List ℕ → List Outcome
@@ -52,17 +68,20 @@ abbrev pub stats_in : AnyPolicy → Stats
 stats_in (Queues d) = d.stats
 stats_in (Optimal d) = d.stats
 stats_in (Demand d) = d.stats
+stats_in (Adaptive d) = d.stats
 
 -- the keys that are cached
 abbrev pub any_residents : AnyPolicy → List ℕ
 any_residents (Queues d) = residents_in d.queues
 any_residents (Optimal d) = d.residents
 any_residents (Demand d) = queues_residents d.queues
+any_residents (Adaptive d) = cache_residents d
 
 abbrev pub frequency_in : AnyPolicy → Option FrequencyData
 frequency_in (Queues d) = d.frequency
 frequency_in (Optimal d) = None
 frequency_in (Demand d) = None
+frequency_in (Adaptive d) = Some d.frequency
 
 -- a cache of Belady's optimal policy made the first accesses of its trace
 pub record IsBeladyAt (j : Job) (trace keys : List ℕ) (d : ClairvoyantState) : Type 0 where
@@ -79,8 +98,15 @@ pub record IsDemandAfter (j : Job) (keys : List ℕ) (d : DemandState) : Type 0 
   pub queues : d.queues ≡ state_after_all queues_act (empty_cache (demand_policy kind j) j.config.capacity) keys
   pub stats : d.stats ≡ stats_of (demand_run (demand_policy kind j) j.config.capacity keys)
 
+-- a cache with an adaptive window made these accesses
+pub record IsAdaptiveAfter (j : Job) (keys : List ℕ) (d : AdaptiveCacheState) : Type 0 where
+  pub design : design_of j.policy ≡ design.Adaptive
+  pub checked : config_fault j.config ≡ Ok tt
+  pub gives : d ≡ state_after_all cache_access (adaptive_start j) keys
+
 -- the cache runs the job over the trace, and the keys are the accesses that it made
 abbrev pub HasAccessed : Job → List ℕ → List ℕ → AnyPolicy → Type 0
 HasAccessed j trace keys (Queues d) = (has_queues j.policy ≡ true) × StandsFor j keys d
 HasAccessed j trace keys (Optimal d) = IsBeladyAt j trace keys d
 HasAccessed j trace keys (Demand d) = IsDemandAfter j keys d
+HasAccessed j trace keys (Adaptive d) = IsAdaptiveAfter j keys d

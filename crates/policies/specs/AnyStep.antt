@@ -3,12 +3,14 @@
 use Rattle.std.specs.Prelude.{ℕ, Option, Some, None}
 use Rattle.step_record.specs.declared.outcome.Outcome.{Outcome}
 use Rattle.step_record.specs.Pace.{Pace, pace_without_sketch}
+use Rattle.adaptive_window.specs.AdaptiveCache.{AdaptiveCacheState, cache_act, cache_record_of, cache_undone, cache_asks}
+use Rattle.adaptive_window.specs.AdaptiveCache.{cache_words, cache_pace, CacheFits}
 use Rattle.clairvoyant.specs.Clairvoyant.{ClairvoyantState, clairvoyant_act}
 use Rattle.clairvoyant.specs.OptimalRecord.{record_at, clairvoyant_undone, ClairvoyantFits}
 use Rattle.demand_cache.specs.DemandCache.{DemandState, DemandFits}
 use Rattle.demand_cache.specs.DemandCache.{demand_act, demand_record_of, demand_may_ask, demand_undone, demand_asks}
 use Rattle.policies.specs.declared.any_policy.AnyPolicy.{AnyPolicy}
-use Rattle.policies.specs.declared.any_policy.AnyPolicy.TheVariants.{Queues, Optimal, Demand}
+use Rattle.policies.specs.declared.any_policy.AnyPolicy.TheVariants.{Queues, Optimal, Demand, Adaptive}
 use Rattle.policies.specs.declared.any_policy.AnyRecord.{AnyRecord}
 use Rattle.policies.specs.declared.any_policy.AnyRecord.TheVariants as done
 use Rattle.policies.specs.QueueCache.{QueueState}
@@ -27,34 +29,43 @@ abbrev pub as_demand : Option (Outcome × DemandState) → Option (Outcome × An
 as_demand None = None
 as_demand (Some p) = Some (p.0, Demand p.1)
 
+abbrev pub as_adaptive : Option (Outcome × AdaptiveCacheState) → Option (Outcome × AnyPolicy)
+as_adaptive None = None
+as_adaptive (Some p) = Some (p.0, Adaptive p.1)
+
 abbrev pub any_act : AnyPolicy → ℕ → Option (Outcome × AnyPolicy)
 any_act (Queues d) k = as_queues (queue_act d k)
 any_act (Optimal d) k = as_optimal (clairvoyant_act d k)
 any_act (Demand d) k = as_demand (demand_act d k)
+any_act (Adaptive d) k = as_adaptive (cache_act d k)
 
 -- the record of an access to k, from the cache before it
 abbrev pub any_record_of : ℕ → AnyPolicy → AnyRecord
 any_record_of k (Queues d) = done.Queues (queue_record_of k d)
 any_record_of k (Optimal d) = done.Optimal (record_at d.capacity d.trace d.stats.accesses)
 any_record_of k (Demand d) = done.Demand (demand_record_of k d)
+any_record_of k (Adaptive d) = done.Adaptive (cache_record_of k d)
 
 -- an access may be out of memory: the optimal policy has all that it needs once it is open
 abbrev pub MayAllocate : AnyPolicy → ℕ → Type 0
 MayAllocate (Queues d) k = Unit {0}
 MayAllocate (Optimal d) k = ⊥
 MayAllocate (Demand d) k = demand_may_ask d k
+MayAllocate (Adaptive d) k = Unit {0}
 
 -- a record of the other kind fits nowhere
 abbrev pub any_undone : AnyRecord → AnyPolicy → AnyPolicy
 any_undone (done.Queues r) (Queues d) = Queues (queue_undone r d)
 any_undone (done.Optimal r) (Optimal d) = Optimal (clairvoyant_undone r d)
 any_undone (done.Demand r) (Demand d) = Demand (demand_undone r d)
+any_undone (done.Adaptive r) (Adaptive d) = Adaptive (cache_undone r d)
 any_undone r d = d
 
 abbrev pub AnyFits : AnyRecord → AnyPolicy → Type 0
 AnyFits (done.Queues r) (Queues d) = QueueFits r d
 AnyFits (done.Optimal r) (Optimal d) = ClairvoyantFits r d
 AnyFits (done.Demand r) (Demand d) = DemandFits r d
+AnyFits (done.Adaptive r) (Adaptive d) = CacheFits r d
 AnyFits r d = ⊥
 
 -- undoing the step takes memory: a key comes back
@@ -62,13 +73,16 @@ abbrev pub any_asks : AnyRecord → Type 0
 any_asks (done.Queues r) = queue_asks r
 any_asks (done.Optimal r) = ⊥
 any_asks (done.Demand r) = demand_asks r
+any_asks (done.Adaptive r) = cache_asks r
 
 abbrev pub any_words : AnyRecord → ℕ
 any_words (done.Queues r) = queue_words r
 any_words (done.Optimal r) = 0
 any_words (done.Demand r) = 0
+any_words (done.Adaptive r) = cache_words r
 
 abbrev pub any_pace : AnyPolicy → Pace
 any_pace (Queues d) = queue_pace d
 any_pace (Optimal d) = pace_without_sketch
 any_pace (Demand d) = pace_without_sketch
+any_pace (Adaptive d) = cache_pace d

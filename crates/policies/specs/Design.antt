@@ -8,7 +8,7 @@ use Rattle.step_record.specs.Job.{part_size}
 use Rattle.step_record.specs.declared.job.Policy.{Policy}
 use Rattle.step_record.specs.declared.job.Policy.TheVariants.{Lru, SegmentedLru, TinyLfuLru, TinyLfuSegmented}
 use Rattle.step_record.specs.declared.job.Policy.TheVariants.{WindowTinyLfu, Clairvoyant, Fifo, Clock, Sieve, S3Fifo}
-use Rattle.step_record.specs.declared.job.Policy.TheVariants.{TwoQ, Arc}
+use Rattle.step_record.specs.declared.job.Policy.TheVariants.{TwoQ, Arc, Caffeine}
 use Rattle.segments.specs.declared.records.Queue.TheVariants.{Window, Probation}
 use Rattle.replacement.specs.declared.rules.Placement.{Placement}
 use Rattle.replacement.specs.declared.rules.Placement.TheVariants.{Direct, Windowed}
@@ -20,7 +20,7 @@ use Rattle.demand_cache.specs.declared.demand_policy.DemandPolicy.TheVariants as
 use Rattle.policies.specs.declared.design.DemandDesign.{DemandDesign}
 use Rattle.policies.specs.declared.design.DemandDesign.TheVariants as demand
 use Rattle.policies.specs.declared.design.Design.{Design}
-use Rattle.policies.specs.declared.design.Design.TheVariants.{Queues, KnowsTrace, Demand}
+use Rattle.policies.specs.declared.design.Design.TheVariants.{Queues, KnowsTrace, Demand, Adaptive}
 use Rattle.policies.specs.declared.design.Layout.{Layout}
 use Rattle.policies.specs.declared.design.Layout.TheVariants.{OneQueue, TwoQueues, ThreeQueues}
 use Rattle.policies.specs.declared.design.QueueDesign.{QueueDesign}
@@ -43,6 +43,7 @@ design_of Sieve = Demand demand.Sieve
 design_of S3Fifo = Demand demand.S3Fifo
 design_of TwoQ = Demand demand.TwoQ
 design_of Arc = Demand demand.Arc
+design_of Caffeine = Adaptive
 
 -- ---- a design of queues
 
@@ -81,21 +82,25 @@ abbrev pub rules_in : Design → Config → Rules
 rules_in (Queues d) c = rules_by d c
 rules_in KnowsTrace c = one_queue c
 rules_in (Demand p) c = one_queue c
+rules_in Adaptive c = one_queue c
 
 abbrev pub counts_in : Design → Bool
 counts_in (Queues d) = d.counts_keys
 counts_in KnowsTrace = false
 counts_in (Demand p) = false
+counts_in Adaptive = true
 
 abbrev pub is_optimal : Design → Bool
 is_optimal (Queues d) = false
 is_optimal KnowsTrace = true
 is_optimal (Demand p) = false
+is_optimal Adaptive = false
 
 abbrev pub is_of_queues : Design → Bool
 is_of_queues (Queues d) = true
 is_of_queues KnowsTrace = false
 is_of_queues (Demand p) = false
+is_of_queues Adaptive = false
 
 -- ---- a policy
 

@@ -13,9 +13,10 @@ use Rattle.replacement.specs.declared.record.Moves.{Moves}
 use Rattle.replacement.specs.Admission.{admits_in}
 use Rattle.replacement.specs.Plan.{plan}
 use Rattle.replacement.specs.PlanMoves.{moves_of, undone_moves, FitsMoves}
+use Rattle.segments.specs.Items.{nodeless_item}
 use Rattle.policies.specs.declared.record.AccessRecord.{AccessRecord}
 use Rattle.policies.specs.Design.{rules_of}
-use Rattle.policies.specs.QueueCache.{QueueState, nodeless_item, access_response, queue_state_after, StandsFor}
+use Rattle.policies.specs.QueueCache.{QueueState, access_response, queue_state_after, StandsFor}
 
 -- ---- an access
 

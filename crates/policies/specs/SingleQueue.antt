@@ -1,7 +1,7 @@
 -- The queues of a policy of one queue.
 use Rattle.std.specs.Prelude.{ℕ, List, [], map}
 use Rattle.segments.specs.Queues.{Queues}
-use Rattle.policies.specs.QueueCache.{nodeless_item}
+use Rattle.segments.specs.Items.{nodeless_item}
 
 -- the keys stand in the one queue, in this order
 abbrev pub single_queue : List ℕ → Queues

@@ -1,6 +1,6 @@
 //! The accesses of a trace by a cache: a loop for each policy of queues, compiled for its design, one for the policies
-//! that keep each missed key, and one for the optimal policy.
-ghost use Rattle.std.specs.Prelude.{◌≡◌, ◌++◌, ℕ, List, OnOk};
+//! that keep each missed key, one for the adaptive window, and one for the optimal policy.
+ghost use Rattle.std.specs.Prelude.{◌≡◌, ◌++◌, ◌≤◌, ℕ, List, OnOk, length};
 ghost use Rattle.step_record.specs.declared.job.Job.{Job};
 ghost use Rattle.policies.specs.declared.design.QueueDesign.{QueueDesign};
 ghost use Rattle.policies.specs.Design.{design_of};
@@ -19,8 +19,9 @@ use crate::design::{
 };
 use crate::queue_cache::QueueCache;
 use crate::theorems;
+use adaptive_window::AdaptiveCache;
 use clairvoyant::Clairvoyant;
-use demand_cache::DemandCache;
+use demand_cache::{AHEAD, DemandCache};
 use std::alloc::AllocError;
 use step_record::{Engine, Key, Policy, StepFault};
 
@@ -42,7 +43,8 @@ pub(crate) fn access_queues(cache: &mut QueueCache, keys: &[Key]) -> Result<(), 
         | Policy::Sieve
         | Policy::S3Fifo
         | Policy::TwoQ
-        | Policy::Arc => unreachable!(),
+        | Policy::Arc
+        | Policy::Caffeine => unreachable!(),
     }
 }
 
@@ -86,6 +88,41 @@ pub(crate) fn access_demand(cache: &mut DemandCache, keys: &[Key]) -> Result<(),
     }
     Ok(())
 }
+
+/// The same by a cache with an adaptive window.
+#[inline(never)]
+pub(crate) fn access_adaptive(cache: &mut AdaptiveCache, keys: &[Key]) -> Result<(), AllocError>
+    requires { IsNext keys.now (AnyPolicy.Adaptive cache.old) }
+    ensures { (j : Job) (trace done : List ℕ) → HasAccessed j trace done (AnyPolicy.Adaptive cache.old)
+        → OnOk result (HasAccessed j trace (done ++ keys.now) (AnyPolicy.Adaptive cache.new)) }
+{
+    theorems::any_step_law();
+    theorems::any_accepts();
+    for i in 0..keys.len() {
+        prefetch_adaptive(cache, keys, i);
+        match cache.access::<Counter>(keys[i]) {
+            Ok(_) => {}
+            Err(StepFault::OutOfMemory) => return Err(AllocError),
+            Err(StepFault::NotNow) => unreachable!(),
+        }
+    }
+    Ok(())
+}
+
+/// Reads ahead for a cache with an adaptive window as `AnyPolicy::prefetch_at` does. It changes nothing.
+#[inline(always)]
+pub(crate) fn prefetch_adaptive(cache: &mut AdaptiveCache, keys: &[Key], i: usize)
+    requires { i ≤ length keys.now }
+    ensures { cache.new ≡ cache.old }
+{
+    if i % AHEAD == 0 {
+        let end = keys.len().min(i + AHEAD);
+        cache.prefetch(&keys[i..end]);
+    }
+}
+
+// Selects the instance of an access that `access_adaptive` has in its loop.
+struct Counter;
 
 /// The same by the optimal policy.
 pub(crate) fn access_optimal(cache: &mut Clairvoyant, keys: &[Key]) -> Result<(), AllocError>

@@ -3,9 +3,11 @@ ghost use Rattle.std.specs.Prelude.{◌≡◌, ◌≤◌, ◌↔◌, IfOk, OnErr
 ghost use Rattle.std.specs.Prelude.{Ok, Err, Some, None, [], option_map, length};
 ghost use Rattle.demand_cache.specs.DemandCache.{demand_act, demand_may_ask};
 
+use crate::access_loops::prefetch_adaptive;
 use crate::design::{Design, design_of};
 use crate::queue_cache::{ByJob, QueueCache};
 use crate::record::AccessRecord;
+use adaptive_window::{AdaptiveCache, AdaptiveRecord};
 use admission::Frequency;
 use clairvoyant::{Clairvoyant, NextUse, OptimalRecord};
 use demand_cache::{DemandCache, DemandRecord};
@@ -21,6 +23,8 @@ pub enum AnyPolicy {
     Optimal(Clairvoyant),
     /// A policy that keeps each missed key, in a cache of its own.
     Demand(DemandCache),
+    /// W-TinyLFU with a window whose size follows the hits.
+    Adaptive(AdaptiveCache),
 }
 
 /// The undo record of an access to a cache of any policy.
@@ -32,6 +36,8 @@ pub enum AnyRecord {
     Optimal(OptimalRecord),
     /// Of a policy that keeps each missed key.
     Demand(DemandRecord),
+    /// Of W-TinyLFU with a window whose size follows the hits.
+    Adaptive(AdaptiveRecord),
 }
 
 impl AnyPolicy {
@@ -61,6 +67,10 @@ impl AnyPolicy {
                 design.policy(job),
                 job.config.capacity,
             ))),
+            Design::Adaptive => {
+                let cache = AdaptiveCache::new(alloc, &job.config, job.tuning.period)?;
+                Ok(AnyPolicy::Adaptive(cache))
+            }
         }
     }
 
@@ -86,6 +96,10 @@ impl AnyPolicy {
                 design.policy(job),
                 job.config.capacity,
             ))),
+            Design::Adaptive => {
+                let cache = AdaptiveCache::new(alloc, &job.config, job.tuning.period)?;
+                Ok(AnyPolicy::Adaptive(cache))
+            }
         }
     }
 
@@ -99,6 +113,7 @@ impl AnyPolicy {
         match self {
             AnyPolicy::Queues(cache) => cache.prefetch_at(keys, i),
             AnyPolicy::Demand(cache) => cache.prefetch_at(keys, i),
+            AnyPolicy::Adaptive(cache) => prefetch_adaptive(cache, keys, i),
             AnyPolicy::Optimal(_) => {}
         }
     }
@@ -125,6 +140,7 @@ impl AnyPolicy {
                 Err(fault) => Err(fault),
             },
             AnyPolicy::Demand(cache) => access_alone(cache, key),
+            AnyPolicy::Adaptive(cache) => cache.access::<C>(key),
         }
     }
 
@@ -136,6 +152,7 @@ impl AnyPolicy {
             AnyPolicy::Queues(cache) => cache.stats(),
             AnyPolicy::Optimal(cache) => cache.stats(),
             AnyPolicy::Demand(cache) => cache.stats(),
+            AnyPolicy::Adaptive(cache) => cache.stats(),
         }
     }
 
@@ -145,12 +162,13 @@ impl AnyPolicy {
     {
         match self {
             AnyPolicy::Queues(cache) => cache.frequency(),
+            AnyPolicy::Adaptive(cache) => Some(cache.frequency()),
             AnyPolicy::Optimal(_) | AnyPolicy::Demand(_) => None,
         }
     }
 
-    /// The keys that it holds: of a policy of queues those of the window, of probation and of protected in that
-    /// order, oldest first; of the optimal policy in ascending order; of the others queue by queue, oldest first. The
+    /// The keys that it holds: of a policy of queues, and of the adaptive window, those of the window, of probation and
+    /// of protected in that order, oldest first; of the optimal policy in ascending order; of the others queue by queue, oldest first. The
     /// one error is that an allocation failed.
     pub fn residents(&self, alloc: Global) -> Result<Vec<Key>, AllocError>
         ensures { IfOk result (λ keys. keys.items ≡ any_residents self.now) }
@@ -159,6 +177,7 @@ impl AnyPolicy {
             AnyPolicy::Queues(cache) => cache.residents(alloc),
             AnyPolicy::Optimal(cache) => cache.residents(alloc),
             AnyPolicy::Demand(cache) => cache.residents(alloc),
+            AnyPolicy::Adaptive(cache) => cache.residents(alloc),
         }
     }
 }
@@ -228,6 +247,10 @@ impl Engine for AnyPolicy {
                 Ok((outcome, done)) => Ok((outcome, AnyRecord::Demand(done))),
                 Err(fault) => Err(fault),
             },
+            AnyPolicy::Adaptive(cache) => match cache.apply(step) {
+                Ok((outcome, done)) => Ok((outcome, AnyRecord::Adaptive(done))),
+                Err(fault) => Err(fault),
+            },
         }
     }
 
@@ -238,21 +261,32 @@ impl Engine for AnyPolicy {
                     Ok(()) => Ok(()),
                     Err(done) => Err(AnyRecord::Queues(done)),
                 },
-                AnyRecord::Optimal(_) | AnyRecord::Demand(_) => unreachable!(),
+                AnyRecord::Optimal(_) | AnyRecord::Demand(_) | AnyRecord::Adaptive(_) =>
+                    unreachable!(),
             },
             AnyPolicy::Optimal(cache) => match done {
                 AnyRecord::Optimal(done) => match cache.undo(done) {
                     Ok(()) => Ok(()),
                     Err(done) => Err(AnyRecord::Optimal(done)),
                 },
-                AnyRecord::Queues(_) | AnyRecord::Demand(_) => unreachable!(),
+                AnyRecord::Queues(_) | AnyRecord::Demand(_) | AnyRecord::Adaptive(_) =>
+                    unreachable!(),
             },
             AnyPolicy::Demand(cache) => match done {
                 AnyRecord::Demand(done) => match cache.undo(done) {
                     Ok(()) => Ok(()),
                     Err(done) => Err(AnyRecord::Demand(done)),
                 },
-                AnyRecord::Queues(_) | AnyRecord::Optimal(_) => unreachable!(),
+                AnyRecord::Queues(_) | AnyRecord::Optimal(_) | AnyRecord::Adaptive(_) =>
+                    unreachable!(),
+            },
+            AnyPolicy::Adaptive(cache) => match done {
+                AnyRecord::Adaptive(done) => match cache.undo(done) {
+                    Ok(()) => Ok(()),
+                    Err(done) => Err(AnyRecord::Adaptive(done)),
+                },
+                AnyRecord::Queues(_) | AnyRecord::Optimal(_) | AnyRecord::Demand(_) =>
+                    unreachable!(),
             },
         }
     }
@@ -262,12 +296,14 @@ impl Engine for AnyPolicy {
             AnyPolicy::Queues(cache) => cache.standing(),
             AnyPolicy::Optimal(cache) => cache.standing(),
             AnyPolicy::Demand(cache) => cache.standing(),
+            AnyPolicy::Adaptive(cache) => cache.standing(),
         }
     }
 
     fn words(done: &AnyRecord) -> u64 {
         match done {
             AnyRecord::Queues(done) => QueueCache::<ByJob>::words(done),
+            AnyRecord::Adaptive(done) => AdaptiveCache::words(done),
             AnyRecord::Optimal(_) | AnyRecord::Demand(_) => 0,
         }
     }

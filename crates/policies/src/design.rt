@@ -9,7 +9,7 @@ use demand_cache::DemandPolicy;
 use ghost_policies::TwoQSizes;
 use replacement::{HitRule, Placement, Rules};
 use segments::Queue;
-use step_record::{Config, Job, Tuning, Policy};
+use step_record::{Config, Job, Policy, Tuning};
 
 /// What a policy is.
 #[derive(Clone, Copy)]
@@ -20,6 +20,8 @@ pub enum Design {
     KnowsTrace,
     /// A policy that keeps each missed key, in a cache of its own.
     Demand(DemandDesign),
+    /// W-TinyLFU with a window whose size follows the hits, as Caffeine runs it.
+    Adaptive,
 }
 
 /// What a policy of queues goes by.
@@ -76,6 +78,7 @@ pub fn design_of(policy: Policy) -> Design
         Policy::S3Fifo => Design::Demand(DemandDesign::S3Fifo),
         Policy::TwoQ => Design::Demand(DemandDesign::TwoQ),
         Policy::Arc => Design::Demand(DemandDesign::Arc),
+        Policy::Caffeine => Design::Adaptive,
     }
 }
 

@@ -6,7 +6,7 @@ ghost use Rattle.step_record.specs.Job.{published_tuning};
 use crate::design::LRU;
 use crate::queue_cache::QueueCache;
 use std::alloc::{AllocError, Global};
-use step_record::{Config, Job, Tuning, Policy};
+use step_record::{Config, Job, Policy, Tuning};
 
 /// A cache that holds the keys that were accessed last, as many distinct ones as its capacity. A miss in a full cache
 /// evicts the key whose last access is oldest. It counts no keys.

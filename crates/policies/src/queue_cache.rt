@@ -53,7 +53,8 @@ impl<P> Model for QueueCache<P> {
 }
 
 impl<P: Drop> QueueCache<P> {
-    ghost use Rattle.policies.specs.QueueCache.{StandsFor, residents_in};
+    ghost use Rattle.segments.specs.Queues.{residents_in};
+    ghost use Rattle.policies.specs.QueueCache.{StandsFor};
     ghost use Rattle.policies.specs.QueueStep.{queue_act, queue_record_of, queue_undone, queue_asks, QueueFits};
     ghost use Rattle.policies.specs.QueueStep.{queue_words, queue_pace};
 
@@ -181,11 +182,7 @@ impl<P: Drop> QueueCache<P> {
     pub fn residents(&self, alloc: Global) -> Result<Vec<Key>, AllocError>
         ensures { IfOk result (λ keys. keys.items ≡ residents_in self.now.queues) }
     {
-        let mut keys = Vec::new(alloc);
-        add_keys(&mut keys, &self.segments.list(alloc, Queue::Window)?)?;
-        add_keys(&mut keys, &self.segments.list(alloc, Queue::Probation)?)?;
-        add_keys(&mut keys, &self.segments.list(alloc, Queue::Protected)?)?;
-        Ok(keys)
+        self.segments.keys(alloc)
     }
 }
 
@@ -403,16 +400,6 @@ fn record_in(frequency: &mut Option<Frequency>, key: Key) -> Result<FreqRecord, 
         Some(frequency) => frequency.record(key),
         None => Ok(FreqRecord::Nothing),
     }
-}
-
-// Adds the keys of the items.
-fn add_keys(keys: &mut Vec<Key>, items: &[Item]) -> Result<(), AllocError>
-    ensures { OnOk result (keys.new.items ≡ keys.old.items ++ map (λ i. i.key) items.now) }
-{
-    for item in items {
-        keys.push(item.key)?;
-    }
-    Ok(())
 }
 
 // Undoes the recording of a key, if there was one.

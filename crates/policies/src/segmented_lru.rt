@@ -6,7 +6,7 @@ ghost use Rattle.step_record.specs.Job.{published_tuning};
 use crate::design::SEGMENTED_LRU;
 use crate::queue_cache::QueueCache;
 use std::alloc::{AllocError, Global};
-use step_record::{Config, Job, Tuning, Policy};
+use step_record::{Config, Job, Policy, Tuning};
 
 /// A cache of two queues. A new key joins probation, and goes to protected when it is hit; where protected is over four
 /// fifths of the capacity, its oldest key goes back to probation's recent end. A miss in a full cache evicts

@@ -81,6 +81,7 @@ pub fn any_hits_keep_all()
     ensures { AnyHitsKeepAll }
 {
     demand_cache::theorems::hits_ask_nothing();
+    adaptive_window::theorems::cache_hits_ask_nothing();
 }
 
 /// A cache of any policy never holds more keys than its capacity.
@@ -88,6 +89,7 @@ pub fn residents_fit()
     ensures { ResidentsFit }
 {
     demand_cache::theorems::demand_keeps();
+    adaptive_window::theorems::cache_keeps();
 }
 
 /// No key is resident twice.
@@ -95,6 +97,7 @@ pub fn residents_distinct()
     ensures { ResidentsDistinct }
 {
     demand_cache::theorems::demand_keeps();
+    adaptive_window::theorems::cache_keeps();
 }
 
 /// The residents of a cache of any policy are its misses minus its evictions.
@@ -102,6 +105,7 @@ pub fn residents_counted()
     ensures { ResidentsCounted }
 {
     demand_cache::theorems::demand_keeps();
+    adaptive_window::theorems::cache_keeps();
 }
 
 /// An access is a hit exactly where its key is resident.
@@ -109,6 +113,7 @@ pub fn hits_are_residents()
     ensures { HitsAreResidents }
 {
     demand_cache::theorems::demand_keeps();
+    adaptive_window::theorems::cache_keeps();
 }
 
 /// The one key that an access may bring in is its own.
@@ -116,6 +121,7 @@ pub fn fetches_on_demand()
     ensures { FetchesOnDemand }
 {
     demand_cache::theorems::demand_keeps();
+    adaptive_window::theorems::cache_keeps();
 }
 
 /// Each access of a trace is a hit or a miss of the job.
@@ -130,6 +136,7 @@ pub fn misses_fit()
     ensures { MissesFit }
 {
     demand_cache::theorems::demand_keeps();
+    adaptive_window::theorems::cache_keeps();
 }
 
 /// Undoing an access of a cache of any policy asks for room only where an item left in it, so no other is ever refused.
@@ -138,4 +145,6 @@ pub fn any_asks_where_one_left()
 {
     demand_cache::theorems::demand_keeps();
     demand_cache::theorems::asks_where_one_left();
+    adaptive_window::theorems::cache_keeps();
+    adaptive_window::theorems::cache_asks_where_one_left();
 }

@@ -6,7 +6,7 @@ ghost use Rattle.step_record.specs.Job.{published_tuning};
 use crate::design::{TINY_LFU_LRU, TINY_LFU_SEGMENTED};
 use crate::queue_cache::QueueCache;
 use std::alloc::{AllocError, Global};
-use step_record::{Config, Job, Tuning, Policy};
+use step_record::{Config, Job, Policy, Tuning};
 
 /// A cache of Lru or segmented Lru with an admission filter: in a full cache a new key takes the victim's place only
 /// where its approximate access frequency is higher.

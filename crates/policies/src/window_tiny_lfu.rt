@@ -6,7 +6,7 @@ ghost use Rattle.step_record.specs.Job.{published_tuning};
 use crate::design::WINDOW_TINY_LFU;
 use crate::queue_cache::QueueCache;
 use std::alloc::{AllocError, Global};
-use step_record::{Config, Job, Tuning, Policy};
+use step_record::{Config, Job, Policy, Tuning};
 
 /// A cache of three queues. A new key joins a window; where that is over its size, its oldest key seeks a place in the
 /// main part, a segmented Lru, and in a full cache the one of it and probation's oldest key whose approximate access

@@ -5,9 +5,9 @@ use Rattle.std.proofs.lemmas.List.{drop-drop}
 use Rattle.step_record.specs.Keys.{has_key}
 use Rattle.step_record.specs.declared.job.Job.{Job}
 use Rattle.step_record.specs.declared.job.Policy.TheVariants.{Lru}
+use Rattle.segments.specs.Queues.{residents_in}
 use Rattle.policies.specs.Design.{has_queues}
 use Rattle.policies.specs.Lru.{distinct_keys, lru_residents}
-use Rattle.policies.specs.QueueCache.{residents_in}
 use Rattle.policies.specs.SingleQueue.{single_queue}
 use Rattle.policies.specs.AnyPolicy.{stats_on}
 use Rattle.policies.specs.Theorems.{LruStepLaw}

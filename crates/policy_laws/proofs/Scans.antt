@@ -6,8 +6,8 @@ use Rattle.step_record.specs.declared.item.Item.{Item}
 use Rattle.step_record.specs.declared.job.Job.{Job}
 use Rattle.step_record.specs.declared.job.Policy.TheVariants.{SegmentedLru, TinyLfuSegmented}
 use Rattle.segments.specs.declared.records.Queue.TheVariants.{Probation}
-use Rattle.segments.specs.Items.{occurrences, oldest_of}
-use Rattle.segments.specs.Queues.{Queues, queue_holding, total_items, IsDistinct}
+use Rattle.segments.specs.Items.{occurrences, oldest_of, nodeless_item}
+use Rattle.segments.specs.Queues.{Queues, queue_holding, total_items, IsDistinct, residents_in}
 use Rattle.segments.proofs.ItemLists.{without-none}
 use Rattle.segments.proofs.MoveLaws.{stands}
 use Rattle.segments.proofs.QueueLists.{first-stands}
@@ -20,10 +20,12 @@ use Rattle.replacement.specs.Counts.{queue_occurrences}
 use Rattle.replacement.specs.Table.{Response, response_with_victim, response_without_trial, miss_by, access}
 use Rattle.replacement.proofs.Planned.{access-at}
 use Rattle.replacement.proofs.Balance.{stands-once}
+use Rattle.replacement.proofs.Residents.{resident-queued}
+use Rattle.replacement.proofs.Residents.{resident-queued}
 use Rattle.policies.specs.Design.{design_of, rules_in, rules_of}
-use Rattle.policies.specs.QueueCache.{QueueState, nodeless_item, residents_in, frequency_after, state_after}
+use Rattle.policies.specs.QueueCache.{QueueState, frequency_after, state_after}
 use Rattle.policies.proofs.Reached.{after-job, after-snoc}
-use Rattle.policies.proofs.Balance.{IsBalancedCache, after-balanced, resident-queued, came-from}
+use Rattle.policies.proofs.Balance.{IsBalancedCache, after-balanced, came-from}
 use Rattle.optimality.proofs.Counting.{no}
 use Rattle.policy_laws.specs.Scans.{IsScan, ScansSpareProtected}
 

@@ -2,14 +2,14 @@
 use super::assertions::assert_equal;
 use Outcome::{Evicted, Hit, Kept, Rejected};
 use Policy::{
-    Arc, Clairvoyant, Clock, Fifo, Lru as LeastRecent, S3Fifo, SegmentedLru as Segmented, Sieve,
-    TinyLfuLru, TinyLfuSegmented, TwoQ, WindowTinyLfu as Windowed,
+    Arc, Caffeine, Clairvoyant, Clock, Fifo, Lru as LeastRecent, S3Fifo, SegmentedLru as Segmented,
+    Sieve, TinyLfuLru, TinyLfuSegmented, TwoQ, WindowTinyLfu as Windowed,
 };
 use policies::AnyPolicy;
 use std::alloc::Global;
 use std::process::Abort;
 use std::test::Fail;
-use step_record::{Config, Engine, Job, Key, Outcome, Tuning, Policy, Spread, Stats, Trace};
+use step_record::{Config, Engine, Job, Key, Outcome, Policy, Spread, Stats, Trace, Tuning};
 
 // A worked example: a policy at a capacity, the accesses with their outcomes, what is counted (accesses, hits, misses,
 // evictions and rejections), and the keys that stay.
@@ -173,7 +173,7 @@ const FILTERED: [Example; 2] = [
 ];
 
 // A window comes before the main part.
-const WINDOWED: [Example; 2] = [
+const WINDOWED: [Example; 3] = [
     Example {
         policy: Windowed,
         capacity: 1,
@@ -187,6 +187,21 @@ const WINDOWED: [Example; 2] = [
         accesses: &[(1, Kept), (2, Kept), (1, Hit), (3, Rejected(2)), (1, Hit)],
         counted: [5, 2, 3, 1, 1],
         residents: &[3, 1],
+    },
+    // Four leaves no room for 3, which came as often as 2.
+    Example {
+        policy: Caffeine,
+        capacity: 3,
+        accesses: &[
+            (1, Kept),
+            (2, Kept),
+            (3, Kept),
+            (1, Hit),
+            (4, Rejected(3)),
+            (2, Hit),
+        ],
+        counted: [6, 2, 4, 1, 1],
+        residents: &[4, 1, 2],
     },
 ];
 

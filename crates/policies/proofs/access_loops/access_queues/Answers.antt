@@ -1,13 +1,13 @@
 use Rattle.std.proofs.Common.{◌≡◌, ◌⊎◌, inl, inr, true, false, ap, ◌∙◌, sym}
 use Rattle.step_record.specs.declared.job.Job.{Job}
 use Rattle.step_record.specs.declared.job.Policy.{Policy}
-use Rattle.step_record.specs.declared.job.Policy.TheVariants.{Clairvoyant, Clock, Sieve, S3Fifo, TwoQ, Arc}
+use Rattle.step_record.specs.declared.job.Policy.TheVariants.{Clairvoyant, Clock, Sieve, S3Fifo, TwoQ, Arc, Caffeine}
 use Rattle.policies.specs.Design.{has_queues}
 use Rattle.policies.specs.QueueCache.{QueueState}
 use Rattle.policies.proofs.Reached.{after-job}
 use Rattle.policies.proofs.access_loops.access_queues.Goals as goal
 
-not-of-queues : (p : Policy) → (p ≡ Clairvoyant) ⊎ ((p ≡ Clock) ⊎ ((p ≡ Sieve) ⊎ ((p ≡ S3Fifo) ⊎ ((p ≡ TwoQ) ⊎ (p ≡ Arc)))))
+not-of-queues : (p : Policy) → (p ≡ Clairvoyant) ⊎ ((p ≡ Clock) ⊎ ((p ≡ Sieve) ⊎ ((p ≡ S3Fifo) ⊎ ((p ≡ TwoQ) ⊎ ((p ≡ Arc) ⊎ (p ≡ Caffeine))))))
     → has_queues p ≡ false
 not-of-queues p e =
     elim e [
@@ -20,7 +20,10 @@ not-of-queues p e =
             | inl x ↦ ap has_queues x
             | inr r3 ↦ elim r3 [
               | inl x ↦ ap has_queues x
-              | inr x ↦ ap has_queues x
+              | inr r4 ↦ elim r4 [
+                | inl x ↦ ap has_queues x
+                | inr x ↦ ap has_queues x
+              ]
             ]
           ]
         ]

@@ -2,4 +2,4 @@ use Rattle.policies.proofs.Residents.{fetches_on_demand}
 use Rattle.policies.proofs.theorems.fetches_on_demand.Goals as goal
 
 pub returns : goal.returns
-returns c = fetches_on_demand c.demand_keeps.ensures
+returns c = fetches_on_demand c.demand_keeps.ensures c.cache_keeps.ensures

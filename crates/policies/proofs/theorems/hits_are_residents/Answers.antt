@@ -2,4 +2,4 @@ use Rattle.policies.proofs.Residents.{hits_are_residents}
 use Rattle.policies.proofs.theorems.hits_are_residents.Goals as goal
 
 pub returns : goal.returns
-returns c = hits_are_residents c.demand_keeps.ensures
+returns c = hits_are_residents c.demand_keeps.ensures c.cache_keeps.ensures

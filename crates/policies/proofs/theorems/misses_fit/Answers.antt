@@ -2,4 +2,4 @@ use Rattle.policies.proofs.Residents.{misses_fit}
 use Rattle.policies.proofs.theorems.misses_fit.Goals as goal
 
 pub returns : goal.returns
-returns c = misses_fit c.demand_keeps.ensures
+returns c = misses_fit c.demand_keeps.ensures c.cache_keeps.ensures

@@ -2,4 +2,4 @@ use Rattle.policies.proofs.Residents.{residents_distinct}
 use Rattle.policies.proofs.theorems.residents_distinct.Goals as goal
 
 pub returns : goal.returns
-returns c = residents_distinct c.demand_keeps.ensures
+returns c = residents_distinct c.demand_keeps.ensures c.cache_keeps.ensures
