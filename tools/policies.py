@@ -12,6 +12,7 @@ Policy = namedtuple("Policy", "colour marker dash is_filtered is_default")
 
 OPTIMAL = "clairvoyant"
 WINDOWED = "wtinylfu"
+CAFFEINE = "caffeine"
 # The policies whose hit ratio never falls where the capacity grows, which is proved.
 MONOTONE = {"lru", OPTIMAL}
 POLICIES = {
@@ -24,8 +25,9 @@ POLICIES = {
     "sieve": Policy("#6a3d9a", 5, "(2,2,6,2)", False, True),
     "s3-fifo": Policy("#b8a600", 14, "(6,2,2,2,2,2)", False, True),
     "tinylfu-lru": Policy("#009e73", 8, "(6,3)", True, False),
-    "tinylfu-slru": Policy("#cc79a7", 10, "(14,4,3,4)", True, True),
+    "tinylfu-slru": Policy("#cc79a7", 10, "(14,4,3,4)", True, False),
     WINDOWED: Policy("#d55e00", 12, "(3,3)", True, True),
+    CAFFEINE: Policy("#1b7837", 11, "(10,3,2,3,2,3)", True, True),
     OPTIMAL: Policy("#000000", 2, "(22,5)", False, True),
 }
 
@@ -36,7 +38,7 @@ def has_sketch(name):
 
 
 # Other names of policies that are tried, in small letters.
-OTHER_NAMES = {"opt": OPTIMAL, "min": OPTIMAL, "belady": OPTIMAL, "optimal": OPTIMAL, "caffeine": WINDOWED,
+OTHER_NAMES = {"opt": OPTIMAL, "min": OPTIMAL, "belady": OPTIMAL, "optimal": OPTIMAL,
                "tinylfu": "tinylfu-lru", "second-chance": "clock"}
 
 

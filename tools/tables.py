@@ -7,7 +7,7 @@ import io
 from itertools import groupby
 
 from measures import MAINS, PARTS, best_of, capacities_in, nearly_best
-from policies import OPTIMAL
+from policies import CAFFEINE, OPTIMAL
 from reports import MAX_CAPACITY, rate
 
 # How wide a table for people is at most, but for a trace's name, and how many names of a cell it shows.
@@ -63,11 +63,13 @@ def misses_table(surveys):
 
 
 def windows_table(surveys):
-    yield "trace", "% of footprint", "capacity", *(f"--main {it}" for it in MAINS), "best --main"
+    beside = [CAFFEINE] if CAFFEINE in surveys[0].policies else []
+    yield "trace", "% of footprint", "capacity", *(f"--main {it}" for it in MAINS), *beside, "best --main"
     for it in surveys:
         for capacity in capacities_in(it.rows) if it.windows else []:
             rows = [(main, it.windows[main, capacity]) for main in MAINS]
-            rates, best = (shown_rate(row) for _, row in rows), nearly_best(it.trace, rows)
+            moved = (it.rows[policy, capacity] for policy in beside)
+            rates, best = map(shown_rate, (*(row for _, row in rows), *moved)), nearly_best(it.trace, rows)
             yield it.trace.name, *place_of(it, capacity), *rates, names_of(best)
 
 

@@ -6,10 +6,10 @@ from .concurrent_cache import Shell
 from .debugger import debug
 from .faults import Fault
 from .journals import replay
-from .options import DEFAULTS, NUMBERS, POLICIES, TAKEN
+from .options import DEFAULTS, NUMBERS, POLICIES
 from .reports import compare, intervals, part, run, sweep
 from .traces import keys_of
 from .walks import Worker, check_walks, drive_alone, journal, walk
 
-__all__ = ["DEFAULTS", "NUMBERS", "POLICIES", "TAKEN", "Fault", "Shell", "Worker", "check_walks", "compare", "debug", "drive_alone", "intervals", "journal",
+__all__ = ["DEFAULTS", "NUMBERS", "POLICIES", "Fault", "Shell", "Worker", "check_walks", "compare", "debug", "drive_alone", "intervals", "journal",
            "keys_of", "part", "replay", "run", "sweep", "walk"]

@@ -5,17 +5,16 @@ from .caffeine import Caffeine
 from .demand_policies import Arc, Clock, Fifo, S3Fifo, Sieve, TwoQ
 from .policies import Clairvoyant, Lru, SegmentedLru, TinyLfu, WindowTinyLfu
 
-# A whole number within bounds, with what holds where it is not given.
+# A whole number within bounds, with what holds where it is not given: tools/reference has them all, and check_random asks
+# for them.
 Number = namedtuple("Number", "default low high help")
 NUMBERS = {
-    "main": Number(99, 0, 99, "the main part of wtinylfu in percent (99)"),
+    "main": Number(99, 0, 99, "the main part of wtinylfu, and of caffeine at first, in percent (99)"),
     "period": Number(None, 1, 2**32 - 1, "after how many accesses caffeine moves its window (ten times its capacity)"),
     "in": Number(25, 1, 99, "the queue of new keys of 2q in percent (25)"),
     "out": Number(50, 1, 100, "the ghost of 2q in percent (50)"),
     "small": Number(10, 1, 99, "the small queue of s3-fifo in percent (10)"),
 }
-# Those that the program takes: tools/reference has them, and check_random asks for them.
-TAKEN = ("main", "in", "out", "small")
 DEFAULTS = {"spread": "mixed", **{name: number.default for name, number in NUMBERS.items()}}
 
 # How each policy is opened: of a capacity, options as those above, and the keys to come.
