@@ -21,7 +21,7 @@ use report::{intervals_text, reports_text};
 use std::alloc::{AllocError, Global};
 use std::sync::Wait;
 use std::thread::Threads;
-use step_record::{Config, Job, MAX_BATCH, Tuning, Trace};
+use step_record::{Config, Job, MAX_BATCH, Trace, Tuning};
 use streams::CountedRead;
 use sweeps::{sweep_batches, sweep_each};
 use trace_read::read_trace;

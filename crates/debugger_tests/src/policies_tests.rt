@@ -12,7 +12,7 @@ use std::sync::atomic::AtomicU64;
 use std::sync::atomic::Ordering::SeqCst;
 use std::test::Fail;
 use std::thread::Threads;
-use step_record::{Config, Gate, Job, Key, OpenGate, Tuning, Policy, Spread, Trace};
+use step_record::{Config, Gate, Job, Key, OpenGate, Policy, Spread, Trace, Tuning};
 use streams::{CountedReader, CountedWriter};
 
 const fn at_two(policy: Policy) -> Job {

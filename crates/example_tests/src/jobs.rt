@@ -1,5 +1,5 @@
 //! The configuration and the job of the tests.
-use step_record::{Config, Job, Tuning, Policy, Spread};
+use step_record::{Config, Job, Policy, Spread, Tuning};
 
 // A small cache with one read buffer.
 pub(crate) const SMALL: Config = Config {

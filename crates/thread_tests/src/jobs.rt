@@ -2,7 +2,7 @@
 use super::sessions::SMALL;
 use policies::{ActorFault, Report};
 use std::test::Fail;
-use step_record::{Config, Job, Tuning, Policy, Spread};
+use step_record::{Config, Job, Policy, Spread, Tuning};
 
 pub(crate) fn job(policy: Policy, capacity: u32) -> Job {
     let config = Config {
