@@ -3,6 +3,7 @@ import contextlib
 import gzip
 import os
 import pty
+import random
 import re
 import shutil
 import subprocess
@@ -43,7 +44,7 @@ def check_nearly_best(survey, folder, _):
                           .replace("* percent // 100", "* percent // 10000"))
         words = survey, trace, "--program", program, "--capacity", "5"
         row = rows_of(run(*words, "--csv")[0])[0]
-        expect("the best", (row["best"], row["below optimal"]), (best, lost))
+        expect("the best", (row["best"], row["below optimal"], row["% of footprint"]), (best, lost, "26.3"))
     expect_parts("the note", run(*words, "--table", "policies")[0], "(best: within half a point of the best policy and 5 % of its misses; "
                  "clairvoyant is left out)")
     expect("the best main part", rows_of(run(*words, "--csv", "--table", "windows")[0])[0]["best --main"], "20")
@@ -159,12 +160,8 @@ def check_cliffs(survey, folder, _):
     expect_parts("a large one", run(*words, "--csv", "--table", "jumps", "--jump", "21")[0], f"points\n{trace},slru,200,202,")
     expect_parts("in a table", run(*words)[0], "within a percent of the survey's capacities", "-20.00\n")
     expect_parts("no jump", run(*words, "--policy", "lru", "--table", "jumps")[0], "no jump (lru: at any capacity; others")
-    if not shutil.which("gnuplot"):
-        return
-    picture = folder / "picture.svg"
-    run(*words, "--policy", "slru", "--table", "traces", "--plot", picture)
-    text = picture.read_text()
-    expect_parts("the picture", text, "\n198 60.000000\n200 40.000000\n202 61.000000\n")
+    run(*words, "--policy", "slru", "--table", "traces", "--plot", "picture.svg", cwd=folder, env=gnuplot_by(folder, NOTING))
+    expect_parts("the picture", (folder / "given").read_text(), "\n198 60.000000\n200 40.000000\n202 61.000000\n")
 
 
 def check_reach(survey, folder, _):
@@ -260,7 +257,8 @@ def check_lost_row(survey, folder, program):
         text = arc if "lirs" in words else trace
         expect_parts("a trace in another format", run(survey, *words, text, "--program", program, status=1)[1], f"refused {text}: another format is {hint}, and ",
                      "tools/sample")
-    expect_parts("a word", run(survey, trace, "--capacity", "1M", "--program", program, status=2)[1], "1M is not a whole number")
+    for word in ("1M", "1048577"):
+        expect_parts("a word", run(survey, trace, "--capacity", word, "--program", program, status=2)[1], f"{word} is not a whole number")
     for option in ("--percent", "--reach", "--jump"):
         expect_parts(option, run(survey, trace, option, "nan", status=2)[1], "nan is not a number from 0 to 100")
     expect_quiet_interrupt(survey, folder, "--program", program)
@@ -269,21 +267,24 @@ def check_lost_row(survey, folder, program):
 
 def check_ways(survey, folder, program):
     """A trace is read from a file, packed or not, and from a pipe, and its tables are the same."""
-    # More than a buffer has. Block 1000 comes three times, written otherwise; of 91 residues x * x has 28.
-    text = "".join(f"{it * it % 91:0600}\n" for it in range(2000)).encode() + b"1000\n 1000\n001000\n"
+    # More than a buffer has, packed by zstd too, since what stands before a number is not packed any smaller. Block 1000 comes
+    # three times, written otherwise; of 91 residues x * x has 28.
+    blanks, rng = bytes(b" \t"[it % 2] for it in range(256)), random.Random(1)
+    text = b"".join(rng.randbytes(600).translate(blanks) + b"%d\n" % (it * it % 91) for it in range(2000)) + b"1000\n 1000\n001000\n"
     words = "--program", program, "--csv", "--capacity", "20", "--table", "traces", "--table", "policies", "--policy", "slru"
     plain = file_of(folder, "plain", text)
     wanted = run(survey, plain, *words)[0]
     expect("the trace", wanted.splitlines()[1], f"{plain},2003,29,0,98.55")
     packed = {"gz": gzip.compress(text)}
     if shutil.which("zstd"):
-        packed["zst"] = subprocess.run(["zstd", "-qc"], input=text, capture_output=True, check=True).stdout
+        packed["zst"] = subprocess.run(["zstd", "-qc", "--fast=9999"], input=text, capture_output=True, check=True).stdout
     for name, data in packed.items():
         path = file_of(folder, name, data)
         expect(name, run(survey, path, *words)[0].replace(str(path), str(plain)), wanted)
-        expect(f"{name} by a pipe", run(survey, "-", *words, typed=data)[0].replace("\n-", f"\n{plain}"), wanted)
         cut = file_of(folder, "cut", data[:-9])
         run(survey, cut, *words, status=1)
+    for name, data in {**packed, "plain": text}.items():
+        expect(f"{name} by a pipe", run(survey, "-", *words, typed=data)[0].replace("\n-", f"\n{plain}"), wanted)
     with plain.open("rb") as file:
         expect("the standard input", run(survey, "-", *words, stdin=file, input=None)[0].replace("\n-", f"\n{plain}"), wanted)
 
@@ -324,6 +325,7 @@ def check_after(survey, folder, program):
         call = program, "intervals", "--capacity", 40, "--every", 1000, "--main", main, "wtinylfu"
         hits = sum(int(it["hits"]) for it in rows_of(run(*call, typed=trace.read_text())[0])[1:])
         expect(f"--main {main}", windows[f"--main {main}"], f"{hits * 10000 // 2000 / 100:.2f}")
+    expect_parts("the note", run(*words[:4], *words[5:], "--table", "policies")[0], "(without the first 1000 accesses, where clairvoyant is no upper bound)\n")
     # Of 391 residues x * x has 0 and 8 * 11 + 8 + 11 others (391 is 17 times 23), all of them in the first 1000.
     expect("the trace", run(*words, "--table", "traces")[0].splitlines()[1], f"{trace},2000,108,0,100.00")
     arc = file_of(folder, "arc", "".join(f"{it * 7 % 90} 3\n" for it in range(100)))
@@ -432,23 +434,20 @@ def check_drawn(survey, folder, program):
     """The picture has each policy at capacities from a hundredth of the footprint to all of it, in steps, and the trace's name. Of 91
     residues x * x has 28: 4 by 7 times 7 by 13."""
     trace = file_of(folder, "trace", "".join(f"{it * it % 91}\n" for it in range(3000)))
-    if not shutil.which("gnuplot"):
-        return
-    picture = folder / "picture.svg"
-    named = [word for it in POLICIES for word in ("--policy", it)]
-    run(survey, trace, "--program", program, "--plot", picture, "--table", "traces", *named)
-    text = picture.read_text()
-    expect_parts("the picture", text, "3000 accesses", "set xrange [1:28]", "$curve0 with steps ", str(trace), *POLICIES)
-    lru = text.partition("$curve0 &lt;&lt; END\n")[2].partition("END")[0].splitlines()
+    words = survey, trace, "--program", program, "--table", "traces", *(word for it in POLICIES for word in ("--policy", it)), "--plot"
+    how = {"cwd": folder, "env": gnuplot_by(folder, NOTING)}
+    run(*words, "picture.svg", **how)
+    text = (folder / "given").read_text()
+    expect_parts("the picture", text, "terminal svg", "3000 accesses", "set xrange [1:28]", "$curve0 with steps ", str(trace), *POLICIES)
+    lru = text.partition("$curve0 << END\n")[2].partition("END")[0].splitlines()
     for line in lru:
         capacity, height = line.split()
         row = rows_of(run(program, "run", "--capacity", capacity, "lru", typed=trace.read_text())[0])[0]
         expect(f"lru at {capacity}", f"{float(height):.6f}", f"{100 * int(row['hits']) / 3000:.6f}")
-    png = folder / "picture.png"
-    run(survey, trace, "--program", program, "--plot", png, "--table", "traces")
-    expect("a PNG", png.read_bytes()[:4], b"\x89PNG")
-    run(survey, trace, "--program", program, "--plot", "/dev/full", "--table", "traces", status=1)
-    expect_parts("nothing to draw", run(survey, "-", "--program", program, "--plot", png, status=1)[1], "no accesses to draw")
+    run(*words, "picture.png", **how)
+    expect_parts("a PNG", (folder / "given").read_text(), "terminal pngcairo")
+    run(*words, "/dev/full", status=1, **how)
+    expect_parts("nothing to draw", run(survey, "-", *words[2:], "picture.png", status=1, **how)[1], "no accesses to draw")
 
 
 TESTS = [check_best, check_nearly_best, check_windows, check_parts, check_columns, check_width, check_many_rows, check_progress, check_cliffs, check_reach, check_percent_of_reach, check_large, check_large_capacities, check_jumps_and_powers,
@@ -546,10 +545,15 @@ MISTAKES = {
                                         "    except OSError as fault:\n        print(f\"{tool}"),
     "the format that was tried as another": Mistake(check_lost_row, "reports.py", "if it != words[", "if it == words["),
     "a packed file read as it is": Mistake(check_ways, "traces.py", "and not first.startswith((GZIP, ZSTD))", ""),
+    "a megabyte of a pipe": Mistake(check_ways, "traces.py", "else source, copy, COPIED)", "else __import__('io').BytesIO(source.read(COPIED)), copy, COPIED)"),
+    **({"a megabyte of what zstd unpacks": Mistake(check_ways, "traces.py", "shutil.copyfileobj(source, unpacking.stdin, COPIED)",
+                                                   "unpacking.stdin.write(source.read(COPIED))")} if shutil.which("zstd") else {}),
+    "a picture of one capacity": Mistake(check_drawn, "measures.py", "(top / low) ** (at", "(top / low) ** (0 * at"),
+    "a picture without the ends of jumps": Mistake(check_cliffs, "measures.py", "for jump in survey.jumps for", "for jump in [] for"),
+    "a picture of slopes": Mistake(check_drawn, "survey", '"plot", "--steps"]', '"plot"]'),
+    "parts of the footprint rounded up": Mistake(check_nearly_best, "tables.py", "{100 * capacity / survey.footprint:.1f}",
+                                                 "{-(-1000 * capacity // survey.footprint) / 10:.1f}"),
+    "a warm-up left out in silence": Mistake(check_after, "tables.py", "    if args.after:\n", "    if args.after and args.sampled:\n"),
+    "capacities over the largest one": Mistake(check_lost_row, "survey", "largest = MAX_CAPACITY *", "largest = 2 * MAX_CAPACITY *"),
 }
-if shutil.which("gnuplot"):
-    MISTAKES |= {
-        "a picture of one capacity": Mistake(check_drawn, "measures.py", "(top / low) ** (at", "(top / low) ** (0 * at"),
-        "a picture without the ends of jumps": Mistake(check_cliffs, "measures.py", "for jump in survey.jumps for", "for jump in [] for"),
-        "a picture of slopes": Mistake(check_drawn, "survey", '"plot", "--steps"]', '"plot"]'),
-    }
+
