@@ -1,8 +1,8 @@
 """What documents claim of the sources: each name that they give stands where they say.
 
 Each function returns what is wrong, as texts. PROOFS has tables of claims: a function with its file, a definition of the
-same crate or of another one that is named, and a mutation. PROOFS, MUTATIONS and PROVING name nothing that is not there,
-and each crate of crates.txt has one row of ARCHITECTURE, in the same order, which is the first sentence of its root file; but
+same crate or of another one that is named, and a mutation. The documents of NAMING name nothing that is not there, and each
+crate of crates.txt has one row of ARCHITECTURE, in the same order, which is the first sentence of its root file; but
 for the crates of tests, which it names together.
 """
 import re
@@ -16,7 +16,7 @@ FENCED = re.compile(r"^```.*?^```$", re.M | re.S)
 # Tools that have names of small repositories of their own.
 NAMING_OTHERS = ("check_tools", "check_new_policy")
 # Documents of which each name in the sources is looked up.
-NAMING = ("docs/PROOFS.md", "docs/MUTATIONS.md", "docs/PROVING.md")
+NAMING = ("CONTRIBUTING.md", *(f"docs/{it}.md" for it in ("PROOFS", "MUTATIONS", "PROVING", "ARCHITECTURE", "DECISIONS")))
 
 
 def cells_of(line):
