@@ -13,6 +13,7 @@ from pathlib import Path
 from checks import SECONDS, Wrong, call, expect, patience
 
 POLICIES = ["lru", "slru", "tinylfu-lru", "tinylfu-slru", "wtinylfu", "clairvoyant"]
+EVERY = [*POLICIES, "fifo", "clock", "sieve", "s3-fifo", "2q", "arc", "caffeine"]
 
 # A name and a title of which gnuplot or a shell would run a part, if it read it as more than a text: each part makes a file
 # `made` in the folder of the call.

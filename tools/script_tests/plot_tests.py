@@ -5,10 +5,9 @@ import subprocess
 import sys
 from xml.etree import ElementTree
 
-from script_tests.frame import (NOTING, POLICIES, UNSAFE, Mistake, expect, expect_full_disk, expect_parts,
+from script_tests.frame import (EVERY, NOTING, POLICIES, UNSAFE, Mistake, expect, expect_full_disk, expect_parts,
                                 expect_quiet_interrupt, file_of, gnuplot_by, run, without_texts)
 
-TWELVE = [*POLICIES, "fifo", "clock", "sieve", "s3-fifo", "2q", "arc"]
 SWEEP = "policy,capacity,accesses,hits,misses,evictions,rejections,rate\n"
 COMPARISONS = "first,second,capacity,from,to,both,first_only,second_only,neither\n"
 INTERVALS = "policy,capacity,first,last,hits,misses,evictions,rejections,rate\n"
@@ -95,10 +94,10 @@ def check_marks(plot, folder, _):
 
 def check_styles(plot, folder, _):
     """Each policy has a colour, a marker and a dash that no other one has, and its colour in every picture."""
-    rows = file_of(folder, "all.csv", SWEEP + "".join(sweep_rows(it, (5, 1), (6, 2)) for it in TWELVE))
+    rows = file_of(folder, "all.csv", SWEEP + "".join(sweep_rows(it, (5, 1), (6, 2)) for it in EVERY))
     legend = [line.split() for line in drawn(plot, rows)[1].splitlines() if "linespoints" in line]
     for word in ("rgb", "dashtype", "pointtype"):
-        expect(f"how many have a {word} of their own", len({line[line.index(word) + 1] for line in legend}), len(TWELVE))
+        expect(f"how many have a {word} of their own", len({line[line.index(word) + 1] for line in legend}), len(EVERY))
     colours = {line[-1]: line[line.index("rgb") + 1] for line in map(lambda it: [w.strip("',\\") for w in it], legend)
                for line in [[w for w in line if w]]}
     one = file_of(folder, "one.csv", SWEEP + sweep_rows("slru", (5, 1), (6, 2)))

@@ -9,11 +9,8 @@ import shutil
 import subprocess
 import sys
 
-from script_tests.frame import (NOTING, POLICIES, UNSAFE, Mistake, expect, expect_full_disk, expect_parts,
+from script_tests.frame import (EVERY, NOTING, POLICIES, UNSAFE, Mistake, expect, expect_full_disk, expect_parts,
                                 expect_quiet_interrupt, fake, file_of, gnuplot_by, rows_of, run, without_texts)
-
-TWELVE = ["lru", "slru", "tinylfu-lru", "tinylfu-slru", "wtinylfu", "clairvoyant", "fifo", "clock", "sieve", "s3-fifo", "2q",
-          "arc"]
 
 
 def check_best(survey, folder, _):
@@ -62,13 +59,15 @@ def check_windows(survey, folder, _):
            "trace,% of footprint,capacity,--main 99,--main 90,--main 80,--main 50,--main 20,best --main\n"
            f"{trace},10.0,30,20.00,21.00,39.00,60.00,59.00,50\n")
     expect("one window", rows_of(run(*words, "--main", "80")[0])[0]["best"], "lru")
+    beside = *words[:3], fake(folder, "None if capacity >= distinct else dict(caffeine=61).get(policy, main // 9)", policies=EVERY), *words[4:]
+    expect("caffeine beside them", run(*beside, "--table", "windows")[0].splitlines()[1], f"{trace},10.0,30,11.00,10.00,8.00,5.00,2.00,61.00,99")
 
 
 def check_parts(survey, folder, _):
     """Each part has its own sizes, beside the program's own, of the policies that have such parts."""
     trace = file_of(folder, "trace", "".join(f"{it % 300}\n" for it in range(3000)))
     program = fake(folder, "None if capacity >= distinct else int(option.get('--small', 60)) if policy == 's3-fifo' else "
-                   "int(option.get('--in', 30)) + int(option.get('--out', 40)) // 10", policies=TWELVE)
+                   "int(option.get('--in', 30)) + int(option.get('--out', 40)) // 10", policies=EVERY)
     words = survey, trace, "--program", program, "--capacity", "30", "--csv", "--table", "parts"
     heads, rates = "s3-fifo --small 1,s3-fifo --small 5,s3-fifo --small 10,s3-fifo --small 25", "1.00,5.00,60.00,25.00"
     expect("one policy", run(*words, "--policy", "s3-fifo")[0], f"trace,% of footprint,capacity,{heads}\n{trace},10.0,30,{rates}\n")
@@ -82,31 +81,31 @@ def check_parts(survey, folder, _):
 def check_columns(survey, folder, _):
     """The policies that are named, or at most eight of those that the program takes."""
     trace = file_of(folder, "trace", "1\n2\n1\n")
-    heads = run(survey, trace, "--csv", "--program", fake(folder, policies=TWELVE))[0].splitlines()[0].split(",")
+    heads = run(survey, trace, "--csv", "--program", fake(folder, policies=EVERY))[0].splitlines()[0].split(",")
     expect("the default columns", heads[3:-2],
-           ["lru", "slru", "arc", "sieve", "s3-fifo", "tinylfu-slru", "wtinylfu", "clairvoyant"])
+           ["lru", "slru", "arc", "sieve", "s3-fifo", "wtinylfu", "caffeine", "clairvoyant"])
     words = survey, trace, "--csv", "--program", fake(folder), "--policy"
     expect("a column", run(*words, "slru")[0].splitlines()[0], "trace,% of footprint,capacity,slru,best")
     expect_parts("a policy that is none", run(*words, "none", status=1)[1], "--policy none is none of lru, slru")
-    words = survey, trace, "--program", fake(folder, policies=TWELVE), "--policy"
+    words = survey, trace, "--program", fake(folder, policies=EVERY), "--policy"
     for word, meant in (("opt", "clairvoyant"), ("min", "clairvoyant"), ("Belady", "clairvoyant"), ("LRU", "lru"), ("s3fifo", "s3-fifo")):
         expect_parts(word, run(*words, word, status=1)[1], f"--policy {word} is none of ", f"did you mean {meant}?\n")
 
 
 def check_width(survey, folder, _):
-    """No table is wider than 100 columns, and each column is in it, also of twelve policies that are as good as each other."""
+    """No table is wider than 100 columns, and each column is in it, also of all policies where they are as good as each other."""
     trace = file_of(folder, "trace", "".join(f"{it % 320}\n" for it in range(3200)))
-    words = survey, trace, "--program", fake(folder, "None if capacity >= distinct else 50", policies=TWELVE)
-    words += "--reach", "99", *(word for it in TWELVE for word in ("--policy", it))
+    words = survey, trace, "--program", fake(folder, "None if capacity >= distinct else 50", policies=EVERY)
+    words += "--reach", "99", *(word for it in EVERY for word in ("--policy", it))
     whole = run(*words)[0]
     sampled = run(*words, "--sampled", "1/1024", "--accesses", 3200 << 10, "--after", "9")[0]
     for text in (whole, sampled):
         expect("too wide", [line for line in text.splitlines() if len(line) > 100], [])
-    expect_parts("the tables", whole, f"{trace}: hit ratios in percent\n% of footprint  capacity    lru ", *TWELVE)
-    expect_parts("the best", whole, "  lru or slru or tinylfu-lru and 8 more           0.00\n", "  99 or 90 or 80 and 2 more\n",
+    expect_parts("the tables", whole, f"{trace}: hit ratios in percent\n% of footprint  capacity    lru ", *EVERY)
+    expect_parts("the best", whole, "  lru or slru or tinylfu-lru and 9 more           0.00\n", "  99 or 90 or 80 and 2 more\n",
                  "so look at both sides)\n")
     best = rows_of(run(*words, "--csv", "--table", "policies")[0])[0]["best"]
-    expect("the best as CSV", best.split(" or "), [it.replace("wtinylfu", "wtinylfu --main 99") for it in TWELVE if it != "clairvoyant"])
+    expect("the best as CSV", best.split(" or "), [it.replace("wtinylfu", "wtinylfu --main 99") for it in EVERY if it != "clairvoyant"])
 
 
 def check_many_rows(survey, folder, _):
@@ -469,6 +468,7 @@ MISTAKES = {
     "a window in the place of another": Mistake(check_windows, "measures.py", "capacities, main)", "capacities, main - 1)"),
     "a part of another size": Mistake(check_parts, "measures.py", 'part=(f"--{option}", size)', 'part=(f"--{option}", size + 1)'),
     "no part of another size": Mistake(check_parts, "reports.py", "main or options.main, *part]", "main or options.main]"),
+    "caffeine as a window": Mistake(check_windows, "tables.py", "moved = (it.rows[policy, capacity] for policy in beside)", "moved = (rows[0][1] for policy in beside)"),
     "no window": Mistake(check_windows, "measures.py", "if survey.windows:", "if not survey.windows:"),
     "a table that is too wide": Mistake(check_width, "tables.py", "if taken + width - GAP > MAX_WIDTH:", "if not blocks:"),
     "a column left out": Mistake(check_width, "tables.py", "[[at] for at in range(KEYS, best)]", "[[at] for at in range(KEYS + 1, best)]"),
