@@ -44,7 +44,7 @@ one-key percent few = omega (arith, few)
 
 pub s3_fifo_is_not_conservative : RunsByPage → S3FifoIsNotConservative
 s3_fifo_is_not_conservative page j is at few all =
-    let one : part_size j.parts.small j.config.capacity ≡ 1 = ap (part_size j.parts.small) at ∙ one-key j.parts.small few in
+    let one : part_size j.tuning.small j.config.capacity ≡ 1 = ap (part_size j.tuning.small) at ∙ one-key j.tuning.small few in
     let misses : (keys : List ℕ) → (stats_on j keys).misses ≡ count_by is_miss (outcomes_of_page (sized.S3Fifo 1) 2 keys) =
     λ keys. demand-misses demand.S3Fifo j keys (ap design_of is) (omega (arith, at)) ∙ ap (λ n. count_by is_miss (demand_run (sized.S3Fifo n) j.config.capacity keys)) one
     ∙ ap (λ c. count_by is_miss (demand_run (sized.S3Fifo 1) c keys)) at ∙ ap (count_by is_miss) (page (sized.S3Fifo 1) 2 keys (omega arith)) in

@@ -73,10 +73,10 @@ adaptive-online law (Ok u) j is ok =
       fits = λ keys. all.fits _ (served-after c (adaptive_start j) cache_access cache_residents (IsCache c) all keys);
       misses = λ t n l. adaptive-misses j (take n t) (Ok u) is ok ∙ misses-served c (adaptive_start j) cache_access cache_residents (IsCache c) all t n l;
     }
-adaptive-online law (Err e) j is no = record {
+adaptive-online law (Err e) j is refused = record {
   held = λ keys. [];
   fits = λ keys. omega arith;
-  misses = λ t n l. adaptive-misses j (take n t) (Err e) is no ∙ (all-rejected (take n t) ∙ (length-take-le n t l ∙ sym (none-hit t n)));
+  misses = λ t n l. adaptive-misses j (take n t) (Err e) is refused ∙ (all-rejected (take n t) ∙ (length-take-le n t l ∙ sym (none-hit t n)));
 }
 
 is-online : DemandKeeps → CacheKeeps → AnyCoversTrace → (x : Design) (j : Job) → design_of j.policy ≡ x → is_optimal x ≡ false → IsOnline j

@@ -30,5 +30,5 @@ abbrev pub s3_fifo_trace : List ℕ
 s3_fifo_trace = 1 ∷ 1 ∷ 1 ∷ 2 ∷ 3 ∷ 2 ∷ []
 
 abbrev pub S3FifoIsNotConservative : Type 0
-S3FifoIsNotConservative = (j : Job) → j.policy ≡ S3Fifo → j.config.capacity ≡ 2 → j.parts.small ≤ MAX_PART_PERCENT
+S3FifoIsNotConservative = (j : Job) → j.policy ≡ S3Fifo → j.config.capacity ≡ 2 → j.tuning.small ≤ MAX_PART_PERCENT
     → IsConservative 2 s3_fifo_trace (misses_on j s3_fifo_trace) → ⊥

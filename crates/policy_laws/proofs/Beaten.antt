@@ -160,7 +160,7 @@ acts-adaptive law (Ok u) j trace ok =
       same = served-hits c (adaptive_start j) cache_access cache_residents (IsCache c) all trace (length trace) (omega arith)
           ∙ ap (λ l. (stats_of (outcomes_of_all cache_access (adaptive_start j) l)).hits) (take_all (length trace) trace (omega arith));
     }
-acts-adaptive law (Err e) j trace no = record {
+acts-adaptive law (Err e) j trace refused = record {
   residents = λ i. [];
   strategy = record { empty = refl; on_demand = λ i x h g. absurd (cc (g)); fits = λ i h. omega arith };
   same = no-hits trace (length trace) ∙ sym (none-hit trace);
