@@ -1,6 +1,7 @@
 -- What two policies show together.
 use Rattle.std.proofs.Common.{◌≡◌, ◌≢◌, ◌∙◌, ◌<◌, ◌+◌, ℕ, zero, suc, Bool, true, false, Option, Some, None, Result, Ok, Err, List, [], ◌∷◌, length, get_or, refl, ap, sym, subst, arith}
 use Rattle.std.specs.Prelude.{is_err, OnOk, OnErr, IfSome, IfErr}
+use Rattle.streams.specs.Part.{AppendsPart}
 use Rattle.step_record.specs.declared.config.ConfigFault.{ConfigFault}
 use Rattle.step_record.specs.declared.job.Job.{Job}
 use Rattle.step_record.specs.declared.outcome.Outcome.{Outcome}
@@ -85,6 +86,13 @@ pub done_held : (r : Result (Unit {0}) DebugFault) (known : Option (List ℕ)) (
     → OnOk r (IfSome known (λ bytes. (x : ℕ) × WritesDialogue (dialogue_of u 0 bytes) fits had has x))
 done_held (Ok x) known t u n fits had has at same start h = some_held known t u n fits had has at same start h
 done_held (Err e) known t u n fits had has at same start h = tt
+
+-- so a beginning of it
+pub part_held : (r : Result (Unit {0}) DebugFault) (known : Option (List ℕ)) (t u : TimelineData) (n : ℕ) (had has : Option (List ℕ)) → t ≡ u → n ≡ 0
+    → OnErr r (IfSome known (λ bytes. AppendsPart had has (dialogue_of t n bytes).text)) → OnErr r (IfSome known (λ bytes. AppendsPart had has (dialogue_of u 0 bytes).text))
+part_held r known t u n had has same start h =
+    subst (λ k. OnErr r (IfSome known (λ bytes. AppendsPart had has (dialogue_of u k bytes).text))) start
+    (subst (λ x. OnErr r (IfSome known (λ bytes. AppendsPart had has (dialogue_of x n bytes).text))) same h)
 
 -- a configuration that is not refused
 pub no_fault : (r : Result (Unit {0}) ConfigFault) → is_err r ≡ false → r ≡ Ok tt

@@ -43,6 +43,10 @@ pub fn run_debug<T: Threads, R: CountedRead, W: CountedWrite>(
     ensures large { result ≡ Err DebugFault.TooLarge → IfSome (R.remaining commands.old) (λ bytes. (position : ℕ) ×
         WritesDialogue (dialogue_of (policies_timeline trace.now first.now second.now) 0 bytes) false
         (W.contents out.old) (W.contents out.new) position) }
+    // Whatever failed, it has written a beginning of that text.
+    ensures part { OnErr result (IfSome (R.remaining commands.old) (λ bytes.
+        AppendsPart (W.contents out.old) (W.contents out.new)
+        (dialogue_of (policies_timeline trace.now first.now second.now) 0 bytes).text)) }
     // A refused configuration is reported, and no other; nothing is read or written then.
     ensures config { ReturnsConfig (faulty_in (first.now ∷ second.now ∷ [])) result }
     ensures untouched { IfErr result (UntouchedAtConfig (commands.new ≡ commands.old) (out.new ≡ out.old)) }
