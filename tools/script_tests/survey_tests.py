@@ -95,17 +95,19 @@ def check_columns(survey, folder, _):
 def check_width(survey, folder, _):
     """No table is wider than 100 columns, and each column is in it, also of all policies where they are as good as each other."""
     trace = file_of(folder, "trace", "".join(f"{it % 320}\n" for it in range(3200)))
-    words = survey, trace, "--program", fake(folder, "None if capacity >= distinct else 50", policies=EVERY)
-    words += "--reach", "99", *(word for it in EVERY for word in ("--policy", it))
-    whole = run(*words)[0]
-    sampled = run(*words, "--sampled", "1/1024", "--accesses", 3200 << 10, "--after", "9")[0]
-    for text in (whole, sampled):
-        expect("too wide", [line for line in text.splitlines() if len(line) > 100], [])
-    expect_parts("the tables", whole, f"{trace}: hit ratios in percent\n% of footprint  capacity    lru ", *EVERY)
-    expect_parts("the best", whole, "  lru or slru or tinylfu-lru and 9 more           0.00\n", "  99 or 90 or 80 and 2 more\n",
-                 "so look at both sides)\n")
+    # Of thirteen policies all columns but `best` fill a block, of twelve they leave room for it alone.
+    for policies in (EVERY, EVERY[:-1]):
+        words = survey, trace, "--program", fake(folder, "None if capacity >= distinct else 50", policies=policies)
+        words += "--reach", "99", *(word for it in policies for word in ("--policy", it))
+        whole = run(*words)[0]
+        sampled = run(*words, "--sampled", "1/1024", "--accesses", 3200 << 10, "--after", "9")[0]
+        for text in (whole, sampled):
+            expect("too wide", [line for line in text.splitlines() if len(line) > 100], [])
+        expect_parts("the tables", whole, f"{trace}: hit ratios in percent\n% of footprint  capacity    lru ", *policies)
+        expect_parts("the best", whole, f"  lru or slru or tinylfu-lru and {len(policies) - 4} more           0.00\n", "  99 or 90 or 80 and 2 more\n",
+                     "so look at both sides)\n")
     best = rows_of(run(*words, "--csv", "--table", "policies")[0])[0]["best"]
-    expect("the best as CSV", best.split(" or "), [it.replace("wtinylfu", "wtinylfu --main 99") for it in EVERY if it != "clairvoyant"])
+    expect("the best as CSV", best.split(" or "), [it.replace("wtinylfu", "wtinylfu --main 99") for it in policies if it != "clairvoyant"])
 
 
 def check_many_rows(survey, folder, _):
