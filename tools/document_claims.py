@@ -3,7 +3,8 @@
 Each function returns what is wrong, as texts. PROOFS has tables of claims: a function with its file, a definition of the
 same crate or of another one that is named, and a mutation. The documents of NAMING name nothing that is not there, and each
 crate of crates.txt has one row of ARCHITECTURE, in the same order, which is the first sentence of its root file; but
-for the crates of tests, which it names together.
+for the crates of tests, which it names together. Each link of each document leads to a file that is there, and to a heading
+of it.
 """
 import re
 from pathlib import Path
@@ -12,6 +13,7 @@ TOP = Path(__file__).resolve().parent.parent
 CLAIMS = "| Claim | Function | Definition | Mutation |"
 CODE = re.compile(r"`([^`]+)`")
 FILE = re.compile(r"`(\w+)/(src/[\w/]*(?:\.rt)?)`")
+LINK = re.compile(r"\]\(([^)#\s]*)(?:#([^)\s]*))?\)")
 FENCED = re.compile(r"^```.*?^```$", re.M | re.S)
 # Tools that have names of small repositories of their own.
 NAMING_OTHERS = ("check_tools", "check_new_policy")
@@ -91,6 +93,22 @@ def wrong_names(top, sources, document):
             yield from (f"there is no {code}" for it in code.split("::") if it not in sources.words)
 
 
+def wrong_links(top, document):
+    """The links of a document within the repository that lead nowhere."""
+    for name, heading in LINK.findall(FENCED.sub("", (top / document).read_text())):
+        file = (top / document).parent / name if name else top / document
+        if "://" not in name and not file.exists():
+            yield f"there is no {name}, to which a link leads"
+        elif heading and heading not in headings_of(file):
+            yield f"{file.name} has no heading {heading}, to which a link leads"
+
+
+def headings_of(document):
+    """The headings of a document as links name them."""
+    heads = re.findall(r"^#+ (.*)$", FENCED.sub("", document.read_text()), re.M)
+    return {re.sub(r"[^\w -]", "", it.lower()).replace(" ", "-") for it in heads}
+
+
 def wrong_crates(top):
     """Crates without their row of ARCHITECTURE, rows without a crate or in another order than crates.txt has, and rows that a
     crate's root file says otherwise."""
@@ -123,10 +141,11 @@ def sentence_of(row):
     return f"{text[0].upper()}{text[1:]}."
 
 
-def wrong(top=TOP):
+def wrong(top, documents):
     """All that is wrong, each with its document."""
     sources = Sources(top)
     found = {"docs/PROOFS.md": list(wrong_claims(top, sources)), "docs/ARCHITECTURE.md": list(wrong_crates(top))}
-    for document in NAMING:
-        found[document] = [*found.get(document, []), *wrong_names(top, sources, document)]
+    for document in documents:
+        names = wrong_names(top, sources, document) if document in NAMING else []
+        found[document] = [*found.get(document, []), *names, *wrong_links(top, document)]
     return [f"{document}: {it}" for document, texts in found.items() for it in dict.fromkeys(texts)]
