@@ -96,6 +96,10 @@ def check_many(journal, folder, _):
     expect("the workers", [row["worker"] for row in rows], [*map(str, range(64)), "all"])
     expect("a worker", [rows[3][it] for it in ("steps", "steps an access", "taken", "busy")], ["1203", "1203.00", "0", "1201"])
     expect_parts("below the table", rest, "workers named: 64, read buffers named: 64", "most tasks waiting: 1, first after step 1267\n")
+    for workers, are_apart in ("00", False), ("010", False), ("0011", True), ("7033", True):
+        text = "".join(f"{it} begin = busy\n" for it in workers)
+        said = run(journal, typed=f"cachesim journal 2\n{text}steps {len(workers)}\n")[0]
+        expect(f"workers one after the other, {workers}", "went one after the other" in said, are_apart)
 
 
 def check_large(journal, folder, _):
@@ -126,8 +130,9 @@ MISTAKES = {
     "tasks that never wait": Mistake(check_counts, "journal", '("put", "present"): 1,', ""),
     "a worker's steps counted as another's": Mistake(check_counts, "journal", '"all" if worker is None else worker',
                                                      '"all" if worker is None else 0'),
-    "workers named": Mistake(check_many, "journal", "workers named: {len({worker for worker, *_ in self.counts})}",
-                             "workers named: {min(63, len({worker for worker, *_ in self.counts}))}"),
+    "workers named": Mistake(check_many, "journal", "workers named: {workers}", "workers named: {min(63, workers)}"),
+    "one worker that is apart": Mistake(check_many, "journal", "if 1 < workers == self.pieces", "if workers == self.pieces"),
+    "workers that came back": Mistake(check_many, "journal", "if 1 < workers == self.pieces", "if 1 < workers"),
     "read buffers named": Mistake(check_many, "journal", "read buffers named: {len(self.stripes)}",
                                   "read buffers named: {min(63, len(self.stripes))}"),
     "steps an access, many": Mistake(check_many, "journal", "ratio(steps, accesses)]", "ratio(steps % 1000, accesses)]"),
