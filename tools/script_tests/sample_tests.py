@@ -21,11 +21,13 @@ def check_blocks(sample, folder, _):
 
 
 def check_rate(sample, folder, _):
-    """One block in N, within five standard deviations, of neighbours, of multiples of 64 and of large numbers alike."""
-    for step, first, inverse in ((1, 0, 2), (1, 0, 32), (64, 0, 8), (64, 0, 32), (1 << 20, 1 << 60, 2), (1 << 32, 0, 8), (1, 0, 1024)):
-        count = 20000 if inverse < 1024 else 200000
+    """One block in N, within five standard deviations, of neighbours, of multiples of 64 and of large numbers alike, each once."""
+    for step, first, inverse, count in ((1, 0, 2, 140000), (1, 0, 32, 20000), (64, 0, 8, 20000), (64, 0, 32, 20000),
+                                        (1 << 20, 1 << 60, 2, 20000), (1 << 32, 0, 8, 20000), (1, 0, 1024, 200000)):
         text = "".join(f"{first + it * step} 1\n" for it in range(count)) if step > 1 else f"{first} {count}\n"
-        kept = len(run(sample, "--rate", f"1/{inverse}", "--format", "arc", typed=text)[0].split())
+        out, error = run(sample, "--rate", f"1/{inverse}", "--format", "arc", typed=text)
+        kept = len(out.split())
+        expect_parts("what is said", error, f"{kept} of {count} accesses, {kept} blocks: ")
         most = 5 * (count * (inverse - 1)) ** 0.5 / inverse
         expect(f"{kept} of {count} at 1/{inverse}", abs(kept - count / inverse) < most, True)
 
@@ -59,6 +61,7 @@ MISTAKES = {
     "accesses kept by their place": Mistake(check_blocks, "sample", "hash_of(block, self.seed)", "hash_of(block + self.made, self.seed)"),
     "65536 accesses at most": Mistake(check_blocks, "sample", "while some := list(", "if some := list("),
     "blocks by their lower half": Mistake(check_rate, "sample", "z = block ^ seed", "z = (block & 0xFFFFFFFF) ^ seed"),
+    "blocks by sixteen bits": Mistake(check_rate, "sample", "len(kept.blocks), Sample", "len(kept.blocks) % 65536, Sample"),
     "twice as many at small rates": Mistake(check_rate, "sample", "(ALL_BITS + 1) // inverse", "(ALL_BITS + 1) // inverse * (1 + (inverse > 999))"),
     "a seed without effect": Mistake(check_blocks, "sample", "hash_of(block, self.seed)", "hash_of(block, 1)"),
     "a hash of neighbours": Mistake(check_rate, "sample", "    z = (z ^ z >> 33) * 0xFF51AFD7ED558CCD & ALL_BITS\n    z = (z ^ z >> 33) "
