@@ -190,9 +190,9 @@ def check_reach(survey, folder, _):
 
 
 def check_percent_of_reach(survey, folder, _):
-    """Of a large trace the capacity that reaches a ratio is found to one percent."""
+    """Of a large trace the capacity that reaches a ratio is found to one percent, by over sixty readings."""
     trace = file_of(folder, "large", "0 30000\n0 30000\n0 30000\n")
-    program = fake(folder, "None if capacity >= 30000 else (capacity >= 2000) * 40 + capacity // 1000")
+    program = fake(folder, "None if capacity >= 30000 else (capacity >= 2000) * 40 + capacity // 1000", policies=[*POLICIES, "fifo", "arc"])
     words = survey, trace, "--program", program, "--csv", "--format", "arc", "--table", "reach"
     for row in rows_of(run(*words, "--reach", "42")[0]):
         found, below = int(row["capacity"]), int(row["not at"])
@@ -513,6 +513,8 @@ MISTAKES = {
                                                        "if [] and [row[:2] for row in rows] !="),
     "a row at another capacity": Mistake(check_reach, "measures.py", "return between(low, high, LRU_TRIES)",
                                          "return between(low + 1, high, LRU_TRIES)"),
+    "sixty readings of a trace": Mistake(check_percent_of_reach, "traces.py", "        return self.file.fileno()", "        self.read = getattr(self, 'read', 0) + 1\n"
+                                         "        return self.file.fileno() if self.read <= 60 else os.open(os.devnull, os.O_RDONLY)"),
     "a search that ends early": Mistake(check_percent_of_reach, "measures.py", "max(1, high // 100)", "max(1, high // 10)"),
     "a block that comes twice counted as used once": Mistake(check_beside_run, "measures.py", "if times == 1", "if times <= 2"),
     "options that are not handed on": Mistake(check_beside_run, "reports.py",
