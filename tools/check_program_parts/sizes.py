@@ -5,7 +5,7 @@ from checks import TOP
 
 from .calls import HEADER, PARTING, RECORDED, SECONDS_OF_A_LONG_CALL, Ended, lines, part
 
-FILTERED = ("tinylfu-lru", "tinylfu-slru", "wtinylfu")
+FILTERED = ("tinylfu-lru", "tinylfu-slru", "wtinylfu", "caffeine")
 ACCESSES_OF_RECORDED = 84333
 
 
@@ -36,6 +36,7 @@ def far_back(check):
         return
     far(check, "tinylfu-lru", "tinylfu-slru", "lirs")
     far(check, "wtinylfu", "clairvoyant", "arc")
+    far(check, "caffeine", "wtinylfu", "lirs")
     rest = [it for it in check.policies if it not in ("lru", "slru", *FILTERED, "clairvoyant")]
     for first, second in zip(rest[::2], rest[1::2]):
         far(check, first, second, "lirs")
