@@ -43,12 +43,13 @@ of_dialogue Q commands debug.TooLarge large none past = inr (large (past refl))
 of_dialogue Q commands (debug.Config i) large none past = absurd (none i refl)
 
 -- what a debugger leaves at a fault
-pub answers_left : (Answered Kept : Type 0) (e : DebugFault) → (e ≡ debug.TooLarge → Answered) → LeavesAnswers Answered (of_debug e) Kept
-answers_left Answered Kept debug.OutOfMemory large = λ before. absurd before
-answers_left Answered Kept debug.Read large = λ before. absurd before
-answers_left Answered Kept debug.Write large = λ before. absurd before
-answers_left Answered Kept debug.TooLarge large = large refl
-answers_left Answered Kept (debug.Config i) large = λ before. absurd before
+pub answers_left : (Answered Begun Kept : Type 0) (e : DebugFault) → (e ≡ debug.TooLarge → Answered) → Begun
+    → LeavesAnswers Answered Begun (of_debug e) Kept
+answers_left Answered Begun Kept debug.OutOfMemory large begun = (λ before. absurd before, inr begun)
+answers_left Answered Begun Kept debug.Read large begun = (λ before. absurd before, inr begun)
+answers_left Answered Begun Kept debug.Write large begun = (λ before. absurd before, inr begun)
+answers_left Answered Begun Kept debug.TooLarge large begun = large refl
+answers_left Answered Begun Kept (debug.Config i) large begun = (λ before. absurd before, inr begun)
 
 at_false : (d e : Dialogue) → d ≡ e → d.fits ≡ false → e.fits ≡ false
 at_false d e same past = subst (λ (x : Dialogue). x.fits ≡ false) same past

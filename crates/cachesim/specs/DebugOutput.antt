@@ -1,11 +1,11 @@
 -- What `debug` and `replay` write: answers to the commands of the input, about what a file has.
 use Rattle.std.specs.Prelude.{ℕ, Bool, List, Option, IfSome, length}
 use Rattle.step_record.specs.declared.config.Config.{Config}
-use Rattle.step_record.specs.declared.job.Job.{Job}
 use Rattle.step_record.specs.History.{Entries}
-use Rattle.trace_read.specs.declared.format.Format.{Format}
+use Rattle.command_line.specs.declared.arguments.PartArguments.{PartArguments}
 use Rattle.shell_model.specs.Shell.{Shell, act}
 use Rattle.maintenance.specs.EmptyShell.{IsOpened}
+use Rattle.streams.specs.Part.{AppendsPart}
 use Rattle.journal_text.specs.Journal.{IsJournalText}
 use Rattle.debug_commands.specs.Dialogue.{dialogue_of, WritesDialogue}
 use Rattle.debug_commands.specs.Timeline.{TimelineData}
@@ -19,26 +19,27 @@ KnownFiles = List ℕ → Option (List ℕ)
 
 -- the bytes written answer the commands of the input about the timeline, from a position on: all of them, or those
 -- before a line that is too large
-abbrev pub Answering : Bool → TimelineData → ℕ → Option (List ℕ) → Option (List ℕ) → Option (List ℕ) → Type 0
-Answering all t at input before after =
+abbrev pub Answering : Bool → Option (List ℕ) → Option (List ℕ) → Option (List ℕ) → TimelineData → ℕ → Type 0
+Answering all input before after t at =
     IfSome input (λ commands. (position : ℕ) × WritesDialogue (dialogue_of t at commands) all before after position)
 
--- the bytes of the file have no fault, and the answers are about the two policies over its accesses, none of them made
--- at first
-abbrev pub Debugging : Bool → Format → Job → Job → Option (List ℕ) → Option (List ℕ) → Option (List ℕ) → Option (List ℕ)
-    → Type 0
-Debugging all format first second file input before after =
-    IfFaultless format file (λ keys. Answering all (policies_timeline keys first second) 0 input before after)
+-- the bytes written are a beginning of these answers
+abbrev pub AnsweringBegun : Option (List ℕ) → Option (List ℕ) → Option (List ℕ) → TimelineData → ℕ → Type 0
+AnsweringBegun input before after t at =
+    IfSome input (λ commands. AppendsPart before after (dialogue_of t at commands).text)
 
--- the bytes are a journal of steps from the empty cache of the configuration on, and the answers are about them, all of
--- them made at first
-pub record IsReplayed (all : Bool) (config : Config) (bytes : List ℕ) (input before after : Option (List ℕ))
-    : Type 0 where
+-- the bytes of the file have no fault, and P holds of the two policies over its accesses, none of them made at first
+abbrev pub Debugging : (TimelineData → ℕ → Type 0) → PartArguments → Option (List ℕ) → Type 0
+Debugging P asked file = IfFaultless asked.format file (λ keys. P (policies_timeline keys asked.first asked.second) 0)
+
+-- the bytes are a journal of steps from the empty cache of the configuration on, and P holds of them, all of them made at
+-- first
+pub record IsReplayed (P : TimelineData → ℕ → Type 0) (config : Config) (bytes : List ℕ) : Type 0 where
   pub opening : Shell
   pub opened : IsOpened config opening
   pub steps : Entries
   pub journal : IsJournalText act opening config.journal_limit bytes steps
-  pub answers : Answering all (replay_timeline opening steps) (length steps) input before after
+  pub answers : P (replay_timeline opening steps) (length steps)
 
-abbrev pub Replaying : Bool → Config → Option (List ℕ) → Option (List ℕ) → Option (List ℕ) → Option (List ℕ) → Type 0
-Replaying all config file input before after = IfSome file (λ bytes. IsReplayed all config bytes input before after)
+abbrev pub Replaying : (TimelineData → ℕ → Type 0) → Config → Option (List ℕ) → Type 0
+Replaying P config file = IfSome file (IsReplayed P config)

@@ -20,7 +20,7 @@ use Rattle.debug_commands.specs.declared.fault.DebugFault.TheVariants as large
 use Rattle.command_line.specs.ParseResult.{IsRefused}
 use Rattle.command_line.specs.declared.arguments.Arguments.{Arguments}
 use Rattle.command_line.specs.declared.arguments.Arguments.TheVariants as asked
-use Rattle.cachesim.specs.DebugOutput.{Debugging, KnownFiles, Replaying}
+use Rattle.cachesim.specs.DebugOutput.{Answering, AnsweringBegun, Debugging, KnownFiles, Replaying}
 use Rattle.cachesim.specs.DriveOutput.{LeavesDrive}
 use Rattle.streams.specs.declared.tally.Tally.{Tally}
 use Rattle.cachesim.specs.FaultLine.{IsReported}
@@ -106,20 +106,22 @@ IsBeforeOutput Write = ⊥
 IsBeforeOutput fault = Unit {0}
 
 -- What `debug` and `replay` leave at this fault, where `Answered` says that the commands before a line that is too
--- large are answered, and `Kept` that the output is as it was.
-abbrev pub LeavesAnswers : Type 0 → Fault → Type 0 → Type 0
-LeavesAnswers Answered (Debug large.TooLarge) Kept = Answered
-LeavesAnswers Answered fault Kept = IsBeforeOutput fault → Kept
+-- large are answered, `Begun` that a beginning of all answers is written, and `Kept` that the output is as it was.
+abbrev pub LeavesAnswers : Type 0 → Type 0 → Fault → Type 0 → Type 0
+LeavesAnswers Answered Begun (Debug large.TooLarge) Kept = Answered
+LeavesAnswers Answered Begun fault Kept = (IsBeforeOutput fault → Kept) × (Kept ⊎ Begun)
 
 -- What is left at this fault of the arguments' subcommand. Those that ask for a text write once, at their end.
 abbrev pub Leaves : Arguments → KnownFiles → Fault → Option (List ℕ) → Option (List ℕ) → Option (List ℕ)
     → Type 0 → Type 0
 Leaves (asked.Drive drive) files fault input before after Kept =
     LeavesDrive drive.config drive.workers drive.format fault input before after Kept
-Leaves (asked.Debug debug) files fault input before after Kept = LeavesAnswers (Debugging false debug.policies.format
-    debug.policies.first debug.policies.second (files debug.trace) input before after) fault Kept
-Leaves (asked.Replay replay) files fault input before after Kept =
-    LeavesAnswers (Replaying false replay.config (files replay.journal) input before after) fault Kept
+Leaves (asked.Debug debug) files fault input before after Kept = LeavesAnswers
+    (Debugging (Answering false input before after) debug.policies (files debug.trace))
+    (Debugging (AnsweringBegun input before after) debug.policies (files debug.trace)) fault Kept
+Leaves (asked.Replay replay) files fault input before after Kept = LeavesAnswers
+    (Replaying (Answering false input before after) replay.config (files replay.journal))
+    (Replaying (AnsweringBegun input before after) replay.config (files replay.journal)) fault Kept
 Leaves arguments files fault input before after Kept = fault ≢ Write → Kept
 
 -- what these arguments ask for ended in the fault

@@ -11,7 +11,7 @@ use Rattle.command_line.specs.declared.fault.ParseFault.{ParseFault}
 use Rattle.command_line.specs.declared.fault.ParseFault.TheVariants as parse
 use Rattle.streams.specs.declared.tally.Tally.{Tally}
 use Rattle.cachesim.specs.FaultLine.{WritesLine}
-use Rattle.cachesim.specs.DebugOutput.{Debugging, KnownFiles, Replaying}
+use Rattle.cachesim.specs.DebugOutput.{Answering, Debugging, KnownFiles, Replaying}
 use Rattle.cachesim.specs.DriveOutput.{IsDriven}
 use Rattle.cachesim.specs.TraceOutput.{IsTextOf}
 
@@ -21,10 +21,10 @@ use Rattle.cachesim.specs.TraceOutput.{IsTextOf}
 abbrev pub IsDone : Arguments → KnownFiles → Option (List ℕ) → Option (List ℕ) → Option (List ℕ) → Type 0
 IsDone (asked.Drive drive) files input before after =
     IsDriven drive.config drive.workers drive.format input before after
-IsDone (asked.Debug debug) files input before after = Debugging true debug.policies.format debug.policies.first
-    debug.policies.second (files debug.trace) input before after
+IsDone (asked.Debug debug) files input before after =
+    Debugging (Answering true input before after) debug.policies (files debug.trace)
 IsDone (asked.Replay replay) files input before after =
-    Replaying true replay.config (files replay.journal) input before after
+    Replaying (Answering true input before after) replay.config (files replay.journal)
 IsDone arguments files input before after =
     (text : List ℕ) × IsTextOf arguments input text × Appends before after text
 

@@ -9,46 +9,56 @@ use Rattle.shell_model.specs.Shell.{Shell, act}
 use Rattle.journal.specs.Session.{SessionState}
 use Rattle.journal_text.specs.Journal.{IsJournalText}
 use Rattle.debug_commands.specs.Dialogue.{dialogue_of, WritesDialogue}
+use Rattle.debug_commands.specs.Timeline.{TimelineData}
 use Rattle.debug_replay.specs.Replay.{replay_timeline}
-use Rattle.cachesim.specs.DebugOutput.{IsReplayed}
+use Rattle.cachesim.specs.DebugOutput.{Answering, AnsweringBegun, IsReplayed}
 use Rattle.cachesim.specs.DriveOutput.{IsEmptySession}
 use Rattle.cachesim.specs.FaultCauses.{IsFoundInFile, IsOfReplay}
 use Rattle.cachesim.proofs.Found.{answers_left, err_is, known_text, of_dialogue, of_text, past_limit}
 use Rattle.cachesim.proofs.debug.replay_in.Goals as goal
 
--- what a session of an empty cache holds that read the journal and answered the commands
-replayed : (all : Bool) (config : Config) (journal : List ℕ) (input before after : Option (List ℕ)) (first now : SessionState Shell Shell Step Reply) (position : ℕ)
+-- what holds of a session of an empty cache that read the journal
+replayed : (P : TimelineData → ℕ → Type 0) (config : Config) (journal : List ℕ) (first now : SessionState Shell Shell Step Reply)
     → IsEmptySession config first → IsJournalText act first.opening first.limit journal now.kept → now.opening ≡ first.opening → now.tail ≡ []
-    → IfSome input (λ commands. WritesDialogue (dialogue_of (replay_timeline now.opening (now.kept ++ now.tail)) (length now.kept) commands) all before after position)
-    → IsReplayed all config journal input before after
-replayed all config journal input before after first now position empty read same none h = record {
+    → P (replay_timeline now.opening (now.kept ++ now.tail)) (length now.kept) → IsReplayed P config journal
+replayed P config journal first now empty read same none h = record {
   opening = first.opening;
   opened = empty.opened;
   steps = now.kept;
   journal = subst (λ l. IsJournalText act first.opening l journal now.kept) empty.limit read;
-  answers = IfSome_then input h (λ commands writes. (
-    position,
-    subst (λ o. WritesDialogue (dialogue_of (replay_timeline o now.kept) (length now.kept) commands) all before after position) same
-        (subst (λ es. WritesDialogue (dialogue_of (replay_timeline now.opening es) (length now.kept) commands) all before after position) (ap (λ t. now.kept ++ t) none ∙ append-nil now.kept) writes),
-  ));
+  answers = subst (λ o. P (replay_timeline o now.kept) (length now.kept)) same
+      (subst (λ es. P (replay_timeline now.opening es) (length now.kept)) (ap (λ t. now.kept ++ t) none ∙ append-nil now.kept) h);
 }
+
+-- the position at which the session stands then
+answering : (all : Bool) (input before after : Option (List ℕ)) (t : TimelineData) (at position : ℕ)
+    → IfSome input (λ commands. WritesDialogue (dialogue_of t at commands) all before after position) → Answering all input before after t at
+answering all input before after t at position h = IfSome_then input h (λ commands writes. (position, writes))
 
 pub returns-clause-done : goal.returns-clause-done
 returns-clause-done g c =
     let has = known_text (g.F.Files.known c.args.files.now) c.as_str.result.now c.args.arguments.now.journal c.in_ok-bytes.bytes.items c.as_slice.result.now
     c.as_str.ensures c.in_ok-bytes.ensures.bytes c.as_slice.ensures.value in
-    of_text _ c.as_slice.result.now _ has (replayed true c.args.arguments.now.config c.as_slice.result.now (g.R.CountedRead.remaining c.args.input.now) _ _
-    c.args.session.now c.read_journal.new.session (length c.run_replay.new.session.kept) c.requires
-    c.in_ok-read_journal.ensures.ok c.read_journal.ensures.opening c.read_journal.ensures.tail c.in_ok-run_replay.ensures.done)
+    of_text _ c.as_slice.result.now _ has (replayed (Answering true (g.R.CountedRead.remaining c.args.input.now) _ _) c.args.arguments.now.config c.as_slice.result.now
+    c.args.session.now c.read_journal.new.session c.requires
+    c.in_ok-read_journal.ensures.ok c.read_journal.ensures.opening c.read_journal.ensures.tail
+    (answering true _ _ _ _ _ (length c.run_replay.new.session.kept) c.in_ok-run_replay.ensures.done))
 
 pub returns-in_err-run_replay-clause-leaves : goal.returns-in_err-run_replay-clause-leaves
 returns-in_err-run_replay-clause-leaves g c =
     let has = known_text (g.F.Files.known c.args.files.now) c.as_str.result.now c.args.arguments.now.journal c.in_ok-bytes.bytes.items c.as_slice.result.now
     c.as_str.ensures c.in_ok-bytes.ensures.bytes c.as_slice.ensures.value in
-    err_is _ c.from_residual-in_err-run_replay.result _ c.from_residual-in_err-run_replay.ensures.1 (answers_left _ _ _
-    (λ same. of_text _ c.as_slice.result.now _ has (replayed false c.args.arguments.now.config c.as_slice.result.now (g.R.CountedRead.remaining c.args.input.now) _ _
-    c.args.session.now c.read_journal.new.session (length c.run_replay.new.session.kept) c.requires
-    c.in_ok-read_journal.ensures.ok c.read_journal.ensures.opening c.read_journal.ensures.tail (c.in_err-run_replay.ensures.large (ap Err same)))))
+    let input = g.R.CountedRead.remaining c.args.input.now in
+    let before = g.W.CountedWrite.contents c.args.out.now in
+    let after = g.W.CountedWrite.contents c.run_replay.new.out in
+    err_is _ c.from_residual-in_err-run_replay.result _ c.from_residual-in_err-run_replay.ensures.1 (answers_left _ _ _ _
+    (λ same. of_text _ c.as_slice.result.now _ has (replayed (Answering false input before after) c.args.arguments.now.config c.as_slice.result.now
+    c.args.session.now c.read_journal.new.session c.requires
+    c.in_ok-read_journal.ensures.ok c.read_journal.ensures.opening c.read_journal.ensures.tail
+    (answering false input before after _ _ (length c.run_replay.new.session.kept) (c.in_err-run_replay.ensures.large (ap Err same)))))
+    (of_text _ c.as_slice.result.now _ has (replayed (AnsweringBegun input before after) c.args.arguments.now.config c.as_slice.result.now
+    c.args.session.now c.read_journal.new.session c.requires
+    c.in_ok-read_journal.ensures.ok c.read_journal.ensures.opening c.read_journal.ensures.tail c.in_err-run_replay.ensures.part)))
 
 pub returns-in_err-run_replay-clause-fault : goal.returns-in_err-run_replay-clause-fault
 returns-in_err-run_replay-clause-fault g c =
