@@ -61,6 +61,11 @@ impl<'b, S: FedTrace, W: Wait> Follower for Feeder<'b, S, W> {
             Err(_) => self.is_open = false,
         }
     }
+
+    // It is fed to the end also where an actor is gone, so that a fault of the trace is found.
+    fn has_stopped(&self) -> bool {
+        false
+    }
 }
 
 impl<'b, S: FedTrace, W: Wait> Feeder<'b, S, W> {

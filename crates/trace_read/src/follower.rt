@@ -1,5 +1,5 @@
 //! What follows a trace while it is read.
-ghost use Rattle.std.specs.Prelude.{◌≡◌, ◌≤◌, ◌+◌, ◌-◌, ℕ, List, Option, IfSome, length, take, drop};
+ghost use Rattle.std.specs.Prelude.{◌≡◌, ◌≤◌, ◌+◌, ◌-◌, ℕ, Bool, List, Option, IfSome, false, length, take, drop};
 
 use step_record::Key;
 
@@ -14,6 +14,9 @@ pub trait Follower {
     // how many accesses a file may have that it follows
     ghost most: { Self → ℕ };
 
+    // whether it takes no more
+    ghost stopped: { Self → Bool } = { λ _. false };
+
     /// Takes as many as it wants of the accesses that were read and not taken yet, from the first on, and leaves the
     /// others. It is called after each piece.
     fn follow(&mut self, keys: &mut Vec<Key>)
@@ -25,4 +28,8 @@ pub trait Follower {
         ensures order { taken self.old ≤ taken self.new }
         ensures taken { taken self.new + length keys.new.items ≡ taken self.old + length keys.old.items }
         ensures left { keys.new.items ≡ drop (taken self.new - taken self.old) keys.old.items };
+
+    /// Whether it takes no more, as where it could not keep or pass on what it took: the reading ends then.
+    fn has_stopped(&self) -> bool
+        ensures { result ≡ stopped self.now };
 }
