@@ -1,0 +1,41 @@
+-- What the writing of a sample comes to.
+use Rattle.std.specs.Prelude.{◌≡◌, ℕ, Bool, true, false, List, Option, None, Result, Err, IfSome, length}
+use Rattle.std.specs.Global.{Vec}
+use Rattle.trace_read.specs.ReadTrace.{IsReadWithin}
+use Rattle.trace_read.specs.declared.fault.TraceFault.{TraceFault}
+use Rattle.trace_read.specs.declared.fault.TraceFault.TheVariants.{OutOfMemory}
+use Rattle.trace_read.specs.declared.format.Format.{Format}
+use Rattle.trace_read.specs.TraceText.{fault_within}
+use Rattle.trace_read.specs.declared.limits.TheConstants.{MAX_LONG_ACCESSES}
+use Rattle.trace_read.specs.declared.limits.TheConstants.Limits.{LONG}
+use Rattle.trace_sample.specs.Sample.{block_count, sample_of}
+use Rattle.trace_sample.specs.declared.counts.SampleCounts.{SampleCounts}
+use Rattle.trace_sample.specs.declared.fault.SampleFault.{SampleFault}
+use Rattle.trace_sample.specs.declared.fault.SampleFault.TheVariants.{Trace, Write}
+
+-- how many accesses were read, how many of them kept, and to how many blocks
+pub record Counts (inverse seed : ℕ) (keys : List ℕ) (counts : SampleCounts) : Type 0 where
+  pub accesses : counts.accesses ≡ length keys
+  pub kept : counts.kept ≡ length (sample_of inverse seed keys)
+  pub blocks : counts.blocks ≡ block_count (sample_of inverse seed keys)
+
+-- a fault of the trace is that of reading it
+abbrev pub IsSampleFault : Format → Option (List ℕ) → Option (List ℕ) → SampleFault → Type 0
+IsSampleFault format old new (Trace OutOfMemory) = Unit {0}
+IsSampleFault format old new (Trace fault) = IsReadWithin {T = Vec ℕ} LONG format old new (Err fault)
+IsSampleFault format old new Write = Unit {0}
+
+-- why a sample ended before its trace: a write failed, or there was no memory
+abbrev pub fault_at : Bool → SampleFault
+fault_at true = Write
+fault_at false = Trace OutOfMemory
+
+-- the bytes are those of a long trace without a fault
+abbrev pub IsFaultless : Format → Option (List ℕ) → Type 0
+IsFaultless format bytes = IfSome bytes (λ bytes. fault_within MAX_LONG_ACCESSES format bytes ≡ None)
+
+-- the fault of what was read of the trace, or a failed write, or no memory
+abbrev pub IsOfOutcome : Result (Vec ℕ) TraceFault → SampleFault → Type 0
+IsOfOutcome read (Trace OutOfMemory) = Unit {0}
+IsOfOutcome read (Trace fault) = read ≡ Err fault
+IsOfOutcome read Write = Unit {0}

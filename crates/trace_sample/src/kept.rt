@@ -1,0 +1,82 @@
+//! What a sample keeps of the accesses that it is given.
+ghost use Rattle.std.specs.Prelude.{◌≡◌, ◌≤◌, ◌<◌, ◌+◌, ◌^◌, [], ◌∷◌, OnOk, length};
+ghost use Rattle.trace_sample.specs.Kept.{Keeps};
+ghost use Rattle.trace_sample.specs.Sample.{sample_of};
+
+use crate::rule::{BlockTest, SampleRule};
+use itoa::Buffer;
+use std::alloc::{AllocError, Global};
+use std::collections::HashSet;
+use std::hash::{BuildHasherDefault, FoldHasher};
+use step_record::Key;
+
+/// What a sample kept: the blocks, how many accesses, and the text of the last of these.
+#[derive(Drop)]
+pub struct Kept {
+    test: BlockTest,
+    pub blocks: HashSet<Key, BuildHasherDefault<FoldHasher>, Global>,
+    pub accesses: u64,
+    pub text: Vec<u8>,
+}
+
+impl Kept {
+    /// Nothing yet, by this rule.
+    pub fn new(alloc: Global, rule: SampleRule) -> Kept
+        requires { 2 ≤ rule.inverse }
+        ensures rule { result.test.rule ≡ rule }
+        ensures blocks { result.blocks.keys ≡ [] }
+        ensures accesses { result.accesses ≡ 0 }
+        ensures text { result.text.items ≡ [] }
+    {
+        Kept {
+            test: BlockTest::new(rule),
+            blocks: HashSet::new(alloc),
+            accesses: 0,
+            text: Vec::new(alloc),
+        }
+    }
+
+    /// Keeps those of these accesses that the sample has. After an error, which is out of memory, it kept some of them.
+    pub fn add(&mut self, keys: &[Key]) -> Result<(), AllocError>
+        requires { self.old.accesses + length keys.now < 2 ^ 64 }
+        ensures rule { self.new.test.rule ≡ self.old.test.rule }
+        ensures kept { OnOk result (Keeps self.old self.new
+            (sample_of self.old.test.rule.inverse self.old.test.rule.seed keys.now)) }
+        ensures few { self.new.accesses ≤ self.old.accesses + length keys.now }
+    {
+        for key in keys {
+            self.take(*key)?;
+        }
+        Ok(())
+    }
+
+    // Keeps an access where the sample has it.
+    #[inline(always)]
+    fn take(&mut self, key: Key) -> Result<(), AllocError>
+        requires { self.old.accesses + 1 < 2 ^ 64 }
+        ensures rule { self.new.test.rule ≡ self.old.test.rule }
+        ensures kept { OnOk result (Keeps self.old self.new
+            (sample_of self.old.test.rule.inverse self.old.test.rule.seed (key ∷ []))) }
+        ensures few { self.new.accesses ≤ self.old.accesses + 1 }
+    {
+        if self.test.keeps(key) {
+            self.keep(key)?;
+        }
+        Ok(())
+    }
+
+    // Keeps an access.
+    fn keep(&mut self, key: Key) -> Result<(), AllocError>
+        requires { self.old.accesses + 1 < 2 ^ 64 }
+        ensures rule { self.new.test.rule ≡ self.old.test.rule }
+        ensures kept { OnOk result (Keeps self.old self.new (key ∷ [])) }
+        ensures few { self.new.accesses ≤ self.old.accesses + 1 }
+    {
+        self.blocks.insert(key)?;
+        self.text
+            .extend_from_slice(Buffer::new().format(key).as_bytes())?;
+        self.text.push(b'\n')?;
+        self.accesses += 1;
+        Ok(())
+    }
+}
