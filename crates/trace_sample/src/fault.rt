@@ -2,7 +2,7 @@
 use trace_read::TraceFault;
 
 /// Why a sample was not written whole.
-#[derive(Clone, Copy, Debug)]
+#[derive(Clone, Copy, Debug, PartialEq, Eq)]
 pub enum SampleFault {
     /// The trace was not read to its end, or has a faulty line; `OutOfMemory` also where there is none for the blocks
     /// that are kept or for text.

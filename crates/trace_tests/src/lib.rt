@@ -1,4 +1,4 @@
-//! Tests of reads and writes piece by piece, and of reading traces. They stand in a crate of their own so that the gate
+//! Tests of reads and writes piece by piece, of reading traces, and of samples. They stand in a crate of their own so that the gate
 //! proves `streams` and `trace_read` once.
 #![tactic(auto)]
 
@@ -8,3 +8,5 @@ mod assertions;
 mod streams_tests;
 #[cfg(test)]
 mod trace_read_tests;
+#[cfg(test)]
+mod trace_sample_tests;
