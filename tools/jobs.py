@@ -10,6 +10,7 @@ import shutil
 import signal
 import subprocess
 import sys
+import zipfile
 from concurrent.futures import ThreadPoolExecutor, as_completed
 from decimal import Decimal
 from pathlib import Path
@@ -89,6 +90,24 @@ def has_gnu_parallel():
     return subprocess.run(["parallel", "--version"], capture_output=True, check=False).stdout.startswith(b"GNU parallel")
 
 
+def sent_files(folder, program):
+    """The name of a folder in this one, which other hosts get too, with copies of the program and, in one file, of all that a
+    job imports."""
+    name, tools = f"corpus-{os.urandom(8).hex()}", Path(__file__).resolve().parent
+    (folder / name).mkdir()
+    with zipfile.ZipFile(folder / name / "jobs.pyz", "w") as scripts:
+        scripts.write(tools / "corpus", "__main__.py")
+        for it in tools.glob("*.py"):
+            scripts.write(it, it.name)
+    shutil.copy(program, folder / name / "cachesim")
+    return name
+
+
+def words_of_sending(folder, name):
+    """What has GNU parallel bring the copies to each host before its first job, and take them away after the last."""
+    return [*(word for it in ("jobs.pyz", "cachesim") for word in ("--basefile", f"{folder}/./{name}/{it}")), "--cleanup"]
+
+
 def words_of_parallel(folder, job, names, jobs, hosts):
     """GNU parallel, its list the command of each job. These are quoted for a shell."""
     (folder / "list").write_bytes(os.fsencode("".join(shlex.join([*job, "--", name]) + "\0" for name in names)))
@@ -125,14 +144,14 @@ def listed(name, is_task):
 class Engine:
     """A program that runs jobs, which a signal ends together with them."""
 
-    def __init__(self, words, label=None):
+    def __init__(self, words, label=None, folder=None):
         self.label, self.ended_by, self.process = label, None, None
         for number in (signal.SIGINT, signal.SIGTERM, signal.SIGHUP):
             if signal.getsignal(number) != signal.SIG_IGN:
                 signal.signal(number, self.take_signal)
         # A group of its own, so that an interrupt of the terminal ends it once and in order.
         self.process = subprocess.Popen([str(it) for it in words], stdin=subprocess.DEVNULL, stdout=subprocess.PIPE,
-                                        env={**os.environ, "PARALLEL_SHELL": "/bin/sh"}, start_new_session=True)
+                                        env={**os.environ, "PARALLEL_SHELL": "/bin/sh"}, cwd=folder, start_new_session=True)
 
     def lines(self):
         """The lines of jobs, until all have ended or a signal came."""

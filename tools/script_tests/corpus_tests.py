@@ -12,6 +12,7 @@ import subprocess
 import sys
 import time
 from fractions import Fraction
+from pathlib import Path
 
 import cache_reference
 from checks import patience
@@ -24,7 +25,7 @@ ODD = "a 'b\" $(touch made) {} {#}\n-c\\d.lirs"
 # By the number of distinct blocks of a trace of 100 accesses: fifo hits 50 percent, and lru 45, 50, 55, 60 and 65.
 KNOWN = "None if capacity > 1000 else 50 if policy == 'fifo' else 40 + distinct // 2"
 SECONDS_TO_END = 30
-SSHD, SLURM = ("parallel", "ssh", "ssh-keygen", "sshd"), ("sbatch", "slurmctld", "slurmd", "munged")
+SSHD, SLURM = ("parallel", "rsync", "ssh", "ssh-keygen", "sshd"), ("sbatch", "slurmctld", "slurmd", "munged")
 # A Slurm of one node.
 SLURM_CONF = """ClusterName=corpus
 SlurmctldHost={host}(127.0.0.1)
@@ -299,10 +300,12 @@ def is_open(port):
 
 
 def check_hosts(corpus, folder, program):
-    """Another host does a part of the jobs, and gives the report of this one."""
+    """Another host does a part of the jobs, and gives the report of this one, also where it has the traces alone."""
+    error = run(corpus, "run", "--program", program, "--send", "--out=here", "none", status=1, cwd=folder)[1]
+    expect_parts("nowhere to send to", error, "--send goes with --hosts")
     if lacks(SSHD):
         return None
-    traces, how = [*known_traces(folder)[:3], trace_of(folder, ODD, [1, 2, 1]), file_of(folder, "bad", "x\n")], {"cwd": folder}
+    before, traces, how = {*Path.home().glob("corpus-*")}, [*known_traces(folder)[:3], trace_of(folder, ODD, [1, 2, 1]), file_of(folder, "bad", "x\n")], {"cwd": folder}
     words, (port,) = ("run", "--program", program, *BOTH, "--jobs=1"), free_ports(1)
     running, host = ssh_server(folder, port)
     with running:
@@ -310,10 +313,15 @@ def check_hosts(corpus, folder, program):
             return pass_over("sshd that lets its user in")
         run(corpus, *words, "--hosts", file_of(folder, "both", f":\n{host}\n"), "--out=both.out", *traces[:3], **how)
         run(corpus, *words, "--hosts", file_of(folder, "other", f"{host}\n"), "--out=other.out", *traces, status=1, **how)
+        run(corpus, *words, "--send", "--hosts", folder / "both", "--out=sent.out", *traces, status=1, **how)
+    sent = (folder / "sent.out/log").read_text()
+    expect("a program that was sent", ("jobs.pyz" in sent, str(program) in sent), (True, False))
+    expect("what is left of it", ({*Path.home().glob("corpus-*")} - before, [*folder.glob("sent.out/corpus-*")]), (set(), []))
     log = (folder / "both.out/log").read_text().splitlines()
     expect("the hosts", {line.split("\t")[1] for line in log}, {":", host})
     run(corpus, *words, "--out=out", *traces, status=1, **how)
     expect("the report", *(run(corpus, "report", it, **how)[0] for it in ("other.out", "out")))
+    expect("the report of what was sent", *(run(corpus, "report", it, **how)[0] for it in ("sent.out", "out")))
     expect("what a name has run", (folder / "made").exists(), False)
 
 
