@@ -48,6 +48,24 @@ pub fn compare_intervals<R: Threads, G: Gate>(
     Ok(rows?)
 }
 
+/// The interval of the accesses, at least one, between two counts of all accesses.
+pub fn between(before: &Comparison, after: &Comparison) -> ComparedInterval
+    requires { IsLater before.now after.now }
+    ensures { result ≡ between before.now after.now }
+{
+    ComparedInterval {
+        from: before.accesses + 1,
+        to: after.accesses,
+        counts: Comparison {
+            accesses: after.accesses - before.accesses,
+            both: after.both - before.both,
+            first_only: after.first_only - before.first_only,
+            second_only: after.second_only - before.second_only,
+            neither: after.neither - before.neither,
+        },
+    }
+}
+
 /// Adds the header and a row for each interval of two jobs, whose capacity is that of the first. The one error is
 /// that an allocation failed.
 pub fn push_compared_intervals(
@@ -124,22 +142,4 @@ fn cut<R: Threads, G: Gate>(
         start = end;
     }
     Ok(rows)
-}
-
-// What was counted between two counts of all accesses.
-fn between(before: &Comparison, after: &Comparison) -> ComparedInterval
-    requires { IsLater before.now after.now }
-    ensures { result ≡ between before.now after.now }
-{
-    ComparedInterval {
-        from: before.accesses + 1,
-        to: after.accesses,
-        counts: Comparison {
-            accesses: after.accesses - before.accesses,
-            both: after.both - before.both,
-            first_only: after.first_only - before.first_only,
-            second_only: after.second_only - before.second_only,
-            neither: after.neither - before.neither,
-        },
-    }
 }

@@ -1,7 +1,7 @@
 //! How often two policies hit at the same accesses of a trace.
 ghost use Rattle.std.specs.Prelude.{◌≡◌, ◌≤◌, ◌++◌, List, ℕ, [], ◌∷◌, length, IfOk, OnOk};
 ghost use Rattle.step_record.specs.declared.job.Job.{Job};
-ghost use Rattle.step_record.specs.declared.limits.TheConstants.{MAX_ACCESSES};
+ghost use Rattle.step_record.specs.declared.limits.TheConstants.{MAX_STEPS};
 ghost use Rattle.policies.specs.FaultyJobs.{faulty_in, ReturnsFault};
 ghost use Rattle.debug_policies.specs.Comparison.{compared_on, compared_up_to, comparison_text, counts_with};
 ghost use Rattle.debug_policies.specs.Comparison.{IsUpTo, no_counts};
@@ -26,7 +26,7 @@ pub struct Comparison {
 
 impl Comparison {
     /// Before any access.
-    pub(crate) fn none() -> Comparison
+    pub fn none() -> Comparison
         ensures { result ≡ no_counts }
     {
         Comparison {
@@ -38,10 +38,10 @@ impl Comparison {
         }
     }
 
-    // Counts one access more, at which the policies hit or not.
+    /// Counts one access more, at which the policies hit or not.
     #[inline(always)]
-    fn count(&mut self, first: bool, second: bool)
-        requires { IsUpTo MAX_ACCESSES self.old }
+    pub fn count(&mut self, first: bool, second: bool)
+        requires { IsUpTo MAX_STEPS self.old }
         ensures { self.new ≡ counts_with (first, second) self.old }
     {
         self.accesses += 1;

@@ -17,7 +17,9 @@ mod one_policy;
 pub mod theorems;
 mod two_caches;
 
-pub use compared_intervals::{ComparedInterval, compare_intervals, push_compared_intervals};
+pub use compared_intervals::{
+    ComparedInterval, between, compare_intervals, push_compared_intervals,
+};
 pub use comparison::{Comparison, compare, push_comparison};
 pub use debug_commands::DebugFault;
 pub use debugger::run_debug;

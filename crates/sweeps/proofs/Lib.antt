@@ -1,5 +1,5 @@
 pub mod Rows
 mod Counts
 mod Joined
-mod Pieces
+pub mod Pieces
 mod Sums

@@ -62,6 +62,18 @@ pub fn sweep_each<R: Threads + Sync, G: Gate>(
     Ok(reports)
 }
 
+/// Each of the jobs at each of the capacities, in the order of their reports in `sweep_each`. The one error is out of
+/// memory.
+pub fn jobs_over(alloc: Global, jobs: &[Job], capacities: &[u32]) -> Result<Vec<Job>, AllocError>
+    ensures { IfOk result (λ rows. rows.items ≡ jobs_over jobs.now capacities.now) }
+{
+    let mut rows = Vec::new(alloc);
+    for job in jobs {
+        add_rows(&mut rows, job, capacities)?;
+    }
+    Ok(rows)
+}
+
 /// For how many batches in all `sweep_each` calls its gate, over the same trace, jobs and capacities; 2^64 - 1 for
 /// more.
 pub fn sweep_batches(trace: &Trace, jobs: &[Job], capacities: &[u32]) -> u64
@@ -100,7 +112,7 @@ fn reports<R: Threads + Sync, G: Gate>(
     ensures { IfOk result (λ v.
         v.items ≡ map (λ j. report_on j trace.now) (jobs_over jobs.now capacities.now)) }
 {
-    let rows = rows(alloc, jobs, capacities)?;
+    let rows = jobs_over(alloc, jobs, capacities)?;
     let prepared = PreparedTrace::of(alloc, trace, jobs, capacities.len())?;
     let prepared = &prepared;
     made_by_each(
@@ -112,17 +124,6 @@ fn reports<R: Threads + Sync, G: Gate>(
             ensures { IfOk result (λ r. r ≡ report_on job.now prepared.entry.now.trace.now) }
         { prepared.report(alloc, job, gate) },
     )
-}
-
-// Each of the jobs at each of the capacities, in the order of their reports.
-fn rows(alloc: Global, jobs: &[Job], capacities: &[u32]) -> Result<Vec<Job>, AllocError>
-    ensures { IfOk result (λ rows. rows.items ≡ jobs_over jobs.now capacities.now) }
-{
-    let mut rows = Vec::new(alloc);
-    for job in jobs {
-        add_rows(&mut rows, job, capacities)?;
-    }
-    Ok(rows)
 }
 
 // Adds the job at each of the capacities.

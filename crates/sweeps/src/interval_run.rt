@@ -8,6 +8,25 @@ use policies::{AnyPolicy, Interval, Report, access_in_batches};
 use std::alloc::{AllocError, Global};
 use step_record::{Gate, Job, Stats, Trace};
 
+/// The interval of the accesses, at least one, that a job made between two counts of all its accesses.
+pub fn between(job: &Job, before: &Stats, after: &Stats) -> Interval
+    requires { IsLater before.now after.now }
+    ensures { result ≡ between job.now before.now after.now }
+{
+    let stats = Stats {
+        accesses: after.accesses - before.accesses,
+        hits: after.hits - before.hits,
+        misses: after.misses - before.misses,
+        evictions: after.evictions - before.evictions,
+        rejections: after.rejections - before.rejections,
+    };
+    Interval {
+        first: before.accesses + 1,
+        last: after.accesses,
+        report: Report::of(job, stats),
+    }
+}
+
 // A trace, cut into intervals of `every` accesses, of which the last may be shorter.
 #[derive(Drop)]
 pub(crate) struct CutTrace<'a> {
@@ -55,23 +74,4 @@ fn count_intervals<G: Gate>(
         rest = later;
     }
     Ok(rows)
-}
-
-// The interval of the accesses, at least one, that a job made between two counts of all its accesses.
-fn between(job: &Job, before: &Stats, after: &Stats) -> Interval
-    requires { IsLater before.now after.now }
-    ensures { result ≡ between job.now before.now after.now }
-{
-    let stats = Stats {
-        accesses: after.accesses - before.accesses,
-        hits: after.hits - before.hits,
-        misses: after.misses - before.misses,
-        evictions: after.evictions - before.evictions,
-        rejections: after.rejections - before.rejections,
-    };
-    Interval {
-        first: before.accesses + 1,
-        last: after.accesses,
-        report: Report::of(job, stats),
-    }
 }

@@ -16,6 +16,7 @@ mod side_by_side;
 mod single_run;
 pub mod theorems;
 
-pub use capacities::{sweep, sweep_batches, sweep_each};
+pub use capacities::{jobs_over, sweep, sweep_batches, sweep_each};
 pub use interval_rows::intervals;
+pub use interval_run::between;
 pub use single_run::run_one;

@@ -1,6 +1,6 @@
 use Rattle.std.proofs.Common.{◌∙◌, sym, arith}
 use Rattle.sweeps.proofs.Rows.{more-rows}
-use Rattle.sweeps.proofs.capacities.rows.Goals as goal
+use Rattle.sweeps.proofs.capacities.jobs_over.Goals as goal
 
 pub loop-job-preserved : goal.loop-job-preserved
 loop-job-preserved c =
