@@ -1,0 +1,86 @@
+-- Runs of several jobs, one after another.
+use Rattle.std.proofs.Common.{◌≡◌, ℕ, zero, suc, ◌+◌, ◌<◌, ◌≤◌, List, [], ◌∷◌, ◌++◌, inl, inr, length, map, take, get_or, set, get_or-set_same, get_or-set_other, sym, ap, subst, refl, ◌∙◌, arith, append-nil, append_assoc, Option, Some, None, IfSome}
+use Rattle.std.specs.List.{All}
+use Rattle.std.specs.Prelude.{flat_map, slice_index_or}
+use Rattle.std.proofs.lemmas.Bool.{cases_lt}
+use Rattle.std.proofs.lemmas.List.{length-set, map-append, take_more}
+use Rattle.step_record.specs.declared.job.Job.{Job}
+use Rattle.trace_read.specs.TraceText.{keys_in, keys_of_file}
+use Rattle.trace_read.specs.declared.format.Format.{Format}
+use Rattle.long_traces.specs.JobRuns.{HasRun}
+use Rattle.long_traces.specs.declared.job_run.JobRun.{JobRun}
+
+-- what holds of all accesses that are known gives what holds of those of the bytes
+pub from-known : (H Q : List ℕ → Type 0) (format : Format) (bytes : Option (List ℕ)) → IfSome (keys_of_file format bytes) H
+    → ((all : List ℕ) → H all → Q all) → IfSome bytes (λ b. Q (keys_in format b))
+from-known H Q format None h f = tt
+from-known H Q format (Some b) h f = f (keys_in format b) h
+
+module _ {X Y : Type 0} where
+  pub map-more : (f : X → Y) (xs : List X) (d : X) (i : ℕ) (ys new : List Y) (y : Y) → i < length xs → ys ≡ map f (take i xs) → new ≡ ys ++ y ∷ []
+      → y ≡ f (slice_index_or xs i d) → new ≡ map f (take (i + 1) xs)
+  map-more f xs d i ys new y lt so is one =
+      is ∙ ap (λ (l : List Y). l ++ y ∷ []) so ∙ ap (λ (v : Y). map f (take i xs) ++ v ∷ []) one
+      ∙ sym (ap (map f) (take_more xs i d lt) ∙ map-append f (take i xs) (slice_index_or xs i d ∷ []))
+
+  flat-append : (f : X → List Y) (xs ys : List X) → flat_map f (xs ++ ys) ≡ flat_map f xs ++ flat_map f ys
+  flat-append f [] ys = refl
+  flat-append f (x ∷ xs) ys = ap (λ (l : List Y). f x ++ l) (flat-append f xs ys) ∙ sym (append_assoc (f x) (flat_map f xs) (flat_map f ys))
+
+  pub flat-more : (f : X → List Y) (xs : List X) (d : X) (i : ℕ) (ys new : List Y) → i < length xs → ys ≡ flat_map f (take i xs)
+      → new ≡ ys ++ f (slice_index_or xs i d) → new ≡ flat_map f (take (i + 1) xs)
+  flat-more f xs d i ys new lt so is =
+      let x : X = slice_index_or xs i d in
+      is ∙ ap (λ (l : List Y). l ++ f x) so ∙ ap (λ (l : List Y). flat_map f (take i xs) ++ l) (sym (append-nil (f x)))
+      ∙ sym (ap (flat_map f) (take_more xs i d lt) ∙ flat-append f (take i xs) (x ∷ []))
+
+pub map-map : {X Y Z : Type 0} (f : X → Y) (g : Y → Z) (xs : List X) → map (λ x. g (f x)) xs ≡ map g (map f xs)
+map-map f g [] = refl
+map-map f g (x ∷ xs) = ap (λ (l : List _). g (f x) ∷ l) (map-map f g xs)
+
+pub flat-map : {X Y Z : Type 0} (f : X → Y) (g : Y → List Z) (xs : List X) → flat_map (λ x. g (f x)) xs ≡ flat_map g (map f xs)
+flat-map f g [] = refl
+flat-map f g (x ∷ xs) = ap (λ (l : List _). g (f x) ++ l) (flat-map f g xs)
+
+-- ---- some of the runs took the accesses
+
+pub record AreTaken (jobs : List Job) (every : ℕ) (trace : List ℕ) (n size i : ℕ) (runs : List JobRun) : Type 0 where
+  pub same : map (λ run. run.job) runs ≡ jobs
+  pub done : (j : ℕ) (d : JobRun) → j < length runs → j < i → HasRun every trace (n + size) (get_or runs j d)
+  pub ahead : (j : ℕ) (d : JobRun) → j < length runs → i ≤ j → HasRun every trace n (get_or runs j d)
+
+map-set : (runs : List JobRun) (i : ℕ) (d run : JobRun) → i < length runs → run.job ≡ (get_or runs i d).job
+    → map (λ r. r.job) (set runs i run) ≡ map (λ r. r.job) runs
+map-set [] i d run lt is = absurd (omega (arith, lt))
+map-set (r ∷ runs) zero d run lt is = ap (λ (j : Job). j ∷ map (λ r. r.job) runs) is
+map-set (r ∷ runs) (suc i) d run lt is = ap (λ (l : List Job). r.job ∷ l) (map-set runs i d run (omega (arith, lt)) is)
+
+pub taken-none : (jobs : List Job) (every : ℕ) (trace : List ℕ) (n size : ℕ) (runs : List JobRun) → map (λ run. run.job) runs ≡ jobs
+    → All (HasRun every trace n) runs → AreTaken jobs every trace n size 0 runs
+taken-none jobs every trace n size runs same each = record {
+  same = same;
+  done = λ j d lt below. absurd (omega (arith, below));
+  ahead = λ j d lt past. each j d lt;
+}
+
+pub taken-more : (jobs : List Job) (every : ℕ) (trace : List ℕ) (n size i : ℕ) (runs : List JobRun) (old run : JobRun) → i < length runs
+    → old ≡ get_or runs i old → run.job ≡ old.job → (HasRun every trace n old → HasRun every trace (n + size) run)
+    → AreTaken jobs every trace n size i runs → AreTaken jobs every trace n size (i + 1) (set runs i run)
+taken-more jobs every trace n size i runs old run lt is job moves up =
+    let long = length-set runs i run in
+    let here = moves (subst (HasRun every trace n) (sym is) (up.ahead i old lt (omega arith))) in
+    record {
+      same = map-set runs i old run lt (job ∙ ap (λ (r : JobRun). r.job) is) ∙ up.same;
+      done = λ j d inside below. elim (cases_lt j i) [
+        | inl less ↦ subst (HasRun every trace (n + size)) (sym (get_or-set_other runs i j run d (λ same. omega (arith, same, less)))) (up.done j d (omega (arith, inside, long)) less)
+        | inr more ↦ (let same : i ≡ j = omega (arith, more, below) in
+            subst (λ (k : ℕ). HasRun every trace (n + size) (get_or (set runs i run) k d)) same
+            (subst (HasRun every trace (n + size)) (sym (get_or-set_same runs i run d lt)) here))
+      ];
+      ahead = λ j d inside past.
+          subst (HasRun every trace n) (sym (get_or-set_other runs i j run d (λ same. omega (arith, same, past)))) (up.ahead j d (omega (arith, inside, long)) (omega (arith, past)));
+    }
+
+pub taken-all : (jobs : List Job) (every : ℕ) (trace : List ℕ) (n size i : ℕ) (runs : List JobRun) → length runs ≤ i
+    → AreTaken jobs every trace n size i runs → All (HasRun every trace (n + size)) runs
+taken-all jobs every trace n size i runs all up = λ j d lt. up.done j d lt (omega (arith, lt, all))

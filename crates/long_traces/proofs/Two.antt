@@ -1,0 +1,32 @@
+-- Two policies, access by access.
+use Rattle.std.proofs.Common.{◌≡◌, ◌∙◌, ℕ, zero, suc, ◌+◌, ◌<◌, List, [], ◌∷◌, Bool, true, false, Option, Some, None, IfNone, refl, arith, true≢false, sym, subst}
+use Rattle.std.specs.Option.{is_some}
+use mathlib.Core.Bool.{not, beq}
+use Rattle.step_record.specs.declared.job.Job.{Job}
+use Rattle.step_record.specs.declared.outcome.Outcome.{Outcome}
+use Rattle.debug_policies.specs.Part.{AgreeBelow}
+use Rattle.long_traces.specs.Pairs.{AreTwo}
+
+pub two-then : (jobs : List Job) (P Q : Job → Job → Type 0) → ((first second : Job) → P first second → Q first second) → AreTwo jobs P → AreTwo jobs Q
+two-then [] P Q f h = h
+two-then (a ∷ []) P Q f h = h
+two-then (a ∷ b ∷ []) P Q f h = f a b h
+two-then (a ∷ b ∷ c ∷ rest) P Q f h = h
+
+pub agree-none : (os ps : List Outcome) → AgreeBelow 1 os ps
+agree-none os ps zero lt = refl
+agree-none os ps (suc m) lt = absurd (omega (arith, lt))
+
+pub from-none : {X : Type 0} (o : Option ℕ) → is_some o ≡ false → IfNone o X → X
+from-none None none h = h
+from-none (Some n) none h = absurd (true≢false none)
+
+pub into-none : {X : Type 0} (o : Option ℕ) → X → IfNone o X
+into-none None x = x
+into-none (Some n) x = tt
+
+pub differs : (a b : Bool) → not (beq a b) ≡ true → a ≡ b → ⊥
+differs true true h same = absurd (true≢false (sym h))
+differs false false h same = absurd (true≢false (sym h))
+differs true false h same = absurd (true≢false same)
+differs false true h same = absurd (true≢false (sym same))

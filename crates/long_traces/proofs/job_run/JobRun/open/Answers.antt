@@ -1,0 +1,32 @@
+use Rattle.std.proofs.Common.{◌≡◌, ◌∙◌, ◌*◌, ℕ, List, [], length, take, ap, sym, refl, arith}
+use Rattle.step_record.specs.Stats.{stats_of}
+use Rattle.policies.specs.AnyPolicy.{outcomes_on}
+use Rattle.policies.specs.declared.report.Interval.{Interval}
+use Rattle.policies.proofs.FirstAccesses.{first-counts}
+use Rattle.sweeps.specs.Intervals.{first_intervals}
+use Rattle.long_traces.proofs.Next.{free}
+use Rattle.long_traces.proofs.job_run.JobRun.open.Goals as goal
+
+pub returns-clause-taken : goal.returns-clause-taken
+returns-clause-taken c = λ trace.
+    let job = c.args.job.now in
+    let cache = c.in_ok-cache.cache in
+    let none = c.new-rows.ensures.items in
+    let stands = free job _ trace [] cache c.requires.follows c.in_ok-cache.ensures.stands in
+    let rows : length c.new-rows.result.items ≡ 0 = ap (λ (l : List Interval). length l) none in
+    let zero : 0 * c.args.every ≡ 0 = omega arith in
+    let start : length c.new-rows.result.items * c.args.every ≡ 0 = ap (λ (n : ℕ). n * c.args.every) rows ∙ zero in
+    record {
+      size = refl;
+      cut = λ opened. record {
+        rows = record {
+          some = c.requires.some;
+          cut = c.stats-cut.ensures ∙ first-counts job trace 0 cache stands ∙ ap (λ (n : ℕ). stats_of (take n (outcomes_on job trace))) (sym start);
+          rows = none ∙ ap (first_intervals job c.args.every (outcomes_on job trace)) (sym rows);
+        };
+        stands = stands;
+        within = omega arith;
+        place = omega (arith, start);
+        used = omega (arith, c.requires.some);
+      };
+    }

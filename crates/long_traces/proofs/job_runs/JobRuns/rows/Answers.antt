@@ -1,0 +1,40 @@
+use Rattle.std.proofs.Common.{◌≡◌, ◌∙◌, ◌++◌, ◌<◌, ◌≤◌, List, ℕ, ap, arith, length, refl, subst, sym}
+use Rattle.std.specs.Prelude.{flat_map}
+use Rattle.std.proofs.lemmas.List.{take_all}
+use Rattle.policies.specs.declared.report.Interval.{Interval}
+use Rattle.sweeps.specs.Intervals.{intervals_on}
+use Rattle.long_traces.specs.JobRuns.{HasRun}
+use Rattle.long_traces.specs.declared.job_run.JobRun.{JobRun}
+use Rattle.long_traces.proofs.Runs.{flat-map, flat-more}
+use Rattle.long_traces.proofs.job_runs.JobRuns.rows.Goals as goal
+
+pub loop-i-init : goal.loop-i-init
+loop-i-init c = λ every trace each. c.new-rows.ensures.items
+
+pub add_rows-requires : goal.add_rows-requires
+add_rows-requires c =
+    let all = c.requires.1 in
+    let run = c.index.result.now in
+    let lt : c.loop-i.i < length c.args.self.now.runs.items = omega (arith, c.loop-i-test.true, c.args.self.now.runs.ok.0) in
+    let has = subst (HasRun c.requires.0.every all.trace (length all.trace)) (sym c.index.ensures) (all.taken.each c.loop-i.i run lt) in
+    record { trace = all.trace; taken = record { size = refl; cut = has.cut } }
+
+pub loop-i-preserved : goal.loop-i-preserved
+loop-i-preserved c = λ every trace each.
+    let runs = c.args.self.now.runs.items in
+    let i = c.loop-i.i in
+    let run = c.index.result.now in
+    let lt : i < length runs = omega (arith, c.loop-i-test.true, c.args.self.now.runs.ok.0) in
+    let has = subst (HasRun every trace (length trace)) (sym c.index.ensures) (each i run lt) in
+    flat-more (λ (r : JobRun). intervals_on r.job every trace) runs run i c.loop-i.rows.items _ lt
+    (c.loop-i.invariant every trace each)
+    (c.in_ok-add_rows.ensures every trace has ∙ ap (λ (r : JobRun). c.loop-i.rows.items ++ intervals_on r.job every trace) c.index.ensures)
+
+pub returns : goal.returns
+returns c = λ task trace have.
+    let runs = c.args.self.now.runs.items in
+    let all : length runs ≤ c.loop-i.i = omega (arith, c.loop-i-test.false, c.args.self.now.runs.ok.0) in
+    c.loop-i.invariant task.every trace have.each
+    ∙ ap (flat_map (λ (run : JobRun). intervals_on run.job task.every trace)) (take_all c.loop-i.i runs all)
+    ∙ flat-map (λ (run : JobRun). run.job) (λ j. intervals_on j task.every trace) runs
+    ∙ ap (flat_map (λ j. intervals_on j task.every trace)) have.jobs

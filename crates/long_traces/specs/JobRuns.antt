@@ -1,0 +1,48 @@
+-- What a run of a job has of a trace whose accesses come in pieces.
+use Rattle.std.specs.Prelude.{◌≡◌, ◌≤◌, ◌<◌, ℕ, ◌+◌, ◌*◌, true, List, length, map, take}
+use Rattle.std.specs.List.{All}
+use Rattle.step_record.specs.Stats.{stats_of}
+use Rattle.policies.specs.AnyPolicy.{HasAccessed, outcomes_on}
+use Rattle.sweeps.specs.Intervals.{first_intervals}
+use Rattle.long_traces.specs.Taking.{Task}
+use Rattle.long_traces.specs.declared.job_run.JobRun.{JobRun}
+use Rattle.long_traces.specs.declared.job_runs.JobRuns.{JobRuns}
+
+-- how many intervals are over
+abbrev pub rows_in : JobRun → ℕ
+rows_in run = length run.rows.items
+
+-- its rows are those of the intervals that are over, and it noted what was counted before the next one
+pub record HasRows (trace : List ℕ) (run : JobRun) : Type 0 where
+  pub some : 1 ≤ run.every
+  pub cut : run.cut ≡ stats_of (take (rows_in run * run.every) (outcomes_on run.job trace))
+  pub rows : run.rows.items ≡ first_intervals run.job run.every (outcomes_on run.job trace) (rows_in run)
+
+-- its cache made the first n accesses of the trace, some of them in an interval that is not over
+pub record HasCut (trace : List ℕ) (n : ℕ) (run : JobRun) : Type 0 where
+  pub rows : HasRows trace run
+  pub stands : HasAccessed run.job trace (take n trace) run.cache
+  pub within : n ≤ length trace
+  pub place : n ≡ rows_in run * run.every + run.used
+  pub used : run.used < run.every
+
+-- its cache made the accesses of the next interval, of which the trace may have fewer than of another
+pub record EndsRow (trace : List ℕ) (run : JobRun) : Type 0 where
+  pub rows : HasRows trace run
+  pub begun : rows_in run * run.every < length trace
+  pub stands : HasAccessed run.job trace (take ((rows_in run + 1) * run.every) trace) run.cache
+
+-- so of some trace
+pub record EndsSomeRow (run : JobRun) : Type 0 where
+  pub trace : List ℕ
+  pub ends : EndsRow trace run
+
+-- it made the first n accesses, in intervals of this length, unless it was out of memory
+pub record HasRun (every : ℕ) (trace : List ℕ) (n : ℕ) (run : JobRun) : Type 0 where
+  pub size : run.every ≡ every
+  pub cut : run.is_open ≡ true → HasCut trace n run
+
+-- so did a run of each job
+pub record HaveRun (task : Task) (trace : List ℕ) (n : ℕ) (all : JobRuns) : Type 0 where
+  pub jobs : map (λ run. run.job) all.runs.items ≡ task.jobs
+  pub each : All (HasRun task.every trace n) all.runs.items

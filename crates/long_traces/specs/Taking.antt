@@ -1,0 +1,45 @@
+-- What takes the accesses of a trace, piece by piece.
+use Rattle.std.specs.Prelude.{◌≡◌, ◌≤◌, ℕ, ◌+◌, false, List, Option, IfSome, length, drop, take}
+use Rattle.step_record.specs.declared.job.Job.{Job}
+use Rattle.step_record.specs.declared.limits.TheConstants.{MAX_STEPS}
+use Rattle.policies.specs.Design.{knows_trace}
+
+-- what accesses are taken for: jobs, and how many accesses an interval has
+pub record Task : Type 0 where
+  pub jobs : List Job
+  pub every : ℕ
+
+-- a policy that does not have to know the whole trace
+abbrev pub FollowsTrace : Job → Type 0
+FollowsTrace job = knows_trace job.policy ≡ false
+
+-- these keys come next in a trace, behind the first n
+pub record AreNext (trace : List ℕ) (n : ℕ) (keys : List ℕ) : Type 0 where
+  pub within : n + length keys ≤ length trace
+  pub piece : keys ≡ take (length keys) (drop n trace)
+
+-- they do in some trace that is no longer than an engine counts, whose accesses before them were taken
+pub record CanTake {K : Type 0} (HasTaken : List ℕ → ℕ → K → Type 0) (keys : List ℕ) (taker : K) : Type 0 where
+  pub trace : List ℕ
+  pub place : ℕ
+  pub next : AreNext trace place keys
+  pub few : length trace ≤ MAX_STEPS
+  pub taken : HasTaken trace place taker
+
+-- so for some task
+pub record CanTakeFor {K : Type 0} (HasTaken : Task → List ℕ → ℕ → K → Type 0) (keys : List ℕ) (taker : K) : Type 0 where
+  pub task : Task
+  pub can : CanTake (HasTaken task) keys taker
+
+-- all accesses of some trace were taken
+pub record HasTakenAll {K : Type 0} (HasTaken : List ℕ → ℕ → K → Type 0) (taker : K) : Type 0 where
+  pub trace : List ℕ
+  pub taken : HasTaken trace (length trace) taker
+
+-- the first accesses of what is fed were taken: of what is known, or of any trace that begins with them
+pub record IsFed {K : Type 0} (HasTaken : List ℕ → ℕ → K → Type 0) (known : Option (List ℕ)) (place : ℕ) (taker : K)
+    : Type 0 where
+  pub done : List ℕ
+  pub long : length done ≡ place
+  pub taken : (trace : List ℕ) → place ≤ length trace → done ≡ take place trace → HasTaken trace place taker
+  pub first : IfSome known (λ all. done ≡ take place all)

@@ -1,0 +1,109 @@
+//! The reports and the rows of jobs over a trace that is read.
+ghost use Rattle.std.specs.Prelude.{◌≡◌, ◌≤◌, Err, IfOk, IfSome, flat_map, map};
+ghost use Rattle.std.specs.List.{All};
+ghost use Rattle.policies.specs.Reports.{report_on};
+ghost use Rattle.streams.specs.Tally.{FailsWhere};
+ghost use Rattle.sweeps.specs.Intervals.{intervals_on};
+ghost use Rattle.sweeps.specs.Sweep.{AreAccepted};
+ghost use Rattle.trace_read.specs.ReadTrace.{IsReadWithin};
+ghost use Rattle.trace_read.specs.TraceText.{keys_in};
+ghost use Rattle.trace_read.specs.declared.limits.TheConstants.{MAX_LONG_ACCESSES, MAX_LONG_TRACE_BYTES};
+ghost use Rattle.long_traces.specs.Taking.{FollowsTrace};
+
+use crate::feed::read_taken;
+use crate::job_runs::JobRuns;
+use policies::{Interval, MAX_ACTORS, Report};
+use policy_actors::run_reading_within;
+use std::alloc::Global;
+use std::marker::Brand;
+use std::sync::Wait;
+use std::thread::Threads;
+use step_record::{Gate, Job};
+use streams::CountedRead;
+use trace_read::{Format, Limits, TraceFault};
+
+// How many accesses an actor is given at once.
+const BATCH: u32 = 1024;
+
+/// The reports of the jobs over the trace that the reader gives, in the order of the jobs, which may be any number: up to
+/// `MAX_ACTORS` each on a thread of its own, and more in turn on this one, while the trace is read. The configurations
+/// are such as `Config::check` accepts, and no policy has to know the whole trace. The gate is called around each batch
+/// of an actor, as by `run_reading`.
+///
+/// Errors: those of `read_followed`, and `OutOfMemory` also where a cache is out of memory.
+pub fn reports<T: Threads + Wait + Sync, R: CountedRead, G: Gate>(
+    rt: &T,
+    alloc: Global,
+    reader: &mut R,
+    format: Format,
+    limits: Limits,
+    jobs: &[Job],
+    gate: &G,
+) -> Result<Vec<Report>, TraceFault>
+    requires checked { AreAccepted jobs.now }
+    requires follow { All FollowsTrace jobs.now }
+    requires accesses { limits.accesses ≤ MAX_LONG_ACCESSES }
+    requires bytes { limits.bytes ≤ MAX_LONG_TRACE_BYTES }
+    ensures reports { IfOk result (λ v. IfSome (R.remaining reader.old)
+        (λ bytes. v.items ≡ map (λ j. report_on j (keys_in format bytes)) jobs.now)) }
+    ensures read { IsReadWithin limits format (R.remaining reader.old) (R.remaining reader.new) result }
+    ensures tally { FailsWhere (result ≡ Err TraceFault.Read) (R.tally reader.old) (R.tally reader.new) }
+{
+    if jobs.len() > MAX_ACTORS {
+        return reports_in_turn(alloc, reader, format, limits, jobs);
+    }
+    run_reading_within(rt, alloc, reader, format, limits, jobs, BATCH, gate)
+}
+
+/// The rows of each job over the trace that the reader gives, cut into intervals of `every` accesses, of which the last
+/// may be shorter: all rows of the first job, in order, then those of the second, and so on. The jobs are as for
+/// `reports`.
+///
+/// Errors: those of `reports`.
+pub fn intervals<R: CountedRead>(
+    alloc: Global,
+    reader: &mut R,
+    format: Format,
+    limits: Limits,
+    jobs: &[Job],
+    every: usize,
+) -> Result<Vec<Interval>, TraceFault>
+    requires checked { AreAccepted jobs.now }
+    requires follow { All FollowsTrace jobs.now }
+    requires some { 1 ≤ every }
+    requires accesses { limits.accesses ≤ MAX_LONG_ACCESSES }
+    requires bytes { limits.bytes ≤ MAX_LONG_TRACE_BYTES }
+    ensures rows { IfOk result (λ v. IfSome (R.remaining reader.old)
+        (λ bytes. v.items ≡ flat_map (λ j. intervals_on j every (keys_in format bytes)) jobs.now)) }
+    ensures read { IsReadWithin limits format (R.remaining reader.old) (R.remaining reader.new) result }
+    ensures tally { FailsWhere (result ≡ Err TraceFault.Read) (R.tally reader.old) (R.tally reader.new) }
+{
+    let runs = read_taken::<Brand, R, JobRuns>(alloc, reader, format, limits, jobs, every)?;
+    let rows = runs.rows(alloc);
+    drop(runs);
+    Ok(rows?)
+}
+
+// The reports of the jobs, whose caches take the accesses on this thread, piece by piece.
+fn reports_in_turn<R: CountedRead>(
+    alloc: Global,
+    reader: &mut R,
+    format: Format,
+    limits: Limits,
+    jobs: &[Job],
+) -> Result<Vec<Report>, TraceFault>
+    requires checked { AreAccepted jobs.now }
+    requires follow { All FollowsTrace jobs.now }
+    requires accesses { limits.accesses ≤ MAX_LONG_ACCESSES }
+    requires bytes { limits.bytes ≤ MAX_LONG_TRACE_BYTES }
+    ensures reports { IfOk result (λ v. IfSome (R.remaining reader.old)
+        (λ bytes. v.items ≡ map (λ j. report_on j (keys_in format bytes)) jobs.now)) }
+    ensures read { IsReadWithin limits format (R.remaining reader.old) (R.remaining reader.new) result }
+    ensures tally { FailsWhere (result ≡ Err TraceFault.Read) (R.tally reader.old) (R.tally reader.new) }
+{
+    let every = usize::MAX;
+    let runs = read_taken::<Brand, R, JobRuns>(alloc, reader, format, limits, jobs, every)?;
+    let reports = runs.reports(alloc);
+    drop(runs);
+    Ok(reports?)
+}

@@ -1,0 +1,20 @@
+//! Jobs over a trace that is read and not kept, which may be a long one.
+//!
+//! `reports` makes the report of each of any number of jobs, `intervals` their rows for each interval, `compare` and
+//! `compare_intervals` count at which accesses two policies hit, and `part` finds the first at which just one does.
+//! Each promises what its namesake over a trace that is kept does: what the policies' definitions give over all
+//! accesses of the bytes read. The caches take the accesses piece by piece while the trace is read, so no memory grows
+//! with its length but the rows.
+#![tactic(auto)]
+
+mod compared_run;
+mod feed;
+mod job_run;
+mod job_runs;
+mod jobs;
+mod pair;
+mod pairs;
+mod part_run;
+
+pub use jobs::{intervals, reports};
+pub use pairs::{compare, compare_intervals, part};

@@ -1,0 +1,121 @@
+//! The first access of a trace that comes in pieces at which one policy hits and the other does not.
+ghost use Rattle.std.specs.Prelude.{◌≡◌, ◌≤◌, ◌<◌, ◌+◌, ℕ, List, Ok, Some, true, IfOk, IfSome, IfNone, OnOk, length};
+ghost use Rattle.step_record.specs.Config.{config_fault};
+ghost use Rattle.step_record.specs.declared.job.Job.{Job};
+ghost use Rattle.policies.specs.AnyPolicy.{outcomes_on};
+ghost use Rattle.debug_policies.specs.Part.{AgreeBelow, IsPart};
+ghost use Rattle.long_traces.specs.Taking.{AreNext, FollowsTrace};
+ghost use Rattle.long_traces.specs.Pairs.{AreBefore, CanPart, HavePaired, HasParted, HasPartedTask};
+
+use crate::feed::Taker;
+use crate::pair::Pair;
+use policies::theorems;
+use std::alloc::{AllocError, Global};
+use step_record::{Job, Key};
+
+/// Two caches, with the first access at which just one of them hit.
+#[derive(Drop)]
+pub(crate) struct PartRun {
+    pair: Pair,
+    // How many accesses they made.
+    place: u64,
+    // Once it is found they make no more.
+    found: Option<u64>,
+    // It was never out of memory. Where it was, it makes no more accesses.
+    is_open: bool,
+}
+
+impl PartRun {
+    // A run of both jobs before the first access. Their configurations are such as `Config::check` accepts. The one
+    // error is out of memory.
+    fn of_two(alloc: Global, first: &Job, second: &Job) -> Result<PartRun, AllocError>
+        requires first { config_fault first.now.config ≡ Ok tt }
+        requires second { config_fault second.now.config ≡ Ok tt }
+        requires follows { FollowsTrace first.now × FollowsTrace second.now }
+        ensures { IfOk result (λ run. (trace : List ℕ) → HasParted first.now second.now trace 0 run) }
+    {
+        let pair = Pair::open(alloc, first, second)?;
+        Ok(PartRun {
+            pair,
+            place: 0,
+            found: None,
+            is_open: true,
+        })
+    }
+
+    /// What was found once all accesses were taken: the access, counted from 1, or `None`. The one error is out of
+    /// memory.
+    pub(crate) fn found(&self) -> Result<Option<u64>, AllocError>
+        ensures { (first second : Job) (trace : List ℕ)
+            → (self.now.is_open ≡ true → HasParted first second trace (length trace) self.now)
+            → IfOk result (IsPart (outcomes_on first trace) (outcomes_on second trace)) }
+    {
+        theorems::any_covers_trace();
+        if !self.is_open {
+            return Err(AllocError);
+        }
+        Ok(self.found)
+    }
+
+    // Takes the accesses in turn, up to the first at which just one of the caches hits. The one error is out of memory.
+    fn take_all(&mut self, keys: &[Key]) -> Result<(), AllocError>
+        requires { CanPart keys.now self.old }
+        ensures { (first second : Job) (trace : List ℕ) (n : ℕ) → AreNext trace n keys.now
+            → HasParted first second trace n self.old
+            → OnOk result (HasParted first second trace (n + length keys.now) self.new) }
+    {
+        if self.found.is_some() {
+            return Ok(());
+        }
+        match parting_in(&mut self.pair, keys)? {
+            Some(i) => self.found = Some(self.place + i as u64 + 1),
+            None => self.place += keys.len() as u64,
+        }
+        Ok(())
+    }
+}
+
+// The first of the accesses to the keys, counted from 0, at which just one of the caches hits, which make those up to
+// it. The one error is out of memory.
+fn parting_in(pair: &mut Pair, keys: &[Key]) -> Result<Option<usize>, AllocError>
+    requires { AreBefore keys.now 0 pair.old }
+    ensures below { IfOk result (λ found. IfSome found (λ i. i < length keys.now)) }
+    ensures found { (first second : Job) (trace : List ℕ) (n : ℕ) → AreNext trace n keys.now
+        → HavePaired first second trace n pair.old
+        → AgreeBelow (n + 1) (outcomes_on first trace) (outcomes_on second trace)
+        → IfOk result (λ found. IfSome found (λ i.
+        IsPart (outcomes_on first trace) (outcomes_on second trace) (Some (n + i + 1)))) }
+    ensures none { (first second : Job) (trace : List ℕ) (n : ℕ) → AreNext trace n keys.now
+        → HavePaired first second trace n pair.old
+        → AgreeBelow (n + 1) (outcomes_on first trace) (outcomes_on second trace)
+        → IfOk result (λ found. IfNone found (HavePaired first second trace (n + length keys.now) pair.new
+        × AgreeBelow (n + length keys.now + 1) (outcomes_on first trace) (outcomes_on second trace))) }
+{
+    for i in 0..keys.len() {
+        let hits = pair.hits(keys, i)?;
+        let (first, second) = hits;
+        if first != second {
+            return Ok(Some(i));
+        }
+    }
+    Ok(None)
+}
+
+impl Taker for PartRun {
+    ghost use Rattle.std.specs.Prelude.{◌≡◌, length};
+    ghost use Rattle.long_traces.specs.Pairs.{HasPartedTask};
+
+    ghost fits = { λ jobs. length jobs ≡ 2 };
+
+    ghost has_taken = { HasPartedTask };
+
+    fn open(alloc: Global, jobs: &[Job], _every: usize) -> Result<PartRun, AllocError> {
+        PartRun::of_two(alloc, &jobs[0], &jobs[1])
+    }
+
+    fn take(&mut self, keys: &[Key]) {
+        if self.is_open && self.take_all(keys).is_err() {
+            self.is_open = false;
+        }
+    }
+}
