@@ -142,6 +142,10 @@ impl<S: ReadTrace, K: Taker> Follower for Fed<S, K> {
         self.take(keys.as_slice());
         keys.clear();
     }
+
+    fn has_stopped(&self) -> bool {
+        false
+    }
 }
 
 impl<S: ReadTrace, K: Taker> Fed<S, K> {
