@@ -1,6 +1,6 @@
 -- ARC's plan is its definition.
-use Rattle.std.proofs.Common.{◌≡◌, ℕ, zero, suc, ◌+◌, ◌-◌, ◌*◌, ◌<◌, ◌≤◌, min, Bool, true, false, cond, eqb, nat_lt, ◌||◌, Option, Some, None, List, [], ◌∷◌, ◌++◌, length, take, drop, append-nil, ap, ◌∙◌, sym, subst, refl, arith, inl, inr}
-use Rattle.std.proofs.lemmas.Bool.{cond_both, cond-false, cases_eq, eq-eqb, ne_eqb, lt-ltb, le-ltb}
+use Rattle.std.proofs.Common.{◌≡◌, ℕ, zero, suc, ◌+◌, ◌-◌, ◌*◌, ◌<◌, ◌≤◌, min, Bool, true, false, cond, eqb, ◌||◌, Option, Some, None, List, [], ◌∷◌, ◌++◌, length, take, drop, append-nil, ap, ◌∙◌, sym, subst, refl, arith, inl, inr}
+use Rattle.std.proofs.lemmas.Bool.{cond-false, cases_eq, eq-eqb, ne_eqb, lt-ltb, le-ltb}
 use Rattle.step_record.specs.Keys.{has_key, keys_without}
 use Rattle.step_record.specs.declared.outcome.Outcome.{Outcome}
 use Rattle.queue_table.specs.declared.records.Entry.{Entry}
@@ -109,13 +109,8 @@ leaves-low : (g : Bool) → IsLowLeaving (leaves g)
 leaves-low true = (omega arith, omega arith)
 leaves-low false = (omega arith, omega arith)
 
-pub leavers-low : (c p : ℕ) (s : Queues) → AreLow (new_key_leavers c p s)
-leavers-low c p s =
-    let low = leaves-low (gives_t1 false p s) in
-    cond_both (eqb (length (s T1) + length (s B1)) c) _ _ AreLow
-    (λ e. cond_both (nat_lt (length (s T1)) c) _ _ AreLow (λ f. (low, (omega arith, tt))) (λ f. ((omega arith, tt), tt)))
-    (λ e. cond_both (nat_lt (total s) c) _ _ AreLow (λ f. (tt, tt))
-    (λ f. cond_both (eqb (total s) (2 * c)) _ _ AreLow (λ h. (low, (omega arith, tt))) (λ h. (low, tt))))
+pub leaver-low : (in_b2 : Bool) (p : ℕ) (s : Queues) → IsLowLeaving (replaced in_b2 p s)
+leaver-low in_b2 p s = leaves-low (gives_t1 in_b2 p s)
 
 module _ (k : ℕ) (s : Queues) (t : IsTabled s) (no_t1 : has_key k (keys_of (s T1)) ≡ false) (no_t2 : has_key k (keys_of (s T2)) ≡ false) where
   abbrev keys : ℕ → List ℕ

@@ -1,18 +1,14 @@
 -- A queue's oldest key leaves it, and what that leaves alone.
-use Rattle.std.proofs.Common.{◌≡◌, ℕ, zero, suc, ◌-◌, Option, Some, None, List, [], ◌∷◌, ap, ◌∙◌, sym, subst, refl, inl, inr}
-use Rattle.std.proofs.lemmas.Bool.{cases_lt}
+use Rattle.std.proofs.Common.{◌≡◌, ℕ, zero, suc, ◌-◌, Option, Some, None, List, [], ◌∷◌, ap, ◌∙◌, refl}
 use Rattle.step_record.specs.declared.item.Item.{Item}
 use Rattle.queue_table.specs.declared.records.Entry.{Entry}
 use Rattle.queue_table.specs.Entries.{entry, occurrences, oldest_of}
-use Rattle.queue_table.specs.Queues.{QUEUES, Queues, queue_holding, with_queue, after_push}
-use Rattle.queue_table.proofs.QueueLists.{absent, is_absent}
+use Rattle.queue_table.specs.Queues.{Queues, with_queue, after_push}
 use Rattle.queue_moves.specs.declared.records.Run.{Run}
 use Rattle.queue_moves.specs.Moves.{turned, after_turn, after_turns, after_run, departed, leaving, after_leaving}
 use Rattle.queue_moves.specs.Tabled.{IsTabled}
 use Rattle.queue_moves.proofs.Laws.{first-other, off-after-send}
-use Rattle.queue_moves.proofs.Tabled.{IsNowhere, nowhere-turns, nowhere-leaving, oldest-gone}
-use Rattle.policy_steps.specs.declared.rooms.RoomMoves.{RoomMoves}
-use Rattle.policy_steps.specs.Rooms.{RoomPlan, IsRoomMade}
+use Rattle.queue_moves.proofs.Tabled.{oldest-gone}
 
 pub oldest-out : (s : Queues) → IsTabled s → (q : ℕ) (e : Entry) (l : List Entry) → s q ≡ e ∷ l → after_leaving (leaving q None) s ≡ with_queue q l s
 oldest-out s t q e l h = ap (λ o. departed None o s) (ap oldest_of h) ∙ oldest-gone s t q e l h
@@ -45,17 +41,3 @@ off-sent i from to n j s u after a z = ap (λ (t : Queues). occurrences i (t j))
     go : (o : Option Entry) → oldest_of (s from) ≡ o → occurrences i (departed (Some (to, n)) o s j) ≡ 0
     go None h = z
     go (Some e) h = off-after-send i (entry e.item n) to j s (first-other (entry i 0) e (s from) h a) z
-
--- ---- a key that stands nowhere
-
-nowhere-at : (i : Item) (s : Queues) → IsTabled s → queue_holding i s ≡ None → IsNowhere i s
-nowhere-at i s t h q = elim (cases_lt q QUEUES) [ inl w ↦ absent i s h q w | inr w ↦ ap (occurrences i) (t.high q w) ]
-
--- it stands nowhere once room is made
-pub absent-after : (i : Item) (p : RoomPlan) (s u : Queues) (m : RoomMoves) → IsTabled s → IsRoomMade p s u m → queue_holding i s ≡ None → queue_holding i u ≡ None
-absent-after i p s u m t made h =
-    let early : IsNowhere i made.after_early = subst (IsNowhere i) (sym made.early.after) (nowhere-turns i s (nowhere-at i s t h) p.early.times p.early.from p.early.to p.early.less) in
-    let late : IsNowhere i made.after_late = subst (IsNowhere i) (sym made.late.after) (nowhere-turns i made.after_early early p.late.times p.late.from p.late.to p.late.less) in
-    let first : IsNowhere i made.between = subst (IsNowhere i) (sym made.first.after) (nowhere-leaving i made.after_late late p.first) in
-    let second : IsNowhere i u = subst (IsNowhere i) (sym made.second.after) (nowhere-leaving i made.between first p.second) in
-    is_absent i u (λ q w. second q)

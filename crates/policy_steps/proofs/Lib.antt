@@ -13,5 +13,6 @@ pub mod S3FifoMoves
 pub mod S3Fifo
 pub mod S3FifoStep
 pub mod Moving
+pub mod Coming
 pub mod TwoQ
 pub mod ArcPlan

@@ -1,6 +1,6 @@
 -- What the parts of an access make of the keys of the queues.
-use Rattle.std.proofs.Common.{◌≡◌, ℕ, ◌+◌, ◌<◌, ◌≤◌, Bool, true, false, cond, eqb, nat_lt, ◌&&◌, Option, Some, None, List, [], ◌∷◌, ◌++◌, length, take, drop, append-nil, ap, ◌∙◌, sym, subst, refl, arith, inl, inr}
-use Rattle.std.proofs.lemmas.Bool.{cases_Bool, eqb-true, ltb-false}
+use Rattle.std.proofs.Common.{◌≡◌, ℕ, ◌+◌, ◌<◌, ◌≤◌, Bool, true, false, cond, eqb, ◌&&◌, Option, Some, None, List, [], ◌∷◌, ◌++◌, length, take, drop, append-nil, ap, ◌∙◌, sym, subst, refl, arith, inl, inr}
+use Rattle.std.proofs.lemmas.Bool.{cases_Bool, eqb-true}
 use Rattle.std.proofs.lemmas.List.{length-map}
 use Rattle.step_record.specs.declared.item.Item.{Item}
 use Rattle.step_record.specs.Keys.{has_key, keys_without}
@@ -11,10 +11,11 @@ use Rattle.queue_table.proofs.EntryLists.{times-append, times-without}
 use Rattle.queue_table.proofs.QueueLists.{IsAbsent, absent, is_absent}
 use Rattle.ghost_policies.proofs.ArcPlans.{none-out}
 use Rattle.queue_moves.specs.Moves.{item_of, Leaving, leaving, IsLowTarget, IsLowLeaving, departed, after_leaving, Own, IsLowOwn, own_plan, IsLowPlan}
-use Rattle.queue_moves.specs.Tabled.{nodes_of, HasKeys, IsTabled, keys_of, StandsAs}
-use Rattle.queue_moves.proofs.Tabled.{keys-append, has-occurs, oldest-gone, tabled-leaving}
-use Rattle.policy_steps.specs.declared.misses.LeftKeys.{LeftKeys}
-use Rattle.policy_steps.specs.Misses.{Leavers, miss_plan, AreLeft}
+use Rattle.queue_moves.specs.Tabled.{nodes_of, HasKeys, IsTabled, keys_of}
+use Rattle.queue_moves.proofs.Tabled.{keys-append, oldest-gone, tabled-leaving}
+use Rattle.queue_moves.specs.declared.records.Left.{Left}
+use Rattle.queue_moves.specs.Undoing.{IsLeft}
+use Rattle.policy_steps.specs.Misses.{Leavers, miss_plan}
 
 pub length-keys : (l : List Entry) → length (keys_of l) ≡ length l
 length-keys l = length-map l (λ (e : Entry). e.item.key)
@@ -193,14 +194,5 @@ still-absent : (i : Item) (l : Option Leaving) (s : Queues) → IsLowLeaving l �
 still-absent i None s w h = h
 still-absent i (Some l) s w h = λ q v. none-left i l.from l.to s q (h l.from w.0) (h q v)
 
-pub absent-left : (i : Item) (l : Leavers) (s u : Queues) (r : LeftKeys) → AreLow l → AreLeft l s u r → queue_holding i s ≡ None → queue_holding i u ≡ None
-absent-left i l s u r w a h =
-    let first : IsAbsent i (after_leaving l.first s) = still-absent i l.first s w.0 (absent i s h) in
-    let both : IsAbsent i (after_leaving l.second (after_leaving l.first s)) = still-absent i l.second (after_leaving l.first s) w.1 first in
-    is_absent i u (subst (IsAbsent i) (sym (a.second.after ∙ ap (after_leaving l.second) a.first.after)) both)
-
--- the accessed key is not in another queue
-pub key-off : (k q n : ℕ) (s : Queues) → IsTabled s → StandsAs k q n s → (j : ℕ) → (j ≡ q → ⊥) → occurrences (item_of k) (s j) ≡ 0
-key-off k q n s t a j d =
-    let none : nat_lt 0 (occurrences (item_of k) (s j)) ≡ false = sym (has-occurs k (s j) (t.keys j)) ∙ a.off j d in
-    omega (arith, ltb-false 0 (occurrences (item_of k) (s j)) none)
+pub absent-left : (i : Item) (l : Option Leaving) (s u : Queues) (r : Left) → IsLowLeaving l → IsLeft l s u r → queue_holding i s ≡ None → queue_holding i u ≡ None
+absent-left i l s u r w left h = is_absent i u (subst (IsAbsent i) (sym left.after) (still-absent i l s w (absent i s h)))

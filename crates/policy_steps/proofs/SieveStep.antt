@@ -1,6 +1,6 @@
 -- The plan of a miss of a full cache by SIEVE, from what the calls that carry it out ensure.
-use Rattle.std.proofs.Common.{◌≡◌, ℕ, nat_lt, None, List, [], ◌∷◌, length, ap, ◌∙◌, sym, refl, arith}
-use Rattle.std.proofs.lemmas.Bool.{le-ltb}
+use Rattle.std.proofs.Common.{◌≡◌, ℕ, zero, suc, ◌<◌, ◌≤◌, true, false, nat_lt, None, List, [], ◌∷◌, length, ap, ◌∙◌, sym, subst, refl, arith, inl, inr}
+use Rattle.std.proofs.lemmas.Bool.{cases_Bool, le-ltb}
 use Rattle.queue_table.specs.declared.records.Entry.{Entry}
 use Rattle.queue_table.specs.Entries.{oldest_of}
 use Rattle.queue_table.proofs.QueueLists.{with-queue-same}
@@ -9,8 +9,8 @@ use Rattle.queue_moves.specs.Tabled.{IsTabled}
 use Rattle.queue_moves.proofs.Tabled.{oldest-gone}
 use Rattle.queue_table.specs.Queues.{Queues}
 use Rattle.queue_moves.specs.declared.records.Run.{Run}
-use Rattle.queue_moves.specs.Moves.{leaving, goes, Plan, after_run, after_leaving, departed}
-use Rattle.policy_steps.specs.Sieve.{queue_ahead, pass_run, after_early, ahead_late, after_late, after_leaver, ahead_new, sieve_eviction_plan}
+use Rattle.queue_moves.specs.Moves.{leaving, goes, Plan, after_turn, after_turns, after_run, turns_due, count_or, after_leaving, departed}
+use Rattle.policy_steps.specs.Sieve.{queue_ahead, passed_queue, pass_run, after_early, ahead_late, after_late, after_leaver, ahead_new, sieve_eviction_plan}
 use Rattle.policy_steps.specs.Planned.{leaver_plan}
 
 module _ (c x : ℕ) (s a b d : Queues) (early late : Run) (mid new y : ℕ) where
@@ -26,6 +26,28 @@ module _ (c x : ℕ) (s a b d : Queues) (early late : Run) (mid new y : ℕ) whe
       let at_leaver : d ≡ after_leaver c x s = hd ∙ ap (λ m. after_leaving (leaving m None) b) at_mid ∙ ap (after_leaving (leaving (ahead_late c x s) None)) at_late in
       let at_new : new ≡ ahead_new c x s = hn ∙ ap (λ m. queue_ahead m d) at_mid ∙ ap (queue_ahead (ahead_late c x s)) at_leaver in
       rw (hy, at_early, at_mid, at_new) refl
+
+-- a run that made fewer turns than it may has stopped at a key whose count is low
+turns-stop : (n from to less least : ℕ) (s : Queues) → turns_due n from to less least s < n
+    → nat_lt (count_or 0 (oldest_of (after_turns (turns_due n from to less least s) from to less s from))) least ≡ true
+turns-stop zero from to less least s w = absurd (omega (arith, w))
+turns-stop (suc n) from to less least s w =
+    elim (cases_Bool (nat_lt (count_or 0 (oldest_of (s from))) least)) [
+      | inl low ↦ rw low low
+      | inr high ↦
+          let less_due : turns_due n from to less least (after_turn from to less s) < n = (let v : suc (turns_due n from to less least (after_turn from to less s)) < suc n = rw high at w in omega (arith, v)) in
+          rw high (turns-stop n from to less least (after_turn from to less s) less_due)
+    ]
+
+pub stops : (c x : ℕ) (s a : Queues) (early : Run) → early ≡ pass_run c x s → a ≡ after_run early s → 1 ≤ length (a x) → early.times < c
+    → nat_lt (count_or 0 (oldest_of (a (queue_ahead x a)))) 1 ≡ true
+stops c x s a early he ha some few =
+    let due : turns_due c x (passed_queue x) 1 1 s < c = subst (λ (r : Run). r.times < c) he few in
+    rw (not-empty (a x) some) (subst (λ (b : Queues). nat_lt (count_or 0 (oldest_of (b x))) 1 ≡ true) (sym (ha ∙ ap (λ r. after_run r s) he)) (turns-stop c x (passed_queue x) 1 1 s due))
+  where
+    not-empty : (l : List Entry) → 1 ≤ length l → is_empty l ≡ false
+    not-empty [] h = absurd (omega (arith, h))
+    not-empty (e ∷ l) h = refl
 
 -- whether a queue is empty once its oldest key has left
 pub left-empty : (q : ℕ) (s : Queues) → IsTabled s → is_empty (after_leaving (leaving q None) s q) ≡ nat_lt (length (s q)) 2

@@ -4,7 +4,7 @@ use Rattle.std.proofs.lemmas.Bool.{cond_both, cases_Bool, cases_eq, eq-eqb, ne_e
 use Rattle.step_record.specs.Keys.{has_key, keys_without}
 use Rattle.queue_table.specs.declared.records.Entry.{Entry}
 use Rattle.queue_table.specs.Entries.{entry, oldest_of}
-use Rattle.queue_table.specs.Queues.{QUEUES, Queues, after_send}
+use Rattle.queue_table.specs.Queues.{queue_holding, QUEUES, Queues, after_send}
 use Rattle.queue_policies.specs.Queues.{without_oldest}
 use Rattle.queue_policies.specs.Ghost.{ghost_place_of, ghost_with}
 use Rattle.ghost_policies.specs.TwoQ.{TwoQState, two_q_residents, leaver_of_a1in, leaver_of_am, two_q_leaver, two_q_after_recall, two_q_after_eviction, two_q_after_join, two_q_outcome, two_q_act, IsTwoQ}
@@ -14,7 +14,7 @@ use Rattle.ghost_policies.specs.declared.two_q.TwoQLeaver.TheVariants.{NoLeaver}
 use Rattle.queue_policies.proofs.Ghost.{without-length}
 use Rattle.ghost_policies.proofs.ArcPlans.{none-out}
 use Rattle.ghost_policies.proofs.Weights.{has-append}
-use Rattle.queue_moves.specs.Moves.{item_of, standing, leaving, after_leaving, IsLowLeaving, evicted, outcome_after, stays, goes, own_plan}
+use Rattle.queue_moves.specs.Moves.{item_of, standing, standing_at, leaving, after_leaving, IsLowLeaving, evicted, outcome_after, stays, goes, own_plan}
 use Rattle.queue_moves.specs.Tabled.{HasKeys, IsTabled, keys_of, StandsAs}
 use Rattle.queue_moves.proofs.Tabled.{stands, stands-nowhere}
 use Rattle.policy_steps.specs.Planned.{IsPlannedBy}
@@ -242,3 +242,6 @@ module _ (z : TwoQSizes) (c k x q n : ℕ) (s : Queues) (at : standing (item_of 
 
   pub a1in-plan : q ≡ A1IN → two_q_plan z c k x s ≡ own_plan true stays x
   a1in-plan e = ap (λ p. plan_at z c x p s) at ∙ rw e refl
+
+pub new-plan : (z : TwoQSizes) (c k x : ℕ) (s : Queues) → queue_holding (item_of k) s ≡ None → two_q_miss z c false x s ≡ two_q_plan z c k x s
+new-plan z c k x s none = ap (λ h. plan_at z c x (standing_at (item_of k) h s) s) (sym none)

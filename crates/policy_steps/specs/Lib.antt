@@ -5,6 +5,7 @@ pub mod Sieve
 pub mod S3Fifo
 pub mod S3FifoStep
 pub mod Misses
+pub mod Comers
 pub mod TwoQ
 pub mod Arc
 pub mod Rooms

@@ -13,6 +13,9 @@ pub record Leavers : Type 0 where
 abbrev pub no_leavers : Leavers
 no_leavers = record { first = None; second = None }
 
+abbrev pub one_leaver : Option Leaving → Leavers
+one_leaver l = record { first = l; second = None }
+
 abbrev pub miss_plan : Leavers → Own → ℕ → Plan
 miss_plan l own x = record {
   hits = false;

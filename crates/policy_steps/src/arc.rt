@@ -6,12 +6,12 @@ ghost use Rattle.queue_table.specs.declared.records.Entry.{Entry};
 ghost use Rattle.queue_table.specs.Entries.{entry, occurrences};
 ghost use Rattle.queue_table.specs.Queues.{queue_holding};
 ghost use Rattle.queue_table.specs.QueueTable.{queues, spare, HoldsAt};
-ghost use Rattle.queue_moves.specs.Moves.{item_of};
+ghost use Rattle.queue_moves.specs.Moves.{item_of, goes};
 ghost use Rattle.queue_moves.specs.Undoing.{IsLeft, IsAccessed, outs};
 ghost use Rattle.ghost_policies.specs.Arc.{IsArc};
-ghost use Rattle.policy_steps.specs.Misses.{AreLeft};
+ghost use Rattle.policy_steps.specs.Misses.{miss_plan};
 ghost use Rattle.policy_steps.specs.Arc.{T1, T2, B1, B2, arc_of, total, step_size, replaced, full_l1_leavers};
-ghost use Rattle.policy_steps.specs.Arc.{open_l1_leavers, new_key_leavers, new_key_plan, recall_plan, arc_plan};
+ghost use Rattle.policy_steps.specs.Arc.{open_l1_leavers, new_key_plan, recall_plan, arc_plan};
 
 use crate::accesses::hit;
 use crate::misses::{LeftKeys, missed};
@@ -119,11 +119,7 @@ fn recalled<C>(
 {
     let first = replace(table, target, in_b2);
     let own = table.send(key, found, T2, 0);
-    let left = LeftKeys {
-        first,
-        second: Left::NONE,
-    };
-    missed(left, own, before, target)
+    missed(LeftKeys::one(first), own, before, target)
 }
 
 // An access to a key that stands nowhere. Room is made before anything moves.
@@ -142,72 +138,73 @@ fn new_key<C>(
     ensures err { OnErr result (queues table.new ≡ queues table.old) }
 {
     table.reserve()?;
-    let left = make_way(table, capacity, target);
-    let own = table.join(key, T1, 0);
-    Ok(missed(left, own, target, target))
+    Ok(join::<C>(table, capacity, target, key))
 }
 
-// What leaves for a new key.
+// A new key joins t1, in the slot of the key that leaves for good, if one does.
 #[inline(always)]
-fn make_way(table: &mut KeyQueues, capacity: u32, target: u32) -> LeftKeys
+fn join<C>(table: &mut KeyQueues, capacity: u32, target: u32, key: Key) -> Accessed
     requires few { capacity ≤ MAX_CAPACITY }
     requires all_fit { total (queues table.old) ≤ 2 * capacity }
-    ensures left { AreLeft (new_key_leavers capacity target (queues table.old))
+    requires room { 1 ≤ spare table.old }
+    requires absent { queue_holding (item_of key) (queues table.old) ≡ None }
+    ensures { IsAccessed (new_key_plan capacity target (queues table.old)) (item_of key) target
         (queues table.old) (queues table.new) result }
-    ensures spare { spare table.old ≤ spare table.new }
 {
     let l1 = table.len(T1) + table.len(B1);
     if l1 == capacity as usize {
-        make_way_in_full_l1(table, capacity, target)
+        join_full_l1::<C>(table, capacity, target, key)
     } else {
         let all = l1 + table.len(T2) + table.len(B2);
-        make_way_in_open_l1(table, capacity, target, all)
+        join_open_l1::<C>(table, capacity, target, all, key)
     }
 }
 
 // The same, where t1 and b1 have as many keys as the cache has room for.
 #[inline(always)]
-fn make_way_in_full_l1(table: &mut KeyQueues, capacity: u32, target: u32) -> LeftKeys
-    ensures left { AreLeft (full_l1_leavers capacity target (queues table.old))
-        (queues table.old) (queues table.new) result }
-    ensures spare { spare table.old ≤ spare table.new }
+fn join_full_l1<C>(table: &mut KeyQueues, capacity: u32, target: u32, key: Key) -> Accessed
+    requires room { 1 ≤ spare table.old }
+    requires absent { queue_holding (item_of key) (queues table.old) ≡ None }
+    ensures { IsAccessed (miss_plan (full_l1_leavers capacity target (queues table.old)) (goes T1 0) target)
+        (item_of key) target (queues table.old) (queues table.new) result }
 {
     if table.len(T1) < capacity as usize {
         let first = replace(table, target, false);
-        let second = table.drop_oldest(B1);
-        LeftKeys { first, second }
-    } else {
-        let first = table.drop_oldest(T1);
-        LeftKeys {
-            first,
-            second: Left::NONE,
-        }
+        let (second, own) = table.renew_oldest(B1, key, T1, 0);
+        return missed(LeftKeys { first, second }, own, target, target);
     }
+    let (first, own) = table.renew_oldest(T1, key, T1, 0);
+    missed(LeftKeys::one(first), own, target, target)
 }
 
 // The same, where they have fewer; all four queues have `all` keys.
 #[inline(always)]
-fn make_way_in_open_l1(table: &mut KeyQueues, capacity: u32, target: u32, all: usize) -> LeftKeys
+fn join_open_l1<C>(
+    table: &mut KeyQueues,
+    capacity: u32,
+    target: u32,
+    all: usize,
+    key: Key,
+) -> Accessed
     requires few { capacity ≤ MAX_CAPACITY }
     requires all { all ≡ total (queues table.old) }
-    ensures left { AreLeft (open_l1_leavers capacity target (queues table.old))
-        (queues table.old) (queues table.new) result }
-    ensures spare { spare table.old ≤ spare table.new }
+    requires room { 1 ≤ spare table.old }
+    requires absent { queue_holding (item_of key) (queues table.old) ≡ None }
+    ensures { IsAccessed (miss_plan (open_l1_leavers capacity target (queues table.old)) (goes T1 0) target)
+        (item_of key) target (queues table.old) (queues table.new) result }
 {
     let room = capacity as usize;
     if all < room {
-        LeftKeys::NONE
-    } else if all == 2 * room {
-        let first = replace(table, target, false);
-        let second = table.drop_oldest(B2);
-        LeftKeys { first, second }
-    } else {
-        let first = replace(table, target, false);
-        LeftKeys {
-            first,
-            second: Left::NONE,
-        }
+        let own = table.join(key, T1, 0);
+        return missed(LeftKeys::NONE, own, target, target);
     }
+    let first = replace(table, target, false);
+    if all == 2 * room {
+        let (second, own) = table.renew_oldest(B2, key, T1, 0);
+        return missed(LeftKeys { first, second }, own, target, target);
+    }
+    let own = table.join(key, T1, 0);
+    missed(LeftKeys::one(first), own, target, target)
 }
 
 // The oldest of t1 leaves for b1, or the oldest of t2 for b2.

@@ -8,6 +8,7 @@
 mod accesses;
 pub mod arc;
 pub mod clock;
+mod comers;
 mod misses;
 mod rooms;
 pub mod s3_fifo;

@@ -1,9 +1,10 @@
 //! A miss without runs, from the keys that left and what became of its own.
+ghost use Rattle.std.specs.Prelude.{◌≤◌, Option};
 ghost use Rattle.step_record.specs.declared.item.Item.{Item};
 ghost use Rattle.queue_table.specs.Queues.{Queues};
-ghost use Rattle.queue_moves.specs.Moves.{Own};
-ghost use Rattle.queue_moves.specs.Undoing.{IsOwn, IsAccessed};
-ghost use Rattle.policy_steps.specs.Misses.{Leavers, miss_plan, AreLeft};
+ghost use Rattle.queue_moves.specs.Moves.{Leaving, Own};
+ghost use Rattle.queue_moves.specs.Undoing.{IsLeft, IsOwn, IsAccessed, outs};
+ghost use Rattle.policy_steps.specs.Misses.{Leavers, one_leaver, miss_plan, AreLeft};
 
 use queue_moves::{Accessed, KeyMove, Left, Moves, Run};
 
@@ -22,6 +23,18 @@ impl LeftKeys {
         first: Left::NONE,
         second: Left::NONE,
     };
+
+    /// One alone left, or none.
+    #[inline(always)]
+    pub(crate) fn one(first: Left) -> LeftKeys
+        ensures { (l : Option Leaving) (s u : Queues) → IsLeft l s u first → outs first.by ≤ 1
+            → AreLeft (one_leaver l) s u result }
+    {
+        LeftKeys {
+            first,
+            second: Left::NONE,
+        }
+    }
 }
 
 /// A miss, from the keys that left, what became of its own, and the policy's number before it and after it.

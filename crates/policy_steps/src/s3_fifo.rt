@@ -1,21 +1,21 @@
 //! An access by S3-FIFO.
-ghost use Rattle.std.specs.Prelude.{◌≡◌, ◌≤◌, ◌+◌, ℕ, Bool, if◌then◌else◌, ◌==◌, true, false, length, Some, None};
-ghost use Rattle.std.specs.Prelude.{IfOk, OnErr};
+ghost use Rattle.std.specs.Prelude.{◌≡◌, ◌≤◌, ◌+◌, ℕ, ◌||◌, false, length, nat_lt, IfOk, OnErr};
 ghost use Rattle.step_record.specs.declared.limits.TheConstants.{MAX_CAPACITY};
 ghost use Rattle.queue_table.specs.declared.records.Entry.{Entry};
-ghost use Rattle.queue_table.specs.Entries.{entry, occurrences};
-ghost use Rattle.queue_table.specs.Queues.{Queues, queue_holding};
+ghost use Rattle.queue_table.specs.Entries.{occurrences};
+ghost use Rattle.queue_table.specs.Queues.{Queues};
 ghost use Rattle.queue_table.specs.QueueTable.{queues, spare, HoldsAt};
 ghost use Rattle.queue_policies.specs.S3Fifo.{s3_fifo_main_size, hit_count, IsS3Fifo};
-ghost use Rattle.queue_moves.specs.Moves.{item_of, standing, leaving};
-ghost use Rattle.queue_moves.specs.Undoing.{IsRun, IsLeft, IsAccessed, outs};
+ghost use Rattle.queue_moves.specs.Moves.{item_of, goes};
+ghost use Rattle.queue_moves.specs.Undoing.{IsRun, IsAccessed};
 ghost use Rattle.policy_steps.specs.S3Fifo.{SMALL as SmallQueue, MAIN as MainQueue, GHOST as GhostQueue, s3_fifo_of};
-ghost use Rattle.policy_steps.specs.S3Fifo.{promotions, main_eviction_plan, small_eviction_plan, eviction_plan, room_plan};
+ghost use Rattle.policy_steps.specs.S3Fifo.{promotions, main_eviction_plan, small_eviction_plan, eviction_plan};
 ghost use Rattle.policy_steps.specs.S3Fifo.{joins, is_resident, s3_fifo_miss, s3_fifo_plan};
-ghost use Rattle.policy_steps.specs.Rooms.{IsRoomMade};
-ghost use Rattle.policy_steps.specs.S3FifoStep.{KeepsElsewhere};
+ghost use Rattle.policy_steps.specs.Rooms.{miss_plan};
+ghost use Rattle.policy_steps.specs.S3FifoStep.{IsOutside};
 
 use crate::accesses::hit;
+use crate::comers::{enter, enter_for_oldest};
 use crate::rooms::{RoomMoves, missed};
 use queue_moves::{Accessed, KeyQueues, Left, Run};
 use queue_table::Found;
@@ -49,13 +49,18 @@ pub fn step<C>(
     ensures err { OnErr result (queues table.new ≡ queues table.old) }
 {
     let Some(found) = table.find(key) else {
-        return new_key::<C>(table, part, capacity, scalar, key);
+        // Room in the table is made before anything moves.
+        table.reserve()?;
+        return Ok(miss::<C>(table, part, capacity, scalar, key, None, false));
     };
     if is_resident(found.queue) {
         let own = table.recount(key, found, one_hit_more(found.count));
         Ok(hit(own, scalar))
     } else {
-        Ok(recalled::<C>(table, part, capacity, scalar, key, found))
+        table.tabled();
+        let remembered = found.queue == GHOST;
+        let found = Some(found);
+        Ok(miss::<(C, Found)>(table, part, capacity, scalar, key, found, remembered))
     }
 }
 
@@ -73,52 +78,31 @@ fn one_hit_more(count: u8) -> u8
     if count < 3 { count + 1 } else { 3 }
 }
 
-// An access to a key that stands nowhere. Room in the table is made before anything moves.
+// A miss. In a full cache main takes keys of the small queue, and then a key leaves.
 #[inline(always)]
-fn new_key<C>(
+fn miss<C>(
     table: &mut KeyQueues,
     part: u32,
     capacity: u32,
     scalar: u32,
     key: Key,
-) -> Result<Accessed, AllocError>
-    requires few { capacity ≤ MAX_CAPACITY }
-    requires state { IsS3Fifo part capacity (s3_fifo_of (queues table.old)) }
-    requires absent { queue_holding (item_of key) (queues table.old) ≡ None }
-    ensures accessed { IfOk result (λ a. IsAccessed (s3_fifo_miss part capacity false scalar (queues table.old))
-        (item_of key) scalar (queues table.old) (queues table.new) a) }
-    ensures err { OnErr result (queues table.new ≡ queues table.old) }
-{
-    table.reserve()?;
-    table.tabled();
-    let room = make_room(table, part, capacity, false);
-    let own = table.join(key, SMALL, 0);
-    Ok(missed(room, own, scalar, scalar))
-}
-
-// An access to a key that is not resident, and stands in the ghost or elsewhere. It needs no room in the table.
-#[inline(always)]
-fn recalled<C>(
-    table: &mut KeyQueues,
-    part: u32,
-    capacity: u32,
-    scalar: u32,
-    key: Key,
-    found: Found,
+    found: Option<Found>,
+    remembered: bool,
 ) -> Accessed
     requires few { capacity ≤ MAX_CAPACITY }
-    requires state { IsS3Fifo part capacity (s3_fifo_of (queues table.old)) }
-    requires at { HoldsAt found.at (entry (item_of key) found.count) table.old }
-    requires stands { standing (item_of key) (queues table.old) ≡ Some (found.queue, found.count) }
-    requires out { is_resident found.queue ≡ false }
-    ensures { IsAccessed (s3_fifo_miss part capacity (found.queue == GhostQueue) scalar (queues table.old))
-        (item_of key) scalar (queues table.old) (queues table.new) result }
+    requires fits { length (queues table.old SmallQueue) + length (queues table.old MainQueue) ≤ capacity }
+    requires outside { IsOutside remembered found (item_of key) table.old }
+    ensures { IsAccessed (s3_fifo_miss part capacity remembered scalar (queues table.old)) (item_of key) scalar
+        (queues table.old) (queues table.new) result }
 {
+    if table.len(SMALL) + table.len(MAIN) < capacity as usize {
+        let own = enter::<C>(table, key, found, queue_of(remembered));
+        return missed(RoomMoves::NONE, own, scalar, scalar);
+    }
     table.tabled();
-    let remembered = found.queue == GHOST;
-    let room = make_room(table, part, capacity, remembered);
-    let own = table.send(key, found, queue_of(remembered), 0);
-    missed(room, own, scalar, scalar)
+    let main = main_size(part, capacity);
+    let early = promote(table, main);
+    evict::<C>(table, main, scalar, key, found, remembered, early)
 }
 
 // The queue that a key joins.
@@ -126,25 +110,6 @@ fn queue_of(remembered: bool) -> u8
     ensures { result ≡ joins remembered }
 {
     if remembered { MAIN } else { SMALL }
-}
-
-// Makes room for a key in a full cache.
-#[inline(always)]
-fn make_room(table: &mut KeyQueues, part: u32, capacity: u32, remembered: bool) -> RoomMoves
-    requires few { capacity ≤ MAX_CAPACITY }
-    requires fits { length (queues table.old SmallQueue) + length (queues table.old MainQueue) ≤ capacity }
-    ensures made { IsRoomMade (room_plan part capacity remembered (queues table.old)) (queues table.old) (queues table.new)
-        result }
-    ensures spare { spare table.old ≤ spare table.new }
-    ensures others { KeepsElsewhere remembered table.old table.new }
-{
-    if table.len(SMALL) + table.len(MAIN) < capacity as usize {
-        return RoomMoves::NONE;
-    }
-    table.tabled();
-    let main = main_size(part, capacity);
-    let early = promote(table, main);
-    evict(table, main, remembered, early)
 }
 
 // The size that the main queue is to have, and that of the ghost.
@@ -168,74 +133,101 @@ fn promote(table: &mut KeyQueues, main: u32) -> Run
     table.run(SMALL, MAIN, 0, 2, room as u32)
 }
 
-// A key leaves, once all are promoted that are to be.
+// A key leaves for the accessed one, once all are promoted that are to be.
 #[inline(always)]
-fn evict(table: &mut KeyQueues, main: u32, remembered: bool, early: Run) -> RoomMoves
+fn evict<C>(
+    table: &mut KeyQueues,
+    main: u32,
+    scalar: u32,
+    key: Key,
+    found: Option<Found>,
+    remembered: bool,
+    early: Run,
+) -> Accessed
     requires few { length (queues table.old MainQueue) ≤ MAX_CAPACITY }
-    ensures made { (s : Queues) → IsRun early s (queues table.old)
-        → IsRoomMade (eviction_plan main remembered early (queues table.old)) s (queues table.new) result }
-    ensures spare { spare table.old ≤ spare table.new }
-    ensures others { KeepsElsewhere remembered table.old table.new }
+    requires outside { IsOutside remembered found (item_of key) table.old }
+    ensures { (s : Queues) → IsRun early s (queues table.old)
+        → IsAccessed (miss_plan (eviction_plan main remembered early (queues table.old)) (goes (joins remembered) 0) scalar)
+        (item_of key) scalar s (queues table.new) result }
 {
     if table.len(SMALL) == 0 || (main as usize) < table.len(MAIN) {
-        evict_main(table, early)
+        evict_main::<C>(table, scalar, key, found, remembered, early)
     } else {
-        evict_small(table, main, remembered, early)
+        evict_small::<C>(table, main, scalar, key, found, remembered, early)
     }
 }
 
 // The oldest keys of main turn while they have a count, and then the oldest leaves.
 #[inline(always)]
-fn evict_main(table: &mut KeyQueues, early: Run) -> RoomMoves
+fn evict_main<C>(
+    table: &mut KeyQueues,
+    scalar: u32,
+    key: Key,
+    found: Option<Found>,
+    remembered: bool,
+    early: Run,
+) -> Accessed
     requires few { length (queues table.old MainQueue) ≤ MAX_CAPACITY }
-    ensures made { (s : Queues) → IsRun early s (queues table.old)
-        → IsRoomMade (main_eviction_plan early (queues table.old)) s (queues table.new) result }
-    ensures spare { spare table.old ≤ spare table.new }
-    ensures others { (remembered : Bool) → KeepsElsewhere remembered table.old table.new }
+    requires outside { IsOutside remembered found (item_of key) table.old }
+    ensures { (s : Queues) → IsRun early s (queues table.old)
+        → IsAccessed (miss_plan (main_eviction_plan early (queues table.old)) (goes (joins remembered) 0) scalar)
+        (item_of key) scalar s (queues table.new) result }
 {
+    let queue = queue_of(remembered);
     let most = 3 * table.len(MAIN) as u32;
     let late = table.run(MAIN, MAIN, 1, 1, most);
-    let first = table.drop_oldest(MAIN);
-    RoomMoves {
+    let (first, own) = enter_for_oldest::<C>(table, MAIN, key, found, queue);
+    let room = RoomMoves {
         early,
         late,
         first,
         second: Left::NONE,
-    }
+    };
+    missed(room, own, scalar, scalar)
 }
 
 // The oldest key of the small queue leaves for the ghost, which forgets its oldest where it is over its size.
 #[inline(always)]
-fn evict_small(table: &mut KeyQueues, main: u32, remembered: bool, early: Run) -> RoomMoves
-    ensures made { (s : Queues) → IsRun early s (queues table.old)
-        → IsRoomMade (small_eviction_plan main remembered early (queues table.old)) s (queues table.new) result }
-    ensures spare { spare table.old ≤ spare table.new }
-    ensures others { KeepsElsewhere remembered table.old table.new }
+fn evict_small<C>(
+    table: &mut KeyQueues,
+    main: u32,
+    scalar: u32,
+    key: Key,
+    found: Option<Found>,
+    remembered: bool,
+    early: Run,
+) -> Accessed
+    requires outside { IsOutside remembered found (item_of key) table.old }
+    ensures { (s : Queues) → IsRun early s (queues table.old)
+        → IsAccessed (miss_plan (small_eviction_plan main remembered early (queues table.old)) (goes (joins remembered) 0)
+        scalar) (item_of key) scalar s (queues table.new) result }
 {
-    let forgets = !remembered && table.len(GHOST) >= main as usize;
+    let queue = queue_of(remembered);
+    let keeps = ghost_keeps(table, main, remembered);
     let first = table.send_oldest(SMALL, GHOST, 0);
-    let second = forget(table, forgets);
-    RoomMoves {
+    if keeps {
+        let own = enter::<C>(table, key, found, queue);
+        let room = RoomMoves {
+            early,
+            late: Run::NONE,
+            first,
+            second: Left::NONE,
+        };
+        return missed(room, own, scalar, scalar);
+    }
+    let (second, own) = enter_for_oldest::<C>(table, GHOST, key, found, queue);
+    let room = RoomMoves {
         early,
         late: Run::NONE,
         first,
         second,
-    }
+    };
+    missed(room, own, scalar, scalar)
 }
 
-// The oldest key of the ghost leaves it, where one is forgotten.
-#[inline(always)]
-fn forget(table: &mut KeyQueues, forgets: bool) -> Left
-    ensures left { IsLeft (if forgets then leaving GhostQueue None else None) (queues table.old) (queues table.new)
-        result }
-    ensures out { outs result.by ≤ 1 }
-    ensures spare { spare table.old ≤ spare table.new }
-    ensures others { (j : ℕ) (e : Entry) → HoldsAt j e table.old
-        → (forgets ≡ true → occurrences e.item (queues table.old GhostQueue) ≡ 0) → HoldsAt j e table.new }
+// Whether the ghost keeps its keys where one more joins it: the accessed key leaves it, or there is room.
+fn ghost_keeps(table: &KeyQueues, size: u32, remembered: bool) -> bool
+    ensures { result ≡ (remembered || nat_lt (length (queues table.now GhostQueue)) size) }
 {
-    if forgets {
-        table.drop_oldest(GHOST)
-    } else {
-        Left::NONE
-    }
+    remembered || table.len(GHOST) < size as usize
 }

@@ -1,13 +1,14 @@
 //! An access by SIEVE.
-ghost use Rattle.std.specs.Prelude.{◌≡◌, ◌≤◌, ◌+◌, false, None, length, nat_lt, IfOk, OnErr};
-ghost use Rattle.queue_table.specs.Queues.{queue_holding};
+ghost use Rattle.std.specs.Prelude.{◌≡◌, ◌≤◌, ◌+◌, true, false, None, length, nat_lt, IfOk, OnErr};
+ghost use Rattle.queue_table.specs.Entries.{oldest_of};
+ghost use Rattle.queue_table.specs.Queues.{Queues, queue_holding};
 ghost use Rattle.queue_table.specs.QueueTable.{queues, spare};
-ghost use Rattle.queue_moves.specs.Moves.{item_of, leaving, after_leaving};
-ghost use Rattle.queue_moves.specs.Undoing.{IsAccessed};
-ghost use Rattle.policy_steps.specs.Sieve.{queue_ahead, sieve_plan, sieve_eviction_plan};
+ghost use Rattle.queue_moves.specs.Moves.{item_of, count_or, leaving, after_leaving};
+ghost use Rattle.queue_moves.specs.Undoing.{IsRun, IsAccessed};
+ghost use Rattle.policy_steps.specs.Sieve.{queue_ahead, pass_run, sieve_plan, sieve_eviction_plan};
 
 use crate::accesses::{evicted, hit, kept};
-use queue_moves::{Accessed, KeyQueues};
+use queue_moves::{Accessed, KeyQueues, Run};
 use std::alloc::AllocError;
 use step_record::Key;
 
@@ -43,7 +44,7 @@ pub fn step<C>(
                 let own = table.join(key, ahead, 0);
                 return Ok(kept(own, scalar));
             }
-            Ok(evict(table, capacity, ahead, key))
+            Ok(evict::<C>(table, capacity, ahead, key))
         }
     }
 }
@@ -56,9 +57,9 @@ fn has_room(table: &KeyQueues, capacity: u32) -> bool
     second < capacity as usize && first < capacity as usize - second
 }
 
-// A miss of a full cache.
+// A miss of a full cache. Mostly the hand stops before it has to go back to the oldest key: that case is compiled apart.
 #[inline(always)]
-fn evict(table: &mut KeyQueues, capacity: u32, ahead: u8, key: Key) -> Accessed
+fn evict<C>(table: &mut KeyQueues, capacity: u32, ahead: u8, key: Key) -> Accessed
     requires low { ahead ≤ 1 }
     requires room { 1 ≤ spare table.old }
     requires absent { queue_holding (item_of key) (queues table.old) ≡ None }
@@ -66,11 +67,49 @@ fn evict(table: &mut KeyQueues, capacity: u32, ahead: u8, key: Key) -> Accessed
         (queues table.old) (queues table.new) result }
 {
     let early = table.run(ahead, 1 - ahead, 1, 1, capacity);
+    if table.len(ahead) > 0 && early.times < capacity {
+        evict_late::<C>(table, capacity, ahead, key, early, true)
+    } else {
+        evict_late::<C>(table, capacity, ahead, key, early, false)
+    }
+}
+
+// The same, once the hand has passed on from where it was.
+#[inline(always)]
+fn evict_late<C>(
+    table: &mut KeyQueues,
+    capacity: u32,
+    ahead: u8,
+    key: Key,
+    early: Run,
+    stopped: bool,
+) -> Accessed
+    requires low { ahead ≤ 1 }
+    requires stopped { stopped ≡ true
+        → nat_lt (count_or 0 (oldest_of (queues table.old (queue_ahead ahead (queues table.old))))) 1 ≡ true }
+    requires room { 1 ≤ spare table.old }
+    requires absent { queue_holding (item_of key) (queues table.old) ≡ None }
+    ensures { (s : Queues) → early ≡ pass_run capacity ahead s → IsRun early s (queues table.old)
+        → IsAccessed (sieve_eviction_plan capacity ahead s) (item_of key) ahead s (queues table.new) result }
+{
     let mid = wrap(table, ahead);
-    let late = table.run(mid, 1 - mid, 1, 1, capacity);
+    let late = pass(table, capacity, mid, stopped);
     let new = wrap_after(table, mid);
     let (first, own) = table.renew_oldest(mid, key, new, 0);
     evicted(early, late, first, own, u32::from(ahead), u32::from(new))
+}
+
+// The hand passes the keys ahead of it whose bits are set, none where it has stopped.
+#[inline(always)]
+fn pass(table: &mut KeyQueues, capacity: u32, ahead: u8, stopped: bool) -> Run
+    requires low { ahead ≤ 1 }
+    requires stopped { stopped ≡ true → nat_lt (count_or 0 (oldest_of (queues table.old ahead))) 1 ≡ true }
+    ensures run { result ≡ pass_run capacity ahead (queues table.old) }
+    ensures made { IsRun result (queues table.old) (queues table.new) }
+    ensures spare { spare table.new ≡ spare table.old }
+{
+    let most = if stopped { 0 } else { capacity };
+    table.run(ahead, 1 - ahead, 1, 1, most)
 }
 
 // Where no key is ahead of the hand, it goes back to the oldest: the queue that is ahead of it then.

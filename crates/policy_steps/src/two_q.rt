@@ -1,18 +1,17 @@
 //! An access by 2Q.
-ghost use Rattle.std.specs.Prelude.{◌≡◌, ◌≢◌, ◌≤◌, ℕ, nat_lt, ◌==◌, ◌||◌, false, cond, length, Some, None, IfOk, OnErr};
-ghost use Rattle.queue_table.specs.declared.records.Entry.{Entry};
-ghost use Rattle.queue_table.specs.Entries.{entry, occurrences};
-ghost use Rattle.queue_table.specs.Queues.{queue_holding};
-ghost use Rattle.queue_table.specs.QueueTable.{queues, spare, HoldsAt};
-ghost use Rattle.queue_moves.specs.Moves.{item_of, standing, leaving};
-ghost use Rattle.queue_moves.specs.Undoing.{IsLeft, IsAccessed, outs};
-ghost use Rattle.policy_steps.specs.Misses.{AreLeft};
-ghost use Rattle.policy_steps.specs.TwoQ.{A1IN, A1OUT, AM, two_q_leavers, joins, two_q_miss, two_q_plan};
+ghost use Rattle.std.specs.Prelude.{◌≡◌, ◌≤◌, nat_lt, ◌==◌, ◌||◌, false, length, IfOk, OnErr};
+ghost use Rattle.queue_table.specs.Entries.{occurrences};
+ghost use Rattle.queue_table.specs.QueueTable.{queues};
+ghost use Rattle.queue_moves.specs.Moves.{item_of};
+ghost use Rattle.queue_moves.specs.Undoing.{IsAccessed};
+ghost use Rattle.policy_steps.specs.Comers.{Comes};
+ghost use Rattle.policy_steps.specs.TwoQ.{A1IN, A1OUT, AM, joins, two_q_miss, two_q_plan};
 
 use crate::accesses::hit;
+use crate::comers::{enter, enter_for_oldest};
 use crate::misses::{LeftKeys, missed};
 use ghost_policies::TwoQSizes;
-use queue_moves::{Accessed, KeyMove, KeyQueues, Left};
+use queue_moves::{Accessed, KeyMove, KeyQueues};
 use queue_table::Found;
 use std::alloc::AllocError;
 use step_record::Key;
@@ -43,59 +42,59 @@ pub fn step<C>(
     ensures err { OnErr result (queues table.new ≡ queues table.old) }
 {
     let Some(found) = table.find(key) else {
-        return new_key::<C>(table, sizes, capacity, scalar, key);
+        // Room is made before anything moves.
+        table.reserve()?;
+        return Ok(miss::<C>(table, sizes, capacity, scalar, key, None, false));
     };
     if found.queue == AM {
         Ok(hit(table.send(key, found, AM, 0), scalar))
     } else if found.queue == A1IN {
         Ok(hit(KeyMove::unmoved(key), scalar))
     } else {
-        Ok(recalled::<C>(table, sizes, capacity, scalar, key, found))
+        table.tabled();
+        // To 2Q a key of a queue that it does not use is new.
+        let remembered = found.queue == A1OUT;
+        let found = Some(found);
+        Ok(miss::<(C, Found)>(table, sizes, capacity, scalar, key, found, remembered))
     }
 }
 
-// An access to a key that stands nowhere. Room is made before anything moves.
+// A miss. In a full cache a key leaves, and a1out may forget one.
 #[inline(always)]
-fn new_key<C>(
+fn miss<C>(
     table: &mut KeyQueues,
     sizes: TwoQSizes,
     capacity: u32,
     scalar: u32,
     key: Key,
-) -> Result<Accessed, AllocError>
-    requires { queue_holding (item_of key) (queues table.old) ≡ None }
-    ensures accessed { IfOk result (λ a. IsAccessed (two_q_miss sizes capacity false scalar (queues table.old))
-        (item_of key) scalar (queues table.old) (queues table.new) a) }
-    ensures err { OnErr result (queues table.new ≡ queues table.old) }
-{
-    table.reserve()?;
-    let left = evict(table, sizes, capacity, false);
-    let own = table.join(key, A1IN, 0);
-    Ok(missed(left, own, scalar, scalar))
-}
-
-// An access to a key of a1out, which needs no room. To 2Q a key of a queue that it does not use is new.
-#[inline(always)]
-fn recalled<C>(
-    table: &mut KeyQueues,
-    sizes: TwoQSizes,
-    capacity: u32,
-    scalar: u32,
-    key: Key,
-    found: Found,
+    found: Option<Found>,
+    remembered: bool,
 ) -> Accessed
-    requires at { HoldsAt found.at (entry (item_of key) found.count) table.old }
-    requires stands { standing (item_of key) (queues table.old) ≡ Some (found.queue, found.count) }
-    requires am { found.queue ≢ AM }
-    requires a1in { found.queue ≢ A1IN }
-    ensures { IsAccessed (two_q_miss sizes capacity (found.queue == A1OUT) scalar (queues table.old))
-        (item_of key) scalar (queues table.old) (queues table.new) result }
+    requires comes { Comes found (item_of key) table.old }
+    requires a1in { occurrences (item_of key) (queues table.old A1IN) ≡ 0 }
+    requires am { occurrences (item_of key) (queues table.old AM) ≡ 0 }
+    requires a1out { remembered ≡ false → occurrences (item_of key) (queues table.old A1OUT) ≡ 0 }
+    ensures { IsAccessed (two_q_miss sizes capacity remembered scalar (queues table.old)) (item_of key) scalar
+        (queues table.old) (queues table.new) result }
 {
-    table.tabled();
-    let remembered = found.queue == A1OUT;
-    let left = evict(table, sizes, capacity, remembered);
-    let own = table.send(key, found, queue_of(remembered), 0);
-    missed(left, own, scalar, scalar)
+    let queue = queue_of(remembered);
+    let (a1in, am) = (table.len(A1IN), table.len(AM));
+    if a1in < (capacity as usize).saturating_sub(am) {
+        let own = enter::<C>(table, key, found, queue);
+        return missed(LeftKeys::NONE, own, scalar, scalar);
+    }
+    if !a1in_gives(a1in, am, sizes.kin) {
+        let (first, own) = enter_for_oldest::<C>(table, AM, key, found, queue);
+        return missed(LeftKeys::one(first), own, scalar, scalar);
+    }
+    let keeps = a1out_keeps(table, sizes.kout, remembered);
+    let first = table.send_oldest(A1IN, A1OUT, 0);
+    if keeps {
+        let own = enter::<C>(table, key, found, queue);
+        return missed(LeftKeys::one(first), own, scalar, scalar);
+    }
+    let (second, own) = enter_for_oldest::<C>(table, A1OUT, key, found, queue);
+    missed(LeftKeys { first, second }, own, scalar, scalar)
 }
 
 // The queue that a key joins.
@@ -103,33 +102,6 @@ fn queue_of(remembered: bool) -> u8
     ensures { result ≡ joins remembered }
 {
     if remembered { AM } else { A1IN }
-}
-
-// In a full cache a key leaves, and a1out may forget one.
-#[inline(always)]
-fn evict(table: &mut KeyQueues, sizes: TwoQSizes, capacity: u32, remembered: bool) -> LeftKeys
-    ensures left { AreLeft (two_q_leavers sizes capacity remembered (queues table.old))
-        (queues table.old) (queues table.new) result }
-    ensures spare { spare table.old ≤ spare table.new }
-    ensures others { (j : ℕ) (e : Entry) → HoldsAt j e table.old → occurrences e.item (queues table.old A1IN) ≡ 0
-        → occurrences e.item (queues table.old AM) ≡ 0
-        → (remembered ≡ false → occurrences e.item (queues table.old A1OUT) ≡ 0) → HoldsAt j e table.new }
-{
-    let (a1in, am) = (table.len(A1IN), table.len(AM));
-    if a1in < (capacity as usize).saturating_sub(am) {
-        LeftKeys::NONE
-    } else if a1in_gives(a1in, am, sizes.kin) {
-        let keeps = a1out_keeps(table, sizes.kout, remembered);
-        let first = table.send_oldest(A1IN, A1OUT, 0);
-        let second = forget(table, keeps);
-        LeftKeys { first, second }
-    } else {
-        let first = table.drop_oldest(AM);
-        LeftKeys {
-            first,
-            second: Left::NONE,
-        }
-    }
 }
 
 // Whether a1in gives up a key, and not am.
@@ -144,20 +116,4 @@ fn a1out_keeps(table: &KeyQueues, kout: u32, remembered: bool) -> bool
     ensures { result ≡ (remembered || nat_lt (length (queues table.now A1OUT)) kout) }
 {
     remembered || table.len(A1OUT) < kout as usize
-}
-
-// The oldest key of a1out leaves it, where it does not keep its keys.
-#[inline(always)]
-fn forget(table: &mut KeyQueues, keeps: bool) -> Left
-    ensures left { IsLeft (cond keeps None (leaving A1OUT None)) (queues table.old) (queues table.new) result }
-    ensures out { outs result.by ≤ 1 }
-    ensures spare { spare table.old ≤ spare table.new }
-    ensures others { (j : ℕ) (e : Entry) → HoldsAt j e table.old
-        → (keeps ≡ false → occurrences e.item (queues table.old A1OUT) ≡ 0) → HoldsAt j e table.new }
-{
-    if keeps {
-        Left::NONE
-    } else {
-        table.drop_oldest(A1OUT)
-    }
 }

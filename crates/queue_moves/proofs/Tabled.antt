@@ -8,7 +8,7 @@ use Rattle.step_record.specs.Keys.{has_key, keys_without}
 use Rattle.queue_table.specs.declared.records.Entry.{Entry}
 use Rattle.queue_table.specs.Entries.{is_same_item, entry, occurrences, entries_without, entries_counted, oldest_of, before}
 use Rattle.queue_table.specs.Queues.{QUEUES, Queues, with_queue, queue_below, queue_holding, times_below, after_push, after_removal, after_send, after_count}
-use Rattle.queue_table.proofs.EntryLists.{same-true, same-refl, times-append, times-without}
+use Rattle.queue_table.proofs.EntryLists.{same-true, same-refl, times-append}
 use Rattle.queue_table.proofs.QueueLists.{IsAbsent, absent, absent-taken, placed, queue-few, distinct-taken, with-queue-same, with-queue-other, times-with}
 use Rattle.queue_table.proofs.MoveBack.{StandsIn, front-none, back-none, rest, without-none}
 use Rattle.queue_table.proofs.Counting.{distinct-counted}
@@ -353,57 +353,6 @@ tabled-all s t p w k =
     let first = tabled-leaving (after_runs p s) (tabled-runs s t p w) p.first w.first in
     let second = tabled-leaving (after_first p s) first p.second w.second in
     tabled-own (after_second p s) second p.own w.own k
-
--- ---- an item that stands nowhere
-
-abbrev pub IsNowhere : Item → Queues → Type 0
-IsNowhere i s = (q : ℕ) → occurrences i (s q) ≡ 0
-
-nowhere-removal : (i : Item) (v : Item) (s : Queues) → IsNowhere i s → IsNowhere i (after_removal v s)
-nowhere-removal i v s h q = let a = h q in let l = times-without v i (s q) in omega (arith, a, l)
-
--- it is not the oldest of a queue
-not-oldest : (i : Item) (l : List Entry) (e : Entry) → occurrences i l ≡ 0 → oldest_of l ≡ Some e → is_same_item i e.item ≡ false
-not-oldest i [] e h o = absurd (cc o)
-not-oldest i (x ∷ l) e h o =
-    let z : x ≡ e = cc o in
-    elim (cases_Bool (is_same_item i x.item)) [
-      | inl g ↦ absurd (let some : 1 + occurrences i l ≡ 0 = rw g at h in omega (arith, some))
-      | inr g ↦ ap (λ (y : Entry). is_same_item i y.item) (sym z) ∙ g
-    ]
-
-nowhere-send : (i : Item) (e : Entry) (to : ℕ) (s : Queues) → is_same_item i e.item ≡ false → IsNowhere i s → IsNowhere i (after_send e to s)
-nowhere-send i e to s other h q =
-    let gone = nowhere-removal i e.item s h in
-    elim (cases_eq q to) [
-      | inl z ↦
-          let sum : occurrences i (after_send e to s q) ≡ occurrences i (entries_without e.item (s to)) + occurrences i (e ∷ []) =
-          ap (λ x. occurrences i (after_send e to s x)) z
-          ∙ ap (occurrences i) (with-queue-same to (entries_without e.item (s to) ++ e ∷ []) (after_removal e.item s))
-          ∙ times-append i (entries_without e.item (s to)) (e ∷ []) in
-          let sum2 : occurrences i (after_send e to s q) ≡ occurrences i (entries_without e.item (s to)) + (0 + 0) = rw other at sum in
-          let none = gone to in
-          omega (arith, sum2, none)
-      | inr d ↦ ap (occurrences i) (with-queue-other to q (entries_without e.item (s to) ++ e ∷ []) (after_removal e.item s) d) ∙ gone q
-    ]
-
-nowhere-turned : (i : Item) (to less : ℕ) (o : Option Entry) (s : Queues) → ((e : Entry) → o ≡ Some e → is_same_item i e.item ≡ false) → IsNowhere i s → IsNowhere i (turned to less o s)
-nowhere-turned i to less None s other h = h
-nowhere-turned i to less (Some e) s other h = nowhere-send i (entry e.item (e.count - less)) to s (other e refl) h
-
-pub nowhere-turns : (i : Item) (s : Queues) → IsNowhere i s → (n from to less : ℕ) → IsNowhere i (after_turns n from to less s)
-nowhere-turns i s h zero from to less = h
-nowhere-turns i s h (suc n) from to less =
-    nowhere-turns i (after_turn from to less s) (nowhere-turned i to less (oldest_of (s from)) s (λ e. not-oldest i (s from) e (h from)) h) n from to less
-
-nowhere-departed : (i : Item) (to : Option (ℕ × ℕ)) (o : Option Entry) (s : Queues) → ((e : Entry) → o ≡ Some e → is_same_item i e.item ≡ false) → IsNowhere i s → IsNowhere i (departed to o s)
-nowhere-departed i to None s other h = h
-nowhere-departed i None (Some e) s other h = nowhere-removal i e.item s h
-nowhere-departed i (Some p) (Some e) s other h = nowhere-send i (entry e.item p.1) p.0 s (other e refl) h
-
-pub nowhere-leaving : (i : Item) (s : Queues) → IsNowhere i s → (l : Option Leaving) → IsNowhere i (after_leaving l s)
-nowhere-leaving i s h None = h
-nowhere-leaving i s h (Some l) = nowhere-departed i l.to (oldest_of (s l.from)) s (λ e. not-oldest i (s l.from) e (h l.from)) h
 
 -- ---- runs
 

@@ -1,7 +1,8 @@
-use Rattle.std.proofs.Common.{None, refl, arith}
+use Rattle.std.proofs.Common.{arith}
 use Rattle.queue_table.specs.Entries.{entry}
 use Rattle.queue_table.specs.QueueTable.{queues}
 use Rattle.queue_moves.specs.Moves.{item_of, goes}
+use Rattle.policy_steps.specs.Misses.{one_leaver}
 use Rattle.policy_steps.specs.Arc.{T2, replaced}
 use Rattle.policy_steps.proofs.arc.recalled.Goals as goal
 
@@ -11,12 +12,6 @@ send-own-requires-clause-at g c =
 
 pub returns : goal.returns
 returns g c =
+    let l = replaced c.args.in_b2 c.args.target (queues c.args.table.now) in
     let stays = c.replace-first.ensures.stays in
-    c.missed.ensures record { first = replaced c.args.in_b2 c.args.target (queues c.args.table.now); second = None } (goes T2 0) (item_of c.args.key) _ _ _
-    record {
-      between = queues c.replace-first.new.table;
-      first = c.replace-first.ensures.left;
-      second = record { after = refl; is = refl; fits = tt; undone = refl };
-      few = omega (arith, stays);
-    }
-    c.send-own.ensures.own
+    c.missed.ensures (one_leaver l) (goes T2 0) (item_of c.args.key) _ _ _ (c.one.ensures l _ _ c.replace-first.ensures.left (omega (arith, stays))) c.send-own.ensures.own

@@ -1,29 +1,20 @@
-use Rattle.std.proofs.Common.{None, refl, subst}
+use Rattle.std.proofs.Common.{◌≤◌, length, arith}
 use Rattle.queue_table.specs.QueueTable.{queues}
-use Rattle.queue_moves.specs.Moves.{item_of, leaving, after_leaving, goes}
-use Rattle.queue_moves.specs.Undoing.{IsAccessed}
-use Rattle.policy_steps.specs.Sieve.{pass_run, sieve_eviction_plan}
+use Rattle.queue_moves.specs.Moves.{item_of}
 use Rattle.policy_steps.proofs.Steps.{absent-run}
-use Rattle.policy_steps.proofs.SieveStep.{eviction}
+use Rattle.policy_steps.proofs.SieveStep.{stops}
 use Rattle.policy_steps.proofs.sieve.evict.Goals as goal
 
-pub renew_oldest-requires-clause-absent : goal.renew_oldest-requires-clause-absent
-renew_oldest-requires-clause-absent c =
-    let i = item_of c.args.key in
-    absent-run i c.run-late.result (queues c.run-early.new.self) (queues c.run-late.new.self) c.run-late.ensures.made
-    (absent-run i c.run-early.result (queues c.args.table.now) (queues c.run-early.new.self) c.run-early.ensures.made c.requires.absent)
+pub evict_late-requires-clause-stopped : goal.evict_late-requires-clause-stopped
+evict_late-requires-clause-stopped g c = λ t.
+    let a = queues c.run-early.new.self in
+    let some : 1 ≤ length (a c.args.ahead) = omega (arith, c.len.ensures, c.if-len-gt0.true) in
+    stops c.args.capacity c.args.ahead (queues c.args.table.now) a c.run-early.result c.run-early.ensures.run c.run-early.ensures.made.after some c.if-early-capacity.true
 
-pub returns : goal.returns
-returns c =
-    let s = queues c.args.table.now in
-    let ran = queues c.run-early.new.self in
-    let full = queues c.run-late.new.self in
-    let end = queues c.renew_oldest.new.self in
-    let mid = c.wrap-mid.result in
-    let new = c.wrap_after-new.result in
-    let is = eviction c.args.capacity c.args.ahead s ran full (after_leaving (leaving mid None) full) c.run-early.result c.run-late.result mid new c.from-2.result
-    c.run-early.ensures.made.after c.run-early.ensures.run c.wrap-mid.ensures.is c.run-late.ensures.made.after c.run-late.ensures.run refl c.wrap_after-new.ensures.is c.from-2.ensures in
-    let accessed = c.evicted.ensures (pass_run c.args.capacity c.args.ahead s) (pass_run c.args.capacity mid ran) (leaving mid None) (goes new 0) (item_of c.args.key) s _ _ _ end c.run-early.ensures.run c.run-late.ensures.run
-    c.run-early.ensures.made c.run-late.ensures.made c.renew_oldest.ensures.left c.renew_oldest.ensures.out c.renew_oldest.ensures.own in
-    subst (λ x. IsAccessed (sieve_eviction_plan c.args.capacity c.args.ahead s) (item_of c.args.key) x s end c.evicted.result) c.from.ensures
-    (subst (λ p. IsAccessed p (item_of c.args.key) c.from.result s end c.evicted.result) is accessed)
+pub evict_late-requires-clause-absent : goal.evict_late-requires-clause-absent
+evict_late-requires-clause-absent g c =
+    absent-run (item_of c.args.key) c.run-early.result (queues c.args.table.now) (queues c.run-early.new.self) c.run-early.ensures.made c.requires.absent
+
+pub evict_late-requires-else-len-gt0-clause-absent : goal.evict_late-requires-else-len-gt0-clause-absent
+evict_late-requires-else-len-gt0-clause-absent g c =
+    absent-run (item_of c.args.key) c.run-early.result (queues c.args.table.now) (queues c.run-early.new.self) c.run-early.ensures.made c.requires.absent

@@ -1,0 +1,13 @@
+-- What is known of the key of a miss.
+use Rattle.std.specs.Prelude.{◌≡◌, ◌≤◌, Option, Some, None, List}
+use Rattle.step_record.specs.declared.item.Item.{Item}
+use Rattle.queue_table.specs.declared.records.Found.{Found}
+use Rattle.queue_table.specs.declared.slot.Slot.{Slot}
+use Rattle.queue_table.specs.Entries.{entry}
+use Rattle.queue_table.specs.Queues.{queue_holding}
+use Rattle.queue_table.specs.QueueTable.{queues, spare, HoldsAt}
+
+-- it stands where it was found, or nowhere, and then there is room for it
+abbrev pub Comes : Option Found → Item → List Slot → Type 0
+Comes None i t = (queue_holding i (queues t) ≡ None) × (1 ≤ spare t)
+Comes (Some f) i t = HoldsAt f.at (entry i f.count) t

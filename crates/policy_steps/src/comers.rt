@@ -1,0 +1,57 @@
+//! The accessed key of a miss, which goes to a queue from where it was found, or from nowhere.
+ghost use Rattle.std.specs.Prelude.{◌≡◌, ◌<◌, ◌≤◌, None};
+ghost use Rattle.queue_table.specs.Entries.{occurrences};
+ghost use Rattle.queue_table.specs.Queues.{QUEUES};
+ghost use Rattle.queue_table.specs.QueueTable.{queues};
+ghost use Rattle.queue_moves.specs.Moves.{item_of, leaving, after_leaving, goes};
+ghost use Rattle.queue_moves.specs.Undoing.{IsLeft, IsOwn, outs};
+ghost use Rattle.policy_steps.specs.Comers.{Comes};
+
+use queue_moves::{KeyMove, KeyQueues, Left};
+use queue_table::Found;
+use step_record::Key;
+
+/// The key goes to the recent end of a queue. One that stands nowhere takes room.
+///
+/// `C` selects an instance, which becomes part of its caller.
+#[inline(always)]
+pub(crate) fn enter<C>(table: &mut KeyQueues, key: Key, found: Option<Found>, queue: u8) -> KeyMove
+    requires queue { queue < QUEUES }
+    requires comes { Comes found (item_of key) table.old }
+    ensures { IsOwn (goes queue 0) (item_of key) (queues table.old) (queues table.new) result }
+{
+    match found {
+        Some(found) => table.send(key, found, queue, 0),
+        None => table.join(key, queue, 0),
+    }
+}
+
+/// The oldest key of a queue goes out, if it has one, and the accessed key, which is not in it, to the recent end of a
+/// queue. One that stands nowhere takes the slot of the key that goes.
+#[inline(always)]
+pub(crate) fn enter_for_oldest<C>(
+    table: &mut KeyQueues,
+    from: u8,
+    key: Key,
+    found: Option<Found>,
+    queue: u8,
+) -> (Left, KeyMove)
+    requires from { from < QUEUES }
+    requires queue { queue < QUEUES }
+    requires comes { Comes found (item_of key) table.old }
+    requires off { occurrences (item_of key) (queues table.old from) ≡ 0 }
+    ensures left { IsLeft (leaving from None) (queues table.old) (after_leaving (leaving from None) (queues table.old))
+        result.0 }
+    ensures out { outs result.0.by ≤ 1 }
+    ensures own { IsOwn (goes queue 0) (item_of key) (after_leaving (leaving from None) (queues table.old))
+        (queues table.new) result.1 }
+{
+    match found {
+        Some(found) => {
+            let left = table.drop_oldest(from);
+            let own = table.send(key, found, queue, 0);
+            (left, own)
+        }
+        None => table.renew_oldest(from, key, queue, 0),
+    }
+}
