@@ -289,7 +289,7 @@ impl KeyQueues {
     {
         self.table.distinct();
         let Some((at, oldest)) = self.table.oldest(from) else {
-            return (Left::NONE, self.join(key, queue, count));
+            return (Left::NONE, self.join_alone(key, queue, count));
         };
         let item = Item { key, node: 0 };
         let _ = self.table.renew(at, queue, Entry { item, count });
@@ -307,6 +307,19 @@ impl KeyQueues {
             by: Change::Joined,
         };
         (left, own)
+    }
+
+    // `join` where the queue that was to give up a key is empty, which is rare: out of line, so that callers stay small.
+    #[cold]
+    #[inline(never)]
+    fn join_alone(&mut self, key: Key, queue: u8, count: u8) -> KeyMove
+        requires queue { queue < QUEUES }
+        requires room { 1 ≤ spare self.old }
+        requires absent { queue_holding (item_of key) (queues self.old) ≡ None }
+        ensures own { IsOwn (goes queue count) (item_of key) (queues self.old) (queues self.new) result }
+        ensures spare { spare self.new + 1 ≡ spare self.old }
+    {
+        self.join(key, queue, count)
     }
 
     /// Appends the keys of a queue to others, oldest first. The one error is that an allocation failed; some keys may be
