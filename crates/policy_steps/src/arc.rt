@@ -195,7 +195,7 @@ fn join_open_l1<C>(
 {
     let room = capacity as usize;
     if all < room {
-        let own = table.join(key, T1, 0);
+        let own = table.join_apart(key, T1, 0);
         return missed(LeftKeys::NONE, own, target, target);
     }
     let first = replace(table, target, false);

@@ -39,7 +39,7 @@ pub fn step<C>(
         None => {
             table.reserve()?;
             if table.len(QUEUE) < capacity as usize {
-                let own = table.join(key, QUEUE, 1);
+                let own = table.join_apart(key, QUEUE, 1);
                 return Ok(kept(own, scalar));
             }
             Ok(evict(table, capacity, scalar, key))

@@ -26,6 +26,21 @@ pub(crate) fn enter<C>(table: &mut KeyQueues, key: Key, found: Option<Found>, qu
     }
 }
 
+/// The same as a call, where the key finds room in the cache: that ends once it is full, and callers stay small.
+#[inline(never)]
+pub(crate) fn enter_apart(
+    table: &mut KeyQueues,
+    key: Key,
+    found: Option<Found>,
+    queue: u8,
+) -> KeyMove
+    requires queue { queue < QUEUES }
+    requires comes { Comes found (item_of key) table.old }
+    ensures { IsOwn (goes queue 0) (item_of key) (queues table.old) (queues table.new) result }
+{
+    enter::<Found>(table, key, found, queue)
+}
+
 /// The oldest key of a queue goes out, if it has one, and the accessed key, which is not in it, to the recent end of a
 /// queue. One that stands nowhere takes the slot of the key that goes.
 #[inline(always)]

@@ -15,7 +15,7 @@ ghost use Rattle.policy_steps.specs.Rooms.{miss_plan};
 ghost use Rattle.policy_steps.specs.S3FifoStep.{IsOutside};
 
 use crate::accesses::hit;
-use crate::comers::{enter, enter_for_oldest};
+use crate::comers::{enter, enter_apart, enter_for_oldest};
 use crate::rooms::{RoomMoves, missed};
 use queue_moves::{Accessed, KeyQueues, Left, Run};
 use queue_table::Found;
@@ -96,7 +96,7 @@ fn miss<C>(
         (queues table.old) (queues table.new) result }
 {
     if table.len(SMALL) + table.len(MAIN) < capacity as usize {
-        let own = enter::<C>(table, key, found, queue_of(remembered));
+        let own = enter_apart(table, key, found, queue_of(remembered));
         return missed(RoomMoves::NONE, own, scalar, scalar);
     }
     table.tabled();

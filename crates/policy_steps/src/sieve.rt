@@ -41,7 +41,7 @@ pub fn step<C>(
             table.reserve()?;
             let ahead = scalar as u8;
             if has_room(table, capacity) {
-                let own = table.join(key, ahead, 0);
+                let own = table.join_apart(key, ahead, 0);
                 return Ok(kept(own, scalar));
             }
             Ok(evict::<C>(table, capacity, ahead, key))

@@ -8,7 +8,7 @@ ghost use Rattle.policy_steps.specs.Comers.{Comes};
 ghost use Rattle.policy_steps.specs.TwoQ.{A1IN, A1OUT, AM, joins, two_q_miss, two_q_plan};
 
 use crate::accesses::hit;
-use crate::comers::{enter, enter_for_oldest};
+use crate::comers::{enter, enter_apart, enter_for_oldest};
 use crate::misses::{LeftKeys, missed};
 use ghost_policies::TwoQSizes;
 use queue_moves::{Accessed, KeyMove, KeyQueues};
@@ -80,7 +80,7 @@ fn miss<C>(
     let queue = queue_of(remembered);
     let (a1in, am) = (table.len(A1IN), table.len(AM));
     if a1in < (capacity as usize).saturating_sub(am) {
-        let own = enter::<C>(table, key, found, queue);
+        let own = enter_apart(table, key, found, queue);
         return missed(LeftKeys::NONE, own, scalar, scalar);
     }
     if !a1in_gives(a1in, am, sizes.kin) {

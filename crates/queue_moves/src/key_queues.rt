@@ -289,7 +289,7 @@ impl KeyQueues {
     {
         self.table.distinct();
         let Some((at, oldest)) = self.table.oldest(from) else {
-            return (Left::NONE, self.join_alone(key, queue, count));
+            return (Left::NONE, self.join_apart(key, queue, count));
         };
         let item = Item { key, node: 0 };
         let _ = self.table.renew(at, queue, Entry { item, count });
@@ -309,10 +309,9 @@ impl KeyQueues {
         (left, own)
     }
 
-    // `join` where the queue that was to give up a key is empty, which is rare: out of line, so that callers stay small.
-    #[cold]
+    /// `join` as a call, where a key that comes finds room: that ends once a cache is full, and callers stay small.
     #[inline(never)]
-    fn join_alone(&mut self, key: Key, queue: u8, count: u8) -> KeyMove
+    pub fn join_apart(&mut self, key: Key, queue: u8, count: u8) -> KeyMove
         requires queue { queue < QUEUES }
         requires room { 1 ≤ spare self.old }
         requires absent { queue_holding (item_of key) (queues self.old) ≡ None }

@@ -14,15 +14,15 @@ pub renew_oldest-requires-clause-absent : goal.renew_oldest-requires-clause-abse
 renew_oldest-requires-clause-absent g c =
     absent-left (item_of c.args.key) (replaced false c.args.target (queues c.args.table.now)) _ _ _ (leaver-low false c.args.target (queues c.args.table.now)) c.replace-first.ensures.left c.requires.absent
 
-pub join-own-requires-2-clause-absent : goal.join-own-requires-2-clause-absent
-join-own-requires-2-clause-absent g c =
+pub join-own-requires-clause-absent : goal.join-own-requires-clause-absent
+join-own-requires-clause-absent g c =
     absent-left (item_of c.args.key) (replaced false c.args.target (queues c.args.table.now)) _ _ _ (leaver-low false c.args.target (queues c.args.table.now)) c.replace-first.ensures.left c.requires.absent
 
 pub returns-then-all-room : goal.returns-then-all-room
 returns-then-all-room g c =
     let s : Queues = queues c.args.table.now in
     rw (lt-ltb (total s) c.args.capacity (omega (arith, c.requires.all, c.if-all-room.true)))
-    (c.missed.ensures no_leavers (goes T1 0) (item_of c.args.key) s s _ (record { between = s; first = nothing-left s; second = nothing-left s; few = omega arith }) c.join-own.ensures.own)
+    (c.missed.ensures no_leavers (goes T1 0) (item_of c.args.key) s s _ (record { between = s; first = nothing-left s; second = nothing-left s; few = omega arith }) c.join_apart-own.ensures.own)
 
 pub returns-then-all-room-2 : goal.returns-then-all-room-2
 returns-then-all-room-2 g c =
@@ -45,4 +45,4 @@ returns g c =
     let stays = c.replace-first.ensures.stays in
     rw (le-ltb (total s) c.args.capacity (omega (arith, c.requires.all, c.if-all-room.false)), ne_eqb (total s) (2 * c.args.capacity) (λ e. c.if-all-room-2.false (c.requires.all ∙ e)))
     (c.missed-2.ensures record { first = replaced false c.args.target s; second = None } (goes T1 0) (item_of c.args.key) _ _ _
-    (c.one.ensures (replaced false c.args.target s) _ _ c.replace-first.ensures.left (omega (arith, stays))) c.join-own-2.ensures.own)
+    (c.one.ensures (replaced false c.args.target s) _ _ c.replace-first.ensures.left (omega (arith, stays))) c.join-own.ensures.own)

@@ -6,8 +6,8 @@ use Rattle.policy_steps.specs.Clock.{clock_plan, clock_eviction_plan}
 use Rattle.policy_steps.proofs.Steps.{by-plan, still-none, hit-plan, join-plan, full-plan}
 use Rattle.policy_steps.proofs.clock.step.Goals as goal
 
-pub join-own-requires-clause-absent : goal.join-own-requires-clause-absent
-join-own-requires-clause-absent g c = still-none _ _ _ c.reserve.ensures.queues c.in-None.ensures.absent
+pub join_apart-own-requires-clause-absent : goal.join_apart-own-requires-clause-absent
+join_apart-own-requires-clause-absent g c = still-none _ _ _ c.reserve.ensures.queues c.in-None.ensures.absent
 
 pub evict-requires-clause-absent : goal.evict-requires-clause-absent
 evict-requires-clause-absent g c = still-none _ _ _ c.reserve.ensures.queues c.in-None.ensures.absent
@@ -23,7 +23,7 @@ returns-then-len-capacity-clause-accessed g c =
     let none = still-none _ _ _ c.reserve.ensures.queues c.in-None.ensures.absent in
     by-plan (clock_plan c.args.capacity c.args.key c.args.scalar) _ _ _ _ _ _ _ c.reserve.ensures.queues
     (join-plan (item_of c.args.key) (queues c.reserve.new.self) _ (counts 1) (goes 0 1) c.args.scalar _ none (lt-ltb _ _ (omega (arith, c.len.ensures, c.if-len-capacity.true))))
-    (c.kept.ensures (goes 0 1) _ _ _ c.join-own.ensures.own)
+    (c.kept.ensures (goes 0 1) _ _ _ c.join_apart-own.ensures.own)
 
 pub returns-else-len-capacity-clause-accessed : goal.returns-else-len-capacity-clause-accessed
 returns-else-len-capacity-clause-accessed g c =

@@ -16,7 +16,7 @@ pub returns-then-len-capacity : goal.returns-then-len-capacity
 returns-then-len-capacity g c =
     let i = item_of c.args.key in
     let s : Queues = queues c.args.table.now in
-    let own = subst (λ q. IsOwn (goes q 0) i s (queues c.enter-own.new.table) c.enter-own.result) c.queue_of.ensures c.enter-own.ensures in
+    let own = subst (λ q. IsOwn (goes q 0) i s (queues c.enter_apart-own.new.table) c.enter_apart-own.result) c.queue_of.ensures c.enter_apart-own.ensures in
     rw (lt-ltb (length (s SMALL) + length (s MAIN)) c.args.capacity (omega (arith, c.len.ensures, c.len-2.ensures, c.if-len-capacity.true)))
     (c.missed.ensures no_room_plan (goes (joins c.args.remembered) 0) i s s _
     record {

@@ -5,8 +5,8 @@ use Rattle.policy_steps.specs.Sieve.{sieve_plan, sieve_eviction_plan}
 use Rattle.policy_steps.proofs.Steps.{by-plan, still-none, hit-plan, join-plan, full-plan}
 use Rattle.policy_steps.proofs.sieve.step.Goals as goal
 
-pub join-own-requires-clause-absent : goal.join-own-requires-clause-absent
-join-own-requires-clause-absent g c = still-none _ _ _ c.reserve.ensures.queues c.in-None.ensures.absent
+pub join_apart-own-requires-clause-absent : goal.join_apart-own-requires-clause-absent
+join_apart-own-requires-clause-absent g c = still-none _ _ _ c.reserve.ensures.queues c.in-None.ensures.absent
 
 pub evict-requires-clause-absent : goal.evict-requires-clause-absent
 evict-requires-clause-absent g c = still-none _ _ _ c.reserve.ensures.queues c.in-None.ensures.absent
@@ -22,7 +22,7 @@ returns-then-has_room-clause-accessed g c =
     let none = still-none _ _ _ c.reserve.ensures.queues c.in-None.ensures.absent in
     by-plan (sieve_plan c.args.capacity c.args.key c.args.scalar) _ _ _ _ _ _ _ c.reserve.ensures.queues
     (join-plan (item_of c.args.key) (queues c.reserve.new.self) _ (counts 1) (goes c.args.scalar 0) c.args.scalar _ none (sym c.has_room.ensures ∙ c.if-has_room.true))
-    (c.kept.ensures (goes c.args.scalar 0) _ _ _ c.join-own.ensures.own)
+    (c.kept.ensures (goes c.args.scalar 0) _ _ _ c.join_apart-own.ensures.own)
 
 pub returns-else-has_room-clause-accessed : goal.returns-else-has_room-clause-accessed
 returns-else-has_room-clause-accessed g c =

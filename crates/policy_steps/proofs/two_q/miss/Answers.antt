@@ -12,8 +12,8 @@ use Rattle.policy_steps.proofs.Coming.{comes-on}
 use Rattle.policy_steps.proofs.Moving.{none-left}
 use Rattle.policy_steps.proofs.two_q.miss.Goals as goal
 
-pub enter-own-requires-then-keeps-clause-comes : goal.enter-own-requires-then-keeps-clause-comes
-enter-own-requires-then-keeps-clause-comes g c =
+pub enter-own-requires-clause-comes : goal.enter-own-requires-clause-comes
+enter-own-requires-clause-comes g c =
     let first = c.send_oldest-first.ensures in
     comes-on c.args.found (item_of c.args.key) A1IN (Some (A1OUT, 0)) _ _ _ (omega arith, omega arith) first.left first.spare first.others c.requires.a1in c.requires.comes
 
@@ -33,7 +33,7 @@ enter_for_oldest-requires-2-clause-off g c =
 pub returns-then-a1in-saturating_sub : goal.returns-then-a1in-saturating_sub
 returns-then-a1in-saturating_sub g c =
     let s : Queues = queues c.args.table.now in
-    let own = subst (λ q. IsOwn (goes q 0) (item_of c.args.key) s (queues c.enter-own.new.table) c.enter-own.result) c.queue_of-queue.ensures c.enter-own.ensures in
+    let own = subst (λ q. IsOwn (goes q 0) (item_of c.args.key) s (queues c.enter_apart-own.new.table) c.enter_apart-own.result) c.queue_of-queue.ensures c.enter_apart-own.ensures in
     rw (lt-ltb (length (s A1IN) + length (s AM)) c.args.capacity (omega (arith, c.len-a1in.ensures, c.len-am.ensures, c.saturating_sub.ensures, c.if-a1in-saturating_sub.true)))
     (c.missed.ensures no_leavers (goes (joins c.args.remembered) 0) (item_of c.args.key) s s _ (record { between = s; first = nothing-left s; second = nothing-left s; few = omega arith }) own)
 
@@ -54,7 +54,7 @@ returns-then-keeps g c =
     let gives : (nat_lt c.args.sizes.kin (length (s A1IN)) || length (s AM) == 0) ≡ true = rw (sym c.len-a1in.ensures, sym c.len-am.ensures) (sym c.a1in_gives.ensures ∙ c.if-not-a1in_gives.false) in
     let first = c.send_oldest-first.ensures in
     let stays = first.stays in
-    let own = subst (λ q. IsOwn (goes q 0) (item_of c.args.key) (queues c.send_oldest-first.new.self) (queues c.enter-own-then-keeps.new.table) c.enter-own-then-keeps.result) c.queue_of-queue.ensures c.enter-own-then-keeps.ensures in
+    let own = subst (λ q. IsOwn (goes q 0) (item_of c.args.key) (queues c.send_oldest-first.new.self) (queues c.enter-own.new.table) c.enter-own.result) c.queue_of-queue.ensures c.enter-own.ensures in
     rw (full, gives, sym c.a1out_keeps-keeps.ensures ∙ c.if-keeps.true)
     (c.missed-then-keeps.ensures (one_leaver (leaving A1IN (Some (A1OUT, 0)))) (goes (joins c.args.remembered) 0) (item_of c.args.key) s _ _
     (c.one-then-keeps.ensures (leaving A1IN (Some (A1OUT, 0))) s _ first.left (omega (arith, stays))) own)

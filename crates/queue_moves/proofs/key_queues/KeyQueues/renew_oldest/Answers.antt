@@ -32,9 +32,9 @@ invariant_of-self c =
 
 pub returns-in_default-clause-own : goal.returns-in_default-clause-own
 returns-in_default-clause-own c =
-    subst (λ (o : Option Entry). IsOwn (goes c.args.queue c.args.count) (item_of c.args.key) (departed None o (queues c.args.self.now)) (queues c.join_alone.new.self) c.join_alone.result)
+    subst (λ (o : Option Entry). IsOwn (goes c.args.queue c.args.count) (item_of c.args.key) (departed None o (queues c.args.self.now)) (queues c.join_apart.new.self) c.join_apart.result)
     (sym (ap oldest_of (ap (λ (x : List Slot). queues x c.args.from) (sym c.self.view_is) ∙ c.in_default.ensures.missing)))
-    c.join_alone.ensures.own
+    c.join_apart.ensures.own
 
 pub returns-clause-left : goal.returns-clause-left
 returns-clause-left c =
