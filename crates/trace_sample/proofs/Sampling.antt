@@ -61,9 +61,3 @@ sample-more inverse seed keys i d within = filter_more (is_sampled inverse seed)
 -- a set that a key was put into has it, and what it had
 pub put : (key q : ℕ) (b : Bool) → cond (key == q) true b ≡ (b || ((q == key) || false))
 put key q b = grind arith
-
--- a sample has no more accesses than there are
-pub sample-few : (inverse seed : ℕ) (keys : List ℕ) → length (sample_of inverse seed keys) ≤ length keys
-sample-few inverse seed keys =
-    let test = is_sampled inverse seed in
-    let both = length-filter_both test (λ k. not (test k)) (λ k. refl) keys in omega (arith, both)
