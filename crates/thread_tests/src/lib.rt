@@ -11,8 +11,6 @@ mod gates;
 #[cfg(test)]
 mod jobs;
 #[cfg(test)]
-mod long_tests;
-#[cfg(test)]
 mod quiet_run_tests;
 #[cfg(test)]
 mod reading_tests;

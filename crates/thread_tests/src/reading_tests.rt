@@ -18,17 +18,17 @@ use trace_read::{Format, Limits, TraceFault};
 /// A reader of a text so many times, in pieces of a size, that then ends or fails. It reads its last text only once a
 /// gate, where there is one, has seen two batches begin.
 #[derive(Drop)]
-pub(crate) struct Pieces<'a> {
+struct Pieces<'a> {
     text: &'a [u8],
     size: usize,
     place: usize,
     times: u32,
-    pub(crate) fails: bool,
+    fails: bool,
     gate: Option<&'a Hold>,
 }
 
 impl Pieces<'_> {
-    pub(crate) fn of(text: &str, size: usize, times: u32) -> Pieces<'_> {
+    fn of(text: &str, size: usize, times: u32) -> Pieces<'_> {
         Pieces {
             text: text.as_bytes(),
             size,
@@ -102,7 +102,7 @@ fn reports_are_made_while_a_text_is_read(rt: HostRuntime) -> Result<(), Fail> {
 }
 
 // At most three accesses.
-pub(crate) const THREE: Limits = Limits {
+const THREE: Limits = Limits {
     accesses: 3,
     bytes: 64,
 };
