@@ -8,10 +8,10 @@ use Rattle.step_record.specs.declared.job.Policy.TheVariants.{Lru, WindowTinyLfu
 use Rattle.step_record.specs.declared.config.Spread.TheVariants.{Mixed}
 use Rattle.trace_read.specs.declared.format.Format.TheVariants.{Lirs}
 use Rattle.trace_read.specs.declared.limits.TheConstants.Limits.{DEFAULT}
-use Rattle.command_line.specs.Choices.{format_words, policy_named, policy_words, spread_words}
+use Rattle.command_line.specs.Choices.{format_words, policy_named, policy_words, rate_named, rate_words, spread_words}
 use Rattle.command_line.specs.Program.{program_app}
-use Rattle.command_line.specs.Values.{asked_in, config_at, number_named, tuning_in, run_in}
-use Rattle.command_line.specs.declared.arguments.Arguments.TheVariants.{Run}
+use Rattle.command_line.specs.Values.{asked_in, config_at, number_named, tuning_in, run_in, sample_in}
+use Rattle.command_line.specs.declared.arguments.Arguments.TheVariants.{Run, Sample}
 use Rattle.command_line.specs.declared.choices.WordLists.{WordLists}
 
 abbrev at : List ℕ → Bor (List ℕ)
@@ -22,6 +22,7 @@ lists = record {
   policies = record { ref_ptr = (0, 0); now = map at policy_words };
   formats = record { ref_ptr = (0, 0); now = map at format_words };
   spreads = record { ref_ptr = (0, 0); now = map at spread_words };
+  rates = record { ref_ptr = (0, 0); now = map at rate_words };
 }
 
 abbrev words : List Text
@@ -42,9 +43,14 @@ named : asked_in (subcommand_of (program_app lists) words) ≡ Ok (Run (record {
 unfolding clap_on_literals lib.Count.ones config_at number_named tuning_in policy_named run_in
 named = refl
 
+sampled : asked_in (subcommand_of (program_app lists) (codes "sample" ∷ codes "--rate" ∷ codes "1/8" ∷ [])) ≡ Ok (Sample (record { inverse = 8; seed = 1; format = Lirs }))
+unfolding clap_on_literals lib.Count.ones number_named rate_named sample_in
+sampled = refl
+
 answered : (fault_of (program_app lists) (codes "run" ∷ codes "--help" ∷ []) ≡ kind.DisplayHelp ∷ [])
     × (fault_of (program_app lists) (codes "--version" ∷ []) ≡ kind.DisplayVersion ∷ [])
     × (fault_of (program_app lists) (codes "run" ∷ codes "--capacity" ∷ codes "0" ∷ codes "lru" ∷ []) ≡ kind.ValueValidation ∷ [])
     × (fault_of (program_app lists) (codes "run" ∷ codes "--capacity" ∷ codes "3" ∷ codes "mru" ∷ []) ≡ kind.InvalidValue ∷ [])
+    × (fault_of (program_app lists) (codes "sample" ∷ codes "--rate" ∷ codes "1/3" ∷ []) ≡ kind.InvalidValue ∷ [])
 unfolding clap_on_literals
-answered = (refl, refl, refl, refl)
+answered = (refl, refl, refl, refl, refl)

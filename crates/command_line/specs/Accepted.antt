@@ -12,7 +12,7 @@ use Rattle.step_record.specs.declared.worker.TheConstants.{MAX_WORKERS}
 use Rattle.trace_read.specs.declared.limits.TheConstants.{MAX_LONG_ACCESSES, MAX_LONG_TRACE_BYTES}
 use Rattle.command_line.specs.declared.arguments.Arguments.{Arguments}
 use Rattle.command_line.specs.declared.arguments.Arguments.TheVariants.{Compare, Debug, Drive, Intervals, Part}
-use Rattle.command_line.specs.declared.arguments.Arguments.TheVariants.{Replay, Run, Sweep}
+use Rattle.command_line.specs.declared.arguments.Arguments.TheVariants.{Replay, Run, Sample, Sweep}
 use Rattle.command_line.specs.declared.arguments.CompareArguments.{CompareArguments}
 use Rattle.command_line.specs.declared.arguments.DriveArguments.{DriveArguments}
 use Rattle.command_line.specs.declared.arguments.IntervalsArguments.{IntervalsArguments}
@@ -72,6 +72,7 @@ AreAccepted (Sweep sweep) = IsAcceptedSweep sweep
 AreAccepted (Intervals intervals) = AreAcceptedIntervals intervals
 AreAccepted (Part part) = IsAcceptedPart part
 AreAccepted (Compare compare) = IsAcceptedComparison compare
+AreAccepted (Sample sample) = 2 ≤ sample.inverse
 AreAccepted (Drive drive) = IsAcceptedDrive drive
 AreAccepted (Debug debug) = IsAcceptedPart debug.policies
 AreAccepted (Replay replay) = config_fault replay.config ≡ Ok tt

@@ -1,5 +1,5 @@
--- The words by which policies, formats and spreads are named on the command line.
-use Rattle.std.specs.Prelude.{◌≡◌, false, List, [], ◌∷◌, Option, Some, None, map, find}
+-- The words by which policies, formats, spreads and rates are named on the command line.
+use Rattle.std.specs.Prelude.{◌≡◌, ℕ, false, List, [], ◌∷◌, Option, Some, None, map, find, option_map}
 use Rattle.std.specs.Prelude.{codes, if◌then◌else◌}
 use Rattle.std.specs.Borrow.{Bor}
 use Rattle.std.specs.Option.{option_map_or}
@@ -26,6 +26,17 @@ format_words = format_word Lirs ∷ format_word Arc ∷ []
 abbrev pub spread_words : List Text
 spread_words = codes "mixed" ∷ codes "plain" ∷ []
 
+-- the rates of a sample: its word, and of how many blocks the sample has one
+abbrev pub rates : List (Text × ℕ)
+rates =
+    (codes "1/2", 2) ∷ (codes "1/4", 4) ∷ (codes "1/8", 8) ∷ (codes "1/16", 16) ∷ (codes "1/32", 32)
+    ∷ (codes "1/64", 64) ∷ (codes "1/128", 128) ∷ (codes "1/256", 256) ∷ (codes "1/512", 512) ∷ (codes "1/1024", 1024)
+    ∷ (codes "1/2048", 2048) ∷ (codes "1/4096", 4096) ∷ (codes "1/8192", 8192) ∷ (codes "1/16384", 16384) ∷ (codes "1/32768", 32768)
+    ∷ (codes "1/65536", 65536) ∷ (codes "1/131072", 131072) ∷ (codes "1/262144", 262144) ∷ (codes "1/524288", 524288) ∷ (codes "1/1048576", 1048576) ∷ []
+
+abbrev pub rate_words : List Text
+rate_words = map (λ rate. rate.0) rates
+
 -- these words, somewhere in memory
 abbrev pub AreWords : List Text → List (Bor Text) → Type 0
 AreWords words names = map (λ s. s.now) names ≡ words
@@ -35,6 +46,7 @@ pub record AreLists (lists : WordLists) : Type 0 where
   pub policies : AreWords policy_words lists.policies.now
   pub formats : AreWords format_words lists.formats.now
   pub spreads : AreWords spread_words lists.spreads.now
+  pub rates : AreWords rate_words lists.rates.now
 
 -- the policy that a word names
 unfoldable pub policy_named : Text → Option Policy
@@ -62,3 +74,7 @@ spread_named word = if option_map_or (λ w. bytes_eq w (codes "plain")) word fal
 -- the limits of a trace, by what clap has as the value of an option that has none: `true` where it is given
 abbrev pub limits_named : Option Text → Limits
 limits_named word = if option_map_or (λ w. bytes_eq w (codes "true")) word false then LONG else DEFAULT
+
+-- of how many blocks a sample has one at the rate that a word names
+unfoldable pub rate_named : Text → Option ℕ
+rate_named word = option_map (λ rate. rate.1) (find (λ rate. bytes_eq word rate.0) rates)

@@ -8,7 +8,8 @@ use Rattle.command_line.specs.declared.options.OptionName.{OptionName}
 use Rattle.command_line.specs.declared.options.OptionName.TheVariants.{Batch, Capacities, Capacity, ComparedEvery}
 use Rattle.command_line.specs.declared.options.OptionName.TheVariants.{Every, First, In, Out, Period, Small}
 use Rattle.command_line.specs.declared.options.OptionName.TheVariants.{Format, Journal, Limit, Long, Main, Policies, Second}
-use Rattle.command_line.specs.declared.options.OptionName.TheVariants.{Spread, Stripes, SweptPolicies, Trace, Workers}
+use Rattle.command_line.specs.declared.options.OptionName.TheVariants.{Rate, Seed, Spread, Stripes, SweptPolicies, Trace}
+use Rattle.command_line.specs.declared.options.OptionName.TheVariants.{Workers}
 use Rattle.command_line.specs.declared.options.OptionRow.{OptionRow}
 use Rattle.command_line.specs.declared.options.Place.{Place}
 use Rattle.command_line.specs.declared.options.Place.TheVariants.{Named, NamedOften, Optional, Positional, Switch}
@@ -55,6 +56,8 @@ row_of Stripes = row (codes "stripes") kind.AnyNumber Named (Some (codes "4"))
 row_of Limit = row (codes "limit") (kind.Number 1 MAX_JOURNAL_LIMIT) Named (Some (codes "1048576"))
 row_of Trace = row (codes "trace") kind.File Named None
 row_of Journal = row (codes "journal") kind.File Named None
+row_of Rate = row (codes "rate") kind.Rate Named None
+row_of Seed = row (codes "seed") kind.AnyNumber Named (Some (codes "1"))
 
 -- a subcommand: its name, and its options in the order in which help lists them
 pub record SubcommandDefinition : Type 0 where
@@ -75,6 +78,7 @@ subcommands =
     ∷ named (codes "part") (Capacity ∷ Main ∷ Small ∷ In ∷ Out ∷ Period ∷ Spread ∷ Format ∷ First ∷ Second ∷ [])
     ∷ named (codes "compare")
     (Capacity ∷ ComparedEvery ∷ Main ∷ Small ∷ In ∷ Out ∷ Period ∷ Spread ∷ Format ∷ First ∷ Second ∷ [])
+    ∷ named (codes "sample") (Rate ∷ Seed ∷ Format ∷ [])
     ∷ named (codes "drive") (Capacity ∷ Main ∷ Small ∷ In ∷ Out ∷ Period ∷ Spread ∷ Format ∷ Workers ∷ Stripes ∷ Limit ∷ [])
     ∷ named (codes "debug") (Capacity ∷ Main ∷ Small ∷ In ∷ Out ∷ Period ∷ Spread ∷ Format ∷ First ∷ Second ∷ Trace ∷ [])
     ∷ named (codes "replay") (Capacity ∷ Main ∷ Small ∷ In ∷ Out ∷ Period ∷ Spread ∷ Journal ∷ Stripes ∷ Limit ∷ [])

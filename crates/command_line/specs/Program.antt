@@ -15,7 +15,7 @@ use Rattle.command_line.specs.declared.options.Place.{Place}
 use Rattle.command_line.specs.declared.options.Place.TheVariants.{Named, NamedOften, Optional, Positional, Switch}
 use Rattle.command_line.specs.declared.options.ValueKind.{ValueKind}
 use Rattle.command_line.specs.declared.options.ValueKind.TheVariants.{AnyNumber, File, Flag, Format, Number, Policy}
-use Rattle.command_line.specs.declared.options.ValueKind.TheVariants.{Spread}
+use Rattle.command_line.specs.declared.options.ValueKind.TheVariants.{Rate, Spread}
 
 -- what clap takes as a value
 abbrev pub parser_of : WordLists → ValueKind → ValueParser
@@ -24,6 +24,7 @@ parser_of lists AnyNumber = parser.Unsigned 0 18446744073709551615
 parser_of lists Policy = parser.Names lists.policies
 parser_of lists Format = parser.Names lists.formats
 parser_of lists Spread = parser.Names lists.spreads
+parser_of lists Rate = parser.Names lists.rates
 parser_of lists File = parser.String
 parser_of lists Flag = parser.Bool
 

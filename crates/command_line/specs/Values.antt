@@ -18,7 +18,7 @@ use Rattle.trace_read.specs.declared.format.Format.{Format}
 use Rattle.trace_read.specs.declared.limits.Limits.{Limits}
 use Rattle.command_line.specs.Accepted.{needs_whole_trace}
 use Rattle.command_line.specs.Options.{row_of}
-use Rattle.command_line.specs.Choices.{all_named, format_named, limits_named, policy_named, spread_named}
+use Rattle.command_line.specs.Choices.{all_named, format_named, limits_named, policy_named, rate_named, spread_named}
 use Rattle.command_line.specs.declared.arguments.Arguments.{Arguments}
 use Rattle.command_line.specs.declared.arguments.Arguments.TheVariants as asked
 use Rattle.command_line.specs.declared.arguments.PartArguments.{PartArguments}
@@ -76,6 +76,10 @@ format_in rows = format_named (first_of (row_of option.Format).id rows)
 
 abbrev pub limits_in : List Row → Limits
 limits_in rows = limits_named (first_of (row_of option.Long).id rows)
+
+-- of how many blocks a sample has one
+abbrev pub rate_in : List Row → Option ℕ
+rate_in rows = option_and_then rate_named (first_of (row_of option.Rate).id rows)
 
 -- the policy that is given to an option
 abbrev pub policy_in : OptionName → List Row → Option Policy
@@ -175,6 +179,11 @@ unfoldable pub compare_in : List Row → Option Arguments
 compare_in rows = option_map (λ policies.
     asked.Compare (record { policies = policies; every = number_in option.ComparedEvery rows })) (part_in rows)
 
+unfoldable pub sample_in : List Row → Option Arguments
+sample_in rows = option_and_then (λ inverse. option_map (λ seed.
+    asked.Sample (record { inverse = inverse; seed = seed; format = format_in rows }))
+    (wide_number_in option.Seed rows)) (rate_in rows)
+
 unfoldable pub drive_in : List Row → Option Arguments
 drive_in rows = option_and_then (λ config. option_map (λ workers.
     asked.Drive (record { config = config; workers = workers; format = format_in rows }))
@@ -199,10 +208,11 @@ asked_of name rows = if bytes_eq name (codes "run") then run_in rows
     else (if bytes_eq name (codes "intervals") then intervals_in rows
     else (if bytes_eq name (codes "part") then option_map asked.Part (part_in rows)
     else (if bytes_eq name (codes "compare") then compare_in rows
+    else (if bytes_eq name (codes "sample") then sample_in rows
     else (if bytes_eq name (codes "drive") then drive_in rows
     else (if bytes_eq name (codes "debug") then debug_in rows
     else (if bytes_eq name (codes "replay") then replay_in rows
-    else None)))))))
+    else None))))))))
 
 -- a number of read buffers was given that no cache has
 abbrev pub has_wrong_stripes : List Row → Bool

@@ -2,7 +2,7 @@
 ghost use Rattle.std.specs.Prelude.{◌≡◌};
 ghost use Rattle.command_line.specs.Accepted.{AreAccepted, IsTuning, IsAcceptedPart, IsConfig};
 ghost use Rattle.command_line.specs.Values.{Answers, compare_in, concurrent_in, config_at, config_in, debug_in, drive_in};
-ghost use Rattle.command_line.specs.Values.{intervals_in, part_in, tuning_in, replay_in, run_in, sweep_in};
+ghost use Rattle.command_line.specs.Values.{intervals_in, part_in, tuning_in, replay_in, run_in, sample_in, sweep_in};
 
 use crate::fault::{ValueFault, ValueResult};
 use crate::lists::{CapacityList, FilePath, PolicyList};
@@ -25,6 +25,8 @@ pub enum Arguments {
     Part(PartArguments),
     /// `compare`
     Compare(CompareArguments),
+    /// `sample`
+    Sample(SampleArguments),
     /// `drive`
     Drive(DriveArguments),
     /// `debug`
@@ -98,6 +100,17 @@ pub struct CompareArguments {
     pub policies: PartArguments,
     /// How many accesses an interval has: 1 to `MAX_ACCESSES`. `None` for one row of the whole trace.
     pub every: Option<u32>,
+}
+
+/// The arguments of `sample`.
+#[derive(Clone, Copy)]
+pub struct SampleArguments {
+    /// The sample has one block in so many: a power of two from 2 to 2^20.
+    pub inverse: u32,
+    /// Another number gives other blocks.
+    pub seed: u64,
+    /// The format of the trace.
+    pub format: Format,
 }
 
 /// The arguments of `drive`.
@@ -216,6 +229,22 @@ pub(crate) fn compare(asked: &Matches<'_, '_>) -> ValueResult<Arguments>
     let policies = part(asked)?;
     let every = asked.optional_number(OptionName::ComparedEvery);
     Ok(Arguments::Compare(CompareArguments { policies, every }))
+}
+
+/// What `sample` is asked for by its matches.
+#[tactic(auto, unfolding(crate::specs::Values::sample_in))]
+pub(crate) fn sample(asked: &Matches<'_, '_>) -> ValueResult<Arguments>
+    ensures { Answers (sample_in asked.now) AreAccepted result }
+{
+    let inverse = asked.rate()?;
+    let seed = asked
+        .wide_number(OptionName::Seed)
+        .ok_or(ValueFault::Incomplete)?;
+    Ok(Arguments::Sample(SampleArguments {
+        inverse,
+        seed,
+        format: asked.format(),
+    }))
 }
 
 /// What `drive` is asked for by its matches.

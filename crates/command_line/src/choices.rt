@@ -1,10 +1,11 @@
-//! The words by which policies, formats and spreads are named.
-ghost use Rattle.std.specs.Prelude.{◌≡◌, ◌≤◌, find, option_map};
+//! The words by which policies, formats, spreads and rates are named.
+ghost use Rattle.std.specs.Prelude.{◌≡◌, ◌≤◌, IfSome, find, option_map};
 ghost use Rattle.std.specs.Str.{bytes_eq};
 ghost use Rattle.step_record.specs.Job.{word_of};
 ghost use Rattle.command_line.specs.Choices.{AreWords, format_named as format_by, format_words};
 ghost use Rattle.command_line.specs.Choices.{limits_named as limits_by};
 ghost use Rattle.command_line.specs.Choices.{policy_named as policy_by, policy_words, spread_named as spread_by};
+ghost use Rattle.command_line.specs.Choices.{rate_named as rate_by, rate_words};
 ghost use Rattle.command_line.specs.Choices.{spread_words};
 ghost use Rattle.trace_read.specs.declared.limits.TheConstants.{MAX_LONG_ACCESSES, MAX_LONG_TRACE_BYTES};
 
@@ -26,6 +27,7 @@ pub struct WordLists<'a> {
     pub policies: &'a [&'a str],
     pub formats: &'a [&'a str],
     pub spreads: &'a [&'a str],
+    pub rates: &'a [&'a str],
 }
 
 // How many policies there are.
@@ -50,6 +52,34 @@ pub(crate) fn spread_words() -> [&'static str; 2]
     ensures { AreWords spread_words result }
 {
     [MIXED, PLAIN]
+}
+
+/// The words that name the rates of a sample.
+pub(crate) fn rate_words() -> [&'static str; 20]
+    ensures { AreWords rate_words result }
+{
+    [
+        "1/2",
+        "1/4",
+        "1/8",
+        "1/16",
+        "1/32",
+        "1/64",
+        "1/128",
+        "1/256",
+        "1/512",
+        "1/1024",
+        "1/2048",
+        "1/4096",
+        "1/8192",
+        "1/16384",
+        "1/32768",
+        "1/65536",
+        "1/131072",
+        "1/262144",
+        "1/524288",
+        "1/1048576",
+    ]
 }
 
 // The first of the policies that the word names.
@@ -88,6 +118,37 @@ pub(crate) fn spread_named(word: Option<&str>) -> Spread
     match word {
         Some(word) if word == PLAIN => Spread::Plain,
         _ => Spread::Mixed,
+    }
+}
+
+/// The number of blocks of which a sample has one, at the rate that the word names.
+#[tactic(auto, unfolding(crate::specs::Choices::rate_named))]
+pub(crate) fn rate_named(word: &str) -> Option<u32>
+    ensures value { result ≡ rate_by word.now }
+    ensures some { IfSome result (λ inverse. 2 ≤ inverse) }
+{
+    match word {
+        "1/2" => Some(2),
+        "1/4" => Some(4),
+        "1/8" => Some(8),
+        "1/16" => Some(16),
+        "1/32" => Some(32),
+        "1/64" => Some(64),
+        "1/128" => Some(128),
+        "1/256" => Some(256),
+        "1/512" => Some(512),
+        "1/1024" => Some(1024),
+        "1/2048" => Some(2048),
+        "1/4096" => Some(4096),
+        "1/8192" => Some(8192),
+        "1/16384" => Some(16384),
+        "1/32768" => Some(32768),
+        "1/65536" => Some(65536),
+        "1/131072" => Some(131072),
+        "1/262144" => Some(262144),
+        "1/524288" => Some(524288),
+        "1/1048576" => Some(1048576),
+        _ => None,
     }
 }
 

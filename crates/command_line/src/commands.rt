@@ -14,7 +14,7 @@ use std::alloc::{AllocError, Global};
 // The version, which is the newest in `CHANGELOG.md`: `tools/check_manual` compares them.
 const VERSION: &str = "0.1.0";
 
-/// The program's commands, over the words that name policies, formats and spreads.
+/// The program's commands, over the words that name policies, formats, spreads and rates.
 pub(crate) fn program<'a>(alloc: Global, lists: &WordLists<'a>) -> Result<Command<'a>, AllocError>
     ensures { IfOk result (λ c. app_of c ≡ program_app lists.now) }
 {
@@ -115,6 +115,7 @@ fn parser<'a>(value: ValueKind, lists: &WordLists<'a>) -> ValueParser<'a>
         ValueKind::Policy => ValueParser::Names(lists.policies),
         ValueKind::Format => ValueParser::Names(lists.formats),
         ValueKind::Spread => ValueParser::Names(lists.spreads),
+        ValueKind::Rate => ValueParser::Names(lists.rates),
         ValueKind::File => ValueParser::String,
         ValueKind::Flag => ValueParser::Bool,
     }

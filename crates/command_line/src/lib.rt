@@ -19,7 +19,7 @@ mod values;
 
 pub use arguments::{
     Arguments, CompareArguments, DebugArguments, DriveArguments, IntervalsArguments, PartArguments,
-    ReplayArguments, RunArguments, SweepArguments,
+    ReplayArguments, RunArguments, SampleArguments, SweepArguments,
 };
 pub use fault::ParseFault;
 pub use lists::{CapacityList, FilePath, NamedList, PolicyList};

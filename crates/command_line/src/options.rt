@@ -5,7 +5,8 @@ ghost use Rattle.command_line.specs.Options.{defined, row_of};
 
 use OptionName::{
     Batch, Capacities, Capacity, ComparedEvery, Every, First, Format, In, Journal, Limit, Long,
-    Main, Out, Period, Policies, Second, Small, Spread, Stripes, SweptPolicies, Trace, Workers,
+    Main, Out, Period, Policies, Rate, Second, Seed, Small, Spread, Stripes, SweptPolicies, Trace,
+    Workers,
 };
 use step_record::{
     MAX_ACCESSES, MAX_BATCH, MAX_CAPACITY, MAX_GHOST_PERCENT, MAX_JOURNAL_LIMIT, MAX_MAIN_PERCENT,
@@ -66,6 +67,8 @@ pub enum OptionName {
     Limit,
     Trace,
     Journal,
+    Rate,
+    Seed,
 }
 
 impl OptionName {
@@ -90,6 +93,8 @@ pub enum ValueKind {
     Format,
     /// The word of a spread.
     Spread,
+    /// The word of a rate of a sample.
+    Rate,
     /// The path of a file.
     File,
     /// None: whether the option is given is all.
@@ -112,7 +117,7 @@ pub enum Place {
 }
 
 /// All subcommands, in the order in which help lists them.
-pub static SUBCOMMANDS: [Subcommand; 8] = [
+pub static SUBCOMMANDS: [Subcommand; 9] = [
     Subcommand {
         name: "run",
         about: "Runs policies over the trace on standard input and prints a report of each",
@@ -185,6 +190,15 @@ redirection (< FILE) or a pipe.",
         ],
     },
     Subcommand {
+        name: "sample",
+        about: "Writes a sample of the trace on standard input: all accesses to one block in N",
+        whole: "Writes a sample of the trace on standard input, a block number a line: all accesses to one block in N, and
+none to the others. The trace may have 4294967295 accesses and 2^40 bytes; it comes by a redirection (< FILE)
+or a pipe. At its end a line on standard error says what the sample is.",
+        example: "Example: cachesim sample --rate 1/8 < trace.lirs > eighth.lirs",
+        options: &[Rate, Seed, Format],
+    },
+    Subcommand {
         name: "drive",
         about: "Runs the concurrent cache on threads over the trace on standard input and prints its journal",
         whole: "Runs the concurrent cache on threads over the trace on standard input and prints its journal, which
@@ -219,7 +233,7 @@ Give --capacity, --stripes, --main, --spread and --limit as they were given to `
 ];
 
 // The options, in the order of their names.
-static OPTIONS: [OptionRow; 22] = [
+static OPTIONS: [OptionRow; 24] = [
     OptionRow {
         id: "capacity",
         value_name: "N",
@@ -395,5 +409,21 @@ static OPTIONS: [OptionRow; 22] = [
         value: ValueKind::File,
         place: Place::Named,
         default: None,
+    },
+    OptionRow {
+        id: "rate",
+        value_name: "1/N",
+        help: "How many of the blocks: one in N, by a hash of its number",
+        value: ValueKind::Rate,
+        place: Place::Named,
+        default: None,
+    },
+    OptionRow {
+        id: "seed",
+        value_name: "S",
+        help: "Another number keeps other blocks, from 0 to 18446744073709551615",
+        value: ValueKind::AnyNumber,
+        place: Place::Named,
+        default: Some("1"),
     },
 ];

@@ -5,8 +5,10 @@ ghost use Rattle.command_line.specs.Accepted.{AreAccepted, needs_whole_trace};
 ghost use Rattle.command_line.specs.ParseResult.{IsAskedFor, ParsedBy};
 ghost use Rattle.command_line.specs.Values.{Answers, asked_in, asked_of, has_wrong_stripes};
 
-use crate::arguments::{Arguments, compare, debug, drive, intervals, part, replay, run, sweep};
-use crate::choices::{WordLists, format_words, policy_words, spread_words};
+use crate::arguments::{
+    Arguments, compare, debug, drive, intervals, part, replay, run, sample, sweep,
+};
+use crate::choices::{WordLists, format_words, policy_words, rate_words, spread_words};
 use crate::commands::program;
 use crate::fault::{ParseFault, ValueFault, ValueResult};
 use crate::options::OptionName;
@@ -28,10 +30,12 @@ pub fn parse(alloc: Global, words: &[&str]) -> Result<Arguments, ParseFault>
     let policies = policy_words();
     let formats = format_words();
     let spreads = spread_words();
+    let rates = rate_words();
     let lists = WordLists {
         policies: policies.as_slice(),
         formats: formats.as_slice(),
         spreads: spreads.as_slice(),
+        rates: rates.as_slice(),
     };
     let program = program(alloc, &lists)?;
     let matches = program.try_get_matches_from(words)?;
@@ -69,6 +73,7 @@ fn arguments_of(alloc: Global, name: &str, asked: &Matches<'_, '_>) -> ValueResu
         "intervals" => intervals(alloc, asked),
         "part" => part(asked).map(Arguments::Part),
         "compare" => compare(asked),
+        "sample" => sample(asked),
         "drive" => drive(asked),
         "debug" => debug(alloc, asked),
         "replay" => replay(alloc, asked),

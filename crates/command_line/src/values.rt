@@ -8,12 +8,12 @@ ghost use Rattle.command_line.specs.Choices.{all_named, policy_named as policy_b
 ghost use Rattle.command_line.specs.Options.{row_of};
 ghost use Rattle.command_line.specs.Values.{Answers, AnswersWith, IsIn, capacities_in, format_in, in_range as within};
 ghost use Rattle.command_line.specs.Values.{limits_in, number_in};
-ghost use Rattle.command_line.specs.Values.{number_named as number_by, policies_in, policy_in, spread_in};
+ghost use Rattle.command_line.specs.Values.{number_named as number_by, policies_in, policy_in, rate_in, spread_in};
 ghost use Rattle.command_line.specs.Values.{stripes_from as stripes_by, value_named as value_by, wide_number_in};
 ghost use Rattle.command_line.specs.declared.options.OptionName.TheVariants.{Capacities};
 ghost use Rattle.trace_read.specs.declared.limits.TheConstants.{MAX_LONG_ACCESSES, MAX_LONG_TRACE_BYTES};
 
-use crate::choices::{format_named, limits_named, policy_named, spread_named};
+use crate::choices::{format_named, limits_named, policy_named, rate_named, spread_named};
 use crate::fault::{ValueFault, ValueResult};
 use crate::lists::{CapacityList, FilePath, NamedList, PolicyList};
 use crate::options::{OptionName, ValueKind};
@@ -74,6 +74,15 @@ impl<'m, 'a> Matches<'m, 'a> {
         ensures { result ≡ format_in self.now }
     {
         format_named(self.word(OptionName::Format))
+    }
+
+    /// The number of blocks of which a sample has one.
+    pub(crate) fn rate(&self) -> ValueResult<u32>
+        ensures { Answers (rate_in self.now) (λ inverse. 2 ≤ inverse) result }
+    {
+        self.word(OptionName::Rate)
+            .and_then(rate_named)
+            .ok_or(ValueFault::Incomplete)
     }
 
     /// The most accesses and bytes of the trace.
