@@ -5,10 +5,12 @@ use Rattle.journal_text.specs.declared.fault.JournalFault.{JournalFault}
 use Rattle.journal_text.specs.declared.fault.JournalFault.TheVariants as reading
 use Rattle.debug_commands.specs.declared.fault.DebugFault.{DebugFault}
 use Rattle.debug_commands.specs.declared.fault.DebugFault.TheVariants as debug
+use Rattle.trace_sample.specs.declared.fault.SampleFault.{SampleFault}
+use Rattle.trace_sample.specs.declared.fault.SampleFault.TheVariants as sample
 use Rattle.cachesim.specs.declared.files.FileFault.{FileFault}
 use Rattle.cachesim.specs.declared.files.FileFault.TheVariants as file
 use Rattle.cachesim.specs.declared.fault.Fault.{Fault}
-use Rattle.cachesim.specs.declared.fault.Fault.TheVariants.{Debug, Journal, NoFile, OutOfMemory, Write}
+use Rattle.cachesim.specs.declared.fault.Fault.TheVariants.{Debug, Journal, NoFile, OutOfMemory, Trace, Write}
 
 abbrev pub of_write : WriteFault → Fault
 of_write write.OutOfMemory = OutOfMemory
@@ -25,3 +27,7 @@ of_reading other = Journal other
 abbrev pub of_debug : DebugFault → Fault
 of_debug debug.OutOfMemory = OutOfMemory
 of_debug other = Debug other
+
+abbrev pub of_sample : SampleFault → Fault
+of_sample (sample.Trace fault) = Trace fault
+of_sample sample.Write = Write

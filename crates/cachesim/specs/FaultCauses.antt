@@ -10,7 +10,7 @@ use Rattle.policies.specs.declared.job_checks.TheConstants.{MAX_ACTORS}
 use Rattle.trace_read.specs.TraceText.{fault_within}
 use Rattle.trace_read.specs.declared.format.Format.{Format}
 use Rattle.trace_read.specs.declared.limits.Limits.{Limits}
-use Rattle.trace_read.specs.declared.limits.TheConstants.Limits.{DEFAULT}
+use Rattle.trace_read.specs.declared.limits.TheConstants.Limits.{DEFAULT, LONG}
 use Rattle.trace_read.specs.declared.fault.TraceFault.{TraceFault}
 use Rattle.trace_read.specs.declared.fault.TraceFault.TheVariants as trace
 use Rattle.journal_text.specs.Faults.{IsFault}
@@ -22,6 +22,7 @@ use Rattle.command_line.specs.declared.arguments.Arguments.{Arguments}
 use Rattle.command_line.specs.declared.arguments.Arguments.TheVariants as asked
 use Rattle.cachesim.specs.DebugOutput.{Answering, AnsweringBegun, Debugging, KnownFiles, Replaying}
 use Rattle.cachesim.specs.DriveOutput.{LeavesDrive}
+use Rattle.cachesim.specs.SampleOutput.{IsPartSampled}
 use Rattle.streams.specs.declared.tally.Tally.{Tally}
 use Rattle.cachesim.specs.FaultLine.{IsReported}
 use Rattle.cachesim.specs.Outcome.{AsksForSome, AsksHelp}
@@ -88,6 +89,7 @@ IsFound (asked.Intervals intervals) files input fault =
     IfSome input (IsFoundIn intervals.format (IsTooMany intervals.policies) fault)
 IsFound (asked.Part part) files input fault = IfSome input (IsFoundIn part.format (λ f. ⊥) fault)
 IsFound (asked.Compare compare) files input fault = IfSome input (IsFoundIn compare.policies.format (λ f. ⊥) fault)
+IsFound (asked.Sample sample) files input fault = IfSome input (IsFoundWithin LONG sample.format (λ f. ⊥) fault)
 IsFound (asked.Drive drive) files input fault = IfSome input (IsFoundIn drive.format (λ f. f ≡ JournalFull) fault)
 IsFound (asked.Debug debug) files input fault = IsFoundInFile (files debug.trace)
     (IsFoundIn debug.policies.format (IsOfCommands input)) fault
@@ -111,9 +113,11 @@ abbrev pub LeavesAnswers : Type 0 → Type 0 → Fault → Type 0 → Type 0
 LeavesAnswers Answered Begun (Debug large.TooLarge) Kept = Answered
 LeavesAnswers Answered Begun fault Kept = (IsBeforeOutput fault → Kept) × (Kept ⊎ Begun)
 
--- What is left at this fault of the arguments' subcommand. Those that ask for a text write once, at their end.
+-- What is left at this fault of the arguments' subcommand: a beginning of the sample by `sample`. Those that ask for a
+-- text write once, at their end.
 abbrev pub Leaves : Arguments → KnownFiles → Fault → Option (List ℕ) → Option (List ℕ) → Option (List ℕ)
     → Type 0 → Type 0
+Leaves (asked.Sample sample) files fault input before after Kept = IsPartSampled sample input before after
 Leaves (asked.Drive drive) files fault input before after Kept =
     LeavesDrive drive.config drive.workers drive.format fault input before after Kept
 Leaves (asked.Debug debug) files fault input before after Kept = LeavesAnswers

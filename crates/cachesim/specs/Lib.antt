@@ -5,5 +5,6 @@ pub mod Fault
 pub mod FaultCauses
 pub mod FaultLine
 pub mod Outcome
+pub mod SampleOutput
 pub mod TraceOutput
 pub mod WorkerReads

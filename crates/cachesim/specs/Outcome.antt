@@ -1,5 +1,5 @@
 -- What the program has done at its end, by status.
-use Rattle.std.specs.Prelude.{◌≡◌, ◌⊎◌, ℕ, true, List, Option, Ok, Err, codes}
+use Rattle.std.specs.Prelude.{◌≡◌, ◌⊎◌, ℕ, true, List, Option, IfSome, Ok, Err, codes}
 use Rattle.std.specs.Io.KnownBytes.{Appends}
 use Rattle.clap.specs.Words.{IsAmong, Kinds, Text}
 use Rattle.clap.specs.declared.error.ErrorKind.{ErrorKind}
@@ -13,11 +13,13 @@ use Rattle.streams.specs.declared.tally.Tally.{Tally}
 use Rattle.cachesim.specs.FaultLine.{WritesLine}
 use Rattle.cachesim.specs.DebugOutput.{Answering, Debugging, KnownFiles, Replaying}
 use Rattle.cachesim.specs.DriveOutput.{IsDriven}
+use Rattle.cachesim.specs.SampleOutput.{IsSampled, sample_line}
 use Rattle.cachesim.specs.TraceOutput.{IsTextOf}
+use Rattle.trace_read.specs.TraceText.{keys_in}
 
 -- What these arguments ask for is done: `drive` has written the journal of its workers' walks in an empty cache;
--- `debug` and `replay` have answered the commands of the input about the trace or the journal of the file; and each
--- other has written the text that it asks for.
+-- `debug` and `replay` have answered the commands of the input about the trace or the journal of the file; `sample`
+-- has written the accesses that it keeps; and each other has written the text that it asks for.
 abbrev pub IsDone : Arguments → KnownFiles → Option (List ℕ) → Option (List ℕ) → Option (List ℕ) → Type 0
 IsDone (asked.Drive drive) files input before after =
     IsDriven drive.config drive.workers drive.format input before after
@@ -25,8 +27,16 @@ IsDone (asked.Debug debug) files input before after =
     Debugging (Answering true input before after) debug.policies (files debug.trace)
 IsDone (asked.Replay replay) files input before after =
     Replaying (Answering true input before after) replay.config (files replay.journal)
+IsDone (asked.Sample sample) files input before after = IsSampled sample input before after
 IsDone arguments files input before after =
     (text : List ℕ) × IsTextOf arguments input text × Appends before after text
+
+-- What is said on the fault output with status 0, from `silent` to `line`: by `sample` the line that says what it wrote,
+-- all of it, or a beginning where that output failed, which counted `old` and `new`; by no other anything.
+abbrev pub IsSaid : Arguments → Option (List ℕ) → Tally → Tally → Option (List ℕ) → Option (List ℕ) → Type 0 → Type 0
+IsSaid (asked.Sample sample) input old new silent line Silent =
+    IfSome input (λ bytes. WritesLine old new silent line (sample_line sample (keys_in sample.format bytes)))
+IsSaid arguments input old new silent line Silent = Silent
 
 -- the words ask for these arguments, and P holds of them
 abbrev pub AsksForSome : List Text → (Arguments → Type 0) → Type 0
@@ -42,10 +52,12 @@ AsksHelp kinds = (kind : ErrorKind) × is_help kind × IsAmong kind kinds
 abbrev pub RefusesWords : Kinds → Type 0
 RefusesWords kinds = (kind : ErrorKind) × (¬ is_help kind) × IsAmong kind kinds
 
--- status 0: the words are taken, and what they ask for is done, or they ask for help
-abbrev pub DoneBy : List Text → KnownFiles → Option (List ℕ) → Option (List ℕ) → Option (List ℕ) → Type 0
-DoneBy words files input before after =
-    AsksForSome words (λ arguments. IsDone arguments files input before after) ⊎ IsRefused words AsksHelp
+-- Status 0: the words are taken, and what they ask for is done and said, or they ask for help.
+abbrev pub DoneBy : List Text → KnownFiles → Option (List ℕ) → Option (List ℕ) → Option (List ℕ)
+    → Tally → Tally → Option (List ℕ) → Option (List ℕ) → Type 0 → Type 0
+DoneBy words files input before after old new silent line Silent =
+    AsksForSome words (λ arguments. IsDone arguments files input before after
+    × IsSaid arguments input old new silent line Silent) ⊎ (IsRefused words AsksHelp × Silent)
 
 -- the line of arguments that are incomplete
 abbrev pub usage_line : ParseFault → List ℕ

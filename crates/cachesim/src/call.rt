@@ -53,21 +53,23 @@ pub fn command<
     watch: &P,
 ) -> u8
     ensures status { result ≤ REFUSED }
-    // With status 0 the words are taken as `run`, `sweep`, `intervals`, `part`, `compare` or `drive`, the bytes
+    // With status 0 the words are taken as `run`, `sweep`, `intervals`, `part`, `compare`, `sample` or `drive`, the bytes
     // read have no fault, and those written are the text of the report of each policy, or of the policy at each
     // capacity, that the words name, or of the rows of each policy, or the line of the access at which two
-    // policies part, or the row of what is counted of both, or the journal of the walks by which the workers read
-    // the accesses in turn, in an empty cache; or the words are taken as `debug` or `replay`, the file that they name
-    // is a trace or a journal without a fault, and the bytes written are the answers to the commands read; or the words
-    // ask for help.
+    // policies part, or the row of what is counted of both, or the accesses to the blocks of the sample, or the journal
+    // of the walks by which the workers read the accesses in turn, in an empty cache; or the words are taken as `debug`
+    // or `replay`, the file that they name is a trace or a journal without a fault, and the bytes written are the
+    // answers to the commands read; or the words ask for help. The fault output is as it was, but for `sample`, whose
+    // line says what it wrote.
     ensures done { result ≡ DONE → DoneBy (map (λ s. s.now) words.now) (F.known files.now) (R.remaining input.old)
-        (W.contents out.old) (W.contents out.new) }
-    ensures silent { result ≡ DONE → fault_out.new ≡ fault_out.old }
+        (W.contents out.old) (W.contents out.new) (X.tally fault_out.old) (X.tally fault_out.new)
+        (X.contents fault_out.old) (X.contents fault_out.new) (fault_out.new ≡ fault_out.old) }
     // With status 1 a fault was found: one of the machine, or that of the words, the trace or the journal. Its line
     // was written to the fault output, whole unless a write or the flush of that output failed. What is found before
     // anything is written, as a faulty line of a trace, leaves the output as it was, and so does every fault of
-    // `run`, `sweep`, `intervals`, `part` and `compare` but a failed write. A run of workers that was stopped has its
-    // journal written. A call of the input or the output failed just where that fault says so.
+    // `run`, `sweep`, `intervals`, `part` and `compare` but a failed write. `sample` has written a beginning of its
+    // text. A run of workers that was stopped has its journal written. A call of the input or the output failed just
+    // where that fault says so.
     ensures faulted { result ≡ FAULT → EndsInFault (map (λ s. s.now) words.now) (F.known files.now)
         (X.tally fault_out.old) (X.tally fault_out.new) (R.remaining input.old) (W.contents out.old) (W.contents out.new)
         (X.contents fault_out.old) (X.contents fault_out.new) (out.new ≡ out.old) (λ fault. BlamesCalls fault
@@ -90,7 +92,7 @@ pub fn command<
         Err(ParseFault::WholeTrace) => return report_usage_error(WHOLE_TRACE, fault_out),
         Err(ParseFault::Incomplete) => return report_usage_error(INCOMPLETE, fault_out),
     };
-    let done = perform(rt, alloc, &arguments, input, out, files, watch);
+    let done = perform(rt, alloc, &arguments, input, out, fault_out, files, watch);
     drop(arguments);
     match done {
         Ok(()) => DONE,

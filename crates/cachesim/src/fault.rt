@@ -1,6 +1,6 @@
 //! Why a subcommand printed no result.
 ghost use Rattle.std.specs.Prelude.{◌≡◌, IfErr, MatchResult, Ok};
-ghost use Rattle.cachesim.specs.Fault.{of_debug, of_file, of_reading, of_write};
+ghost use Rattle.cachesim.specs.Fault.{of_debug, of_file, of_reading, of_sample, of_write};
 ghost use Rattle.cachesim.specs.declared.fault.Fault.TheVariants.{OutOfMemory, Trace};
 
 use crate::files::FileFault;
@@ -11,6 +11,7 @@ use std::alloc::AllocError;
 use std::fmt;
 use streams::WriteFault;
 use trace_read::TraceFault;
+use trace_sample::SampleFault;
 
 /// Why a subcommand printed no result. It is displayed as the program prints it after `fault: `.
 #[derive(Clone, Copy)]
@@ -90,6 +91,17 @@ impl From<WriteFault> for Fault {
         match fault {
             WriteFault::OutOfMemory => Fault::OutOfMemory,
             WriteFault::Write => Fault::Write,
+        }
+    }
+}
+
+impl From<SampleFault> for Fault {
+    ghost from_gives = { λ fault e. e ≡ of_sample fault };
+
+    fn from(fault: SampleFault) -> Fault {
+        match fault {
+            SampleFault::Trace(fault) => Fault::Trace(fault),
+            SampleFault::Write => Fault::Write,
         }
     }
 }

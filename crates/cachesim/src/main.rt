@@ -16,6 +16,7 @@ mod host;
 mod limits;
 mod perform;
 mod reports;
+mod sample;
 #[cfg(test)]
 mod tests;
 

@@ -6,13 +6,14 @@ ghost use Rattle.streams.specs.Tally.{FailsWhere};
 ghost use Rattle.streams.specs.declared.tally.Tally.{Tally};
 ghost use Rattle.cachesim.specs.CallFaults.{IsOfRead, IsOfWrite};
 ghost use Rattle.cachesim.specs.FaultCauses.{IsDue, Leaves};
-ghost use Rattle.cachesim.specs.Outcome.{IsDone};
+ghost use Rattle.cachesim.specs.Outcome.{IsDone, IsSaid};
 
 use crate::debug::{debug, replay};
 use crate::drive::drive;
 use crate::fault::Fault;
 use crate::files::Files;
 use crate::reports::{compare, intervals, part, run, sweep};
+use crate::sample::sample;
 use command_line::Arguments;
 use progress::Watch;
 use std::alloc::Global;
@@ -21,14 +22,22 @@ use std::thread::Threads;
 use streams::{CountedRead, CountedWrite};
 use trace_read::read_trace;
 
-/// Does what the arguments ask for, over an input and an output. `debug` and `replay` read a file too; all others are
-/// watched.
-pub fn perform<T: Threads + Wait + Sync, R: CountedRead, W: CountedWrite, F: Files, P: Watch>(
+/// Does what the arguments ask for, over an input and an output; `sample` says on the fault output what it wrote.
+/// `debug` and `replay` read a file too; all others are watched.
+pub fn perform<
+    T: Threads + Wait + Sync,
+    R: CountedRead,
+    W: CountedWrite,
+    X: CountedWrite,
+    F: Files,
+    P: Watch,
+>(
     rt: &T,
     alloc: Global,
     arguments: &Arguments,
     input: &mut R,
     out: &mut W,
+    fault_out: &mut X,
     files: &F,
     watch: &P,
 ) -> Result<(), Fault>
@@ -36,6 +45,10 @@ pub fn perform<T: Threads + Wait + Sync, R: CountedRead, W: CountedWrite, F: Fil
     requires kept { needs_whole_trace arguments.now ≡ false }
     ensures done { OnOk result (IsDone arguments.now (F.known files.now) (R.remaining input.old) (W.contents out.old)
         (W.contents out.new)) }
+    ensures said { OnOk result (IsSaid arguments.now (R.remaining input.old) (X.tally fault_out.old)
+        (X.tally fault_out.new) (X.contents fault_out.old) (X.contents fault_out.new)
+        (fault_out.new ≡ fault_out.old)) }
+    ensures silent { IfErr result (λ fault. fault_out.new ≡ fault_out.old) }
     ensures leaves { IfErr result (λ fault. Leaves arguments.now (F.known files.now) fault (R.remaining input.old)
         (W.contents out.old) (W.contents out.new) (out.new ≡ out.old)) }
     ensures fault { IfErr result (IsDue arguments.now (F.known files.now) (R.remaining input.old)) }
@@ -61,6 +74,7 @@ pub fn perform<T: Threads + Wait + Sync, R: CountedRead, W: CountedWrite, F: Fil
             let trace = read_trace(alloc, input, arguments.policies.format)?;
             write_text(compare(rt, alloc, arguments, &trace, watch), out)
         }
+        Arguments::Sample(arguments) => sample(alloc, arguments, input, out, fault_out, watch),
         Arguments::Drive(arguments) => drive(rt, alloc, arguments, input, out, watch),
         Arguments::Debug(arguments) => debug(rt, alloc, arguments, input, out, files),
         Arguments::Replay(arguments) => replay(alloc, arguments, input, out, files),

@@ -15,6 +15,7 @@ use Rattle.streams.proofs.Tallies.{uncalled}
 use Rattle.cachesim.specs.CallFaults.{AreServed, BlamesCalls, IsOfRead, IsOfWrite}
 use Rattle.cachesim.specs.declared.fault.Fault.{Fault}
 use Rattle.cachesim.specs.declared.fault.Fault.TheVariants.{Debug, Trace, Write, OutOfMemory}
+use Rattle.cachesim.specs.FaultLine.{IsReported}
 use Rattle.cachesim.specs.Outcome.{AsksHelp, RefusesWords, is_help}
 use Rattle.cachesim.proofs.call.command.Goals as goal
 
@@ -62,7 +63,7 @@ helped_by words e p h = record { lists = p.lists; are = p.are; refused = (kind_o
 pub returns-in-Err-Refused-clause-done : goal.returns-in-Err-Refused-clause-done
 returns-in-Err-Refused-clause-done g c zero =
     let p = parsed _ _ _ (c.in-Err-Refused.is ∙ ap Err c.in-Err-Refused.field-0-is) c.parse.ensures.parsed in
-    inr (helped_by _ c.in-Err-Refused.error p (c.answer_help.ensures.done zero))
+    inr (helped_by _ c.in-Err-Refused.error p (c.answer_help.ensures.done zero), c.answer_help.ensures.silent zero)
 
 pub returns-in-Err-Refused-clause-refused : goal.returns-in-Err-Refused-clause-refused
 returns-in-Err-Refused-clause-refused g c two =
@@ -108,15 +109,22 @@ returns-in-Err-OutOfMemory-clause-faulted g c one = record {
 
 pub returns-in-Ok-done-clause-done : goal.returns-in-Ok-done-clause-done
 returns-in-Ok-done-clause-done g c zero =
-    inl (c.in-Ok.arguments, parsed _ _ _ c.in-Ok.is c.parse.ensures.parsed, IfOk-at_ok _ c.in-Ok-done.is c.perform-done.ensures.done)
+    inl (
+      c.in-Ok.arguments,
+      parsed _ _ _ c.in-Ok.is c.parse.ensures.parsed,
+      (IfOk-at_ok _ c.in-Ok-done.is c.perform-done.ensures.done, IfOk-at_ok _ c.in-Ok-done.is c.perform-done.ensures.said),
+    )
 
 pub returns-in-Err-clause-faulted : goal.returns-in-Err-clause-faulted
 returns-in-Err-clause-faulted g c one =
     let due = IfErr-at_err _ c.in-Err.is c.perform-done.ensures.fault in
     let leaves = IfErr-at_err _ c.in-Err.is c.perform-done.ensures.leaves in
+    let silent : c.perform-done.new.fault_out ≡ c.args.fault_out.now = IfErr-at_err _ c.in-Err.is c.perform-done.ensures.silent in
+    let line = c.report_fault-in-Err.new.fault_out in
     record {
       fault = c.in-Err.fault;
-      reported = c.report_fault-in-Err.ensures.reported;
+      reported = subst (λ o. IsReported c.in-Err.fault (g.X.CountedWrite.tally o) (g.X.CountedWrite.tally line) (g.X.CountedWrite.contents o)
+          (g.X.CountedWrite.contents line)) silent c.report_fault-in-Err.ensures.reported;
       ended = inl (c.in-Ok.arguments, parsed _ _ _ c.in-Ok.is c.parse.ensures.parsed, record { due = due; leaves = leaves });
       blames = blamed_at _ _ _ _ c.perform-done.result _ c.in-Err.is c.perform-done.ensures.reads c.perform-done.ensures.writes;
     }
