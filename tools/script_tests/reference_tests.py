@@ -10,6 +10,8 @@ CALLS = [
     (0, "sweep", "--policy", "lru", "--policy=2q", 3, 20, 5), (0, "sweep", 9, "--policy", "wtinylfu", "--main", 0),
     (0, "intervals", *CACHE, "--every", 70, "lru", "arc"), (0, "part", *CACHE, *PAIR), (0, "compare", *CACHE, *PAIR),
     (0, "compare", *CACHE, *PAIR, "--every", 70, "--main", 50), (1, "run", *CACHE, *["lru"] * 65),
+    (0, "sample", "--rate", "1/4"), (0, "sample", "--rate=1/2", "--seed", 2**64 - 1, "--format", "arc"),
+    (2, "sample"), (2, "sample", "--rate", "1/3"), (2, "sample", "--rate", "1/2", "--seed", 2**64),
     (2, "run", "lru"), (2, "run", "--capacity", 0, "lru"), (2, "run", *CACHE), (2, "sweep", "--policy", "lru"), (2, "debug"),
     (2, "intervals", *CACHE, "lru"), (2, "part", *CACHE, "--first", "lru"), (2, "run", *CACHE, "--main", 100, "lru"), (2, "walk")]
 TEXTS = [(1, "lirs", "5\n7 x\n"), (1, "arc", "5 1\n\n7\n"), (1, "arc", "5 1\n-7 1\n"), (1, "arc", "18446744073709551615 2\n"),
@@ -40,5 +42,6 @@ MISTAKES = {
     "a spread that is not handed on": Mistake(check_beside_program, "reference", "**vars(args)}", '**vars(args), "spread": "mixed"}'),
     "the second policy as the first": Mistake(check_beside_program, "reference", "reference.compare(keys, args.first, args.second",
                                               "reference.compare(keys, args.second, args.first"),
+    "a sample by one seed": Mistake(check_beside_program, "reference", "args.seed)", "1)"),
     "more policies than a call takes": Mistake(check_beside_program, "reference", "> MAX_POLICIES", "> 99"),
 }
