@@ -1,4 +1,4 @@
-"""Samples of traces, for the scripts of tools/: what tools/sample says of one, and which trace one can be a sample of."""
+"""Samples of traces, for the scripts of tools/: what is said of one, and which trace one can be a sample of."""
 import argparse
 import re
 from collections import namedtuple
@@ -6,11 +6,6 @@ from collections import namedtuple
 # What is known of a sample: the N of its rate 1/N, how many accesses the whole trace has, and how many it has itself.
 Sample = namedtuple("Sample", "inverse accesses kept", defaults=(None, None))
 SAID = re.compile(r"([0-9]+) of ([1-9][0-9]*) accesses, [0-9]+ blocks: --sampled (1/[0-9]+) --accesses \2")
-
-
-def said_of(kept, blocks, sample):
-    """What tools/sample says of its sample."""
-    return f"{kept} of {sample.accesses} accesses, {blocks} blocks: --sampled 1/{sample.inverse} --accesses {sample.accesses}"
 
 
 def inverse_of_rate(text):
@@ -24,7 +19,7 @@ def inverse_of_rate(text):
 
 
 def named(text):
-    """The sample that --sampled names: by its rate, or by a file with what tools/sample said."""
+    """The sample that --sampled names: by its rate, or by a file with what was said."""
     try:
         with open(text, encoding="utf-8", errors="replace") as file:
             said = SAID.findall(file.read())
