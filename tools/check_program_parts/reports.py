@@ -19,6 +19,9 @@ Usage: cachesim debug --capacity <N> --first <POLICY> --second <POLICY> --trace 
 
 For more information, try '--help'.
 """
+# The blocks below 16777217 whose hash is below 2^44.
+FEW = (5876302, 6024624, 7203822, 7493493, 7752209, 8027875, 8701426, 9325862, 9567911, 11238764, 11928856, 12481084, 12566159,
+       12659979, 13463424, 14228372, 16088728)
 # Words of which each call has something wrong.
 WRONG_WORDS = """
 walk
@@ -51,6 +54,15 @@ intervals --every 3 lru
 intervals --capacity 3 --every 3
 intervals --capacity 3 --every 0 lru
 intervals --capacity 3 --every 16777217 lru
+sample
+sample --rate 8
+sample --rate 1/1
+sample --rate 1/3
+sample --rate 1/2097152
+sample --rate 1/8 --seed -1
+sample --rate 1/8 --seed 18446744073709551616
+sample --rate 1/8 --capacity 3
+sample --rate 1/8 --long
 """
 
 
@@ -191,3 +203,26 @@ def long_traces(check):
     check.expect_fault("a faulty line", "fault: BadNumber line 2", *run, "lru", typed="1\nx\n")
     check.expect_fault("sixty-five policies", "fault: Actors", *run, *["lru"] * 65, typed="1\n")
     check.expect_fault("sixty-five policies over a faulty line", "fault: BadNumber line 1", *run, *["lru"] * 65, typed="x\n")
+
+
+@part()
+def samples(check):
+    """Samples of the blocks 1 to 20, of which three accesses come again, and the line that says what each is. Which blocks are
+    in them was worked out from the hash, without the program."""
+    trace = lines(*range(1, 21), 7, 6, 7)
+    for name, rate, words, kept, blocks in (
+            ("a sample", "1/2", [], [6, 7, 11, 13, 14, 16, 17, 19, 20, 7, 6, 7], 9),
+            ("a smaller sample", "1/4", [], [7, 14, 16, 19, 20, 7, 7], 5),
+            ("a sample by the seed that holds where none is given", "1/4", ["--seed", 1], [7, 14, 16, 19, 20, 7, 7], 5),
+            ("a sample by the smallest seed", "1/4", ["--seed", 0], [3, 10, 18, 20], 4),
+            ("a sample by the largest seed", "1/4", ["--seed", 2**64 - 1], [3, 7, 10, 11, 12, 14, 15, 17, 20, 7, 7], 9)):
+        said = f"{len(kept)} of 23 accesses, {blocks} blocks: --sampled {rate} --accesses 23\n"
+        check.expect(name, "sample", "--rate", rate, *words, out=lines(*kept), error=said, typed=trace)
+    half, few = ("sample", "--rate", "1/2"), ("sample", "--rate", "1/1048576", "--format", "arc")
+    check.expect("a sample of no access", *half, error="0 of 0 accesses, 0 blocks: --sampled 1/2 --accesses 0\n")
+    check.expect("a sample of one access more than is kept", *few, out=lines(*FEW),
+                 error="17 of 16777217 accesses, 17 blocks: --sampled 1/1048576 --accesses 16777217\n", typed="0 16777217")
+    check.expect_fault("a sample of one access more than a long trace may have", "fault: TooLong line 2", *few,
+                       typed="7 0\n0 4294967296\n1\n")
+    check.expect_fault("a sample of a faulty trace", "fault: BadNumber line 2", *half, typed="1\nx\n")
+    check.expect_full("a sample to a full output", *half, typed=trace)
