@@ -56,6 +56,10 @@ _cachesim_words() {
     compare:--first) echo 'lru slru tinylfu-lru tinylfu-slru wtinylfu clairvoyant fifo clock sieve s3-fifo 2q arc caffeine' ;;
     compare:--second) echo 'lru slru tinylfu-lru tinylfu-slru wtinylfu clairvoyant fifo clock sieve s3-fifo 2q arc caffeine' ;;
     compare:*) echo '--capacity --every --main --small --in --out --period --spread --format --first --second -h --help' ;;
+    sample:--rate) echo '1/2 1/4 1/8 1/16 1/32 1/64 1/128 1/256 1/512 1/1024 1/2048 1/4096 1/8192 1/16384 1/32768 1/65536 1/131072 1/262144 1/524288 1/1048576' ;;
+    sample:--seed) echo '' ;;
+    sample:--format) echo 'lirs arc' ;;
+    sample:*) echo '--rate --seed --format -h --help' ;;
     drive:--capacity) echo '' ;;
     drive:--main) echo '' ;;
     drive:--small) echo '' ;;
@@ -91,7 +95,7 @@ _cachesim_words() {
     replay:--stripes) echo '' ;;
     replay:--limit) echo '' ;;
     replay:*) echo '--capacity --main --small --in --out --period --spread --journal --stripes --limit -h --help' ;;
-    help:*) echo 'run sweep intervals part compare drive debug replay' ;;
+    help:*) echo 'run sweep intervals part compare sample drive debug replay' ;;
     esac
 }
 
@@ -106,7 +110,7 @@ _cachesim() {
     if [[ $before == *[\<\>] ]]; then
         words='<FILE>'
     elif ((COMP_CWORD == 1)); then
-        words='run sweep intervals part compare drive debug replay help -h --help -V --version'
+        words='run sweep intervals part compare sample drive debug replay help -h --help -V --version'
     else
         words=$(_cachesim_words "${COMP_WORDS[1]}" "$before")
     fi
