@@ -337,7 +337,7 @@ def check_after(survey, folder, program):
     expect("of ranges", rows_of(run(*words)[0])[0]["lru"], f"{hits * 10000 // 200 / 100:.2f}")
 
 
-def check_sampled(survey, folder, _):
+def check_sampled(survey, folder, real):
     """Of a sample of one block in 8 the misses are those of the sample eight times, and the capacities too."""
     trace = file_of(folder, "sample", "".join(f"{it % 100}\n" for it in range(1000)))
     program = fake(folder, "None if capacity >= distinct else {'lru': 20, 'clairvoyant': 95}.get(policy, 0)")
@@ -361,7 +361,7 @@ def check_sampled(survey, folder, _):
     jump = fake(folder, "None if capacity >= distinct else 5 if capacity < 50 else 60")
     expect_parts("a jump", run(*words[:3], jump, *words[4:], "--table", "jumps")[0], "known to some percent", "  392  400 ")
     whole = file_of(folder, "whole", "".join(f"{it % 700}\n" for it in range(7000)))
-    kept, line = run(survey.with_name("sample"), "--rate", "1/8", whole)
+    kept, line = run(survey.with_name("sample"), "--program", real, "--rate", "1/8", whole)
     kept, said = file_of(folder, "kept", kept), file_of(folder, "said", line)
     out = run(survey, kept, "--program", program, "--sampled", said, "--csv", "--table", "traces")[0]
     expect("what the sample says", out.splitlines()[1].split(",")[1], "7000")
