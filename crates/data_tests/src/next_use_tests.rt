@@ -1,6 +1,7 @@
 //! Places of keys, and next uses of a trace that comes whole or in pieces.
 use super::assertions::assert_equal;
 use clairvoyant::{NextUse, NextUseFinder};
+use std::alloc::Global;
 use std::process::Abort;
 use std::test::Fail;
 use step_record::{Key, Trace};
@@ -9,8 +10,8 @@ use trace_index::KeyPlaces;
 // A key of more than 4 bytes.
 const LONG: Key = 4_294_967_297;
 
-// Keys with the place at which each comes again. The keys 1,048,580 and 1,048,582 come before a table of places reaches
-// them; at place 4 it grows past both.
+// Keys with the place at which each comes again. From the end on, 1,048,580 comes before a table of places reaches it; when
+// it comes again the table grows past it.
 const USES: [(Key, Option<u32>); 10] = [
     (1_048_580, Some(5)),
     (1_048_582, Some(4)),
@@ -32,6 +33,35 @@ fn a_key_has_the_place_that_was_put_last(rt: HostRuntime) -> Result<(), Fail> {
         assert_equal(&rt, places.put(key, 16_777_215)?, Some(0));
     }
     Ok(())
+}
+
+// The inverse of the number by which keys are multiplied before their upper bits tell where they stand: its multiples by
+// 0, 1, 2 .. would all stand at one place.
+const SAME_HOME: Key = 17_428_512_612_931_826_493;
+
+// How many keys: more than stand near one place, and more than the first cells of the table hold.
+const MANY: u64 = 600;
+
+// Puts the places of as many multiples of a key, and then puts each again.
+fn assert_multiples_have_places(rt: &impl Abort, alloc: Global, key: Key) -> Result<(), Fail> {
+    let mut places = KeyPlaces::new(alloc);
+    for i in 0..MANY {
+        assert_equal(rt, places.put(key.wrapping_mul(i), i as u32)?, None);
+    }
+    for i in 0..MANY {
+        assert_equal(rt, places.put(key.wrapping_mul(i), 1000)?, Some(i as u32));
+    }
+    Ok(())
+}
+
+#[test]
+fn many_wide_keys_have_their_places(rt: HostRuntime) -> Result<(), Fail> {
+    assert_multiples_have_places(&rt, rt.alloc(), LONG)
+}
+
+#[test]
+fn keys_chosen_to_stand_at_one_place_have_theirs(rt: HostRuntime) -> Result<(), Fail> {
+    assert_multiples_have_places(&rt, rt.alloc(), SAME_HOME)
 }
 
 // Sees the key and the next use of each access.

@@ -1,3 +1,5 @@
 pub mod Uses
+pub mod KeyCells
+pub mod KeyNumbers
 pub mod KeyPlaces
 pub mod PackedKeys

@@ -1,31 +1,35 @@
 //! The place of each key.
 ghost use Rattle.std.specs.Prelude.{◌≡◌, ℕ, suc, ◌<◌, ◌≤◌, cond, nat_eq, Some, None, IfOk, IfSome, OnOk, length, slice_index, ◌^◌};
-ghost use Rattle.std.specs.HashMap.{get};
 ghost use Rattle.step_record.specs.declared.limits.TheConstants.{MAX_ACCESSES};
-ghost use Rattle.trace_index.specs.KeyPlaces.{place_of, number_of_key, number_in};
+ghost use Rattle.trace_index.specs.KeyPlaces.{place_of, number_of_key};
 
+use crate::key_numbers::KeyNumbers;
+use crate::packed_keys::PackedKeys;
 use std::alloc::{AllocError, Global};
-use std::collections::HashMap;
 use std::mem;
 use step_record::Key;
 
-/// A place of the trace for each key that was put. Keys that are low for the number of accesses so far, as those of
-/// blocks mostly are, have theirs in a table, by the key itself, in 4 bytes; every other key has it in a hash map,
-/// which on a long trace misses the processor's caches at nearly each access.
+/// A place of the trace for each key that was put. Keys that are low for the place, and not few, as those of blocks mostly
+/// are, have theirs in a table, by the key itself, in 4 bytes; every other key has it in a table by its hash, in 16 to 24
+/// bytes.
 ///
-/// The table grows as such keys come. A key that came before the table reached it has its place in the map until it is
-/// put again; from then on the table has its place, and the map's is not read any more.
+/// The table grows as such keys come. A key that came before the table reached it has its place by its hash until it is
+/// put again; from then on that one is not read any more.
 #[derive(Drop)]
 pub struct KeyPlaces {
     // One more than the place of each key below the table's length, or 0.
     low: Vec<u32>,
     // The same for the keys that were put past the table.
-    high: HashMap<Key, u32>,
+    high: KeyNumbers,
+    // How many keys came past the table that are low enough for it, in 32 bits.
+    count: u32,
 }
 
-// The table takes keys below TABLE_SHARE * place + TABLE_START, `place` that of the access, and is no longer than that:
-// 16 bytes an access and 4 MB, where keys are that high.
-const TABLE_SHARE: u64 = 4;
+// The table takes keys below ACCESS_SHARE * place + TABLE_START, `place` that of the access, as soon as `count` of these
+// came past it and they are below KEY_SHARE * count + TABLE_START. So a few high keys do not make it long.
+const ACCESS_SHARE: u64 = 4;
+
+const KEY_SHARE: u64 = 16;
 
 const TABLE_START: u64 = 1 << 20;
 
@@ -36,8 +40,29 @@ impl KeyPlaces {
     {
         KeyPlaces {
             low: Vec::new(alloc),
-            high: HashMap::new(alloc),
+            high: KeyNumbers::new(alloc),
+            count: 0,
         }
+    }
+
+    /// No places yet, of keys that are put from the last on. Where most of them, by every 64th, are low enough for the
+    /// table, it is as long from the start as they may make it.
+    pub(crate) fn from_end(alloc: Global, keys: &PackedKeys) -> KeyPlaces
+        ensures { (k : ℕ) → place_of result k ≡ None }
+    {
+        let mut places = KeyPlaces::new(alloc);
+        let len = keys.len();
+        let end = ACCESS_SHARE
+            .saturating_mul(len as u64)
+            .saturating_add(TABLE_START);
+        let mut low: usize = 0;
+        for i in 0..len / 64 {
+            low += (keys.get(64 * i) < end) as usize;
+        }
+        if low > len / 128 {
+            places.count = 1 << 31;
+        }
+        places
     }
 
     /// The place of a key that has one in the table, `None` for any other key: for reads ahead of `put`, which do not
@@ -77,7 +102,7 @@ impl KeyPlaces {
         }
         let number = mem::replace(&mut self.low[key as usize], place + 1);
         if !self.high.is_empty() && number == 0 {
-            return Ok(self.in_map(key));
+            return Ok(self.high.number(key));
         }
         Ok(number)
     }
@@ -92,22 +117,16 @@ impl KeyPlaces {
         ensures updates { OnOk result ((k : ℕ) →
             number_of_key self.new k ≡ cond (nat_eq key k) (suc place) (number_of_key self.old k)) }
     {
-        let reach = TABLE_SHARE * place as u64 + TABLE_START;
+        let end = ACCESS_SHARE * place as u64 + TABLE_START;
+        let reach = end.min(KEY_SHARE * self.count as u64 + TABLE_START);
         if key >= reach {
-            let before = self.high.insert(key, place + 1)?;
-            return Ok(before.unwrap_or(0));
+            let number = self.high.put(key, place + 1)?;
+            self.count = self.count.wrapping_add((number == 0 && key < end) as u32);
+            return Ok(number);
         }
-        self.grow(key as usize + 1, reach as usize)?;
+        self.grow(key as usize + 1, end as usize)?;
         self.low[key as usize] = place + 1;
-        Ok(self.in_map(key))
-    }
-
-    // The number that the map has for a key, or 0.
-    #[inline(never)]
-    fn in_map(&self, key: Key) -> u32
-        ensures { result ≡ number_in (get nat_eq self.now.high key) }
-    {
-        self.high.get(&key).copied().unwrap_or(0)
+        Ok(self.high.number(key))
     }
 
     // Makes the table at least so long: twice as long as it was, where that is no more than `most`, so that it grows few

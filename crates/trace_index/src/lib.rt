@@ -5,6 +5,8 @@
 //! [`KeyPlaces`] has for each key the place that was put for it last.
 #![tactic(auto)]
 
+mod key_cells;
+mod key_numbers;
 mod key_places;
 mod next_use;
 mod next_use_finder;

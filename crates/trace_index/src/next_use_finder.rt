@@ -80,7 +80,7 @@ fn next_uses_of(alloc: Global, keys: &PackedKeys) -> Result<Vec<u32>, AllocError
 {
     let len = keys.len();
     let mut after: Vec<u32> = vec![in alloc; 0; len]?;
-    let mut following = KeyPlaces::new(alloc);
+    let mut following = KeyPlaces::from_end(alloc, keys);
     for back in 0..len {
         let place = len - 1 - back;
         let next = following.put_number(keys.get(place), place as u32)?;

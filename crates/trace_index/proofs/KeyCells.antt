@@ -1,0 +1,250 @@
+-- What a table of keys has for a key, and what putting one changes.
+use Rattle.std.proofs.Common.{◌≡◌, ◌≢◌, ◌⊎◌, min, ◌∙◌, ℕ, zero, suc, ◌+◌, ◌<◌, ◌≤◌, Bool, true, false, cond, eqb, List, [], ◌∷◌, set, get_or, length, replicate, ap, sym, refl, subst, arith, inl, inr, get_or-set_other, get_or-set_same}
+use Rattle.std.proofs.Math.Nat.{le-min, min-le_left, min-le_right}
+use Rattle.std.proofs.lemmas.Bool.{cases_eq, cases_Bool, eqb-true, eq-eqb}
+use Rattle.std.proofs.lemmas.List.{length-set}
+use Rattle.trace_index.specs.declared.key_cells.TheConstants.{WINDOW}
+use Rattle.trace_index.specs.KeyCells.{number_or, number_at, number_below, home, IsTable, IsPlace}
+
+pub zeros : (n q : ℕ) → get_or {A = ℕ} (replicate n 0) q 0 ≡ 0
+zeros zero q = refl
+zeros (suc n) zero = refl
+zeros (suc n) (suc q) = zeros n q
+
+within : (xs : List ℕ) (q : ℕ) → get_or xs q 0 ≢ 0 → q < length xs
+within [] q ne = absurd (ne refl)
+within (x ∷ xs) zero ne = omega arith
+within (x ∷ xs) (suc q) ne = omega (arith, within xs q ne)
+
+pub first-of : (n other : ℕ) → n ≢ 0 → number_or n other ≡ n
+first-of zero other ne = absurd (ne refl)
+first-of (suc n) other ne = refl
+
+-- ---- what the first cells have
+
+-- no cell has a number for the key
+pub none-below : (keys numbers : List ℕ) (n k : ℕ) → ((q : ℕ) → get_or numbers q 0 ≢ 0 → get_or keys q 0 ≢ k) → number_below keys numbers n k ≡ 0
+none-below keys numbers zero k h = refl
+none-below keys numbers (suc n) k h =
+    elim (cases_Bool (eqb (get_or keys n 0) k)) [
+      | inr e ↦ rw e (none-below keys numbers n k h)
+      | inl e ↦ elim (cases_eq (get_or numbers n 0) 0) [
+        | inl z ↦ rw (e, z) (none-below keys numbers n k h)
+        | inr ne ↦ absurd (h n ne (eqb-true _ _ e))
+      ]
+    ]
+
+-- a cell has it, and no other cell has the key
+pub one-below : (keys numbers : List ℕ) (n k p : ℕ) → p < n → get_or numbers p 0 ≢ 0 → get_or keys p 0 ≡ k
+    → ((q : ℕ) → get_or numbers q 0 ≢ 0 → get_or keys q 0 ≡ k → q ≡ p) → number_below keys numbers n k ≡ get_or numbers p 0
+one-below keys numbers zero k p lt some there once = absurd (omega (arith, lt))
+one-below keys numbers (suc n) k p lt some there once =
+    elim (cases_eq p n) [
+      | inl same ↦
+          let e : eqb (get_or keys n 0) k ≡ true = eq-eqb _ _ (ap (λ i. get_or keys i 0) (sym same) ∙ there) in
+          let ne : get_or numbers n 0 ≢ 0 = subst (λ i. get_or numbers i 0 ≢ 0) same some in
+          rw e (first-of (get_or numbers n 0) _ ne ∙ ap (λ i. get_or numbers i 0) (sym same))
+      | inr other ↦
+          let rest : number_below keys numbers n k ≡ get_or numbers p 0 = one-below keys numbers n k p (omega (arith, lt, other)) some there once in
+          elim (cases_Bool (eqb (get_or keys n 0) k)) [
+            | inr e ↦ rw e rest
+            | inl e ↦ elim (cases_eq (get_or numbers n 0) 0) [
+              | inl z ↦ rw (e, z) rest
+              | inr ne ↦ absurd (other (sym (once n ne (eqb-true _ _ e))))
+            ]
+          ]
+    ]
+
+-- two tables whose cells have the same number for the key
+same-below : (keys numbers keys2 numbers2 : List ℕ) (n k : ℕ) → ((q : ℕ) → number_at keys2 numbers2 q k ≡ number_at keys numbers q k)
+    → number_below keys2 numbers2 n k ≡ number_below keys numbers n k
+same-below keys numbers keys2 numbers2 zero k h = refl
+same-below keys numbers keys2 numbers2 (suc n) k h = λ i. number_or (h n i) (same-below keys numbers keys2 numbers2 n k h i)
+
+pub or-assoc : (a b c : ℕ) → number_or a (number_or b c) ≡ number_or (number_or a b) c
+or-assoc zero b c = refl
+or-assoc (suc a) b c = refl
+
+pub chosen : (b : Bool) (n other : ℕ) → n ≢ 0 → cond b n other ≡ number_or (cond b n 0) other
+chosen true zero other ne = absurd (ne refl)
+chosen true (suc n) other ne = refl
+chosen false n other ne = refl
+
+-- a cell more was moved to another table
+pub moved-on : (keys numbers : List ℕ) (p k key n new old rest : ℕ) → key ≡ get_or keys p 0 → n ≡ get_or numbers p 0
+    → new ≡ number_or (cond (eqb key k) n 0) old → old ≡ number_or (number_below keys numbers p k) rest
+    → new ≡ number_or (number_below keys numbers (p + 1) k) rest
+moved-on keys numbers p k key n new old rest its number is before =
+    let on : p + 1 ≡ suc p = omega arith in
+    let at : cond (eqb key k) n 0 ≡ number_at keys numbers p k = λ i. cond (eqb (its i) k) (number i) 0 in
+    is ∙ (λ i. number_or (at i) (before i)) ∙ or-assoc (number_at keys numbers p k) (number_below keys numbers p k) rest
+    ∙ ap (λ m. number_or (number_below keys numbers m k) rest) (sym on)
+
+-- ---- where a search ends
+
+-- a search for a key that ended at a place
+pub record IsSearched (homes : ℕ) (keys numbers : List ℕ) (key end place : ℕ) : Type 0 where
+  pub ends : end ≡ min (length keys) (home homes key + WINDOW)
+  pub found : IsPlace keys numbers (home homes key) end key place
+
+pub searched : (homes : ℕ) (keys numbers ks ns : List ℕ) (key from end place len : ℕ) → ks ≡ keys → ns ≡ numbers → len ≡ length keys
+    → from ≡ home homes key → end ≡ min len (from + WINDOW) → IsPlace ks ns from end key place → IsSearched homes keys numbers key end place
+searched homes keys numbers ks ns key from end place len k n l h e f = record {
+  ends = e ∙ (λ i. min (l i) (h i + WINDOW));
+  found = subst (λ x. IsPlace keys numbers x end key place) h (subst (λ x. IsPlace keys x from end key place) n (subst (λ x. IsPlace x ns from end key place) k f));
+}
+
+module _ (homes : ℕ) (keys numbers : List ℕ) (key end place : ℕ) (t : IsTable homes keys numbers) (s : IsSearched homes keys numbers key end place) where
+  f : IsPlace keys numbers (home homes key) end key place
+  f = s.found
+
+  least : (q : ℕ) → q < length keys → q < home homes key + WINDOW → q < end
+  least q in_it near = subst (λ x. q < x) (sym s.ends) (le-min in_it near)
+
+  -- the key is in no cell, where the search ended at an empty one or at the end
+  pub absent : (place < end → get_or numbers place 0 ≡ 0) → (q : ℕ) → get_or numbers q 0 ≢ 0 → get_or keys q 0 ≢ key
+  absent empty q ne e =
+      let from : home homes key ≤ q = subst (λ x. home homes x ≤ q) e (t.behind q ne) in
+      let near : q < home homes key + WINDOW = subst (λ x. q < home homes x + WINDOW) e (t.near q ne) in
+      let in_it : q < end = least q (omega (arith, within numbers q ne, t.each)) near in
+      elim (cases_eq q place) [
+        | inl same ↦ ne (ap (λ i. get_or numbers i 0) same ∙ empty (omega (arith, same, in_it)))
+        | inr other ↦ elim (order q place other) [
+          | inl less ↦ f.others q from less e
+          | inr more ↦
+              let here : place < end = omega (arith, more, in_it) in
+              t.joined q place ne (subst (λ x. home homes x ≤ place) (sym e) (f.behind here)) more (empty here)
+        ]
+      ]
+    where
+      order : (a b : ℕ) → a ≢ b → (a < b) ⊎ (b < a)
+      order zero zero ne = absurd (ne refl)
+      order zero (suc b) ne = inl (omega arith)
+      order (suc a) zero ne = inr (omega arith)
+      order (suc a) (suc b) ne = elim (order a b (λ e. ne (ap suc e))) [
+        | inl l ↦ inl (omega (arith, l))
+        | inr l ↦ inr (omega (arith, l))
+      ]
+
+-- ---- a key is put where the search ended
+
+module _ (homes : ℕ) (keys numbers : List ℕ) (key number end place : ℕ) (t : IsTable homes keys numbers)
+    (s : IsSearched homes keys numbers key end place) (here : place < end) where
+  g : IsPlace keys numbers (home homes key) end key place
+  g = s.found
+
+  long : end ≤ length keys
+  long = subst (λ x. x ≤ length keys) (sym s.ends) (min-le_left _ _)
+
+  near : end ≤ home homes key + WINDOW
+  near = subst (λ x. x ≤ home homes key + WINDOW) (sym s.ends) (min-le_right _ _)
+
+  pub in-numbers : place < length numbers
+  in-numbers = omega (arith, here, long, t.each)
+
+  its-key : get_or (set keys place key) place 0 ≡ key
+  its-key = get_or-set_same keys place key 0 (omega (arith, here, long))
+
+  its-number : get_or (set numbers place number) place 0 ≡ number
+  its-number = get_or-set_same numbers place number 0 (omega (arith, here, long, t.each))
+
+  other-key : (q : ℕ) → q ≢ place → get_or (set keys place key) q 0 ≡ get_or keys q 0
+  other-key q ne = get_or-set_other keys place q key 0 ne
+
+  other-number : (q : ℕ) → q ≢ place → get_or (set numbers place number) q 0 ≡ get_or numbers q 0
+  other-number q ne = get_or-set_other numbers place q number 0 ne
+
+  -- a cell with the key, before
+  alone : (q : ℕ) → get_or numbers q 0 ≢ 0 → get_or keys q 0 ≡ key → q ≡ place
+  alone q ne e =
+      elim (cases_eq (get_or numbers place 0) 0) [
+        | inl z ↦ absurd (absent homes keys numbers key end place t s (λ _. z) q ne e)
+        | inr taken ↦ t.once q place ne taken (e ∙ sym (g.stops here taken))
+      ]
+
+  pub before : number_below keys numbers (length keys) key ≡ get_or numbers place 0
+  before =
+      elim (cases_eq (get_or numbers place 0) 0) [
+        | inl z ↦ none-below keys numbers (length keys) key (absent homes keys numbers key end place t s (λ _. z)) ∙ sym z
+        | inr taken ↦ one-below keys numbers (length keys) key place (omega (arith, here, long)) taken (g.stops here taken) alone
+      ]
+
+  taken-still : (q : ℕ) → number ≢ 0 → get_or numbers q 0 ≢ 0 → get_or (set numbers place number) q 0 ≢ 0
+  taken-still q some ne e =
+      elim (cases_eq q place) [
+        | inl same ↦ some (sym its-number ∙ ap (λ i. get_or (set numbers place number) i 0) (sym same) ∙ e)
+        | inr other ↦ ne (sym (other-number q other) ∙ e)
+      ]
+
+  -- the cell is that of the key, or was taken before
+  data Was (q : ℕ) : Type 0 where
+    its : q ≡ place → get_or (set keys place key) q 0 ≡ key → Was q
+    old : q ≢ place → get_or (set keys place key) q 0 ≡ get_or keys q 0 → get_or numbers q 0 ≢ 0 → Was q
+
+  was : (q : ℕ) → get_or (set numbers place number) q 0 ≢ 0 → Was q
+  was q ne =
+      elim (cases_eq q place) [
+        | inl same ↦ its same (ap (λ i. get_or (set keys place key) i 0) same ∙ its-key)
+        | inr other ↦ old other (other-key q other) (λ z. ne (other-number q other ∙ z))
+      ]
+
+  behind2 : (q : ℕ) → Was q → home homes (get_or (set keys place key) q 0) ≤ q
+  behind2 q (its same k) = subst (λ x. home homes x ≤ q) (sym k) (subst (λ x. home homes key ≤ x) (sym same) (g.behind here))
+  behind2 q (old other k ne) = subst (λ x. home homes x ≤ q) (sym k) (t.behind q ne)
+
+  near2 : (q : ℕ) → Was q → q < home homes (get_or (set keys place key) q 0) + WINDOW
+  near2 q (its same k) = subst (λ x. q < home homes x + WINDOW) (sym k) (omega (arith, same, here, near))
+  near2 q (old other k ne) = subst (λ x. q < home homes x + WINDOW) (sym k) (t.near q ne)
+
+  joined2 : (q r : ℕ) → number ≢ 0 → Was q → home homes (get_or (set keys place key) q 0) ≤ r → r < q → get_or (set numbers place number) r 0 ≢ 0
+  joined2 q r some (its same k) from less =
+      taken-still r some (g.taken r (subst (λ x. home homes x ≤ r) k from) (omega (arith, less, same)))
+  joined2 q r some (old other k ne) from less =
+      taken-still r some (t.joined q r ne (subst (λ x. home homes x ≤ r) k from) less)
+
+  once2 : (q r : ℕ) → Was q → Was r → get_or (set keys place key) q 0 ≡ get_or (set keys place key) r 0 → q ≡ r
+  once2 q r (its a k) (its b l) e = a ∙ sym b
+  once2 q r (its a k) (old b l ne) e = a ∙ sym (alone r ne (sym l ∙ sym e ∙ k))
+  once2 q r (old a k ne) (its b l) e = alone q ne (sym k ∙ e ∙ l) ∙ sym b
+  once2 q r (old a k ne) (old b l ne2) e = t.once q r ne ne2 (sym k ∙ e ∙ l)
+
+  pub put-table : number ≢ 0 → IsTable homes (set keys place key) (set numbers place number)
+  put-table some = record {
+    each = length-set numbers place number ∙ t.each ∙ sym (length-set keys place key);
+    behind = λ q ne. behind2 q (was q ne);
+    near = λ q ne. near2 q (was q ne);
+    joined = λ q r ne. joined2 q r some (was q ne);
+    once = λ q r ne ne2. once2 q r (was q ne) (was r ne2);
+  }
+
+  at-other : (k : ℕ) → eqb key k ≡ false → (q : ℕ) → number_at (set keys place key) (set numbers place number) q k ≡ number_at keys numbers q k
+  at-other k apart q =
+      elim (cases_eq q place) [
+        | inl same ↦
+            let new : eqb (get_or (set keys place key) q 0) k ≡ false = ap (λ x. eqb x k) (ap (λ i. get_or (set keys place key) i 0) same ∙ its-key) ∙ apart in
+            rw new (sym (elim (cases_eq (get_or numbers q 0) 0) [
+              | inl z ↦ elim (cases_Bool (eqb (get_or keys q 0) k)) [
+                | inl e ↦ rw (e, z) refl
+                | inr e ↦ rw e refl
+              ]
+              | inr taken ↦
+                  let its : get_or keys q 0 ≡ key = ap (λ i. get_or keys i 0) same ∙ g.stops here (λ z. taken (ap (λ i. get_or numbers i 0) same ∙ z)) in
+                  let e : eqb (get_or keys q 0) k ≡ false = ap (λ x. eqb x k) its ∙ apart in
+                  rw e refl
+            ]))
+        | inr other ↦ rw (other-key q other, other-number q other) refl
+      ]
+
+  pub put-updates : number ≢ 0 → (k : ℕ) → number_below (set keys place key) (set numbers place number) (length (set keys place key)) k
+      ≡ cond (eqb key k) number (number_below keys numbers (length keys) k)
+  put-updates some k =
+      let len : length (set keys place key) ≡ length keys = length-set keys place key in
+      elim (cases_Bool (eqb key k)) [
+        | inl e ↦
+            let is : key ≡ k = eqb-true key k e in
+            let new = put-table some in
+            rw e (one-below (set keys place key) (set numbers place number) (length (set keys place key)) k place (omega (arith, here, long, len))
+            (λ z. some (sym its-number ∙ z)) (its-key ∙ is)
+            (λ q ne there. new.once q place ne (λ z. some (sym its-number ∙ z)) (there ∙ sym is ∙ sym its-key)) ∙ its-number)
+        | inr e ↦ rw (e, len) (same-below keys numbers (set keys place key) (set numbers place number) (length keys) k (at-other k e))
+      ]
