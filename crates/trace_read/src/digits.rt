@@ -1,6 +1,6 @@
 //! Numbers of a few digits, eight digits at a time: eight bytes are read as one word, and three multiplications make
 //! the number that they write.
-ghost use Rattle.std.specs.Prelude.{◌≡◌, ◌≤◌, ◌<◌, ◌^◌, ℕ, List, true, length, take};
+ghost use Rattle.std.specs.Prelude.{◌≡◌, ◌≤◌, ◌<◌, ◌^◌, ℕ, List, true, IfSome, length, take};
 ghost use Rattle.std.specs.Int.Digits.{number_from_digits, AllBelowBase};
 ghost use Rattle.std.specs.Simd.Lanes.{number_l};
 ghost use Rattle.std.specs.Str.{all_ascii_digits};
@@ -30,6 +30,23 @@ pub fn long_number(text: &[u8], count: usize) -> u64
     ensures few { result < 10 ^ count }
 {
     short_number(text, count - 8) * 100_000_000 + short_number(&text[count - 8..], 8)
+}
+
+/// The number that the first bytes write, 17 to 20 digits. `None` says nothing of it, and comes only with twenty digits
+/// that write 18,446,744,073,700,000,000 or more: a few million of these are below 2^64.
+#[inline(always)]
+pub fn longest_number(text: &[u8], count: usize) -> Option<u64>
+    requires text { count ≤ length text.now }
+    requires count { (17 ≤ count) × (count ≤ 20) }
+    requires digits { AreDigits text.now count }
+    ensures { IfSome result (λ v. (v ≡ digits_value 10 (take count text.now)) × (v < 2 ^ 64)) }
+{
+    let upper = long_number(text, count - 8);
+    let last = short_number(&text[count - 8..], 8);
+    if upper >= u64::MAX / 100_000_000 {
+        return None;
+    }
+    Some(upper * 100_000_000 + last)
 }
 
 /// The number that the first bytes write, one to sixteen digits.

@@ -6,7 +6,8 @@
 //! faulty line, with its number. The rules of both formats are defined by this project.
 //!
 //! `read_followed` lets a `Follower` take accesses after each piece, from the first on, and gives the
-//! ones that it left. It is given the `Limits` on accesses and bytes; `read_trace` has those by default.
+//! ones that it left. It is given the `Limits` on accesses and bytes, as `read_trace_within` is; `read_trace` has those by
+//! default.
 //!
 //! A file is read in one pass, piece by piece, and no bytes are kept but those of a line that a
 //! piece cut in two. The accesses of a line of many are made and handed on some hundreds at a time. `Read` and `TooLarge` come before the fault of a line.
@@ -28,5 +29,5 @@ pub use fault::TraceFault;
 pub use follower::Follower;
 pub use format::Format;
 pub use limits::{Limits, MAX_LONG_ACCESSES, MAX_LONG_TRACE_BYTES};
-pub use reader::{read_followed, read_trace};
+pub use reader::{read_followed, read_trace, read_trace_within};
 pub use step_record::Trace;

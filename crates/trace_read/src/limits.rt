@@ -1,4 +1,6 @@
 //! The most that is read of a trace.
+ghost use Rattle.std.specs.Prelude.{◌≡◌, nat_lt};
+ghost use Rattle.step_record.specs.declared.limits.TheConstants.{MAX_ACCESSES};
 
 use step_record::{MAX_ACCESSES, MAX_TRACE_BYTES};
 
@@ -27,4 +29,11 @@ impl Limits {
         accesses: MAX_LONG_ACCESSES,
         bytes: MAX_LONG_TRACE_BYTES,
     };
+
+    /// Whether a trace within them may be too long to be kept.
+    pub fn are_long(&self) -> bool
+        ensures { result ≡ nat_lt MAX_ACCESSES self.now.accesses }
+    {
+        self.accesses > MAX_ACCESSES
+    }
 }

@@ -399,16 +399,15 @@ fn long_line(format: Format, text: &[u8], room: usize) -> Option<BlockRun>
 }
 
 // Whether a line that begins with this run of digits begins as one of the format's usual form: with a number of at most
-// sixteen digits, which a line feed ends, or one byte stands between it and the next.
+// twenty digits, which a line feed ends, or one of at most sixteen, and one byte between it and the next.
 #[inline(always)]
 fn begins_usual_line(format: Format, bytes: &[u8], first: DigitRun) -> bool
     requires { (first.start ≤ first.end) × (first.end + 1 < length bytes.now) }
 {
-    let is_followed = match format {
-        Format::Lirs => bytes[first.end] == b'\n',
-        Format::Arc => bytes[first.end + 1].is_ascii_digit(),
-    };
-    first.is_short() && is_followed
+    match format {
+        Format::Lirs => bytes[first.end] == b'\n' && (first.end - first.start).wrapping_sub(1) < 20,
+        Format::Arc => first.is_short() && bytes[first.end + 1].is_ascii_digit(),
+    }
 }
 
 // Whether two lines of a lone `*` of the LIRS format begin with this run of digits. One between numbers is read
