@@ -1,6 +1,6 @@
 -- A cache with an adaptive window: what it shows after a list of accesses, one access as a step, its undo record, and how
 -- the record undoes it. Keys are counted by sixteen counters for each entry and without a doorkeeper, as Caffeine does.
-use Rattle.std.specs.Prelude.{◌≢◌, ℕ, ◌≤◌, ◌==◌, if◌then◌else◌, Option, Some, None, List, [], ◌∷◌, ◌++◌, map}
+use Rattle.std.specs.Prelude.{◌≡◌, ◌≢◌, ◌⊎◌, ℕ, ◌≤◌, ◌==◌, true, if◌then◌else◌, Option, Some, None, []}
 use Rattle.step_record.specs.declared.limits.TheConstants.{MAX_STEPS}
 use Rattle.step_record.specs.declared.config.Config.{Config}
 use Rattle.step_record.specs.declared.outcome.Outcome.{Outcome}
@@ -8,7 +8,8 @@ use Rattle.step_record.specs.declared.stats.Stats.{Stats}
 use Rattle.step_record.specs.Pace.{Pace}
 use Rattle.step_record.specs.Stats.{stats_of, stats_with, stats_without, IsCounted}
 use Rattle.segments.specs.Items.{nodeless_item}
-use Rattle.admission.specs.Frequency.{FrequencyData, frequency_of, frequency_with, pace_of}
+use Rattle.segments.specs.Queues.{queue_holding}
+use Rattle.admission.specs.Frequency.{FrequencyData, frequency_of, frequency_with, halves, pace_of}
 use Rattle.admission.specs.FreqRecord.{frequency_record, frequency_before, FitsRecord, size_of}
 use Rattle.replacement.specs.Admission.{admits_in}
 use Rattle.replacement.specs.Shape.{open_shape_of}
@@ -63,6 +64,10 @@ cache_record_of k d = record {
   counting = frequency_record k d.frequency;
   window = window_record_of d.rules (admits_in (Some (frequency_with k d.frequency))) (nodeless_item k) d.window;
 }
+
+-- an access may be refused memory: its key is not resident, or brings a halving, whose undo record it makes
+abbrev pub cache_may_ask : AdaptiveCacheState → ℕ → Type 0
+cache_may_ask d k = (queue_holding (nodeless_item k) d.window.queues ≡ None) ⊎ (halves d.frequency ≡ true)
 
 -- the state before the access, from its record and the state after it
 abbrev pub cache_undone : AdaptiveRecord → AdaptiveCacheState → AdaptiveCacheState

@@ -3,8 +3,8 @@ ghost use Rattle.std.specs.Prelude.{◌≡◌, ◌≢◌, ◌≤◌, ◌<◌, �
 ghost use Rattle.std.specs.Prelude.{IfOk, OnOk, OnErr};
 ghost use Rattle.step_record.specs.declared.limits.TheConstants.{MAX_STEPS};
 ghost use Rattle.step_record.specs.Config.{config_fault};
-ghost use Rattle.segments.specs.Queues.{residents_in};
-ghost use Rattle.adaptive_window.specs.AdaptiveCache.{empty_cache, cache_act};
+ghost use Rattle.segments.specs.Queues.{queue_holding, residents_in};
+ghost use Rattle.adaptive_window.specs.AdaptiveCache.{empty_cache, cache_act, cache_may_ask};
 
 use crate::adaptive_window::AdaptiveWindow;
 use crate::window_record::WindowRecord;
@@ -93,13 +93,14 @@ impl AdaptiveCache {
     pub fn access<C>(&mut self, key: Key) -> Result<Outcome, StepFault>
         ensures accepted { IfOk result (λ o. cache_act self.old key ≡ Some (o, self.new)) }
         ensures not_now { result ≡ Err StepFault.NotNow ↔ cache_act self.old key ≡ None }
+        ensures memory { result ≡ Err StepFault.OutOfMemory → cache_may_ask self.old key }
         ensures err { OnErr result (self.new ≡ self.old) }
     {
-        make_room(&self.stats, &mut self.window)?;
+        let item = Item { key, node: 0 };
+        make_room(&self.stats, &mut self.window, item)?;
         let Ok(()) = self.frequency.count(key) else {
             return Err(StepFault::OutOfMemory);
         };
-        let item = Item { key, node: 0 };
         let done = self.window.access::<C>(&self.frequency, item);
         self.stats.count(done.outcome);
         Ok(done.outcome)
@@ -144,7 +145,7 @@ impl AdaptiveCache {
 
 impl Engine for AdaptiveCache {
     ghost use Rattle.adaptive_window.specs.AdaptiveCache.{cache_act, cache_record_of, cache_undone, cache_asks, CacheFits};
-    ghost use Rattle.adaptive_window.specs.AdaptiveCache.{cache_words, cache_pace};
+    ghost use Rattle.adaptive_window.specs.AdaptiveCache.{cache_may_ask, cache_words, cache_pace};
     ghost use Rattle.adaptive_window.specs.CacheCounts.{act_counts, act_ends, act_paced};
 
     type Step = Key;
@@ -161,8 +162,7 @@ impl Engine for AdaptiveCache {
 
     ghost record_of = { cache_record_of };
 
-    // Room for an item is made before it is known whether the access needs any.
-    ghost may_ask = { λ d k. Unit {0} };
+    ghost may_ask = { cache_may_ask };
 
     ghost fits = { CacheFits };
 
@@ -179,11 +179,11 @@ impl Engine for AdaptiveCache {
     #[inline(always)]
     fn apply(&mut self, step: &Key) -> Result<(Outcome, AdaptiveRecord), StepFault> {
         let key = *step;
-        make_room(&self.stats, &mut self.window)?;
+        let item = Item { key, node: 0 };
+        make_room(&self.stats, &mut self.window, item)?;
         let Ok(counting) = self.frequency.record(key) else {
             return Err(StepFault::OutOfMemory);
         };
-        let item = Item { key, node: 0 };
         let done = self.window.access::<Recorder>(&self.frequency, item);
         let outcome = done.outcome;
         self.stats.count(outcome);
@@ -227,18 +227,19 @@ struct Recorder;
 
 // Makes the room that one more access takes, before its key is counted: what follows takes none.
 #[inline(always)]
-fn make_room(stats: &Stats, window: &mut AdaptiveWindow) -> Result<(), StepFault>
+fn make_room(stats: &Stats, window: &mut AdaptiveWindow, item: Item) -> Result<(), StepFault>
     ensures below { OnOk result (stats.now.accesses ≢ MAX_STEPS) }
-    ensures room { OnOk result (1 ≤ window.new.spare) }
+    ensures room { OnOk result (queue_holding item window.new.state.queues ≡ None → 1 ≤ window.new.spare) }
     ensures rules { window.new.rules ≡ window.old.rules }
     ensures state { window.new.state ≡ window.old.state }
     ensures not_now { result ≡ Err StepFault.NotNow ↔ stats.now.accesses ≡ MAX_STEPS }
+    ensures memory { result ≡ Err StepFault.OutOfMemory → queue_holding item window.old.state.queues ≡ None }
 {
     if stats.accesses == MAX_STEPS {
         return Err(StepFault::NotNow);
     }
-    if window.reserve().is_err() {
-        return Err(StepFault::OutOfMemory);
+    match window.make_room(item) {
+        Ok(()) => Ok(()),
+        Err(_) => Err(StepFault::OutOfMemory),
     }
-    Ok(())
 }

@@ -1,8 +1,8 @@
 //! The queues of W-TinyLFU with a window whose size follows the hits.
-ghost use Rattle.std.specs.Prelude.{◌≡◌, ◌≤◌, Some, Ok, IfOk, OnOk};
+ghost use Rattle.std.specs.Prelude.{◌≡◌, ◌≤◌, Some, None, Ok, IfOk, OnOk, OnErr};
 ghost use Rattle.step_record.specs.Config.{config_fault};
 ghost use Rattle.step_record.specs.Stats.{is_hit as is_hit_of};
-ghost use Rattle.segments.specs.Queues.{IsDistinct, residents_in};
+ghost use Rattle.segments.specs.Queues.{IsDistinct, queue_holding, residents_in};
 ghost use Rattle.replacement.specs.Admission.{admits_in};
 ghost use Rattle.replacement.specs.PlanMoves.{queues_after, moves_of, needed_by, UndoesMoves};
 ghost use Rattle.replacement.specs.KeptMoves.{IsKeepable};
@@ -13,7 +13,7 @@ ghost use Rattle.adaptive_window.specs.WindowRecord.{size_change, size_before as
 use crate::climber::{ClimbRules, Climber, first_window_of};
 use crate::window_record::{SizeChange, WindowRecord};
 use admission::Frequency;
-use replacement::{KeptMoves, Moves, access, grow_window, shrink_window, undo};
+use replacement::{KeptMoves, Moves, access, grow_window, make_room, shrink_window, undo};
 use segments::Segments;
 use std::alloc::{AllocError, Global};
 use std::marker::Model;
@@ -75,6 +75,18 @@ impl AdaptiveWindow {
         self.segments.reserve()
     }
 
+    /// Makes the room that an access to the item needs. The one error is that an allocation failed where the item is not
+    /// there; nothing that is seen of the queues changes then.
+    #[inline(always)]
+    pub fn make_room(&mut self, item: Item) -> Result<(), AllocError>
+        ensures room { OnOk result (queue_holding item self.new.state.queues ≡ None → 1 ≤ self.new.spare) }
+        ensures rules { self.new.rules ≡ self.old.rules }
+        ensures state { self.new.state ≡ self.old.state }
+        ensures memory { OnErr result (queue_holding item self.old.state.queues ≡ None) }
+    {
+        make_room(&mut self.segments, item)
+    }
+
     /// Prefetches what a search for each of these keys reads first. It changes nothing.
     #[inline(always)]
     pub fn prefetch(&mut self, keys: &[Key])
@@ -114,13 +126,14 @@ impl AdaptiveWindow {
     }
 
     /// Accesses an item, whose key the frequency already has: by the table of moves, with a window of the size in force.
-    /// The access is counted, and then the size in force goes one towards the target. It requires room for one item.
+    /// The access is counted, and then the size in force goes one towards the target. It requires room for one item where the
+    /// item is not there.
     ///
     /// `C` only selects an instance: calls with different `C` are compiled apart, so an instance whose undo record is
     /// unused makes none.
     #[inline(always)]
     pub fn access<C>(&mut self, frequency: &Frequency, item: Item) -> WindowRecord
-        requires room { 1 ≤ self.old.spare }
+        requires room { queue_holding item self.old.state.queues ≡ None → 1 ≤ self.old.spare }
         ensures outcome { result.outcome
             ≡ (adaptive_act self.old.rules (admits_in (Some frequency.now)) item self.old.state).0 }
         ensures state { self.new.state

@@ -21,10 +21,11 @@ use Rattle.adaptive_window.specs.Residents.{CacheKeeps, CacheHitsAskNothing, Cac
 use Rattle.policies.specs.declared.design.Design.{Design}
 use Rattle.policies.specs.declared.design.Design.TheVariants as design
 use Rattle.policies.specs.Design.{demand_policy, design_of, is_of_queues, is_optimal}
-use Rattle.policies.specs.AnyPolicy.{stats_on, outcomes_by, adaptive_outcomes, adaptive_start, demand_run, IsBeladyAt}
+use Rattle.policies.specs.AnyPolicy.{stats_on, outcomes_by, adaptive_start, demand_run, IsBeladyAt}
 use Rattle.policies.specs.AnyStep.{as_queues, as_optimal, as_demand, as_adaptive}
 use Rattle.policies.specs.AnyCounts.{IsQueueStep, IsOptimalStep, IsDemandStep, IsAdaptiveStep, queue_step, optimal_step, demand_step, adaptive_step}
-use Rattle.policies.specs.Theorems.{AnyStepLaw, AnyAccepts, AnyIsOne, AnyReports, AnyAnswers, AnyCoversTrace, AnyHitsKeepAll, AnyAsksWhereOneLeft}
+use Rattle.policies.specs.Theorems.{AnyStepLaw, AnyAccepts, AnyIsOne, AnyReports, AnyAnswers, AnyCoversTrace, AnyHitsKeepAll, AnyRecordsShowOutcome, AnyAsksWhereOneLeft}
+use Rattle.clairvoyant.proofs.Records.{outcome-is}
 use Rattle.policies.proofs.Leaving.{hits_keep_all, queue-asks-evicts, act-answers}
 use Rattle.policies.proofs.Counting.{after-counts}
 use Rattle.policies.proofs.Answered.{after-answers, after-length, at-answers, outcomes-length}
@@ -232,6 +233,23 @@ any_answers law j trace keys rest k (Adaptive d) o e x t s h =
     ∙ ap (λ l. get_or (outcomes_of_all cache_access (adaptive_start j) l) (length keys) x) (sym t)
     ∙ ap (λ os. get_or os (length keys) x) (sym (when-checked j trace s.checked))
     ∙ ap (λ z. get_or (outcomes_by z j trace) (length keys) x) (sym s.design)
+
+-- a record has the outcome
+
+pub any_records_show_outcome : ClairvoyantStepLaw → AnyRecordsShowOutcome
+any_records_show_outcome law j trace keys (Queues d) k o e s h =
+    let q : IsQueueStep (queue_act d k) o e = queue_step (queue_act d k) o e h in
+    act-answers d k o q.next q.steps
+any_records_show_outcome law j trace keys (Optimal d) k o e s h =
+    let q : IsOptimalStep (clairvoyant_act d k) o e = optimal_step (clairvoyant_act d k) o e h in
+    let p : IsAtPlace j trace keys d = at_place j trace keys d s in
+    outcome-is d.capacity d.trace d.stats.accesses ∙ sym (law d k o q.next p.here q.steps).2
+any_records_show_outcome law j trace keys (Demand d) k o e s h =
+    let q : IsDemandStep (demand_act d k) o e = demand_step (demand_act d k) o e h in
+    sym (demand-access d k o q.next q.steps).outcome
+any_records_show_outcome law j trace keys (Adaptive d) k o e s h =
+    let q : IsAdaptiveStep (cache_act d k) o e = adaptive_step (cache_act d k) o e h in
+    sym (adaptive-access d k o q.next q.steps).outcome
 
 -- undoing a hit asks for no room
 

@@ -4,9 +4,9 @@ use Rattle.std.specs.Prelude.{ℕ, Option, Some, None}
 use Rattle.step_record.specs.declared.outcome.Outcome.{Outcome}
 use Rattle.step_record.specs.Pace.{Pace, pace_without_sketch}
 use Rattle.adaptive_window.specs.AdaptiveCache.{AdaptiveCacheState, cache_act, cache_record_of, cache_undone, cache_asks}
-use Rattle.adaptive_window.specs.AdaptiveCache.{cache_words, cache_pace, CacheFits}
+use Rattle.adaptive_window.specs.AdaptiveCache.{cache_may_ask, cache_words, cache_pace, CacheFits}
 use Rattle.clairvoyant.specs.Clairvoyant.{ClairvoyantState, clairvoyant_act}
-use Rattle.clairvoyant.specs.OptimalRecord.{record_at, clairvoyant_undone, ClairvoyantFits}
+use Rattle.clairvoyant.specs.OptimalRecord.{outcome_of, record_at, clairvoyant_undone, ClairvoyantFits}
 use Rattle.demand_cache.specs.DemandCache.{DemandState, DemandFits}
 use Rattle.demand_cache.specs.DemandCache.{demand_act, demand_record_of, demand_may_ask, demand_undone, demand_asks}
 use Rattle.policies.specs.declared.any_policy.AnyPolicy.{AnyPolicy}
@@ -15,7 +15,7 @@ use Rattle.policies.specs.declared.any_policy.AnyRecord.{AnyRecord}
 use Rattle.policies.specs.declared.any_policy.AnyRecord.TheVariants as done
 use Rattle.policies.specs.QueueCache.{QueueState}
 use Rattle.policies.specs.QueueStep.{queue_act, queue_record_of, queue_undone, queue_asks, QueueFits}
-use Rattle.policies.specs.QueueStep.{queue_words, queue_pace}
+use Rattle.policies.specs.QueueStep.{queue_may_ask, queue_words, queue_pace}
 
 abbrev pub as_queues : Option (Outcome × QueueState) → Option (Outcome × AnyPolicy)
 as_queues None = None
@@ -46,12 +46,13 @@ any_record_of k (Optimal d) = done.Optimal (record_at d.capacity d.trace d.stats
 any_record_of k (Demand d) = done.Demand (demand_record_of k d)
 any_record_of k (Adaptive d) = done.Adaptive (cache_record_of k d)
 
--- an access may be out of memory: the optimal policy has all that it needs once it is open
+-- An access may be out of memory: its key is not resident, or brings a halving. The optimal policy has all that it needs
+-- once it is open.
 abbrev pub MayAllocate : AnyPolicy → ℕ → Type 0
-MayAllocate (Queues d) k = Unit {0}
+MayAllocate (Queues d) k = queue_may_ask d k
 MayAllocate (Optimal d) k = ⊥
 MayAllocate (Demand d) k = demand_may_ask d k
-MayAllocate (Adaptive d) k = Unit {0}
+MayAllocate (Adaptive d) k = cache_may_ask d k
 
 -- a record of the other kind fits nowhere
 abbrev pub any_undone : AnyRecord → AnyPolicy → AnyPolicy
@@ -74,6 +75,13 @@ any_asks (done.Queues r) = queue_asks r
 any_asks (done.Optimal r) = ⊥
 any_asks (done.Demand r) = demand_asks r
 any_asks (done.Adaptive r) = cache_asks r
+
+-- the outcome of the access, which names the key that left it, if one did
+abbrev pub recorded_outcome : AnyRecord → Outcome
+recorded_outcome (done.Queues r) = r.outcome
+recorded_outcome (done.Optimal r) = outcome_of r
+recorded_outcome (done.Demand r) = r.outcome
+recorded_outcome (done.Adaptive r) = r.window.outcome
 
 abbrev pub any_words : AnyRecord → ℕ
 any_words (done.Queues r) = queue_words r

@@ -1,11 +1,11 @@
 -- How one access changes what a cache of queues shows, its undo record, and how the record undoes it.
-use Rattle.std.specs.Prelude.{◌≡◌, ◌≢◌, ℕ, ◌≤◌, ◌==◌, if◌then◌else◌, Option, Some, None, List, length}
+use Rattle.std.specs.Prelude.{◌≡◌, ◌≢◌, ◌⊎◌, ℕ, ◌≤◌, ◌==◌, true, if◌then◌else◌, Option, Some, None, List, length}
 use Rattle.step_record.specs.declared.limits.TheConstants.{MAX_STEPS}
 use Rattle.step_record.specs.declared.outcome.Outcome.{Outcome}
 use Rattle.step_record.specs.Stats.{stats_without, IsCounted}
 use Rattle.step_record.specs.Pace.{Pace, pace_without_sketch}
 use Rattle.admission.specs.declared.freq_record.FreqRecord.{FreqRecord}
-use Rattle.admission.specs.Frequency.{FrequencyData, frequency_with, pace_of as frequency_pace}
+use Rattle.admission.specs.Frequency.{FrequencyData, frequency_with, halves, pace_of as frequency_pace}
 use Rattle.admission.specs.declared.freq_record.FreqRecord.TheVariants.{Nothing}
 use Rattle.admission.specs.FreqRecord.{frequency_record as freq_record_of, frequency_before as freq_undone, FitsRecord}
 use Rattle.admission.specs.FreqRecord.{size_of}
@@ -13,7 +13,9 @@ use Rattle.replacement.specs.declared.record.Moves.{Moves}
 use Rattle.replacement.specs.Admission.{admits_in}
 use Rattle.replacement.specs.Plan.{plan}
 use Rattle.replacement.specs.PlanMoves.{moves_of, undone_moves, FitsMoves}
+use Rattle.step_record.specs.declared.item.Item.{Item}
 use Rattle.segments.specs.Items.{nodeless_item}
+use Rattle.segments.specs.Queues.{Queues, queue_holding}
 use Rattle.policies.specs.declared.record.AccessRecord.{AccessRecord}
 use Rattle.policies.specs.Design.{rules_of}
 use Rattle.policies.specs.QueueCache.{QueueState, access_response, queue_state_after, StandsFor}
@@ -34,6 +36,19 @@ queue_act d k =
       (access_response (recorded_in k d.frequency) k d).outcome,
       queue_state_after (recorded_in k d.frequency) k d,
     )
+
+-- the next key brings a halving, whose undo record takes memory
+abbrev pub FillsSample : Option FrequencyData → Type 0
+FillsSample None = ⊥
+FillsSample (Some f) = halves f ≡ true
+
+-- an access to the item may be refused memory
+abbrev pub MayAsk : Item → Queues → Option FrequencyData → Type 0
+MayAsk i q f = (queue_holding i q ≡ None) ⊎ FillsSample f
+
+-- An access to k may be refused memory: its key is not resident, or it brings a halving.
+abbrev pub queue_may_ask : QueueState → ℕ → Type 0
+queue_may_ask d k = MayAsk (nodeless_item k) d.queues d.frequency
 
 -- ---- its record
 

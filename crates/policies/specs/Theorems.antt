@@ -15,7 +15,7 @@ use Rattle.policies.specs.QueueCache.{QueueState, access_response, state_after, 
 use Rattle.policies.specs.QueueCache.{StandsFor}
 use Rattle.policies.specs.QueueStep.{recorded_in, queue_act, queue_record_of, IsReached}
 use Rattle.policies.specs.AnyPolicy.{HasAccessed, stats_in, stats_on, outcomes_on}
-use Rattle.policies.specs.AnyStep.{any_act, any_record_of, any_asks}
+use Rattle.policies.specs.AnyStep.{any_act, any_record_of, any_asks, recorded_outcome}
 
 -- For a cache of queues that made some accesses, an accepted step answers the outcome that the definition gives after
 -- all of them, and leaves a cache that made one access more.
@@ -83,6 +83,12 @@ AnyAnswers = (j : Job) (trace keys rest : List ℕ) (k : ℕ) (d : AnyPolicy) (o
 -- A job over a trace has one outcome for each access.
 abbrev pub AnyCoversTrace : Type 0
 AnyCoversTrace = (j : Job) (trace : List ℕ) → length (outcomes_on j trace) ≡ length trace
+
+-- The record of an access of a cache of any policy, one that made some accesses before it, has the access's outcome, which
+-- names the key that left, if one did.
+abbrev pub AnyRecordsShowOutcome : Type 0
+AnyRecordsShowOutcome = (j : Job) (trace keys : List ℕ) (d : AnyPolicy) (k : ℕ) (o : Outcome) (e : AnyPolicy)
+    → HasAccessed j trace keys d → any_act d k ≡ Some (o, e) → recorded_outcome (any_record_of k d) ≡ o
 
 -- Undoing a hit of a cache of any policy takes no memory.
 abbrev pub AnyHitsKeepAll : Type 0

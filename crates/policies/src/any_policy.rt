@@ -130,7 +130,7 @@ impl AnyPolicy {
         ensures accepted { IfOk result (λ o. any_act self.old key ≡ Some (o, self.new)) }
         ensures not_now { result ≡ Err StepFault.NotNow ↔ any_act self.old key ≡ None }
         ensures err { OnErr result (self.new ≡ self.old) }
-        // The optimal policy is never out of memory.
+        // Of a resident key only an access that brings a halving is out of memory, and the optimal policy never.
         ensures memory { result ≡ Err StepFault.OutOfMemory → MayAllocate self.old key }
     {
         match self {

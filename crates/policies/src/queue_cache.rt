@@ -3,18 +3,20 @@ ghost use Rattle.std.specs.Prelude.{◌≡◌, ◌≢◌, ◌+◌, ◌≤◌, �
 ghost use Rattle.std.specs.Prelude.{IfOk, OnOk, OnErr, Ok, Option, Some, None};
 ghost use Rattle.step_record.specs.declared.limits.TheConstants.{MAX_STEPS};
 ghost use Rattle.step_record.specs.Config.{config_fault};
+ghost use Rattle.step_record.specs.Stats.{is_eviction};
+ghost use Rattle.segments.specs.Queues.{queue_holding};
 ghost use Rattle.replacement.specs.Shape.{shape_of};
 ghost use Rattle.policies.specs.declared.design.Design.TheVariants.{Queues};
 ghost use Rattle.policies.specs.Design.{design_of};
 ghost use Rattle.policies.specs.QueueCache.{frequency_by};
-ghost use Rattle.policies.specs.QueueStep.{recorded_in, counting_record, unrecorded, FitsCounting};
+ghost use Rattle.policies.specs.QueueStep.{recorded_in, counting_record, unrecorded, FitsCounting, FillsSample};
 ghost use Rattle.policies.specs.QueueFields.{FewHalvings};
 
 use crate::design::{FixedDesign, Layout, QueueDesign};
 use crate::record::AccessRecord;
 use admission::{FreqRecord, Frequency};
 use demand_cache::AHEAD;
-use replacement::{KeptMoves, Rules, access, open_frequency, undo};
+use replacement::{KeptMoves, Rules, access, make_room, open_frequency, undo};
 use segments::{Queue, Segments};
 use std::alloc::{AllocError, Global};
 use std::marker::{Model, PhantomData};
@@ -56,7 +58,7 @@ impl<P: Drop> QueueCache<P> {
     ghost use Rattle.segments.specs.Queues.{residents_in};
     ghost use Rattle.policies.specs.QueueCache.{StandsFor};
     ghost use Rattle.policies.specs.QueueStep.{queue_act, queue_record_of, queue_undone, queue_asks, QueueFits};
-    ghost use Rattle.policies.specs.QueueStep.{queue_words, queue_pace};
+    ghost use Rattle.policies.specs.QueueStep.{queue_may_ask, queue_words, queue_pace};
 
     /// An empty cache for a job. It requires a configuration that `Config::check` accepts, and the design of the job's
     /// policy. The one error is that an allocation failed.
@@ -120,13 +122,14 @@ impl<P: Drop> QueueCache<P> {
     pub fn access<C>(&mut self, key: Key) -> Result<Outcome, StepFault>
         ensures accepted { IfOk result (λ o. queue_act self.old key ≡ Some (o, self.new)) }
         ensures not_now { result ≡ Err StepFault.NotNow ↔ queue_act self.old key ≡ None }
+        ensures memory { result ≡ Err StepFault.OutOfMemory → queue_may_ask self.old key }
         ensures err { OnErr result (self.new ≡ self.old) }
     {
-        make_room(&self.stats, &mut self.segments)?;
+        let item = Item { key, node: 0 };
+        room_for(&self.stats, &mut self.segments, item)?;
         let Ok(()) = count_in(&mut self.frequency, key) else {
             return Err(StepFault::OutOfMemory);
         };
-        let item = Item { key, node: 0 };
         let frequency = self.frequency.as_ref();
         let effect = access::<C>(&mut self.segments, frequency, &self.rules, item);
         self.stats.count(effect.outcome);
@@ -139,15 +142,16 @@ impl<P: Drop> QueueCache<P> {
         requires { design_of self.old.job.policy ≡ Queues D.DESIGN }
         ensures accepted { IfOk result (λ o. queue_act self.old key ≡ Some (o, self.new)) }
         ensures not_now { result ≡ Err StepFault.NotNow ↔ queue_act self.old key ≡ None }
+        ensures memory { result ≡ Err StepFault.OutOfMemory → queue_may_ask self.old key }
         ensures err { OnErr result (self.new ≡ self.old) }
         ensures job { self.new.job ≡ self.old.job }
     {
         let design = D::DESIGN;
-        make_room(&self.stats, &mut self.segments)?;
+        let item = Item { key, node: 0 };
+        room_for(&self.stats, &mut self.segments, item)?;
         let Ok(()) = count_where(design.counts_keys, &mut self.frequency, key) else {
             return Err(StepFault::OutOfMemory);
         };
-        let item = Item { key, node: 0 };
         let frequency = frequency_where(design.counts_keys, &self.frequency);
         let rules = design.fixed(&self.rules);
         let effect = access::<D>(&mut self.segments, frequency, &rules, item);
@@ -188,7 +192,7 @@ impl<P: Drop> QueueCache<P> {
 
 impl<P: Drop> Engine for QueueCache<P> {
     ghost use Rattle.policies.specs.QueueStep.{queue_act, queue_record_of, queue_undone, queue_asks, QueueFits};
-    ghost use Rattle.policies.specs.QueueStep.{queue_words, queue_pace};
+    ghost use Rattle.policies.specs.QueueStep.{queue_may_ask, queue_words, queue_pace};
     ghost use Rattle.policies.specs.QueueCounts.{act_counts, act_ends, act_paced};
 
     type Step = Key;
@@ -205,8 +209,7 @@ impl<P: Drop> Engine for QueueCache<P> {
 
     ghost record_of = { queue_record_of };
 
-    // Room for an item is made before it is known whether the access needs any.
-    ghost may_ask = { λ d k. Unit {0} };
+    ghost may_ask = { queue_may_ask };
 
     ghost fits = { QueueFits };
 
@@ -223,11 +226,11 @@ impl<P: Drop> Engine for QueueCache<P> {
     #[inline(always)]
     fn apply(&mut self, step: &Key) -> Result<(Outcome, AccessRecord), StepFault> {
         let key = *step;
-        make_room(&self.stats, &mut self.segments)?;
+        let item = Item { key, node: 0 };
+        room_for(&self.stats, &mut self.segments, item)?;
         let Ok(counting) = record_in(&mut self.frequency, key) else {
             return Err(StepFault::OutOfMemory);
         };
-        let item = Item { key, node: 0 };
         let frequency = self.frequency.as_ref();
         let effect = access::<Recorder>(&mut self.segments, frequency, &self.rules, item);
         self.stats.count(effect.outcome);
@@ -290,21 +293,22 @@ fn first_frequency(
     Ok(Some(frequency))
 }
 
-// Makes the room that one more access takes, before a key is counted: what follows takes none.
+// Makes the room that one more access takes, before its key is counted: what follows takes none.
 #[inline(always)]
-fn make_room(stats: &Stats, segments: &mut Segments) -> Result<(), StepFault>
+fn room_for(stats: &Stats, segments: &mut Segments, item: Item) -> Result<(), StepFault>
     ensures below { OnOk result (stats.now.accesses ≢ MAX_STEPS) }
-    ensures room { OnOk result (1 ≤ segments.new.spare) }
+    ensures room { OnOk result (queue_holding item segments.new.lists ≡ None → 1 ≤ segments.new.spare) }
     ensures lists { segments.new.lists ≡ segments.old.lists }
     ensures not_now { result ≡ Err StepFault.NotNow ↔ stats.now.accesses ≡ MAX_STEPS }
+    ensures memory { result ≡ Err StepFault.OutOfMemory → queue_holding item segments.old.lists ≡ None }
 {
     if stats.accesses == MAX_STEPS {
         return Err(StepFault::NotNow);
     }
-    if segments.reserve().is_err() {
-        return Err(StepFault::OutOfMemory);
+    match make_room(segments, item) {
+        Ok(()) => Ok(()),
+        Err(_) => Err(StepFault::OutOfMemory),
     }
-    Ok(())
 }
 
 // Records a key where keys are counted, for an access that is not to be undone.
@@ -312,6 +316,7 @@ fn make_room(stats: &Stats, segments: &mut Segments) -> Result<(), StepFault>
 fn count_in(frequency: &mut Option<Frequency>, key: Key) -> Result<(), AllocError>
     requires { FewHalvings frequency.old }
     ensures after { OnOk result (frequency.new ≡ recorded_in key frequency.old) }
+    ensures memory { OnErr result (FillsSample frequency.old) }
     ensures err { OnErr result (frequency.new ≡ frequency.old) }
 {
     if let Some(frequency) = frequency {
@@ -330,6 +335,7 @@ fn count_where(
     requires few { FewHalvings frequency.old }
     requires counts { counts_keys ≡ false → frequency.old ≡ None }
     ensures after { OnOk result (frequency.new ≡ recorded_in key frequency.old) }
+    ensures memory { OnErr result (FillsSample frequency.old) }
     ensures err { OnErr result (frequency.new ≡ frequency.old) }
 {
     if counts_keys {
@@ -379,7 +385,9 @@ fn prepare_victim(
 
 // Whether an access was a miss in a full cache.
 #[inline(always)]
-fn is_of_full_cache(outcome: Outcome) -> bool {
+fn is_of_full_cache(outcome: Outcome) -> bool
+    ensures { result ≡ is_eviction outcome }
+{
     match outcome {
         Outcome::Evicted(_) | Outcome::Rejected(_) => true,
         Outcome::Hit | Outcome::Kept => false,
@@ -391,6 +399,7 @@ fn is_of_full_cache(outcome: Outcome) -> bool {
 fn record_in(frequency: &mut Option<Frequency>, key: Key) -> Result<FreqRecord, AllocError>
     requires { FewHalvings frequency.old }
     ensures after { OnOk result (frequency.new ≡ recorded_in key frequency.old) }
+    ensures memory { OnErr result (FillsSample frequency.old) }
     ensures record { IfOk result (λ r. r ≡ counting_record key frequency.old) }
     ensures fits { IfOk result (λ r. FitsCounting r frequency.new) }
     ensures undone { IfOk result (λ r. unrecorded r frequency.new ≡ frequency.old) }

@@ -3,7 +3,7 @@
 ghost use Rattle.policies.specs.Residents.{ResidentsFit, ResidentsDistinct, ResidentsCounted};
 ghost use Rattle.policies.specs.Residents.{HitsAreResidents, FetchesOnDemand, StatsAddUp, MissesFit};
 ghost use Rattle.policies.specs.Theorems.{QueuesStepLaw, QueuesAccept, HitsKeepAll, RecordsShowLeaver};
-ghost use Rattle.policies.specs.Theorems.{LruStepLaw, FifoStepLaw, AnyHitsKeepAll, AnyAsksWhereOneLeft};
+ghost use Rattle.policies.specs.Theorems.{LruStepLaw, FifoStepLaw, AnyHitsKeepAll, AnyRecordsShowOutcome, AnyAsksWhereOneLeft};
 ghost use Rattle.policies.specs.Theorems.{AnyStepLaw, AnyAccepts, AnyIsOne, AnyReports, AnyAnswers, AnyCoversTrace};
 
 /// An accepted step of a cache of queues answers what the definition gives over the whole list of accesses, and leaves
@@ -75,6 +75,13 @@ pub fn any_answers()
 pub fn any_covers_trace()
     ensures { AnyCoversTrace }
 {}
+
+/// The record of an access of a cache of any policy has its outcome, which names the key that left, if one did.
+pub fn any_records_show_outcome()
+    ensures { AnyRecordsShowOutcome }
+{
+    clairvoyant::theorems::clairvoyant_step_law();
+}
 
 /// Undoing a hit of a cache of any policy asks for no room, so it is never refused.
 pub fn any_hits_keep_all()

@@ -1,6 +1,6 @@
 //! An access.
-ghost use Rattle.std.specs.Prelude.{◌≡◌, ◌≤◌, Option, Some, option_map};
-ghost use Rattle.segments.specs.Queues.{IsDistinct};
+ghost use Rattle.std.specs.Prelude.{◌≡◌, ◌≢◌, ◌≤◌, Option, Some, None, OnOk, OnErr, option_map};
+ghost use Rattle.segments.specs.Queues.{IsDistinct, queue_holding};
 ghost use Rattle.replacement.specs.Admission.{admits_in};
 ghost use Rattle.replacement.specs.Table.{access};
 ghost use Rattle.replacement.specs.Plan.{plan};
@@ -14,10 +14,38 @@ use crate::record::Effect;
 use crate::rules::{Placement, Rules};
 use admission::Frequency;
 use segments::Segments;
+use std::alloc::AllocError;
 use step_record::{Item, Outcome};
 
+/// Makes the room that an access to the item needs, ahead of it. The one error is that an allocation failed where the
+/// item stands in no queue; the queues are then as before.
+#[inline(always)]
+pub fn make_room(segments: &mut Segments, item: Item) -> Result<(), AllocError>
+    ensures room { OnOk result (queue_holding item segments.new.lists ≡ None → 1 ≤ segments.new.spare) }
+    ensures lists { segments.new.lists ≡ segments.old.lists }
+    ensures memory { OnErr result (queue_holding item segments.old.lists ≡ None) }
+{
+    match segments.reserve() {
+        Ok(()) => Ok(()),
+        Err(_) => without_room(segments, item),
+    }
+}
+
+// Where there is no room and no memory for more, an item that stands in a queue goes on without.
+#[cold]
+#[inline(never)]
+fn without_room(segments: &Segments, item: Item) -> Result<(), AllocError>
+    ensures found { OnOk result (queue_holding item segments.now.lists ≢ None) }
+    ensures missed { OnErr result (queue_holding item segments.now.lists ≡ None) }
+{
+    match segments.find(item) {
+        Some(_) => Ok(()),
+        None => Err(AllocError),
+    }
+}
+
 /// Accesses an item: a hit where it stands in a queue, else a miss, by the rules. Where keys are counted, `frequency`
-/// is the one that already has the item's key. It requires room for one item.
+/// is the one that already has the item's key. It requires room for one item where the item stands in no queue.
 ///
 /// `C` only selects an instance: calls with different `C` are compiled apart, so an instance whose undo record is
 /// unused makes none.
@@ -28,7 +56,7 @@ pub fn access<C>(
     rules: &Rules,
     item: Item,
 ) -> Effect
-    requires room { 1 ≤ segments.old.spare }
+    requires room { queue_holding item segments.old.lists ≡ None → 1 ≤ segments.old.spare }
     ensures outcome { result.outcome
         ≡ (access rules.now (admits_in (option_map (λ f. f.now) frequency.entry)) item segments.old.lists).outcome }
     ensures lists { segments.new.lists
@@ -52,7 +80,7 @@ fn access_planned<C>(
     rules: &Rules,
     item: Item,
 ) -> Effect
-    requires room { 1 ≤ segments.old.spare }
+    requires room { queue_holding item segments.old.lists ≡ None → 1 ≤ segments.old.spare }
     ensures effect { IsEffect (plan rules.now (admits_in
         (option_map (λ f. f.now) frequency.entry)) item segments.old.lists)
         segments.old.lists segments.new.lists result }

@@ -18,7 +18,7 @@ mod rollback;
 mod rules;
 pub mod theorems;
 
-pub use accesses::access;
+pub use accesses::{access, make_room};
 pub use admission_filter::{open_frequency, open_frequency_without_doorkeeper};
 pub use hits::hit;
 pub use kept_moves::KeptMoves;

@@ -1,5 +1,5 @@
 //! Marked places, and how many of them are below one.
-ghost use Rattle.std.specs.Prelude.{◌≡◌, ℕ, ◌+◌, ◌<◌, ◌≤◌, ◌*◌, ◌/◌, true, false, cond, eqb, IfOk, OnOk, length};
+ghost use Rattle.std.specs.Prelude.{◌≡◌, ℕ, ◌+◌, ◌<◌, ◌≤◌, ◌*◌, ◌/◌, true, false, cond, eqb, get_or, IfOk, OnOk, length};
 ghost use Rattle.step_record.specs.declared.limits.TheConstants.{MAX_ACCESSES};
 ghost use Rattle.step_record.specs.Bits.{bit_of};
 ghost use Rattle.stack_distances.specs.declared.limits.TheConstants.{WORD_BITS};
@@ -84,7 +84,9 @@ impl Marks {
 
     /// The word of a place's mark, 0 past the last one: to read it ahead.
     #[inline(always)]
-    pub(crate) fn word_of(&self, place: usize) -> u64 {
+    pub(crate) fn word_of(&self, place: usize) -> u64
+        ensures { result ≡ get_or self.now.words.items (place / WORD_BITS) 0 }
+    {
         let word = place / WORD_BITS;
         if word < self.words.len() {
             return self.words[word];

@@ -1,8 +1,14 @@
-use Rattle.std.proofs.Common.{option_map}
+use Rattle.std.proofs.Common.{option_map, arith}
 use Rattle.replacement.specs.declared.rules.Placement.TheVariants.{Direct, Windowed}
 use Rattle.replacement.specs.Admission.{admits_in}
 use Rattle.replacement.proofs.Served.{hit-effect, miss-effect, placed-effect}
 use Rattle.replacement.proofs.accesses.access_planned.Goals as goal
+
+pub windowed-requires-clause-room : goal.windowed-requires-clause-room
+windowed-requires-clause-room g c = let a = c.requires.room c.in_default.ensures.absent in let b = c.hit_by.ensures.spare in omega arith
+
+pub direct-requires-clause-room : goal.direct-requires-clause-room
+direct-requires-clause-room g c = let a = c.requires.room c.in_default.ensures.absent in let b = c.hit_by.ensures.spare in omega arith
 
 pub returns-in-Some-clause-effect : goal.returns-in-Some-clause-effect
 returns-in-Some-clause-effect g c =
