@@ -1,33 +1,20 @@
 -- Two policies' hits, access by access.
-use Rattle.std.proofs.Common.{◌≡◌, ◌∙◌, ℕ, zero, suc, ◌+◌, ◌<◌, ◌≤◌, Bool, true, false, cond, List, [], ◌∷◌, ◌++◌, length, take, get_or, count_by, ap, sym, refl, arith}
+use Rattle.std.proofs.Common.{◌≡◌, ◌∙◌, ℕ, zero, suc, ◌+◌, ◌-◌, ◌<◌, ◌≤◌, Bool, true, false, cond, List, [], ◌∷◌, ◌++◌, length, take, get_or, count_by, ap, sym, refl, arith, length-append}
 use Rattle.std.specs.Prelude.{not, ◌&&◌, slice_index_or}
-use Rattle.std.proofs.lemmas.List.{take_all, take_more}
+use Rattle.std.proofs.lemmas.List.{get_or_default, take_more}
 use Rattle.std.proofs.lemmas.List.Sums.{sum_by-append}
+use Rattle.step_record.specs.declared.job.Job.{Job}
 use Rattle.step_record.specs.declared.outcome.Outcome.{Outcome}
 use Rattle.step_record.specs.declared.outcome.Outcome.TheVariants.{Kept}
 use Rattle.step_record.specs.Stats.{is_hit, one_if}
+use Rattle.policies.specs.AnyPolicy.{outcomes_on}
+use Rattle.policies.proofs.StepLaws.{any_covers_trace}
+use Rattle.debug_policies.specs.CacheAccess.{StandsAt}
 use Rattle.debug_policies.specs.declared.comparison.Comparison.{Comparison}
-use Rattle.debug_policies.specs.Comparison.{counts_of, counts_with, compared_up_to, hits_beside, IsUpTo}
+use Rattle.debug_policies.specs.Comparison.{counts_of, counts_with, hits_beside, IsUpTo}
 use Rattle.debug_policies.specs.Part.{is_hit_at}
 
--- ---- one access more
-
-count-snoc : (p : Bool × Bool → Bool) (hits : List (Bool × Bool)) (hit : Bool × Bool) → count_by p (hits ++ hit ∷ []) ≡ count_by p hits + one_if (p hit)
-count-snoc p hits hit = sum_by-append (λ h. cond (p h) 1 0) hits (hit ∷ []) ∙ omega arith
-
-long-snoc : (hits : List (Bool × Bool)) (hit : Bool × Bool) → length (hits ++ hit ∷ []) ≡ length hits + 1
-long-snoc [] hit = refl
-long-snoc (h ∷ hits) hit = let more = long-snoc hits hit in omega (arith, more)
-
-counts-snoc : (hits : List (Bool × Bool)) (hit : Bool × Bool) → counts_of (hits ++ hit ∷ []) ≡ counts_with hit (counts_of hits)
-counts-snoc hits hit =
-    rw (
-      count-snoc (λ h. h.0 && h.1) hits hit,
-      count-snoc (λ h. h.0 && not h.1) hits hit,
-      count-snoc (λ h. not h.0 && h.1) hits hit,
-      count-snoc (λ h. not h.0 && not h.1) hits hit,
-      long-snoc hits hit,
-    ) refl
+-- ---- hits side by side
 
 hits-at : (os ps : List Outcome) (i : ℕ) → i < length os → i < length ps
     → get_or (hits_beside os ps) i (false, false) ≡ (is_hit (slice_index_or os i Kept), is_hit (slice_index_or ps i Kept))
@@ -36,46 +23,72 @@ hits-at (o ∷ os) [] i lt below = absurd (omega (arith, below))
 hits-at (o ∷ os) (p ∷ ps) zero lt below = refl
 hits-at (o ∷ os) (p ∷ ps) (suc i) lt below = hits-at os ps i (omega (arith, lt)) (omega (arith, below))
 
-hits-reach : (os ps : List Outcome) (i : ℕ) → i < length os → i < length ps → i < length (hits_beside os ps)
-hits-reach [] ps i lt below = absurd (omega (arith, lt))
-hits-reach (o ∷ os) [] i lt below = absurd (omega (arith, below))
-hits-reach (o ∷ os) (p ∷ ps) zero lt below = omega arith
-hits-reach (o ∷ os) (p ∷ ps) (suc i) lt below = let more = hits-reach os ps i (omega (arith, lt)) (omega (arith, below)) in omega (arith, more)
+-- two jobs have as many hits side by side as there are accesses
+hits-long : (os ps : List Outcome) (n : ℕ) → length os ≡ n → length ps ≡ n → length (hits_beside os ps) ≡ n
+hits-long [] ps n long wide = long
+hits-long (o ∷ os) [] n long wide = absurd (omega (arith, long, wide))
+hits-long (o ∷ os) (p ∷ ps) n long wide =
+    let rest = hits-long os ps (n - 1) (omega (arith, long)) (omega (arith, wide)) in omega (arith, long, rest)
 
-hits-fit : (os ps : List Outcome) → length (hits_beside os ps) ≤ length os
-hits-fit [] ps = omega arith
-hits-fit (o ∷ os) [] = omega arith
-hits-fit (o ∷ os) (p ∷ ps) = let more = hits-fit os ps in omega (arith, more)
+pub beside-long : (j k : Job) (trace : List ℕ) → length (hits_beside (outcomes_on j trace) (outcomes_on k trace)) ≡ length trace
+beside-long j k trace = hits-long (outcomes_on j trace) (outcomes_on k trace) (length trace) (any_covers_trace j trace) (any_covers_trace k trace)
 
-pub compared-more : (os ps : List Outcome) (i : ℕ) (a b : Bool) (c : Comparison) → i < length os → i < length ps
-    → a ≡ is_hit_at os (i + 1) → b ≡ is_hit_at ps (i + 1) → c ≡ compared_up_to i os ps → counts_with (a, b) c ≡ compared_up_to (i + 1) os ps
-compared-more os ps i a b c lt below first second is =
+-- whether two caches hit at an access is what stands at its place
+pub beside-at : (j k : Job) (trace : List ℕ) (i : ℕ) (a b : Bool) → i < length trace
+    → a ≡ is_hit_at (outcomes_on j trace) (i + 1) → b ≡ is_hit_at (outcomes_on k trace) (i + 1)
+    → StandsAt (hits_beside (outcomes_on j trace) (outcomes_on k trace)) i (a, b)
+beside-at j k trace i a b lt first second =
+    let os = outcomes_on j trace in
+    let ps = outcomes_on k trace in
     let on : i + 1 ≡ suc i = omega arith in
-    let hits = hits_beside os ps in
-    ap (counts_with (a, b)) is
-    ∙ ap (λ x. counts_with (x, b) (compared_up_to i os ps)) (first ∙ ap (is_hit_at os) on)
-    ∙ ap (λ x. counts_with (is_hit (slice_index_or os i Kept), x) (compared_up_to i os ps)) (second ∙ ap (is_hit_at ps) on)
-    ∙ ap (λ h. counts_with h (compared_up_to i os ps)) (sym (hits-at os ps i lt below))
-    ∙ sym (counts-snoc (take i hits) (get_or hits i (false, false)))
-    ∙ ap counts_of (sym (take_more hits i (false, false) (hits-reach os ps i lt below)))
+    let one : i < length os = omega (arith, lt, any_covers_trace j trace) in
+    let other : i < length ps = omega (arith, lt, any_covers_trace k trace) in
+    let within : i < length (hits_beside os ps) = omega (arith, lt, beside-long j k trace) in
+    record {
+      within = within;
+      same = λ d. get_or_default (hits_beside os ps) i d (false, false) within ∙ hits-at os ps i one other
+          ∙ ap (λ (x : Bool). (x, is_hit (slice_index_or ps i Kept))) (sym (first ∙ ap (is_hit_at os) on))
+          ∙ ap (λ (x : Bool). (a, x)) (sym (second ∙ ap (is_hit_at ps) on));
+    }
 
--- at the end all is counted
-pub compared-all : (os ps : List Outcome) (n : ℕ) → length os ≡ n → compared_up_to n os ps ≡ counts_of (hits_beside os ps)
-compared-all os ps n long =
-    let fit = hits-fit os ps in
-    ap counts_of (take_all n (hits_beside os ps) (omega (arith, fit, long)))
+-- ---- one access more
+
+count-snoc : (p : Bool × Bool → Bool) (hits : List (Bool × Bool)) (hit : Bool × Bool) → count_by p (hits ++ hit ∷ []) ≡ count_by p hits + one_if (p hit)
+count-snoc p hits hit = sum_by-append (λ h. cond (p h) 1 0) hits (hit ∷ []) ∙ omega arith
+
+counts-snoc : (hits : List (Bool × Bool)) (hit : Bool × Bool) → counts_of (hits ++ hit ∷ []) ≡ counts_with hit (counts_of hits)
+counts-snoc hits hit =
+    rw (
+      count-snoc (λ h. h.0 && h.1) hits hit,
+      count-snoc (λ h. h.0 && not h.1) hits hit,
+      count-snoc (λ h. not h.0 && h.1) hits hit,
+      count-snoc (λ h. not h.0 && not h.1) hits hit,
+      length-append hits (hit ∷ []),
+    ) refl
+
+pub counts-more : (hits : List (Bool × Bool)) (n : ℕ) (hit : Bool × Bool) (c : Comparison) → StandsAt hits n hit → c ≡ counts_of (take n hits)
+    → counts_with hit c ≡ counts_of (take (n + 1) hits)
+counts-more hits n hit c next is =
+    ap (counts_with hit) is ∙ sym (counts-snoc (take n hits) hit)
+    ∙ ap (λ (h : Bool × Bool). counts_of (take n hits ++ h ∷ [])) (sym (next.same hit)) ∙ ap counts_of (sym (take_more hits n hit next.within))
 
 -- ---- how large the counts are
 
-few : (b : Bool) → one_if b ≤ 1
+few : (b : Bool) → cond b 1 0 ≤ 1
 few true = omega arith
 few false = omega arith
 
-pub up-more : (n : ℕ) (hit : Bool × Bool) (c : Comparison) → IsUpTo n c → IsUpTo (n + 1) (counts_with hit c)
-up-more n hit c u = record {
-  accesses = omega (arith, u.accesses);
-  both = omega (arith, u.both, few (hit.0 && hit.1));
-  first_only = omega (arith, u.first_only, few (hit.0 && not hit.1));
-  second_only = omega (arith, u.second_only, few (not hit.0 && hit.1));
-  neither = omega (arith, u.neither, few (not hit.0 && not hit.1));
+count-few : (p : Bool × Bool → Bool) (hits : List (Bool × Bool)) → count_by p hits ≤ length hits
+count-few p [] = omega arith
+count-few p (h ∷ hits) =
+    let next : count_by p (h ∷ hits) ≡ 0 + cond (p h) 1 0 + count_by p hits = sum_by-append (λ x. cond (p x) 1 0) (h ∷ []) hits in
+    omega (arith, next, few (p h), count-few p hits)
+
+pub counts-few : (hits : List (Bool × Bool)) (most : ℕ) → length hits ≤ most → IsUpTo most (counts_of hits)
+counts-few hits most long = record {
+  accesses = long;
+  both = omega (arith, long, count-few (λ h. h.0 && h.1) hits);
+  first_only = omega (arith, long, count-few (λ h. h.0 && not h.1) hits);
+  second_only = omega (arith, long, count-few (λ h. not h.0 && h.1) hits);
+  neither = omega (arith, long, count-few (λ h. not h.0 && not h.1) hits);
 }

@@ -1,5 +1,5 @@
 -- Hits cut into intervals, and what two counts say of the piece between them.
-use Rattle.std.proofs.Common.{◌≡◌, ◌∙◌, ◌+◌, ◌-◌, ◌*◌, ◌<◌, ◌≤◌, ℕ, zero, suc, min, Bool, cond, List, [], ◌∷◌, ◌++◌, inl, inr, length, take, drop, count_by, refl, ap, sym, arith, take-add, length-append, length-drop, length-take-le}
+use Rattle.std.proofs.Common.{◌≡◌, ◌∙◌, ◌+◌, ◌-◌, ◌*◌, ◌<◌, ◌≤◌, ℕ, zero, suc, Bool, cond, List, [], ◌∷◌, ◌++◌, inl, inr, length, take, drop, count_by, refl, ap, sym, arith, take-add, length-append, length-drop, length-take-le}
 use Rattle.std.specs.Int.{div_ceil}
 use Rattle.std.specs.Prelude.{not, ◌&&◌}
 use Rattle.std.proofs.lemmas.Bool.{cases_lt}
@@ -8,11 +8,13 @@ use Rattle.std.proofs.lemmas.List.{take_all}
 use Rattle.std.proofs.lemmas.List.Sums.{sum_by-append, sum_by_push}
 use Rattle.std.proofs.lemmas.Nat.{mul-le}
 use Rattle.step_record.specs.declared.job.Job.{Job}
-use Rattle.step_record.specs.declared.outcome.Outcome.{Outcome}
 use Rattle.policies.specs.AnyPolicy.{outcomes_on}
-use Rattle.policies.specs.Theorems.{AnyCoversTrace}
 use Rattle.debug_policies.specs.declared.comparison.Comparison.{Comparison}
 use Rattle.debug_policies.specs.Comparison.{compared_on, counts_of, hits_beside}
+use Rattle.debug_policies.specs.ComparedRows.{EndsRow, rows_in}
+use Rattle.debug_policies.specs.declared.compared_rows.ComparedInterval.{ComparedInterval}
+use Rattle.debug_policies.specs.declared.compared_rows.ComparedRows.{ComparedRows}
+use Rattle.debug_policies.proofs.Compared.{beside-long}
 use Rattle.debug_policies.specs.ComparedIntervals.{between, compared_at, compared_behind, compared_intervals_on, first_compared, IsLater, sum_over, ComparedIntervalsAddUp}
 
 abbrev pub Hit : Type 0
@@ -25,36 +27,43 @@ piece-more every n hits =
     let e : (n + 1) * every ≡ n * every + every = omega arith in
     ap (λ m. take m hits) e ∙ take-add (n * every) every hits
 
--- before each piece that is needed to cover a list something is left
-pub piece-begins : (every n long : ℕ) → 1 ≤ every → n < div_ceil long every → n * every < long
-piece-begins every n long some below =
-    let cover = (div_ceil_times long every some).1 in
-    let next : (n + 1) * every ≤ div_ceil long every * every = mul-le (n + 1) every (div_ceil long every) every (omega (arith, below)) (omega arith) in
-    let e : (n + 1) * every ≡ n * every + every = omega arith in
-    omega (arith, cover, next, e)
+-- ---- how many pieces cover a list
 
--- the place behind a piece
-pub piece-ends : (every n long start end : ℕ) → n * every < long → start ≡ min (n * every) long → end ≡ start + min every (long - start)
-    → end ≡ min ((n + 1) * every) long
-piece-ends every n long start end below begin is =
-    let e : (n + 1) * every ≡ n * every + every = omega arith in
-    omega (arith, below, begin, is, e)
+next-times : (k every : ℕ) → (k + 1) * every ≡ k * every + every
+next-times k every = omega arith
 
--- up to the least of a place and the length the same is taken
-taken-least : (n k : ℕ) (hits : List Hit) → k ≡ min n (length hits) → take k hits ≡ take n hits
-taken-least n k hits is =
-    elim (cases_lt n (length hits)) [
-      | inl below ↦ (let same : k ≡ n = omega (arith, is, below) in ap (λ m. take m hits) same)
-      | inr past ↦ (
-          let all : k ≡ length hits = omega (arith, is, past) in
-          take_all k hits (omega (arith, all)) ∙ sym (take_all n hits past))
+-- n intervals cover more than k of them do
+more-than : (k n every : ℕ) → k * every < n * every → k < n
+more-than k n every less =
+    elim (cases_lt k n) [
+      | inl below ↦ below
+      | inr past ↦ (let back = mul-le n every k every (omega (arith, past)) (omega arith) in absurd (omega (arith, back, less)))
     ]
 
-pub hits-long : (os ps : List Outcome) (n : ℕ) → length os ≡ n → length ps ≡ n → length (hits_beside os ps) ≡ n
-hits-long [] ps n long wide = long
-hits-long (o ∷ os) [] n long wide = absurd (omega (arith, long, wide))
-hits-long (o ∷ os) (p ∷ ps) n long wide =
-    let rest = hits-long os ps (n - 1) (omega (arith, long)) (omega (arith, wide)) in omega (arith, long, rest)
+-- whole intervals and a piece of the next one
+pub covers-part : (k every used long : ℕ) → 1 ≤ every → 0 < used → used ≤ every → long ≡ k * every + used → div_ceil long every ≡ k + 1
+covers-part k every used long some part few is =
+    let cover = div_ceil_times long every some in
+    let low = cover.0 in
+    let high = cover.1 in
+    let one = next-times k every in
+    let two = next-times (k + 1) every in
+    let above : k < div_ceil long every = more-than k (div_ceil long every) every (omega (arith, is, low, part)) in
+    let below : div_ceil long every < k + 1 + 1 = more-than (div_ceil long every) (k + 1 + 1) every (omega (arith, is, high, few, one, two)) in
+    omega (arith, above, below)
+
+-- whole intervals alone
+pub covers-whole : (k every long : ℕ) → 1 ≤ every → long ≡ k * every + 0 → div_ceil long every ≡ k
+covers-whole zero every long some is =
+    let high = (div_ceil_times long every some).1 in
+    let none : 0 * every ≡ 0 = omega arith in
+    let one : 1 * every ≡ every = omega arith in
+    let below : div_ceil long every < 1 = more-than (div_ceil long every) 1 every (omega (arith, is, high, none, one)) in
+    omega (arith, below)
+covers-whole (suc k) every long some is =
+    let next : suc k * every ≡ k * every + every = omega arith in
+    let same : k + 1 ≡ suc k = omega arith in
+    covers-part k every every long some some (omega arith) (omega (arith, is, next)) ∙ same
 
 -- ---- counts of a list and of a longer one
 
@@ -93,23 +102,39 @@ some-taken (suc n) [] some full = absurd (omega (arith, full))
 some-taken (suc n) (h ∷ hits) some full = omega arith
 
 -- what two counts say of the piece between them
-module _ (every n start end : ℕ) (hits : List Hit) (before after : Comparison) (some : 1 ≤ every) (below : n * every < length hits)
-    (begin : start ≡ min (n * every) (length hits)) (stop : end ≡ min ((n + 1) * every) (length hits))
-    (first : before ≡ counts_of (take start hits)) (second : after ≡ counts_of (take end hits)) where
-  front : before ≡ counts_of (take (n * every) hits)
-  front = first ∙ ap counts_of (taken-least (n * every) start hits begin)
+module _ (every : ℕ) (hits : List Hit) (n : ℕ) (c : ComparedRows) (ends : EndsRow every hits n c) where
+  begun : rows_in c * every < length hits
+  begun = omega (arith, ends.cut.place, ends.cut.within, ends.part)
 
-  next : after ≡ counts_of (take (n * every) hits ++ take every (drop (n * every) hits))
-  next = second ∙ ap counts_of (taken-least ((n + 1) * every) end hits stop ∙ piece-more every n hits)
+  -- what was counted when the piece is over
+  pub at-end : c.counts ≡ counts_of (take ((rows_in c + 1) * every) hits)
+  at-end = ends.cut.counts ∙ ap counts_of ends.end
 
-  pub next-row : between before after ≡ compared_at every hits n
-  next-row =
-      rw (front, next, between-counts (take (n * every) hits) (take every (drop (n * every) hits)), length-take-le (n * every) hits (omega (arith, below))) refl
+  next : c.counts ≡ counts_of (take (rows_in c * every) hits ++ take every (drop (rows_in c * every) hits))
+  next = at-end ∙ ap counts_of (piece-more every (rows_in c) hits)
 
-  pub next-later : IsLater before after
-  next-later =
-      rw (front, next) (later-counts (take (n * every) hits) (take every (drop (n * every) hits))
-      (some-taken every (drop (n * every) hits) some (omega (arith, below, length-drop (n * every) hits))))
+  pub row-is : between c.cut c.counts ≡ compared_at every hits (rows_in c)
+  row-is =
+      rw (
+        ends.cut.cut,
+        next,
+        between-counts (take (rows_in c * every) hits) (take every (drop (rows_in c * every) hits)),
+        length-take-le (rows_in c * every) hits (omega (arith, begun)),
+      ) refl
+
+  pub row-later : IsLater c.cut c.counts
+  row-later =
+      rw (ends.cut.cut, next) (later-counts (take (rows_in c * every) hits) (take every (drop (rows_in c * every) hits))
+      (some-taken every (drop (rows_in c * every) hits) ends.cut.some (omega (arith, begun, length-drop (rows_in c * every) hits))))
+
+-- one row more
+pub rows-more : (every : ℕ) (hits : List Hit) (rows new : List ComparedInterval) (row : ComparedInterval)
+    → rows ≡ first_compared every hits (length rows) → new ≡ rows ++ row ∷ [] → row ≡ compared_at every hits (length rows)
+    → new ≡ first_compared every hits (length rows + 1)
+rows-more every hits rows new row so is one =
+    let next : suc (length rows) ≡ length rows + 1 = omega arith in
+    is ∙ ap (λ (l : List ComparedInterval). l ++ row ∷ []) so ∙ ap (λ (x : ComparedInterval). first_compared every hits (length rows) ++ x ∷ []) one
+    ∙ ap (first_compared every hits) next
 
 -- ---- sums
 
@@ -130,22 +155,21 @@ module _ (number : Comparison → ℕ) (count : List Hit → ℕ) (is : (hits : 
       ∙ ap count (sym (piece-more every n hits))
       ∙ ap (λ m. count (take (m * every) hits)) (sym e)
 
-  sum-all : AnyCoversTrace → (every : ℕ) (first second : Job) (trace : List ℕ) → 1 ≤ every
+  sum-all : (every : ℕ) (first second : Job) (trace : List ℕ) → 1 ≤ every
       → sum_over number (compared_intervals_on every first second trace) ≡ number (compared_on first second trace)
   unfolding compared_intervals_on compared_on
-  sum-all covers every first second trace some =
+  sum-all every first second trace some =
       let hits = hits_beside (outcomes_on first trace) (outcomes_on second trace) in
-      let long = hits-long (outcomes_on first trace) (outcomes_on second trace) (length trace) (covers first trace) (covers second trace) in
       let end = (div_ceil_times (length trace) every some).0 in
       sum-first every hits (div_ceil (length trace) every)
-      ∙ ap count (take_all (div_ceil (length trace) every * every) hits (omega (arith, end, long)))
+      ∙ ap count (take_all (div_ceil (length trace) every * every) hits (omega (arith, end, beside-long first second trace)))
       ∙ sym (is hits)
 
-pub add-up : AnyCoversTrace → ComparedIntervalsAddUp
-add-up covers every first second trace some = (
-  sum-all (λ c. c.accesses) length (λ hits. refl) refl length-append covers every first second trace some,
-  sum-all (λ c. c.both) (count_by (λ h. h.0 && h.1)) (λ hits. refl) refl (counted (λ h. h.0 && h.1)) covers every first second trace some,
-  sum-all (λ c. c.first_only) (count_by (λ h. h.0 && not h.1)) (λ hits. refl) refl (counted (λ h. h.0 && not h.1)) covers every first second trace some,
-  sum-all (λ c. c.second_only) (count_by (λ h. not h.0 && h.1)) (λ hits. refl) refl (counted (λ h. not h.0 && h.1)) covers every first second trace some,
-  sum-all (λ c. c.neither) (count_by (λ h. not h.0 && not h.1)) (λ hits. refl) refl (counted (λ h. not h.0 && not h.1)) covers every first second trace some,
+pub add-up : ComparedIntervalsAddUp
+add-up every first second trace some = (
+  sum-all (λ c. c.accesses) length (λ hits. refl) refl length-append every first second trace some,
+  sum-all (λ c. c.both) (count_by (λ h. h.0 && h.1)) (λ hits. refl) refl (counted (λ h. h.0 && h.1)) every first second trace some,
+  sum-all (λ c. c.first_only) (count_by (λ h. h.0 && not h.1)) (λ hits. refl) refl (counted (λ h. h.0 && not h.1)) every first second trace some,
+  sum-all (λ c. c.second_only) (count_by (λ h. not h.0 && h.1)) (λ hits. refl) refl (counted (λ h. not h.0 && h.1)) every first second trace some,
+  sum-all (λ c. c.neither) (count_by (λ h. not h.0 && not h.1)) (λ hits. refl) refl (counted (λ h. not h.0 && not h.1)) every first second trace some,
 )

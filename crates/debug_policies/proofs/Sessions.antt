@@ -1,20 +1,19 @@
 -- A session over a policy, whose applied steps are the first accesses of a trace.
-use Rattle.std.proofs.Common.{◌≡◌, ◌∙◌, ◌≤◌, ◌<◌, ◌+◌, ℕ, zero, suc, Some, List, [], ◌∷◌, ◌++◌, Result, Ok, Err, length, take, drop, get_or, refl, ap, sym, subst, arith, length-append, append-nil, append_assoc}
+use Rattle.std.proofs.Common.{◌≡◌, ◌∙◌, ◌≤◌, ◌<◌, ◌+◌, ℕ, zero, suc, Some, List, [], ◌∷◌, ◌++◌, Result, Ok, Err, length, take, get_or, refl, ap, sym, subst, arith, length-append, append-nil, append_assoc}
 use Rattle.std.specs.Prelude.{slice_index, IfOk, OnErr}
 use Rattle.std.specs.declared.alloc.AllocError.{AllocError}
-use Rattle.std.proofs.lemmas.List.{take_more, length-take-le, take-append-le}
+use Rattle.std.proofs.lemmas.List.{take_more, take-append-le}
 use Rattle.step_record.specs.declared.entry.Entry.{Entry}
 use Rattle.step_record.specs.declared.job.Job.{Job}
 use Rattle.step_record.specs.declared.outcome.Outcome.{Outcome}
-use Rattle.step_record.specs.declared.outcome.Outcome.TheVariants.{Kept}
 use Rattle.step_record.specs.History.{data_after, next_data, IsLegal}
 use Rattle.journal.specs.Session.{SessionState, IsMovedTo}
 use Rattle.policies.specs.declared.any_policy.AnyPolicy.{AnyPolicy}
-use Rattle.policies.specs.AnyPolicy.{outcomes_on, HasAccessed}
+use Rattle.policies.specs.AnyPolicy.{HasAccessed}
 use Rattle.policies.specs.AnyStep.{any_act}
 use Rattle.policies.specs.Theorems.{AnyAnswers, AnyStepLaw}
 use Rattle.debug_policies.specs.OnePolicy.{outcome_at, steps_of, IsPolicyAt}
-use Rattle.debug_policies.proofs.Walked.{moves, next-of}
+use Rattle.debug_policies.proofs.Walked.{moves, outcome-is, stands-in}
 
 abbrev State : Type 0
 State = SessionState AnyPolicy AnyPolicy ℕ Outcome
@@ -53,14 +52,13 @@ one_more law j trace keys old new key o is same lt key_is made kept opening limi
     let next : steps_of new.kept ≡ take (n + 1) trace =
     ap steps_of kept ∙ steps_append old.kept (record { step = key; reply = o } ∷ []) ∙ ap (λ l. l ++ key ∷ []) is.steps
     ∙ ap (λ k. take n trace ++ k ∷ []) at ∙ sym (take_more trace n 0 below) in
-    let step : any_act old.engine (slice_index keys n) ≡ Some (o, new.engine) = subst (λ k. any_act old.engine k ≡ Some (o, new.engine)) key_is made in
     record {
       opening = subst (HasAccessed j trace []) (sym opening) is.opening;
       limit = limit ∙ is.limit;
       steps = next ∙ ap (λ k. take k trace) (sym long);
       within = omega (arith, long, below);
       few = is.few;
-      stands = subst (λ k. HasAccessed j trace (take k trace) new.engine) (sym long) (moves law j trace keys n old.engine o new.engine same lt is.stands step);
+      stands = subst (λ k. HasAccessed j trace (take k trace) new.engine) (sym long) (moves trace n key (stands-in trace n key below at) law j old.engine o new.engine is.stands made);
     }
 
 -- the next access was made, or nothing was done
@@ -81,11 +79,8 @@ answered law (Err x) j trace keys i d e key same lt s key_is h = tt
 answered law (Ok o) j trace keys i d e key same lt s key_is h =
     let below : i < length trace = subst (λ (l : List ℕ). i < length l) same lt in
     let at : key ≡ slice_index trace i = key_is ∙ ap (λ l. slice_index l i) same in
-    let step : any_act d (slice_index trace i) ≡ Some (o, e) = subst (λ k. any_act d k ≡ Some (o, e)) at h in
     let on : suc i ≡ i + 1 = omega arith in
-    law j trace (take i trace) (drop (suc i) trace ++ []) (slice_index trace i) d o e Kept (next-of trace i below) s step
-    ∙ ap (λ (n : ℕ). get_or (outcomes_on j trace) n Kept) (length-take-le i trace (omega arith))
-    ∙ ap (outcome_at j trace) on
+    outcome-is trace i key (stands-in trace i key below at) law j d o e s h ∙ ap (outcome_at j trace) on
 
 -- ---- going back
 

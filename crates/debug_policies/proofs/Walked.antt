@@ -2,10 +2,10 @@
 use Rattle.std.proofs.Common.{◌≡◌, ◌≢◌, ℕ, zero, suc, ◌+◌, ◌<◌, ◌≤◌, Bool, true, false, true≢false, inl, inr, Some, None, List, [], ◌∷◌, ◌++◌, length, take, drop, get_or, set, get_or-set_same, get_or-set_other, ◌-◌, ap, ◌∙◌, sym, refl, arith, subst, append-nil}
 use Rattle.std.specs.Prelude.{slice_index, slice_index_or}
 use Rattle.std.proofs.lemmas.Bool.{cases_lt}
-use Rattle.std.proofs.lemmas.List.{length-take-le, get_or_past}
+use Rattle.std.proofs.lemmas.List.{length-take-le, get_or_default, get_or_past}
 use mathlib.Core.Bool.{not, beq}
 use Rattle.step_record.specs.declared.job.Job.{Job}
-use Rattle.step_record.specs.declared.limits.TheConstants.{MAX_ACCESSES}
+use Rattle.step_record.specs.declared.limits.TheConstants.{MAX_STEPS}
 use Rattle.step_record.specs.declared.outcome.Outcome.{Outcome}
 use Rattle.step_record.specs.declared.outcome.Outcome.TheVariants.{Kept}
 use Rattle.step_record.specs.Stats.{is_hit}
@@ -14,6 +14,7 @@ use Rattle.policies.specs.AnyPolicy.{HasAccessed, outcomes_on}
 use Rattle.policies.specs.AnyStep.{any_act}
 use Rattle.policies.specs.Theorems.{AnyStepLaw, AnyAccepts, AnyAnswers}
 use Rattle.policies.proofs.Stretches.{next-ahead, added-next}
+use Rattle.debug_policies.specs.CacheAccess.{StandsAt}
 use Rattle.debug_policies.specs.Part.{is_hit_at, AgreeBelow}
 use Rattle.debug_policies.specs.TwoCaches.{IsNoted}
 
@@ -24,36 +25,40 @@ pub next-of : (trace : List ℕ) (i : ℕ) → i < length trace
     → trace ≡ take i trace ++ slice_index trace i ∷ (drop (suc i) trace ++ [])
 next-of trace i lt = next-ahead trace [] trace [] i lt (sym (append-nil trace))
 
+pub stands-in : (trace : List ℕ) (n key : ℕ) → n < length trace → key ≡ slice_index trace n → StandsAt trace n key
+stands-in trace n key lt is = record { within = lt; same = λ d. get_or_default trace n d 0 lt ∙ sym is }
+
+pub next-key : (trace keys : List ℕ) (i : ℕ) → keys ≡ trace → i < length trace → StandsAt trace i (slice_index keys i)
+next-key trace keys i same lt = stands-in trace i (slice_index keys i) lt (ap (λ (l : List ℕ). slice_index l i) same)
+
 -- a cache that has read ahead stands where it stood
 pub warmed : (j : Job) (trace keys : List ℕ) (d e : AnyPolicy) → e ≡ d → HasAccessed j trace keys d → HasAccessed j trace keys e
 warmed j trace keys d e same s = subst (λ (f : AnyPolicy). HasAccessed j trace keys f) (sym same) s
 
-pub ready : AnyAccepts → (j : Job) (trace keys : List ℕ) (i : ℕ) (d : AnyPolicy) → keys ≡ trace → i < length keys
-    → length trace ≤ MAX_ACCESSES → HasAccessed j trace (take i trace) d → any_act d (slice_index keys i) ≢ None
-ready law j trace keys i d same lt few s none =
-    let below : i < length trace = subst (λ (l : List ℕ). i < length l) same lt in
-    law j trace (take i trace) (drop (suc i) trace ++ []) (slice_index trace i) d (next-of trace i below) (omega (arith, few)) s
-    (subst (λ (l : List ℕ). any_act d (slice_index l i) ≡ None) same none)
+module _ (trace : List ℕ) (n key : ℕ) (next : StandsAt trace n key) where
+  pub ready : AnyAccepts → length trace ≤ MAX_STEPS → (j : Job) (d : AnyPolicy) → HasAccessed j trace (take n trace) d → any_act d key ≢ None
+  ready law few j d s none =
+      law j trace (take n trace) (drop (suc n) trace ++ []) (slice_index trace n) d (next-of trace n next.within) few s
+      (subst (λ (k : ℕ). any_act d k ≡ None) (sym (next.same 0)) none)
 
-pub moves : AnyStepLaw → (j : Job) (trace keys : List ℕ) (i : ℕ) (d : AnyPolicy) (o : Outcome) (e : AnyPolicy) → keys ≡ trace
-    → i < length keys → HasAccessed j trace (take i trace) d → any_act d (slice_index keys i) ≡ Some (o, e)
-    → HasAccessed j trace (take (i + 1) trace) e
-moves law j trace keys i d o e same lt s h =
-    let below : i < length trace = subst (λ (l : List ℕ). i < length l) same lt in
-    let step : any_act d (slice_index trace i) ≡ Some (o, e) = subst (λ (l : List ℕ). any_act d (slice_index l i) ≡ Some (o, e)) same h in
-    subst (λ (l : List ℕ). HasAccessed j trace l e) (added-next [] trace i below) (law j trace (take i trace) d (slice_index trace i) o e s step)
+  pub moves : AnyStepLaw → (j : Job) (d : AnyPolicy) (o : Outcome) (e : AnyPolicy) → HasAccessed j trace (take n trace) d
+      → any_act d key ≡ Some (o, e) → HasAccessed j trace (take (n + 1) trace) e
+  moves law j d o e s h =
+      subst (λ (l : List ℕ). HasAccessed j trace l e) (added-next [] trace n next.within)
+      (law j trace (take n trace) d (slice_index trace n) o e s (subst (λ (k : ℕ). any_act d k ≡ Some (o, e)) (sym (next.same 0)) h))
 
-pub answers : AnyAnswers → (j : Job) (trace keys : List ℕ) (i : ℕ) (d : AnyPolicy) (o : Outcome) (e : AnyPolicy) → keys ≡ trace
-    → i < length keys → HasAccessed j trace (take i trace) d → any_act d (slice_index keys i) ≡ Some (o, e)
-    → is_hit o ≡ is_hit_at (outcomes_on j trace) (i + 1)
-answers law j trace keys i d o e same lt s h =
-    let below : i < length trace = subst (λ (l : List ℕ). i < length l) same lt in
-    let step : any_act d (slice_index trace i) ≡ Some (o, e) = subst (λ (l : List ℕ). any_act d (slice_index l i) ≡ Some (o, e)) same h in
-    let on : suc i ≡ i + 1 = omega arith in
-    ap is_hit
-    (law j trace (take i trace) (drop (suc i) trace ++ []) (slice_index trace i) d o e Kept (next-of trace i below) s step
-    ∙ ap (λ (n : ℕ). get_or (outcomes_on j trace) n Kept) (length-take-le i trace (omega arith)))
-    ∙ ap (is_hit_at (outcomes_on j trace)) on
+  pub outcome-is : AnyAnswers → (j : Job) (d : AnyPolicy) (o : Outcome) (e : AnyPolicy) → HasAccessed j trace (take n trace) d
+      → any_act d key ≡ Some (o, e) → o ≡ slice_index_or (outcomes_on j trace) n Kept
+  outcome-is law j d o e s h =
+      law j trace (take n trace) (drop (suc n) trace ++ []) (slice_index trace n) d o e Kept (next-of trace n next.within) s
+      (subst (λ (k : ℕ). any_act d k ≡ Some (o, e)) (sym (next.same 0)) h)
+      ∙ ap (λ (m : ℕ). get_or (outcomes_on j trace) m Kept) (length-take-le n trace (omega (arith, next.within)))
+
+  pub answers : AnyAnswers → (j : Job) (d : AnyPolicy) (o : Outcome) (e : AnyPolicy) → HasAccessed j trace (take n trace) d
+      → any_act d key ≡ Some (o, e) → is_hit o ≡ is_hit_at (outcomes_on j trace) (n + 1)
+  answers law j d o e s h =
+      let on : suc n ≡ n + 1 = omega arith in
+      ap is_hit (outcome-is law j d o e s h) ∙ ap (is_hit_at (outcomes_on j trace)) on
 
 -- ---- the accesses at which both hit or neither does
 

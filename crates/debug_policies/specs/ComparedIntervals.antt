@@ -9,7 +9,7 @@ use Rattle.policies.specs.AnyPolicy.{outcomes_on}
 use Rattle.debug_commands.specs.Texts.{count_text}
 use Rattle.debug_policies.specs.Comparison.{compared_on, counts_of, hits_beside}
 use Rattle.debug_policies.specs.declared.comparison.Comparison.{Comparison}
-use Rattle.debug_policies.specs.declared.compared_intervals.ComparedInterval.{ComparedInterval}
+use Rattle.debug_policies.specs.declared.compared_rows.ComparedInterval.{ComparedInterval}
 
 -- ---- the definition
 

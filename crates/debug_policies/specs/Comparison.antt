@@ -1,5 +1,5 @@
 -- How often two policies hit at the same accesses of a trace.
-use Rattle.std.specs.Prelude.{ℕ, ◌+◌, ◌≤◌, Bool, not, ◌&&◌, List, ◌++◌, codes, count_by, length, map, take, zip}
+use Rattle.std.specs.Prelude.{ℕ, ◌+◌, ◌≤◌, Bool, not, ◌&&◌, List, ◌++◌, codes, count_by, length, map, zip}
 use Rattle.step_record.specs.declared.job.Job.{Job}
 use Rattle.step_record.specs.declared.outcome.Outcome.{Outcome}
 use Rattle.step_record.specs.Job.{word_of}
@@ -28,10 +28,6 @@ unfoldable pub compared_on : Job → Job → List ℕ → Comparison
 compared_on first second trace = counts_of (hits_beside (outcomes_on first trace) (outcomes_on second trace))
 
 -- ---- one access after another
-
--- what is counted of the first n accesses
-abbrev pub compared_up_to : ℕ → List Outcome → List Outcome → Comparison
-compared_up_to n first second = counts_of (take n (hits_beside first second))
 
 abbrev pub no_counts : Comparison
 no_counts = record { accesses = 0; both = 0; first_only = 0; second_only = 0; neither = 0 }

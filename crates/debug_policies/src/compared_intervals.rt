@@ -1,12 +1,14 @@
-//! How often two policies hit at the same accesses of each interval of a trace.
-ghost use Rattle.std.specs.Prelude.{◌≡◌, ◌≤◌, ◌++◌, List, ℕ, [], ◌∷◌, IfOk, OnOk};
-ghost use Rattle.step_record.specs.declared.job.Job.{Job};
+//! How often two policies hit at the same accesses of a trace, or of each interval of it.
+ghost use Rattle.std.specs.Prelude.{◌≡◌, ◌≤◌, ◌++◌, ℕ, [], ◌∷◌, IfOk, OnOk};
+ghost use Rattle.policies.specs.AnyPolicy.{outcomes_on};
 ghost use Rattle.policies.specs.FaultyJobs.{faulty_in, ReturnsFault};
-ghost use Rattle.debug_policies.specs.ComparedIntervals.{between, compared_intervals_on, compared_intervals_text};
-ghost use Rattle.debug_policies.specs.ComparedIntervals.{compared_row, IsLater};
-ghost use Rattle.debug_policies.specs.TwoCaches.{AreAbreast, AreAbreastOfSome};
+ghost use Rattle.debug_policies.specs.ComparedIntervals.{compared_intervals_on, compared_intervals_text, compared_row};
+ghost use Rattle.debug_policies.specs.ComparedRows.{CanCountFrom, HasCompared, HasCounted};
+ghost use Rattle.debug_policies.specs.Comparison.{compared_on, hits_beside};
+ghost use Rattle.debug_policies.specs.TwoCaches.{OnOutcomes};
 
-use crate::comparison::{Comparison, count_up_to};
+use crate::compared_rows::{ComparedInterval, ComparedRows};
+use crate::comparison::Comparison;
 use crate::two_caches::TwoCaches;
 use debug_commands::{push_counts_line, push_pieces};
 use policies::ActorFault;
@@ -14,13 +16,27 @@ use std::alloc::{AllocError, Global};
 use std::thread::Threads;
 use step_record::{Gate, Job, Trace};
 
-/// Accesses `from` to `to` of a trace, counted from 1, and at how many of them both of two policies hit, only the
-/// first, only the second, and neither.
-#[derive(Clone, Copy)]
-pub struct ComparedInterval {
-    pub from: u64,
-    pub to: u64,
-    pub counts: Comparison,
+/// At how many accesses of the trace the policies of both jobs hit, only that of the first, only that of the second,
+/// and neither. The two caches make the accesses side by side where a thread can be made. The gate is called as by
+/// `part_watched`.
+///
+/// Errors: `Config` with index 0 exactly where `Config::check` refuses the first job's configuration, with index 1
+/// exactly where it refuses the second's and accepts the first's; then `OutOfMemory`.
+pub fn compare<R: Threads, G: Gate>(
+    rt: &R,
+    alloc: Global,
+    trace: &Trace,
+    first: &Job,
+    second: &Job,
+    gate: &G,
+) -> Result<Comparison, ActorFault>
+    ensures counts { IfOk result (λ counts. counts ≡ compared_on first.now second.now trace.now) }
+    ensures fault { ReturnsFault (faulty_in (first.now ∷ second.now ∷ [])) result }
+{
+    let counted = count_trace(rt, alloc, trace, first, second, usize::MAX, gate)?;
+    let counts = counted.counts();
+    drop(counted);
+    Ok(counts)
 }
 
 /// What is counted of the policies of both jobs over the trace, cut into intervals of `every` accesses, of which the
@@ -42,28 +58,9 @@ pub fn compare_intervals<R: Threads, G: Gate>(
     ensures rows { IfOk result (λ rows. rows.items ≡ compared_intervals_on every first.now second.now trace.now) }
     ensures fault { ReturnsFault (faulty_in (first.now ∷ second.now ∷ [])) result }
 {
-    let mut both = TwoCaches::open(alloc, trace, first, second)?;
-    let rows = cut(rt, alloc, &mut both, every, gate);
-    drop(both);
-    Ok(rows?)
-}
-
-/// The interval of the accesses, at least one, between two counts of all accesses.
-pub fn between(before: &Comparison, after: &Comparison) -> ComparedInterval
-    requires { IsLater before.now after.now }
-    ensures { result ≡ between before.now after.now }
-{
-    ComparedInterval {
-        from: before.accesses + 1,
-        to: after.accesses,
-        counts: Comparison {
-            accesses: after.accesses - before.accesses,
-            both: after.both - before.both,
-            first_only: after.first_only - before.first_only,
-            second_only: after.second_only - before.second_only,
-            neither: after.neither - before.neither,
-        },
-    }
+    let counted = count_trace(rt, alloc, trace, first, second, every, gate)?;
+    let rows = counted.into_rows()?;
+    Ok(rows)
 }
 
 /// Adds the header and a row for each interval of two jobs, whose capacity is that of the first. The one error is
@@ -115,31 +112,58 @@ fn push_row(
     )
 }
 
-// Makes the accesses of the trace in both caches, and a row for each interval: the difference of the counts before and
-// after.
-fn cut<R: Threads, G: Gate>(
+// What is counted over the trace, in intervals of `every` accesses.
+fn count_trace<R: Threads, G: Gate>(
     rt: &R,
     alloc: Global,
-    both: &mut TwoCaches<'_>,
+    trace: &Trace,
+    first: &Job,
+    second: &Job,
     every: usize,
     gate: &G,
-) -> Result<Vec<ComparedInterval>, AllocError>
-    requires every { 1 ≤ every }
-    requires some { AreAbreastOfSome both.old }
+) -> Result<ComparedRows, ActorFault>
+    requires { 1 ≤ every }
+    ensures counted { IfOk result (HasCompared every (outcomes_on first.now trace.now) (outcomes_on second.now trace.now)) }
+    ensures fault { ReturnsFault (faulty_in (first.now ∷ second.now ∷ [])) result }
+{
+    let mut both = TwoCaches::open(alloc, trace, first, second)?;
+    let mut counted = ComparedRows::none(alloc, every);
+    let made = count_all(rt, &mut both, &mut counted, gate);
+    drop(both);
+    made?;
+    Ok(counted)
+}
+
+// Makes the accesses of the trace in both caches, and counts at which of them they hit. The one error is out of memory.
+fn count_all<R: Threads, G: Gate>(
+    rt: &R,
+    both: &mut TwoCaches<'_>,
+    counted: &mut ComparedRows,
+    gate: &G,
+) -> Result<(), AllocError>
+    requires can { CanCountFrom 0 both.old counted.old }
     requires start { both.old.end ≡ 0 }
-    ensures { (j k : Job) (trace : List ℕ) → AreAbreast j k trace both.old
-        → IfOk result (λ rows. rows.items ≡ compared_intervals_on every j k trace) }
+    ensures { (every : ℕ) → OnOutcomes both.old (λ os ps. HasCounted every (hits_beside os ps) 0 counted.old
+        → OnOk result (HasCompared every os ps counted.new)) }
 {
     let len = both.trace.len();
-    let mut rows = Vec::new(alloc);
-    let mut counts = Comparison::none();
-    let mut start = 0;
-    for _number in 0..len.div_ceil(every) {
-        let end = start + every.min(len - start);
-        let before = counts;
-        count_up_to(rt, both, start, end, &mut counts, gate)?;
-        rows.push(between(&before, &counts))?;
-        start = end;
+    'stretches: while both.end < len {
+        both.advance(rt, gate)?;
+        count_stretch(both, counted)?;
     }
-    Ok(rows)
+    Ok(())
+}
+
+// Counts the accesses of the last stretch. The one error is out of memory.
+fn count_stretch(both: &TwoCaches<'_>, counted: &mut ComparedRows) -> Result<(), AllocError>
+    requires { CanCountFrom both.now.start both.now counted.old }
+    ensures { (every : ℕ) → OnOutcomes both.now (λ os ps.
+        HasCounted every (hits_beside os ps) both.now.start counted.old
+        → OnOk result (HasCounted every (hits_beside os ps) both.now.end counted.new)) }
+{
+    for i in both.start..both.end {
+        let (first, second) = both.hits_at(i);
+        counted.count(first, second)?;
+    }
+    Ok(())
 }

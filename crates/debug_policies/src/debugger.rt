@@ -9,9 +9,9 @@ ghost use Rattle.debug_policies.specs.TwoPolicies.{IsPartWalk};
 ghost use Rattle.streams.specs.Part.{AppendsPart};
 ghost use Rattle.streams.specs.Tally.{FailsWhere};
 
+use crate::cache_access::hits;
 use crate::divergence::{part, push_part};
 use crate::one_policy::OnePolicy;
-use crate::two_caches::hits;
 use debug_commands::{DebugFault, Dialect, StepFacts, Timeline, answer_commands};
 use policies::theorems;
 use std::alloc::{AllocError, Global};

@@ -9,7 +9,9 @@
 //! what is shown is the policies' definitions over the first accesses.
 #![tactic(auto)]
 
+mod cache_access;
 mod compared_intervals;
+mod compared_rows;
 mod comparison;
 mod debugger;
 mod divergence;
@@ -17,11 +19,11 @@ mod one_policy;
 pub mod theorems;
 mod two_caches;
 
-pub use compared_intervals::{
-    ComparedInterval, between, compare_intervals, push_compared_intervals,
-};
-pub use comparison::{Comparison, compare, push_comparison};
+pub use cache_access::hit_at;
+pub use compared_intervals::{compare, compare_intervals, push_compared_intervals};
+pub use compared_rows::{ComparedInterval, ComparedRows};
+pub use comparison::{Comparison, push_comparison};
 pub use debug_commands::DebugFault;
 pub use debugger::run_debug;
 pub use divergence::{part, part_watched, push_part};
-pub use two_caches::STRETCH;
+pub use two_caches::{STRETCH, stretches};

@@ -1,23 +1,31 @@
 //! Two caches over one trace, which make its accesses side by side.
-ghost use Rattle.std.specs.Prelude.{◌≡◌, ◌≢◌, ◌≤◌, ◌<◌, ◌+◌, ◌-◌, Ok, None, Some, [], ◌∷◌, List, ℕ, length, take};
-ghost use Rattle.std.specs.Prelude.{IfOk, OnOk, min};
+ghost use Rattle.std.specs.Int.{div_ceil};
+ghost use Rattle.std.specs.Prelude.{◌≡◌, ◌≤◌, ◌<◌, ◌+◌, ◌-◌, Ok, None, [], ◌∷◌, List, ℕ, length, take, IfOk, OnOk};
 ghost use Rattle.step_record.specs.Config.{config_fault};
 ghost use Rattle.step_record.specs.declared.job.Job.{Job};
-ghost use Rattle.step_record.specs.Stats.{is_hit};
 ghost use Rattle.policies.specs.AnyPolicy.{HasAccessed, outcomes_on};
-ghost use Rattle.policies.specs.AnyStep.{any_act};
 ghost use Rattle.policies.specs.FaultyJobs.{faulty_in, ReturnsFault};
 ghost use Rattle.debug_policies.specs.Part.{is_hit_at, IsPrepared};
+ghost use Rattle.debug_policies.specs.declared.two_caches.TheConstants.{STRETCH};
 ghost use Rattle.debug_policies.specs.TwoCaches.{AreAbreast, AreAbreastOfSome, HasNoted};
 ghost use Rattle.debug_policies.specs.TwoCaches.{HasNotedOfSome, HasRun, IsNoted, IsStretch, OnOutcomes};
 
-use policies::{ActorFault, AnyPolicy, check_jobs, theorems};
+use crate::cache_access::hit_at;
+use policies::{ActorFault, AnyPolicy, check_jobs};
 use std::alloc::{AllocError, Global};
 use std::thread::{Threads, join_mut};
-use step_record::{Gate, Job, Key, Outcome, StepFault, Trace};
+use step_record::{Gate, Job, Trace};
 
 /// Each cache makes so many accesses on a thread of its own before the two are compared: enough for a thread to pay.
 pub const STRETCH: usize = 65_536;
+
+/// Around how many stretches of the trace `compare` and `compare_intervals` call their gate, and `part_watched` where no
+/// access parts the two policies.
+pub fn stretches(trace: &Trace) -> u64
+    ensures { result ≡ div_ceil (length trace.now) STRETCH }
+{
+    trace.len().div_ceil(STRETCH) as u64
+}
 
 /// A cache, and which accesses of the last stretch hit.
 #[derive(Drop)]
@@ -52,12 +60,12 @@ impl<'a> TwoCaches<'a> {
         ensures fault { ReturnsFault (faulty_in (first.now ∷ second.now ∷ [])) result }
     {
         check_jobs(&[*first, *second])?;
-        let both = TwoCaches::of_checked(alloc, trace, first, second)?;
+        let both = TwoCaches::open_checked(alloc, trace, first, second)?;
         Ok(both)
     }
 
     // The same, of jobs that were checked before. The one error is that an allocation failed.
-    fn of_checked(
+    fn open_checked(
         alloc: Global,
         trace: &'a Trace,
         first: &Job,
@@ -204,50 +212,10 @@ fn note_hits<C>(
         → OnOk result (IsNoted noted.new (outcomes_on j trace.now) start end) }
     ensures room { length noted.new ≡ length noted.old }
 {
+    let keys = trace.keys();
     for i in start..end {
-        let hit = hit_at::<C>(cache, trace, i)?;
+        let hit = hit_at::<C>(cache, keys, i)?;
         noted[i - start] = hit;
     }
     Ok(())
-}
-
-// Makes the access at a place, counted from 0, in a cache that made those before it, and says whether it hit. The one
-// error is out of memory.
-#[inline(always)]
-fn hit_at<C>(cache: &mut AnyPolicy, trace: &Trace, i: usize) -> Result<bool, AllocError>
-    requires below { i < length trace.now }
-    requires stands { IsPrepared trace.now i cache.old }
-    ensures stands { (j : Job) → HasAccessed j trace.now (take i trace.now) cache.old
-        → OnOk result (HasAccessed j trace.now (take (i + 1) trace.now) cache.new) }
-    ensures hit { (j : Job) → HasAccessed j trace.now (take i trace.now) cache.old
-        → IfOk result (λ hit. hit ≡ is_hit_at (outcomes_on j trace.now) (i + 1)) }
-{
-    theorems::any_accepts();
-    theorems::any_step_law();
-    theorems::any_answers();
-    let keys = trace.keys();
-    cache.prefetch_at(keys, i);
-    let outcome = access::<C>(cache, keys[i])?;
-    Ok(hits(outcome))
-}
-
-// Makes an access that the cache accepts. The one error is out of memory.
-#[inline(always)]
-fn access<C>(cache: &mut AnyPolicy, key: Key) -> Result<Outcome, AllocError>
-    requires { any_act cache.old key ≢ None }
-    ensures { IfOk result (λ o. any_act cache.old key ≡ Some (o, cache.new)) }
-{
-    match cache.access::<C>(key) {
-        Ok(outcome) => Ok(outcome),
-        Err(StepFault::OutOfMemory) => Err(AllocError),
-        Err(StepFault::NotNow) => unreachable!(),
-    }
-}
-
-/// Whether the outcome is a hit.
-#[inline(always)]
-pub(crate) fn hits(outcome: Outcome) -> bool
-    ensures { result ≡ is_hit outcome }
-{
-    matches!(outcome, Outcome::Hit)
 }

@@ -1,15 +1,15 @@
 //! What jobs make of each interval of a trace, side by side.
-ghost use Rattle.std.specs.Prelude.{◌≡◌, ◌≤◌, None, Ok, IfOk, flat_map};
+ghost use Rattle.std.specs.Prelude.{◌≡◌, ◌≤◌, ◌*◌, ◌-◌, ◌^◌, None, Ok, IfOk, flat_map, length, min};
 ghost use Rattle.step_record.specs.Config.{config_fault};
 ghost use Rattle.policies.specs.FaultyJobs.{faulty_in, ReturnsFault};
-ghost use Rattle.sweeps.specs.Intervals.{intervals_fault, intervals_on};
+ghost use Rattle.sweeps.specs.Intervals.{interval_batches, intervals_fault, intervals_on};
 
 use crate::interval_run::{CutTrace, intervals_of};
 use crate::side_by_side::made_by_each;
 use policies::{ActorFault, Interval, MAX_ACTORS, check_jobs};
 use std::alloc::{AllocError, Global};
 use std::thread::Threads;
-use step_record::{Gate, Job, Trace};
+use step_record::{Gate, Job, MAX_BATCH, Trace};
 
 /// The rows of each job over the trace, cut into intervals of `every` accesses, of which the last may be shorter: all
 /// rows of the first job, in order, then those of the second, and so on. `rayon` runs the jobs side by side where
@@ -36,6 +36,17 @@ pub fn intervals<R: Threads + Sync, G: Gate>(
     check_jobs(jobs)?;
     let rows = rows(rt, alloc, &CutTrace { trace, every }, jobs, gate)?;
     Ok(rows)
+}
+
+/// For how many batches in all `intervals` calls its gate, over the same trace and jobs; 2^64 - 1 for more.
+pub fn interval_batches(trace: &Trace, jobs: &[Job], every: usize) -> u64
+    requires { 1 ≤ every }
+    ensures { result ≡ min (interval_batches every (length trace.now) * length jobs.now) (2 ^ 64 - 1) }
+{
+    let size = MAX_BATCH as usize;
+    let whole = (trace.len() / every).saturating_mul(every.div_ceil(size));
+    let each = whole.saturating_add((trace.len() % every).div_ceil(size));
+    each.saturating_mul(jobs.len()) as u64
 }
 
 // The rows of jobs none of which is faulty. The one error is out of memory.

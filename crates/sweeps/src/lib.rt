@@ -17,6 +17,6 @@ mod single_run;
 pub mod theorems;
 
 pub use capacities::{jobs_over, sweep, sweep_batches, sweep_each};
-pub use interval_rows::intervals;
+pub use interval_rows::{interval_batches, intervals};
 pub use interval_run::between;
 pub use single_run::run_one;

@@ -2,7 +2,7 @@ use Rattle.std.proofs.Common.{◌∙◌, ◌≤◌, ◌++◌, ℕ, List, length,
 use Rattle.std.specs.List.{flat_map}
 use Rattle.std.proofs.lemmas.List.{take_all}
 use Rattle.debug_policies.specs.ComparedIntervals.{compared_header, compared_row}
-use Rattle.debug_policies.specs.declared.compared_intervals.ComparedInterval.{ComparedInterval}
+use Rattle.debug_policies.specs.declared.compared_rows.ComparedInterval.{ComparedInterval}
 use Rattle.debug_policies.proofs.compared_intervals.push_compared_intervals.Goals as goal
 
 pub returns : goal.returns
