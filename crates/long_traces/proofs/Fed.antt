@@ -25,9 +25,9 @@ more-known (Some all) place done keys first next =
 
 all-known : {K : Type 0} (H : List ℕ → ℕ → K → Type 0) (known : Option (List ℕ)) (place : ℕ) (taker : K) (done : List ℕ)
     → ((trace : List ℕ) → place ≤ length trace → done ≡ take place trace → H trace place taker) → IfSome known (λ all. done ≡ take place all)
-    → IfSome known (λ all. place ≡ length all → H all (length all) taker)
-all-known H None place taker done taken first = tt
-all-known H (Some all) place taker done taken first = λ e. subst (λ (n : ℕ). H all n taker) e (taken all (omega (arith, e)) first)
+    → IfSome known (λ all. place ≡ length all) → IfSome known (λ all. H all (length all) taker)
+all-known H None place taker done taken first end = tt
+all-known H (Some all) place taker done taken first end = subst (λ (n : ℕ). H all n taker) end (taken all (omega (arith, end)) first)
 
 module _ {K : Type 0} (H : List ℕ → ℕ → K → Type 0) (known : Option (List ℕ)) where
   -- nothing was fed
@@ -70,5 +70,5 @@ module _ {K : Type 0} (H : List ℕ → ℕ → K → Type 0) (known : Option (L
       let all : fed.done ≡ take place fed.done = sym (take_all place fed.done (omega (arith, long))) in
       record { trace = fed.done; taken = subst (λ (n : ℕ). H fed.done n taker) (sym long) (fed.taken fed.done (omega (arith, long)) all) }
 
-  pub taken-known : (place : ℕ) (taker : K) → IsFed H known place taker → IfSome known (λ all. place ≡ length all → H all (length all) taker)
+  pub taken-known : (place : ℕ) (taker : K) → IsFed H known place taker → IfSome known (λ all. place ≡ length all) → IfSome known (λ all. H all (length all) taker)
   taken-known place taker fed = all-known H known place taker fed.done fed.taken fed.first

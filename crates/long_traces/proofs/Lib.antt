@@ -1,7 +1,6 @@
 pub mod Fed
 pub mod Next
 pub mod Cuts
-pub mod Hits
 pub mod Runs
 pub mod Two
 pub mod Following

@@ -1,7 +1,8 @@
 -- Keys that come next in a trace.
-use Rattle.std.proofs.Common.{◌≡◌, ℕ, ◌+◌, ◌-◌, ◌≤◌, false, true≢false, List, ◌++◌, length, take, drop, sym, ap, subst, ◌∙◌, arith, length-take, length-drop, take-append-drop}
+use Rattle.std.proofs.Common.{◌≡◌, ℕ, ◌+◌, ◌-◌, ◌<◌, ◌≤◌, false, true≢false, List, ◌++◌, length, take, drop, sym, ap, subst, ◌∙◌, arith, length-take, length-drop, take-append-drop}
 use Rattle.std.proofs.Math.Seq.{take-add}
-use Rattle.std.proofs.lemmas.List.{drop-take, drop-drop, take-take}
+use Rattle.std.specs.Prelude.{slice_index}
+use Rattle.std.proofs.lemmas.List.{drop-take, drop-drop, get_or-drop, get_or-take, get_or_default, take-take}
 use Rattle.step_record.specs.declared.job.Job.{Job}
 use Rattle.step_record.specs.declared.limits.TheConstants.{MAX_STEPS}
 use Rattle.policies.specs.Accesses.{IsNext}
@@ -9,6 +10,7 @@ use Rattle.policies.specs.AnyPolicy.{HasAccessed}
 use Rattle.policies.specs.Design.{knows_trace}
 use Rattle.policies.specs.declared.any_policy.AnyPolicy.TheVariants.{Adaptive, Demand, Optimal, Queues}
 use Rattle.policies.specs.declared.any_policy.AnyPolicy.{AnyPolicy}
+use Rattle.debug_policies.specs.CacheAccess.{StandsAt}
 use Rattle.long_traces.specs.Taking.{AreNext}
 
 -- a piece of the keys comes next behind those before it
@@ -29,6 +31,14 @@ piece-next trace keys piece n m k next is within =
           ∙ ap (take k) (drop-drop m n trace)
           ∙ ap (λ (i : ℕ). take i (drop (n + m) trace)) (sym size);
     }
+
+-- one of the keys stands in the trace
+pub next-key : (trace keys : List ℕ) (n i : ℕ) → AreNext trace n keys → i < length keys → StandsAt trace (n + i) (slice_index keys i)
+next-key trace keys n i next below = record {
+  within = omega (arith, next.within, below);
+  same = λ d. sym (ap (λ (l : List ℕ). slice_index l i) next.piece ∙ get_or-take (length keys) (drop n trace) i 0 below ∙ get_or-drop n trace i 0
+      ∙ get_or_default trace (n + i) 0 d (omega (arith, next.within, below)));
+}
 
 -- what stands behind the first accesses begins with them
 pub ahead : (trace keys : List ℕ) (n : ℕ) → AreNext trace n keys → trace ≡ take n trace ++ (keys ++ drop (length keys) (drop n trace))

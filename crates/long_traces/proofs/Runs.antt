@@ -42,6 +42,11 @@ pub flat-map : {X Y Z : Type 0} (f : X → Y) (g : Y → List Z) (xs : List X) �
 flat-map f g [] = refl
 flat-map f g (x ∷ xs) = ap (λ (l : List _). g (f x) ++ l) (flat-map f g xs)
 
+-- one of the runs
+pub run-at : (every : ℕ) (trace : List ℕ) (n i : ℕ) (runs : List JobRun) (run : JobRun) → All (HasRun every trace n) runs → i < length runs
+    → run ≡ get_or runs i run → HasRun every trace n run
+run-at every trace n i runs run each lt is = subst (HasRun every trace n) (sym is) (each i run lt)
+
 -- ---- some of the runs took the accesses
 
 pub record AreTaken (jobs : List Job) (every : ℕ) (trace : List ℕ) (n size i : ℕ) (runs : List JobRun) : Type 0 where

@@ -1,5 +1,5 @@
 -- Two policies, access by access.
-use Rattle.std.proofs.Common.{◌≡◌, ◌∙◌, ℕ, zero, suc, ◌+◌, ◌<◌, List, [], ◌∷◌, Bool, true, false, Option, Some, None, IfNone, refl, arith, true≢false, sym, subst}
+use Rattle.std.proofs.Common.{◌≡◌, ℕ, zero, suc, List, [], ◌∷◌, Bool, true, false, Option, Some, None, IfNone, refl, arith, true≢false, sym}
 use Rattle.std.specs.Option.{is_some}
 use mathlib.Core.Bool.{not, beq}
 use Rattle.step_record.specs.declared.job.Job.{Job}

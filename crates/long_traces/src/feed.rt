@@ -12,7 +12,7 @@ ghost use Rattle.sweeps.specs.Sweep.{AreAccepted};
 
 use std::alloc::{AllocError, Global};
 use std::marker::{Brand, Model, PhantomData};
-use step_record::{Job, Key};
+use step_record::{Gate, Job, Key};
 use streams::CountedRead;
 use trace_read::{Follower, Format, Limits, TraceFault, read_followed};
 
@@ -65,16 +65,17 @@ impl ReadTrace for Brand {
 }
 
 /// Reads the whole reader as a trace file within these limits, and has all its accesses taken for the jobs, the first
-/// while later ones are still read.
+/// while later ones are still read. The gate is called after each piece.
 ///
 /// Errors: those of `read_followed`.
-pub(crate) fn read_taken<S: ReadTrace, R: CountedRead, K: Taker>(
+pub(crate) fn read_taken<S: ReadTrace, R: CountedRead, K: Taker, G: Gate>(
     alloc: Global,
     reader: &mut R,
     format: Format,
     limits: Limits,
     jobs: &[Job],
     every: usize,
+    gate: &G,
 ) -> Result<K, TraceFault>
     requires bytes { limits.bytes ≤ MAX_LONG_TRACE_BYTES }
     requires accesses { limits.accesses ≤ S.most }
@@ -90,12 +91,15 @@ pub(crate) fn read_taken<S: ReadTrace, R: CountedRead, K: Taker>(
     ensures read { IsReadWithin limits format (R.remaining reader.old) (R.remaining reader.new) result }
     ensures tally { FailsWhere (result ≡ Err TraceFault.Read) (R.tally reader.old) (R.tally reader.new) }
 {
-    let mut fed: Fed<S, K> = Fed {
+    let fed: Fed<S, K> = Fed {
         taker: K::open(alloc, jobs, every)?,
         place: 0,
         marker: PhantomData,
     };
-    match read_followed(alloc, reader, format, limits, &mut fed) {
+    let mut watched: WatchedFed<'_, S, K, G> = WatchedFed { fed, gate };
+    let read = read_followed(alloc, reader, format, limits, &mut watched);
+    let WatchedFed { mut fed, .. } = watched;
+    match read {
         Ok(rest) => {
             fed.take(rest.as_slice());
             Ok(fed.into_taker())
@@ -128,10 +132,17 @@ impl<S: ReadTrace, K: Taker> Model for Fed<S, K> {
     ghost invariant = { λ f. IsFed (K.has_taken S.task) S.known f.place f.taker × (S.most ≤ MAX_STEPS) };
 }
 
-impl<S: ReadTrace, K: Taker> Follower for Fed<S, K> {
+// What is fed, and watched at work.
+#[derive(Drop)]
+struct WatchedFed<'g, S: ReadTrace, K: Taker, G> {
+    fed: Fed<S, K>,
+    gate: &'g G,
+}
+
+impl<'g, S: ReadTrace, K: Taker, G: Gate> Follower for WatchedFed<'g, S, K, G> {
     ghost file = { λ f. S.known };
 
-    ghost taken = { λ f. f.1 };
+    ghost taken = { λ f. f.fed.1 };
 
     ghost most = { λ f. S.most };
 
@@ -139,8 +150,9 @@ impl<S: ReadTrace, K: Taker> Follower for Fed<S, K> {
         if keys.len() < PIECE {
             return;
         }
-        self.take(keys.as_slice());
+        self.fed.take(keys.as_slice());
         keys.clear();
+        self.gate.after(0, 0);
     }
 
     fn has_stopped(&self) -> bool {

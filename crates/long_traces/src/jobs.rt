@@ -50,7 +50,13 @@ pub fn reports<T: Threads + Wait + Sync, R: CountedRead, G: Gate>(
     ensures tally { FailsWhere (result ≡ Err TraceFault.Read) (R.tally reader.old) (R.tally reader.new) }
 {
     if jobs.len() > MAX_ACTORS {
-        return reports_in_turn(alloc, reader, format, limits, jobs);
+        let every = usize::MAX;
+        let runs = read_taken::<Brand, R, JobRuns, G>(
+            alloc, reader, format, limits, jobs, every, gate,
+        )?;
+        let reports = runs.reports(alloc);
+        drop(runs);
+        return Ok(reports?);
     }
     run_reading_within(rt, alloc, reader, format, limits, jobs, BATCH, gate)
 }
@@ -60,13 +66,14 @@ pub fn reports<T: Threads + Wait + Sync, R: CountedRead, G: Gate>(
 /// `reports`.
 ///
 /// Errors: those of `reports`.
-pub fn intervals<R: CountedRead>(
+pub fn intervals<R: CountedRead, G: Gate>(
     alloc: Global,
     reader: &mut R,
     format: Format,
     limits: Limits,
     jobs: &[Job],
     every: usize,
+    gate: &G,
 ) -> Result<Vec<Interval>, TraceFault>
     requires checked { AreAccepted jobs.now }
     requires follow { All FollowsTrace jobs.now }
@@ -78,32 +85,10 @@ pub fn intervals<R: CountedRead>(
     ensures read { IsReadWithin limits format (R.remaining reader.old) (R.remaining reader.new) result }
     ensures tally { FailsWhere (result ≡ Err TraceFault.Read) (R.tally reader.old) (R.tally reader.new) }
 {
-    let runs = read_taken::<Brand, R, JobRuns>(alloc, reader, format, limits, jobs, every)?;
+    let runs = read_taken::<Brand, R, JobRuns, G>(
+        alloc, reader, format, limits, jobs, every, gate,
+    )?;
     let rows = runs.rows(alloc);
     drop(runs);
     Ok(rows?)
-}
-
-// The reports of the jobs, whose caches take the accesses on this thread, piece by piece.
-fn reports_in_turn<R: CountedRead>(
-    alloc: Global,
-    reader: &mut R,
-    format: Format,
-    limits: Limits,
-    jobs: &[Job],
-) -> Result<Vec<Report>, TraceFault>
-    requires checked { AreAccepted jobs.now }
-    requires follow { All FollowsTrace jobs.now }
-    requires accesses { limits.accesses ≤ MAX_LONG_ACCESSES }
-    requires bytes { limits.bytes ≤ MAX_LONG_TRACE_BYTES }
-    ensures reports { IfOk result (λ v. IfSome (R.remaining reader.old)
-        (λ bytes. v.items ≡ map (λ j. report_on j (keys_in format bytes)) jobs.now)) }
-    ensures read { IsReadWithin limits format (R.remaining reader.old) (R.remaining reader.new) result }
-    ensures tally { FailsWhere (result ≡ Err TraceFault.Read) (R.tally reader.old) (R.tally reader.new) }
-{
-    let every = usize::MAX;
-    let runs = read_taken::<Brand, R, JobRuns>(alloc, reader, format, limits, jobs, every)?;
-    let reports = runs.reports(alloc);
-    drop(runs);
-    Ok(reports?)
 }

@@ -4,7 +4,7 @@
 //! `compare_intervals` count at which accesses two policies hit, and `part` finds the first at which just one does.
 //! Each promises what its namesake over a trace that is kept does: what the policies' definitions give over all
 //! accesses of the bytes read. The caches take the accesses piece by piece while the trace is read, so no memory grows
-//! with its length but the rows.
+//! with its length but the rows. The gate is called after each piece, or by `reports` around each batch of an actor.
 #![tactic(auto)]
 
 mod compared_run;

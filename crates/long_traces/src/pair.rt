@@ -1,17 +1,16 @@
 //! Two caches that make the same accesses.
-ghost use Rattle.std.specs.Prelude.{◌≡◌, ◌≢◌, ◌<◌, ◌+◌, ℕ, List, Ok, None, Some, IfOk, OnOk, length, take};
+ghost use Rattle.std.specs.Prelude.{◌≡◌, ◌<◌, ◌+◌, ℕ, List, Ok, IfOk, OnOk, length};
 ghost use Rattle.step_record.specs.Config.{config_fault};
-ghost use Rattle.step_record.specs.Stats.{is_hit};
 ghost use Rattle.step_record.specs.declared.job.Job.{Job};
-ghost use Rattle.policies.specs.AnyPolicy.{HasAccessed, outcomes_on};
-ghost use Rattle.policies.specs.AnyStep.{any_act};
+ghost use Rattle.policies.specs.AnyPolicy.{outcomes_on};
 ghost use Rattle.debug_policies.specs.Part.{is_hit_at};
 ghost use Rattle.long_traces.specs.Taking.{AreNext, FollowsTrace};
-ghost use Rattle.long_traces.specs.Pairs.{AreBefore, HavePaired, IsBefore};
+ghost use Rattle.long_traces.specs.Pairs.{AreBefore, HavePaired};
 
-use policies::{AnyPolicy, theorems};
+use debug_policies::hit_at;
+use policies::AnyPolicy;
 use std::alloc::{AllocError, Global};
-use step_record::{Job, Key, Outcome, StepFault, Trace};
+use step_record::{Job, Key, Trace};
 
 /// The caches of two jobs.
 #[derive(Drop)]
@@ -56,8 +55,8 @@ impl Pair {
             (hits.0 ≡ is_hit_at (outcomes_on first trace) (place + i + 1))
             × (hits.1 ≡ is_hit_at (outcomes_on second trace) (place + i + 1))) }
     {
-        let first = hit::<First>(&mut self.first, keys, i)?;
-        let second = hit::<Second>(&mut self.second, keys, i)?;
+        let first = hit_at::<First>(&mut self.first, keys, i)?;
+        let second = hit_at::<Second>(&mut self.second, keys, i)?;
         Ok((first, second))
     }
 }
@@ -66,45 +65,3 @@ impl Pair {
 struct First;
 
 struct Second;
-
-// Makes the access to a key in a cache that made those to the keys before it, and says whether it hit. The one error is
-// out of memory.
-#[inline(always)]
-fn hit<C>(cache: &mut AnyPolicy, keys: &[Key], i: usize) -> Result<bool, AllocError>
-    requires below { i < length keys.now }
-    requires before { IsBefore keys.now i cache.old }
-    ensures stands { (j : Job) (trace : List ℕ) (place : ℕ) → AreNext trace place keys.now
-        → HasAccessed j trace (take (place + i) trace) cache.old
-        → OnOk result (HasAccessed j trace (take (place + i + 1) trace) cache.new) }
-    ensures hit { (j : Job) (trace : List ℕ) (place : ℕ) → AreNext trace place keys.now
-        → HasAccessed j trace (take (place + i) trace) cache.old
-        → IfOk result (λ hit. hit ≡ is_hit_at (outcomes_on j trace) (place + i + 1)) }
-{
-    theorems::any_accepts();
-    theorems::any_step_law();
-    theorems::any_answers();
-    cache.prefetch_at(keys, i);
-    let outcome = access::<C>(cache, keys[i])?;
-    Ok(is_hit(outcome))
-}
-
-// Makes an access that the cache accepts. The one error is out of memory.
-#[inline(always)]
-fn access<C>(cache: &mut AnyPolicy, key: Key) -> Result<Outcome, AllocError>
-    requires { any_act cache.old key ≢ None }
-    ensures { IfOk result (λ o. any_act cache.old key ≡ Some (o, cache.new)) }
-{
-    match cache.access::<C>(key) {
-        Ok(outcome) => Ok(outcome),
-        Err(StepFault::OutOfMemory) => Err(AllocError),
-        Err(StepFault::NotNow) => unreachable!(),
-    }
-}
-
-// Whether the outcome is a hit.
-#[inline(always)]
-fn is_hit(outcome: Outcome) -> bool
-    ensures { result ≡ is_hit outcome }
-{
-    matches!(outcome, Outcome::Hit)
-}

@@ -17,7 +17,7 @@ use crate::part_run::PartRun;
 use debug_policies::{ComparedInterval, Comparison};
 use std::alloc::Global;
 use std::marker::Brand;
-use step_record::Job;
+use step_record::{Gate, Job};
 use streams::CountedRead;
 use trace_read::{Format, Limits, TraceFault};
 
@@ -26,13 +26,14 @@ use trace_read::{Format, Limits, TraceFault};
 /// the whole trace.
 ///
 /// Errors: those of `reports`.
-pub fn compare<R: CountedRead>(
+pub fn compare<R: CountedRead, G: Gate>(
     alloc: Global,
     reader: &mut R,
     format: Format,
     limits: Limits,
     first: &Job,
     second: &Job,
+    gate: &G,
 ) -> Result<Comparison, TraceFault>
     requires first { config_fault first.now.config ≡ Ok tt }
     requires second { config_fault second.now.config ≡ Ok tt }
@@ -45,7 +46,9 @@ pub fn compare<R: CountedRead>(
     ensures tally { FailsWhere (result ≡ Err TraceFault.Read) (R.tally reader.old) (R.tally reader.new) }
 {
     let (jobs, every) = ([*first, *second], usize::MAX);
-    let run = read_taken::<Brand, R, ComparedRun>(alloc, reader, format, limits, &jobs, every)?;
+    let run = read_taken::<Brand, R, ComparedRun, G>(
+        alloc, reader, format, limits, &jobs, every, gate,
+    )?;
     let counts = run.counts();
     drop(run);
     Ok(counts?)
@@ -55,7 +58,7 @@ pub fn compare<R: CountedRead>(
 /// accesses, of which the last may be shorter: a row for each, in order. The jobs are as for `compare`.
 ///
 /// Errors: those of `reports`.
-pub fn compare_intervals<R: CountedRead>(
+pub fn compare_intervals<R: CountedRead, G: Gate>(
     alloc: Global,
     reader: &mut R,
     format: Format,
@@ -63,6 +66,7 @@ pub fn compare_intervals<R: CountedRead>(
     first: &Job,
     second: &Job,
     every: usize,
+    gate: &G,
 ) -> Result<Vec<ComparedInterval>, TraceFault>
     requires first { config_fault first.now.config ≡ Ok tt }
     requires second { config_fault second.now.config ≡ Ok tt }
@@ -76,23 +80,24 @@ pub fn compare_intervals<R: CountedRead>(
     ensures tally { FailsWhere (result ≡ Err TraceFault.Read) (R.tally reader.old) (R.tally reader.new) }
 {
     let jobs = [*first, *second];
-    let run = read_taken::<Brand, R, ComparedRun>(alloc, reader, format, limits, &jobs, every)?;
-    let rows = run.rows(alloc);
-    drop(run);
-    Ok(rows?)
+    let run = read_taken::<Brand, R, ComparedRun, G>(
+        alloc, reader, format, limits, &jobs, every, gate,
+    )?;
+    Ok(run.into_rows()?)
 }
 
 /// The first access of the trace that the reader gives, counted from 1, at which the policy of one job hits and that of
 /// the other does not; `None` where there is no such access. The jobs are as for `compare`.
 ///
 /// Errors: those of `reports`.
-pub fn part<R: CountedRead>(
+pub fn part<R: CountedRead, G: Gate>(
     alloc: Global,
     reader: &mut R,
     format: Format,
     limits: Limits,
     first: &Job,
     second: &Job,
+    gate: &G,
 ) -> Result<Option<u64>, TraceFault>
     requires first { config_fault first.now.config ≡ Ok tt }
     requires second { config_fault second.now.config ≡ Ok tt }
@@ -105,7 +110,9 @@ pub fn part<R: CountedRead>(
     ensures tally { FailsWhere (result ≡ Err TraceFault.Read) (R.tally reader.old) (R.tally reader.new) }
 {
     let (jobs, every) = ([*first, *second], usize::MAX);
-    let run = read_taken::<Brand, R, PartRun>(alloc, reader, format, limits, &jobs, every)?;
+    let run = read_taken::<Brand, R, PartRun, G>(
+        alloc, reader, format, limits, &jobs, every, gate,
+    )?;
     let found = run.found();
     drop(run);
     Ok(found?)

@@ -4,8 +4,8 @@ ghost use Rattle.step_record.specs.Config.{config_fault};
 ghost use Rattle.step_record.specs.declared.job.Job.{Job};
 ghost use Rattle.policies.specs.AnyPolicy.{outcomes_on};
 ghost use Rattle.debug_policies.specs.Part.{AgreeBelow, IsPart};
-ghost use Rattle.long_traces.specs.Taking.{AreNext, FollowsTrace};
-ghost use Rattle.long_traces.specs.Pairs.{AreBefore, CanPart, HavePaired, HasParted, HasPartedTask};
+ghost use Rattle.long_traces.specs.Taking.{AreNext, CanTake, FollowsTrace};
+ghost use Rattle.long_traces.specs.Pairs.{HavePaired, HasParted, HasPartedTask};
 
 use crate::feed::Taker;
 use crate::pair::Pair;
@@ -59,7 +59,7 @@ impl PartRun {
 
     // Takes the accesses in turn, up to the first at which just one of the caches hits. The one error is out of memory.
     fn take_all(&mut self, keys: &[Key]) -> Result<(), AllocError>
-        requires { CanPart keys.now self.old }
+        requires { (first second : Job) × CanTake (HasParted first second) keys.now self.old }
         ensures { (first second : Job) (trace : List ℕ) (n : ℕ) → AreNext trace n keys.now
             → HasParted first second trace n self.old
             → OnOk result (HasParted first second trace (n + length keys.now) self.new) }
@@ -78,7 +78,7 @@ impl PartRun {
 // The first of the accesses to the keys, counted from 0, at which just one of the caches hits, which make those up to
 // it. The one error is out of memory.
 fn parting_in(pair: &mut Pair, keys: &[Key]) -> Result<Option<usize>, AllocError>
-    requires { AreBefore keys.now 0 pair.old }
+    requires { (first second : Job) × CanTake (HavePaired first second) keys.now pair.old }
     ensures below { IfOk result (λ found. IfSome found (λ i. i < length keys.now)) }
     ensures found { (first second : Job) (trace : List ℕ) (n : ℕ) → AreNext trace n keys.now
         → HavePaired first second trace n pair.old

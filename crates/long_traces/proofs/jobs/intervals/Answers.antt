@@ -1,4 +1,4 @@
-use Rattle.std.proofs.Common.{◌≡◌, List, length}
+use Rattle.std.proofs.Common.{◌≡◌, length}
 use Rattle.std.specs.Prelude.{flat_map}
 use Rattle.sweeps.specs.Intervals.{intervals_on}
 use Rattle.long_traces.specs.JobRuns.{HaveRun}

@@ -1,4 +1,4 @@
-use Rattle.std.proofs.Common.{◌≡◌, List, length, true}
+use Rattle.std.proofs.Common.{◌≡◌, length, true}
 use Rattle.policies.specs.AnyPolicy.{outcomes_on}
 use Rattle.debug_policies.specs.Part.{IsPart}
 use Rattle.long_traces.specs.Pairs.{HasParted}

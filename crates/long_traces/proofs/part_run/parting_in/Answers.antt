@@ -17,15 +17,14 @@ loop-i-init c = (
 pub hits-requires-clause-before : goal.hits-requires-clause-before
 hits-requires-clause-before c =
     let b = c.requires in
-    let none : b.place + 0 ≡ b.place = omega arith in
     record {
-      first = b.first;
-      second = b.second;
-      trace = b.trace;
-      place = b.place;
-      next = b.next;
-      few = b.few;
-      paired = c.loop-i.invariant.0 b.first b.second b.trace b.place b.next (subst (λ (m : ℕ). HavePaired b.first b.second b.trace m c.args.pair.now) none b.paired);
+      first = b.0;
+      second = b.1;
+      trace = b.2.trace;
+      place = b.2.place;
+      next = b.2.next;
+      few = b.2.few;
+      paired = c.loop-i.invariant.0 b.0 b.1 b.2.trace b.2.place b.2.next b.2.taken;
     }
 
 pub returns-then-first-second-clause-found : goal.returns-then-first-second-clause-found

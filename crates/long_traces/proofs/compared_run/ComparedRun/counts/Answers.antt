@@ -1,12 +1,13 @@
-use Rattle.std.proofs.Common.{◌≡◌, ◌∙◌, length, rules, true}
+use Rattle.std.proofs.Common.{◌≡◌, rules, subst, sym, true}
 use Rattle.policies.specs.AnyPolicy.{outcomes_on}
-use Rattle.policies.proofs.StepLaws.{any_covers_trace}
-use Rattle.debug_policies.specs.Comparison.{compared_on}
-use Rattle.debug_policies.proofs.Compared.{compared-all}
+use Rattle.debug_policies.specs.Comparison.{compared_on, hits_beside}
+use Rattle.debug_policies.specs.ComparedRows.{HasCounted}
+use Rattle.debug_policies.proofs.Compared.{beside-long}
 use Rattle.long_traces.proofs.compared_run.ComparedRun.counts.Goals as goal
 
 pub returns : goal.returns
 unfolding compared_on
-returns c = λ first second every trace has.
+returns c = λ every first second trace has.
     let opened : c.args.self.now.is_open ≡ true = search rules in
-    (has.compared opened).counted.counts ∙ compared-all (outcomes_on first trace) (outcomes_on second trace) (length trace) (any_covers_trace first trace)
+    let hits = hits_beside (outcomes_on first trace) (outcomes_on second trace) in
+    c.counts.ensures every hits (subst (λ n. HasCounted every hits n c.args.self.now.counted) (sym (beside-long first second trace)) (has opened).counted)

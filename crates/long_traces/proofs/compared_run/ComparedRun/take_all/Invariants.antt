@@ -1,10 +1,9 @@
-use Rattle.std.proofs.Common.{◌≡◌, ◌+◌, ℕ, List}
+use Rattle.std.proofs.Common.{◌+◌, ℕ, List}
 use Rattle.step_record.specs.declared.job.Job.{Job}
 use Rattle.long_traces.specs.Taking.{AreNext}
 use Rattle.long_traces.specs.Pairs.{HasCompared}
 use Rattle.long_traces.proofs.compared_run.ComparedRun.take_all.Given as goal
 
 abbrev pub invariant-loop-i : goal.invariant-loop-i
-invariant-loop-i l = (l.self.every ≡ l.initial.self.every)
-    × ((first second : Job) (trace : List ℕ) (n : ℕ) → AreNext trace n l.keys → HasCompared first second trace n l.initial.self
-    → HasCompared first second trace (n + l.i) l.self)
+invariant-loop-i l = (every : ℕ) (first second : Job) (trace : List ℕ) (n : ℕ) → AreNext trace n l.keys → HasCompared every first second trace n l.initial.self
+    → HasCompared every first second trace (n + l.i) l.self

@@ -1,5 +1,4 @@
-use Rattle.std.proofs.Common.{◌≡◌, ◌∙◌, ◌+◌, ◌-◌, ◌<◌, ◌≤◌, ℕ, List, length, take, drop, refl, subst, arith, length-drop, length-take}
-use Rattle.long_traces.specs.Taking.{AreNext}
+use Rattle.std.proofs.Common.{◌≡◌, ◌∙◌, ◌+◌, ◌-◌, ℕ, length, take, drop, refl, subst, arith, length-drop, length-take}
 use Rattle.long_traces.specs.JobRuns.{HasCut}
 use Rattle.long_traces.proofs.Next.{piece-next}
 use Rattle.long_traces.proofs.job_run.JobRun.take_all.Goals as goal

@@ -1,9 +1,8 @@
-use Rattle.std.proofs.Common.{◌≡◌, ◌∙◌, ◌<◌, ◌≤◌, List, ℕ, ap, arith, length, map, subst, sym}
+use Rattle.std.proofs.Common.{◌∙◌, ◌<◌, ◌≤◌, ap, arith, length, map}
 use Rattle.std.proofs.lemmas.List.{take_all}
 use Rattle.policies.specs.Reports.{report_on}
-use Rattle.long_traces.specs.JobRuns.{HasRun}
 use Rattle.long_traces.specs.declared.job_run.JobRun.{JobRun}
-use Rattle.long_traces.proofs.Runs.{map-map, map-more}
+use Rattle.long_traces.proofs.Runs.{map-map, map-more, run-at}
 use Rattle.long_traces.proofs.job_runs.JobRuns.reports.Goals as goal
 
 pub loop-i-init : goal.loop-i-init
@@ -12,12 +11,10 @@ loop-i-init c = λ every trace each. c.new-reports.ensures.items
 pub loop-i-preserved : goal.loop-i-preserved
 loop-i-preserved c = λ every trace each.
     let runs = c.args.self.now.runs.items in
-    let i = c.loop-i.i in
-    let run = c.index.result.now in
-    let lt : i < length runs = omega (arith, c.loop-i-test.true, c.args.self.now.runs.ok.0) in
-    let has = subst (HasRun every trace (length trace)) (sym c.index.ensures) (each i run lt) in
-    map-more (λ (r : JobRun). report_on r.job trace) runs run i c.loop-i.reports.items _ (report_on run.job trace) lt
-    (c.loop-i.invariant every trace each) (c.in_ok-add_report.ensures every trace has) (ap (λ (r : JobRun). report_on r.job trace) c.index.ensures)
+    let lt : c.loop-i.i < length runs = omega (arith, c.loop-i-test.true, c.args.self.now.runs.ok.0) in
+    map-more (λ (run : JobRun). report_on run.job trace) runs c.index.result.now c.loop-i.i c.loop-i.reports.items _ (report_on c.index.result.now.job trace) lt
+    (c.loop-i.invariant every trace each) (c.in_ok-add_report.ensures every trace (run-at every trace (length trace) c.loop-i.i runs c.index.result.now each lt c.index.ensures))
+    (ap (λ (run : JobRun). report_on run.job trace) c.index.ensures)
 
 pub returns : goal.returns
 returns c = λ task trace have.

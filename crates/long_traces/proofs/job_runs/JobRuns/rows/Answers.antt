@@ -1,11 +1,9 @@
-use Rattle.std.proofs.Common.{◌≡◌, ◌∙◌, ◌++◌, ◌<◌, ◌≤◌, List, ℕ, ap, arith, length, refl, subst, sym}
+use Rattle.std.proofs.Common.{◌∙◌, ◌++◌, ◌<◌, ◌≤◌, ap, arith, length, refl}
 use Rattle.std.specs.Prelude.{flat_map}
 use Rattle.std.proofs.lemmas.List.{take_all}
-use Rattle.policies.specs.declared.report.Interval.{Interval}
 use Rattle.sweeps.specs.Intervals.{intervals_on}
-use Rattle.long_traces.specs.JobRuns.{HasRun}
 use Rattle.long_traces.specs.declared.job_run.JobRun.{JobRun}
-use Rattle.long_traces.proofs.Runs.{flat-map, flat-more}
+use Rattle.long_traces.proofs.Runs.{flat-map, flat-more, run-at}
 use Rattle.long_traces.proofs.job_runs.JobRuns.rows.Goals as goal
 
 pub loop-i-init : goal.loop-i-init
@@ -14,21 +12,17 @@ loop-i-init c = λ every trace each. c.new-rows.ensures.items
 pub add_rows-requires : goal.add_rows-requires
 add_rows-requires c =
     let all = c.requires.1 in
-    let run = c.index.result.now in
     let lt : c.loop-i.i < length c.args.self.now.runs.items = omega (arith, c.loop-i-test.true, c.args.self.now.runs.ok.0) in
-    let has = subst (HasRun c.requires.0.every all.trace (length all.trace)) (sym c.index.ensures) (all.taken.each c.loop-i.i run lt) in
+    let has = run-at c.requires.0.every all.trace (length all.trace) c.loop-i.i c.args.self.now.runs.items c.index.result.now all.taken.each lt c.index.ensures in
     record { trace = all.trace; taken = record { size = refl; cut = has.cut } }
 
 pub loop-i-preserved : goal.loop-i-preserved
 loop-i-preserved c = λ every trace each.
     let runs = c.args.self.now.runs.items in
-    let i = c.loop-i.i in
-    let run = c.index.result.now in
-    let lt : i < length runs = omega (arith, c.loop-i-test.true, c.args.self.now.runs.ok.0) in
-    let has = subst (HasRun every trace (length trace)) (sym c.index.ensures) (each i run lt) in
-    flat-more (λ (r : JobRun). intervals_on r.job every trace) runs run i c.loop-i.rows.items _ lt
-    (c.loop-i.invariant every trace each)
-    (c.in_ok-add_rows.ensures every trace has ∙ ap (λ (r : JobRun). c.loop-i.rows.items ++ intervals_on r.job every trace) c.index.ensures)
+    let lt : c.loop-i.i < length runs = omega (arith, c.loop-i-test.true, c.args.self.now.runs.ok.0) in
+    flat-more (λ (run : JobRun). intervals_on run.job every trace) runs c.index.result.now c.loop-i.i c.loop-i.rows.items _ lt (c.loop-i.invariant every trace each)
+    (c.in_ok-add_rows.ensures every trace (run-at every trace (length trace) c.loop-i.i runs c.index.result.now each lt c.index.ensures)
+    ∙ ap (λ (run : JobRun). c.loop-i.rows.items ++ intervals_on run.job every trace) c.index.ensures)
 
 pub returns : goal.returns
 returns c = λ task trace have.

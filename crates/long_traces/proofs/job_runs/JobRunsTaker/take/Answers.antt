@@ -1,4 +1,4 @@
-use Rattle.std.proofs.Common.{◌≡◌, ◌∙◌, ◌<◌, ◌≤◌, arith, length, refl, subst, sym}
+use Rattle.std.proofs.Common.{◌∙◌, ◌<◌, ◌≤◌, arith, length, refl, subst, sym}
 use Rattle.std.proofs.lemmas.List.{length-set}
 use Rattle.long_traces.specs.JobRuns.{HasRun}
 use Rattle.long_traces.proofs.Runs.{taken-all, taken-more, taken-none}

@@ -1,10 +1,17 @@
-use Rattle.std.proofs.Common.{◌≡◌, ◌+◌, ℕ, length, IfNone, IfSome, Some, Option, subst, sym, arith, ap, ◌∙◌, false, rules}
+use Rattle.std.proofs.Common.{◌≡◌, ◌+◌, ℕ, length, IfNone, IfSome, Some, subst, sym, ap, false, rules}
 use Rattle.std.specs.Option.{is_some}
 use Rattle.policies.specs.AnyPolicy.{outcomes_on}
 use Rattle.debug_policies.specs.Part.{AgreeBelow, IsPart}
 use Rattle.long_traces.specs.Pairs.{HavePaired}
 use Rattle.long_traces.proofs.Two.{from-none, into-none}
 use Rattle.long_traces.proofs.part_run.PartRun.take_all.Goals as goal
+
+pub parting_in-requires : goal.parting_in-requires
+parting_in-requires c =
+    let n = c.requires in
+    let none-found : is_some c.args.self.now.found ≡ false = search rules in
+    let at = from-none c.args.self.now.found none-found n.2.taken.none in
+    (n.0, n.1, record { trace = n.2.trace; place = n.2.place; next = n.2.next; few = n.2.few; taken = at.1 })
 
 pub returns-in-Some : goal.returns-in-Some
 returns-in-Some c = λ first second trace n next has.

@@ -1,5 +1,5 @@
 use Rattle.trace_read.specs.TraceText.{keys_of_file}
-use Rattle.long_traces.proofs.jobs.reports_in_turn.Given as goal
+use Rattle.long_traces.proofs.jobs.reports.Given as goal
 
 abbrev pub ghosts-read_taken : goal.ghosts-read_taken
 ghosts-read_taken g a = record {

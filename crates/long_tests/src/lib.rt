@@ -1,0 +1,9 @@
+//! Tests of jobs over a trace that is read and not kept: each public call of `long_traces`, within small limits.
+#![tactic(auto)]
+
+#[cfg(test)]
+mod assertions;
+#[cfg(test)]
+mod long_traces_tests;
+#[cfg(test)]
+mod pieces;
