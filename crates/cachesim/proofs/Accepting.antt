@@ -1,8 +1,8 @@
 -- Configurations that are accepted give no fault of jobs.
-use Rattle.std.proofs.Common.{◌≡◌, ◌≤◌, ◌+◌, refl, ◌||◌, inl, inr, sym, nat_lt, Bool, true, false, ℕ, List, [], ◌∷◌, length, map, subst, Option, None, Result, Ok, Err}
+use Rattle.std.proofs.Common.{◌≡◌, ◌∙◌, ap, ◌≤◌, ◌+◌, refl, ◌||◌, inl, inr, sym, nat_lt, Bool, true, false, ℕ, List, [], ◌∷◌, length, map, subst, Option, None, Result, Ok, Err}
 use Rattle.std.specs.List.{All, AllPass, list_any}
 use Rattle.std.specs.Prelude.{IfErr, if◌then◌else◌}
-use Rattle.std.proofs.lemmas.List.Elements.{All-head, All-tail, All-nil, All-cons}
+use Rattle.std.proofs.lemmas.List.Elements.{All-append, All-head, All-tail, All-nil, All-cons}
 use Rattle.std.proofs.lemmas.Bool.{cases_Bool, le-leb, ltb-false}
 use Rattle.step_record.specs.Config.{config_fault, is_from_one}
 use Rattle.step_record.specs.declared.config.Config.{Config}
@@ -17,14 +17,17 @@ use Rattle.policies.specs.Design.{knows_trace}
 use Rattle.policies.specs.FaultyJobs.{at_capacity, faulty_from, faulty_in, ReturnsFault}
 use Rattle.policies.specs.declared.actor_fault.ActorFault.{ActorFault}
 use Rattle.policies.specs.declared.actor_fault.ActorFault.TheVariants.{OutOfMemory}
-use Rattle.sweeps.specs.Sweep.{first_config_fault, sweep_fault}
+use Rattle.sweeps.specs.Sweep.{AreAccepted, first_config_fault, jobs_over, sweep_fault}
 use Rattle.policy_actors.specs.Following.{CanFollow}
 use Rattle.policy_actors.proofs.Following.{all_follow}
+use Rattle.long_traces.specs.Taking.{FollowsTrace}
+use Rattle.long_traces.proofs.Following.{all-follow}
 use Rattle.policy_actors.specs.Faults.{actor_fault}
 use Rattle.sweeps.specs.Intervals.{intervals_fault}
 use Rattle.policies.specs.declared.job_checks.TheConstants.{MAX_ACTORS}
-use Rattle.command_line.specs.Accepted.{IsAcceptedPart, IsAcceptedRun, IsAcceptedSweep, is_clairvoyant, needs_whole_trace}
-use Rattle.command_line.specs.declared.arguments.Arguments.TheVariants.{Run}
+use Rattle.command_line.specs.Accepted.{AreAcceptedIntervals, IsAcceptedPart, IsAcceptedRun, IsAcceptedSweep, is_clairvoyant, is_long, needs_whole_trace}
+use Rattle.command_line.specs.declared.arguments.Arguments.TheVariants.{Intervals, Run, Sweep}
+use Rattle.command_line.specs.declared.arguments.IntervalsArguments.{IntervalsArguments}
 use Rattle.command_line.specs.declared.arguments.PartArguments.{PartArguments}
 use Rattle.command_line.specs.declared.arguments.RunArguments.{RunArguments}
 use Rattle.command_line.specs.declared.arguments.SweepArguments.{SweepArguments}
@@ -87,16 +90,16 @@ neither : (a b : Bool) → (a || b) ≡ false → (a ≡ false) × (b ≡ false)
 neither true b e = absurd (cc e)
 neither false b e = (refl, e)
 
-forgets : (policy : Policy) → is_clairvoyant policy ≡ false → knows_trace policy ≡ true → ⊥
-forgets Clairvoyant other knows = cc other
-forgets _ other knows = cc knows
+forgets : (policy : Policy) → is_clairvoyant policy ≡ false → knows_trace policy ≡ false
+forgets Clairvoyant other = absurd (cc other)
+forgets _ other = refl
 
-each_forgets : (most : ℕ) (config : Config) (tuning : Tuning) (policies : List Policy) → list_any is_clairvoyant policies ≡ false
-    → All (CanFollow most) (jobs_by_policy config tuning policies)
-each_forgets most config tuning [] none = All-nil (CanFollow most)
-each_forgets most config tuning (policy ∷ policies) none =
+each_forgets : (config : Config) (tuning : Tuning) (policies : List Policy) → list_any is_clairvoyant policies ≡ false
+    → All FollowsTrace (jobs_by_policy config tuning policies)
+each_forgets config tuning [] none = All-nil FollowsTrace
+each_forgets config tuning (policy ∷ policies) none =
     let both = neither (is_clairvoyant policy) (list_any is_clairvoyant policies) none in
-    All-cons (CanFollow most) _ _ (λ knows. absurd (forgets policy both.0 knows)) (each_forgets most config tuning policies both.1)
+    All-cons FollowsTrace _ _ (forgets policy both.0) (each_forgets config tuning policies both.1)
 
 -- the jobs of a `run` that is accepted can be run within its limits
 pub can_follow : (run : RunArguments) (jobs : List Job) → needs_whole_trace (Run run) ≡ false → jobs ≡ jobs_by_policy run.config run.tuning run.policies
@@ -104,10 +107,54 @@ pub can_follow : (run : RunArguments) (jobs : List Job) → needs_whole_trace (R
 can_follow run jobs kept is = elim (cases_Bool (nat_lt MAX_ACCESSES run.limits.accesses)) [
   | inl long ↦
       let none : list_any is_clairvoyant run.policies ≡ false = rw long at kept in
-      subst (All (CanFollow run.limits.accesses)) (sym is) (each_forgets run.limits.accesses run.config run.tuning run.policies none)
+      subst (All (CanFollow run.limits.accesses)) (sym is) (all-follow run.limits.accesses _ (each_forgets run.config run.tuning run.policies none))
   | inr short ↦ all_follow run.limits.accesses jobs (ltb-false MAX_ACCESSES run.limits.accesses short)
 ]
 
 -- and no job at all can be run
 pub can_pass : (run : RunArguments) → IsAcceptedRun run → actor_fault run.batch [] ≡ None
 can_pass run accepted = rw (in_batch run.batch accepted.some accepted.few) refl
+
+-- ---- over a long trace
+
+each_accepted : (config : Config) (tuning : Tuning) (policies : List Policy) → config_fault config ≡ Ok tt → AreAccepted (jobs_by_policy config tuning policies)
+each_accepted config tuning [] ok = All-nil (λ job. config_fault job.config ≡ Ok tt)
+each_accepted config tuning (policy ∷ policies) ok = All-cons (λ job. config_fault job.config ≡ Ok tt) _ _ ok (each_accepted config tuning policies ok)
+
+-- what holds of a policy at each capacity of a sweep holds of its jobs
+at_capacities : (P : Job → Type 0) (job : Job) (cs : List ℕ) → ((c : ℕ) → is_from_one MAX_CAPACITY c ≡ true → P (at_capacity job c)) → AllPass (is_from_one MAX_CAPACITY) cs
+    → All P (map (at_capacity job) cs)
+at_capacities P job [] each all = All-nil P
+at_capacities P job (c ∷ cs) each all =
+    All-cons P _ _ (each c (All-head (λ n. is_from_one MAX_CAPACITY n ≡ true) c cs all)) (at_capacities P job cs each (All-tail (λ n. is_from_one MAX_CAPACITY n ≡ true) c cs all))
+
+over_capacities : (P : Job → Type 0) (jobs : List Job) (cs : List ℕ) → ((job : Job) (c : ℕ) → is_from_one MAX_CAPACITY c ≡ true → P job → P (at_capacity job c))
+    → AllPass (is_from_one MAX_CAPACITY) cs → All P jobs → All P (jobs_over jobs cs)
+over_capacities P [] cs each all has = All-nil P
+over_capacities P (job ∷ jobs) cs each all has =
+    All-append P _ _ (at_capacities P job cs (λ c fits. each job c fits (All-head P job jobs has)) all) (over_capacities P jobs cs each all (All-tail P job jobs has))
+
+-- the jobs of a `sweep` over a long trace are accepted, and no policy has to know the whole of it
+pub sweeps_long : (sweep : SweepArguments) (rows : List Job) → IsAcceptedSweep sweep → needs_whole_trace (Sweep sweep) ≡ false → is_long sweep.limits ≡ true
+    → rows ≡ jobs_over (jobs_by_policy sweep.config sweep.tuning sweep.policies) sweep.capacities → AreAccepted rows × All FollowsTrace rows
+sweeps_long sweep rows accepted kept long is =
+    let none : list_any is_clairvoyant sweep.policies ≡ false = rw long at kept in (
+      subst AreAccepted (sym is) (over_capacities (λ job. config_fault job.config ≡ Ok tt) _ sweep.capacities (λ job c fits ok. at_other job.config c ok fits) accepted.capacities
+          (each_accepted sweep.config sweep.tuning sweep.policies accepted.config)),
+      subst (All FollowsTrace) (sym is) (over_capacities FollowsTrace _ sweep.capacities (λ job c fits follows. follows) accepted.capacities
+          (each_forgets sweep.config sweep.tuning sweep.policies none)),
+    )
+
+pub swept_rows : (sweep : SweepArguments) (jobs rows : List Job) (cs : List ℕ) → jobs ≡ jobs_by_policy sweep.config sweep.tuning sweep.policies → cs ≡ sweep.capacities
+    → rows ≡ jobs_over jobs cs → rows ≡ jobs_over (jobs_by_policy sweep.config sweep.tuning sweep.policies) sweep.capacities
+swept_rows sweep jobs rows cs are is made =
+    made ∙ (ap (λ (js : List Job). jobs_over js cs) are ∙ ap (jobs_over (jobs_by_policy sweep.config sweep.tuning sweep.policies)) is)
+
+-- so are those of an `intervals`
+pub counts_long : (intervals : IntervalsArguments) (jobs : List Job) → AreAcceptedIntervals intervals → needs_whole_trace (Intervals intervals) ≡ false
+    → is_long intervals.limits ≡ true → jobs ≡ jobs_by_policy intervals.config intervals.tuning intervals.policies → AreAccepted jobs × All FollowsTrace jobs
+counts_long intervals jobs accepted kept long is =
+    let none : list_any is_clairvoyant intervals.policies ≡ false = rw long at kept in (
+      subst AreAccepted (sym is) (each_accepted intervals.config intervals.tuning intervals.policies accepted.config),
+      subst (All FollowsTrace) (sym is) (each_forgets intervals.config intervals.tuning intervals.policies none),
+    )

@@ -84,11 +84,13 @@ IsFoundInFile file P fault = IfSome file (P fault)
 abbrev pub IsFound : Arguments → KnownFiles → Option (List ℕ) → Fault → Type 0
 IsFound (asked.Run run) files input fault =
     IfSome input (IsFoundWithin run.limits run.format (IsTooMany run.policies) fault)
-IsFound (asked.Sweep sweep) files input fault = IfSome input (IsFoundIn sweep.format (IsTooMany sweep.policies) fault)
+IsFound (asked.Sweep sweep) files input fault =
+    IfSome input (IsFoundWithin sweep.limits sweep.format (IsTooMany sweep.policies) fault)
 IsFound (asked.Intervals intervals) files input fault =
-    IfSome input (IsFoundIn intervals.format (IsTooMany intervals.policies) fault)
-IsFound (asked.Part part) files input fault = IfSome input (IsFoundIn part.format (λ f. ⊥) fault)
-IsFound (asked.Compare compare) files input fault = IfSome input (IsFoundIn compare.policies.format (λ f. ⊥) fault)
+    IfSome input (IsFoundWithin intervals.limits intervals.format (IsTooMany intervals.policies) fault)
+IsFound (asked.Part part) files input fault = IfSome input (IsFoundWithin part.limits part.format (λ f. ⊥) fault)
+IsFound (asked.Compare compare) files input fault =
+    IfSome input (IsFoundWithin compare.policies.limits compare.policies.format (λ f. ⊥) fault)
 IsFound (asked.Sample sample) files input fault = IfSome input (IsFoundWithin LONG sample.format (λ f. ⊥) fault)
 IsFound (asked.Drive drive) files input fault = IfSome input (IsFoundIn drive.format (λ f. f ≡ JournalFull) fault)
 IsFound (asked.Debug debug) files input fault = IsFoundInFile (files debug.trace)

@@ -64,11 +64,12 @@ abbrev pub usage_line : ParseFault → List ℕ
 usage_line parse.Stripes = codes "fault: Stripes\n"
 usage_line parse.WholeTrace =
     codes "error: clairvoyant has to know the whole trace, which --long does not keep: take a sample of it\n"
+usage_line parse.LongIntervals = codes "error: an interval has at most 16777216 accesses without --long\n"
 usage_line fault = codes "error: a policy or a number is missing\n"
 
 -- Status 2: the words are refused by clap, or taken and incomplete: they lack a number in its range or a known
 -- policy, or their number of read buffers is not a power of two from 1 to 64, or they name Belady's policy for a long
--- trace.
+-- trace, or an interval that is longer than the trace may be.
 abbrev pub RefusedBy : List Text → Tally → Tally → Option (List ℕ) → Option (List ℕ) → Type 0
 RefusedBy words old new silent line = IsRefused words RefusesWords
     ⊎ ((fault : ParseFault) × AsksFor words (Err fault) × WritesLine old new silent line (usage_line fault))

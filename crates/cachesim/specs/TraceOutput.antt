@@ -72,10 +72,11 @@ abbrev pub IsTextOf : Arguments → Option (List ℕ) → List ℕ → Type 0
 IsTextOf (asked.Run run) input text =
     IfFaultlessWithin run.limits.accesses run.format input (λ keys. IsText (asked.Run run) keys text)
 IsTextOf (asked.Sweep sweep) input text =
-    IfFaultless sweep.format input (λ keys. IsText (asked.Sweep sweep) keys text)
+    IfFaultlessWithin sweep.limits.accesses sweep.format input (λ keys. IsText (asked.Sweep sweep) keys text)
 IsTextOf (asked.Intervals intervals) input text =
-    IfFaultless intervals.format input (λ keys. IsText (asked.Intervals intervals) keys text)
-IsTextOf (asked.Part part) input text = IfFaultless part.format input (λ keys. IsText (asked.Part part) keys text)
-IsTextOf (asked.Compare compare) input text =
-    IfFaultless compare.policies.format input (λ keys. IsText (asked.Compare compare) keys text)
+    IfFaultlessWithin intervals.limits.accesses intervals.format input (λ keys. IsText (asked.Intervals intervals) keys text)
+IsTextOf (asked.Part part) input text =
+    IfFaultlessWithin part.limits.accesses part.format input (λ keys. IsText (asked.Part part) keys text)
+IsTextOf (asked.Compare compare) input text = IfFaultlessWithin compare.policies.limits.accesses compare.policies.format
+    input (λ keys. IsText (asked.Compare compare) keys text)
 IsTextOf arguments input text = ⊥

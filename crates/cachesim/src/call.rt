@@ -29,6 +29,9 @@ const STRIPES: &[u8] = b"fault: Stripes\n";
 const WHOLE_TRACE: &[u8] =
     b"error: clairvoyant has to know the whole trace, which --long does not keep: take a sample of it\n";
 
+// The line of an interval that only a long trace may have, which is a usage error.
+const LONG_INTERVALS: &[u8] = b"error: an interval has at most 16777216 accesses without --long\n";
+
 // The line of arguments that are incomplete, which is a usage error.
 const INCOMPLETE: &[u8] = b"error: a policy or a number is missing\n";
 
@@ -90,6 +93,7 @@ pub fn command<
         Err(ParseFault::Refused(error)) => return answer_help(alloc, &error, out, fault_out),
         Err(ParseFault::Stripes) => return report_usage_error(STRIPES, fault_out),
         Err(ParseFault::WholeTrace) => return report_usage_error(WHOLE_TRACE, fault_out),
+        Err(ParseFault::LongIntervals) => return report_usage_error(LONG_INTERVALS, fault_out),
         Err(ParseFault::Incomplete) => return report_usage_error(INCOMPLETE, fault_out),
     };
     let done = perform(rt, alloc, &arguments, input, out, fault_out, files, watch);

@@ -20,7 +20,6 @@ use std::alloc::Global;
 use std::sync::Wait;
 use std::thread::Threads;
 use streams::{CountedRead, CountedWrite};
-use trace_read::read_trace;
 
 /// Does what the arguments ask for, over an input and an output; `sample` says on the fault output what it wrote.
 /// `debug` and `replay` read a file too; all others are watched.
@@ -58,21 +57,13 @@ pub fn perform<
 {
     match arguments {
         Arguments::Run(arguments) => write_text(run(rt, alloc, arguments, input, watch), out),
-        Arguments::Sweep(arguments) => {
-            let trace = read_trace(alloc, input, arguments.format)?;
-            write_text(sweep(rt, alloc, arguments, &trace, watch), out)
-        }
+        Arguments::Sweep(arguments) => write_text(sweep(rt, alloc, arguments, input, watch), out),
         Arguments::Intervals(arguments) => {
-            let trace = read_trace(alloc, input, arguments.format)?;
-            write_text(intervals(rt, alloc, arguments, &trace, watch), out)
+            write_text(intervals(rt, alloc, arguments, input, watch), out)
         }
-        Arguments::Part(arguments) => {
-            let trace = read_trace(alloc, input, arguments.format)?;
-            write_text(part(rt, alloc, arguments, &trace, watch), out)
-        }
+        Arguments::Part(arguments) => write_text(part(rt, alloc, arguments, input, watch), out),
         Arguments::Compare(arguments) => {
-            let trace = read_trace(alloc, input, arguments.policies.format)?;
-            write_text(compare(rt, alloc, arguments, &trace, watch), out)
+            write_text(compare(rt, alloc, arguments, input, watch), out)
         }
         Arguments::Sample(arguments) => sample(alloc, arguments, input, out, fault_out, watch),
         Arguments::Drive(arguments) => drive(rt, alloc, arguments, input, out, watch),

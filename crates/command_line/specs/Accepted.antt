@@ -1,5 +1,6 @@
 -- The ranges of what a parse gives.
-use Rattle.std.specs.Prelude.{◌≡◌, ◌≤◌, ◌&&◌, Bool, false, true, nat_lt, IfSome, Ok}
+use Rattle.std.specs.Prelude.{◌≡◌, ◌≤◌, ◌&&◌, ◌||◌, Bool, false, true, nat_lt, IfSome, Ok}
+use Rattle.std.specs.Option.{option_map_or}
 use Rattle.std.specs.List.{AllPass, list_any}
 use Rattle.step_record.specs.Config.{config_fault, is_from_one}
 use Rattle.step_record.specs.declared.config.Config.{Config}
@@ -9,6 +10,7 @@ use Rattle.step_record.specs.declared.job.Tuning.{Tuning}
 use Rattle.step_record.specs.declared.job.Policy.{Policy}
 use Rattle.step_record.specs.declared.job.Policy.TheVariants.{Clairvoyant}
 use Rattle.step_record.specs.declared.worker.TheConstants.{MAX_WORKERS}
+use Rattle.trace_read.specs.declared.limits.Limits.{Limits}
 use Rattle.trace_read.specs.declared.limits.TheConstants.{MAX_LONG_ACCESSES, MAX_LONG_TRACE_BYTES}
 use Rattle.command_line.specs.declared.arguments.Arguments.{Arguments}
 use Rattle.command_line.specs.declared.arguments.Arguments.TheVariants.{Compare, Debug, Drive, Intervals, Part}
@@ -30,35 +32,41 @@ pub record IsTuning (tuning : Tuning) : Type 0 where
   pub kin : (1 ≤ tuning.kin) × (tuning.kin ≤ MAX_PART_PERCENT)
   pub kout : (1 ≤ tuning.kout) × (tuning.kout ≤ MAX_GHOST_PERCENT)
 
+-- no more than the limits of a long trace
+pub record AreLimits (limits : Limits) : Type 0 where
+  pub accesses : limits.accesses ≤ MAX_LONG_ACCESSES
+  pub bytes : limits.bytes ≤ MAX_LONG_TRACE_BYTES
+
 pub record IsAcceptedRun (run : RunArguments) : Type 0 where
   pub config : config_fault run.config ≡ Ok tt
   pub tuning : IsTuning run.tuning
   pub some : 1 ≤ run.batch
   pub few : run.batch ≤ MAX_BATCH
-  pub accesses : run.limits.accesses ≤ MAX_LONG_ACCESSES
-  pub bytes : run.limits.bytes ≤ MAX_LONG_TRACE_BYTES
+  pub limits : AreLimits run.limits
 
 pub record IsAcceptedSweep (sweep : SweepArguments) : Type 0 where
   pub config : config_fault sweep.config ≡ Ok tt
   pub tuning : IsTuning sweep.tuning
   pub capacities : AllPass (is_from_one MAX_CAPACITY) sweep.capacities
+  pub limits : AreLimits sweep.limits
 
 pub record AreAcceptedIntervals (intervals : IntervalsArguments) : Type 0 where
   pub config : config_fault intervals.config ≡ Ok tt
   pub tuning : IsTuning intervals.tuning
   pub some : 1 ≤ intervals.every
-  pub few : intervals.every ≤ MAX_ACCESSES
+  pub limits : AreLimits intervals.limits
 
 pub record IsAcceptedPart (part : PartArguments) : Type 0 where
   pub first : config_fault part.first.config ≡ Ok tt
   pub second : config_fault part.second.config ≡ Ok tt
   pub first_tuning : IsTuning part.first.tuning
   pub second_tuning : IsTuning part.second.tuning
+  pub limits : AreLimits part.limits
 
 -- an interval has at least one access, where the accesses are cut into such
 pub record IsAcceptedComparison (compare : CompareArguments) : Type 0 where
   pub policies : IsAcceptedPart compare.policies
-  pub every : IfSome compare.every (λ every. (1 ≤ every) × (every ≤ MAX_ACCESSES))
+  pub every : IfSome compare.every (λ every. 1 ≤ every)
 
 pub record IsAcceptedDrive (drive : DriveArguments) : Type 0 where
   pub config : config_fault drive.config ≡ Ok tt
@@ -82,7 +90,25 @@ abbrev pub is_clairvoyant : Policy → Bool
 is_clairvoyant Clairvoyant = true
 is_clairvoyant policy = false
 
+-- one of the two policies is
+abbrev pub has_clairvoyant : PartArguments → Bool
+has_clairvoyant part = is_clairvoyant part.first.policy || is_clairvoyant part.second.policy
+
+-- a trace within these limits may be too long to be kept
+abbrev pub is_long : Limits → Bool
+is_long limits = nat_lt MAX_ACCESSES limits.accesses
+
 -- the arguments name a policy that has to know the whole trace, over a trace that may be too long to be kept
 abbrev pub needs_whole_trace : Arguments → Bool
-needs_whole_trace (Run run) = nat_lt MAX_ACCESSES run.limits.accesses && list_any is_clairvoyant run.policies
+needs_whole_trace (Run run) = is_long run.limits && list_any is_clairvoyant run.policies
+needs_whole_trace (Sweep sweep) = is_long sweep.limits && list_any is_clairvoyant sweep.policies
+needs_whole_trace (Intervals intervals) = is_long intervals.limits && list_any is_clairvoyant intervals.policies
+needs_whole_trace (Part part) = is_long part.limits && has_clairvoyant part
+needs_whole_trace (Compare compare) = is_long compare.policies.limits && has_clairvoyant compare.policies
 needs_whole_trace arguments = false
+
+-- an interval has more accesses than the trace may have
+abbrev pub has_long_intervals : Arguments → Bool
+has_long_intervals (Intervals intervals) = nat_lt intervals.limits.accesses intervals.every
+has_long_intervals (Compare compare) = option_map_or (nat_lt compare.policies.limits.accesses) compare.every false
+has_long_intervals arguments = false

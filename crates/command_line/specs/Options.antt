@@ -1,7 +1,7 @@
 -- The rows of options and subcommands.
 use Rattle.std.specs.Prelude.{List, [], ◌∷◌, Option, Some, None, codes, option_map}
 use Rattle.clap.specs.Words.{Text}
-use Rattle.step_record.specs.declared.limits.TheConstants.{MAX_ACCESSES, MAX_BATCH, MAX_CAPACITY, MAX_JOURNAL_LIMIT}
+use Rattle.step_record.specs.declared.limits.TheConstants.{MAX_BATCH, MAX_CAPACITY, MAX_JOURNAL_LIMIT}
 use Rattle.step_record.specs.declared.limits.TheConstants.{MAX_GHOST_PERCENT, MAX_MAIN_PERCENT, MAX_PART_PERCENT}
 use Rattle.step_record.specs.declared.worker.TheConstants.{MAX_WORKERS}
 use Rattle.command_line.specs.declared.options.OptionName.{OptionName}
@@ -45,8 +45,8 @@ row_of Spread = row (codes "spread") kind.Spread Named (Some (codes "mixed"))
 row_of Format = row (codes "format") kind.Format Named (Some (codes "lirs"))
 row_of Long = row (codes "long") kind.Flag Switch None
 row_of Batch = row (codes "batch") (kind.Number 1 MAX_BATCH) Named (Some (codes "1024"))
-row_of Every = row (codes "every") (kind.Number 1 MAX_ACCESSES) Named None
-row_of ComparedEvery = row (codes "every") (kind.Number 1 MAX_ACCESSES) Optional None
+row_of Every = row (codes "every") (kind.Number 1 4294967295) Named None
+row_of ComparedEvery = row (codes "every") (kind.Number 1 4294967295) Optional None
 row_of Policies = row (codes "policy") kind.Policy Positional None
 row_of SweptPolicies = row (codes "policy") kind.Policy NamedOften None
 row_of First = row (codes "first") kind.Policy Named None
@@ -73,11 +73,12 @@ defined_subcommand given = named given.name.now given.options.now
 abbrev pub subcommands : List SubcommandDefinition
 subcommands =
     named (codes "run") (Capacity ∷ Main ∷ Small ∷ In ∷ Out ∷ Period ∷ Spread ∷ Format ∷ Long ∷ Batch ∷ Policies ∷ [])
-    ∷ named (codes "sweep") (Main ∷ Small ∷ In ∷ Out ∷ Period ∷ Spread ∷ Format ∷ SweptPolicies ∷ Capacities ∷ [])
-    ∷ named (codes "intervals") (Capacity ∷ Every ∷ Main ∷ Small ∷ In ∷ Out ∷ Period ∷ Spread ∷ Format ∷ Policies ∷ [])
-    ∷ named (codes "part") (Capacity ∷ Main ∷ Small ∷ In ∷ Out ∷ Period ∷ Spread ∷ Format ∷ First ∷ Second ∷ [])
+    ∷ named (codes "sweep") (Main ∷ Small ∷ In ∷ Out ∷ Period ∷ Spread ∷ Format ∷ Long ∷ SweptPolicies ∷ Capacities ∷ [])
+    ∷ named (codes "intervals")
+    (Capacity ∷ Every ∷ Main ∷ Small ∷ In ∷ Out ∷ Period ∷ Spread ∷ Format ∷ Long ∷ Policies ∷ [])
+    ∷ named (codes "part") (Capacity ∷ Main ∷ Small ∷ In ∷ Out ∷ Period ∷ Spread ∷ Format ∷ Long ∷ First ∷ Second ∷ [])
     ∷ named (codes "compare")
-    (Capacity ∷ ComparedEvery ∷ Main ∷ Small ∷ In ∷ Out ∷ Period ∷ Spread ∷ Format ∷ First ∷ Second ∷ [])
+    (Capacity ∷ ComparedEvery ∷ Main ∷ Small ∷ In ∷ Out ∷ Period ∷ Spread ∷ Format ∷ Long ∷ First ∷ Second ∷ [])
     ∷ named (codes "sample") (Rate ∷ Seed ∷ Format ∷ [])
     ∷ named (codes "drive") (Capacity ∷ Main ∷ Small ∷ In ∷ Out ∷ Period ∷ Spread ∷ Format ∷ Workers ∷ Stripes ∷ Limit ∷ [])
     ∷ named (codes "debug") (Capacity ∷ Main ∷ Small ∷ In ∷ Out ∷ Period ∷ Spread ∷ Format ∷ First ∷ Second ∷ Trace ∷ [])

@@ -16,14 +16,14 @@ use Rattle.step_record.specs.declared.job.Tuning.{Tuning}
 use Rattle.step_record.specs.declared.job.Policy.{Policy}
 use Rattle.trace_read.specs.declared.format.Format.{Format}
 use Rattle.trace_read.specs.declared.limits.Limits.{Limits}
-use Rattle.command_line.specs.Accepted.{needs_whole_trace}
+use Rattle.command_line.specs.Accepted.{has_long_intervals, needs_whole_trace}
 use Rattle.command_line.specs.Options.{row_of}
 use Rattle.command_line.specs.Choices.{all_named, format_named, limits_named, policy_named, rate_named, spread_named}
 use Rattle.command_line.specs.declared.arguments.Arguments.{Arguments}
 use Rattle.command_line.specs.declared.arguments.Arguments.TheVariants as asked
 use Rattle.command_line.specs.declared.arguments.PartArguments.{PartArguments}
 use Rattle.command_line.specs.declared.fault.ParseFault.{ParseFault}
-use Rattle.command_line.specs.declared.fault.ParseFault.TheVariants.{Incomplete, Stripes, WholeTrace}
+use Rattle.command_line.specs.declared.fault.ParseFault.TheVariants.{Incomplete, LongIntervals, Stripes, WholeTrace}
 use Rattle.command_line.specs.declared.fault.ValueFault.{ValueFault}
 use Rattle.command_line.specs.declared.fault.ValueFault.TheVariants as fault
 use Rattle.command_line.specs.declared.options.OptionName.{OptionName}
@@ -154,6 +154,7 @@ sweep_in rows = option_and_then (λ config. option_and_then (λ tuning. option_a
       policies = policies;
       capacities = capacities;
       format = format_in rows;
+      limits = limits_in rows;
     })) (capacities_in rows)) (policies_in option.SweptPolicies rows)) (tuning_in rows)) (config_at 1 1 1 rows)
 
 unfoldable pub intervals_in : List Row → Option Arguments
@@ -164,6 +165,7 @@ intervals_in rows = option_and_then (λ config. option_and_then (λ tuning. opti
       policies = policies;
       every = every;
       format = format_in rows;
+      limits = limits_in rows;
     })) (policies_in option.Policies rows)) (number_in option.Every rows)) (tuning_in rows)) (config_in rows)
 
 -- two policies on one configuration with one tuning
@@ -172,6 +174,7 @@ part_in rows = option_and_then (λ config. option_and_then (λ tuning. option_an
   first = record { policy = first; config = config; tuning = tuning };
   second = record { policy = second; config = config; tuning = tuning };
   format = format_in rows;
+  limits = limits_in rows;
 }) (policy_in option.Second rows)) (policy_in option.First rows)) (tuning_in rows)) (config_in rows)
 
 -- how long an interval is, where it is given
@@ -218,10 +221,11 @@ asked_of name rows = if bytes_eq name (codes "run") then run_in rows
 abbrev pub has_wrong_stripes : List Row → Bool
 has_wrong_stripes rows = option_map_or (λ n. is_none (stripes_from n)) (wide_number_in option.Stripes rows) false
 
--- the arguments, where all are there, and no policy is named that they give too little to
+-- the arguments, where all are there, no policy is named that they give too little to, and no interval is too long
 abbrev pub complete : Option Arguments → Result Arguments ParseFault
 complete None = Err Incomplete
-complete (Some arguments) = if needs_whole_trace arguments then Err WholeTrace else Ok arguments
+complete (Some arguments) = if needs_whole_trace arguments then Err WholeTrace
+    else (if has_long_intervals arguments then Err LongIntervals else Ok arguments)
 
 -- what is asked for by the subcommand that was called
 abbrev pub asked_in : Option (Text × List Row) → Result Arguments ParseFault

@@ -65,6 +65,8 @@ pub struct SweepArguments {
     pub capacities: CapacityList,
     /// The format of the trace.
     pub format: Format,
+    /// The most accesses and bytes of the trace.
+    pub limits: Limits,
 }
 
 /// The arguments of `intervals`.
@@ -76,10 +78,12 @@ pub struct IntervalsArguments {
     pub tuning: Tuning,
     /// The policies, in the order of their rows.
     pub policies: PolicyList,
-    /// How many accesses an interval has: 1 to `MAX_ACCESSES`.
+    /// How many accesses an interval has: from 1 to as many as the trace may have.
     pub every: u32,
     /// The format of the trace.
     pub format: Format,
+    /// The most accesses and bytes of the trace.
+    pub limits: Limits,
 }
 
 /// The arguments of `part`, and of each call about two policies.
@@ -91,6 +95,8 @@ pub struct PartArguments {
     pub second: Job,
     /// The format of the trace.
     pub format: Format,
+    /// The most accesses and bytes of the trace.
+    pub limits: Limits,
 }
 
 /// The arguments of `compare`.
@@ -98,7 +104,7 @@ pub struct PartArguments {
 pub struct CompareArguments {
     /// The two policies, and the format of the trace.
     pub policies: PartArguments,
-    /// How many accesses an interval has: 1 to `MAX_ACCESSES`. `None` for one row of the whole trace.
+    /// How many accesses an interval has: from 1 to as many as the trace may have. `None` for one row of the whole trace.
     pub every: Option<u32>,
 }
 
@@ -176,6 +182,7 @@ pub(crate) fn sweep(alloc: Global, asked: &Matches<'_, '_>) -> ValueResult<Argum
         policies,
         capacities,
         format: asked.format(),
+        limits: asked.limits(),
     }))
 }
 
@@ -194,6 +201,7 @@ pub(crate) fn intervals(alloc: Global, asked: &Matches<'_, '_>) -> ValueResult<A
         policies,
         every,
         format: asked.format(),
+        limits: asked.limits(),
     }))
 }
 
@@ -218,6 +226,7 @@ pub(crate) fn part(asked: &Matches<'_, '_>) -> ValueResult<PartArguments>
             tuning,
         },
         format: asked.format(),
+        limits: asked.limits(),
     })
 }
 

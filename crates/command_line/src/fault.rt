@@ -20,6 +20,8 @@ pub enum ParseFault {
     Stripes,
     /// A policy that has to know the whole trace is named for one that may be too long to be kept.
     WholeTrace,
+    /// An interval has more accesses than the trace may have.
+    LongIntervals,
 }
 
 impl From<AllocError> for ParseFault {

@@ -9,7 +9,7 @@ use OptionName::{
     Workers,
 };
 use step_record::{
-    MAX_ACCESSES, MAX_BATCH, MAX_CAPACITY, MAX_GHOST_PERCENT, MAX_JOURNAL_LIMIT, MAX_MAIN_PERCENT,
+    MAX_BATCH, MAX_CAPACITY, MAX_GHOST_PERCENT, MAX_JOURNAL_LIMIT, MAX_MAIN_PERCENT,
     MAX_PART_PERCENT, MAX_WORKERS,
 };
 
@@ -143,6 +143,7 @@ The trace comes by a redirection (< FILE) or a pipe.",
             Period,
             Spread,
             Format,
+            Long,
             SweptPolicies,
             Capacities,
         ],
@@ -155,7 +156,7 @@ each --every accesses. The caches stay as they are from one interval to the next
 redirection (< FILE) or a pipe.",
         example: "Example: cachesim intervals --capacity 100 --every 1000 lru wtinylfu < trace.lirs",
         options: &[
-            Capacity, Every, Main, Small, In, Out, Period, Spread, Format, Policies,
+            Capacity, Every, Main, Small, In, Out, Period, Spread, Format, Long, Policies,
         ],
     },
     Subcommand {
@@ -165,7 +166,7 @@ redirection (< FILE) or a pipe.",
 from 1, at which just one of them hits, or `part none`. The trace comes by a redirection (< FILE) or a pipe.",
         example: "Example: cachesim part --capacity 100 --first lru --second slru < trace.lirs",
         options: &[
-            Capacity, Main, Small, In, Out, Period, Spread, Format, First, Second,
+            Capacity, Main, Small, In, Out, Period, Spread, Format, Long, First, Second,
         ],
     },
     Subcommand {
@@ -185,6 +186,7 @@ redirection (< FILE) or a pipe.",
             Period,
             Spread,
             Format,
+            Long,
             First,
             Second,
         ],
@@ -325,16 +327,16 @@ static OPTIONS: [OptionRow; 24] = [
     OptionRow {
         id: "every",
         value_name: "M",
-        help: "How many accesses an interval has, from 1 to 16777216; the last one may have fewer",
-        value: ValueKind::Number(1, MAX_ACCESSES as u32),
+        help: "How many accesses an interval has, from 1 to 16777216, or to 4294967295 with --long; the last one may have fewer",
+        value: ValueKind::Number(1, u32::MAX),
         place: Place::Named,
         default: None,
     },
     OptionRow {
         id: "every",
         value_name: "M",
-        help: "A row for each interval of M accesses, from 1 to 16777216; the last one may have fewer",
-        value: ValueKind::Number(1, MAX_ACCESSES as u32),
+        help: "A row for each interval of M accesses, from 1 to 16777216, or to 4294967295 with --long; the last one may have fewer",
+        value: ValueKind::Number(1, u32::MAX),
         place: Place::Optional,
         default: None,
     },

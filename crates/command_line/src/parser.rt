@@ -1,27 +1,30 @@
 //! The words of a call, to its arguments.
 ghost use Rattle.std.specs.Prelude.{◌≡◌, false, IfOk, map};
 ghost use Rattle.clap.specs.Words.{subcommand_rows_of};
-ghost use Rattle.command_line.specs.Accepted.{AreAccepted, needs_whole_trace};
+ghost use Rattle.std.specs.List.{list_any};
+ghost use Rattle.command_line.specs.Accepted.{AreAccepted, has_clairvoyant, has_long_intervals, is_clairvoyant, needs_whole_trace};
 ghost use Rattle.command_line.specs.ParseResult.{IsAskedFor, ParsedBy};
 ghost use Rattle.command_line.specs.Values.{Answers, asked_in, asked_of, has_wrong_stripes};
 
 use crate::arguments::{
-    Arguments, compare, debug, drive, intervals, part, replay, run, sample, sweep,
+    Arguments, PartArguments, compare, debug, drive, intervals, part, replay, run, sample, sweep,
 };
 use crate::choices::{WordLists, format_words, policy_words, rate_words, spread_words};
 use crate::commands::program;
 use crate::fault::{ParseFault, ValueFault, ValueResult};
+use crate::lists::PolicyList;
 use crate::options::OptionName;
 use crate::values::{Matches, stripes_from};
 use clap::ArgMatches;
 use std::alloc::Global;
-use step_record::{MAX_ACCESSES, Policy};
+use step_record::Policy;
 
 /// What the words after the program's name ask for. `Refused` comes exactly where `clap` refuses
 /// them by the commands' rules, also where they ask for help or the version, or where it ran out
 /// of memory; `Stripes` where the number of read buffers is not a power of two from 1 to 64; `Incomplete`
 /// where they lack another number in its range or a known policy; `WholeTrace` where they name a policy that has to
-/// know the whole trace, for one that may be too long to be kept.
+/// know the whole trace, for one that may be too long to be kept, and `LongIntervals` where an interval has more
+/// accesses than the trace may have.
 pub fn parse(alloc: Global, words: &[&str]) -> Result<Arguments, ParseFault>
     ensures parsed { ParsedBy (map (λ s. s.now) words.now) result }
     ensures accepted { IfOk result AreAccepted }
@@ -57,6 +60,7 @@ fn arguments(alloc: Global, matches: &ArgMatches<'_>) -> Result<Arguments, Parse
     }
     match arguments_of(alloc, name, &asked) {
         Ok(arguments) if needs_whole_trace(&arguments) => Err(ParseFault::WholeTrace),
+        Ok(arguments) if has_long_intervals(&arguments) => Err(ParseFault::LongIntervals),
         Ok(arguments) => Ok(arguments),
         Err(ValueFault::OutOfMemory) => Err(ParseFault::OutOfMemory),
         Err(ValueFault::Incomplete) => Err(ParseFault::Incomplete),
@@ -96,10 +100,43 @@ fn needs_whole_trace(arguments: &Arguments) -> bool
     ensures { result ≡ needs_whole_trace arguments.now }
 {
     match arguments {
-        Arguments::Run(run) => {
-            run.limits.accesses > MAX_ACCESSES
-                && run.policies.as_slice().contains(&Policy::Clairvoyant)
+        Arguments::Run(run) => run.limits.are_long() && have_clairvoyant(&run.policies),
+        Arguments::Sweep(sweep) => sweep.limits.are_long() && have_clairvoyant(&sweep.policies),
+        Arguments::Intervals(intervals) => {
+            intervals.limits.are_long() && have_clairvoyant(&intervals.policies)
         }
+        Arguments::Part(part) => part.limits.are_long() && has_clairvoyant(part),
+        Arguments::Compare(compare) => {
+            compare.policies.limits.are_long() && has_clairvoyant(&compare.policies)
+        }
+        _ => false,
+    }
+}
+
+// Whether Belady's policy is among these.
+fn have_clairvoyant(policies: &PolicyList) -> bool
+    ensures { result ≡ list_any is_clairvoyant policies.now }
+{
+    policies.as_slice().contains(&Policy::Clairvoyant)
+}
+
+// Whether it is one of the two.
+fn has_clairvoyant(part: &PartArguments) -> bool
+    ensures { result ≡ has_clairvoyant part.now }
+{
+    part.first.policy == Policy::Clairvoyant || part.second.policy == Policy::Clairvoyant
+}
+
+// Whether an interval has more accesses than the trace may have.
+fn has_long_intervals(arguments: &Arguments) -> bool
+    ensures { result ≡ has_long_intervals arguments.now }
+{
+    match arguments {
+        Arguments::Intervals(intervals) => intervals.every as usize > intervals.limits.accesses,
+        Arguments::Compare(compare) => match compare.every {
+            Some(every) => every as usize > compare.policies.limits.accesses,
+            None => false,
+        },
         _ => false,
     }
 }

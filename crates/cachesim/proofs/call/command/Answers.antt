@@ -10,7 +10,7 @@ use Rattle.clap.specs.declared.error.ErrorKind.TheVariants as kind
 use Rattle.command_line.specs.ParseResult.{IsRefused, ParsedBy}
 use Rattle.command_line.specs.declared.arguments.Arguments.{Arguments}
 use Rattle.command_line.specs.declared.fault.ParseFault.{ParseFault}
-use Rattle.command_line.specs.declared.fault.ParseFault.TheVariants.{Incomplete, Refused, Stripes, WholeTrace}
+use Rattle.command_line.specs.declared.fault.ParseFault.TheVariants.{Incomplete, LongIntervals, Refused, Stripes, WholeTrace}
 use Rattle.streams.proofs.Tallies.{uncalled}
 use Rattle.cachesim.specs.CallFaults.{AreServed, BlamesCalls, IsOfRead, IsOfWrite}
 use Rattle.cachesim.specs.declared.fault.Fault.{Fault}
@@ -80,6 +80,11 @@ pub returns-in-Err-WholeTrace-clause-refused : goal.returns-in-Err-WholeTrace-cl
 returns-in-Err-WholeTrace-clause-refused g c two =
     let e : c.parse.result ≡ Err WholeTrace = search rules in
     (inr (WholeTrace, parsed _ _ _ e c.parse.ensures.parsed, search rules), refl, refl)
+
+pub returns-in-Err-LongIntervals-clause-refused : goal.returns-in-Err-LongIntervals-clause-refused
+returns-in-Err-LongIntervals-clause-refused g c two =
+    let e : c.parse.result ≡ Err LongIntervals = search rules in
+    (inr (LongIntervals, parsed _ _ _ e c.parse.ensures.parsed, search rules), refl, refl)
 
 pub returns-in-Err-Incomplete-clause-refused : goal.returns-in-Err-Incomplete-clause-refused
 returns-in-Err-Incomplete-clause-refused g c two =

@@ -2,7 +2,7 @@ use Rattle.std.proofs.Common.{◌∙◌, ◌≤◌, sym, subst, length, List}
 use Rattle.step_record.specs.declared.job.Job.{Job}
 use Rattle.policies.specs.declared.job_checks.TheConstants.{MAX_ACTORS}
 use Rattle.cachesim.proofs.Accepting.{can_sweep, memory_alone}
-use Rattle.cachesim.proofs.reports.sweep.Goals as goal
+use Rattle.cachesim.proofs.kept_reports.sweep.Goals as goal
 
 pub only_memory-requires : goal.only_memory-requires
 only_memory-requires g c =
