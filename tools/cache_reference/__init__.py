@@ -9,8 +9,8 @@ from .journals import replay
 from .options import DEFAULTS, NUMBERS, POLICIES
 from .reports import compare, intervals, part, run, sweep
 from .samples import sample
-from .traces import keys_of
+from .traces import MAX_ACCESSES, MAX_LONG_ACCESSES, keys_of
 from .walks import Worker, check_walks, drive_alone, journal, walk
 
-__all__ = ["DEFAULTS", "NUMBERS", "POLICIES", "Fault", "Shell", "Worker", "check_walks", "compare", "debug", "drive_alone", "intervals", "journal",
-           "keys_of", "part", "replay", "run", "sample", "sweep", "walk"]
+__all__ = ["DEFAULTS", "MAX_ACCESSES", "MAX_LONG_ACCESSES", "NUMBERS", "POLICIES", "Fault", "Shell", "Worker", "check_walks",
+           "compare", "debug", "drive_alone", "intervals", "journal", "keys_of", "part", "replay", "run", "sample", "sweep", "walk"]

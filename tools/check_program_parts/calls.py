@@ -11,6 +11,8 @@ RECORDED = TOP / "examples/sqlite.lirs"
 SECONDS = 60
 SECONDS_OF_A_LONG_CALL = 600
 HEADER = "policy,capacity,accesses,hits,misses,evictions,rejections,rate\n"
+INTERVALS_HEADER = "policy,capacity,first,last,hits,misses,evictions,rejections,rate\n"
+COMPARE_HEADER = "first,second,capacity,accesses,both,first_only,second_only,neither\n"
 # Two policies that part at the fifth of the accesses 1 1 2 3 1.
 PARTING = ("--capacity", 2, "--first", "lru", "--second", "slru")
 # The parts, and about how many seconds each takes: those that take long begin first.

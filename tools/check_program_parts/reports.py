@@ -3,10 +3,8 @@ import re
 
 from checks import TOP
 
-from .calls import PARTING, lines, part
+from .calls import COMPARE_HEADER, INTERVALS_HEADER, PARTING, lines, part
 
-INTERVALS_HEADER = "policy,capacity,first,last,hits,misses,evictions,rejections,rate\n"
-COMPARE_HEADER = "first,second,capacity,accesses,both,first_only,second_only,neither\n"
 ABOUT = "Simulates cache policies over recorded block traces\n\nUsage: cachesim <COMMAND>"
 SMALL = lines(1, 2, 3, 1, 4, 2)
 REQUIRED = """error: the following required arguments were not provided:
@@ -41,7 +39,6 @@ run --capacity 3 --spread even lru
 run --capacity 3 --batch 0 lru
 run --capacity 3 --batch 65537 lru
 run --capacity 3 --long=3 lru
-sweep --long --policy lru 3
 sweep --policy lru
 sweep 3
 sweep --policy lru 3 0
@@ -53,7 +50,9 @@ intervals --capacity 3 lru
 intervals --every 3 lru
 intervals --capacity 3 --every 3
 intervals --capacity 3 --every 0 lru
-intervals --capacity 3 --every 16777217 lru
+intervals --capacity 3 --every 4294967296 --long lru
+debug --long --trace none --capacity 3 --first lru --second lru
+drive --long --capacity 3
 sample
 sample --rate 8
 sample --rate 1/1
@@ -101,9 +100,17 @@ error: invalid value 'zzzz-zzzz-zzzz-zzzz' for '<POLICY>...'
 
 For more information, try '--help'.
 """)
-    for policies in (["clairvoyant"], ["lru", "clairvoyant", "lru"], ["clairvoyant"] * 65):
-        check.expect_usage_error(f"{len(policies)} policies of a long trace", "run", "--long", "--capacity", 3, *policies, error="""\
+    pair = "--capacity", 3, "--first"
+    for call in (["run", "--capacity", 3, "clairvoyant"], ["run", "--capacity", 3, "lru", "clairvoyant", "lru"],
+                 ["run", "--capacity", 3, *["clairvoyant"] * 65], ["sweep", "--policy", "lru", "--policy", "clairvoyant", 3],
+                 ["intervals", "--capacity", 3, "--every", 5, "clairvoyant"], ["part", *pair, "clairvoyant", "--second", "lru"],
+                 ["compare", *pair, "lru", "--second", "clairvoyant"]):
+        check.expect_usage_error(f"a {call[0]} of {len(call)} words over a long trace", *call, "--long", error="""\
 error: clairvoyant has to know the whole trace, which --long does not keep: take a sample of it
+""")
+    for call in (["intervals", "--capacity", 3, "lru"], ["compare", *pair, "lru", "--second", "lru"]):
+        check.expect_usage_error(f"{call[0]} of a long trace alone", *call, "--every", 16777217, error="""\
+error: an interval has at most 16777216 accesses without --long
 """)
     check.expect_usage_error("the text of what is missing", "debug", error=REQUIRED)
 
@@ -203,6 +210,41 @@ def long_traces(check):
     check.expect_fault("a faulty line", "fault: BadNumber line 2", *run, "lru", typed="1\nx\n")
     check.expect_fault("sixty-five policies", "fault: Actors", *run, *["lru"] * 65, typed="1\n")
     check.expect_fault("sixty-five policies over a faulty line", "fault: BadNumber line 1", *run, *["lru"] * 65, typed="x\n")
+
+
+@part()
+def other_long_traces(check):
+    """What `sweep`, `intervals`, `part` and `compare` make of such traces."""
+    scan = "--long", "--format", "arc"
+    sweep, pair = ("sweep", "--long", "--policy"), ("--capacity", 3, "--first", "lru", "--second")
+    check.expect_report("a sweep", "lru,3,6,1,5,2,0,16.66\nlru,1,6,0,6,5,0,0.00\nlru,4,6,2,4,0,0,33.33\n", *sweep, "lru", 3, 1, 4,
+                        typed=SMALL)
+    check.expect_report("a sweep of more caches than threads", "lru,3,6,1,5,2,0,16.66\n" * 90, *sweep, "lru", *[3] * 90, typed=SMALL)
+    check.expect_report("a sweep of one access more than is kept", "fifo,2,16777217,0,16777217,16777215,0,0.00\n" * 2, "sweep",
+                        *scan, "--policy", "fifo", 2, 2, typed="0 16777217")
+    check.expect_fault("a sweep of sixty-five", "fault: Actors", "sweep", "--long", 3, *["--policy=lru"] * 65, typed="1\n")
+    check.expect_fault("a sweep of sixty-five over a faulty line", "fault: BadNumber line 1", "sweep", "--long", 3,
+                       *["--policy=lru"] * 65, typed="x\n")
+    intervals = "intervals", "--capacity", 3, "--every"
+    check.expect("intervals, the last of them short", *intervals, 12000000, *scan, "fifo", typed="0 16777217", out=f"""\
+{INTERVALS_HEADER}fifo,3,1,12000000,0,12000000,11999997,0,0.00
+fifo,3,12000001,16777217,0,4777217,4777217,0,0.00
+""")
+    check.expect("an interval as long as a long trace may be", *intervals, 4294967295, "--long", "lru", typed=SMALL,
+                 out=f"{INTERVALS_HEADER}lru,3,1,6,1,5,2,0,16.66\n")
+    check.expect_fault("intervals of sixty-five", "fault: Actors", *intervals, 3, "--long", *["lru"] * 65, typed="1\n")
+    check.expect("a part of one access more than is kept", "part", *pair, "fifo", *scan, typed="0 16777216\n16777213 1",
+                 out="part none\n")
+    check.expect("a part past the accesses that are kept", "part", *pair, "fifo", *scan, out="part 16777219\n",
+                 typed="0 16777216\n16777213 1\n5 1\n16777213 1")
+    check.expect("a comparison", "compare", *pair, "fifo", *scan, typed="0 16777216\n16777213 1\n5 1\n16777213 1",
+                 out=f"{COMPARE_HEADER}lru,fifo,3,16777219,1,1,0,16777217\n")
+    check.expect("a comparison by intervals", "compare", *pair, "fifo", "--every", 3, "--long", typed=SMALL, out="""\
+first,second,capacity,from,to,both,first_only,second_only,neither
+lru,fifo,3,1,3,0,0,0,3
+lru,fifo,3,4,6,1,0,1,1
+""")
+    check.expect_fault("a comparison over a faulty line", "fault: BadNumber line 2", "compare", *pair, "fifo", "--long", typed="1\nx\n")
 
 
 @part()

@@ -1,9 +1,11 @@
 """Sizes that a user comes to: by contract the program may be out of memory at any of them."""
 import itertools
+import random
+import re
 
 from checks import TOP
 
-from .calls import HEADER, PARTING, RECORDED, SECONDS_OF_A_LONG_CALL, Ended, lines, part
+from .calls import COMPARE_HEADER, HEADER, INTERVALS_HEADER, PARTING, RECORDED, SECONDS_OF_A_LONG_CALL, Ended, lines, part
 
 FILTERED = ("tinylfu-lru", "tinylfu-slru", "wtinylfu", "caffeine")
 ACCESSES_OF_RECORDED = 84333
@@ -21,11 +23,16 @@ def far(check, first, second, form):
     check.expect_same(f"{name}, back and forth", found,
                       f"at {end}\n{late}at 333\n{early.partition(chr(10))[2]}at {end}\n{late}fault: PastEnd\nat 0\n{early}"
                       "fault: PastStart\n")
-    rows = check.answer(f"{name}, run", "run", "--capacity", 20, "--format", form, first, second, stdin=trace).decode()
+    expect_counts(check, name, late, "run", "--capacity", 20, "--format", form, first, second, stdin=trace)
+
+
+def expect_counts(check, name, shown, *run, **how):
+    """What a debugger of two policies shows at the end of a trace has the counts of a run of both."""
+    rows = check.answer(f"{name}, run", *run, **how).decode()
     counted = [line.split(",") for line in rows.splitlines()[1:]]
     wanted = [f"{letter} {row[0]} hits {row[3]} misses {row[4]} evictions {row[5]} rejections {row[6]}"
               for letter, row in zip("ab", counted)]
-    check.expect_same(f"{name}, and a run", lines(*(it for it in late.splitlines() if " hits " in it)), lines(*wanted))
+    check.expect_same(f"{name}, and a run", lines(*(it for it in shown.splitlines() if " hits " in it)), lines(*wanted))
 
 
 @part(6)
@@ -40,6 +47,23 @@ def far_back(check):
     rest = [it for it in check.policies if it not in ("lru", "slru", *FILTERED, "clairvoyant")]
     for first, second in zip(rest[::2], rest[1::2]):
         far(check, first, second, "lirs")
+
+
+@part(20)
+def large_caches(check):
+    """The debugger of large caches, there and back: keys are hit, ghosts recall others, and many turns are undone."""
+    count, capacity, hot, loop = check.size((700000, 150000, 400000, 170000), (7000, 1500, 4000, 1700))
+    dice = random.Random(7)
+    trace = check.file("hit", lines(*(int(hot * dice.random() ** 2) if dice.random() < 0.5 else hot + at % loop
+                                      for at in range(count))))
+    near, far_from = 2 * count // 7, 5 * count // 7
+    typed = lines(f"goto {count}", "show", f"back {far_from}", "show", f"step {far_from}", "show", f"goto {near}", "show", "goto 0")
+    for first, second in (("clock", "sieve"), ("s3-fifo", "2q"), ("arc", "wtinylfu")):
+        name = f"large caches of {first} and {second}"
+        found = check.answer(name, "debug", "--capacity", capacity, "--first", first, "--second", second, "--trace", trace, typed=typed)
+        shown = re.split(r"^at \d+\n", found.decode(), flags=re.MULTILINE)[1:]
+        check.expect_same(f"{name}, there and back", str(shown[2:] == [*shown[:2], ""]), "True")
+        expect_counts(check, name, shown[0], "run", "--capacity", capacity, first, second, stdin=trace)
 
 
 @part(6)
@@ -120,8 +144,7 @@ def lengths(check):
     pair = "--capacity", capacity, "--first", "lru", "--second", "clairvoyant"
     hits = int(rows["clairvoyant"].split(",")[3])
     check.expect("a long comparison", "compare", *pair, stdin=trace, **patient,
-                 out=f"first,second,capacity,accesses,both,first_only,second_only,neither\n"
-                     f"lru,clairvoyant,{capacity},{count},0,0,{hits},{count - hits}\n")
+                 out=f"{COMPARE_HEADER}lru,clairvoyant,{capacity},{count},0,0,{hits},{count - hits}\n")
     # Each key comes for the second time after all others, and Belady's policy has some of them then.
     parted = check.answer("a long part", "part", *pair, stdin=trace).decode()
     check.expect_same("a long part", str(parted.startswith("part ") and keys < int(parted[5:]) < 2 * keys), "True")
@@ -146,6 +169,27 @@ def limits(check):
     wanted = [[it, capacity, count, 0, count, count - capacity, "some" if it in FILTERED else 0, "0.00"] for it in check.policies]
     check.compare("the limits", Ended(ended.status, lines(*map(",".join, rows)).encode(), ended.error),
                   Ended(0, lines(*(",".join(map(str, row)) for row in wanted)).encode(), b""))
+    how = {"stdin": trace, "seconds": SECONDS_OF_A_LONG_CALL}
+    for policies, capacities in ((["lru"], range(capacity - 15, capacity + 1)), (["lru", "clairvoyant"], (capacity - 1, capacity))):
+        rows = (f"{policy},{it},{count},0,{count},{count - it},0,0.00" for policy, it in itertools.product(policies, capacities))
+        check.expect_report(f"a sweep of {' and '.join(policies)} at the limits", lines(*rows), "sweep",
+                            *(f"--policy={it}" for it in policies), *capacities, **how)
+    check.expect("a comparison at the limits", "compare", "--capacity", capacity, "--first", "lru", "--second", "slru", **how,
+                 out=f"{COMPARE_HEADER}lru,slru,{capacity},{count},0,0,0,{count}\n")
+
+
+@part(2)
+def many_rows(check):
+    """Intervals of one access, of which there are more than 100,000, each to a key of its own, and comparisons by interval."""
+    count = check.size(150000, 1500)
+    typed = lines(*range(count))
+    rows = (f"lru,10,{at},{at},0,1,{int(at > 10)},0,0.00" for at in range(1, count + 1))
+    check.expect("many intervals", "intervals", "--capacity", 10, "--every", 1, "lru", typed=typed,
+                 out=lines(INTERVALS_HEADER.strip(), *rows))
+    every = count // 15
+    rows = (f"lru,slru,10,{at},{at + every - 1},0,0,0,{every}" for at in range(1, count, every))
+    check.expect("a comparison by interval", "compare", "--capacity", 10, "--first", "lru", "--second", "slru", "--every", every,
+                 typed=typed, out=lines(COMPARE_HEADER.strip().replace("accesses", "from,to"), *rows))
 
 
 @part(8)

@@ -139,6 +139,18 @@ def check_beside_reference(corpus, folder, program):
                 expect("the wins", (row["best on"], row["near on"]), (str(above.count(0)), str(sum(it <= 3 for it in above))))
 
 
+def check_long(corpus, folder, program):
+    """A trace that is too long to be kept, of 17 times the same million blocks, and too long for Belady's policy."""
+    trace = file_of(folder, "long", "0 1000000\n" * 17)
+    words = "run", "--program", program, "--format=arc", "--percent=50", *BOTH, "--out"
+    run(corpus, *words, folder / "out", trace)
+    expect("the rows", [row["mean"] for row in rows_of(run(corpus, "report", "--csv", folder / "out")[0])], ["0.00", "0.00"])
+    held = next(it.read_text() for it in (folder / "out/results").iterdir())
+    expect_parts("the result", held, '"footprint": 1000000', '"accesses": 17000000', '"fifo": 17000000, "lru": 17000000')
+    _, error = run(corpus, *words, folder / "optimal", "--policy=clairvoyant", trace, status=1)
+    expect_parts("with Belady's policy", error, "fault: TooLong line 17")
+
+
 def check_faults(corpus, folder, program):
     """Traces that are faulty, empty, gone, and one with an odd name, by each program that runs jobs; and what is refused."""
     odd = trace_of(folder, ODD, [1, 2, 1])
@@ -366,7 +378,7 @@ def check_slurm(corpus, folder, program):
     expect("the report", *(run(corpus, "report", it, cwd=folder)[0] for it in ("array", "here")))
 
 
-TESTS = [check_known_report, check_beside_reference, check_faults, check_interrupt, check_termination, check_hosts, check_slurm]
+TESTS = [check_known_report, check_beside_reference, check_long, check_faults, check_interrupt, check_termination, check_hosts, check_slurm]
 
 MISTAKES = {
     "percentiles from outside": Mistake(check_known_report, "reductions.py", 'method="inclusive"', 'method="exclusive"'),
@@ -377,6 +389,7 @@ MISTAKES = {
     "a whole point for half": Mistake(check_beside_reference, "reductions.py", "200 * more", "100 * more"),
     "Belady's among the best": Mistake(check_beside_reference, "reductions.py", "policy != OPTIMAL or", "True or"),
     "a size of another footprint": Mistake(check_beside_reference, "measures.py", "footprint * percent / 100", "footprint * percent / 50"),
+    "a footprint of short traces alone": Mistake(check_long, "jobs.py", "[MAX_CAPACITY], part=LONG", "[MAX_CAPACITY]"),
     "names by lines": Mistake(check_faults, "jobs.py", 'split(b"\\0")', "split()"),
     "failed traces in silence": Mistake(check_faults, "corpus", 'return [it for it in results if "fault" in it]', "return []"),
     "finished jobs done again": Mistake(check_faults, "corpus", "st_mtime_ns < os.stat(name).st_mtime_ns", "st_mtime_ns > 0"),
