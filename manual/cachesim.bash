@@ -22,7 +22,7 @@ _cachesim_words() {
     sweep:--spread) echo 'mixed plain' ;;
     sweep:--format) echo 'lirs arc' ;;
     sweep:--policy) echo 'lru slru tinylfu-lru tinylfu-slru wtinylfu clairvoyant fifo clock sieve s3-fifo 2q arc caffeine' ;;
-    sweep:*) echo '--main --small --in --out --period --spread --format --policy -h --help' ;;
+    sweep:*) echo '--main --small --in --out --period --spread --format --long --policy -h --help' ;;
     intervals:--capacity) echo '' ;;
     intervals:--every) echo '' ;;
     intervals:--main) echo '' ;;
@@ -32,7 +32,7 @@ _cachesim_words() {
     intervals:--period) echo '' ;;
     intervals:--spread) echo 'mixed plain' ;;
     intervals:--format) echo 'lirs arc' ;;
-    intervals:*) echo 'lru slru tinylfu-lru tinylfu-slru wtinylfu clairvoyant fifo clock sieve s3-fifo 2q arc caffeine --capacity --every --main --small --in --out --period --spread --format -h --help' ;;
+    intervals:*) echo 'lru slru tinylfu-lru tinylfu-slru wtinylfu clairvoyant fifo clock sieve s3-fifo 2q arc caffeine --capacity --every --main --small --in --out --period --spread --format --long -h --help' ;;
     part:--capacity) echo '' ;;
     part:--main) echo '' ;;
     part:--small) echo '' ;;
@@ -43,7 +43,7 @@ _cachesim_words() {
     part:--format) echo 'lirs arc' ;;
     part:--first) echo 'lru slru tinylfu-lru tinylfu-slru wtinylfu clairvoyant fifo clock sieve s3-fifo 2q arc caffeine' ;;
     part:--second) echo 'lru slru tinylfu-lru tinylfu-slru wtinylfu clairvoyant fifo clock sieve s3-fifo 2q arc caffeine' ;;
-    part:*) echo '--capacity --main --small --in --out --period --spread --format --first --second -h --help' ;;
+    part:*) echo '--capacity --main --small --in --out --period --spread --format --long --first --second -h --help' ;;
     compare:--capacity) echo '' ;;
     compare:--every) echo '' ;;
     compare:--main) echo '' ;;
@@ -55,7 +55,7 @@ _cachesim_words() {
     compare:--format) echo 'lirs arc' ;;
     compare:--first) echo 'lru slru tinylfu-lru tinylfu-slru wtinylfu clairvoyant fifo clock sieve s3-fifo 2q arc caffeine' ;;
     compare:--second) echo 'lru slru tinylfu-lru tinylfu-slru wtinylfu clairvoyant fifo clock sieve s3-fifo 2q arc caffeine' ;;
-    compare:*) echo '--capacity --every --main --small --in --out --period --spread --format --first --second -h --help' ;;
+    compare:*) echo '--capacity --every --main --small --in --out --period --spread --format --long --first --second -h --help' ;;
     sample:--rate) echo '1/2 1/4 1/8 1/16 1/32 1/64 1/128 1/256 1/512 1/1024 1/2048 1/4096 1/8192 1/16384 1/32768 1/65536 1/131072 1/262144 1/524288 1/1048576' ;;
     sample:--seed) echo '' ;;
     sample:--format) echo 'lirs arc' ;;
