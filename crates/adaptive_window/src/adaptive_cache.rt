@@ -17,8 +17,8 @@ use step_record::{Config, Engine, Item, Key, MAX_STEPS, Outcome, Stats, StepFaul
 /// How many columns each of the four rows of the sketch has for an entry: sixteen counters in all, as Caffeine's.
 pub const COLUMNS: u32 = 4;
 
-// The least capacity at which keys are prefetched: in smaller caches it costs more than it spares.
-const PREFETCH_FROM: u32 = 4096;
+// The least capacity at which it is read ahead: in smaller caches that costs more than it spares.
+const AHEAD_FROM: u32 = 4096;
 
 /// A cache of W-TinyLFU with a window whose size follows the hits. Contracts see the rules of its climber, its window,
 /// its frequency and its counts.
@@ -71,14 +71,16 @@ impl AdaptiveCache {
         })
     }
 
-    /// Reads ahead what accesses to these keys read first. It changes nothing, and pays where the queues and the sketch
-    /// are larger than the processor's caches.
+    /// Reads ahead, once for each few keys, what accesses to the keys from the one at `i` on read first, where queues and
+    /// sketch are larger than the processor's caches: to be called before each access of a loop over them. It changes
+    /// nothing.
     #[inline(always)]
-    pub fn prefetch(&mut self, keys: &[Key])
+    pub fn prefetch_at(&mut self, keys: &[Key], i: usize)
+        requires { i ≤ length keys.now }
         ensures { self.new ≡ self.old }
     {
-        if self.window.capacity() >= PREFETCH_FROM {
-            self.window.prefetch(keys);
+        if self.window.capacity() >= AHEAD_FROM {
+            self.window.prefetch_at(keys, i);
         }
     }
 
@@ -103,6 +105,8 @@ impl AdaptiveCache {
         };
         let done = self.window.access::<C>(&self.frequency, item);
         self.stats.count(done.outcome);
+        self.window
+            .prepare_victim(&mut self.frequency, done.outcome);
         Ok(done.outcome)
     }
 

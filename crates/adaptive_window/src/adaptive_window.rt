@@ -1,5 +1,5 @@
 //! The queues of W-TinyLFU with a window whose size follows the hits.
-ghost use Rattle.std.specs.Prelude.{◌≡◌, ◌≤◌, Some, None, Ok, IfOk, OnOk, OnErr};
+ghost use Rattle.std.specs.Prelude.{◌≡◌, ◌≤◌, Some, None, Ok, IfOk, OnOk, OnErr, length};
 ghost use Rattle.step_record.specs.Config.{config_fault};
 ghost use Rattle.step_record.specs.Stats.{is_hit as is_hit_of};
 ghost use Rattle.segments.specs.Queues.{IsDistinct, queue_holding, residents_in};
@@ -14,7 +14,7 @@ use crate::climber::{ClimbRules, Climber, first_window_of};
 use crate::window_record::{SizeChange, WindowRecord};
 use admission::Frequency;
 use replacement::{KeptMoves, Moves, access, grow_window, make_room, shrink_window, undo};
-use segments::Segments;
+use segments::{Queue, Segments};
 use std::alloc::{AllocError, Global};
 use std::marker::Model;
 use step_record::{Config, Item, Key, Outcome};
@@ -87,12 +87,14 @@ impl AdaptiveWindow {
         make_room(&mut self.segments, item)
     }
 
-    /// Prefetches what a search for each of these keys reads first. It changes nothing.
+    /// Reads ahead, once for each few keys, what searches for the keys from the one at `i` on read first. It changes
+    /// nothing.
     #[inline(always)]
-    pub fn prefetch(&mut self, keys: &[Key])
+    pub fn prefetch_at(&mut self, keys: &[Key], i: usize)
+        requires { i ≤ length keys.now }
         ensures { self.new ≡ self.old }
     {
-        self.segments.prefetch(keys, 0);
+        self.segments.prefetch_at(keys, i);
     }
 
     /// How many items it holds.
@@ -145,7 +147,12 @@ impl AdaptiveWindow {
         ensures rules { self.new.rules ≡ self.old.rules }
     {
         let rules = self.rules.at(self.size);
-        let effect = access::<C>(&mut self.segments, Some(frequency), &rules, item);
+        let effect = access::<(C, AdaptiveWindow)>(
+            &mut self.segments,
+            Some(frequency),
+            &rules,
+            item,
+        );
         let period = self.climber.count(&self.rules, is_hit(effect.outcome));
         let adjusted = adjust(
             &mut self.segments,
@@ -160,6 +167,22 @@ impl AdaptiveWindow {
             adjustment: KeptMoves::of(adjusted.moves),
             size: adjusted.change,
             period,
+        }
+    }
+
+    /// Prepares the frequency for the next victim of an admission, once a miss in a full cache has decided on one: what it
+    /// is asked of is then the same key for as long as it is not evicted. It changes nothing.
+    #[inline(always)]
+    pub fn prepare_victim(&self, frequency: &mut Frequency, outcome: Outcome)
+        ensures { frequency.new ≡ frequency.old }
+    {
+        match outcome {
+            Outcome::Hit | Outcome::Kept => {}
+            Outcome::Evicted(_) | Outcome::Rejected(_) => {
+                if let Some(victim) = self.segments.oldest(Queue::Probation) {
+                    frequency.prepare(victim.key);
+                }
+            }
         }
     }
 

@@ -18,9 +18,6 @@ use std::alloc::{AllocError, Global};
 use std::marker::Model;
 use step_record::{Engine, Key, MAX_STEPS, Outcome, Stats, StepFault};
 
-/// How many accesses are prefetched at once.
-pub const AHEAD: usize = 16;
-
 /// A cache of a policy that keeps each missed key.
 #[derive(Drop)]
 pub struct DemandCache {
@@ -79,10 +76,7 @@ impl DemandCache {
         requires { i ≤ length keys.now }
         ensures { self.new ≡ self.old }
     {
-        if i % AHEAD == 0 {
-            let end = keys.len().min(i + AHEAD);
-            self.queues.prefetch(&keys[i..end]);
-        }
+        self.queues.prefetch_at(keys, i);
     }
 
     /// Makes an access that is not to be undone: that of `apply`, without its undo record. It is part of its caller, so

@@ -8,5 +8,5 @@ mod demand_cache;
 mod demand_policy;
 pub mod theorems;
 
-pub use demand_cache::{AHEAD, DemandCache, DemandRecord};
+pub use demand_cache::{DemandCache, DemandRecord};
 pub use demand_policy::DemandPolicy;

@@ -21,7 +21,7 @@ use crate::queue_cache::QueueCache;
 use crate::theorems;
 use adaptive_window::AdaptiveCache;
 use clairvoyant::Clairvoyant;
-use demand_cache::{AHEAD, DemandCache};
+use demand_cache::DemandCache;
 use std::alloc::AllocError;
 use step_record::{Engine, Key, Policy, StepFault};
 
@@ -99,7 +99,7 @@ pub(crate) fn access_adaptive(cache: &mut AdaptiveCache, keys: &[Key]) -> Result
     theorems::any_step_law();
     theorems::any_accepts();
     for i in 0..keys.len() {
-        prefetch_adaptive(cache, keys, i);
+        cache.prefetch_at(keys, i);
         match cache.access::<Counter>(keys[i]) {
             Ok(_) => {}
             Err(StepFault::OutOfMemory) => return Err(AllocError),
@@ -107,18 +107,6 @@ pub(crate) fn access_adaptive(cache: &mut AdaptiveCache, keys: &[Key]) -> Result
         }
     }
     Ok(())
-}
-
-/// Reads ahead for a cache with an adaptive window as `AnyPolicy::prefetch_at` does. It changes nothing.
-#[inline(always)]
-pub(crate) fn prefetch_adaptive(cache: &mut AdaptiveCache, keys: &[Key], i: usize)
-    requires { i ≤ length keys.now }
-    ensures { cache.new ≡ cache.old }
-{
-    if i % AHEAD == 0 {
-        let end = keys.len().min(i + AHEAD);
-        cache.prefetch(&keys[i..end]);
-    }
 }
 
 // Selects the instance of an access that `access_adaptive` has in its loop.

@@ -3,7 +3,6 @@ ghost use Rattle.std.specs.Prelude.{◌≡◌, ◌≤◌, ◌↔◌, IfOk, OnErr
 ghost use Rattle.std.specs.Prelude.{Ok, Err, Some, None, [], option_map, length};
 ghost use Rattle.demand_cache.specs.DemandCache.{demand_act, demand_may_ask};
 
-use crate::access_loops::prefetch_adaptive;
 use crate::design::{Design, design_of};
 use crate::queue_cache::{ByJob, QueueCache};
 use crate::record::AccessRecord;
@@ -113,7 +112,7 @@ impl AnyPolicy {
         match self {
             AnyPolicy::Queues(cache) => cache.prefetch_at(keys, i),
             AnyPolicy::Demand(cache) => cache.prefetch_at(keys, i),
-            AnyPolicy::Adaptive(cache) => prefetch_adaptive(cache, keys, i),
+            AnyPolicy::Adaptive(cache) => cache.prefetch_at(keys, i),
             AnyPolicy::Optimal(_) => {}
         }
     }

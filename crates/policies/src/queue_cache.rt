@@ -15,18 +15,17 @@ ghost use Rattle.policies.specs.QueueFields.{FewHalvings};
 use crate::design::{FixedDesign, Layout, QueueDesign};
 use crate::record::AccessRecord;
 use admission::{FreqRecord, Frequency};
-use demand_cache::AHEAD;
 use replacement::{KeptMoves, Rules, access, make_room, open_frequency, undo};
 use segments::{Queue, Segments};
 use std::alloc::{AllocError, Global};
 use std::marker::{Model, PhantomData};
 use step_record::{Config, Engine, Item, Job, Key, MAX_STEPS, Outcome, Stats, StepFault};
 
-// The least capacity at which keys are prefetched. Smaller queues stay in the processor's caches, where prefetching
-// costs more than it spares; where keys are counted, the sketch shares the caches with them.
-const PREFETCH_FROM: usize = 65_536;
+// The least capacity at which it is read ahead. Smaller queues stay in the processor's caches, where that costs more
+// than it spares; where keys are counted, the sketch shares the caches with them.
+const AHEAD_FROM: usize = 65_536;
 
-const PREFETCH_FROM_WHERE_COUNTING: usize = 4096;
+const AHEAD_FROM_WHERE_COUNTING: usize = 4096;
 
 /// Marks a cache whose policy is known by its job alone.
 #[derive(Drop)]
@@ -83,31 +82,20 @@ impl<P: Drop> QueueCache<P> {
         })
     }
 
-    /// Reads ahead what accesses to these keys read first. It changes nothing, and pays where the queues are larger
-    /// than the processor's caches.
-    #[inline(always)]
-    pub fn prefetch(&mut self, keys: &[Key])
-        ensures { self.new ≡ self.old }
-    {
-        let least = if self.frequency.is_some() {
-            PREFETCH_FROM_WHERE_COUNTING
-        } else {
-            PREFETCH_FROM
-        };
-        if self.rules.capacity >= least {
-            self.segments.prefetch(keys, 0);
-        }
-    }
-
-    /// The same from the key at `i` on, once for each few keys: to be called before each access of a loop over them.
+    /// Reads ahead, once for each few keys, what accesses to the keys from the one at `i` on read first, where the queues
+    /// are larger than the processor's caches: to be called before each access of a loop over them. It changes nothing.
     #[inline(always)]
     pub fn prefetch_at(&mut self, keys: &[Key], i: usize)
         requires { i ≤ length keys.now }
         ensures { self.new ≡ self.old }
     {
-        if i % AHEAD == 0 {
-            let end = keys.len().min(i + AHEAD);
-            self.prefetch(&keys[i..end]);
+        let least = if self.frequency.is_some() {
+            AHEAD_FROM_WHERE_COUNTING
+        } else {
+            AHEAD_FROM
+        };
+        if self.rules.capacity >= least {
+            self.segments.prefetch_at(keys, i);
         }
     }
 

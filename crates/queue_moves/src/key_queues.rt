@@ -9,22 +9,22 @@ ghost use Rattle.queue_moves.specs.Undoing.{IsTurn, IsRun, IsLeft, IsOwn, outs, 
 ghost use Rattle.queue_moves.specs.Tabled.{IsTabled, keys_of};
 
 use crate::records::{Change, Departure, KeyMove, Left, Run};
-use queue_table::{Entry, Found, QueueTable};
+use queue_table::{AHEAD, Entry, Found, QueueTable};
 use std::alloc::{AllocError, Global};
 use std::marker::Model;
 use step_record::{Item, Key};
 
-// The least number of keys at which keys are prefetched. Smaller queues stay in the processor's caches, where
-// prefetching costs more than it spares.
-const PREFETCH_FROM: usize = 65_536;
+// The least number of keys in the queues at which it is read ahead. Smaller queues stay in the processor's caches, where
+// that costs more than it spares.
+const AHEAD_FROM: usize = 65_536;
 
 /// Queues by number, of distinct keys, oldest first, with a count beside each key.
 #[derive(Drop)]
 pub struct KeyQueues {
     alloc: Global,
     pub(crate) table: QueueTable,
-    /// A sum over what `prefetch` read, kept so that the compiler cannot drop the reads.
-    prefetched: u64,
+    /// A sum over what `read_ahead` read, kept so that the compiler cannot drop the reads.
+    read: u64,
 }
 
 impl Model for KeyQueues {
@@ -50,7 +50,7 @@ impl KeyQueues {
         KeyQueues {
             alloc,
             table: QueueTable::for_items(alloc, items),
-            prefetched: 0,
+            read: 0,
         }
     }
 
@@ -83,23 +83,24 @@ impl KeyQueues {
         self.table.reserve(self.alloc)
     }
 
-    /// Prefetches what a search for each of these keys reads first, where the queues are larger than the processor's
-    /// caches. Unlike the reads of a search, these do not depend on one another, so the processor overlaps them.
-    /// Changes nothing that a caller can see.
+    /// Reads ahead, once for each few keys, what accesses to the keys from the one at `i` on read first, where the queues
+    /// are larger than the processor's caches: to be called before each access of a loop over them. It changes nothing.
     #[inline(always)]
-    pub fn prefetch(&mut self, keys: &[Key])
+    pub fn prefetch_at(&mut self, keys: &[Key], i: usize)
+        requires { i ≤ length keys.now }
         ensures { self.new ≡ self.old }
     {
-        if self.table.count() >= PREFETCH_FROM {
-            self.read_ahead(keys);
+        if i % AHEAD == 0 && self.table.count() >= AHEAD_FROM {
+            self.read_ahead(keys, i);
         }
     }
 
     #[inline(never)]
-    fn read_ahead(&mut self, keys: &[Key])
+    fn read_ahead(&mut self, keys: &[Key], i: usize)
+        requires { i ≤ length keys.now }
         ensures { self.new ≡ self.old }
     {
-        self.prefetched ^= self.table.prefetch(keys, 0);
+        self.read ^= self.table.read_ahead(keys, i);
     }
 
     /// The slot of the key, with its queue and its count.

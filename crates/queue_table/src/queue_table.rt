@@ -21,7 +21,7 @@ use crate::slot::{RingItems, Slot, set_count, set_entry};
 use crate::slot_index::SlotIndex;
 use std::alloc::{AllocError, Global};
 use std::marker::Model;
-use step_record::{Item, Key, Node};
+use step_record::{Item, Key};
 
 /// Queues by number, each item once, with a count beside it. A call that works on an item takes its slot, as `find`,
 /// `oldest` and `newest` give it.
@@ -48,6 +48,9 @@ impl Model for QueueTable {
 // two for each: past the processor's caches, its length costs more than a second slot in a tree.
 const MAX_SPARSE_BITS: u32 = 18;
 
+/// How many keys are read ahead at once.
+pub const AHEAD: usize = 16;
+
 // How many bits number the buckets of a first index for so many items.
 fn bits_for(items: u32) -> u32 {
     let bits = u32::wrapping_sub(33, items.wrapping_sub(1).leading_zeros());
@@ -72,13 +75,31 @@ impl QueueTable {
         }
     }
 
-    /// Reads what a search for each of these keys with this node reads first: of a slot both the item and a link, since
-    /// it may lie in two lines of the processor's cache.
-    #[inline(always)]
-    pub fn prefetch(&self, keys: &[Key], node: Node) -> u64 {
+    /// Reads ahead what searches for the keys from the one at `i` on read first, for items of node 0: of the next few the
+    /// slot, of as many after these the link to it. So no read waits for another. What it returns means nothing.
+    pub fn read_ahead(&self, keys: &[Key], i: usize) -> u64
+        requires { i ≤ length keys.now }
+    {
+        let near = keys.len().min(i + AHEAD);
+        let far = keys.len().min(near + AHEAD);
+        self.read_links(&keys[near..far]) ^ self.read_slots(&keys[i..near])
+    }
+
+    // Reads the link to the first slot of each key's bucket.
+    fn read_links(&self, keys: &[Key]) -> u64 {
         let mut read = 0;
         for key in keys {
-            let at = self.index.first_slot(Item { key: *key, node }) as usize;
+            read ^= self.index.first_slot(Item { key: *key, node: 0 }) as u64;
+        }
+        read
+    }
+
+    // Reads the first slot of each key's bucket: both the item and a link, since it may lie in two lines of the
+    // processor's cache.
+    fn read_slots(&self, keys: &[Key]) -> u64 {
+        let mut read = 0;
+        for key in keys {
+            let at = self.index.first_slot(Item { key: *key, node: 0 }) as usize;
             if at < self.slots.len() {
                 read ^= self.slots[at].item.key ^ self.slots[at].newer as u64;
             }

@@ -9,18 +9,18 @@ ghost use Rattle.segments.specs.Moves.{IsMoveRecord, FitsMove, queues_before_mov
 
 use crate::names::{name, number, queue_place, table_place};
 use crate::records::{MoveRecord, Queue};
-use queue_table::{Entry, QueueTable};
+use queue_table::{AHEAD, Entry, QueueTable};
 use std::alloc::{AllocError, Global};
 use std::marker::Model;
-use step_record::{Item, Key, Node};
+use step_record::{Item, Key};
 
 /// Three queues of items, each of which stands once, oldest first.
 #[derive(Drop)]
 pub struct Segments {
     alloc: Global,
     table: QueueTable,
-    /// A sum over what `prefetch` read, kept so that the compiler cannot drop the reads.
-    prefetched: u64,
+    /// A sum over what `read_ahead` read, kept so that the compiler cannot drop the reads.
+    read: u64,
 }
 
 impl Model for Segments {
@@ -72,17 +72,28 @@ impl Segments {
         Segments {
             alloc,
             table: QueueTable::for_items(alloc, items),
-            prefetched: 0,
+            read: 0,
         }
     }
 
-    /// Prefetches what a search for each of these keys with this node reads first. Unlike the reads of a search, these
-    /// do not depend on one another, so the processor overlaps them. Changes nothing that a caller can see.
-    #[inline(never)]
-    pub fn prefetch(&mut self, keys: &[Key], node: Node)
+    /// Reads ahead, once for each few keys, what searches for the keys from the one at `i` on, with node 0, read first: to
+    /// be called before each access of a loop over them. It changes nothing.
+    #[inline(always)]
+    pub fn prefetch_at(&mut self, keys: &[Key], i: usize)
+        requires { i ≤ length keys.now }
         ensures { self.new ≡ self.old }
     {
-        self.prefetched ^= self.table.prefetch(keys, node);
+        if i % AHEAD == 0 {
+            self.read_ahead(keys, i);
+        }
+    }
+
+    #[inline(never)]
+    fn read_ahead(&mut self, keys: &[Key], i: usize)
+        requires { i ≤ length keys.now }
+        ensures { self.new ≡ self.old }
+    {
+        self.read ^= self.table.read_ahead(keys, i);
     }
 
     /// Makes room for at least one more item; where there is room, it allocates nothing and returns Ok. The one error
