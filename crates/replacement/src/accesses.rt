@@ -15,7 +15,7 @@ use crate::rules::{Placement, Rules};
 use admission::Frequency;
 use segments::Segments;
 use std::alloc::AllocError;
-use step_record::{Item, Outcome};
+use step_record::{Item, Key, Node, Outcome};
 
 /// Makes the room that an access to the item needs, ahead of it. The one error is that an allocation failed where the
 /// item stands in no queue; the queues are then as before.
@@ -27,18 +27,18 @@ pub fn make_room(segments: &mut Segments, item: Item) -> Result<(), AllocError>
 {
     match segments.reserve() {
         Ok(()) => Ok(()),
-        Err(_) => without_room(segments, item),
+        Err(_) => without_room(segments, item.key, item.node),
     }
 }
 
 // Where there is no room and no memory for more, an item that stands in a queue goes on without.
 #[cold]
 #[inline(never)]
-fn without_room(segments: &Segments, item: Item) -> Result<(), AllocError>
-    ensures found { OnOk result (queue_holding item segments.now.lists ≢ None) }
-    ensures missed { OnErr result (queue_holding item segments.now.lists ≡ None) }
+fn without_room(segments: &Segments, key: Key, node: Node) -> Result<(), AllocError>
+    ensures found { OnOk result (queue_holding (record { key = key; node = node }) segments.now.lists ≢ None) }
+    ensures missed { OnErr result (queue_holding (record { key = key; node = node }) segments.now.lists ≡ None) }
 {
-    match segments.find(item) {
+    match segments.find(Item { key, node }) {
         Some(_) => Ok(()),
         None => Err(AllocError),
     }

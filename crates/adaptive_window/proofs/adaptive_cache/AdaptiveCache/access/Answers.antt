@@ -3,7 +3,7 @@ use Rattle.adaptive_window.proofs.adaptive_cache.AdaptiveCache.access.Goals as g
 
 pub returns-clause-accepted : goal.returns-clause-accepted
 returns-clause-accepted g c =
-    rw (← c.self.view_is)
+    rw (← c.self.view_is, c.prepare_victim.ensures)
     (act-is c.self.inside.window.rules c.make_room.new.window.rules c.self.inside.window.state c.make_room.new.window.state c.access-done.new.self.state
     c.self.inside.frequency c.count.new.self c.self.inside.stats c.count-2.new.self c.args.key c.access-done.result.outcome
     c.make_room.ensures.rules c.make_room.ensures.state c.in-Ok.ensures.after
