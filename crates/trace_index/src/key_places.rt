@@ -21,12 +21,12 @@ pub struct KeyPlaces {
     low: Vec<u32>,
     // The same for the keys that were put past the table.
     high: KeyNumbers,
-    // How many keys came past the table that are low enough for it, in 32 bits.
-    count: u32,
+    // The table takes keys below this: TABLE_START, and KEY_SHARE more for each key that came past it and that the access
+    // alone would let in. So a few high keys do not make it long.
+    reach: u64,
 }
 
-// The table takes keys below ACCESS_SHARE * place + TABLE_START, `place` that of the access, as soon as `count` of these
-// came past it and they are below KEY_SHARE * count + TABLE_START. So a few high keys do not make it long.
+// An access lets keys below ACCESS_SHARE * place + TABLE_START into the table.
 const ACCESS_SHARE: u64 = 4;
 
 const KEY_SHARE: u64 = 16;
@@ -41,7 +41,7 @@ impl KeyPlaces {
         KeyPlaces {
             low: Vec::new(alloc),
             high: KeyNumbers::new(alloc),
-            count: 0,
+            reach: TABLE_START,
         }
     }
 
@@ -60,7 +60,7 @@ impl KeyPlaces {
             low += (keys.get(64 * i) < end) as usize;
         }
         if low > len / 128 {
-            places.count = 1 << 31;
+            places.reach = end;
         }
         places
     }
@@ -118,10 +118,10 @@ impl KeyPlaces {
             number_of_key self.new k ≡ cond (nat_eq key k) (suc place) (number_of_key self.old k)) }
     {
         let end = ACCESS_SHARE * place as u64 + TABLE_START;
-        let reach = end.min(KEY_SHARE * self.count as u64 + TABLE_START);
-        if key >= reach {
+        if key >= end.min(self.reach) {
             let number = self.high.put(key, place + 1)?;
-            self.count = self.count.wrapping_add((number == 0 && key < end) as u32);
+            let more = KEY_SHARE * (number == 0 && key < end) as u64;
+            self.reach = self.reach.saturating_add(more);
             return Ok(number);
         }
         self.grow(key as usize + 1, end as usize)?;
