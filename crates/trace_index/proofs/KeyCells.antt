@@ -1,10 +1,11 @@
 -- What a table of keys has for a key, and what putting one changes.
-use Rattle.std.proofs.Common.{◌≡◌, ◌≢◌, ◌⊎◌, min, ◌∙◌, ℕ, zero, suc, ◌+◌, ◌<◌, ◌≤◌, Bool, true, false, cond, eqb, List, [], ◌∷◌, set, get_or, length, replicate, ap, sym, refl, subst, arith, inl, inr, get_or-set_other, get_or-set_same}
+use Rattle.std.proofs.Common.{◌≡◌, ◌≢◌, ◌⊎◌, min, ◌∙◌, ℕ, zero, suc, ◌+◌, ◌*◌, ◌/◌, ◌^◌, ◌<◌, ◌≤◌, Bool, true, false, cond, eqb, List, [], ◌∷◌, set, get_or, length, replicate, ap, sym, refl, subst, arith, inl, inr, get_or-set_other, get_or-set_same}
+use mir.Val.{bool_byte}
 use Rattle.std.proofs.Math.Nat.{le-min, min-le_left, min-le_right}
-use Rattle.std.proofs.lemmas.Bool.{cases_eq, cases_Bool, eqb-true, eq-eqb}
-use Rattle.std.proofs.lemmas.List.{length-set}
-use Rattle.trace_index.specs.declared.key_cells.TheConstants.{WINDOW}
-use Rattle.trace_index.specs.KeyCells.{number_or, number_at, number_below, home, IsTable, IsPlace}
+use Rattle.std.proofs.lemmas.Bool.{cases_eq, cases_Bool, eqb-true, eq-eqb, ne_eqb}
+use Rattle.std.proofs.lemmas.List.{length-set, length-replicate}
+use Rattle.trace_index.specs.declared.key_cells.TheConstants.{WINDOW, MAX_HOMES}
+use Rattle.trace_index.specs.KeyCells.{number_or, number_at, number_below, home, taken, IsTable, AreCells, IsPlace}
 
 pub zeros : (n q : ℕ) → get_or {A = ℕ} (replicate n 0) q 0 ≡ 0
 zeros zero q = refl
@@ -19,6 +20,55 @@ within (x ∷ xs) (suc q) ne = omega (arith, within xs q ne)
 pub first-of : (n other : ℕ) → n ≢ 0 → number_or n other ≡ n
 first-of zero other ne = absurd (ne refl)
 first-of (suc n) other ne = refl
+
+-- ---- how many cells are taken
+
+taken-few : (ns : List ℕ) → taken ns ≤ length ns
+taken-few [] = omega arith
+taken-few (zero ∷ ns) = omega (arith, taken-few ns)
+taken-few (suc n ∷ ns) = omega (arith, taken-few ns)
+
+-- a number comes into a cell, one that is empty or one that is taken
+taken-set : (ns : List ℕ) (p n : ℕ) → p < length ns → n ≢ 0 → taken (set ns p n) ≡ taken ns + bool_byte (eqb (get_or ns p 0) 0)
+taken-set [] p n lt some = absurd (omega (arith, lt))
+taken-set (x ∷ ns) p zero lt some = absurd (some refl)
+taken-set (zero ∷ ns) zero (suc n) lt some = omega arith
+taken-set (suc x ∷ ns) zero (suc n) lt some = let e : eqb (suc x) 0 ≡ false = ne_eqb (suc x) 0 (λ e. absurd (cc e)) in rw e (omega arith)
+taken-set (zero ∷ ns) (suc p) n lt some = taken-set ns p n (omega (arith, lt)) some
+taken-set (suc x ∷ ns) (suc p) n lt some = omega (arith, taken-set ns p n (omega (arith, lt)) some)
+
+-- the count after a number came into a cell, which fits 32 bits
+pub taken-after : (homes count before : ℕ) (keys ns : List ℕ) (p n : ℕ) → AreCells homes count keys ns → p < length ns → n ≢ 0
+    → before ≡ get_or ns p 0 → count + bool_byte (eqb before 0) ≡ taken (set ns p n)
+taken-after homes count before keys ns p n cells lt some is =
+    rw is (ap (λ m. m + bool_byte (eqb (get_or ns p 0) 0)) cells.counted ∙ sym (taken-set ns p n lt some))
+
+pub count-fits : (homes count before : ℕ) (keys ns : List ℕ) (p n : ℕ) → AreCells homes count keys ns → p < length ns → n ≢ 0
+    → before ≡ get_or ns p 0 → count + bool_byte (eqb before 0) < 2 ^ 32
+count-fits homes count before keys ns p n cells lt some is =
+    omega (arith, taken-after homes count before keys ns p n cells lt some is, taken-few (set ns p n), length-set ns p n, cells.long, cells.few)
+
+taken-zeros : (n : ℕ) → taken (replicate n 0) ≡ 0
+taken-zeros zero = refl
+taken-zeros (suc n) = taken-zeros n
+
+-- empty cells
+pub cells-empty : (homes len : ℕ) (keys numbers : List ℕ) → keys ≡ replicate len 0 → numbers ≡ replicate len 0 → len ≡ homes + WINDOW
+    → homes ≤ MAX_HOMES / 2 * 3 → AreCells homes 0 keys numbers
+cells-empty homes len keys numbers k n l few =
+    let none : (p : ℕ) → get_or numbers p 0 ≡ 0 = λ p. ap (λ xs. get_or xs p 0) n ∙ zeros len p in
+    record {
+      table = record {
+        each = ap length n ∙ sym (ap length k);
+        behind = λ p ne. absurd (ne (none p));
+        near = λ p ne. absurd (ne (none p));
+        joined = λ p q ne. absurd (ne (none p));
+        once = λ p q ne. absurd (ne (none p));
+      };
+      long = omega (arith, l, ap length n, length-replicate {A = ℕ} len 0);
+      few = few;
+      counted = sym (ap taken n ∙ taken-zeros len);
+    }
 
 -- ---- what the first cells have
 

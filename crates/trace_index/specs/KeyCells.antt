@@ -1,6 +1,6 @@
 -- A table of keys and their numbers, by a hash.
-use Rattle.std.specs.Prelude.{◌≡◌, ◌≢◌, ℕ, zero, suc, ◌+◌, ◌*◌, ◌/◌, ◌%◌, ◌^◌, ◌<◌, ◌≤◌, eqb, cond, List, length, slice_index}
-use Rattle.trace_index.specs.declared.key_cells.TheConstants.{WINDOW}
+use Rattle.std.specs.Prelude.{◌≡◌, ◌≢◌, ℕ, zero, suc, ◌+◌, ◌-◌, ◌*◌, ◌/◌, ◌%◌, ◌^◌, ◌<◌, ◌≤◌, Bool, ◌&&◌, nat_le, eqb, cond, min, max, List, [], ◌∷◌, length, slice_index}
+use Rattle.trace_index.specs.declared.key_cells.TheConstants.{WINDOW, MIN_HOMES, MAX_HOMES}
 
 -- a number, or the other one where it is 0
 abbrev pub number_or : ℕ → ℕ → ℕ
@@ -24,6 +24,26 @@ number_among cells k = number_below cells.0 cells.1 (length cells.0) k
 abbrev pub home : ℕ → ℕ → ℕ
 home homes key = ((key * 11400714819323198485) % 2 ^ 64 / 2 ^ 32 * homes) % 2 ^ 64 / 2 ^ 32
 
+-- how many cells are taken
+abbrev pub taken : List ℕ → ℕ
+taken [] = 0
+taken (zero ∷ numbers) = taken numbers
+taken (suc n ∷ numbers) = suc (taken numbers)
+
+-- the homes among so many cells: behind the last one there is a window
+abbrev pub homes_among : ℕ → ℕ
+homes_among cells = cells - WINDOW
+
+-- how many cells the next table has: half as many homes again
+abbrev pub len_of_larger : ℕ → ℕ
+len_of_larger cells = max MIN_HOMES (min (homes_among cells) MAX_HOMES / 2 * 3) + WINDOW
+
+-- as many cells are taken as three homes in four, and a table of so many homes grows
+abbrev pub has_few_free : List ℕ → Bool
+has_few_free numbers =
+    nat_le (homes_among (length numbers) - homes_among (length numbers) / 4) (taken numbers)
+    && nat_le (homes_among (length numbers)) MAX_HOMES
+
 -- each key stands once, at its home or behind it within the window, with no empty cell between
 pub record IsTable (homes : ℕ) (keys numbers : List ℕ) : Type 0 where
   pub each : length numbers ≡ length keys
@@ -33,6 +53,13 @@ pub record IsTable (homes : ℕ) (keys numbers : List ℕ) : Type 0 where
       → slice_index numbers q ≢ 0
   pub once : (p q : ℕ) → slice_index numbers p ≢ 0 → slice_index numbers q ≢ 0 → slice_index keys p ≡ slice_index keys q
       → p ≡ q
+
+-- what holds of the fields of a table
+pub record AreCells (homes count : ℕ) (keys numbers : List ℕ) : Type 0 where
+  pub table : IsTable homes keys numbers
+  pub long : homes ≡ homes_among (length numbers)
+  pub few : homes ≤ MAX_HOMES / 2 * 3
+  pub counted : count ≡ taken numbers
 
 -- the first place from one to another that has the key or is empty, or the end
 pub record IsPlace (keys numbers : List ℕ) (from end key place : ℕ) : Type 0 where

@@ -1,6 +1,6 @@
 //! Numbers of keys in a table by a hash.
 ghost use Rattle.std.specs.Prelude.{◌≡◌, ◌≢◌, ℕ, ◌<◌, ◌≤◌, ◌+◌, ◌^◌, cond, nat_eq, None, IfOk, IfSome, OnSome, length, slice_index};
-ghost use Rattle.trace_index.specs.KeyCells.{home, number_among, IsTable, IsPlace};
+ghost use Rattle.trace_index.specs.KeyCells.{home, number_among, len_of_larger, has_few_free, IsPlace};
 
 use std::alloc::{AllocError, Global};
 use std::marker::Model;
@@ -28,20 +28,20 @@ pub(crate) struct KeyCells {
     numbers: Vec<u32>,
     // The home of a key is one of the first so many cells.
     homes: u32,
-    // How many cells are taken, in 32 bits.
+    // How many cells are taken.
     count: u32,
 }
 
 impl Model for KeyCells {
     ghost use Rattle.std.specs.Prelude.{ℕ, List};
-    ghost use Rattle.trace_index.specs.KeyCells.{IsTable};
+    ghost use Rattle.trace_index.specs.KeyCells.{AreCells};
 
     // the keys, and their numbers
     ghost Value = { List ℕ × List ℕ };
 
     ghost view = { λ c. (c.keys.items, c.numbers.items) };
 
-    ghost invariant = { λ c. IsTable c.homes c.keys.items c.numbers.items };
+    ghost invariant = { λ c. AreCells c.homes c.count c.keys.items c.numbers.items };
 }
 
 impl KeyCells {
@@ -57,9 +57,10 @@ impl KeyCells {
         }
     }
 
-    /// Empty cells, half as many again as these have, as far as there may be more.
+    /// Empty cells, with half as many homes again as these have, as far as there may be more.
     pub(crate) fn larger(&self) -> Result<KeyCells, AllocError>
-        ensures { IfOk result (λ c. (k : ℕ) → number_among c k ≡ 0) }
+        ensures empty { IfOk result (λ c. (k : ℕ) → number_among c k ≡ 0) }
+        ensures len { IfOk result (λ c. length c.0 ≡ len_of_larger (length self.now.0)) }
     {
         let homes = MIN_HOMES.max(self.homes.min(MAX_HOMES) / 2 * 3);
         let len = homes as usize + WINDOW;
@@ -72,9 +73,11 @@ impl KeyCells {
         })
     }
 
-    /// Whether three cells in four are taken, and there may be more.
+    /// Whether as many cells are taken as three homes in four, and there may be more.
     #[inline(always)]
-    pub(crate) fn is_crowded(&self) -> bool {
+    pub(crate) fn is_crowded(&self) -> bool
+        ensures { result ≡ has_few_free self.now.1 }
+    {
         self.count >= self.homes - self.homes / 4 && self.homes <= MAX_HOMES
     }
 
@@ -126,7 +129,7 @@ impl KeyCells {
         }
         self.keys[place] = key;
         let before = mem::replace(&mut self.numbers[place], number);
-        self.count = self.count.wrapping_add((before == 0) as u32);
+        self.count += (before == 0) as u32;
         Some(before)
     }
 }

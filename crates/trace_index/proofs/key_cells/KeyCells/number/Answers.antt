@@ -12,7 +12,7 @@ returns-then-place-end c =
     searched _ _ _ _ _ _ _ _ _ _ c.deref.ensures.value c.deref-2.ensures.value (omega (arith, c.len.ensures, c.deref.ensures.len, ap length c.deref.ensures.value))
     c.home_of-home.ensures.home c.min-end.ensures c.search-place.ensures in
     sym (ap (λ v. number_among v c.args.key) (sym c.self.view_is)
-    ∙ none-below keys numbers (length keys) c.args.key (absent _ _ _ _ _ _ c.self.invariant found (λ here. absurd (omega (arith, here, c.if-place-end.true)))))
+    ∙ none-below keys numbers (length keys) c.args.key (absent _ _ _ _ _ _ c.self.invariant.table found (λ here. absurd (omega (arith, here, c.if-place-end.true)))))
 
 pub returns : goal.returns
 returns c =
@@ -22,5 +22,5 @@ returns c =
     searched _ _ _ _ _ _ _ _ _ _ c.deref.ensures.value c.deref-2.ensures.value (omega (arith, c.len.ensures, c.deref.ensures.len, ap length c.deref.ensures.value))
     c.home_of-home.ensures.home c.min-end.ensures c.search-place.ensures in
     let here : c.search-place.result < c.min-end.result = c.if-place-end.false in
-    c.index.ensures ∙ get_or_default_zero numbers _ _ (in-numbers _ _ _ _ 0 _ _ c.self.invariant found here)
-    ∙ sym (ap (λ v. number_among v c.args.key) (sym c.self.view_is) ∙ before _ _ _ _ 0 _ _ c.self.invariant found here)
+    c.index.ensures ∙ get_or_default_zero numbers _ _ (in-numbers _ _ _ _ 0 _ _ c.self.invariant.table found here)
+    ∙ sym (ap (λ v. number_among v c.args.key) (sym c.self.view_is) ∙ before _ _ _ _ 0 _ _ c.self.invariant.table found here)
