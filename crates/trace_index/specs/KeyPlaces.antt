@@ -13,6 +13,10 @@ place_at (suc p) = Some p
 abbrev pub number_of_key : KeyPlaces → ℕ → ℕ
 number_of_key p k = number_or (slice_index p.low.items k) (number_of_any p.high k)
 
+-- the place that the table has for k
+abbrev pub place_in_table : KeyPlaces → ℕ → Option ℕ
+place_in_table p k = place_at (slice_index p.low.items k)
+
 -- the place kept for k
 abbrev pub place_of : KeyPlaces → ℕ → Option ℕ
 place_of p k = place_at (number_of_key p k)

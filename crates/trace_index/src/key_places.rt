@@ -1,7 +1,7 @@
 //! The place of each key.
 ghost use Rattle.std.specs.Prelude.{◌≡◌, ℕ, suc, ◌<◌, ◌≤◌, cond, nat_eq, Some, None, IfOk, IfSome, OnOk, length, slice_index, ◌^◌};
 ghost use Rattle.step_record.specs.declared.limits.TheConstants.{MAX_ACCESSES};
-ghost use Rattle.trace_index.specs.KeyPlaces.{place_of, number_of_key};
+ghost use Rattle.trace_index.specs.KeyPlaces.{place_in_table, place_of, number_of_key};
 
 use crate::key_numbers::KeyNumbers;
 use crate::packed_keys::PackedKeys;
@@ -69,7 +69,8 @@ impl KeyPlaces {
     /// depend on one another, so that the processor overlaps them.
     #[inline(always)]
     pub fn in_table(&self, key: Key) -> Option<u32>
-        ensures { IfSome result (λ p. place_of self.now key ≡ Some p) }
+        ensures table { result ≡ place_in_table self.now key }
+        ensures place { IfSome result (λ p. place_of self.now key ≡ Some p) }
     {
         if key < self.low.len() as u64 {
             return self.low[key as usize].checked_sub(1);
