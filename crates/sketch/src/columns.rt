@@ -43,8 +43,10 @@ pub fn columns(spread: Spread, key: Key, width: u32) -> [u32; 4]
     ]
 }
 
+/// Spreads a number over 64 bits: the finalizer of SplitMix64.
+#[inline(always)]
 #[tactic(auto, unfolding(crate::specs::Columns::mix))]
-fn mix(z: u64) -> u64
+pub fn mix(z: u64) -> u64
     ensures { result ≡ mix_of z }
 {
     let a = (z ^ (z >> 30)).wrapping_mul(0xBF58476D1CE4E5B9);

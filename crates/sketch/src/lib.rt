@@ -16,7 +16,7 @@ mod rows;
 mod sketch;
 mod touch_record;
 
-pub use columns::{MAX_WIDTH, column};
+pub use columns::{MAX_WIDTH, column, mix};
 pub use halve_record::HalveRecord;
 pub use sketch::Sketch;
 pub use touch_record::{RaisedRows, TouchRecord};

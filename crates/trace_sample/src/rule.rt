@@ -1,8 +1,9 @@
 //! Which blocks a sample has.
 ghost use Rattle.std.specs.Prelude.{◌≡◌, ◌≤◌, ◌+◌, ◌*◌, ◌/◌, ◌^◌};
-ghost use Rattle.sketch.specs.Columns.{mix as mix_of, wrap};
+ghost use Rattle.sketch.specs.Columns.{wrap};
 ghost use Rattle.trace_sample.specs.Hash.{block_hash, is_sampled};
 
+use sketch::mix;
 use step_record::Key;
 
 /// Which blocks a sample has.
@@ -46,15 +47,4 @@ impl BlockTest {
     {
         mix(block.wrapping_add(self.offset)) < self.below
     }
-}
-
-// The finalizer of SplitMix64.
-#[inline(always)]
-#[tactic(auto, unfolding(sketch::specs::Columns::mix))]
-fn mix(z: u64) -> u64
-    ensures { result ≡ mix_of z }
-{
-    let a = (z ^ (z >> 30)).wrapping_mul(0xBF58476D1CE4E5B9);
-    let b = (a ^ (a >> 27)).wrapping_mul(0x94D049BB133111EB);
-    b ^ (b >> 31)
 }
