@@ -1,5 +1,5 @@
 //! The two ends of an actor's channel, and the sending ends of several.
-ghost use Rattle.std.specs.Prelude.{◌≡◌, ◌+◌, ◌<◌, All, IfOk, IfSome, IsTrue, true, false};
+ghost use Rattle.std.specs.Prelude.{◌≡◌, ◌+◌, ◌<◌, All, IfOk, IfSome, IsTrue, OnOk, length, true, false};
 ghost use Rattle.crossbeam_channel.specs.Claims.{view, IsSeatAt};
 ghost use Rattle.crossbeam_channel.specs.Ends.{sends_on, receives_on};
 ghost use Rattle.policy_actors.specs.ChannelProtocol.{channel_log, IsBatch};
@@ -34,7 +34,9 @@ impl<S: FedTrace> Outboxes<S> {
     }
 
     /// How many ends there are.
-    pub fn len(&self) -> usize {
+    pub fn len(&self) -> usize
+        ensures { result ≡ length self.now.ends.items }
+    {
         self.ends.len()
     }
 
@@ -43,6 +45,7 @@ impl<S: FedTrace> Outboxes<S> {
         requires none { self.old.sent ≡ 0 }
         requires room { 0 < batches }
         ensures none { self.new.sent ≡ 0 }
+        ensures added { OnOk result (length self.new.ends.items ≡ length self.old.ends.items + 1) }
         ensures taken { IfOk result (λ inbox. inbox.taken ≡ 0) }
     {
         let (outbox, inbox) = channel(alloc, batches)?;

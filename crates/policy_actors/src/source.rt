@@ -1,5 +1,5 @@
 //! Where the accesses of a run come from.
-ghost use Rattle.std.specs.Prelude.{◌≡◌, ◌≤◌, ℕ, List, Option, length};
+ghost use Rattle.std.specs.Prelude.{◌≡◌, ◌≤◌, ℕ, List, OnOk, Option, length};
 ghost use Rattle.trace_read.specs.TraceText.{AreOfFile};
 
 use crate::feeder::Feeder;
@@ -24,7 +24,9 @@ pub trait AccessSource: Drop {
     ghost becomes: { Self → Self.Outcome → Type 0 };
 
     /// The most accesses that it may give.
-    fn max_accesses(&self) -> usize;
+    fn max_accesses(&self) -> usize
+        ensures { (known : Option (List ℕ)) (most : ℕ) → gives self.now known most
+            → gives self.now known result × (result ≤ most) };
 
     /// Gives the feeder all accesses, in order.
     fn feed<S: FedTrace, W: Wait>(self, feeder: Feeder<'_, S, W>) -> Self::Outcome
@@ -122,6 +124,7 @@ fn feed_trace<S: FedTrace, W: Wait>(
     requires known { S.known ≡ Some trace.now }
     requires few { length trace.now ≤ S.most }
     requires none { feeder.old.place ≡ 0 }
+    ensures { OnOk result (feeder.new.place ≡ length trace.now) }
 {
     let mut read = Vec::new(feeder.alloc);
     let mut rest = trace.keys();

@@ -1,5 +1,5 @@
 use Rattle.std.proofs.lemmas.Grind.{common_steps}
-use Rattle.std.proofs.Common.{arith, length, ap, List, ℕ, length-drop}
+use Rattle.std.proofs.Common.{◌∙◌, arith, length, ap, List, ℕ, length-drop}
 use Rattle.policy_actors.proofs.Pieces.{begun, ended, followed, grown, next, room}
 use Rattle.policy_actors.proofs.source.feed_trace.Goals as goal
 
@@ -36,3 +36,7 @@ give-requires-clause-few g c = let l = c.loop-rest in let all = c.args.trace.now
 
 pub give-requires-clause-next : goal.give-requires-clause-next
 give-requires-clause-next g c = grind (arith, common_steps)
+
+pub returns : goal.returns
+returns g c = let l = c.loop-rest in
+    c.give.ensures.place ∙ (ended c.args.trace.now l.read.items l.rest.now _ l.feeder.place l.invariant.0 l.invariant.1 c.in_ok-extend_from_slice-2.ensures.items).0
