@@ -1,5 +1,6 @@
 -- Several jobs at the same capacities.
 use Rattle.std.specs.Int.{div_ceil}
+use Rattle.std.specs.List.{Any}
 use Rattle.std.specs.Option.{option_or}
 use Rattle.std.specs.Prelude.{◌≡◌, ℕ, ◌+◌, ◌*◌, All, Ok, Bool, true, false, if◌then◌else◌, cond, nat_le, Option, Some}
 use Rattle.std.specs.Prelude.{None, List, [], ◌∷◌, ◌++◌, length, map}
@@ -31,6 +32,10 @@ first_config_fault (job ∷ jobs) capacities =
 -- the number of jobs is looked at first, and then their configurations
 abbrev pub sweep_fault : List Job → List ℕ → Option ActorFault
 sweep_fault jobs capacities = cond (nat_le (length jobs) MAX_ACTORS) (first_config_fault jobs capacities) (Some Actors)
+
+-- one of the jobs is of the policy
+abbrev pub AsksFor : Policy → List Job → Type 0
+AsksFor policy jobs = Any (λ job. job.policy ≡ policy) jobs
 
 -- ---- the gate of a sweep
 

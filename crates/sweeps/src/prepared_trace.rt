@@ -1,9 +1,10 @@
 //! A trace with what its reports at several capacities go by.
-ghost use Rattle.std.specs.Prelude.{◌≡◌, Ok, IfOk, IfSome};
+ghost use Rattle.std.specs.Prelude.{◌≡◌, ◌<◌, ◌≤◌, ◌↔◌, Ok, IfOk, IfSome, IsSome, IsTrue};
 ghost use Rattle.std.proofs.Props.{props};
 ghost use Rattle.step_record.specs.Config.{config_fault};
 ghost use Rattle.policies.specs.Reports.{report_on};
 ghost use Rattle.stack_distances.specs.Curve.{curve_of};
+ghost use Rattle.sweeps.specs.Sweep.{AsksFor};
 
 use clairvoyant::NextUse;
 use policies::{Report, report_over};
@@ -37,7 +38,12 @@ impl<'a> PreparedTrace<'a> {
         jobs: &[Job],
         capacities: usize,
     ) -> Result<PreparedTrace<'a>, AllocError>
-        ensures { IfOk result (λ p. p.trace.now ≡ trace.now) }
+        ensures trace { IfOk result (λ p. p.trace.now ≡ trace.now) }
+        ensures uses { IfOk result (λ p. IsSome p.uses ↔ AsksFor Policy.Clairvoyant jobs.now) }
+        ensures reuses { IfOk result (λ p. IsSome p.reuses
+            ↔ (capacities < CURVE_FROM × AsksFor Policy.Lru jobs.now)) }
+        ensures curve { IfOk result (λ p. IsSome p.curve
+            ↔ (CURVE_FROM ≤ capacities × AsksFor Policy.Lru jobs.now)) }
     {
         let uses = next_uses(alloc, trace, jobs)?;
         let reuses = reuses(alloc, trace, jobs, capacities)?;
@@ -71,7 +77,8 @@ impl<'a> PreparedTrace<'a> {
 
 // The next uses of the trace, where a job's policy goes by them.
 fn next_uses(alloc: Global, trace: &Trace, jobs: &[Job]) -> Result<Option<NextUse>, AllocError>
-    ensures { IfOk result (λ uses. IfSome uses (λ u. u ≡ trace.now)) }
+    ensures uses { IfOk result (λ uses. IfSome uses (λ u. u ≡ trace.now)) }
+    ensures asked { IfOk result (λ uses. IsSome uses ↔ AsksFor Policy.Clairvoyant jobs.now) }
 {
     if !any_is_of(jobs, Policy::Clairvoyant) {
         return Ok(None);
@@ -87,13 +94,15 @@ fn reuses<'a>(
     jobs: &[Job],
     capacities: usize,
 ) -> Result<Option<Reuses<'a>>, AllocError>
-    ensures { IfOk result (λ reuses. IfSome reuses (λ r. r ≡ trace.now)) }
+    ensures reuses { IfOk result (λ reuses. IfSome reuses (λ r. r ≡ trace.now)) }
+    ensures asked { IfOk result (λ reuses. IsSome reuses
+        ↔ (capacities < CURVE_FROM × AsksFor Policy.Lru jobs.now)) }
 {
-    if capacities >= CURVE_FROM || !any_is_of(jobs, Policy::Lru) {
-        return Ok(None);
+    if capacities < CURVE_FROM && any_is_of(jobs, Policy::Lru) {
+        let reuses = Reuses::of_trace(alloc, trace)?;
+        return Ok(Some(reuses));
     }
-    let reuses = Reuses::of_trace(alloc, trace)?;
-    Ok(Some(reuses))
+    Ok(None)
 }
 
 // The curve of the trace, where the reports of a job are to be read off it.
@@ -103,21 +112,20 @@ fn curve(
     jobs: &[Job],
     capacities: usize,
 ) -> Result<Option<Curve>, AllocError>
-    ensures { IfOk result (λ curve. IfSome curve (λ c. c ≡ curve_of trace.now)) }
+    ensures curve { IfOk result (λ curve. IfSome curve (λ c. c ≡ curve_of trace.now)) }
+    ensures asked { IfOk result (λ curve. IsSome curve
+        ↔ (CURVE_FROM ≤ capacities × AsksFor Policy.Lru jobs.now)) }
 {
-    if capacities < CURVE_FROM || !any_is_of(jobs, Policy::Lru) {
-        return Ok(None);
+    if capacities >= CURVE_FROM && any_is_of(jobs, Policy::Lru) {
+        let curve = Curve::of_trace(alloc, trace)?;
+        return Ok(Some(curve));
     }
-    let curve = Curve::of_trace(alloc, trace)?;
-    Ok(Some(curve))
+    Ok(None)
 }
 
 // Whether one of the jobs is of the policy.
-fn any_is_of(jobs: &[Job], policy: Policy) -> bool {
-    for job in jobs {
-        if job.policy == policy {
-            return true;
-        }
-    }
-    false
+fn any_is_of(jobs: &[Job], policy: Policy) -> bool
+    ensures { IsTrue result ↔ AsksFor policy jobs.now }
+{
+    jobs.iter().any(|job| job.policy == policy)
 }

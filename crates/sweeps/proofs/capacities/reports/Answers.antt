@@ -13,7 +13,7 @@ made_by_each-requires-clause-checked g c κs within =
 
 pub returns : goal.returns
 returns g c =
-    let trace = c.in_ok-prepared.ensures in
+    let trace = c.in_ok-prepared.ensures.trace in
     let rows = c.as_slice.ensures.value ∙ c.in_ok-rows.ensures in
     IfOk-weaker c.made_by_each.result _ _ (λ v h.
     sym (map-id v.items)
