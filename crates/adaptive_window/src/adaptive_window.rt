@@ -87,14 +87,13 @@ impl AdaptiveWindow {
         make_room(&mut self.segments, item)
     }
 
-    /// Reads ahead, once for each few keys, what searches for the keys from the one at `i` on read first. It changes
-    /// nothing.
+    /// Reads ahead what searches for the next few keys from the one at `i` on read first. It changes nothing.
     #[inline(always)]
-    pub fn prefetch_at(&mut self, keys: &[Key], i: usize)
+    pub fn read_ahead(&mut self, keys: &[Key], i: usize)
         requires { i ≤ length keys.now }
         ensures { self.new ≡ self.old }
     {
-        self.segments.prefetch_at(keys, i);
+        self.segments.read_ahead(keys, i);
     }
 
     /// How many items it holds.

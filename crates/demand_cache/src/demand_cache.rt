@@ -84,8 +84,11 @@ impl DemandCache {
     ///
     /// Errors: `NotNow` exactly where `MAX_STEPS` accesses are applied, and `OutOfMemory`; each leaves the cache as it
     /// was.
+    ///
+    /// `C` only selects an instance: calls with different `C` are compiled apart, so that one which is called at one
+    /// place is part of the loop there.
     #[inline(always)]
-    pub fn access(&mut self, key: Key) -> Result<Outcome, StepFault>
+    pub fn access<C>(&mut self, key: Key) -> Result<Outcome, StepFault>
         ensures accepted { IfOk result (λ o. demand_act self.old key ≡ Some (o, self.new)) }
         ensures not_now { result ≡ Err StepFault.NotNow ↔ demand_act self.old key ≡ None }
         ensures memory { result ≡ Err StepFault.OutOfMemory → demand_may_ask self.old key }
@@ -95,7 +98,7 @@ impl DemandCache {
             return Err(StepFault::NotNow);
         }
         self.queues.tabled();
-        match count_out(
+        match count_out::<C>(
             self.policy,
             &mut self.queues,
             self.capacity,
@@ -281,7 +284,7 @@ fn keys_in(policy: DemandPolicy, capacity: u32) -> u32
 // The step of the policy, without its record. Each policy's is read where it was made: read after the `match`, they would
 // all be made.
 #[inline(always)]
-fn count_out(
+fn count_out<C>(
     policy: DemandPolicy,
     queues: &mut KeyQueues,
     capacity: u32,
@@ -297,27 +300,25 @@ fn count_out(
     ensures err { OnErr result (queues_at queues.new ≡ queues_at queues.old) }
 {
     match policy {
-        DemandPolicy::Clock => match clock::step::<Counted>(queues, capacity, scalar, key) {
+        DemandPolicy::Clock => match clock::step::<C>(queues, capacity, scalar, key) {
             Ok(done) => Ok(without_record(done)),
             Err(fault) => Err(fault),
         },
-        DemandPolicy::Sieve => match sieve::step::<Counted>(queues, capacity, scalar, key) {
+        DemandPolicy::Sieve => match sieve::step::<C>(queues, capacity, scalar, key) {
             Ok(done) => Ok(without_record(done)),
             Err(fault) => Err(fault),
         },
-        DemandPolicy::S3Fifo(part) => match s3_fifo::step::<Counted>(
+        DemandPolicy::S3Fifo(part) => match s3_fifo::step::<C>(
             queues, part, capacity, scalar, key,
         ) {
             Ok(done) => Ok(without_record(done)),
             Err(fault) => Err(fault),
         },
-        DemandPolicy::TwoQ(sizes) => match two_q::step::<Counted>(
-            queues, sizes, capacity, scalar, key,
-        ) {
+        DemandPolicy::TwoQ(sizes) => match two_q::step::<C>(queues, sizes, capacity, scalar, key) {
             Ok(done) => Ok(without_record(done)),
             Err(fault) => Err(fault),
         },
-        DemandPolicy::Arc => match arc::step::<Counted>(queues, capacity, scalar, key) {
+        DemandPolicy::Arc => match arc::step::<C>(queues, capacity, scalar, key) {
             Ok(done) => Ok(without_record(done)),
             Err(fault) => Err(fault),
         },

@@ -80,7 +80,7 @@ pub(crate) fn access_demand(cache: &mut DemandCache, keys: &[Key]) -> Result<(),
     theorems::any_accepts();
     for i in 0..keys.len() {
         cache.prefetch_at(keys, i);
-        match cache.access(keys[i]) {
+        match cache.access::<DemandLoop>(keys[i]) {
             Ok(_) => {}
             Err(StepFault::OutOfMemory) => return Err(AllocError),
             Err(StepFault::NotNow) => unreachable!(),
@@ -100,7 +100,7 @@ pub(crate) fn access_adaptive(cache: &mut AdaptiveCache, keys: &[Key]) -> Result
     theorems::any_accepts();
     for i in 0..keys.len() {
         cache.prefetch_at(keys, i);
-        match cache.access::<Counter>(keys[i]) {
+        match cache.access::<AdaptiveLoop>(keys[i]) {
             Ok(_) => {}
             Err(StepFault::OutOfMemory) => return Err(AllocError),
             Err(StepFault::NotNow) => unreachable!(),
@@ -109,8 +109,10 @@ pub(crate) fn access_adaptive(cache: &mut AdaptiveCache, keys: &[Key]) -> Result
     Ok(())
 }
 
-// Selects the instance of an access that `access_adaptive` has in its loop.
-struct Counter;
+// Selects the instances of accesses that are part of these loops.
+struct DemandLoop;
+
+struct AdaptiveLoop;
 
 /// The same by the optimal policy.
 pub(crate) fn access_optimal(cache: &mut Clairvoyant, keys: &[Key]) -> Result<(), AllocError>

@@ -138,7 +138,7 @@ impl AnyPolicy {
                 Ok((outcome, _)) => Ok(outcome),
                 Err(fault) => Err(fault),
             },
-            AnyPolicy::Demand(cache) => access_alone(cache, key),
+            AnyPolicy::Demand(cache) => access_alone::<C>(cache, key),
             AnyPolicy::Adaptive(cache) => cache.access::<C>(key),
         }
     }
@@ -181,19 +181,16 @@ impl AnyPolicy {
     }
 }
 
-// An access of a policy that keeps each missed key, out of line: its undo record is large, and a loop of the optimal
-// policy would make room for it at each access.
+// An access of a policy that keeps each missed key, out of line: it is long, and a loop of the optimal policy would lose
+// its registers to it.
 #[inline(never)]
-fn access_alone(cache: &mut DemandCache, key: Key) -> Result<Outcome, StepFault>
+fn access_alone<C>(cache: &mut DemandCache, key: Key) -> Result<Outcome, StepFault>
     ensures accepted { IfOk result (λ o. demand_act cache.old key ≡ Some (o, cache.new)) }
     ensures not_now { result ≡ Err StepFault.NotNow ↔ demand_act cache.old key ≡ None }
     ensures memory { result ≡ Err StepFault.OutOfMemory → demand_may_ask cache.old key }
     ensures err { OnErr result (cache.new ≡ cache.old) }
 {
-    match cache.apply(&key) {
-        Ok((outcome, _)) => Ok(outcome),
-        Err(fault) => Err(fault),
-    }
+    cache.access::<C>(key)
 }
 
 impl Engine for AnyPolicy {

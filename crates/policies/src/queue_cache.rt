@@ -15,6 +15,7 @@ ghost use Rattle.policies.specs.QueueFields.{FewHalvings};
 use crate::design::{FixedDesign, Layout, QueueDesign};
 use crate::record::AccessRecord;
 use admission::{FreqRecord, Frequency};
+use queue_table::AHEAD;
 use replacement::{KeptMoves, Rules, access, make_room, open_frequency, undo};
 use segments::{Queue, Segments};
 use std::alloc::{AllocError, Global};
@@ -89,13 +90,22 @@ impl<P: Drop> QueueCache<P> {
         requires { i ≤ length keys.now }
         ensures { self.new ≡ self.old }
     {
+        if i % AHEAD == 0 {
+            self.read_ahead(keys, i);
+        }
+    }
+
+    fn read_ahead(&mut self, keys: &[Key], i: usize)
+        requires { i ≤ length keys.now }
+        ensures { self.new ≡ self.old }
+    {
         let least = if self.frequency.is_some() {
             AHEAD_FROM_WHERE_COUNTING
         } else {
             AHEAD_FROM
         };
         if self.rules.capacity >= least {
-            self.segments.prefetch_at(keys, i);
+            self.segments.read_ahead(keys, i);
         }
     }
 

@@ -75,30 +75,16 @@ impl QueueTable {
         }
     }
 
-    /// Reads ahead what searches for the keys from the one at `i` on read first, for items of node 0: of the next few the
-    /// slot, of as many after these the link to it. So no read waits for another. What it returns means nothing.
+    /// Reads ahead what searches for the next few keys from the one at `i` on, with node 0, read first: of a slot both the
+    /// item and a link, since it may lie in two lines of the processor's cache. Unlike the reads of a search, these do not
+    /// wait for one another. What it returns means nothing.
+    #[inline(always)]
     pub fn read_ahead(&self, keys: &[Key], i: usize) -> u64
         requires { i ≤ length keys.now }
     {
-        let near = keys.len().min(i + AHEAD);
-        let far = keys.len().min(near + AHEAD);
-        self.read_links(&keys[near..far]) ^ self.read_slots(&keys[i..near])
-    }
-
-    // Reads the link to the first slot of each key's bucket.
-    fn read_links(&self, keys: &[Key]) -> u64 {
+        let end = keys.len().min(i + AHEAD);
         let mut read = 0;
-        for key in keys {
-            read ^= self.index.first_slot(Item { key: *key, node: 0 }) as u64;
-        }
-        read
-    }
-
-    // Reads the first slot of each key's bucket: both the item and a link, since it may lie in two lines of the
-    // processor's cache.
-    fn read_slots(&self, keys: &[Key]) -> u64 {
-        let mut read = 0;
-        for key in keys {
+        for key in &keys[i..end] {
             let at = self.index.first_slot(Item { key: *key, node: 0 }) as usize;
             if at < self.slots.len() {
                 read ^= self.slots[at].item.key ^ self.slots[at].newer as u64;

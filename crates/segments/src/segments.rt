@@ -9,7 +9,7 @@ ghost use Rattle.segments.specs.Moves.{IsMoveRecord, FitsMove, queues_before_mov
 
 use crate::names::{name, number, queue_place, table_place};
 use crate::records::{MoveRecord, Queue};
-use queue_table::{AHEAD, Entry, QueueTable};
+use queue_table::{Entry, QueueTable};
 use std::alloc::{AllocError, Global};
 use std::marker::Model;
 use step_record::{Item, Key};
@@ -76,20 +76,9 @@ impl Segments {
         }
     }
 
-    /// Reads ahead, once for each few keys, what searches for the keys from the one at `i` on, with node 0, read first: to
-    /// be called before each access of a loop over them. It changes nothing.
-    #[inline(always)]
-    pub fn prefetch_at(&mut self, keys: &[Key], i: usize)
-        requires { i ≤ length keys.now }
-        ensures { self.new ≡ self.old }
-    {
-        if i % AHEAD == 0 {
-            self.read_ahead(keys, i);
-        }
-    }
-
+    /// Reads ahead what searches for the next few keys from the one at `i` on, with node 0, read first. It changes nothing.
     #[inline(never)]
-    fn read_ahead(&mut self, keys: &[Key], i: usize)
+    pub fn read_ahead(&mut self, keys: &[Key], i: usize)
         requires { i ≤ length keys.now }
         ensures { self.new ≡ self.old }
     {

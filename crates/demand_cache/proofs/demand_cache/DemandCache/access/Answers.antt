@@ -15,14 +15,14 @@ abbrev made : Counted → Moves → Accessed
 made done moves = record { outcome = done.outcome; scalar = done.scalar; moves = moves }
 
 pub count_out-requires-clause-state : goal.count_out-requires-clause-state
-count_out-requires-clause-state c = state-shown all-keep c.self.inside.policy c.self.inside.capacity c.self.inside.scalar (queues c.self.inside.queues) c.tabled.ensures c.self.invariant.least c.self.invariant.queues
+count_out-requires-clause-state g c = state-shown all-keep c.self.inside.policy c.self.inside.capacity c.self.inside.scalar (queues c.self.inside.queues) c.tabled.ensures c.self.invariant.least c.self.invariant.queues
 
 pub invariant_of-self : goal.invariant_of-self
-invariant_of-self c =
+invariant_of-self g c =
     subst (λ v. IsDemand (state_of c.self.inside.policy c.self.inside.capacity c.self.inside.scalar (lists_of v) c.self.inside.stats)) (sym c.in-Err.ensures.err) c.self.invariant
 
 pub invariant_of-self-in-Ok : goal.invariant_of-self-in-Ok
-invariant_of-self-in-Ok c = record {
+invariant_of-self-in-Ok g c = record {
   least = c.self.invariant.least;
   most = c.self.invariant.most;
   queues = next-queues all-keep c.self.inside.policy c.self.inside.capacity c.self.inside.scalar (queues c.self.inside.queues) c.tabled.ensures c.self.invariant.least c.self.invariant.queues c.args.key (queues c.count_out.new.queues) (made c.in-Ok.done c.in-Ok.ensures.counted.moves) c.in-Ok.ensures.counted.accessed;
@@ -30,16 +30,16 @@ invariant_of-self-in-Ok c = record {
 }
 
 pub returns-in-Err-clause-memory : goal.returns-in-Err-clause-memory
-returns-in-Err-clause-memory c m =
+returns-in-Err-clause-memory g c m =
     subst (λ (d : DemandState). has_key c.args.key (queues_residents d.queues) ≡ false) c.self.view_is
     (no-resident all-keep c.self.inside.policy c.self.inside.capacity c.self.inside.scalar (queues c.self.inside.queues) c.tabled.ensures c.self.invariant.least c.self.invariant.queues c.args.key c.in-Err.ensures.memory)
 
 pub returns-in-Err-clause-err : goal.returns-in-Err-clause-err
-returns-in-Err-clause-err c =
+returns-in-Err-clause-err g c =
     ap (λ v. state_of c.self.inside.policy c.self.inside.capacity c.self.inside.scalar (lists_of v) c.self.inside.stats) c.in-Err.ensures.err ∙ c.self.view_is
 
 pub returns-in-Ok-clause-accepted : goal.returns-in-Ok-clause-accepted
-returns-in-Ok-clause-accepted c =
+returns-in-Ok-clause-accepted g c =
     ap (λ d. demand_act d c.args.key) (sym c.self.view_is)
     ∙ accepts (state_of c.self.inside.policy c.self.inside.capacity c.self.inside.scalar (lists_of (queues c.self.inside.queues)) c.self.inside.stats) c.args.key
     c.in-Ok.done.outcome _ c.count.new.self c.if-self-eq-MAX_STEPS.false
