@@ -1,6 +1,6 @@
 -- Slots, index and lengths together, and what the calls of the table see of them.
 use Rattle.std.specs.Prelude.{◌≡◌, ℕ, suc, zero, ◌+◌, ◌*◌, ◌^◌, ◌<◌, ◌≤◌, Option, List, [], ◌∷◌, ◌++◌, map, length}
-use Rattle.std.specs.Prelude.{slice_index, slice_index_or, false}
+use Rattle.std.specs.Prelude.{slice_index, slice_index_or, false, if◌then◌else◌, ◌||◌, ◌==◌, ◌/◌, nat_lt, nat_le}
 use Rattle.step_record.specs.declared.item.Item.{Item}
 use Rattle.queue_table.specs.declared.records.Entry.{Entry}
 use Rattle.queue_table.specs.declared.lengths.Lengths.{Lengths}
@@ -11,6 +11,7 @@ use Rattle.queue_table.specs.Ring.{entries, count, SECTIONS, FIRST, Order, used,
 use Rattle.queue_table.specs.Ring.{slot_entry, slot_item}
 use Rattle.queue_table.specs.Ring.{IsQueued}
 use Rattle.queue_table.specs.declared.slot_index.SlotIndex.{SlotIndex}
+use Rattle.queue_table.specs.declared.growth.TheConstants.{MIN_FIRST_BITS, MAX_FIRST_BITS}
 use Rattle.queue_table.specs.Index.{capacity, IsIndexed}
 
 -- the entries of each queue, oldest first
@@ -60,6 +61,18 @@ from_first (suc n) = (n + FIRST) ∷ from_first n
 -- slots
 abbrev pub IsLoaded : ℕ → ℕ → Type 0
 IsLoaded slots bits = 0 < slots → bits < 31 → 2 * slots ≤ 2 ^ bits + 2
+
+-- how many bits number the buckets of the first index, where so many are wished
+abbrev pub bits_of_first : ℕ → ℕ
+bits_of_first wished = if nat_lt wished MIN_FIRST_BITS || nat_lt MAX_FIRST_BITS wished then MIN_FIRST_BITS else wished
+
+-- how many do once there is an index, for so many slots
+abbrev pub bits_once_begun : ℕ → ℕ → ℕ
+bits_once_begun slots bits = if slots == 0 then bits_of_first bits else bits
+
+-- how many do before one more slot: one more bit where there are fewer than two buckets for a slot
+abbrev pub bits_of_wider : ℕ → ℕ → ℕ
+bits_of_wider slots bits = if nat_le slots (2 ^ bits / 2) || nat_le 31 bits then bits else bits + 1
 
 -- the slots are linked in the order, and the index knows those in use and has branches for all
 pub record IsInSlots (slots : List Slot) (index : SlotIndex) (o : Order) : Type 0 where

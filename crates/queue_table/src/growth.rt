@@ -5,7 +5,7 @@ ghost use Rattle.queue_table.specs.Ring.{lists, bare_slot, IsQueued};
 ghost use Rattle.queue_table.specs.Entries.{entry};
 ghost use Rattle.step_record.specs.declared.item.Item.{Item};
 ghost use Rattle.queue_table.specs.Index.{capacity, IsIndexed};
-ghost use Rattle.queue_table.specs.QueueTable.{from_first, IsIndexOf, IsLoaded, IsInSlots, IsSound, IsSame};
+ghost use Rattle.queue_table.specs.QueueTable.{bits_of_first, bits_of_wider, bits_once_begun, from_first, IsIndexOf, IsLoaded, IsInSlots, IsSound, IsSame};
 
 use crate::links::{FIRST_SLOT, link};
 use crate::slot::Slot;
@@ -56,7 +56,8 @@ fn first_slots(alloc: Global) -> Result<Vec<Slot>, AllocError>
 
 /// How many bits number the buckets of the first index: as many as wished, or the least where the wish is out of range.
 fn first_bits(wished: u32) -> u32
-    ensures { (4 ≤ result) × (result < 32) }
+    ensures bits { result ≡ bits_of_first wished }
+    ensures range { (4 ≤ result) × (result < 32) }
 {
     if wished < MIN_FIRST_BITS || wished > MAX_FIRST_BITS {
         return MIN_FIRST_BITS;
@@ -74,6 +75,7 @@ fn begin(alloc: Global, slots: &mut Vec<Slot>, index: &mut SlotIndex) -> Result<
     ensures same { IsSame slots.old.items slots.new.items }
     ensures load { IsLoaded (length slots.new.items) index.new.bits }
     ensures few { length slots.new.items < 2 ^ 32 }
+    ensures bits { OnOk result (index.new.bits ≡ bits_once_begun (length slots.old.items) index.old.bits) }
     ensures err { OnErr result (IsSound slots.new.items index.new) }
 {
     if !slots.is_empty() {
@@ -95,6 +97,7 @@ fn add_slot(slots: &mut Vec<Slot>) -> Result<(), AllocError>
     ensures entries { OnOk result (entries slots.new.items ≡ entries slots.old.items
         ++ entry record { key = 0; node = 0 } 0 ∷ []) }
     ensures tags { OnOk result (tags slots.new.items ≡ tags slots.old.items ++ 0 ∷ []) }
+    ensures len { OnOk result (length slots.new.items ≡ length slots.old.items + 1) }
     ensures err { OnErr result (slots.new.items ≡ slots.old.items) }
 {
     let at = slots.len() as u32;
@@ -124,6 +127,7 @@ fn widen(alloc: Global, slots: &[Slot], index: &mut SlotIndex) -> Result<(), All
     requires load { IsLoaded (length slots.now) index.old.bits }
     ensures held { IsInSlots slots.now index.new (order_of slots.now) }
     ensures load { IsLoaded (length slots.now) index.new.bits }
+    ensures bits { OnOk result (index.new.bits ≡ bits_of_wider (length slots.now) index.old.bits) }
     ensures roomy { OnOk result (2 * length slots.now ≤ 2 ^ index.new.bits) }
 {
     let bits = index.bits();
@@ -156,6 +160,8 @@ pub(crate) fn grow(
         ≡ length (order_of slots.old.items s) + cond (eqb s 0) 1 0) }
     ensures err { OnErr result ((s : ℕ) → length (order_of slots.new.items s) ≡ length (order_of slots.old.items s)) }
     ensures load { IsLoaded (length slots.new.items) index.new.bits }
+    ensures bits { OnOk result (index.new.bits ≡ bits_of_wider (length slots.new.items - 1)
+        (bits_once_begun (length slots.old.items) index.old.bits)) }
 {
     begin(alloc, slots, index)?;
     if slots.len() >= MAX_SLOTS {

@@ -1,5 +1,5 @@
 //! Slots, index and lengths together: what holds of the three, and the calls that keep it.
-ghost use Rattle.std.specs.Prelude.{◌≡◌, ◌≢◌, ◌<◌, ◌≤◌, ◌+◌, suc, [], Ok, Option, Some, None, OnOk, IfOk, IfSome, IfNone};
+ghost use Rattle.std.specs.Prelude.{◌≡◌, ◌≢◌, ◌<◌, ◌≤◌, ◌+◌, ◌*◌, ◌^◌, suc, [], Ok, Option, Some, None, OnOk, IfOk, IfSome, IfNone};
 ghost use Rattle.std.specs.Prelude.{length};
 ghost use Rattle.std.specs.List.{Contains};
 ghost use Rattle.step_record.specs.declared.item.Item.{Item};
@@ -52,7 +52,10 @@ const MAX_SPARSE_BITS: u32 = 18;
 pub const AHEAD: usize = 16;
 
 // How many bits number the buckets of a first index for so many items.
-fn bits_for(items: u32) -> u32 {
+fn bits_for(items: u32) -> u32
+    ensures sparse { 1 ≤ items → 4 * items ≤ 2 ^ MAX_SPARSE_BITS → (4 * items ≤ 2 ^ result) × (2 ^ result < 8 * items) }
+    ensures dense { 2 ^ MAX_SPARSE_BITS < 4 * items → (2 * items ≤ 2 ^ result) × (2 ^ result < 4 * items) }
+{
     let bits = u32::wrapping_sub(33, items.wrapping_sub(1).leading_zeros());
     if bits < MAX_SPARSE_BITS {
         bits + 1

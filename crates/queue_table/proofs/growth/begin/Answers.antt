@@ -9,12 +9,12 @@ use Rattle.queue_table.proofs.growth.begin.Goals as goal
 pub returns-clause-held : goal.returns-clause-held
 returns-clause-held c =
     let four = c.in_ok-first.ensures.len in
-    let some = sixteen c.first_bits-bits.result c.first_bits-bits.ensures.0 in
+    let some = sixteen c.first_bits-bits.result c.first_bits-bits.ensures.range.0 in
     let room : length c.in_ok-first.first.items ≤ capacity c.in_ok-index.field-0.bits = rw c.in_ok-index.ensures.bits (omega (arith, four, some)) in
     held-first c.in_ok-first.first.items c.in_ok-index.field-0 c.in_ok-first.ensures.queued (c.in_ok-index.ensures.empty _) room
 
 pub returns-clause-load : goal.returns-clause-load
-returns-clause-load c = first_loaded _ _ c.in_ok-first.ensures.len (omega (arith, c.in_ok-index.ensures.bits, c.first_bits-bits.ensures.0))
+returns-clause-load c = first_loaded _ _ c.in_ok-first.ensures.len (omega (arith, c.in_ok-index.ensures.bits, c.first_bits-bits.ensures.range.0))
 
 pub returns-clause-same : goal.returns-clause-same
 returns-clause-same c =
