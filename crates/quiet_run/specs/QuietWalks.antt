@@ -1,6 +1,6 @@
 -- The walk of worker 0 over one key where a round of maintenance comes after each, whatever the reports were answered.
 -- (This project's own: with it the concurrent cache is W-TinyLFU.)
-use Rattle.std.specs.Prelude.{◌≡◌, ℕ, ◌<◌, List, [], ◌∷◌, ◌++◌, length, map}
+use Rattle.std.specs.Prelude.{◌≡◌, ℕ, List, [], ◌∷◌, ◌++◌, length, map}
 use Rattle.step_record.specs.declared.entry.Entry.{Entry}
 use Rattle.step_record.specs.declared.outcome.Outcome.{Outcome}
 use Rattle.step_record.specs.declared.outcome.Outcome.TheVariants.{Kept}
@@ -9,12 +9,13 @@ use Rattle.step_record.specs.declared.step.Reply.{Reply}
 use Rattle.step_record.specs.declared.step.Reply.TheVariants as reply
 use Rattle.step_record.specs.declared.step.Step.{Step}
 use Rattle.step_record.specs.History.{Entries}
+use Rattle.journal.specs.declared.fault.SessionFault.TheVariants as cause
 use Rattle.quiet_run.specs.declared.run.QuietFault.{QuietFault}
 use Rattle.quiet_run.specs.declared.run.QuietFault.TheVariants as fault
 use Rattle.walks.specs.Walks.{IsWalk}
 use Rattle.quiet_run.specs.Outcomes.{outcome_from}
 use Rattle.walks.specs.WorkerEntries.{IsUnfinished}
-use Rattle.quiet_run.specs.Settle.{ShellSession, AddsSteps}
+use Rattle.quiet_run.specs.Settle.{ShellSession, AddsSteps, IsRefusalCause}
 
 -- A round follows every report, whatever its reply: its Go is taken for a Drain.
 abbrev pub reply_with_round : Reply → Reply
@@ -46,11 +47,10 @@ module _ (n : ℕ) where
 abbrev pub BeginQuietWalks : ℕ → List ℕ → Entries → Type 0
 BeginQuietWalks n ks es = (os : List Outcome) × IsUnfinished (AreQuietWalks n ks os) es
 
--- The first steps of the walks, of which the fault says how many they are; none where the maintenance was held. A full
--- journal is named where the journal is full, and only there.
+-- The first steps of the walks, of which the fault says how many they are; none where the maintenance was held.
 abbrev pub LeavesQuietFault : ℕ → List ℕ → ShellSession → ShellSession → QuietFault → Type 0
 LeavesQuietFault n ks old new (fault.OutOfMemory done) =
-    AddsSteps (λ es. BeginQuietWalks n ks es × (done ≡ length es)) old new × (length new.kept < new.limit)
+    AddsSteps (λ es. BeginQuietWalks n ks es × (done ≡ length es)) old new × IsRefusalCause cause.OutOfMemory new
 LeavesQuietFault n ks old new (fault.JournalFull done) =
-    AddsSteps (λ es. BeginQuietWalks n ks es × (done ≡ length es)) old new × (length new.kept ≡ new.limit)
+    AddsSteps (λ es. BeginQuietWalks n ks es × (done ≡ length es)) old new × IsRefusalCause cause.JournalFull new
 LeavesQuietFault n ks old new fault.Held = AddsSteps (λ es. es ≡ []) old new

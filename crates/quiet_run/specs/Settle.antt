@@ -8,10 +8,10 @@ use Rattle.step_record.specs.declared.drain.Phase.{Phase}
 use Rattle.step_record.specs.declared.drain.Phase.TheVariants.{Reads, Writes, Evictions}
 use Rattle.step_record.specs.History.{Entries, tail_after}
 use Rattle.journal.specs.Session.{SessionState}
+use Rattle.journal.specs.declared.fault.SessionFault.{SessionFault}
+use Rattle.journal.specs.declared.fault.SessionFault.TheVariants.{OutOfMemory, JournalFull, NotNow}
 use Rattle.shell_model.specs.declared.holder.Holder.{Holder}
 use Rattle.shell_model.specs.Shell.{Shell}
-use Rattle.quiet_run.specs.declared.round.Refusal.{Refusal}
-use Rattle.quiet_run.specs.declared.round.Refusal.TheVariants as refusal
 use Rattle.quiet_run.specs.declared.round.SettleFault.{SettleFault}
 use Rattle.quiet_run.specs.declared.round.SettleFault.TheVariants as fault
 use Rattle.walks.specs.WalkPlaces.{phase_act}
@@ -54,11 +54,13 @@ abbrev pub steps_before : SettleFault → ℕ
 steps_before (fault.OutOfMemory n) = n
 steps_before (fault.JournalFull n) = n
 
--- a full journal is what is named where the journal is full, and only there
-abbrev pub IsRefusalCause : Refusal → ShellSession → Type 0
-IsRefusalCause refusal.OutOfMemory s = length s.kept < s.limit
-IsRefusalCause refusal.JournalFull s = length s.kept ≡ s.limit
+-- why a step was refused that the shell takes: it is not that the shell does not, and a full journal is what is named
+-- where the journal is full, and only there
+abbrev pub IsRefusalCause : SessionFault → ShellSession → Type 0
+IsRefusalCause OutOfMemory s = length s.kept < s.limit
+IsRefusalCause JournalFull s = length s.kept ≡ s.limit
+IsRefusalCause NotNow s = ⊥
 
-abbrev pub IsFullAt : SettleFault → ShellSession → Type 0
-IsFullAt (fault.OutOfMemory n) s = length s.kept < s.limit
-IsFullAt (fault.JournalFull n) s = length s.kept ≡ s.limit
+abbrev pub cause_of : SettleFault → SessionFault
+cause_of (fault.OutOfMemory n) = OutOfMemory
+cause_of (fault.JournalFull n) = JournalFull

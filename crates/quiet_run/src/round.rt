@@ -1,20 +1,15 @@
 //! Finishing the maintenance that a worker holds.
-ghost use Rattle.std.specs.Prelude.{◌≡◌, ◌≤◌, ℕ, None, Some, Err, IsSome, IfOk, IfErr, OnOk, OnErr, length};
-ghost use Rattle.std.specs.Prelude.{◌∷◌, ◌++◌, []};
-ghost use Rattle.journal.specs.Session.{IsSameSession};
-ghost use Rattle.shell_model.specs.Shell.{act_reply, act as acted};
+ghost use Rattle.std.specs.Prelude.{◌≡◌, ◌≢◌, ℕ, None, Some, IfOk, IfErr, OnOk, OnErr, length};
 ghost use Rattle.shell_model.specs.ReachableShell.{IsReachable, worker_of};
-ghost use Rattle.walks.specs.Walks.{step_of};
 ghost use Rattle.walks.specs.NextActs.{IsAheadOf};
 ghost use Rattle.quiet_run.specs.Outcomes.{outcome_with_reply, outcome_from};
 ghost use Rattle.walks.specs.WorkerEntries.{IsUnfinished};
-ghost use Rattle.quiet_run.specs.Settle.{AddsSteps, IsAtStart, IsRest, BeginsRest, steps_before};
-ghost use Rattle.quiet_run.specs.Settle.{IsRefusalCause, IsFullAt};
+ghost use Rattle.quiet_run.specs.Settle.{AddsSteps, IsAtStart, IsRefusalCause, IsRest, BeginsRest, cause_of, steps_before};
 ghost use Rattle.quiet_run.specs.QuietWalks.{reply_with_round, with_rounds};
 
 use journal::{Session, SessionFault};
 use maintenance::Shell;
-use step_record::{Act, Outcome, Reply, Step, Worker};
+use step_record::{Outcome, Reply, Step};
 use thiserror::Error;
 use walks::{Local, Next, next_step};
 
@@ -45,7 +40,7 @@ pub fn settle(session: &mut Session<Shell>) -> Result<u64, SettleFault>
         BeginsRest session.old.engine.config.stripes session.old.engine.holder es × (steps_before f ≡ length es))
         session.old session.new) }
     ensures held { OnErr result (worker_of session.new.engine.holder ≡ worker_of session.old.engine.holder) }
-    ensures cause { IfErr result (λ f. IsFullAt f session.new) }
+    ensures cause { IfErr result (λ f. IsRefusalCause (cause_of f) session.new) }
 {
     let Some(holder) = session.engine().holder() else {
         return Ok(0);
@@ -55,29 +50,31 @@ pub fn settle(session: &mut Session<Shell>) -> Result<u64, SettleFault>
     let local = Local::resume(holder.0, stripes, holder.1);
     match finish_walk(session, local, Outcome::Kept) {
         Ok(_) => Ok((session.len() - before) as u64),
-        Err(Refusal::OutOfMemory) => Err(SettleFault::OutOfMemory {
-            done: (session.len() - before) as u64,
-        }),
-        Err(Refusal::JournalFull) => Err(SettleFault::JournalFull {
-            done: (session.len() - before) as u64,
-        }),
+        Err(fault) => Err(settle_fault(fault, (session.len() - before) as u64)),
     }
 }
 
-// Why a session refused a step that its shell takes.
-#[derive(Clone, Copy)]
-pub(crate) enum Refusal {
-    OutOfMemory,
-    JournalFull,
+// The fault after so many steps.
+fn settle_fault(fault: SessionFault, done: u64) -> SettleFault
+    requires { fault ≢ SessionFault.NotNow }
+    ensures cause { cause_of result ≡ fault }
+    ensures steps { steps_before result ≡ done }
+{
+    match fault {
+        SessionFault::OutOfMemory => SettleFault::OutOfMemory { done },
+        SessionFault::JournalFull => SettleFault::JournalFull { done },
+        SessionFault::NotNow => unreachable!(),
+    }
 }
 
 // Makes a walk from where its worker stands to its end, with a round after every report, whatever its reply, and
-// returns the outcome with the key that was hit or evicted.
+// returns the outcome with the key that was hit or evicted. The shell takes each of its steps, so none is refused as
+// `NotNow`.
 pub(crate) fn finish_walk(
     session: &mut Session<Shell>,
     local: Local,
     start: Outcome,
-) -> Result<Outcome, Refusal>
+) -> Result<Outcome, SessionFault>
     requires reached { IsReachable session.old.engine }
     requires stripes { length session.old.engine.stripes ≡ local.stripes }
     requires place { IsAtStart session.old.engine.holder local.worker local.act }
@@ -98,7 +95,7 @@ pub(crate) fn finish_walk(
     let mut outcome = start;
     let mut next = next_step(local, None);
     while let Next::Do(act, at) = next {
-        let reply = make_step(session, worker, act)?;
+        let reply = session.step(Step { worker, act })?;
         outcome = outcome_with(outcome, reply);
         next = next_step(at, Some(with_round(reply)));
     }
@@ -112,28 +109,6 @@ fn with_round(reply: Reply) -> Reply
     match reply {
         Reply::Go => Reply::Drain,
         _ => reply,
-    }
-}
-
-// Makes a step that the shell takes.
-fn make_step(session: &mut Session<Shell>, worker: Worker, act: Act) -> Result<Reply, Refusal>
-    requires { IsSome (act_reply worker act session.old.engine) }
-    ensures opening { session.new.opening ≡ session.old.opening }
-    ensures limit { session.new.limit ≡ session.old.limit }
-    ensures ok { IfOk result (λ r. session.new.kept
-        ≡ session.old.kept ++ record { step = step_of worker act; reply = r } ∷ []) }
-    ensures tail { OnOk result (session.new.tail ≡ []) }
-    ensures accepted { IfOk result (λ r. acted session.old.engine (step_of worker act) ≡ Some (r, session.new.engine)) }
-    ensures err { OnErr result (IsSameSession (λ x. x) session.old session.new) }
-    ensures same { OnErr result (session.new.engine ≡ session.old.engine) }
-    ensures cause { IfErr result (λ f. IsRefusalCause f session.new) }
-    ensures room { length session.new.kept ≤ session.new.limit }
-{
-    match session.step(Step { worker, act }) {
-        Ok(reply) => Ok(reply),
-        Err(SessionFault::OutOfMemory) => Err(Refusal::OutOfMemory),
-        Err(SessionFault::JournalFull) => Err(Refusal::JournalFull),
-        Err(SessionFault::NotNow) => unreachable!(),
     }
 }
 

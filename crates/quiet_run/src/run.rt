@@ -13,8 +13,8 @@ ghost use Rattle.quiet_run.specs.Settle.{AddsSteps, IsRefusalCause};
 ghost use Rattle.quiet_run.specs.QuietWalks.{AreQuietWalks, BeginQuietWalks, IsQuietWalk, LeavesQuietFault};
 ghost use Rattle.quiet_run.specs.QuietRuns.{QuietGoesOn, IsPolicysRun};
 
-use super::round::{Refusal, finish_walk};
-use journal::Session;
+use super::round::finish_walk;
+use journal::{Session, SessionFault};
 use maintenance::Shell;
 use std::alloc::Global;
 use step_record::{Call, Key, Outcome, Worker};
@@ -63,33 +63,29 @@ pub fn run_quiet(
     ensures err { IfErr result (LeavesQuietFault session.old.engine.config.stripes keys.now session.old session.new) }
     ensures held { result ≡ Err QuietFault.Held ↔ IsSome session.old.engine.holder }
 {
-    let Some(worker) = Worker::new(0) else {
-        unreachable!();
-    };
     if session.engine().holder().is_some() {
         return Err(QuietFault::Held);
     }
     let stripes = session.engine().stripes();
     let before = session.len();
     let mut outcomes = Vec::new(alloc);
-    let ended = access_all(session, worker, stripes, keys, &mut outcomes);
+    let ended = access_all(session, stripes, keys, &mut outcomes);
     let done = (session.len() - before) as u64;
     match ended {
         Ok(()) => Ok(outcomes),
-        Err(Refusal::OutOfMemory) => Err(QuietFault::OutOfMemory { done }),
-        Err(Refusal::JournalFull) => Err(QuietFault::JournalFull { done }),
+        Err(SessionFault::OutOfMemory) => Err(QuietFault::OutOfMemory { done }),
+        Err(SessionFault::JournalFull) => Err(QuietFault::JournalFull { done }),
+        Err(SessionFault::NotNow) => unreachable!(),
     }
 }
 
 // Accesses the keys in order, each with a round after it, and lists their outcomes.
 fn access_all(
     session: &mut Session<Shell>,
-    worker: Worker,
     stripes: u8,
     keys: &[Key],
     outcomes: &mut Vec<Outcome>,
-) -> Result<(), Refusal>
-    requires worker { worker ≡ 0 }
+) -> Result<(), SessionFault>
     requires reached { IsReachable session.old.engine }
     requires stripes { length session.old.engine.stripes ≡ stripes }
     requires range { (1 ≤ stripes) × (stripes ≤ MAX_STRIPES) }
@@ -104,32 +100,26 @@ fn access_all(
 {
     for key in keys {
         if outcomes.reserve(1).is_err() {
-            return Err(refusal_without_memory(session));
+            return Err(fault_without_room(session));
         }
-        let outcome = quiet_key(session, worker, stripes, *key)?;
+        let outcome = quiet_key(session, stripes, *key)?;
         outcomes.push_reserved(outcome);
     }
     Ok(())
 }
 
 // Why no key is accessed where there is no memory for its outcome: a full journal is found before that.
-fn refusal_without_memory(session: &Session<Shell>) -> Refusal
+fn fault_without_room(session: &Session<Shell>) -> SessionFault
     ensures { IsRefusalCause result session.now }
 {
     if session.is_full() {
-        return Refusal::JournalFull;
+        return SessionFault::JournalFull;
     }
-    Refusal::OutOfMemory
+    SessionFault::OutOfMemory
 }
 
 // Accesses a key, with a round of maintenance after it.
-fn quiet_key(
-    session: &mut Session<Shell>,
-    worker: Worker,
-    stripes: u8,
-    key: Key,
-) -> Result<Outcome, Refusal>
-    requires worker { worker ≡ 0 }
+fn quiet_key(session: &mut Session<Shell>, stripes: u8, key: Key) -> Result<Outcome, SessionFault>
     requires reached { IsReachable session.old.engine }
     requires stripes { length session.old.engine.stripes ≡ stripes }
     requires range { (1 ≤ stripes) × (stripes ≤ MAX_STRIPES) }
@@ -144,6 +134,13 @@ fn quiet_key(
     ensures err { OnErr result (AddsSteps (IsUnfinished (IsQuietWalk stripes key)) session.old session.new) }
     ensures cause { IfErr result (λ f. IsRefusalCause f session.new) }
 {
-    let local = Local::start(worker, stripes, Call::Read(key));
+    let local = Local::start(first_worker(), stripes, Call::Read(key));
     finish_walk(session, local, Outcome::Kept)
+}
+
+// The worker that makes the accesses.
+fn first_worker() -> Worker
+    ensures { result ≡ 0 }
+{
+    Worker::new(0).unwrap()
 }

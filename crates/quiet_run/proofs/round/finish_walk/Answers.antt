@@ -1,14 +1,44 @@
-use Rattle.std.proofs.Common.{◌≡◌, true, length, refl, sym, ap, subst, ◌∙◌}
+use Rattle.std.proofs.Common.{◌≡◌, ◌≢◌, ◌≤◌, ◌<◌, ◌↔◌, ℕ, true, IsSome, Option, Some, None, Result, Ok, Err, IfErr, length, refl, sym, ap, subst, ◌∙◌, arith}
+use Rattle.std.specs.Prelude.{IsErrAnd}
+use Rattle.std.proofs.lemmas.Bool.{lt-ltb}
+use Rattle.step_record.specs.declared.limits.TheConstants.{MAX_STEPS}
+use Rattle.step_record.specs.declared.step.Act.{Act}
 use Rattle.step_record.specs.declared.step.Reply.{Reply}
 use Rattle.step_record.specs.Answers.{is_answer}
-use Rattle.shell_model.specs.Shell.{Shell}
+use Rattle.journal.specs.declared.fault.SessionFault.{SessionFault}
+use Rattle.journal.specs.declared.fault.SessionFault.TheVariants.{OutOfMemory, JournalFull, NotNow}
+use Rattle.shell_model.specs.declared.record.Change.{Change}
+use Rattle.shell_model.specs.Shell.{Shell, act, act_reply, counted_reply, with_shell}
 use Rattle.shell_model.proofs.Engines.{answers_law}
 use Rattle.walks.specs.Walks.{step_of}
 use Rattle.quiet_run.specs.Outcomes.{outcome_with_reply}
+use Rattle.quiet_run.specs.Settle.{ShellSession, IsRefusalCause}
 use Rattle.walks.proofs.Walking.{asked_of, asks_on, on_err, answered}
 use Rattle.quiet_run.proofs.Alone.{alone_first, alone_next, alone_takes, alone_over, holds_first, holds_next, holds_now, round_answers, goes_on, goes_over, goes_begun}
 use Rattle.quiet_run.proofs.Adding.{adds_none, adds_more, adds_same, told_last}
 use Rattle.quiet_run.proofs.round.finish_walk.Goals as goal
+
+takes : (x : Shell) (o : Option (Reply × Change)) → IsSome o → counted_reply (with_shell x o) ≡ None → ⊥
+takes x None some none = absurd (cc some)
+takes x (Some p) some none = absurd (cc none)
+
+-- an error that a `?` hands on
+err_is : {X Y : Type 0} (P : Y → Type 0) (r : Result X Y) (e : Y) → IsErrAnd r (λ f. f ≡ e) → P e → IfErr r P
+err_is P (Ok x) e h p = absurd h
+err_is P (Err f) e h p = subst P (sym h) p
+
+-- why a session refuses a step that its shell takes
+refusal_cause : (r : Result Reply SessionFault) (f : SessionFault) → r ≡ Err f → (w : ℕ) (a : Act) (old new : ShellSession) → IsSome (act_reply w a old.engine)
+    → new.kept ≡ old.kept → new.limit ≡ old.limit → length new.kept ≤ new.limit
+    → (r ≡ Err JournalFull ↔ length old.kept ≡ old.limit) → (r ≡ Err NotNow → (act old.engine (step_of w a) ≡ None) × (old.engine.applied < MAX_STEPS)) → IsRefusalCause f new
+refusal_cause r OutOfMemory is w a old new some kept limit within full not_now =
+    let room : length old.kept ≢ old.limit = λ e. cc (full.1 e) in
+    let long = ap (λ es. length es) kept in
+    omega arith
+refusal_cause r JournalFull is w a old new some kept limit within full not_now = ap (λ es. length es) kept ∙ full.0 is ∙ sym limit
+refusal_cause r NotNow is w a old new some kept limit within full not_now =
+    let refused = not_now is in
+    takes old.engine (act_reply w a old.engine) some (rw (lt-ltb old.engine.applied MAX_STEPS refused.1) at refused.0)
 
 pub loop-next-init : goal.loop-next-init
 loop-next-init c = record {
@@ -21,16 +51,21 @@ loop-next-init c = record {
   holds = holds_first c.next_step-next.result c.args.session.now.engine;
 }
 
-pub make_step-requires : goal.make_step-requires
-make_step-requires c = alone_takes c.args.local.worker c.args.local.stripes c.loop-next.next c.in-Do.act c.in-Do.at c.loop-next.session.engine c.in-Do.is c.loop-next.invariant.alone
-
 pub returns-in_err-reply-clause-err : goal.returns-in_err-reply-clause-err
 returns-in_err-reply-clause-err c = on_err _ _
     (adds_same _ _ _ c.loop-next.session _ c.loop-next.invariant.adds c.in_err-reply.ensures.err.kept c.in_err-reply.ensures.err.tail
     (λ es h. goes_begun c.args.local c.loop-next.next c.in-Do.act c.in-Do.at c.in-Do.is es h.0))
 
 pub returns-in_err-reply-clause-held : goal.returns-in_err-reply-clause-held
-returns-in_err-reply-clause-held c = on_err _ _ (holds_now c.args.session.now.engine.holder c.loop-next.next c.in-Do.act c.in-Do.at c.loop-next.session.engine _ c.in-Do.is c.loop-next.invariant.holds c.in_err-reply.ensures.same)
+returns-in_err-reply-clause-held c = on_err _ _ (holds_now c.args.session.now.engine.holder c.loop-next.next c.in-Do.act c.in-Do.at c.loop-next.session.engine _ c.in-Do.is c.loop-next.invariant.holds c.in_err-reply.ensures.err.shown)
+
+pub returns-in_err-reply-clause-cause : goal.returns-in_err-reply-clause-cause
+returns-in_err-reply-clause-cause c =
+    let some = alone_takes c.args.local.worker c.args.local.stripes c.loop-next.next c.in-Do.act c.in-Do.at c.loop-next.session.engine c.in-Do.is c.loop-next.invariant.alone in
+    let refused = c.in_err-reply.ensures in
+    let cause : IsRefusalCause c.in_err-reply.field-0.0 c.step.new.self =
+    refusal_cause _ c.in_err-reply.field-0.0 refl c.args.local.worker c.in-Do.act c.loop-next.session c.step.new.self some refused.err.kept refused.err.limit (omega (arith, refused.sound.room)) refused.full refused.not_now in
+    err_is _ c.from_residual.result _ c.from_residual.ensures.1 cause
 
 pub next_step-next-requires-in-Do : goal.next_step-next-requires-in-Do
 next_step-next-requires-in-Do c =
@@ -70,4 +105,4 @@ pub returns-clause-stripes : goal.returns-clause-stripes
 returns-clause-stripes c = c.loop-next.invariant.alone.1.own.stripes
 
 pub returns-in_err-reply-clause-stripes : goal.returns-in_err-reply-clause-stripes
-returns-in_err-reply-clause-stripes c = ap (λ (x : Shell). length x.stripes) c.in_err-reply.ensures.same ∙ c.loop-next.invariant.alone.1.own.stripes
+returns-in_err-reply-clause-stripes c = ap (λ (x : Shell). length x.stripes) c.in_err-reply.ensures.err.shown ∙ c.loop-next.invariant.alone.1.own.stripes

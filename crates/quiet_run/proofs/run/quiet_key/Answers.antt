@@ -14,12 +14,12 @@ finish_walk-requires-clause-place c =
 pub returns-clause-ok : goal.returns-clause-ok
 returns-clause-ok c =
     map_ok c.finish_walk.result _ _
-    (λ o m. adds_known _ _ _ _ m (λ es h. (subst (λ (v : ℕ). IsWalk v c.args.stripes (call.Read c.args.key) (with_rounds es)) c.requires.worker ((c.start-local.ensures.ahead (with_rounds es)).1 h.0), h.1)))
+    (λ o m. adds_known _ _ _ _ m (λ es h. (subst (λ (v : ℕ). IsWalk v c.args.stripes (call.Read c.args.key) (with_rounds es)) c.first_worker.ensures ((c.start-local.ensures.ahead (with_rounds es)).1 h.0), h.1)))
     c.finish_walk.ensures.ok
 
 pub returns-clause-err : goal.returns-clause-err
 returns-clause-err c =
     map_err c.finish_walk.result _ _
     (λ m. adds_known _ _ _ _ m
-    (λ es h. (h.0, h.1, subst (λ (v : ℕ). IsWalk v c.args.stripes (call.Read c.args.key) (with_rounds (es ++ h.0))) c.requires.worker ((c.start-local.ensures.ahead (with_rounds (es ++ h.0))).1 h.2))))
+    (λ es h. (h.0, h.1, subst (λ (v : ℕ). IsWalk v c.args.stripes (call.Read c.args.key) (with_rounds (es ++ h.0))) c.first_worker.ensures ((c.start-local.ensures.ahead (with_rounds (es ++ h.0))).1 h.2))))
     c.finish_walk.ensures.err
