@@ -36,7 +36,7 @@ point_named d _ ws = None
 unfoldable pub point_at : Dialect → Reads Breakpoint
 point_at d ws = command_name_at ws >>= λ n. point_named d n.0 n.1
 
--- a command; `part` is of the policies' debugger, `save` of the journal's
+-- a command; `window` and `part` are of the policies' debugger, `save` of the journal's
 abbrev pub command_named : Dialect → Name → Reads Command
 command_named d name.Step ws = number_at ws >>= λ n. Some (command.Step n.0, n.1)
 command_named d name.Back ws = number_at ws >>= λ n. Some (command.Back n.0, n.1)
@@ -45,6 +45,7 @@ command_named d name.Run ws = Some (command.Run, ws)
 command_named d name.Break ws = point_at d ws >>= λ b. Some (command.Break b.0, b.1)
 command_named d name.Clear ws = Some (command.Clear, ws)
 command_named d name.Show ws = Some (command.Show, ws)
+command_named Policies name.Window ws = Some (command.Window, ws)
 command_named Policies name.Part ws = Some (command.Own, ws)
 command_named Journal name.Save ws = Some (command.Own, ws)
 command_named d name.Quit ws = Some (command.Quit, ws)

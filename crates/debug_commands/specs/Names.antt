@@ -1,8 +1,8 @@
 -- The words of a command that are no numbers.
 use Rattle.std.specs.Prelude.{ℕ, List, Option, codes}
 use Rattle.debug_commands.specs.declared.grammar.Name.{Name}
-use Rattle.debug_commands.specs.declared.grammar.Name.TheVariants.{Step, Back, Goto, Run, Break, Clear, Show, Part}
-use Rattle.debug_commands.specs.declared.grammar.Name.TheVariants.{Save}
+use Rattle.debug_commands.specs.declared.grammar.Name.TheVariants.{Step, Back, Goto, Run, Break, Clear, Show}
+use Rattle.debug_commands.specs.declared.grammar.Name.TheVariants.{Window, Part, Save}
 use Rattle.debug_commands.specs.declared.grammar.Name.TheVariants.{Quit, Hit, Evict, Halve, Drop}
 use Rattle.debug_commands.specs.declared.grammar.TheConstants.{NAMES}
 use Rattle.streams.specs.Reads.{first_named}
@@ -15,6 +15,7 @@ command_spelling Run = codes "run"
 command_spelling Break = codes "break"
 command_spelling Clear = codes "clear"
 command_spelling Show = codes "show"
+command_spelling Window = codes "window"
 command_spelling Part = codes "part"
 command_spelling Save = codes "save"
 command_spelling Quit = codes "quit"

@@ -11,5 +11,7 @@ pub record TimelineData : Type 0 where
   pub facts : ℕ → StepFacts
   -- what `show` prints where n steps are made
   pub shown : ℕ → List ℕ
+  -- what `window` prints there, where the dialect has that command
+  pub window : ℕ → List ℕ
   -- what the dialect's own command prints there
   pub own : ℕ → List ℕ

@@ -30,16 +30,19 @@ pub enum Command {
     Clear,
     /// What is seen at the position.
     Show,
+    /// The sizes of the policies' windows at the position, in the one dialect that has it.
+    Window,
     /// The command that only this dialect has: `part` or `save`.
     Own,
     /// Ends the run.
     Quit,
 }
 
-/// Which of the two debuggers the commands are for. They differ by one command and one breakpoint.
+/// Which of the two debuggers the commands are for. They differ by a command and a breakpoint, and the first has one more
+/// command.
 #[derive(Clone, Copy)]
 pub enum Dialect {
-    /// Two policies over a trace: `part` and `break part`.
+    /// Two policies over a trace: `part`, `break part` and `window`.
     Policies,
     /// The journal of a concurrent cache: `save` and `break drop`.
     Journal,

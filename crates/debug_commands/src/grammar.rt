@@ -44,6 +44,7 @@ pub enum Name {
     Break,
     Clear,
     Show,
+    Window,
     Part,
     Save,
     Quit,
@@ -66,6 +67,7 @@ impl Name {
             Name::Break => b"break",
             Name::Clear => b"clear",
             Name::Show => b"show",
+            Name::Window => b"window",
             Name::Part => b"part",
             Name::Save => b"save",
             Name::Quit => b"quit",
@@ -89,6 +91,10 @@ fn named_command(dialect: Dialect, name: Name, words: &mut Words) -> Option<Comm
         Name::Break => Some(Command::Break(next_breakpoint(dialect, words)?)),
         Name::Clear => Some(Command::Clear),
         Name::Show => Some(Command::Show),
+        Name::Window => match dialect {
+            Dialect::Policies => Some(Command::Window),
+            Dialect::Journal => None,
+        },
         Name::Part => match dialect {
             Dialect::Policies => Some(Command::Own),
             Dialect::Journal => None,
@@ -168,7 +174,7 @@ impl<'a> Words<'a> {
 }
 
 // All names.
-const NAMES: [Name; 14] = [
+const NAMES: [Name; 15] = [
     Name::Step,
     Name::Back,
     Name::Goto,
@@ -176,6 +182,7 @@ const NAMES: [Name; 14] = [
     Name::Break,
     Name::Clear,
     Name::Show,
+    Name::Window,
     Name::Part,
     Name::Save,
     Name::Quit,

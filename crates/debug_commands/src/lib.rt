@@ -19,5 +19,5 @@ pub use command::{Command, Dialect, InputLine};
 pub use dialogue::{MAX_BREAKPOINTS, MAX_COMMAND_BYTES, answer_commands};
 pub use fault::DebugFault;
 pub use grammar::line;
-pub use text::{push_count, push_counts_line, push_pieces};
+pub use text::{push_count, push_counts_line, push_numbers_line, push_pieces};
 pub use timeline::Timeline;

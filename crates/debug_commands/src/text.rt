@@ -25,6 +25,21 @@ pub fn push_pieces(text: &mut Vec<u8>, pieces: &[&[u8]]) -> Result<(), AllocErro
     Ok(())
 }
 
+/// Adds numbers, each after a separator, and a line feed. The one error is that the allocation failed.
+pub fn push_numbers_line(
+    text: &mut Vec<u8>,
+    separator: &[u8],
+    numbers: &[u64],
+) -> Result<(), AllocError>
+    ensures { OnOk result (text.new.items
+        ≡ text.old.items ++ (flat_map (count_text separator.now) numbers.now ++ codes "\n")) }
+{
+    for number in numbers {
+        push_count(text, separator, *number)?;
+    }
+    text.extend_from_slice(b"\n")
+}
+
 /// Adds counts, each after its name, and a line feed. The one error is that the allocation failed.
 pub fn push_counts_line(text: &mut Vec<u8>, counts: &[(&[u8], u64)]) -> Result<(), AllocError>
     ensures { OnOk result (text.new.items

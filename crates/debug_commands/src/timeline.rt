@@ -71,6 +71,11 @@ pub trait Timeline {
         requires { IsUsable self.now }
         ensures { OnOk result (text.new.items ≡ text.old.items ++ (timeline self.now).shown (position self.now)) };
 
+    /// Adds what `window` prints, where the dialect has that command.
+    fn window(&self, text: &mut Vec<u8>) -> Result<(), AllocError>
+        requires { IsUsable self.now }
+        ensures { OnOk result (text.new.items ≡ text.old.items ++ (timeline self.now).window (position self.now)) };
+
     /// Adds what the dialect's own command prints.
     fn own(&self, alloc: Global, text: &mut Vec<u8>) -> Result<(), AllocError>
         requires { IsUsable self.now }

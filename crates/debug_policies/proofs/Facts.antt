@@ -1,5 +1,5 @@
 -- What two policies show together.
-use Rattle.std.proofs.Common.{◌≡◌, ◌≢◌, ◌∙◌, ◌<◌, ◌+◌, ℕ, zero, suc, Bool, true, false, Option, Some, None, Result, Ok, Err, List, [], ◌∷◌, length, get_or, refl, ap, sym, subst, arith}
+use Rattle.std.proofs.Common.{◌≡◌, ◌≢◌, ◌∙◌, ◌<◌, ◌+◌, ℕ, zero, suc, Bool, true, false, Option, Some, None, Result, Ok, Err, List, [], ◌∷◌, ◌++◌, length, get_or, refl, ap, sym, subst, arith}
 use Rattle.std.specs.Prelude.{is_err, OnOk, OnErr, IfSome, IfErr}
 use Rattle.streams.specs.Part.{AppendsPart}
 use Rattle.step_record.specs.declared.config.ConfigFault.{ConfigFault}
@@ -15,15 +15,21 @@ use Rattle.policies.specs.FaultyJobs.{config_or}
 use Rattle.debug_policies.specs.ConfigFault.{ReturnsConfig, UntouchedAtConfig}
 use Rattle.debug_policies.specs.OnePolicy.{OnePolicyState}
 use Rattle.debug_policies.specs.Part.{IsPart}
-use Rattle.debug_policies.specs.TwoPolicies.{first_parting, just_one}
+use Rattle.debug_policies.specs.TwoPolicies.{first_parting, just_one, IsPartWalk}
+use Rattle.debug_commands.proofs.Results.{at_success}
+use Rattle.debug_policies.proofs.Texts.{piece}
 
--- ---- the facts of an access
+-- ---- what both add to a text
 
--- what holds of a policy at its place holds at this one
-pub at_place : {A : Type 0} (f : Job → List ℕ → ℕ → A) (w : OnePolicyState) (j : Job) (trace : List ℕ) (n : ℕ) → w.job ≡ j → w.trace ≡ trace → w.at ≡ n
-    → f w.job w.trace w.at ≡ f j trace n
-at_place f w j trace n job same at =
-    ap (λ x. f x w.trace w.at) job ∙ ap (λ x. f j x w.at) same ∙ ap (f j trace) at
+pub both_added : {E : Type 0} (r : Result (Unit {0}) E) (f g : Job → List ℕ → ℕ → List ℕ) (one other : OnePolicyState) (before mid last : List ℕ) → IsPartWalk one other
+    → mid ≡ before ++ f one.job one.trace one.at → OnOk r (last ≡ mid ++ g other.job other.trace other.at)
+    → OnOk r (last ≡ before ++ (f one.job one.trace one.at ++ g other.job one.trace one.at))
+both_added r f g one other before mid last is first second =
+    let a : List ℕ = f one.job one.trace one.at in
+    let b : List ℕ = g other.job one.trace one.at in
+    let there : g other.job other.trace other.at ≡ b = ap (λ x. g other.job x other.at) is.trace ∙ ap (g other.job one.trace) is.together in
+    at_success r (last ≡ mid ++ g other.job other.trace other.at) (last ≡ before ++ (a ++ b))
+    (λ k. piece before mid last a b first (k ∙ ap (λ x. mid ++ x) there)) second
 
 -- ---- where they part
 
@@ -69,22 +75,17 @@ part_is os ps (Some (suc i)) long h =
 
 -- ---- the debugger
 
-some_held : (known : Option (List ℕ)) (t u : TimelineData) (n : ℕ) (fits : Bool) (had has : Option (List ℕ)) (at : ℕ) → t ≡ u → n ≡ 0
+pub written_held : (known : Option (List ℕ)) (t u : TimelineData) (n : ℕ) (fits : Bool) (had has : Option (List ℕ)) (at : ℕ) → t ≡ u → n ≡ 0
     → IfSome known (λ bytes. WritesDialogue (dialogue_of t n bytes) fits had has at)
     → IfSome known (λ bytes. (x : ℕ) × WritesDialogue (dialogue_of u 0 bytes) fits had has x)
-some_held None t u n fits had has at same start h = tt
-some_held (Some xs) t u n fits had has at same start h =
+written_held None t u n fits had has at same start h = tt
+written_held (Some xs) t u n fits had has at same start h =
     (at, subst (λ k. WritesDialogue (dialogue_of u k xs) fits had has at) start (subst (λ x. WritesDialogue (dialogue_of x n xs) fits had has at) same h))
-
-pub large_held : (known : Option (List ℕ)) (t u : TimelineData) (n : ℕ) (fits : Bool) (had has : Option (List ℕ)) (at : ℕ) → t ≡ u → n ≡ 0
-    → IfSome known (λ bytes. WritesDialogue (dialogue_of t n bytes) fits had has at)
-    → IfSome known (λ bytes. (x : ℕ) × WritesDialogue (dialogue_of u 0 bytes) fits had has x)
-large_held known t u n fits had has at same start h = some_held known t u n fits had has at same start h
 
 pub done_held : (r : Result (Unit {0}) DebugFault) (known : Option (List ℕ)) (t u : TimelineData) (n : ℕ) (fits : Bool) (had has : Option (List ℕ)) (at : ℕ) → t ≡ u
     → n ≡ 0 → OnOk r (IfSome known (λ bytes. WritesDialogue (dialogue_of t n bytes) fits had has at))
     → OnOk r (IfSome known (λ bytes. (x : ℕ) × WritesDialogue (dialogue_of u 0 bytes) fits had has x))
-done_held (Ok x) known t u n fits had has at same start h = some_held known t u n fits had has at same start h
+done_held (Ok x) known t u n fits had has at same start h = written_held known t u n fits had has at same start h
 done_held (Err e) known t u n fits had has at same start h = tt
 
 -- so a beginning of it

@@ -31,6 +31,7 @@ steps_take (suc n) (e ∷ es) = ap (λ t. e.step ∷ t) (steps_take n es)
 pub unmoved : (j : Job) (trace : List ℕ) (old new : State) → IsPolicyAt j trace old → new.kept ≡ old.kept → new.engine ≡ old.engine
     → new.opening ≡ old.opening → new.limit ≡ old.limit → IsPolicyAt j trace new
 unmoved j trace old new is kept engine opening limit = record {
+  checked = is.checked;
   opening = subst (HasAccessed j trace []) (sym opening) is.opening;
   limit = limit ∙ is.limit;
   steps = subst (λ es. steps_of es ≡ take (length es) trace) (sym kept) is.steps;
@@ -53,6 +54,7 @@ one_more law j trace keys old new key o is same lt key_is made kept opening limi
     ap steps_of kept ∙ steps_append old.kept (record { step = key; reply = o } ∷ []) ∙ ap (λ l. l ++ key ∷ []) is.steps
     ∙ ap (λ k. take n trace ++ k ∷ []) at ∙ sym (take_more trace n 0 below) in
     record {
+      checked = is.checked;
       opening = subst (HasAccessed j trace []) (sym opening) is.opening;
       limit = limit ∙ is.limit;
       steps = next ∙ ap (λ k. take k trace) (sym long);
@@ -108,6 +110,7 @@ moved law j trace n old new is to le legal shows =
     let after_them : HasAccessed j trace (steps_of new.kept) (data_after any_act new.opening new.kept) =
     stands_after law j trace [] new.opening new.kept opening legal in
     record {
+      checked = is.checked;
       opening = opening;
       limit = to.limit ∙ is.limit;
       steps = steps ∙ ap (λ k. take k trace) (sym to.applied);

@@ -1,5 +1,5 @@
 -- What a cache shows is what the definition of its policy gives.
-use Rattle.std.proofs.Common.{◌≡◌, ◌∙◌, ◌≤◌, ℕ, true, List, length, take, refl, ap, sym}
+use Rattle.std.proofs.Common.{◌≡◌, ◌∙◌, ◌≤◌, ℕ, true, List, length, take, refl, ap, sym, subst}
 use Rattle.std.proofs.lemmas.List.{length-take-le}
 use Rattle.step_record.specs.declared.job.Job.{Job}
 use Rattle.adaptive_window.specs.AdaptiveCache.{AdaptiveCacheState}
@@ -17,6 +17,7 @@ use Rattle.policies.specs.QueueCache.{QueueState, frequency_after, state_after}
 use Rattle.policies.proofs.Reached.{after-frequency}
 use Rattle.demand_cache.specs.DemandQueues.{queues_residents}
 use Rattle.debug_policies.specs.OnePolicy.{age_in, age_by, residents_at, residents_by}
+use Rattle.debug_policies.specs.Window.{fixed_window, moving_window, window_by, window_in}
 
 -- ---- the age
 
@@ -66,3 +67,24 @@ shown_keys j trace n (Optimal d) le s =
     ∙ sym (residents-of-optimal (design_of j.policy) j trace n s.policy)
 shown_keys j trace n (Demand d) le s = ap queues_residents s.queues ∙ ap (λ x. residents_by x j trace n) (sym s.design)
 shown_keys j trace n (Adaptive d) le s = ap cache_residents s.gives ∙ ap (λ x. residents_by x j trace n) (sym s.design)
+
+-- ---- the window
+
+window-of-queues : (x : Design) (j : Job) (keys : List ℕ) → is_of_queues x ≡ true → fixed_window x j.config ≡ window_by x j keys
+window-of-queues (OfQueues q) j keys h = refl
+window-of-queues KnowsTrace j keys h = refl
+window-of-queues (OfDemand p) j keys h = refl
+window-of-queues OfAdaptive j keys h = absurd (cc (h))
+
+window-of-optimal : (x : Design) (j : Job) (keys : List ℕ) → is_optimal x ≡ true → fixed_window x j.config ≡ window_by x j keys
+window-of-optimal (OfQueues q) j keys h = refl
+window-of-optimal KnowsTrace j keys h = refl
+window-of-optimal (OfDemand p) j keys h = refl
+window-of-optimal OfAdaptive j keys h = absurd (cc (h))
+
+pub shown_window : (j : Job) (trace keys : List ℕ) (d : AnyPolicy) → HasAccessed j trace keys d → window_in d j ≡ window_by (design_of j.policy) j keys
+shown_window j trace keys (Queues d) s = window-of-queues (design_of j.policy) j keys s.0
+shown_window j trace keys (Optimal d) s = window-of-optimal (design_of j.policy) j keys s.policy
+shown_window j trace keys (Demand d) s = subst (λ x. fixed_window x j.config ≡ window_by x j keys) (sym s.design) refl
+shown_window j trace keys (Adaptive d) s =
+    ap (λ (x : AdaptiveCacheState). moving_window x.window) s.gives ∙ ap (λ x. window_by x j keys) (sym s.design)

@@ -4,10 +4,8 @@ use Rattle.std.specs.Prelude.{◌≡◌, ℕ, zero, suc, ◌+◌, ◌-◌, ◌*�
 use Rattle.std.specs.Prelude.{flat_map}
 use Rattle.std.specs.Prelude.{length, sum_by, take}
 use Rattle.step_record.specs.declared.job.Job.{Job}
-use Rattle.step_record.specs.Job.{word_of}
 use Rattle.policies.specs.AnyPolicy.{outcomes_on}
-use Rattle.debug_commands.specs.Texts.{count_text}
-use Rattle.debug_policies.specs.Comparison.{compared_on, counts_of, hits_beside}
+use Rattle.debug_policies.specs.Comparison.{compared_on, counts_of, hits_beside, pair_row}
 use Rattle.debug_policies.specs.declared.comparison.Comparison.{Comparison}
 use Rattle.debug_policies.specs.declared.compared_rows.ComparedInterval.{ComparedInterval}
 
@@ -81,13 +79,9 @@ pub record IsLater (before after : Comparison) : Type 0 where
 abbrev pub compared_header : List ℕ
 compared_header = codes "first,second,capacity,from,to,both,first_only,second_only,neither\n"
 
--- a row, whose capacity is that of the first job
 abbrev pub compared_row : Job → Job → ComparedInterval → List ℕ
-compared_row first second row = word_of first.policy ++ (codes "," ++ (word_of second.policy
-    ++ (count_text (codes ",") first.config.capacity ++ (count_text (codes ",") row.from
-    ++ (count_text (codes ",") row.to ++ (count_text (codes ",") row.counts.both
-    ++ (count_text (codes ",") row.counts.first_only ++ (count_text (codes ",") row.counts.second_only
-    ++ (count_text (codes ",") row.counts.neither ++ codes "\n")))))))))
+compared_row first second row = pair_row first second
+    (row.from ∷ row.to ∷ row.counts.both ∷ row.counts.first_only ∷ row.counts.second_only ∷ row.counts.neither ∷ [])
 
 -- the header, and the rows in their order
 abbrev pub compared_intervals_text : Job → Job → List ComparedInterval → List ℕ

@@ -1,5 +1,5 @@
 -- How often two policies hit at the same accesses of a trace.
-use Rattle.std.specs.Prelude.{ℕ, ◌+◌, ◌≤◌, Bool, not, ◌&&◌, List, ◌++◌, codes, count_by, length, map, zip}
+use Rattle.std.specs.Prelude.{ℕ, ◌+◌, ◌≤◌, Bool, not, ◌&&◌, List, [], ◌∷◌, ◌++◌, codes, count_by, flat_map, length, map, zip}
 use Rattle.step_record.specs.declared.job.Job.{Job}
 use Rattle.step_record.specs.declared.outcome.Outcome.{Outcome}
 use Rattle.step_record.specs.Job.{word_of}
@@ -52,13 +52,15 @@ pub record IsUpTo (n : ℕ) (c : Comparison) : Type 0 where
 
 -- ---- what is printed of it
 
-abbrev pub counts_text : Comparison → List ℕ
-counts_text c = count_text (codes ",") c.accesses ++ (count_text (codes ",") c.both
-    ++ (count_text (codes ",") c.first_only ++ (count_text (codes ",") c.second_only
-    ++ (count_text (codes ",") c.neither ++ codes "\n"))))
+-- a row of two jobs: their policies, the capacity of the first, and numbers
+abbrev pub pair_row : Job → Job → List ℕ → List ℕ
+pair_row first second numbers = word_of first.policy ++ (codes "," ++ (word_of second.policy
+    ++ (flat_map (count_text (codes ",")) (first.config.capacity ∷ numbers) ++ codes "\n")))
 
--- the header, and a row whose capacity is that of the first job
+abbrev pub comparison_header : List ℕ
+comparison_header = codes "first,second,capacity,accesses,both,first_only,second_only,neither\n"
+
+-- the header and the row
 abbrev pub comparison_text : Job → Job → Comparison → List ℕ
-comparison_text first second c = codes "first,second,capacity,accesses,both,first_only,second_only,neither\n"
-    ++ (word_of first.policy ++ (codes "," ++ (word_of second.policy
-    ++ (count_text (codes ",") first.config.capacity ++ counts_text c))))
+comparison_text first second c = comparison_header
+    ++ pair_row first second (c.accesses ∷ c.both ∷ c.first_only ∷ c.second_only ∷ c.neither ∷ [])

@@ -1,6 +1,7 @@
 pub mod Part
 pub mod CacheAccess
 pub mod TwoCaches
+pub mod Window
 pub mod OnePolicy
 pub mod TwoPolicies
 pub mod ConfigFault

@@ -1,7 +1,6 @@
 -- What the debugger sees of a policy over a trace once the first accesses are made: by the policy's definition.
-use Rattle.std.specs.Prelude.{◌≡◌, ℕ, zero, suc, ◌≤◌, Option, Some, None, List, ◌++◌, codes}
+use Rattle.std.specs.Prelude.{◌≡◌, ℕ, zero, suc, ◌≤◌, Option, Some, None, Ok, List, ◌++◌, codes}
 use Rattle.std.specs.Prelude.{length, map, slice_index_or, take, []}
-use Rattle.std.specs.Fmt.{decimal}
 use Rattle.std.specs.List.{flat_map}
 use Rattle.step_record.specs.declared.entry.Entry.{Entry}
 use Rattle.step_record.specs.declared.job.Job.{Job}
@@ -9,6 +8,7 @@ use Rattle.step_record.specs.declared.limits.TheConstants.{MAX_ACCESSES, MAX_JOU
 use Rattle.step_record.specs.declared.outcome.Outcome.{Outcome}
 use Rattle.step_record.specs.declared.outcome.Outcome.TheVariants.{Kept}
 use Rattle.step_record.specs.declared.stats.Stats.{Stats}
+use Rattle.step_record.specs.Config.{config_fault}
 use Rattle.step_record.specs.Job.{word_of}
 use Rattle.step_record.specs.Stats.{stats_of}
 use Rattle.admission.specs.Frequency.{FrequencyData}
@@ -71,11 +71,8 @@ counts_line label j s = label ++ (codes " " ++ (word_of j.policy
     ++ (count_text (codes " evictions ") s.evictions
     ++ (count_text (codes " rejections ") s.rejections ++ codes "\n"))))))
 
-abbrev pub spaced_key : ℕ → List ℕ
-spaced_key key = codes " " ++ decimal key
-
 abbrev pub holds_line : List ℕ → List ℕ → List ℕ
-holds_line label keys = label ++ (codes " holds" ++ (flat_map spaced_key keys ++ codes "\n"))
+holds_line label keys = label ++ (codes " holds" ++ (flat_map (count_text (codes " ")) keys ++ codes "\n"))
 
 abbrev pub policy_lines : List ℕ → Job → List ℕ → ℕ → List ℕ
 policy_lines label j trace n = counts_line label j (stats_at j trace n) ++ holds_line label (residents_at j trace n)
@@ -93,6 +90,7 @@ steps_of es = map (λ e. e.step) es
 
 -- the session began with no access made, and its applied steps are the first accesses of the trace
 pub record IsPolicyAt (j : Job) (trace : List ℕ) (s : SessionState AnyPolicy AnyPolicy ℕ Outcome) : Type 0 where
+  pub checked : config_fault j.config ≡ Ok tt
   pub opening : HasAccessed j trace [] s.opening
   pub limit : s.limit ≡ MAX_JOURNAL_LIMIT
   pub steps : steps_of s.kept ≡ take (length s.kept) trace

@@ -11,6 +11,7 @@ use Rattle.debug_commands.specs.declared.breakpoint.StepFacts.{StepFacts}
 use Rattle.debug_commands.specs.declared.command.Dialect.TheVariants.{Policies}
 use Rattle.debug_policies.specs.OnePolicy.{age_at, outcome_at, policy_lines, OnePolicyState}
 use Rattle.debug_policies.specs.Part.{part_line}
+use Rattle.debug_policies.specs.Window.{window_line}
 
 -- ---- what breakpoints look at
 
@@ -59,14 +60,12 @@ policies_timeline trace first second = record {
   end = length trace;
   facts = facts_at trace first second;
   shown = λ n. policy_lines (codes "a") first trace n ++ policy_lines (codes "b") second trace n;
+  window = λ n. window_line (codes "a") first trace n ++ window_line (codes "b") second trace n;
   own = λ n. part_line (first_parting 1 (outcomes_on first trace) (outcomes_on second trace));
 }
 
--- both policies are at the same place of the trace
-pub record IsPartWalk (trace : List ℕ) (first second : Job) (one other : OnePolicyState) : Type 0 where
-  pub one_job : one.job ≡ first
-  pub one_trace : one.trace ≡ trace
-  pub other_job : other.job ≡ second
-  pub other_trace : other.trace ≡ trace
+-- both policies are at the same place of one trace
+pub record IsPartWalk (one other : OnePolicyState) : Type 0 where
+  pub trace : other.trace ≡ one.trace
   pub together : other.at ≡ one.at
-  pub within : one.at ≤ length trace
+  pub within : one.at ≤ length one.trace

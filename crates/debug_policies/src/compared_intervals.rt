@@ -8,9 +8,8 @@ ghost use Rattle.debug_policies.specs.Comparison.{compared_on, hits_beside};
 ghost use Rattle.debug_policies.specs.TwoCaches.{OnOutcomes};
 
 use crate::compared_rows::{ComparedInterval, ComparedRows};
-use crate::comparison::Comparison;
+use crate::comparison::{Comparison, push_row};
 use crate::two_caches::TwoCaches;
-use debug_commands::{push_counts_line, push_pieces};
 use policies::ActorFault;
 use std::alloc::{AllocError, Global};
 use std::thread::Threads;
@@ -76,13 +75,13 @@ pub fn push_compared_intervals(
 {
     text.extend_from_slice(b"first,second,capacity,from,to,both,first_only,second_only,neither\n")?;
     for row in rows {
-        push_row(text, first, second, row)?;
+        push_interval(text, first, second, row)?;
     }
     Ok(())
 }
 
 // Adds a row. The one error is that an allocation failed.
-fn push_row(
+fn push_interval(
     text: &mut Vec<u8>,
     first: &Job,
     second: &Job,
@@ -90,24 +89,18 @@ fn push_row(
 ) -> Result<(), AllocError>
     ensures { OnOk result (text.new.items ≡ text.old.items ++ compared_row first.now second.now row.now) }
 {
-    push_pieces(
+    let counts = &row.counts;
+    push_row(
         text,
+        first,
+        second,
         &[
-            first.policy.word().as_bytes(),
-            b",",
-            second.policy.word().as_bytes(),
-        ],
-    )?;
-    push_counts_line(
-        text,
-        &[
-            (b",", u64::from(first.config.capacity)),
-            (b",", row.from),
-            (b",", row.to),
-            (b",", row.counts.both),
-            (b",", row.counts.first_only),
-            (b",", row.counts.second_only),
-            (b",", row.counts.neither),
+            row.from,
+            row.to,
+            counts.both,
+            counts.first_only,
+            counts.second_only,
+            counts.neither,
         ],
     )
 }

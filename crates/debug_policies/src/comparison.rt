@@ -1,9 +1,9 @@
 //! How often two policies hit at the same accesses.
 ghost use Rattle.std.specs.Prelude.{◌≡◌, ◌++◌, OnOk};
 ghost use Rattle.step_record.specs.declared.limits.TheConstants.{MAX_STEPS};
-ghost use Rattle.debug_policies.specs.Comparison.{comparison_text, counts_with, IsUpTo, no_counts};
+ghost use Rattle.debug_policies.specs.Comparison.{comparison_text, counts_with, IsUpTo, no_counts, pair_row};
 
-use debug_commands::{push_counts_line, push_pieces};
+use debug_commands::{push_count, push_numbers_line, push_pieces};
 use std::alloc::AllocError;
 use step_record::Job;
 
@@ -57,24 +57,35 @@ pub fn push_comparison(
 ) -> Result<(), AllocError>
     ensures { OnOk result (text.new.items ≡ text.old.items ++ comparison_text first.now second.now counts.now) }
 {
-    push_pieces(
-        text,
-        &[
-            b"first,second,capacity,accesses,both,first_only,second_only,neither\n",
-            first.policy.word().as_bytes(),
-            b",",
-            second.policy.word().as_bytes(),
-        ],
+    text.extend_from_slice(
+        b"first,second,capacity,accesses,both,first_only,second_only,neither\n",
     )?;
-    push_counts_line(
+    push_row(
         text,
+        first,
+        second,
         &[
-            (b",", u64::from(first.config.capacity)),
-            (b",", counts.accesses),
-            (b",", counts.both),
-            (b",", counts.first_only),
-            (b",", counts.second_only),
-            (b",", counts.neither),
+            counts.accesses,
+            counts.both,
+            counts.first_only,
+            counts.second_only,
+            counts.neither,
         ],
     )
+}
+
+/// Adds a row of two jobs: their policies, the capacity of the first, and numbers. The one error is that an allocation
+/// failed.
+pub(crate) fn push_row(
+    text: &mut Vec<u8>,
+    first: &Job,
+    second: &Job,
+    numbers: &[u64],
+) -> Result<(), AllocError>
+    ensures { OnOk result (text.new.items ≡ text.old.items ++ pair_row first.now second.now numbers.now) }
+{
+    let (word, other) = (first.policy.word(), second.policy.word());
+    push_pieces(text, &[word.as_bytes(), b",", other.as_bytes()])?;
+    push_count(text, b",", u64::from(first.config.capacity))?;
+    push_numbers_line(text, b",", numbers)
 }

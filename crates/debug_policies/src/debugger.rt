@@ -71,9 +71,6 @@ pub fn run_debug<T: Threads, R: CountedRead, W: CountedWrite>(
 #[derive(Drop)]
 struct TwoPolicies<'a, T> {
     rt: &'a T,
-    trace: &'a Trace,
-    first_job: Job,
-    second_job: Job,
     first: OnePolicy<'a>,
     second: OnePolicy<'a>,
 }
@@ -89,18 +86,15 @@ impl<'a, T: Threads> TwoPolicies<'a, T> {
     ) -> Result<TwoPolicies<'a, T>, AllocError>
         requires first { config_fault first.now.config ≡ Ok tt }
         requires second { config_fault second.now.config ≡ Ok tt }
-        ensures timeline { IfOk result (λ w. policies_timeline w.trace.now w.first_job w.second_job
+        ensures timeline { IfOk result (λ w. policies_timeline w.first.trace w.first.job w.second.job
             ≡ policies_timeline trace.now first.now second.now) }
         ensures start { IfOk result (λ w. w.first.at ≡ 0) }
-        ensures whole { IfOk result (λ w. IsPartWalk w.trace.now w.first_job w.second_job w.first w.second) }
+        ensures whole { IfOk result (λ w. IsPartWalk w.first w.second) }
     {
         let first_policy = OnePolicy::open(alloc, first, trace)?;
         match OnePolicy::open(alloc, second, trace) {
             Ok(second_policy) => Ok(TwoPolicies {
                 rt,
-                trace,
-                first_job: *first,
-                second_job: *second,
                 first: first_policy,
                 second: second_policy,
             }),
@@ -119,20 +113,20 @@ impl<'a, T: Threads> Timeline for TwoPolicies<'a, T> {
 
     ghost Source = { List ℕ × Job × Job };
 
-    ghost source = { λ w. (w.trace.now, w.first_job, w.second_job) };
+    ghost source = { λ w. (w.first.trace, w.first.job, w.second.job) };
 
-    ghost timeline = { λ w. policies_timeline w.trace.now w.first_job w.second_job };
+    ghost timeline = { λ w. policies_timeline w.first.trace w.first.job w.second.job };
 
     ghost position = { λ w. w.first.at };
 
-    ghost IsUsable = { λ w. IsPartWalk w.trace.now w.first_job w.second_job w.first w.second };
+    ghost IsUsable = { λ w. IsPartWalk w.first w.second };
 
     fn dialect(&self) -> Dialect {
         Dialect::Policies
     }
 
     fn end(&self) -> usize {
-        self.trace.len()
+        self.first.trace().len()
     }
 
     fn position(&self) -> usize {
@@ -150,7 +144,7 @@ impl<'a, T: Threads> Timeline for TwoPolicies<'a, T> {
     }
 
     fn next(&mut self) -> Result<StepFacts, AllocError> {
-        let key = self.trace.keys()[self.first.position()];
+        let key = self.first.trace().keys()[self.first.position()];
         let first_age = self.first.age();
         let second_age = self.second.age();
         let first = self.first.next()?;
@@ -165,15 +159,15 @@ impl<'a, T: Threads> Timeline for TwoPolicies<'a, T> {
         self.second.show(alloc, "b", text)
     }
 
+    fn window(&self, text: &mut Vec<u8>) -> Result<(), AllocError> {
+        self.first.show_window("a", text)?;
+        self.second.show_window("b", text)
+    }
+
     fn own(&self, alloc: Global, text: &mut Vec<u8>) -> Result<(), AllocError> {
         theorems::any_covers_trace();
-        match part(
-            self.rt,
-            alloc,
-            self.trace,
-            &self.first_job,
-            &self.second_job,
-        ) {
+        let (first, second) = (self.first.job(), self.second.job());
+        match part(self.rt, alloc, self.first.trace(), first, second) {
             Ok(found) => push_part(text, found),
             Err(_) => Err(AllocError),
         }

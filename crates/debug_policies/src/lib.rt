@@ -18,6 +18,7 @@ mod divergence;
 mod one_policy;
 pub mod theorems;
 mod two_caches;
+mod window;
 
 pub use cache_access::hit_at;
 pub use compared_intervals::{compare, compare_intervals, push_compared_intervals};

@@ -1,13 +1,14 @@
 //! One policy over a trace, in a session that goes back and forth.
-ghost use Rattle.std.specs.Prelude.{◌≡◌, ◌≢◌, ◌≤◌, ◌<◌, ◌+◌, ◌-◌, ◌++◌, Ok, Some, None, IfOk, OnOk, OnErr, []};
+ghost use Rattle.std.specs.Prelude.{◌≡◌, ◌≢◌, ◌≤◌, ◌<◌, ◌+◌, ◌-◌, ◌++◌, Ok, Some, None, IfOk, OnOk, OnErr, [], codes};
 ghost use Rattle.std.specs.Prelude.{◌∷◌, length};
-ghost use Rattle.std.specs.List.{flat_map};
 ghost use Rattle.step_record.specs.Config.{config_fault};
+ghost use Rattle.step_record.specs.Job.{word_of};
 ghost use Rattle.policies.specs.AnyStep.{any_act};
 ghost use Rattle.debug_policies.specs.OnePolicy.{age_at, counts_line, holds_line, outcome_at, policy_lines};
-ghost use Rattle.debug_policies.specs.OnePolicy.{spaced_key};
+ghost use Rattle.debug_policies.specs.Window.{window_at, window_line};
 
-use debug_commands::{push_count, push_counts_line, push_pieces};
+use crate::window::{Window, push_window, window_in};
+use debug_commands::{push_counts_line, push_numbers_line, push_pieces};
 use journal::{BackFault, Session, SessionFault};
 use policies::{AnyPolicy, theorems};
 use std::alloc::{AllocError, Global};
@@ -47,6 +48,20 @@ impl<'a> OnePolicy<'a> {
             trace,
             session: Session::open(alloc, cache, MAX_JOURNAL_LIMIT as usize),
         })
+    }
+
+    /// What it runs.
+    pub fn job(&self) -> &Job
+        ensures { result.now ≡ self.now.job }
+    {
+        &self.job
+    }
+
+    /// What it goes over.
+    pub fn trace(&self) -> &'a Trace
+        ensures { result.now ≡ self.now.trace }
+    {
+        self.trace
     }
 
     /// How many accesses are made.
@@ -110,6 +125,22 @@ impl<'a> OnePolicy<'a> {
         }
     }
 
+    /// Its window.
+    pub fn window(&self) -> Window
+        ensures { result ≡ window_at self.now.job self.now.trace self.now.at }
+    {
+        window_in(self.session.engine(), &self.job)
+    }
+
+    /// Adds the line of its window. The one error is that an allocation failed.
+    pub fn show_window(&self, label: &'static str, text: &mut Vec<u8>) -> Result<(), AllocError>
+        ensures { OnOk result (text.new.items
+            ≡ text.old.items ++ window_line label.now self.now.job self.now.trace self.now.at) }
+    {
+        push_policy(text, label, self.job())?;
+        push_window(text, self.window())
+    }
+
     /// Adds the lines that show it. The one error is that an allocation failed.
     pub fn show(
         &self,
@@ -145,6 +176,15 @@ fn make(session: &mut Session<AnyPolicy>, key: Key) -> Result<Outcome, AllocErro
     }
 }
 
+// Adds the label and the policy, with which a line begins.
+fn push_policy(text: &mut Vec<u8>, label: &'static str, job: &Job) -> Result<(), AllocError>
+    ensures { OnOk result (text.new.items
+        ≡ text.old.items ++ (label.now ++ (codes " " ++ word_of job.now.policy))) }
+{
+    let word = job.policy.word();
+    push_pieces(text, &[label.as_bytes(), b" ", word.as_bytes()])
+}
+
 // Adds the line of the counts.
 fn push_counts(
     text: &mut Vec<u8>,
@@ -154,10 +194,7 @@ fn push_counts(
 ) -> Result<(), AllocError>
     ensures { OnOk result (text.new.items ≡ text.old.items ++ counts_line label.now job.now stats.now) }
 {
-    push_pieces(
-        text,
-        &[label.as_bytes(), b" ", job.policy.word().as_bytes()],
-    )?;
+    push_policy(text, label, job)?;
     push_counts_line(
         text,
         &[
@@ -174,16 +211,5 @@ fn push_holds(text: &mut Vec<u8>, label: &'static str, keys: &[Key]) -> Result<(
     ensures { OnOk result (text.new.items ≡ text.old.items ++ holds_line label.now keys.now) }
 {
     push_pieces(text, &[label.as_bytes(), b" holds"])?;
-    push_keys(text, keys)?;
-    text.extend_from_slice(b"\n")
-}
-
-// Adds keys, each with a space before it.
-fn push_keys(text: &mut Vec<u8>, keys: &[Key]) -> Result<(), AllocError>
-    ensures { OnOk result (text.new.items ≡ text.old.items ++ flat_map spaced_key keys.now) }
-{
-    for key in keys {
-        push_count(text, b" ", *key)?;
-    }
-    Ok(())
+    push_numbers_line(text, b" ", keys)
 }

@@ -1,5 +1,5 @@
 -- The session of a concurrent cache as the debugger walks it: its steps are the applied and the undone ones together.
-use Rattle.std.specs.Prelude.{ℕ, ◌-◌, Bool, true, false, nat_lt, Option, Some, None, ◌++◌, length, take}
+use Rattle.std.specs.Prelude.{ℕ, ◌-◌, Bool, true, false, nat_lt, Option, Some, None, [], ◌++◌, length, take}
 use Rattle.std.specs.Prelude.{slice_get}
 use Rattle.std.specs.Borrow.{GName, MutBor}
 use Rattle.step_record.specs.declared.entry.Entry.{Entry}
@@ -65,6 +65,7 @@ replay_timeline opening steps = record {
   end = length steps;
   facts = λ n. entry_facts (slice_get steps (n - 1)) (halves_on_step opening steps n);
   shown = λ n. shown_text (state_at opening steps n);
+  window = λ n. [];
   own = λ n. journal_of Two (take n steps);
 }
 

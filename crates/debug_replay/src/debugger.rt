@@ -116,6 +116,11 @@ impl<'a> Timeline for Replay<'a> {
         push_shell(alloc, self.session.engine(), text)
     }
 
+    // The dialect has no such command.
+    fn window(&self, _text: &mut Vec<u8>) -> Result<(), AllocError> {
+        Ok(())
+    }
+
     fn own(&self, alloc: Global, text: &mut Vec<u8>) -> Result<(), AllocError> {
         let mut journal = CountedWriter::new(Vec::new(alloc));
         match write_journal(alloc, self.session, &mut journal) {

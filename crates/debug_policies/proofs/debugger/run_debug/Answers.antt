@@ -1,6 +1,6 @@
 use Rattle.std.proofs.Common.{◌≡◌, ◌∙◌, sym, Ok, true, false}
 use Rattle.step_record.specs.Config.{config_fault}
-use Rattle.debug_policies.proofs.Facts.{accepted, done_held, large_held, no_fault, part_held, untouched}
+use Rattle.debug_policies.proofs.Facts.{accepted, done_held, no_fault, part_held, untouched, written_held}
 use Rattle.debug_policies.proofs.debugger.run_debug.Goals as goal
 
 pub returns-clause-done : goal.returns-clause-done
@@ -10,7 +10,7 @@ returns-clause-done g c =
 
 pub returns-clause-large : goal.returns-clause-large
 returns-clause-large g c e =
-    large_held (g.R.CountedRead.remaining c.args.commands.now) _ _ _ false (g.W.CountedWrite.contents c.args.out.now)
+    written_held (g.R.CountedRead.remaining c.args.commands.now) _ _ _ false (g.W.CountedWrite.contents c.args.out.now)
     (g.W.CountedWrite.contents c.answer_commands-answered.new.out) c.answer_commands-answered.new.timeline.first.at c.in_ok-both.ensures.timeline c.in_ok-both.ensures.start (c.answer_commands-answered.ensures.large e)
 
 pub returns-clause-part : goal.returns-clause-part

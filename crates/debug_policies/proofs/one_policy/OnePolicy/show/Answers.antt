@@ -5,7 +5,8 @@ use Rattle.policies.specs.AnyPolicy.{any_residents, stats_in}
 use Rattle.policies.proofs.FirstAccesses.{first-counts}
 use Rattle.debug_policies.specs.OnePolicy.{counts_line, holds_line, policy_lines, residents_at, stats_at, OnePolicyState}
 use Rattle.debug_policies.proofs.Shown.{shown_keys}
-use Rattle.debug_policies.proofs.Texts.{at_last, piece}
+use Rattle.debug_commands.proofs.Results.{at_success}
+use Rattle.debug_policies.proofs.Texts.{piece}
 use Rattle.debug_policies.proofs.one_policy.OnePolicy.show.Goals as goal
 
 pub returns : goal.returns
@@ -26,7 +27,7 @@ returns c =
     ∙ shown_keys j trace n s.engine c.self.invariant.within c.self.invariant.stands in
     let first : t1 ≡ text ++ counts_line label j (stats_at j trace n) = c.in_ok-push_counts.ensures ∙ ap (λ x. text ++ counts_line label j x) stats in
     let all : OnOk c.push_holds.result (last ≡ text ++ policy_lines label j trace n) =
-    at_last c.push_holds.result (last ≡ t1 ++ holds_line label keys) (last ≡ text ++ policy_lines label j trace n)
+    at_success c.push_holds.result (last ≡ t1 ++ holds_line label keys) (last ≡ text ++ policy_lines label j trace n)
     (λ k. piece text t1 last (counts_line label j (stats_at j trace n)) (holds_line label (residents_at j trace n)) first
     (k ∙ ap (λ x. t1 ++ holds_line label x) held)) c.push_holds.ensures in
     subst (λ (w : OnePolicyState). OnOk c.push_holds.result (last ≡ text ++ policy_lines label w.job w.trace w.at)) c.self.view_is all
