@@ -1,7 +1,9 @@
-"""The debugger of two policies. A timeline has the text that `show` prints at each position, and what each step from one to
-the next did."""
+"""The debugger of two policies. A timeline has the text that `show`, or a command like it, prints at each position, and what
+each step from one to the next did."""
+from .caffeine import Caffeine
 from .faults import Fault
 from .options import DEFAULTS, opened
+from .policies import WindowTinyLfu
 from .reports import Counts
 from .traces import BLANKS, keys_of, number_of
 
@@ -34,6 +36,11 @@ class Side:
         counted = f"{self.policy} hits {hits} misses {misses} evictions {evictions} rejections {rejections}"
         return f"{self.letter} {counted}\n{self.letter} holds{items(self.cache.residents())}\n"
 
+    def window(self):
+        size = self.cache.queues.window_size if isinstance(self.cache, WindowTinyLfu) else "none"
+        target = f" target {self.cache.climber.target}" if isinstance(self.cache, Caffeine) else ""
+        return f"{self.letter} {self.policy} window {size}{target}\n"
+
     def age(self):
         return self.cache.frequency.age if self.cache.frequency else 0
 
@@ -52,13 +59,18 @@ class PolicyTimeline:
     odd, whole, at = "part", "part", 0
 
     def __init__(self, keys, first, second, capacity, options):
-        a, b = Side("a", first, capacity, options, keys), Side("b", second, capacity, options, keys)
-        self.events, self.shows = [], [a.show() + b.show()]
+        self.sides = a, b = Side("a", first, capacity, options, keys), Side("b", second, capacity, options, keys)
+        self.events, self.shown = [], {"show": [], "window": []}
+        self.look()
         for key in keys:
             (a_hit, a_left, a_halved), (b_hit, b_left, b_halved) = a.access(key), b.access(key)
             hits, left = [key] if a_hit or b_hit else [], [it for it in (a_left, b_left) if it is not None]
             self.events.append(Events(hits, left, a_halved or b_halved, a_hit != b_hit))
-            self.shows.append(a.show() + b.show())
+            self.look()
+
+    def look(self):
+        for name, texts in self.shown.items():
+            texts.append("".join(getattr(it, name)() for it in self.sides))
 
     def whole_answer(self, _):
         parts = [number for number, event in enumerate(self.events, 1) if event.is_odd]
@@ -91,7 +103,9 @@ class Dialogue:
             return self.move(name, numbers[0])
         if name == "break":
             return self.set_breakpoint(words[1:])
-        alone = {"run": self.run, "clear": self.clear, "show": self.show, self.timeline.whole: self.whole}
+        if len(words) == 1 and name in self.timeline.shown:
+            return self.timeline.shown[name][self.at]
+        alone = {"run": self.run, "clear": self.clear, self.timeline.whole: self.whole}
         return alone[name]() if len(words) == 1 and name in alone else "fault: Command\n"
 
     def move(self, name, number):
@@ -127,9 +141,6 @@ class Dialogue:
     def clear(self):
         self.breakpoints = []
         return "ok\n"
-
-    def show(self):
-        return self.timeline.shows[self.at]
 
     def whole(self):
         return self.timeline.whole_answer(self.at)

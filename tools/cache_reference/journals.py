@@ -51,7 +51,7 @@ class JournalTimeline:
 
     def __init__(self, data, capacity, stripes, limit, main, spread):
         self.shell, self.lines, self.events = Shell(capacity, stripes, main, spread), [], []
-        self.shows, self.limit = [self.shell.show()], limit
+        self.shown, self.limit = {"show": [self.shell.show()]}, limit
         self.read(data.decode("latin-1"))
         self.at = len(self.events)
 
@@ -89,7 +89,7 @@ class JournalTimeline:
         is_halved = self.shell.queues.frequency.age < age
         self.events.append(Events(hits, left, is_halved, name in ("full", "lost")))
         self.lines.append(line)
-        self.shows.append(self.shell.show())
+        self.shown["show"].append(self.shell.show())
 
     def whole_answer(self, at):
         return journal(self.lines[:at])

@@ -123,7 +123,7 @@ def answers(check):
     """The commands on standard input."""
     journal, cut = check.file("journal", ROUND), check.file("cut", CUT)
     debug, replay = ("debug", *PARTING, "--trace", check.trace), ("replay", *SINGLE, "--journal", journal)
-    check.expect("answers about a trace", *debug, typed="part\ngoto 5\nback 1\nshow\nback 5\ngoto 0\nbreak part\nrun\nrun\njump\n",
+    check.expect("answers about a trace", *debug, typed="part\ngoto 5\nback 1\nshow\nwindow\nback 5\ngoto 0\nbreak part\nrun\nrun\njump\n",
                  out="""part 5
 at 5
 at 4
@@ -131,6 +131,8 @@ a lru hits 1 misses 3 evictions 1 rejections 0
 a holds 2 3
 b slru hits 1 misses 3 evictions 1 rejections 0
 b holds 3 1
+a lru window none
+b slru window none
 fault: PastStart
 at 0
 ok
