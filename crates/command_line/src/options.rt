@@ -214,7 +214,7 @@ or a pipe. At its end a line on standard error says what the sample is.",
         name: "debug",
         about: "Answers commands on standard input about two policies over the trace of a file",
         whole: "Answers commands on standard input about two policies over the trace of a file. A command is a line:
-step N, back N, goto N, run, break hit K, break evict K, break halve, break part, clear, show, part, quit.
+step N, back N, goto N, run, break hit K, break evict K, break halve, break part, clear, show, window, part, quit.
 Here standard input has the commands, and --trace names the file of the trace.",
         example: "Example: cachesim debug --trace trace.lirs --capacity 100 --first lru --second slru",
         options: &[
