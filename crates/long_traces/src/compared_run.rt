@@ -79,7 +79,7 @@ impl ComparedRun {
             → OnOk result (HasCompared every first second trace (n + length keys.now) self.new) }
     {
         for i in 0..keys.len() {
-            let hits = self.pair.hits(keys, i)?;
+            let hits = self.pair.hits::<ComparedRun>(keys, i)?;
             self.counted.count(hits.0, hits.1)?;
         }
         Ok(())

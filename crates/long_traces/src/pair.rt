@@ -42,9 +42,9 @@ impl Pair {
     }
 
     /// Makes the access to a key in both caches, which made those to the keys before it, and says whether it hit in the
-    /// first, and in the second. The one error is out of memory.
+    /// first, and in the second. The one error is out of memory. Each `C` has code of its own.
     #[inline(always)]
-    pub(crate) fn hits(&mut self, keys: &[Key], i: usize) -> Result<(bool, bool), AllocError>
+    pub(crate) fn hits<C>(&mut self, keys: &[Key], i: usize) -> Result<(bool, bool), AllocError>
         requires below { i < length keys.now }
         requires before { AreBefore keys.now i self.old }
         ensures paired { (first second : Job) (trace : List ℕ) (place : ℕ) → AreNext trace place keys.now
@@ -55,8 +55,8 @@ impl Pair {
             (hits.0 ≡ is_hit_at (outcomes_on first trace) (place + i + 1))
             × (hits.1 ≡ is_hit_at (outcomes_on second trace) (place + i + 1))) }
     {
-        let first = hit_at::<First>(&mut self.first, keys, i)?;
-        let second = hit_at::<Second>(&mut self.second, keys, i)?;
+        let first = hit_at::<(C, First)>(&mut self.first, keys, i)?;
+        let second = hit_at::<(C, Second)>(&mut self.second, keys, i)?;
         Ok((first, second))
     }
 }

@@ -92,7 +92,7 @@ fn parting_in(pair: &mut Pair, keys: &[Key]) -> Result<Option<usize>, AllocError
         × AgreeBelow (n + length keys.now + 1) (outcomes_on first trace) (outcomes_on second trace))) }
 {
     for i in 0..keys.len() {
-        let hits = pair.hits(keys, i)?;
+        let hits = pair.hits::<PartRun>(keys, i)?;
         let (first, second) = hits;
         if first != second {
             return Ok(Some(i));

@@ -3,7 +3,7 @@ use Rattle.long_traces.proofs.Next.{next-key}
 use Rattle.long_traces.proofs.pair.Pair.hits.Goals as goal
 
 pub hit_at-requires-clause-ready : goal.hit_at-requires-clause-ready
-hit_at-requires-clause-ready c =
+hit_at-requires-clause-ready g c =
     let b = c.requires.before in
     record {
       job = b.first;
@@ -15,7 +15,7 @@ hit_at-requires-clause-ready c =
     }
 
 pub hit_at-requires-2-clause-ready : goal.hit_at-requires-2-clause-ready
-hit_at-requires-2-clause-ready c =
+hit_at-requires-2-clause-ready g c =
     let b = c.requires.before in
     record {
       job = b.second;
@@ -27,7 +27,7 @@ hit_at-requires-2-clause-ready c =
     }
 
 pub returns-clause-paired : goal.returns-clause-paired
-returns-clause-paired c = λ first second trace place next has.
+returns-clause-paired g c = λ first second trace place next has.
     let stands = next-key trace c.args.keys.now place c.args.i next c.requires.below in
     record {
       one = c.in_ok-first.ensures.stands first trace (place + c.args.i) stands has.one;
@@ -35,7 +35,7 @@ returns-clause-paired c = λ first second trace place next has.
     }
 
 pub returns-clause-hits : goal.returns-clause-hits
-returns-clause-hits c = λ first second trace place next has.
+returns-clause-hits g c = λ first second trace place next has.
     let stands = next-key trace c.args.keys.now place c.args.i next c.requires.below in (
       c.in_ok-first.ensures.hit first trace (place + c.args.i) stands has.one,
       c.in_ok-second.ensures.hit second trace (place + c.args.i) stands has.other,
