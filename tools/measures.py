@@ -18,8 +18,9 @@ MAINS = [99, 90, 80, 50, 20]
 # The sizes of parts that are tried, in percent of the capacity, as the option names them: those of the papers, which are the
 # program's own, and three others.
 PARTS = [("s3-fifo", "small", 10, [1, 5, 25]), ("2q", "in", 25, [5, 50, 75]), ("2q", "out", 50, [10, 25, 100])]
-# The curve of lru is read at neighbouring capacities that differ by one in so many, or by one entry.
-FINENESS = 50
+# The curve of lru is read at neighbouring capacities that differ by one in so many, or by one entry. Where smaller jumps than
+# of two points are asked for, these are nearer, or such a jump would not be steep from one to the other.
+FINENESS, LEAST_JUMP = 50, Decimal("0.1")
 # How many capacities are tried at once between two capacities of lru.
 LRU_TRIES = 64
 # How many capacities in equal ratios a picture has, from 1 percent of the footprint on.
@@ -201,9 +202,9 @@ def jumps_of_lru(trace, top, points, progress):
     """Where the hit ratio of lru jumps: the curve at capacities near to each other, then each jump closer by."""
     if not progress.begins("jumps of lru"):
         return []
-    capacities = [1]
+    capacities, fineness = [1], max(FINENESS, int(100 / max(points, LEAST_JUMP)))
     while capacities[-1] < top:
-        capacities.append(min(top, capacities[-1] + max(1, capacities[-1] // FINENESS)))
+        capacities.append(min(top, capacities[-1] + max(1, capacities[-1] // fineness)))
     curve = [row for _, row in sorted(trace.sweep(["lru"], capacities).items())]
     found = [part for part in steep_parts(curve) if rises_by(points, *part)]
     inside = [capacity for first, last in found for capacity in between(first.capacity, last.capacity, LRU_TRIES)]

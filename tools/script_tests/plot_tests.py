@@ -66,11 +66,11 @@ def check_curves(plot, folder, _):
 
 def check_dense(plot, folder, _):
     """Curves of many places have them all, in steps."""
-    for count in (160, 80):
-        many = file_of(folder, "many.csv", SWEEP + sweep_rows("lru", *((200 + it, it) for it in range(count)), accesses=200))
+    for count in (160, 80, 30, 29):
+        many = file_of(folder, "many.csv", SWEEP + sweep_rows("lru", *((200 + 10 * it, it) for it in range(count)), accesses=200))
         curves, rest = drawn(plot, many)
-        expect("a dense sweep", curves, [[(200 + it, it / 2) for it in range(count)]])
-        expect("its steps", ("with steps" in rest, "unset logscale" in rest, "logarithmic" in rest), (True, True, False))
+        expect("a dense sweep", curves, [[(200 + 10 * it, it / 2) for it in range(count)]])
+        expect("its steps", ("with steps" in rest, "unset logscale" in rest, "logarithmic" in rest), (count > 29, True, False))
 
 
 def check_heights(plot, folder, _):
@@ -95,7 +95,9 @@ def check_marks(plot, folder, _):
 def check_styles(plot, folder, _):
     """Each policy has a colour, a marker and a dash that no other one has, and its colour in every picture."""
     rows = file_of(folder, "all.csv", SWEEP + "".join(sweep_rows(it, (5, 1), (6, 2)) for it in EVERY))
-    legend = [line.split() for line in drawn(plot, rows)[1].splitlines() if "linespoints" in line]
+    rest = drawn(plot, rows)[1]
+    expect("whose curves they are", [name for _, name in named_curves(rest)], EVERY)
+    legend = [line.split() for line in rest.splitlines() if "linespoints" in line]
     for word in ("rgb", "dashtype", "pointtype"):
         expect(f"how many have a {word} of their own", len({line[line.index(word) + 1] for line in legend}), len(EVERY))
     colours = {line[-1]: line[line.index("rgb") + 1] for line in map(lambda it: [w.strip("',\\") for w in it], legend)
@@ -158,12 +160,16 @@ def check_intervals(plot, folder, _):
     expect_parts("around them", rest, "set xrange [0:24]", "'24' 24", "24 accesses, capacity 9, intervals of 10'")
     expect_parts("its own title", drawn(plot, "--title", "A title of its own", rows)[1], "set title 'A title of its own' . ")
     two = file_of(folder, "two.csv", INTERVALS + interval_rows("lru", 10, 5, 6) + interval_rows("lru", 10, 7, 8, capacity=20))
-    expect_parts("of two capacities", drawn(plot, two)[1], "20 accesses, intervals of 10", "title 'lru 9'", "title 'lru 20'")
+    curves, rest = drawn(plot, two)
+    expect("whose curves they are", (named_curves(rest), [[height for _, height in it[::2]] for it in curves]),
+           ([("0", "lru 9"), ("1", "lru 20")], [[50, 60], [70, 80]]))
+    expect_parts("of two capacities", rest, "20 accesses, intervals of 10")
     expect("without the warm-up", drawn(plot, "--after", "10", rows)[0], [[(10, 20), (20, 20), (20, 75), (24, 75)]])
     run(plot, "--commands", "--after", "24", rows, status=1)
-    many = INTERVALS + interval_rows("lru", 10, *(it % 7 for it in range(300))) + interval_rows("slru", 10, *[5] * 300)
-    expect_parts("a carpet", run(plot, "--commands", typed=many)[1], "600 intervals", "--every 15 or more")
-    expect("no carpet", run(plot, "--commands", typed=INTERVALS + interval_rows("lru", 10, *[5] * 300))[1], "")
+    for count, note in ((200, ""), (201, "402 intervals lie too near to each other: --every 11 or more"), (300, "600 intervals lie too near to each other: --every 15 or more")):
+        many = INTERVALS + interval_rows("lru", 10, *(it % 7 for it in range(count))) + interval_rows("slru", 10, *[5] * count)
+        commands, said = run(plot, "--commands", typed=many)
+        expect("a carpet", (len(curves_in(commands)[0][0]), said.partition(", or")[0]), (2 * count, "tools/plot: " * bool(note) + note))
 
 
 def check_comparisons(plot, folder, _):
@@ -171,8 +177,9 @@ def check_comparisons(plot, folder, _):
     rows = file_of(folder, "compare.csv", COMPARISONS + "lru,wtinylfu,9,1,10,2,3,1,4\nlru,wtinylfu,9,11,14,1,0,2,1\n")
     curves, rest = drawn(plot, rows)
     expect("the curves", curves, [[(0, 30), (10, 30), (10, 0), (14, 0)], [(0, 10), (10, 10), (10, 50), (14, 50)]])
-    expect_parts("around them", rest, "alone over accesses", "it alone hits (%)", "14 accesses, capacity 9, intervals of 10",
-                 "title 'lru'", "title 'wtinylfu'")
+    expect_parts("around them", rest, "alone over accesses", "it alone hits (%)", "14 accesses, capacity 9, intervals of 10")
+    expect("whose curves they are", named_curves(rest), [("0", "lru"), ("1", "wtinylfu")])
+    expect_parts("its own title", drawn(plot, "--title", "A title of its own", rows)[1], "set title 'A title of its own' . ")
     for line in ("lru,wtinylfu,9,1,10,2,3,1,5", "lru,wtinylfu,9,1,10,2,3,1", "lru,wtinylfu,9,1,0,0,0,0,0"):
         expect_parts(line, run(plot, "--commands", status=1, typed=COMPARISONS + line + "\n")[1], "line 2 ")
     run(plot, "--commands", "--below-optimal", rows, status=1)
@@ -284,6 +291,13 @@ MISTAKES = {
     "level curves outside of the axis": Mistake(check_heights, "plot", "low, high = max(0, (low + high) / 2 - 0.5), (low + high) / 2 + 0.5", "low, high = 0, 0.5"),
     "the accesses of the first file": Mistake(check_files, "plot", "'/'.join(map(str, ends))", "min(ends)"),
     "a title of intervals ignored": Mistake(check_intervals, "plot", "(args.title or what)", "(header == SWEEP and args.title or what)"),
+    "a title of a comparison ignored": Mistake(check_comparisons, "plot", "(args.title or what)", "(header != COMPARISONS and args.title or what)"),
+    "steps from 31 capacities on": Mistake(check_dense, "plot", "DENSE, MARKERS = 30", "DENSE, MARKERS = 31"),
+    "intervals after the hundredth left out": Mistake(check_intervals, "plot", "for begin, end, height in curve.points for place in (begin, end)]\n    return",
+                                                      "for begin, end, height in curve.points[:100] for place in (begin, end)]\n    return"),
+    "a note of carpets from 403 intervals on": Mistake(check_intervals, "plot", "MAX_INTERVALS = 400", "MAX_INTERVALS = 402"),
+    "the names of three curves changed over": Mistake(check_styles, "plot", "title {quoted(curve.name)}",
+                                                      "title {quoted(curves[len(curves) - 1 - at if len(curves) > 2 else at].name)}"),
     "one capacity of two": Mistake(check_intervals, "plot", "== 1:\n            yield f\"capacity", ">= 1:\n            yield f\"capacity"),
     "points below another capacity's optimum": Mistake(check_below_optimal_intervals, "curves.py", "best.get((row.begin, row.end, row.capacity))",
                                                        "best.get((row.begin, row.end, rows[0].capacity))"),

@@ -179,10 +179,10 @@ def check_reach(survey, folder, _):
     expect("jumps", run(survey, trace, "--program", program, "--csv", "--table", "jumps")[0],
            "trace,policy,jumps from,to,hit ratio from,to,points\n"
            f"{trace},lru,122,123,5.00,60.00,55.00\n{trace},lru,199,200,60.00,80.00,20.00\n")
-    small = fake(folder, "None if capacity >= 200 else 100 * capacity if capacity < 5 else 500 + 15 * (capacity >= 91)")
+    small = fake(folder, "None if capacity >= 200 else 100 * capacity if capacity < 5 else 500 + 15 * (capacity >= 91) + 6 * (capacity >= 180)")
     small.write_text(small.read_text().replace("* percent // 100", "* percent // 1000"))
-    small_jumps = [run(survey, trace, "--program", small, "--csv", "--table", "jumps", *more)[0].count("\n") for more in ((), ("--jump", "1"))]
-    expect("jumps of one point and a half", small_jumps[1] - small_jumps[0], 1)
+    least, *more = (run(survey, trace, "--program", small, "--csv", "--table", "jumps", "--jump", it)[0].count("\n") for it in ("2", "1.6", "1", "0.5"))
+    expect("jumps of 1.5 points and of 0.6", [it - least for it in more], [0, 1, 2])
     row = run(survey, trace, "--program", small, *words[4:], "--reach", "20")[0].splitlines()[1]
     expect("one entry too few", row, f"{trace},20,lru,2,1.0,20.00,1,10.00")
     program = fake(folder, f"None if capacity >= 200 else {rates}")
@@ -236,9 +236,10 @@ def check_jumps_and_powers(survey, folder, _):
         jump = fake(folder, f"({rates}) if capacity < 15000 else 60 if capacity < 20000 else None")
         row = run(*words, "--program", jump, "--table", "jumps")[0].splitlines()[1].split(",")
         expect(f"a jump: {row}", (first - 10 <= int(row[2]) < first, 15000 <= int(row[3]) < 15010, row[4:]), (True, True, ["5.00", "60.00", "55.00"]))
-    near = {4: 4, 32: 32, 8192: 8183, 16384: 16393, 262144: 262153, 524288: 524279}
+    # Within a twentieth of each power of two, above and below; 975 is further from 1024.
+    near = {1 << it: (1 << it) + (-1) ** it * ((1 << it) // 24) for it in range(1, 20) if it != 10}
     program = fake(folder, f"30 if capacity in {[*near]} else 31 if capacity - 1 in {[*near]} else None")
-    named = [word for it in near.values() for word in ("--capacity", it)]
+    named = [word for it in (*near.values(), 975) for word in ("--capacity", it)]
     out = run(*words, "--program", program, "--table", "powers", *named)[0]
     expect("powers", out.splitlines()[1:], [f"{small},{it},{power},30.00,31.00,1.00" for power in near for it in POLICIES[2:5]])
 
@@ -503,8 +504,8 @@ MISTAKES = {
     "the powers of two of a sample": Mistake(check_sampled_once, "survey", ' and (name != "powers" or not args.sampled)', ""),
     "a picture by a sample's capacities": Mistake(check_sampled_once, "survey", "survey.trace.shown(row.capacity)", "row.capacity"),
     "the first part of a jump": Mistake(check_jumps_and_powers, "measures.py", "parts[0][0], parts[-1][1]", "*parts[0],"),
-    "no small power of two": Mistake(check_jumps_and_powers, "measures.py", "range(1, 20)", "range(6, 20)"),
     "powers of two below a capacity": Mistake(check_jumps_and_powers, "measures.py", "if any(abs(it - (1 << bits))", "if any(0 <= (1 << bits) - it and ((1 << bits) - it)"),
+    "powers of two that are not near": Mistake(check_jumps_and_powers, "measures.py", "<< bits)) * 20 <= it", "<< bits)) * 19 <= it"),
     "a megabyte of a packed trace": Mistake(check_ways, "traces.py", "shutil.copyfileobj(gzip.open(source) if first.startswith(GZIP) else source, copy, COPIED)",
                                             "copy.write((gzip.open(source) if first.startswith(GZIP) else source).read(COPIED))"),
     "blocks by how they are written": Mistake(check_ways, "traces.py", "Counter(int(line) for", "Counter(line for"),
@@ -520,13 +521,12 @@ MISTAKES = {
     "options that are not handed on": Mistake(check_beside_run, "reports.py",
                                               '"--spread", options.spread, "--main", main or options.main, *part]', '"--main", "99", *part]'),
     "no main": Mistake(check_beside_run, "reports.py", "main or options.main", '"99"'),
-    "no large power of two": Mistake(check_jumps_and_powers, "measures.py", "for bits in range(1, 20)", "for bits in range(1, 13)"),
-    "the largest power of two left out": Mistake(check_jumps_and_powers, "measures.py", "range(1, 20)", "range(1, 19)"),
+    "a power of two left out": Mistake(check_jumps_and_powers, "measures.py", "range(1, 20)", "[*range(1, 15), *range(16, 20)]"),
     "the ratio of a large trace": Mistake(check_large, "measures.py", "row.accesses, (footprint - known) * trace.inverse",
                                           "row.accesses, row.misses"),
     "a warm-up of a sample that is none": Mistake(check_large, "measures.py", "if trace.warm_up else 0", "if trace.after else 0"),
     "capacities left out in silence": Mistake(check_large_capacities, "measures.py", "if capacity > MAX_CAPACITY:", "if False:"),
-    "--jump ignored": Mistake(check_reach, "measures.py", ">= points * low.accesses", ">= 2 * low.accesses"),
+    "whole points of --jump": Mistake(check_reach, "measures.py", ">= points * low.accesses", ">= max(1, int(points)) * low.accesses"),
     "the ratio before a jump after it": Mistake(check_jumps_and_powers, "tables.py", "shown_rate(low), shown_rate(high),",
                                                 "shown_rate(low), shown_rate(low if low.capacity > 9999 else high),"),
     "the next smaller capacity at 2 or 3 entries": Mistake(check_reach, "tables.py", "shown_rate(below) if below else",
