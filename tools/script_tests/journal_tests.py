@@ -48,14 +48,17 @@ def check_counts(journal, folder, _):
     path = file_of(folder, "whole", whole)
     expect("the table", run(journal, "--csv", path)[0], COUNTED)
     rest = run(journal, path)[0]
+    table = rest.splitlines()[:5]
+    expect("in columns", ([re.split(" {2,}", line.strip()) for line in table], len({len(line) for line in table})),
+           ([line.split(",") for line in COUNTED.splitlines()], 1))
     expect_parts("below the table", rest, "1 reads drained, 1 writes applied, 1 removals applied, 2 evictions, 1 of these rejections",
                  "most tasks waiting: 3, first after step 23", "workers named: 3, read buffers named: 2", "2 of 7 writes were refused")
     lines = whole.splitlines(keepends=True)
-    for cut in ("", whole[:-1], *("".join(lines[:count]) for count in (1, 2, 14, len(lines) - 1)), whole[:200]):
-        run(journal, file_of(folder, "cut", cut), status=1)
+    for cut in ("", "cachesim journal 1", whole[:-1], *("".join(lines[:count]) for count in (1, 2, 14, len(lines) - 1)), whole[:200]):
+        expect_parts("a journal that is cut", run(journal, file_of(folder, "cut", cut), status=1)[1], "cut short" if "\n" in cut else "header")
     for right, wrong in (("steps 26", "steps 25"), ("steps 26\n", "steps 26\n0 begin = busy\n"),
                          ("look 1 =", "look 01 ="), ("63 put 2", "64 put 2"), ("= idle", "= ideal"),
-                         ("journal 2", "journal 3")):
+                         ("journal 2", "journal 3"), ("journal 2", "journal 1")):
         run(journal, file_of(folder, "wrong", whole.replace(right, wrong)), status=1)
     expect("version 1", "may be cut short" in run(journal, typed=f"cachesim journal 1\n{STEPS}")[0], True)
 
@@ -124,6 +127,8 @@ TESTS = [check_counts, check_beside_replay, check_many, check_large, check_ways]
 
 MISTAKES = {
     "a journal cut short": Mistake(check_counts, "journal", "if self.version == 2 and not self.is_ended:", "if False:"),
+    "columns that are not in line": Mistake(check_counts, "journal", "widths = [max(", "widths = [min("),
+    "a last line of version 1": Mistake(check_counts, "journal", 'if self.version == 2 and line.startswith', "if line.startswith"),
     "a count that is not compared": Mistake(check_counts, "journal", 'if line != f"steps {self.steps}\\n":', "if not line:"),
     "a dropped read that is not counted": Mistake(check_counts, "journal", ', ("lose", "lost")]', "]"),
     "a removal that is not refused": Mistake(check_counts, "journal", ', ("remove", "writesfull")]', "]"),
