@@ -50,7 +50,7 @@ def row_of(where, number, line, is_intervals):
     except ValueError:
         refuse(f"{where}line {number} is no row of a report: {line}")
     accesses = hits + misses
-    if not is_intervals and accesses != numbers[0] or is_intervals and accesses != last - first + 1:
+    if accesses != (last - first + 1 if is_intervals else numbers[0]):
         refuse(f"{where}line {number} has hits and misses that are not its accesses: {line}")
     if accesses == 0:
         refuse(f"{where}line {number} has no hit ratio, since it has no accesses: {line}")

@@ -65,11 +65,12 @@ def check_curves(plot, folder, _):
 
 
 def check_dense(plot, folder, _):
-    """Curves of many places have them all, in steps."""
-    for count in (160, 80, 30, 29):
+    """Curves of many places have them all, in steps; one of a single place has that in its middle."""
+    for count, ends, every in ((160, "200:1790", 14), (80, "200:990", 7), (30, "200:490", 3), (29, "200:480", 1), (1, "199.5:200.5", 1)):
         many = file_of(folder, "many.csv", SWEEP + sweep_rows("lru", *((200 + 10 * it, it) for it in range(count)), accesses=200))
         curves, rest = drawn(plot, many)
         expect("a dense sweep", curves, [[(200 + 10 * it, it / 2) for it in range(count)]])
+        expect_parts("its ends and markers", rest, f"set xrange [{ends}]", f"$curve0 every {every}::0 with points ")
         expect("its steps", ("with steps" in rest, "unset logscale" in rest, "logarithmic" in rest), (count > 29, True, False))
 
 
@@ -125,8 +126,9 @@ def check_refusals(plot, folder, _):
             ("below 0", SWEEP + "lru,10,100,-20,120,0,0,-20.00\n", [], ["line 2 is no row"]),
             ("an interval below 0", INTERVALS + "lru,-9,1,10,5,5,0,0,50.00\n", [], ["line 2 is no row"]),
             ("a comparison below 0", COMPARISONS + "lru,arc,9,1,10,-2,6,3,3\n", [], ["line 2 is no row"]),
-            ("24 digits", SWEEP + "lru,100000000000000000000000,100,20,80,0,0,20.00\n", [], ["line 2 is no row"]),
+            ("19 digits", SWEEP + "lru,1000000000000000000,100,20,80,0,0,20.00\n", [], ["line 2 is no row"]),
             ("false", SWEEP + "lru,10,100,20,81,0,0,20.00\n", [], ["line 2 has hits and misses that are not"]),
+            ("a false interval", INTERVALS + "lru,9,1,10,5,6,0,0,50.00\n", [], ["line 2 has hits and misses that are not"]),
             ("header", "1,2\n", [], ["line 1 is not the header"]), ("none", SWEEP, [], ["no reports"]),
             ("lonely", SWEEP + sweep_rows("lru", (10, 20)), ["--below-optimal"], ["line 2 has no row of clairvoyant"]),
             ("over", INTERVALS + "lru,9,1,10,5,5,0,0,50.00\nlru,9,10,12,1,2,0,0,33.33\n", [],
@@ -170,6 +172,8 @@ def check_intervals(plot, folder, _):
         many = INTERVALS + interval_rows("lru", 10, *(it % 7 for it in range(count))) + interval_rows("slru", 10, *[5] * count)
         commands, said = run(plot, "--commands", typed=many)
         expect("a carpet", (len(curves_in(commands)[0][0]), said.partition(", or")[0]), (2 * count, "tools/plot: " * bool(note) + note))
+        expect("its lines", ("with steps" in commands, "with lines" in commands), (False, True))
+    expect_parts("its markers", commands, "$curve0 every 50::1 with points ", "$curve1 every 50::25 with points ")
 
 
 def check_comparisons(plot, folder, _):
@@ -260,7 +264,8 @@ MISTAKES = {
     "a row that hides another": Mistake(check_refusals, "curves.py", "other.begin < row.end if is_intervals else True", "False"),
     "slopes where steps are asked for": Mistake(check_curves, "plot", "(args.steps or places >= DENSE)", "places >= DENSE"),
     "a row below 0": Mistake(check_refusals, "curves.py", "text.isdigit()", 'text.strip("-").isdigit()'),
-    "a row of 24 digits": Mistake(check_refusals, "curves.py", " and len(text) < 19", ""),
+    "a row of 19 digits": Mistake(check_refusals, "curves.py", "len(text) < 19", "len(text) < 20"),
+    "a row of an interval that is false": Mistake(check_refusals, "curves.py", "last - first + 1 if is_intervals", "accesses if is_intervals"),
     "a row dropped": Mistake(check_curves, "curves.py", "for row in sorted(rows, key=lambda row: row.begin):", "for row in rows[1:]:"),
     "two traces joined": Mistake(check_refusals, "curves.py", "row.accesses != rows[0].accesses", "row.accesses < 0"),
     "the legend on the curves": Mistake(check_curves, "plot", "set key outside", "set key inside"),
@@ -292,6 +297,9 @@ MISTAKES = {
     "the accesses of the first file": Mistake(check_files, "plot", "'/'.join(map(str, ends))", "min(ends)"),
     "a title of intervals ignored": Mistake(check_intervals, "plot", "(args.title or what)", "(header == SWEEP and args.title or what)"),
     "a title of a comparison ignored": Mistake(check_comparisons, "plot", "(args.title or what)", "(header != COMPARISONS and args.title or what)"),
+    "steps of intervals": Mistake(check_intervals, "plot", "places >= DENSE) and not is_stepped", "places >= DENSE)"),
+    "markers at each place": Mistake(check_dense, "plot", "if places >= DENSE else 1", "if places < DENSE else 1"),
+    "the markers of two curves over each other": Mistake(check_intervals, "plot", "first = at * every // len(curves)", "first = 0"),
     "steps from 31 capacities on": Mistake(check_dense, "plot", "DENSE, MARKERS = 30", "DENSE, MARKERS = 31"),
     "intervals after the hundredth left out": Mistake(check_intervals, "plot", "for begin, end, height in curve.points for place in (begin, end)]\n    return",
                                                       "for begin, end, height in curve.points[:100] for place in (begin, end)]\n    return"),
