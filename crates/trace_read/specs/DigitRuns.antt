@@ -12,6 +12,10 @@ use Rattle.trace_read.specs.declared.digit_runs.LineEnd.{LineEnd}
 abbrev pub is_other : ℕ → Bool
 is_other b = not (is_ascii_digit b)
 
+-- a run has one digit to so many
+abbrev pub HasUpTo : ℕ → DigitRun → Type 0
+HasUpTo most run = (1 ≤ run.end - run.start) × (run.end - run.start ≤ most)
+
 -- the first bytes of a text are digits
 abbrev pub AreDigits : List ℕ → ℕ → Type 0
 AreDigits text count = (k : ℕ) → k < count → is_ascii_digit (get_or text k 0) ≡ true

@@ -1,11 +1,13 @@
 -- A line of a format's usual form, which is read without a call, and one that stands for many accesses.
-use Rattle.std.specs.Prelude.{◌≡◌, ℕ, ◌+◌, ◌-◌, ◌^◌, ◌≤◌, List, Some, get_or, take, drop}
-use Rattle.trace_read.specs.DigitRuns.{IsLineEnd}
+use Rattle.std.specs.Prelude.{◌≡◌, ℕ, ◌+◌, ◌-◌, ◌^◌, ◌≤◌, true, List, Some, get_or, take, drop}
+use Rattle.std.specs.Char.{is_ascii_digit}
+use Rattle.trace_read.specs.DigitRuns.{HasUpTo, IsLineEnd}
 use Rattle.trace_read.specs.Lines.{line_of, run_of}
 use Rattle.trace_read.specs.declared.arc.BlockRun.{BlockRun}
 use Rattle.trace_read.specs.declared.arc.UsualLine.{UsualLine}
 use Rattle.trace_read.specs.declared.digit_runs.DigitRun.{DigitRun}
 use Rattle.trace_read.specs.declared.format.Format.{Format}
+use Rattle.trace_read.specs.declared.format.Format.TheVariants.{Lirs, Arc}
 
 -- the line that begins with a run of digits, and stands for at most `room` accesses
 pub record IsUsualLine (format : Format) (bytes : List ℕ) (first : DigitRun) (room : ℕ)
@@ -15,6 +17,11 @@ pub record IsUsualLine (format : Format) (bytes : List ℕ) (first : DigitRun) (
   pub few : line.run.count ≤ room
   pub is : line_of format (take (line.end.end - first.start) (drop first.start bytes))
       ≡ run_of (Some line.run.start) (Some line.run.count)
+
+-- a line that begins with a run of digits begins as one of the usual form
+abbrev pub BeginsUsual : Format → List ℕ → DigitRun → Type 0
+BeginsUsual Lirs bytes run = HasUpTo 20 run × (get_or bytes run.end 0 ≡ 10)
+BeginsUsual Arc bytes run = HasUpTo 16 run × (is_ascii_digit (get_or bytes (run.end + 1) 0) ≡ true)
 
 -- a line is a run of at most `room` accesses
 pub record IsLongRun (format : Format) (text : List ℕ) (room : ℕ) (run : BlockRun) : Type 0 where

@@ -1,7 +1,7 @@
 //! Runs of digits and what ends them, 64 bytes at a time.
-ghost use Rattle.std.specs.Prelude.{◌≡◌, ◌≤◌, ◌+◌, ◌-◌, IfSome, IsTrue, None, get_or, length, map, take};
+ghost use Rattle.std.specs.Prelude.{◌≡◌, ◌↔◌, ◌≤◌, ◌+◌, ◌-◌, IfSome, IsTrue, None, get_or, length, map, take};
 ghost use Rattle.std.specs.Simd.Lanes.{mask_l};
-ghost use Rattle.trace_read.specs.DigitRuns.{is_other, DigitsBetween, IsDigitRuns, IsNextRun, IsLineEnd};
+ghost use Rattle.trace_read.specs.DigitRuns.{is_other, DigitsBetween, HasUpTo, IsDigitRuns, IsNextRun, IsLineEnd};
 
 use std::simd::prelude::*;
 
@@ -23,7 +23,7 @@ impl DigitRun {
     #[inline(always)]
     pub fn is_short(self) -> bool
         requires { self.start ≤ self.end }
-        ensures { IsTrue result → (1 ≤ self.end - self.start) × (self.end - self.start ≤ 16) }
+        ensures { IsTrue result ↔ HasUpTo 16 self }
     {
         (self.end - self.start).wrapping_sub(1) < 16
     }

@@ -1,9 +1,9 @@
 //! The lines of a trace file, one after another, as its bytes come in.
-ghost use Rattle.std.specs.Prelude.{◌≡◌, ◌≤◌, ◌<◌, ◌+◌, ◌-◌, ◌^◌, ◌++◌, ◌⊎◌, ℕ, List, [], Some, None, OnOk};
+ghost use Rattle.std.specs.Prelude.{◌≡◌, ◌↔◌, ◌≤◌, ◌<◌, ◌+◌, ◌-◌, ◌^◌, ◌++◌, ◌⊎◌, ℕ, List, [], Some, None, OnOk};
 ghost use Rattle.std.specs.Prelude.{IfOk, IfErr, IfSome, IsTrue, MatchOption, length, take, drop, vec_len};
 ghost use Rattle.trace_read.specs.DigitRuns.{IsNextRun};
 ghost use Rattle.trace_read.specs.Lines.{run_from};
-ghost use Rattle.trace_read.specs.UsualLine.{AreFourStars, IsLongRun, IsStarLine, IsUsualLine};
+ghost use Rattle.trace_read.specs.UsualLine.{AreFourStars, BeginsUsual, IsLongRun, IsStarLine, IsUsualLine};
 ghost use Rattle.trace_read.specs.TraceText.{fault_within, keys_in, line_keys, IsOfLine, IsRead, IsTraceRefused, IsStopped};
 ghost use Rattle.trace_read.specs.ScanState.{fault_ahead, keys_ahead, AreFirst, AreLinesTaken, AreNext, CanTakeFrom, IsHandedOn, IsLineGiven, IsPieceTaken, IsRefusedFrom, IsRunGiven, IsSameLine, IsScan, IsTakenUpTo};
 ghost use Rattle.streams.specs.Feeds.{feed_in};
@@ -403,6 +403,7 @@ fn long_line(format: Format, text: &[u8], room: usize) -> Option<BlockRun>
 #[inline(always)]
 fn begins_usual_line(format: Format, bytes: &[u8], first: DigitRun) -> bool
     requires { (first.start ≤ first.end) × (first.end + 1 < length bytes.now) }
+    ensures { IsTrue result ↔ BeginsUsual format bytes.now first }
 {
     match format {
         Format::Lirs => bytes[first.end] == b'\n' && (first.end - first.start).wrapping_sub(1) < 20,
