@@ -6,5 +6,6 @@ pub mod FaultCauses
 pub mod FaultLine
 pub mod Outcome
 pub mod SampleOutput
+pub mod Subcommand
 pub mod TraceOutput
 pub mod WorkerReads

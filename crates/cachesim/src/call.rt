@@ -56,14 +56,13 @@ pub fn command<
     watch: &P,
 ) -> u8
     ensures status { result ≤ REFUSED }
-    // With status 0 the words are taken as `run`, `sweep`, `intervals`, `part`, `compare`, `sample` or `drive`, the bytes
-    // read have no fault, and those written are the text of the report of each policy, or of the policy at each
-    // capacity, that the words name, or of the rows of each policy, or the line of the access at which two
-    // policies part, or the row of what is counted of both, or the accesses to the blocks of the sample, or the journal
-    // of the walks by which the workers read the accesses in turn, in an empty cache; or the words are taken as `debug`
-    // or `replay`, the file that they name is a trace or a journal without a fault, and the bytes written are the
-    // answers to the commands read; or the words ask for help. The fault output is as it was, but for `sample`, whose
-    // line says what it wrote.
+    // With status 0 the words ask for help, or the bytes read have no fault and those written are what the words ask for:
+    // - `run`: the text of the report of each policy; `sweep`: of each at each capacity;
+    // - `intervals`: the rows of each policy; `compare`: the row of what is counted of both, or a row for each interval;
+    // - `part`: the line of the access at which the two policies part;
+    // - `sample`: the accesses to the blocks of the sample, with a line on the fault output, which is else as it was;
+    // - `drive`: the journal of the walks by which the workers read the accesses in turn, in an empty cache;
+    // - `debug`, `replay`: the answers to the commands read, about a file that is a trace or a journal without a fault.
     ensures done { result ≡ DONE → DoneBy (map (λ s. s.now) words.now) (F.known files.now) (R.remaining input.old)
         (W.contents out.old) (W.contents out.new) (X.tally fault_out.old) (X.tally fault_out.new)
         (X.contents fault_out.old) (X.contents fault_out.new) (fault_out.new ≡ fault_out.old) }

@@ -1,13 +1,10 @@
 //! The subcommands `debug` and `replay`: commands on the input, about what a file has.
-ghost use Rattle.std.specs.Prelude.{◌≡◌, true, IfErr, Ok, OnOk};
+ghost use Rattle.std.specs.Prelude.{◌≡◌, true, Ok};
 ghost use Rattle.command_line.specs.Accepted.{IsAcceptedPart};
 ghost use Rattle.command_line.specs.declared.arguments.Arguments.TheVariants.{Debug, Replay};
 ghost use Rattle.step_record.specs.Config.{config_fault};
-ghost use Rattle.streams.specs.Tally.{FailsWhere};
-ghost use Rattle.cachesim.specs.CallFaults.{IsOfRead, IsOfWrite};
 ghost use Rattle.cachesim.specs.DriveOutput.{IsEmptySession};
-ghost use Rattle.cachesim.specs.FaultCauses.{IsDue, Leaves};
-ghost use Rattle.cachesim.specs.Outcome.{IsDone};
+ghost use Rattle.cachesim.specs.Subcommand.{IsPerformed};
 
 use crate::drive::open_session;
 use crate::fault::Fault;
@@ -34,14 +31,9 @@ pub fn debug<T: Threads, R: CountedRead, W: CountedWrite, F: Files>(
     files: &F,
 ) -> Result<(), Fault>
     requires { IsAcceptedPart arguments.now.policies }
-    ensures done { OnOk result (IsDone (Debug arguments.now) (F.known files.now) (R.remaining input.old)
-        (W.contents out.old) (W.contents out.new)) }
-    ensures leaves { IfErr result (λ fault. Leaves (Debug arguments.now) (F.known files.now) fault
-        (R.remaining input.old) (W.contents out.old) (W.contents out.new) (out.new ≡ out.old)) }
-    ensures fault { IfErr result (IsDue (Debug arguments.now) (F.known files.now) (R.remaining input.old)) }
-    ensures reads { FailsWhere (IsOfRead result) (R.tally input.old) (R.tally input.new) }
-    ensures writes { FailsWhere (IsOfWrite result) (W.tally out.old) (W.tally out.new) }
-    ensures flushed { OnOk result (W.is_flushed out.new ≡ true) }
+    ensures { IsPerformed (Debug arguments.now) (F.known files.now) (R.remaining input.old) (W.contents out.old)
+        (W.contents out.new) (R.tally input.old) (R.tally input.new) (W.tally out.old) (W.tally out.new)
+        (out.new ≡ out.old) (W.is_flushed out.new ≡ true) result }
 {
     let bytes = files.bytes(alloc, arguments.trace.as_str())?;
     let policies = &arguments.policies;
@@ -68,14 +60,9 @@ pub fn replay<R: CountedRead, W: CountedWrite, F: Files>(
     files: &F,
 ) -> Result<(), Fault>
     requires { config_fault arguments.now.config ≡ Ok tt }
-    ensures done { OnOk result (IsDone (Replay arguments.now) (F.known files.now) (R.remaining input.old)
-        (W.contents out.old) (W.contents out.new)) }
-    ensures leaves { IfErr result (λ fault. Leaves (Replay arguments.now) (F.known files.now) fault
-        (R.remaining input.old) (W.contents out.old) (W.contents out.new) (out.new ≡ out.old)) }
-    ensures fault { IfErr result (IsDue (Replay arguments.now) (F.known files.now) (R.remaining input.old)) }
-    ensures reads { FailsWhere (IsOfRead result) (R.tally input.old) (R.tally input.new) }
-    ensures writes { FailsWhere (IsOfWrite result) (W.tally out.old) (W.tally out.new) }
-    ensures flushed { OnOk result (W.is_flushed out.new ≡ true) }
+    ensures { IsPerformed (Replay arguments.now) (F.known files.now) (R.remaining input.old) (W.contents out.old)
+        (W.contents out.new) (R.tally input.old) (R.tally input.new) (W.tally out.old) (W.tally out.new)
+        (out.new ≡ out.old) (W.is_flushed out.new ≡ true) result }
 {
     let mut session = open_session(alloc, &arguments.config)?;
     let answered = replay_in(alloc, arguments, &mut session, input, out, files);
@@ -83,7 +70,7 @@ pub fn replay<R: CountedRead, W: CountedWrite, F: Files>(
     answered
 }
 
-// The same in a session of an empty cache.
+// The same in a session of an empty cache, which its caller drops in one place.
 fn replay_in<R: CountedRead, W: CountedWrite, F: Files>(
     alloc: Global,
     arguments: &ReplayArguments,
@@ -93,14 +80,9 @@ fn replay_in<R: CountedRead, W: CountedWrite, F: Files>(
     files: &F,
 ) -> Result<(), Fault>
     requires { IsEmptySession arguments.now.config session.old }
-    ensures done { OnOk result (IsDone (Replay arguments.now) (F.known files.now) (R.remaining input.old)
-        (W.contents out.old) (W.contents out.new)) }
-    ensures leaves { IfErr result (λ fault. Leaves (Replay arguments.now) (F.known files.now) fault
-        (R.remaining input.old) (W.contents out.old) (W.contents out.new) (out.new ≡ out.old)) }
-    ensures fault { IfErr result (IsDue (Replay arguments.now) (F.known files.now) (R.remaining input.old)) }
-    ensures reads { FailsWhere (IsOfRead result) (R.tally input.old) (R.tally input.new) }
-    ensures writes { FailsWhere (IsOfWrite result) (W.tally out.old) (W.tally out.new) }
-    ensures flushed { OnOk result (W.is_flushed out.new ≡ true) }
+    ensures { IsPerformed (Replay arguments.now) (F.known files.now) (R.remaining input.old) (W.contents out.old)
+        (W.contents out.new) (R.tally input.old) (R.tally input.new) (W.tally out.old) (W.tally out.new)
+        (out.new ≡ out.old) (W.is_flushed out.new ≡ true) result }
 {
     let bytes = files.bytes(alloc, arguments.journal.as_str())?;
     read_journal(alloc, &mut bytes.as_slice(), session)?;

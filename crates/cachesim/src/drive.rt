@@ -11,8 +11,7 @@ ghost use Rattle.streams.specs.Tally.{FailsWhere};
 ghost use Rattle.cachesim.specs.CallFaults.{IsOfRead, IsOfWrite};
 ghost use Rattle.cachesim.specs.WorkerReads.{IsDealt};
 ghost use Rattle.cachesim.specs.DriveOutput.{IsEmptySession, IsOfRun, LeavesRun};
-ghost use Rattle.cachesim.specs.Outcome.{IsDone};
-ghost use Rattle.cachesim.specs.FaultCauses.{IsDue, Leaves};
+ghost use Rattle.cachesim.specs.Subcommand.{IsPerformed};
 
 use crate::fault::Fault;
 use command_line::DriveArguments;
@@ -49,14 +48,9 @@ pub fn drive<T: Threads + Wait + Sync, R: CountedRead, W: CountedWrite, P: Watch
     watch: &P,
 ) -> Result<(), Fault>
     requires { IsAcceptedDrive arguments.now }
-    ensures done { OnOk result (IsDone (Drive arguments.now) (λ path. None) (R.remaining input.old)
-        (W.contents out.old) (W.contents out.new)) }
-    ensures leaves { IfErr result (λ fault. Leaves (Drive arguments.now) (λ path. None) fault (R.remaining input.old)
-        (W.contents out.old) (W.contents out.new) (out.new ≡ out.old)) }
-    ensures fault { IfErr result (IsDue (Drive arguments.now) (λ path. None) (R.remaining input.old)) }
-    ensures reads { FailsWhere (IsOfRead result) (R.tally input.old) (R.tally input.new) }
-    ensures writes { FailsWhere (IsOfWrite result) (W.tally out.old) (W.tally out.new) }
-    ensures flushed { OnOk result (W.is_flushed out.new ≡ true) }
+    ensures { IsPerformed (Drive arguments.now) (λ path. None) (R.remaining input.old) (W.contents out.old)
+        (W.contents out.new) (R.tally input.old) (R.tally input.new) (W.tally out.old) (W.tally out.new)
+        (out.new ≡ out.old) (W.is_flushed out.new ≡ true) result }
 {
     let trace = read_trace(alloc, input, arguments.format)?;
     let accesses = trace.len() as u64;

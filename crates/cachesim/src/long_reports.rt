@@ -1,12 +1,9 @@
 //! What `sweep`, `intervals`, `part` and `compare` make of a long trace, which is read and not kept.
-ghost use Rattle.std.specs.Prelude.{◌≡◌, IfErr, IfOk, None, false, true};
+ghost use Rattle.std.specs.Prelude.{◌≡◌, false, true};
 ghost use Rattle.command_line.specs.Accepted.{AreAcceptedIntervals, IsAcceptedComparison, IsAcceptedPart};
 ghost use Rattle.command_line.specs.Accepted.{IsAcceptedSweep, is_long, needs_whole_trace};
 ghost use Rattle.command_line.specs.declared.arguments.Arguments.TheVariants.{Compare, Intervals, Part, Sweep};
-ghost use Rattle.streams.specs.Tally.{FailsWhere};
-ghost use Rattle.cachesim.specs.CallFaults.{IsOfRead, IsOfWrite};
-ghost use Rattle.cachesim.specs.FaultCauses.{IsDue};
-ghost use Rattle.cachesim.specs.TraceOutput.{IsTextOf};
+ghost use Rattle.cachesim.specs.Subcommand.{IsMade};
 
 use crate::fault::Fault;
 use crate::reports::jobs;
@@ -32,10 +29,7 @@ pub fn sweep<T: Threads + Wait + Sync, R: CountedRead, P: Watch>(
     requires accepted { IsAcceptedSweep arguments.now }
     requires kept { needs_whole_trace (Sweep arguments.now) ≡ false }
     requires long { is_long arguments.now.limits ≡ true }
-    ensures text { IfOk result (λ text. IsTextOf (Sweep arguments.now) (R.remaining input.old) text.items) }
-    ensures fault { IfErr result (IsDue (Sweep arguments.now) (λ path. None) (R.remaining input.old)) }
-    ensures reads { FailsWhere (IsOfRead result) (R.tally input.old) (R.tally input.new) }
-    ensures unwritten { ¬ IsOfWrite result }
+    ensures { IsMade (Sweep arguments.now) (R.remaining input.old) (R.tally input.old) (R.tally input.new) result }
 {
     let (format, limits) = (arguments.format, arguments.limits);
     let policies = &arguments.policies;
@@ -62,10 +56,7 @@ pub fn intervals<T: Threads + Wait + Sync, R: CountedRead, P: Watch>(
     requires accepted { AreAcceptedIntervals arguments.now }
     requires kept { needs_whole_trace (Intervals arguments.now) ≡ false }
     requires long { is_long arguments.now.limits ≡ true }
-    ensures text { IfOk result (λ text. IsTextOf (Intervals arguments.now) (R.remaining input.old) text.items) }
-    ensures fault { IfErr result (IsDue (Intervals arguments.now) (λ path. None) (R.remaining input.old)) }
-    ensures reads { FailsWhere (IsOfRead result) (R.tally input.old) (R.tally input.new) }
-    ensures unwritten { ¬ IsOfWrite result }
+    ensures { IsMade (Intervals arguments.now) (R.remaining input.old) (R.tally input.old) (R.tally input.new) result }
 {
     let (format, limits) = (arguments.format, arguments.limits);
     let policies = &arguments.policies;
@@ -91,10 +82,7 @@ pub fn part<R: CountedRead, P: Watch>(
     requires accepted { IsAcceptedPart arguments.now }
     requires kept { needs_whole_trace (Part arguments.now) ≡ false }
     requires long { is_long arguments.now.limits ≡ true }
-    ensures text { IfOk result (λ text. IsTextOf (Part arguments.now) (R.remaining input.old) text.items) }
-    ensures fault { IfErr result (IsDue (Part arguments.now) (λ path. None) (R.remaining input.old)) }
-    ensures reads { FailsWhere (IsOfRead result) (R.tally input.old) (R.tally input.new) }
-    ensures unwritten { ¬ IsOfWrite result }
+    ensures { IsMade (Part arguments.now) (R.remaining input.old) (R.tally input.old) (R.tally input.new) result }
 {
     let (format, limits) = (arguments.format, arguments.limits);
     let (first, second) = (&arguments.first, &arguments.second);
@@ -116,10 +104,7 @@ pub fn compare<R: CountedRead, P: Watch>(
     requires accepted { IsAcceptedComparison arguments.now }
     requires kept { needs_whole_trace (Compare arguments.now) ≡ false }
     requires long { is_long arguments.now.policies.limits ≡ true }
-    ensures text { IfOk result (λ text. IsTextOf (Compare arguments.now) (R.remaining input.old) text.items) }
-    ensures fault { IfErr result (IsDue (Compare arguments.now) (λ path. None) (R.remaining input.old)) }
-    ensures reads { FailsWhere (IsOfRead result) (R.tally input.old) (R.tally input.new) }
-    ensures unwritten { ¬ IsOfWrite result }
+    ensures { IsMade (Compare arguments.now) (R.remaining input.old) (R.tally input.old) (R.tally input.new) result }
 {
     let pair = &arguments.policies;
     let (first, second) = (&pair.first, &pair.second);

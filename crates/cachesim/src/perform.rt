@@ -5,8 +5,8 @@ ghost use Rattle.command_line.specs.Accepted.{AreAccepted, needs_whole_trace};
 ghost use Rattle.streams.specs.Tally.{FailsWhere};
 ghost use Rattle.streams.specs.declared.tally.Tally.{Tally};
 ghost use Rattle.cachesim.specs.CallFaults.{IsOfRead, IsOfWrite};
-ghost use Rattle.cachesim.specs.FaultCauses.{IsDue, Leaves};
-ghost use Rattle.cachesim.specs.Outcome.{IsDone, IsSaid};
+ghost use Rattle.cachesim.specs.Outcome.{IsSaid};
+ghost use Rattle.cachesim.specs.Subcommand.{IsPerformed};
 
 use crate::debug::{debug, replay};
 use crate::drive::drive;
@@ -42,18 +42,13 @@ pub fn perform<
 ) -> Result<(), Fault>
     requires accepted { AreAccepted arguments.now }
     requires kept { needs_whole_trace arguments.now ≡ false }
-    ensures done { OnOk result (IsDone arguments.now (F.known files.now) (R.remaining input.old) (W.contents out.old)
-        (W.contents out.new)) }
+    ensures performed { IsPerformed arguments.now (F.known files.now) (R.remaining input.old) (W.contents out.old)
+        (W.contents out.new) (R.tally input.old) (R.tally input.new) (W.tally out.old) (W.tally out.new)
+        (out.new ≡ out.old) (W.is_flushed out.new ≡ true) result }
     ensures said { OnOk result (IsSaid arguments.now (R.remaining input.old) (X.tally fault_out.old)
         (X.tally fault_out.new) (X.contents fault_out.old) (X.contents fault_out.new)
         (fault_out.new ≡ fault_out.old)) }
     ensures silent { IfErr result (λ fault. fault_out.new ≡ fault_out.old) }
-    ensures leaves { IfErr result (λ fault. Leaves arguments.now (F.known files.now) fault (R.remaining input.old)
-        (W.contents out.old) (W.contents out.new) (out.new ≡ out.old)) }
-    ensures fault { IfErr result (IsDue arguments.now (F.known files.now) (R.remaining input.old)) }
-    ensures reads { FailsWhere (IsOfRead result) (R.tally input.old) (R.tally input.new) }
-    ensures writes { FailsWhere (IsOfWrite result) (W.tally out.old) (W.tally out.new) }
-    ensures flushed { OnOk result (W.is_flushed out.new ≡ true) }
 {
     match arguments {
         Arguments::Run(arguments) => write_text(run(rt, alloc, arguments, input, watch), out),

@@ -1,12 +1,10 @@
 //! The subcommands that make a text of a trace: `run`, `sweep`, `intervals`, `part` and `compare`.
-ghost use Rattle.std.specs.Prelude.{◌≡◌, IfErr, IfOk, None, false};
+ghost use Rattle.std.specs.Prelude.{◌≡◌, IfOk, false};
 ghost use Rattle.command_line.specs.Accepted.{AreAcceptedIntervals, IsAcceptedComparison, IsAcceptedPart};
 ghost use Rattle.command_line.specs.Accepted.{IsAcceptedRun, IsAcceptedSweep, needs_whole_trace};
 ghost use Rattle.command_line.specs.declared.arguments.Arguments.TheVariants.{Compare, Intervals, Part, Run, Sweep};
-ghost use Rattle.streams.specs.Tally.{FailsWhere};
-ghost use Rattle.cachesim.specs.CallFaults.{IsOfRead, IsOfWrite};
-ghost use Rattle.cachesim.specs.FaultCauses.{IsDue};
-ghost use Rattle.cachesim.specs.TraceOutput.{IsTextOf, jobs_by_policy};
+ghost use Rattle.cachesim.specs.Subcommand.{IsMade};
+ghost use Rattle.cachesim.specs.TraceOutput.{jobs_by_policy};
 
 use crate::fault::Fault;
 use crate::{kept_reports, long_reports};
@@ -35,10 +33,7 @@ pub fn run<T: Threads + Wait + Sync, R: CountedRead, P: Watch>(
 ) -> Result<Vec<u8>, Fault>
     requires accepted { IsAcceptedRun arguments.now }
     requires kept { needs_whole_trace (Run arguments.now) ≡ false }
-    ensures text { IfOk result (λ text. IsTextOf (Run arguments.now) (R.remaining input.old) text.items) }
-    ensures fault { IfErr result (IsDue (Run arguments.now) (λ path. None) (R.remaining input.old)) }
-    ensures reads { FailsWhere (IsOfRead result) (R.tally input.old) (R.tally input.new) }
-    ensures unwritten { ¬ IsOfWrite result }
+    ensures { IsMade (Run arguments.now) (R.remaining input.old) (R.tally input.old) (R.tally input.new) result }
 {
     let policies = arguments.policies.as_slice();
     let (format, limits) = (arguments.format, arguments.limits);
@@ -80,10 +75,7 @@ pub fn sweep<T: Threads + Wait + Sync, R: CountedRead, P: Watch>(
 ) -> Result<Vec<u8>, Fault>
     requires accepted { IsAcceptedSweep arguments.now }
     requires kept { needs_whole_trace (Sweep arguments.now) ≡ false }
-    ensures text { IfOk result (λ text. IsTextOf (Sweep arguments.now) (R.remaining input.old) text.items) }
-    ensures fault { IfErr result (IsDue (Sweep arguments.now) (λ path. None) (R.remaining input.old)) }
-    ensures reads { FailsWhere (IsOfRead result) (R.tally input.old) (R.tally input.new) }
-    ensures unwritten { ¬ IsOfWrite result }
+    ensures { IsMade (Sweep arguments.now) (R.remaining input.old) (R.tally input.old) (R.tally input.new) result }
 {
     let limits = arguments.limits;
     if limits.are_long() {
@@ -104,10 +96,7 @@ pub fn intervals<T: Threads + Wait + Sync, R: CountedRead, P: Watch>(
 ) -> Result<Vec<u8>, Fault>
     requires accepted { AreAcceptedIntervals arguments.now }
     requires kept { needs_whole_trace (Intervals arguments.now) ≡ false }
-    ensures text { IfOk result (λ text. IsTextOf (Intervals arguments.now) (R.remaining input.old) text.items) }
-    ensures fault { IfErr result (IsDue (Intervals arguments.now) (λ path. None) (R.remaining input.old)) }
-    ensures reads { FailsWhere (IsOfRead result) (R.tally input.old) (R.tally input.new) }
-    ensures unwritten { ¬ IsOfWrite result }
+    ensures { IsMade (Intervals arguments.now) (R.remaining input.old) (R.tally input.old) (R.tally input.new) result }
 {
     let limits = arguments.limits;
     if limits.are_long() {
@@ -127,10 +116,7 @@ pub fn part<T: Threads, R: CountedRead, P: Watch>(
 ) -> Result<Vec<u8>, Fault>
     requires accepted { IsAcceptedPart arguments.now }
     requires kept { needs_whole_trace (Part arguments.now) ≡ false }
-    ensures text { IfOk result (λ text. IsTextOf (Part arguments.now) (R.remaining input.old) text.items) }
-    ensures fault { IfErr result (IsDue (Part arguments.now) (λ path. None) (R.remaining input.old)) }
-    ensures reads { FailsWhere (IsOfRead result) (R.tally input.old) (R.tally input.new) }
-    ensures unwritten { ¬ IsOfWrite result }
+    ensures { IsMade (Part arguments.now) (R.remaining input.old) (R.tally input.old) (R.tally input.new) result }
 {
     let limits = arguments.limits;
     if limits.are_long() {
@@ -151,10 +137,7 @@ pub fn compare<T: Threads, R: CountedRead, P: Watch>(
 ) -> Result<Vec<u8>, Fault>
     requires accepted { IsAcceptedComparison arguments.now }
     requires kept { needs_whole_trace (Compare arguments.now) ≡ false }
-    ensures text { IfOk result (λ text. IsTextOf (Compare arguments.now) (R.remaining input.old) text.items) }
-    ensures fault { IfErr result (IsDue (Compare arguments.now) (λ path. None) (R.remaining input.old)) }
-    ensures reads { FailsWhere (IsOfRead result) (R.tally input.old) (R.tally input.new) }
-    ensures unwritten { ¬ IsOfWrite result }
+    ensures { IsMade (Compare arguments.now) (R.remaining input.old) (R.tally input.old) (R.tally input.new) result }
 {
     let limits = arguments.policies.limits;
     if limits.are_long() {

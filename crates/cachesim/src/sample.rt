@@ -1,11 +1,9 @@
 //! The subcommand `sample`: a trace to the accesses to some of its blocks.
 ghost use Rattle.std.specs.Prelude.{◌≡◌, ◌≤◌, IfErr, IfOk, None, OnOk, string_bytes, true};
 ghost use Rattle.command_line.specs.declared.arguments.Arguments.TheVariants.{Sample};
-ghost use Rattle.streams.specs.Tally.{FailsWhere};
-ghost use Rattle.cachesim.specs.CallFaults.{IsOfRead, IsOfWrite};
-ghost use Rattle.cachesim.specs.FaultCauses.{IsDue, Leaves};
-ghost use Rattle.cachesim.specs.Outcome.{IsDone, IsSaid};
+ghost use Rattle.cachesim.specs.Outcome.{IsSaid};
 ghost use Rattle.cachesim.specs.SampleOutput.{counts_line};
+ghost use Rattle.cachesim.specs.Subcommand.{IsPerformed};
 
 use crate::fault::Fault;
 use crate::fault_report::report_line;
@@ -26,18 +24,13 @@ pub fn sample<R: CountedRead, W: CountedWrite, X: CountedWrite, P: Watch>(
     watch: &P,
 ) -> Result<(), Fault>
     requires { 2 ≤ arguments.now.inverse }
-    ensures done { OnOk result (IsDone (Sample arguments.now) (λ path. None) (R.remaining input.old)
-        (W.contents out.old) (W.contents out.new)) }
+    ensures performed { IsPerformed (Sample arguments.now) (λ path. None) (R.remaining input.old) (W.contents out.old)
+        (W.contents out.new) (R.tally input.old) (R.tally input.new) (W.tally out.old) (W.tally out.new)
+        (out.new ≡ out.old) (W.is_flushed out.new ≡ true) result }
     ensures said { OnOk result (IsSaid (Sample arguments.now) (R.remaining input.old) (X.tally fault_out.old)
         (X.tally fault_out.new) (X.contents fault_out.old) (X.contents fault_out.new)
         (fault_out.new ≡ fault_out.old)) }
     ensures silent { IfErr result (λ fault. fault_out.new ≡ fault_out.old) }
-    ensures leaves { IfErr result (λ fault. Leaves (Sample arguments.now) (λ path. None) fault (R.remaining input.old)
-        (W.contents out.old) (W.contents out.new) (out.new ≡ out.old)) }
-    ensures fault { IfErr result (IsDue (Sample arguments.now) (λ path. None) (R.remaining input.old)) }
-    ensures reads { FailsWhere (IsOfRead result) (R.tally input.old) (R.tally input.new) }
-    ensures writes { FailsWhere (IsOfWrite result) (W.tally out.old) (W.tally out.new) }
-    ensures flushed { OnOk result (W.is_flushed out.new ≡ true) }
 {
     let SampleArguments {
         inverse,

@@ -117,13 +117,13 @@ returns-in-Ok-done-clause-done g c zero =
     inl (
       c.in-Ok.arguments,
       parsed _ _ _ c.in-Ok.is c.parse.ensures.parsed,
-      (IfOk-at_ok _ c.in-Ok-done.is c.perform-done.ensures.done, IfOk-at_ok _ c.in-Ok-done.is c.perform-done.ensures.said),
+      (IfOk-at_ok _ c.in-Ok-done.is c.perform-done.ensures.performed.done, IfOk-at_ok _ c.in-Ok-done.is c.perform-done.ensures.said),
     )
 
 pub returns-in-Err-clause-faulted : goal.returns-in-Err-clause-faulted
 returns-in-Err-clause-faulted g c one =
-    let due = IfErr-at_err _ c.in-Err.is c.perform-done.ensures.fault in
-    let leaves = IfErr-at_err _ c.in-Err.is c.perform-done.ensures.leaves in
+    let due = IfErr-at_err _ c.in-Err.is c.perform-done.ensures.performed.fault in
+    let leaves = IfErr-at_err _ c.in-Err.is c.perform-done.ensures.performed.leaves in
     let silent : c.perform-done.new.fault_out ≡ c.args.fault_out.now = IfErr-at_err _ c.in-Err.is c.perform-done.ensures.silent in
     let line = c.report_fault-in-Err.new.fault_out in
     record {
@@ -131,7 +131,7 @@ returns-in-Err-clause-faulted g c one =
       reported = subst (λ o. IsReported c.in-Err.fault (g.X.CountedWrite.tally o) (g.X.CountedWrite.tally line) (g.X.CountedWrite.contents o)
           (g.X.CountedWrite.contents line)) silent c.report_fault-in-Err.ensures.reported;
       ended = inl (c.in-Ok.arguments, parsed _ _ _ c.in-Ok.is c.parse.ensures.parsed, record { due = due; leaves = leaves });
-      blames = blamed_at _ _ _ _ c.perform-done.result _ c.in-Err.is c.perform-done.ensures.reads c.perform-done.ensures.writes;
+      blames = blamed_at _ _ _ _ c.perform-done.result _ c.in-Err.is c.perform-done.ensures.performed.reads c.perform-done.ensures.performed.writes;
     }
 
 pub returns-in-Err-Refused-clause-served : goal.returns-in-Err-Refused-clause-served
@@ -141,4 +141,4 @@ returns-in-Err-Refused-clause-served g c zero =
 
 pub returns-in-Ok-done-clause-served : goal.returns-in-Ok-done-clause-served
 returns-in-Ok-done-clause-served g c zero =
-    (served_at _ _ _ _ c.perform-done.result _ c.in-Ok-done.is c.perform-done.ensures.reads c.perform-done.ensures.writes, IfOk-at_ok _ c.in-Ok-done.is c.perform-done.ensures.flushed)
+    (served_at _ _ _ _ c.perform-done.result _ c.in-Ok-done.is c.perform-done.ensures.performed.reads c.perform-done.ensures.performed.writes, IfOk-at_ok _ c.in-Ok-done.is c.perform-done.ensures.performed.flushed)

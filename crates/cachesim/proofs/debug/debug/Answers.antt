@@ -1,4 +1,4 @@
-use Rattle.std.proofs.Common.{◌≡◌, ap, refl, subst, false, ℕ, List, Option, None, Err}
+use Rattle.std.proofs.Common.{◌≡◌, ap, refl, subst, false, rules, ℕ, List, Option, None, Err}
 use Rattle.std.proofs.lemmas.Option.{IfSome_then}
 use Rattle.std.specs.Prelude.{IfSome}
 use Rattle.trace_read.specs.TraceText.{fault_in, keys_in}
@@ -20,28 +20,30 @@ debugging P asked file text keys has sound are holds =
     IfSome_then file has (λ bytes is. subst (λ (xs : List ℕ). (fault_in asked.format xs ≡ None) × P (policies_timeline (keys_in asked.format xs) asked.first asked.second) 0) is
     (sound, subst (λ (ks : List ℕ). P (policies_timeline ks asked.first asked.second) 0) are holds))
 
-pub returns-in_err-run_debug-clause-leaves : goal.returns-in_err-run_debug-clause-leaves
-returns-in_err-run_debug-clause-leaves g c =
+pub returns-in_err-run_debug : goal.returns-in_err-run_debug
+returns-in_err-run_debug g c =
     let asked = c.args.arguments.now.policies in
-    let file = g.F.Files.known c.args.files.now c.args.arguments.now.trace in
+    let known = g.F.Files.known c.args.files.now in
+    let file = known c.args.arguments.now.trace in
     let input = g.R.CountedRead.remaining c.args.input.now in
     let before = g.W.CountedWrite.contents c.args.out.now in
     let after = g.W.CountedWrite.contents c.run_debug.new.out in
-    let has = known_text (g.F.Files.known c.args.files.now) c.as_str.result.now c.args.arguments.now.trace c.in_ok-bytes.bytes.items c.as_slice.result.now c.as_str.ensures c.in_ok-bytes.ensures.bytes c.as_slice.ensures.value in
-    err_is _ c.from_residual-in_err-run_debug.result _ c.from_residual-in_err-run_debug.ensures.1
-    (answers_left (Debugging (Answering false input before after) asked file) (Debugging (AnsweringBegun input before after) asked file) _ _
-    (λ same. debugging (Answering false input before after) asked file c.as_slice.result.now _ has c.in_ok-trace.ensures.ok.1 c.in_ok-trace.ensures.ok.2 (c.in_err-run_debug.ensures.large (ap Err same)))
-    (debugging (AnsweringBegun input before after) asked file c.as_slice.result.now _ has c.in_ok-trace.ensures.ok.1 c.in_ok-trace.ensures.ok.2 c.in_err-run_debug.ensures.part))
-
-pub returns-in_err-run_debug-clause-fault : goal.returns-in_err-run_debug-clause-fault
-returns-in_err-run_debug-clause-fault g c =
-    let commands = g.R.CountedRead.remaining c.args.input.now in
-    let policies = c.args.arguments.now.policies in
-    let known = g.F.Files.known c.args.files.now in
-    let file = known c.args.arguments.now.trace in
-    let has = known_text known c.as_str.result.now c.args.arguments.now.trace c.in_ok-bytes.bytes.items c.as_slice.result.now c.as_str.ensures c.in_ok-bytes.ensures.bytes c.as_slice.ensures.value in
-    let sound = of_text file c.as_slice.result.now (λ bytes. fault_in policies.format bytes ≡ None) has c.in_ok-trace.ensures.ok.1 in
-    let none = subst (λ (f : Option ActorFault). ReturnsConfig f (Err c.in_err-run_debug.field-0.0)) (pair_accepted policies c.requires) c.in_err-run_debug.ensures.config in
-    err_is _ c.from_residual-in_err-run_debug.result _ c.from_residual-in_err-run_debug.ensures.1 (of_dialogue (IsFoundInFile file (IsFoundIn policies.format (IsOfCommands commands))) commands _
-    (λ h. IfSome_then file sound (λ bytes s. (s, (refl, h)))) (λ i same. none i (ap Err same))
-    (λ same. IfSome_then commands (c.in_err-run_debug.ensures.large (ap Err same)) (λ bytes writes. past_limit _ _ bytes writes.1.fits)))
+    let text = c.as_slice.result.now in
+    let read = c.in_ok-trace.ensures.ok in
+    let failed = c.in_err-run_debug.ensures in
+    let has = known_text known c.as_str.result.now c.args.arguments.now.trace c.in_ok-bytes.bytes.items text c.as_str.ensures c.in_ok-bytes.ensures.bytes c.as_slice.ensures.value in
+    let sound = of_text file text (λ bytes. fault_in asked.format bytes ≡ None) has read.1 in
+    let none = subst (λ (f : Option ActorFault). ReturnsConfig f (Err c.in_err-run_debug.field-0.0)) (pair_accepted asked c.requires) failed.config in
+    record {
+      done = search rules;
+      leaves = err_is _ c.from_residual-in_err-run_debug.result _ c.from_residual-in_err-run_debug.ensures.1
+          (answers_left (Debugging (Answering false input before after) asked file) (Debugging (AnsweringBegun input before after) asked file) _ _
+          (λ same. debugging (Answering false input before after) asked file text _ has read.1 read.2 (failed.large (ap Err same)))
+          (debugging (AnsweringBegun input before after) asked file text _ has read.1 read.2 failed.part));
+      fault = err_is _ c.from_residual-in_err-run_debug.result _ c.from_residual-in_err-run_debug.ensures.1 (of_dialogue (IsFoundInFile file (IsFoundIn asked.format (IsOfCommands input))) input _
+          (λ h. IfSome_then file sound (λ bytes s. (s, (refl, h)))) (λ i same. none i (ap Err same))
+          (λ same. IfSome_then input (failed.large (ap Err same)) (λ bytes writes. past_limit _ _ bytes writes.1.fits)));
+      reads = search rules;
+      writes = search rules;
+      flushed = search rules;
+    }

@@ -1,4 +1,4 @@
-use Rattle.std.proofs.Common.{◌≡◌, ◌∙◌, ap, subst, ℕ, Bool, List, [], ◌++◌, Option, length, refl, true, false, Err}
+use Rattle.std.proofs.Common.{◌≡◌, ◌∙◌, ap, subst, ℕ, Bool, List, [], ◌++◌, Option, length, refl, true, false, rules, Err}
 use Rattle.std.specs.Prelude.{IfSome}
 use Rattle.std.proofs.lemmas.List.{append-nil}
 use Rattle.std.proofs.lemmas.Option.{IfSome_then}
@@ -35,38 +35,49 @@ answering : (all : Bool) (input before after : Option (List ℕ)) (t : TimelineD
     → IfSome input (λ commands. WritesDialogue (dialogue_of t at commands) all before after position) → Answering all input before after t at
 answering all input before after t at position h = IfSome_then input h (λ commands writes. (position, writes))
 
-pub returns-clause-done : goal.returns-clause-done
-returns-clause-done g c =
-    let has = known_text (g.F.Files.known c.args.files.now) c.as_str.result.now c.args.arguments.now.journal c.in_ok-bytes.bytes.items c.as_slice.result.now
-    c.as_str.ensures c.in_ok-bytes.ensures.bytes c.as_slice.ensures.value in
-    of_text _ c.as_slice.result.now _ has (replayed (Answering true (g.R.CountedRead.remaining c.args.input.now) _ _) c.args.arguments.now.config c.as_slice.result.now
-    c.args.session.now c.read_journal.new.session c.requires
-    c.in_ok-read_journal.ensures.ok c.read_journal.ensures.opening c.read_journal.ensures.tail
-    (answering true _ _ _ _ _ (length c.run_replay.new.session.kept) c.in_ok-run_replay.ensures.done))
+pub returns : goal.returns
+returns g c =
+    let known = g.F.Files.known c.args.files.now in
+    let text = c.as_slice.result.now in
+    let has = known_text known c.as_str.result.now c.args.arguments.now.journal c.in_ok-bytes.bytes.items text c.as_str.ensures c.in_ok-bytes.ensures.bytes c.as_slice.ensures.value in
+    record {
+      done = of_text _ text _ has (replayed (Answering true (g.R.CountedRead.remaining c.args.input.now) _ _) c.args.arguments.now.config text
+          c.args.session.now c.read_journal.new.session c.requires
+          c.in_ok-read_journal.ensures.ok c.read_journal.ensures.opening c.read_journal.ensures.tail
+          (answering true _ _ _ _ _ (length c.run_replay.new.session.kept) c.in_ok-run_replay.ensures.done));
+      leaves = tt;
+      fault = tt;
+      reads = search rules;
+      writes = search rules;
+      flushed = search rules;
+    }
 
-pub returns-in_err-run_replay-clause-leaves : goal.returns-in_err-run_replay-clause-leaves
-returns-in_err-run_replay-clause-leaves g c =
-    let has = known_text (g.F.Files.known c.args.files.now) c.as_str.result.now c.args.arguments.now.journal c.in_ok-bytes.bytes.items c.as_slice.result.now
-    c.as_str.ensures c.in_ok-bytes.ensures.bytes c.as_slice.ensures.value in
+pub returns-in_err-run_replay : goal.returns-in_err-run_replay
+returns-in_err-run_replay g c =
+    let config = c.args.arguments.now.config in
+    let known = g.F.Files.known c.args.files.now in
+    let file = known c.args.arguments.now.journal in
     let input = g.R.CountedRead.remaining c.args.input.now in
     let before = g.W.CountedWrite.contents c.args.out.now in
     let after = g.W.CountedWrite.contents c.run_replay.new.out in
-    err_is _ c.from_residual-in_err-run_replay.result _ c.from_residual-in_err-run_replay.ensures.1 (answers_left _ _ _ _
-    (λ same. of_text _ c.as_slice.result.now _ has (replayed (Answering false input before after) c.args.arguments.now.config c.as_slice.result.now
-    c.args.session.now c.read_journal.new.session c.requires
-    c.in_ok-read_journal.ensures.ok c.read_journal.ensures.opening c.read_journal.ensures.tail
-    (answering false input before after _ _ (length c.run_replay.new.session.kept) (c.in_err-run_replay.ensures.large (ap Err same)))))
-    (of_text _ c.as_slice.result.now _ has (replayed (AnsweringBegun input before after) c.args.arguments.now.config c.as_slice.result.now
-    c.args.session.now c.read_journal.new.session c.requires
-    c.in_ok-read_journal.ensures.ok c.read_journal.ensures.opening c.read_journal.ensures.tail c.in_err-run_replay.ensures.part)))
-
-pub returns-in_err-run_replay-clause-fault : goal.returns-in_err-run_replay-clause-fault
-returns-in_err-run_replay-clause-fault g c =
-    let commands = g.R.CountedRead.remaining c.args.input.now in
-    let file = g.F.Files.known c.args.files.now c.args.arguments.now.journal in
-    let has = known_text (g.F.Files.known c.args.files.now) c.as_str.result.now c.args.arguments.now.journal c.in_ok-bytes.bytes.items c.as_slice.result.now
-    c.as_str.ensures c.in_ok-bytes.ensures.bytes c.as_slice.ensures.value in
-    err_is _ c.from_residual-in_err-run_replay.result _ c.from_residual-in_err-run_replay.ensures.1
-    (of_dialogue (IsFoundInFile file (IsOfReplay c.args.arguments.now.config commands)) commands _
-    (λ h. of_text file c.as_slice.result.now _ has (c.args.session.now.opening, c.requires.opened, (refl, h))) (λ i same. c.in_err-run_replay.ensures.config i (ap Err same))
-    (λ same. IfSome_then commands (c.in_err-run_replay.ensures.large (ap Err same)) (λ bytes writes. past_limit _ _ bytes writes.fits)))
+    let text = c.as_slice.result.now in
+    let failed = c.in_err-run_replay.ensures in
+    let has = known_text known c.as_str.result.now c.args.arguments.now.journal c.in_ok-bytes.bytes.items text c.as_str.ensures c.in_ok-bytes.ensures.bytes c.as_slice.ensures.value in
+    record {
+      done = search rules;
+      leaves = err_is _ c.from_residual-in_err-run_replay.result _ c.from_residual-in_err-run_replay.ensures.1 (answers_left _ _ _ _
+          (λ same. of_text _ text _ has (replayed (Answering false input before after) config text
+          c.args.session.now c.read_journal.new.session c.requires
+          c.in_ok-read_journal.ensures.ok c.read_journal.ensures.opening c.read_journal.ensures.tail
+          (answering false input before after _ _ (length c.run_replay.new.session.kept) (failed.large (ap Err same)))))
+          (of_text _ text _ has (replayed (AnsweringBegun input before after) config text
+          c.args.session.now c.read_journal.new.session c.requires
+          c.in_ok-read_journal.ensures.ok c.read_journal.ensures.opening c.read_journal.ensures.tail failed.part)));
+      fault = err_is _ c.from_residual-in_err-run_replay.result _ c.from_residual-in_err-run_replay.ensures.1
+          (of_dialogue (IsFoundInFile file (IsOfReplay config input)) input _
+          (λ h. of_text file text _ has (c.args.session.now.opening, c.requires.opened, (refl, h))) (λ i same. failed.config i (ap Err same))
+          (λ same. IfSome_then input (failed.large (ap Err same)) (λ bytes writes. past_limit _ _ bytes writes.fits)));
+      reads = search rules;
+      writes = search rules;
+      flushed = search rules;
+    }

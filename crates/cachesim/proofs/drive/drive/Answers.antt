@@ -121,35 +121,31 @@ held : {X Y G : Type 0} (r : Result X Y) {P Q R : X → Type 0} → IsOkAnd r P 
 held (Ok x) p q r then = then x p q r
 held (Err e) p q r then = absurd p
 
-pub returns-clause-done : goal.returns-clause-done
-returns-clause-done g c =
+pub returns : goal.returns
+returns g c =
     let arguments = c.args.arguments.now in
+    let input = g.R.CountedRead.remaining c.args.input.now in
     let session = c.in_ok-session.session in
     let first = c.in_ok-session.ensures in
-    on_ok_weaker c.write_run-written.result (λ done. held c.drive-run.result done c.drive-run.ensures.run c.drive-run.ensures.legal (λ driven written run legal.
-    journal_of_run arguments.config arguments.workers arguments.format (g.R.CountedRead.remaining c.args.input.now) _ _ _ session first _ c.in_ok-trace.ensures.ok c.in_ok-pieces.ensures
-    AreWalksOfReads (λ n. n ≤ arguments.config.journal_limit) driven.session (reads_made _ arguments.workers _ _ session driven.session c.in_ok-pieces.ensures first.none run) run.opening legal
-    (subst (λ l. length driven.session.kept ≤ l) (run.limit ∙ c.in_ok-session.ensures.limit) written.0) written.1)) c.write_run-written.ensures.written
-
-pub returns-clause-reads : goal.returns-clause-reads
-returns-clause-reads g c = record {
-  failing = λ p. absurd (c.write_run-written.ensures.unread p);
-  served = λ none. c.in_ok-trace.ensures.tally.served (λ wrong. absurd (cc (c.in_ok-trace.is, wrong)));
-}
-
-pub returns-clause-leaves : goal.returns-clause-leaves
-returns-clause-leaves g c =
-    let arguments = c.args.arguments.now in
-    IfErr-weaker c.write_run-written.result _ _ (λ fault left. leaves arguments.config arguments.workers arguments.format (g.R.CountedRead.remaining c.args.input.now) _ _
-    (map (λ p. p.items) c.in_ok-pieces.pieces.items) c.in_ok-session.session c.in_ok-session.ensures _ c.in_ok-trace.ensures.ok c.in_ok-pieces.ensures _ c.drive-run.result c.in_ok-session.ensures.limit c.drive-run.ensures.fault fault left)
-    c.write_run-written.ensures.leaves
-
-pub returns-clause-fault : goal.returns-clause-fault
-returns-clause-fault g c =
-    let arguments = c.args.arguments.now in
-    IfErr-weaker c.write_run-written.result _ _ (λ fault left. of_run arguments.config arguments.workers arguments.format (g.R.CountedRead.remaining c.args.input.now) _ _
-    (map (λ p. p.items) c.in_ok-pieces.pieces.items) c.in_ok-session.session c.in_ok-session.ensures _ c.in_ok-trace.ensures.ok c.in_ok-pieces.ensures (Unit {0}) c.drive-run.result c.in_ok-session.ensures.limit c.drive-run.ensures.fault fault left)
-    c.write_run-written.ensures.leaves
+    let pieces = map (λ p. p.items) c.in_ok-pieces.pieces.items in
+    let run = c.drive-run.ensures in
+    let written = c.write_run-written in
+    record {
+      done = on_ok_weaker written.result (λ done. held c.drive-run.result done run.run run.legal (λ driven written run legal.
+          journal_of_run arguments.config arguments.workers arguments.format input _ _ _ session first _ c.in_ok-trace.ensures.ok c.in_ok-pieces.ensures
+          AreWalksOfReads (λ n. n ≤ arguments.config.journal_limit) driven.session (reads_made _ arguments.workers _ _ session driven.session c.in_ok-pieces.ensures first.none run) run.opening legal
+          (subst (λ l. length driven.session.kept ≤ l) (run.limit ∙ first.limit) written.0) written.1)) written.ensures.written;
+      leaves = IfErr-weaker written.result _ _ (λ fault left. leaves arguments.config arguments.workers arguments.format input _ _
+          pieces session first _ c.in_ok-trace.ensures.ok c.in_ok-pieces.ensures _ c.drive-run.result first.limit run.fault fault left) written.ensures.leaves;
+      fault = IfErr-weaker written.result _ _ (λ fault left. of_run arguments.config arguments.workers arguments.format input _ _
+          pieces session first _ c.in_ok-trace.ensures.ok c.in_ok-pieces.ensures (Unit {0}) c.drive-run.result first.limit run.fault fault left) written.ensures.leaves;
+      reads = record {
+        failing = λ p. absurd (written.ensures.unread p);
+        served = λ none. c.in_ok-trace.ensures.tally.served (λ wrong. absurd (cc (c.in_ok-trace.is, wrong)));
+      };
+      writes = written.ensures.writes;
+      flushed = written.ensures.flushed;
+    }
 
 pub write_run-written-requires : goal.write_run-written-requires
 write_run-written-requires g c =

@@ -30,12 +30,12 @@ run_reading_within-requires-clause-due g c κs within = can_pass c.args.argument
 pub run_reading_within-requires-clause-follow : goal.run_reading_within-requires-clause-follow
 run_reading_within-requires-clause-follow g c κs within = All-nil (CanFollow c.args.arguments.now.limits.accesses)
 
-pub returns-clause-text : goal.returns-clause-text
-returns-clause-text g c =
+pub returns : goal.returns
+returns g c =
     let format = c.args.arguments.now.format in
     let input = g.R.CountedRead.remaining c.args.input.now in
     let jobs = c.as_slice.ensures.value ∙ c.in_ok-jobs.ensures in
     let text = c.in_ok-reports_text.ensures ∙ ap reports_text c.as_slice-2.ensures.value in
     let sound = IfSome_then input c.in_ok-reports.ensures.read.ok (λ bytes h. h.1) in
     let made = IfSome_then input c.in_ok-reports.ensures.reports (λ bytes is. text ∙ ap reports_text (is ∙ ap (λ (js : List Job). reports_on js (keys_in format bytes)) jobs)) in
-    search (rules, sound, made)
+    record { text = search (rules, sound, made); fault = search rules; reads = search rules; unwritten = search rules }

@@ -1,4 +1,4 @@
-use Rattle.std.proofs.Common.{◌≡◌, ◌∙◌, refl, subst, sym, arith, ℕ, List, Option, Result, Ok, Err, length}
+use Rattle.std.proofs.Common.{◌≡◌, ◌∙◌, refl, subst, sym, arith, rules, ℕ, List, Option, Result, Ok, Err, length}
 use Rattle.std.specs.Prelude.{IfErr}
 use Rattle.std.specs.Io.KnownBytes.{Appends}
 use Rattle.std.proofs.Math.Seq.{take-length}
@@ -26,10 +26,17 @@ line_of : (sample : SampleArguments) (keys : List ℕ) (counts : SampleCounts) �
     → counts_line sample.inverse counts ≡ sample_line sample keys
 line_of sample keys counts are = rw (are.accesses, are.kept, are.blocks) refl
 
-pub returns-in_err-line-clause-leaves : goal.returns-in_err-line-clause-leaves
-returns-in_err-line-clause-leaves g c =
+pub returns-in_err-line-clause-performed : goal.returns-in_err-line-clause-performed
+returns-in_err-line-clause-performed g c =
     let whole = IfSome_then (g.R.CountedRead.remaining c.args.input.now) c.in_ok-counts.ensures.text (λ bytes all. whole_part _ _ _ all) in
-    at_any c.from_residual-in_err-line.result whole
+    record {
+      done = search rules;
+      leaves = at_any c.from_residual-in_err-line.result whole;
+      fault = search rules;
+      reads = search rules;
+      writes = search rules;
+      flushed = search rules;
+    }
 
 pub returns-clause-said : goal.returns-clause-said
 returns-clause-said g c =

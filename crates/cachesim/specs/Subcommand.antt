@@ -1,0 +1,35 @@
+-- What a subcommand returns, and what it does with the input and the output.
+use Rattle.std.specs.Prelude.{ℕ, List, Option, None, Result, IfErr, IfOk, OnOk}
+use Rattle.std.specs.Global.{Vec}
+use Rattle.std.specs.Vec.{vec_items}
+use Rattle.streams.specs.Tally.{FailsWhere}
+use Rattle.streams.specs.declared.tally.Tally.{Tally}
+use Rattle.command_line.specs.declared.arguments.Arguments.{Arguments}
+use Rattle.cachesim.specs.CallFaults.{IsOfRead, IsOfWrite}
+use Rattle.cachesim.specs.DebugOutput.{KnownFiles}
+use Rattle.cachesim.specs.FaultCauses.{IsDue, Leaves}
+use Rattle.cachesim.specs.Outcome.{IsDone}
+use Rattle.cachesim.specs.TraceOutput.{IsTextOf}
+use Rattle.cachesim.specs.declared.fault.Fault.{Fault}
+
+-- It made the text that the arguments ask for, over the bytes of the input, or returned a fault that is due. A read
+-- failed just where that is the fault, by what the input counted before and after; and nothing was written.
+pub record IsMade (arguments : Arguments) (input : Option (List ℕ)) (before after : Tally) (made : Result (Vec ℕ) Fault)
+    : Type 0 where
+  pub text : IfOk made (λ text. IsTextOf arguments input (vec_items text))
+  pub fault : IfErr made (IsDue arguments (λ path. None) input)
+  pub reads : FailsWhere (IsOfRead made) before after
+  pub unwritten : ¬ IsOfWrite made
+
+-- It did what the arguments ask for, over the bytes of the input, with the output from `before` to `after`; or it
+-- returned a fault that is due, and left what that leaves. A read, a write or a flush failed just where that is the
+-- fault, by what the input and the output counted before and after.
+pub record IsPerformed (arguments : Arguments) (files : KnownFiles) (input before after : Option (List ℕ))
+    (read_before read_after written_before written_after : Tally) (Kept Flushed : Type 0)
+    (performed : Result (Unit {0}) Fault) : Type 0 where
+  pub done : OnOk performed (IsDone arguments files input before after)
+  pub leaves : IfErr performed (λ fault. Leaves arguments files fault input before after Kept)
+  pub fault : IfErr performed (IsDue arguments files input)
+  pub reads : FailsWhere (IsOfRead performed) read_before read_after
+  pub writes : FailsWhere (IsOfWrite performed) written_before written_after
+  pub flushed : OnOk performed Flushed
