@@ -16,10 +16,14 @@ use step_record::{Config, Gate, Job, Key, OpenGate, Policy, Spread, Trace, Tunin
 use streams::{CountedReader, CountedWriter};
 
 const fn at_two(policy: Policy) -> Job {
+    of_capacity(2, policy)
+}
+
+const fn of_capacity(capacity: u32, policy: Policy) -> Job {
     Job {
         policy,
         config: Config {
-            capacity: 2,
+            capacity,
             main_percent: 99,
             spread: Spread::Plain,
             stripes: 1,
@@ -212,5 +216,90 @@ fault: Command
     let answer = answer_through(&rt, rt.alloc(), input, &mut output)?;
     assert_equal(&rt, answer, Ok(()));
     assert_equal(&rt, output.get_ref().taken.as_slice(), text.as_bytes());
+    Ok(())
+}
+
+// A capacity, a policy beside Caffeine, commands and their answers, over ten accesses an entry to key 1, as many to new
+// keys, and as many to key 1 again. Caffeine's window has a size of 1 at first, and each of the three is a period. In the
+// first more hit than in none, so the target goes on down, and stays at 1. In the second fewer hit: the direction turns,
+// and the target goes up by the step, a sixteenth of the capacity. In the third more hit, and it goes up again. The size
+// follows by one an access.
+const WINDOWS: [(u32, Policy, &str, &str); 2] = [
+    (
+        16,
+        Policy::WindowTinyLfu,
+        "window\ngoto 160\nwindow\ngoto 319\nwindow\nstep 1\nwindow\ngoto 480\nwindow\nback 1\nwindow\nwindow 1\n",
+        "a caffeine window 1 target 1
+b wtinylfu window 1
+at 160
+a caffeine window 1 target 1
+b wtinylfu window 1
+at 319
+a caffeine window 1 target 1
+b wtinylfu window 1
+at 320
+a caffeine window 2 target 2
+b wtinylfu window 1
+at 480
+a caffeine window 3 target 3
+b wtinylfu window 1
+at 479
+a caffeine window 2 target 2
+b wtinylfu window 1
+fault: Command
+",
+    ),
+    (
+        32,
+        Policy::Lru,
+        "goto 640\nwindow\nstep 1\nwindow\n",
+        "at 640
+a caffeine window 2 target 3
+b lru window none
+at 641
+a caffeine window 3 target 3
+b lru window none
+",
+    ),
+];
+
+// Ten accesses an entry to key 1, as many to new keys, and as many to key 1 again.
+fn there_and_back(alloc: Global, capacity: u32) -> Result<Trace, Fail> {
+    let third = 10 * Key::from(capacity);
+    let mut keys = Vec::new(alloc);
+    for i in 0..3 * third {
+        let is_new = third <= i && i < 2 * third;
+        keys.push(if is_new { i } else { 1 })?;
+    }
+    match keys.len() <= 1000 {
+        true => Ok(Trace::new(keys)),
+        false => Err(Fail::from("a longer trace than these tests have")),
+    }
+}
+
+// Sees what the debugger answers to the commands of a row.
+fn assert_windows<R: Abort + Threads>(
+    rt: &R,
+    alloc: Global,
+    (capacity, other, commands, wanted): (u32, Policy, &str, &str),
+) -> Result<(), Fail> {
+    let trace = there_and_back(alloc, capacity)?;
+    let first = of_capacity(capacity, Policy::Caffeine);
+    let second = of_capacity(capacity, other);
+    let mut input = commands.as_bytes();
+    let mut out = CountedWriter::new(Vec::with_capacity(alloc, ROOM)?);
+    match run_debug(rt, alloc, &trace, &first, &second, &mut input, &mut out) {
+        Ok(()) => assert_equal(rt, out.get_ref().as_slice(), wanted.as_bytes()),
+        Err(DebugFault::OutOfMemory) => return Err(Fail::from("out of memory")),
+        Err(_) => return Err(Fail::from("a fault")),
+    }
+    Ok(())
+}
+
+#[test]
+fn the_window_at_each_place(rt: HostRuntime) -> Result<(), Fail> {
+    for row in WINDOWS {
+        assert_windows(&rt, rt.alloc(), row)?;
+    }
     Ok(())
 }

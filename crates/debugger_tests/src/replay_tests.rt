@@ -50,7 +50,7 @@ pub fn opened(rt: &impl Abort, alloc: Global) -> Result<Session<Shell>, Fail> {
     Ok(session)
 }
 
-const COMMANDS: &str = "back 3\nshow\nbreak drop\nrun\nstep 1\ngoto 2\nsave\n";
+const COMMANDS: &str = "back 3\nshow\nwindow\nbreak drop\nrun\nstep 1\ngoto 2\nsave\n";
 
 const ANSWERS: &str = "at 6
 drain toidle
@@ -64,6 +64,7 @@ stripe 0
 writes
 age 1 halvings 0
 hits 0 misses 1 kept 0 full 0 lost 0 added 1 updated 0 refused 0 evictions 0 rejections 0 begun 1 busy 0 removed 0
+fault: Command
 ok
 end
 at 9
