@@ -316,6 +316,7 @@ MISTAKES = {
     "the whole trace as a sample": Mistake(check_sampled, "samples.py", "and accesses < whole", ""),
     "another sample than is said": Mistake(check_sampled, "samples.py", "accesses != kept", "accesses < kept"),
     "a sample below 0": Mistake(check_sampled, "curves.py", "min(accesses, (row", "max(0, (row"),
+    "a closed reader with status 0": Mistake(check_curves, "traces.py", "os._exit(141)", "os._exit(0)"),
     "half a picture on a full disk": Mistake(check_curves, "traces.py", "    except OSError as fault:\n        sys.exit(f\"{tool}",
                                              "    except OSError as fault:\n        print(f\"{tool}"),
 }

@@ -22,7 +22,7 @@ def check_blocks(sample, folder, program):
         expect("the accesses", kept == [it for it in blocks if it in distinct] and least < len(kept) < most, True)
         expect_parts("what is said", error, f"{len(kept)} of {count} accesses, {len(distinct)} blocks: --sampled 1/{inverse} --accesses {count}")
     expect("a pipe", sampled("--rate", "1/8", typed=trace.read_text())[0], out)
-    expect("gzip", sampled("--rate", "1/8", "-", typed=gzip.compress(trace.read_bytes()))[0], out)
+    expect("gzip", sampled("--rate", "1/8", "-", typed=gzip.compress(trace.read_bytes(), 1))[0], out)
     other = sampled("--rate", "1/8", "--seed", "2", trace)[0]
     expect("another seed", other != out and bool(other), True)
 

@@ -277,7 +277,7 @@ def check_ways(survey, folder, program):
     plain = file_of(folder, "plain", text)
     wanted = run(survey, plain, *words)[0]
     expect("the trace", wanted.splitlines()[1], f"{plain},2003,29,0,98.55")
-    packed = {"gz": gzip.compress(text)}
+    packed = {"gz": gzip.compress(text, 1)}
     if shutil.which("zstd"):
         packed["zst"] = subprocess.run(["zstd", "-qc", "--fast=9999"], input=text, capture_output=True, check=True).stdout
     for name, data in packed.items():
@@ -540,6 +540,7 @@ MISTAKES = {
     "a sample below 0": Mistake(check_sampled, "reports.py", "min(accesses, row.misses", "max(0, row.misses"),
     "a sample of another trace": Mistake(check_sampled, "measures.py", 'check_accesses(args, f"{trace.name}: ", report.accesses)', "pass"),
     "the capacity of a sample": Mistake(check_sampled, "measures.py", "round(it / trace.inverse)", "it"),
+    "reports of a program that fails": Mistake(check_lost_row, "reports.py", "        if ended.returncode:", "        if ended.returncode and not ended.stdout:"),
     "no number taken for one": Mistake(check_lost_row, "option_types.py", "not number.is_finite() or ", ""),
     "a picture over the old one": Mistake(check_kept_picture, "traces.py", "if is_file else name", "if False else name"),
     "a picture that is not drawn": Mistake(check_kept_picture, "survey", "    if ended.returncode:", "    if False:"),
