@@ -18,11 +18,8 @@ use step_record::{Config, Engine, Item, Key, MAX_STEPS, Outcome, Stats, StepFaul
 /// How many columns each of the four rows of the sketch has for an entry: sixteen counters in all, as Caffeine's.
 pub const COLUMNS: u32 = 4;
 
-// The least capacity at which it is read ahead of searches, and of counts: in smaller caches that costs more than it
-// spares.
+// The least capacity at which it is read ahead: in smaller caches that costs more than it spares.
 const AHEAD_FROM: u32 = 4096;
-
-const COUNTS_AHEAD_FROM: u32 = 65_536;
 
 /// A cache of W-TinyLFU with a window whose size follows the hits. Contracts see the rules of its climber, its window,
 /// its frequency and its counts.
@@ -31,8 +28,6 @@ pub struct AdaptiveCache {
     window: AdaptiveWindow,
     frequency: Frequency,
     stats: Stats,
-    /// A sum over what `read_ahead` read, kept so that the compiler cannot drop the reads.
-    read: u32,
 }
 
 /// The undo record of an access: that of the recording of its key, and what the access came to and moved. It holds lists
@@ -74,7 +69,6 @@ impl AdaptiveCache {
             window: AdaptiveWindow::new(alloc, config, period),
             frequency,
             stats: Stats::NONE,
-            read: 0,
         })
     }
 
@@ -86,22 +80,8 @@ impl AdaptiveCache {
         requires { i ≤ length keys.now }
         ensures { self.new ≡ self.old }
     {
-        if i % AHEAD == 0 {
-            self.read_ahead(keys, i);
-        }
-    }
-
-    #[inline(never)]
-    fn read_ahead(&mut self, keys: &[Key], i: usize)
-        requires { i ≤ length keys.now }
-        ensures { self.new ≡ self.old }
-    {
-        if self.window.capacity() >= AHEAD_FROM {
+        if i % AHEAD == 0 && self.window.capacity() >= AHEAD_FROM {
             self.window.read_ahead(keys, i);
-        }
-        if self.window.capacity() >= COUNTS_AHEAD_FROM {
-            let end = keys.len().min(i + AHEAD);
-            self.read ^= self.frequency.read_ahead(&keys[i..end]);
         }
     }
 

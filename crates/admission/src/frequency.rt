@@ -196,11 +196,6 @@ impl Frequency {
         self.sketch.prepare(key);
     }
 
-    /// Reads ahead what the sketch counts these keys with. What it returns means nothing.
-    pub fn read_ahead(&self, keys: &[Key]) -> u32 {
-        self.sketch.read_ahead(keys)
-    }
-
     /// Whether the candidate is estimated above the victim. A tie admits nobody.
     pub fn admits(&self, candidate: Key, victim: Key) -> bool
         ensures { result ≡ nat_lt (estimate_of victim self.now) (estimate_of candidate self.now) }

@@ -201,22 +201,6 @@ impl Sketch {
         least_of_four([a, b, c, d]) as u8
     }
 
-    /// Reads ahead what counts these keys. What it returns means nothing.
-    pub fn read_ahead(&self, keys: &[Key]) -> u32 {
-        let mut read = 0;
-        for key in keys {
-            read ^= self.read_counters(*key);
-        }
-        read
-    }
-
-    // Reads the key's four counters.
-    fn read_counters(&self, key: Key) -> u32 {
-        let columns = columns(self.spread, key, self.width);
-        let upper = self.count(0, columns[0]) ^ self.count(1, columns[1]);
-        upper ^ self.count(2, columns[2]) ^ self.count(3, columns[3])
-    }
-
     // The key's column in each row.
     #[inline(always)]
     fn columns_of(&self, key: Key) -> [u32; 4]
