@@ -18,9 +18,9 @@ use Rattle.sweeps.specs.Intervals.{intervals_on}
 use Rattle.policies.specs.declared.report.Interval.{Interval}
 use Rattle.report.specs.IntervalText.{intervals_text}
 use Rattle.report.specs.Text.{reports_text}
-use Rattle.debug_policies.specs.ComparedIntervals.{compared_intervals_on, compared_intervals_text}
-use Rattle.debug_policies.specs.Comparison.{compared_on, comparison_text}
-use Rattle.debug_policies.specs.Part.{part_line, IsPart}
+use Rattle.policy_comparison.specs.ComparedIntervals.{compared_intervals_on, compared_intervals_text}
+use Rattle.policy_comparison.specs.Comparison.{compared_on, comparison_text}
+use Rattle.policy_comparison.specs.Part.{part_line, IsPart}
 
 -- one job for each policy, all on one configuration with one tuning
 abbrev pub jobs_by_policy : Config → Tuning → List Policy → List Job

@@ -12,10 +12,10 @@ use crate::reports::jobs;
 use command_line::{
     CompareArguments, IntervalsArguments, PartArguments, PolicyList, SweepArguments,
 };
-use debug_policies::{
+use policies::MAX_ACTORS;
+use policy_comparison::{
     part_watched, push_compared_intervals, push_comparison, push_part, stretches,
 };
-use policies::MAX_ACTORS;
 use progress::Watch;
 use report::{intervals_text, reports_text};
 use std::alloc::Global;
@@ -136,7 +136,7 @@ fn compare_whole<R: Threads, P: Watch>(
     ensures fault { IfErr result (λ fault. fault ≡ Fault.OutOfMemory) }
 {
     let (first, second) = (&pair.first, &pair.second);
-    let counts = only_memory(debug_policies::compare(rt, alloc, trace, first, second, watch))?;
+    let counts = only_memory(policy_comparison::compare(rt, alloc, trace, first, second, watch))?;
     let mut text = Vec::new(alloc);
     push_comparison(&mut text, first, second, &counts)?;
     Ok(text)
@@ -158,7 +158,7 @@ fn compare_intervals<R: Threads, P: Watch>(
     ensures fault { IfErr result (λ fault. fault ≡ Fault.OutOfMemory) }
 {
     let (first, second, every) = (&pair.first, &pair.second, every as usize);
-    let rows = debug_policies::compare_intervals(rt, alloc, trace, first, second, every, watch);
+    let rows = policy_comparison::compare_intervals(rt, alloc, trace, first, second, every, watch);
     let rows = only_memory(rows)?;
     let mut text = Vec::new(alloc);
     push_compared_intervals(&mut text, first, second, rows.as_slice())?;

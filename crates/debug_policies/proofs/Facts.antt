@@ -14,10 +14,10 @@ use Rattle.debug_commands.specs.declared.fault.DebugFault.TheVariants as debug
 use Rattle.policies.specs.FaultyJobs.{config_or}
 use Rattle.debug_policies.specs.ConfigFault.{ReturnsConfig, UntouchedAtConfig}
 use Rattle.debug_policies.specs.OnePolicy.{OnePolicyState}
-use Rattle.debug_policies.specs.Part.{IsPart}
+use Rattle.policy_comparison.specs.Part.{IsPart}
 use Rattle.debug_policies.specs.TwoPolicies.{first_parting, just_one, IsPartWalk}
 use Rattle.debug_commands.proofs.Results.{at_success}
-use Rattle.debug_policies.proofs.Texts.{piece}
+use Rattle.policy_comparison.proofs.Texts.{piece}
 
 -- ---- what both add to a text
 

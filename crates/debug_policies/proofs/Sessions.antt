@@ -13,7 +13,7 @@ use Rattle.policies.specs.AnyPolicy.{HasAccessed}
 use Rattle.policies.specs.AnyStep.{any_act}
 use Rattle.policies.specs.Theorems.{AnyAnswers, AnyStepLaw}
 use Rattle.debug_policies.specs.OnePolicy.{outcome_at, steps_of, IsPolicyAt}
-use Rattle.debug_policies.proofs.Walked.{moves, outcome-is, stands-in}
+use Rattle.policy_comparison.proofs.Walked.{moves, outcome-is, stands-in}
 
 abbrev State : Type 0
 State = SessionState AnyPolicy AnyPolicy ℕ Outcome

@@ -1,10 +1,4 @@
-pub mod Part
-pub mod CacheAccess
-pub mod TwoCaches
 pub mod Window
 pub mod OnePolicy
 pub mod TwoPolicies
 pub mod ConfigFault
-pub mod Comparison
-pub mod ComparedIntervals
-pub mod ComparedRows

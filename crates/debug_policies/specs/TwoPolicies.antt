@@ -10,7 +10,7 @@ use Rattle.debug_commands.specs.Timeline.{TimelineData}
 use Rattle.debug_commands.specs.declared.breakpoint.StepFacts.{StepFacts}
 use Rattle.debug_commands.specs.declared.command.Dialect.TheVariants.{Policies}
 use Rattle.debug_policies.specs.OnePolicy.{age_at, outcome_at, policy_lines, OnePolicyState}
-use Rattle.debug_policies.specs.Part.{part_line}
+use Rattle.policy_comparison.specs.Part.{part_line}
 use Rattle.debug_policies.specs.Window.{window_line}
 
 -- ---- what breakpoints look at

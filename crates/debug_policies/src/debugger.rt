@@ -9,11 +9,10 @@ ghost use Rattle.debug_policies.specs.TwoPolicies.{IsPartWalk};
 ghost use Rattle.streams.specs.Part.{AppendsPart};
 ghost use Rattle.streams.specs.Tally.{FailsWhere};
 
-use crate::cache_access::hits;
-use crate::divergence::{part, push_part};
 use crate::one_policy::OnePolicy;
 use debug_commands::{DebugFault, Dialect, StepFacts, Timeline, answer_commands};
 use policies::theorems;
+use policy_comparison::{hits, part, push_part};
 use std::alloc::{AllocError, Global};
 use std::thread::Threads;
 use step_record::{Job, Key, Outcome, Trace};

@@ -2,5 +2,6 @@
 //! Each is a crate of its own, with the promises of its functions.
 #![tactic(auto)]
 
-pub use debug_policies::{DebugFault, part, push_part, run_debug};
+pub use debug_policies::{DebugFault, run_debug};
 pub use debug_replay::run_replay;
+pub use policy_comparison::{part, push_part};

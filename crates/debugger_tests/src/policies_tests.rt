@@ -1,11 +1,11 @@
 //! Small traces whose outcomes were worked out by hand.
 use super::assertions::assert_equal;
 use super::pipe::{Pipe, ROOM};
-use debug_policies::{
-    ComparedInterval, Comparison, DebugFault, STRETCH, compare, compare_intervals, part,
-    part_watched, run_debug,
-};
+use debug_policies::{DebugFault, run_debug};
 use policies::ActorFault;
+use policy_comparison::{
+    ComparedInterval, Comparison, STRETCH, compare, compare_intervals, part, part_watched,
+};
 use std::alloc::Global;
 use std::process::Abort;
 use std::sync::atomic::AtomicU64;

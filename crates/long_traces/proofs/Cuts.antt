@@ -12,7 +12,7 @@ use Rattle.policies.proofs.FirstAccesses.{first-counts}
 use Rattle.policies.proofs.StepLaws.{any_covers_trace}
 use Rattle.sweeps.specs.Intervals.{between, first_intervals, interval_at, intervals_on, IsLater}
 use Rattle.sweeps.proofs.Pieces.{next-interval, next-later}
-use Rattle.debug_policies.proofs.CutHits.{covers-part, covers-whole}
+use Rattle.policy_comparison.proofs.CutHits.{covers-part, covers-whole}
 use Rattle.long_traces.specs.JobRuns.{EndsRow, HasCut, rows_in}
 use Rattle.long_traces.specs.declared.job_run.JobRun.{JobRun}
 

@@ -10,7 +10,7 @@ use Rattle.policies.specs.AnyPolicy.{HasAccessed}
 use Rattle.policies.specs.Design.{knows_trace}
 use Rattle.policies.specs.declared.any_policy.AnyPolicy.TheVariants.{Adaptive, Demand, Optimal, Queues}
 use Rattle.policies.specs.declared.any_policy.AnyPolicy.{AnyPolicy}
-use Rattle.debug_policies.specs.CacheAccess.{StandsAt}
+use Rattle.policy_comparison.specs.CacheAccess.{StandsAt}
 use Rattle.long_traces.specs.Taking.{AreNext}
 
 -- a piece of the keys comes next behind those before it

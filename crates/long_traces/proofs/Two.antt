@@ -4,7 +4,7 @@ use Rattle.std.specs.Option.{is_some}
 use mathlib.Core.Bool.{not, beq}
 use Rattle.step_record.specs.declared.job.Job.{Job}
 use Rattle.step_record.specs.declared.outcome.Outcome.{Outcome}
-use Rattle.debug_policies.specs.Part.{AgreeBelow}
+use Rattle.policy_comparison.specs.Part.{AgreeBelow}
 use Rattle.long_traces.specs.Pairs.{AreTwo}
 
 pub two-then : (jobs : List Job) (P Q : Job → Job → Type 0) → ((first second : Job) → P first second → Q first second) → AreTwo jobs P → AreTwo jobs Q

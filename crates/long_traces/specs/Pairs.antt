@@ -3,9 +3,9 @@ use Rattle.std.specs.Prelude.{◌≡◌, ◌≤◌, ℕ, ◌+◌, true, IfNone, 
 use Rattle.step_record.specs.declared.job.Job.{Job}
 use Rattle.step_record.specs.declared.limits.TheConstants.{MAX_STEPS}
 use Rattle.policies.specs.AnyPolicy.{HasAccessed, outcomes_on}
-use Rattle.debug_policies.specs.Comparison.{hits_beside}
-use Rattle.debug_policies.specs.ComparedRows.{HasCounted}
-use Rattle.debug_policies.specs.Part.{AgreeBelow, IsPart}
+use Rattle.policy_comparison.specs.Comparison.{hits_beside}
+use Rattle.policy_comparison.specs.ComparedRows.{HasCounted}
+use Rattle.policy_comparison.specs.Part.{AgreeBelow, IsPart}
 use Rattle.long_traces.specs.Taking.{AreNext, Task}
 use Rattle.long_traces.specs.declared.compared_run.ComparedRun.{ComparedRun}
 use Rattle.long_traces.specs.declared.pair.Pair.{Pair}

@@ -2,14 +2,14 @@
 ghost use Rattle.std.specs.Prelude.{◌≡◌, ◌≤◌, ◌+◌, ℕ, List, Ok, true, IfOk, OnOk, length};
 ghost use Rattle.step_record.specs.Config.{config_fault};
 ghost use Rattle.step_record.specs.declared.job.Job.{Job};
-ghost use Rattle.debug_policies.specs.Comparison.{compared_on};
-ghost use Rattle.debug_policies.specs.ComparedIntervals.{compared_intervals_on};
+ghost use Rattle.policy_comparison.specs.Comparison.{compared_on};
+ghost use Rattle.policy_comparison.specs.ComparedIntervals.{compared_intervals_on};
 ghost use Rattle.long_traces.specs.Taking.{AreNext, CanTake, FollowsTrace, HasTakenAll};
 ghost use Rattle.long_traces.specs.Pairs.{HasCompared, HasComparedRun, HasComparedTask};
 
 use crate::feed::Taker;
 use crate::pair::Pair;
-use debug_policies::{ComparedInterval, ComparedRows, Comparison};
+use policy_comparison::{ComparedInterval, ComparedRows, Comparison};
 use std::alloc::{AllocError, Global};
 use step_record::{Job, Key};
 

@@ -3,12 +3,12 @@ ghost use Rattle.std.specs.Prelude.{◌≡◌, ◌<◌, ◌+◌, ℕ, List, Ok, 
 ghost use Rattle.step_record.specs.Config.{config_fault};
 ghost use Rattle.step_record.specs.declared.job.Job.{Job};
 ghost use Rattle.policies.specs.AnyPolicy.{outcomes_on};
-ghost use Rattle.debug_policies.specs.Part.{is_hit_at};
+ghost use Rattle.policy_comparison.specs.Part.{is_hit_at};
 ghost use Rattle.long_traces.specs.Taking.{AreNext, FollowsTrace};
 ghost use Rattle.long_traces.specs.Pairs.{AreBefore, HavePaired};
 
-use debug_policies::hit_at;
 use policies::AnyPolicy;
+use policy_comparison::hit_at;
 use std::alloc::{AllocError, Global};
 use step_record::{Job, Key, Trace};
 

@@ -3,7 +3,7 @@ ghost use Rattle.std.specs.Prelude.{◌≡◌, ◌≤◌, ◌<◌, ◌+◌, ℕ,
 ghost use Rattle.step_record.specs.Config.{config_fault};
 ghost use Rattle.step_record.specs.declared.job.Job.{Job};
 ghost use Rattle.policies.specs.AnyPolicy.{outcomes_on};
-ghost use Rattle.debug_policies.specs.Part.{AgreeBelow, IsPart};
+ghost use Rattle.policy_comparison.specs.Part.{AgreeBelow, IsPart};
 ghost use Rattle.long_traces.specs.Taking.{AreNext, CanTake, FollowsTrace};
 ghost use Rattle.long_traces.specs.Pairs.{HavePaired, HasParted, HasPartedTask};
 

@@ -4,7 +4,7 @@ use Rattle.step_record.specs.declared.stats.Stats.{Stats}
 use Rattle.step_record.specs.Job.{word_of}
 use Rattle.debug_commands.specs.Texts.{count_text}
 use Rattle.debug_commands.proofs.Results.{at_success}
-use Rattle.debug_policies.proofs.Texts.{four, three}
+use Rattle.policy_comparison.proofs.Texts.{four, three}
 use Rattle.debug_policies.proofs.one_policy.push_counts.Goals as goal
 
 pub returns : goal.returns

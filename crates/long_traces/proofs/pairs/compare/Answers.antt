@@ -1,5 +1,5 @@
 use Rattle.std.proofs.Common.{◌≡◌, length}
-use Rattle.debug_policies.specs.Comparison.{compared_on}
+use Rattle.policy_comparison.specs.Comparison.{compared_on}
 use Rattle.long_traces.specs.Pairs.{HasComparedRun}
 use Rattle.long_traces.proofs.Runs.{from-known}
 use Rattle.long_traces.proofs.pairs.compare.Goals as goal

@@ -1,5 +1,5 @@
 use Rattle.std.proofs.Common.{◌≡◌, length}
-use Rattle.debug_policies.specs.ComparedIntervals.{compared_intervals_on}
+use Rattle.policy_comparison.specs.ComparedIntervals.{compared_intervals_on}
 use Rattle.long_traces.specs.Pairs.{HasComparedRun}
 use Rattle.long_traces.proofs.Runs.{from-known}
 use Rattle.long_traces.proofs.pairs.compare_intervals.Goals as goal

@@ -1,6 +1,6 @@
 use Rattle.std.proofs.Common.{◌≡◌, length, true}
 use Rattle.policies.specs.AnyPolicy.{outcomes_on}
-use Rattle.debug_policies.specs.Part.{IsPart}
+use Rattle.policy_comparison.specs.Part.{IsPart}
 use Rattle.long_traces.specs.Pairs.{HasParted}
 use Rattle.long_traces.proofs.Runs.{from-known}
 use Rattle.long_traces.proofs.pairs.part.Goals as goal

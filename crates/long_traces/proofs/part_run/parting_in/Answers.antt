@@ -1,7 +1,7 @@
 use Rattle.std.proofs.Common.{◌≡◌, ◌∙◌, ◌+◌, ℕ, length, subst, sym, arith}
 use Rattle.policies.specs.AnyPolicy.{outcomes_on}
-use Rattle.debug_policies.specs.Part.{AgreeBelow}
-use Rattle.debug_policies.proofs.Walked.{agree-next, agrees}
+use Rattle.policy_comparison.specs.Part.{AgreeBelow}
+use Rattle.policy_comparison.proofs.Walked.{agree-next, agrees}
 use Rattle.long_traces.specs.Pairs.{HavePaired}
 use Rattle.long_traces.proofs.Two.{differs}
 use Rattle.long_traces.proofs.part_run.parting_in.Goals as goal

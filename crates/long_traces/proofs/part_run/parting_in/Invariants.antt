@@ -1,7 +1,7 @@
 use Rattle.std.proofs.Common.{◌+◌, ℕ, List}
 use Rattle.step_record.specs.declared.job.Job.{Job}
 use Rattle.policies.specs.AnyPolicy.{outcomes_on}
-use Rattle.debug_policies.specs.Part.{AgreeBelow}
+use Rattle.policy_comparison.specs.Part.{AgreeBelow}
 use Rattle.long_traces.specs.Taking.{AreNext}
 use Rattle.long_traces.specs.Pairs.{HavePaired}
 use Rattle.long_traces.proofs.part_run.parting_in.Given as goal

@@ -5,7 +5,7 @@ use Rattle.step_record.specs.Job.{word_of}
 use Rattle.debug_policies.specs.declared.window.Window.{Window}
 use Rattle.debug_policies.specs.Window.{window_at, window_text}
 use Rattle.debug_policies.specs.OnePolicy.{OnePolicyState}
-use Rattle.debug_policies.proofs.Texts.{added_behind}
+use Rattle.policy_comparison.proofs.Texts.{added_behind}
 use Rattle.debug_policies.proofs.one_policy.OnePolicy.show_window.Goals as goal
 
 pub returns : goal.returns

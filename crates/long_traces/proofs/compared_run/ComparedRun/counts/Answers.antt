@@ -1,8 +1,8 @@
 use Rattle.std.proofs.Common.{◌≡◌, rules, subst, sym, true}
 use Rattle.policies.specs.AnyPolicy.{outcomes_on}
-use Rattle.debug_policies.specs.Comparison.{compared_on, hits_beside}
-use Rattle.debug_policies.specs.ComparedRows.{HasCounted}
-use Rattle.debug_policies.proofs.Compared.{beside-long}
+use Rattle.policy_comparison.specs.Comparison.{compared_on, hits_beside}
+use Rattle.policy_comparison.specs.ComparedRows.{HasCounted}
+use Rattle.policy_comparison.proofs.Compared.{beside-long}
 use Rattle.long_traces.proofs.compared_run.ComparedRun.counts.Goals as goal
 
 pub returns : goal.returns

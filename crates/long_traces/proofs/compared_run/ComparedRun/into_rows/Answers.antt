@@ -3,12 +3,12 @@ use mathlib.Core.Bool.{not}
 use Rattle.std.specs.Int.{div_ceil}
 use Rattle.step_record.specs.declared.job.Job.{Job}
 use Rattle.policies.specs.AnyPolicy.{outcomes_on}
-use Rattle.debug_policies.specs.Comparison.{hits_beside}
-use Rattle.debug_policies.specs.ComparedIntervals.{compared_intervals_on, first_compared}
-use Rattle.debug_policies.specs.ComparedRows.{HasCompared}
-use Rattle.debug_policies.specs.ComparedRows as rows
-use Rattle.debug_policies.proofs.Compared.{beside-long}
-use Rattle.debug_policies.specs.declared.compared_rows.ComparedInterval.{ComparedInterval}
+use Rattle.policy_comparison.specs.Comparison.{hits_beside}
+use Rattle.policy_comparison.specs.ComparedIntervals.{compared_intervals_on, first_compared}
+use Rattle.policy_comparison.specs.ComparedRows.{HasCompared}
+use Rattle.policy_comparison.specs.ComparedRows as rows
+use Rattle.policy_comparison.proofs.Compared.{beside-long}
+use Rattle.policy_comparison.specs.declared.compared_rows.ComparedInterval.{ComparedInterval}
 use Rattle.long_traces.specs.Pairs.{HasComparedRun}
 use Rattle.long_traces.specs.declared.compared_run.ComparedRun.{ComparedRun}
 use Rattle.long_traces.proofs.compared_run.ComparedRun.into_rows.Goals as goal

@@ -1,5 +1,5 @@
 use Rattle.policies.specs.AnyPolicy.{outcomes_on}
-use Rattle.debug_policies.specs.Comparison.{hits_beside}
+use Rattle.policy_comparison.specs.Comparison.{hits_beside}
 use Rattle.long_traces.proofs.compared_run.ComparedRun.of_two.Goals as goal
 
 pub returns : goal.returns

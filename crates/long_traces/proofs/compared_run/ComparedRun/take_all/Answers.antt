@@ -1,9 +1,9 @@
 use Rattle.std.proofs.Common.{◌≡◌, ◌+◌, ℕ, List, length, subst, arith}
 use Rattle.step_record.specs.declared.job.Job.{Job}
 use Rattle.policies.specs.AnyPolicy.{outcomes_on}
-use Rattle.debug_policies.specs.CacheAccess.{StandsAt}
-use Rattle.debug_policies.specs.Comparison.{hits_beside}
-use Rattle.debug_policies.proofs.Compared.{beside-at, beside-long}
+use Rattle.policy_comparison.specs.CacheAccess.{StandsAt}
+use Rattle.policy_comparison.specs.Comparison.{hits_beside}
+use Rattle.policy_comparison.proofs.Compared.{beside-at, beside-long}
 use Rattle.long_traces.specs.Taking.{AreNext}
 use Rattle.long_traces.specs.Pairs.{HasCompared}
 use Rattle.long_traces.proofs.compared_run.ComparedRun.take_all.Goals.{In_ok-hits}

@@ -1,7 +1,7 @@
 use Rattle.std.proofs.Common.{◌≡◌, ◌+◌, ℕ, length, IfNone, IfSome, Some, subst, sym, ap, false, rules}
 use Rattle.std.specs.Option.{is_some}
 use Rattle.policies.specs.AnyPolicy.{outcomes_on}
-use Rattle.debug_policies.specs.Part.{AgreeBelow, IsPart}
+use Rattle.policy_comparison.specs.Part.{AgreeBelow, IsPart}
 use Rattle.long_traces.specs.Pairs.{HavePaired}
 use Rattle.long_traces.proofs.Two.{from-none, into-none}
 use Rattle.long_traces.proofs.part_run.PartRun.take_all.Goals as goal

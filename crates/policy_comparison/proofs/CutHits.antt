@@ -1,0 +1,175 @@
+-- Hits cut into intervals, and what two counts say of the piece between them.
+use Rattle.std.proofs.Common.{◌≡◌, ◌∙◌, ◌+◌, ◌-◌, ◌*◌, ◌<◌, ◌≤◌, ℕ, zero, suc, Bool, cond, List, [], ◌∷◌, ◌++◌, inl, inr, length, take, drop, count_by, refl, ap, sym, arith, take-add, length-append, length-drop, length-take-le}
+use Rattle.std.specs.Int.{div_ceil}
+use Rattle.std.specs.Prelude.{not, ◌&&◌}
+use Rattle.std.proofs.lemmas.Bool.{cases_lt}
+use Rattle.std.proofs.lemmas.Grind.{div_ceil_times}
+use Rattle.std.proofs.lemmas.List.{take_all}
+use Rattle.std.proofs.lemmas.List.Sums.{sum_by-append, sum_by_push}
+use Rattle.std.proofs.lemmas.Nat.{mul-le}
+use Rattle.step_record.specs.declared.job.Job.{Job}
+use Rattle.policies.specs.AnyPolicy.{outcomes_on}
+use Rattle.policy_comparison.specs.declared.comparison.Comparison.{Comparison}
+use Rattle.policy_comparison.specs.Comparison.{compared_on, counts_of, hits_beside}
+use Rattle.policy_comparison.specs.ComparedRows.{EndsRow, rows_in}
+use Rattle.policy_comparison.specs.declared.compared_rows.ComparedInterval.{ComparedInterval}
+use Rattle.policy_comparison.specs.declared.compared_rows.ComparedRows.{ComparedRows}
+use Rattle.policy_comparison.proofs.Compared.{beside-long}
+use Rattle.policy_comparison.specs.ComparedIntervals.{between, compared_at, compared_behind, compared_intervals_on, first_compared, IsLater, sum_over, ComparedIntervalsAddUp}
+
+abbrev pub Hit : Type 0
+Hit = Bool × Bool
+
+-- ---- pieces
+
+piece-more : (every n : ℕ) (hits : List Hit) → take ((n + 1) * every) hits ≡ take (n * every) hits ++ take every (drop (n * every) hits)
+piece-more every n hits =
+    let e : (n + 1) * every ≡ n * every + every = omega arith in
+    ap (λ m. take m hits) e ∙ take-add (n * every) every hits
+
+-- ---- how many pieces cover a list
+
+next-times : (k every : ℕ) → (k + 1) * every ≡ k * every + every
+next-times k every = omega arith
+
+-- n intervals cover more than k of them do
+more-than : (k n every : ℕ) → k * every < n * every → k < n
+more-than k n every less =
+    elim (cases_lt k n) [
+      | inl below ↦ below
+      | inr past ↦ (let back = mul-le n every k every (omega (arith, past)) (omega arith) in absurd (omega (arith, back, less)))
+    ]
+
+-- whole intervals and a piece of the next one
+pub covers-part : (k every used long : ℕ) → 1 ≤ every → 0 < used → used ≤ every → long ≡ k * every + used → div_ceil long every ≡ k + 1
+covers-part k every used long some part few is =
+    let cover = div_ceil_times long every some in
+    let low = cover.0 in
+    let high = cover.1 in
+    let one = next-times k every in
+    let two = next-times (k + 1) every in
+    let above : k < div_ceil long every = more-than k (div_ceil long every) every (omega (arith, is, low, part)) in
+    let below : div_ceil long every < k + 1 + 1 = more-than (div_ceil long every) (k + 1 + 1) every (omega (arith, is, high, few, one, two)) in
+    omega (arith, above, below)
+
+-- whole intervals alone
+pub covers-whole : (k every long : ℕ) → 1 ≤ every → long ≡ k * every + 0 → div_ceil long every ≡ k
+covers-whole zero every long some is =
+    let high = (div_ceil_times long every some).1 in
+    let none : 0 * every ≡ 0 = omega arith in
+    let one : 1 * every ≡ every = omega arith in
+    let below : div_ceil long every < 1 = more-than (div_ceil long every) 1 every (omega (arith, is, high, none, one)) in
+    omega (arith, below)
+covers-whole (suc k) every long some is =
+    let next : suc k * every ≡ k * every + every = omega arith in
+    let same : k + 1 ≡ suc k = omega arith in
+    covers-part k every every long some some (omega arith) (omega (arith, is, next)) ∙ same
+
+-- ---- counts of a list and of a longer one
+
+counted : (p : Hit → Bool) (xs ys : List Hit) → count_by p (xs ++ ys) ≡ count_by p xs + count_by p ys
+counted p xs ys = sum_by-append (λ h. cond (p h) 1 0) xs ys
+
+less : (p : Hit → Bool) (xs ys : List Hit) → count_by p (xs ++ ys) - count_by p xs ≡ count_by p ys
+less p xs ys = omega (arith, counted p xs ys)
+
+shorter : (xs ys : List Hit) → length (xs ++ ys) - length xs ≡ length ys
+shorter xs ys = omega (arith, length-append xs ys)
+
+between-counts : (xs ys : List Hit) → between (counts_of xs) (counts_of (xs ++ ys)) ≡ compared_behind (length xs) ys
+between-counts xs ys =
+    rw (
+      shorter xs ys,
+      less (λ h. h.0 && h.1) xs ys,
+      less (λ h. h.0 && not h.1) xs ys,
+      less (λ h. not h.0 && h.1) xs ys,
+      less (λ h. not h.0 && not h.1) xs ys,
+      length-append xs ys,
+    ) refl
+
+later-counts : (xs ys : List Hit) → 0 < length ys → IsLater (counts_of xs) (counts_of (xs ++ ys))
+later-counts xs ys some = record {
+  accesses = omega (arith, some, length-append xs ys);
+  both = omega (arith, counted (λ h. h.0 && h.1) xs ys);
+  first_only = omega (arith, counted (λ h. h.0 && not h.1) xs ys);
+  second_only = omega (arith, counted (λ h. not h.0 && h.1) xs ys);
+  neither = omega (arith, counted (λ h. not h.0 && not h.1) xs ys);
+}
+
+some-taken : (n : ℕ) (hits : List Hit) → 1 ≤ n → 0 < length hits → 0 < length (take n hits)
+some-taken zero hits some full = absurd (omega (arith, some))
+some-taken (suc n) [] some full = absurd (omega (arith, full))
+some-taken (suc n) (h ∷ hits) some full = omega arith
+
+-- what two counts say of the piece between them
+module _ (every : ℕ) (hits : List Hit) (n : ℕ) (c : ComparedRows) (ends : EndsRow every hits n c) where
+  begun : rows_in c * every < length hits
+  begun = omega (arith, ends.cut.place, ends.cut.within, ends.part)
+
+  -- what was counted when the piece is over
+  pub at-end : c.counts ≡ counts_of (take ((rows_in c + 1) * every) hits)
+  at-end = ends.cut.counts ∙ ap counts_of ends.end
+
+  next : c.counts ≡ counts_of (take (rows_in c * every) hits ++ take every (drop (rows_in c * every) hits))
+  next = at-end ∙ ap counts_of (piece-more every (rows_in c) hits)
+
+  pub row-is : between c.cut c.counts ≡ compared_at every hits (rows_in c)
+  row-is =
+      rw (
+        ends.cut.cut,
+        next,
+        between-counts (take (rows_in c * every) hits) (take every (drop (rows_in c * every) hits)),
+        length-take-le (rows_in c * every) hits (omega (arith, begun)),
+      ) refl
+
+  pub row-later : IsLater c.cut c.counts
+  row-later =
+      rw (ends.cut.cut, next) (later-counts (take (rows_in c * every) hits) (take every (drop (rows_in c * every) hits))
+      (some-taken every (drop (rows_in c * every) hits) ends.cut.some (omega (arith, begun, length-drop (rows_in c * every) hits))))
+
+-- one row more
+pub rows-more : (every : ℕ) (hits : List Hit) (rows new : List ComparedInterval) (row : ComparedInterval)
+    → rows ≡ first_compared every hits (length rows) → new ≡ rows ++ row ∷ [] → row ≡ compared_at every hits (length rows)
+    → new ≡ first_compared every hits (length rows + 1)
+rows-more every hits rows new row so is one =
+    let next : suc (length rows) ≡ length rows + 1 = omega arith in
+    is ∙ ap (λ (l : List ComparedInterval). l ++ row ∷ []) so ∙ ap (λ (x : ComparedInterval). first_compared every hits (length rows) ++ x ∷ []) one
+    ∙ ap (first_compared every hits) next
+
+-- ---- sums
+
+-- a count of a list of hits, with what it counts of lists one behind the other
+module _ (number : Comparison → ℕ) (count : List Hit → ℕ) (is : (hits : List Hit) → number (counts_of hits) ≡ count hits)
+    (none : count [] ≡ 0) (joins : (xs ys : List Hit) → count (xs ++ ys) ≡ count xs + count ys) where
+  sum-first : (every : ℕ) (hits : List Hit) (n : ℕ) → sum_over number (first_compared every hits n) ≡ count (take (n * every) hits)
+  sum-first every hits zero =
+      let z : 0 * every ≡ 0 = omega arith in
+      sym none ∙ ap (λ m. count (take m hits)) (sym z)
+  sum-first every hits (suc n) =
+      let piece = take every (drop (n * every) hits) in
+      let e : suc n ≡ n + 1 = omega arith in
+      sum_by_push (λ row. number row.counts) (first_compared every hits n) (compared_at every hits n)
+      ∙ ap (λ m. sum_over number (first_compared every hits n) + m) (is piece)
+      ∙ ap (λ m. m + count piece) (sum-first every hits n)
+      ∙ sym (joins (take (n * every) hits) piece)
+      ∙ ap count (sym (piece-more every n hits))
+      ∙ ap (λ m. count (take (m * every) hits)) (sym e)
+
+  sum-all : (every : ℕ) (first second : Job) (trace : List ℕ) → 1 ≤ every
+      → sum_over number (compared_intervals_on every first second trace) ≡ number (compared_on first second trace)
+  unfolding compared_intervals_on compared_on
+  sum-all every first second trace some =
+      let hits = hits_beside (outcomes_on first trace) (outcomes_on second trace) in
+      let end = (div_ceil_times (length trace) every some).0 in
+      sum-first every hits (div_ceil (length trace) every)
+      ∙ ap count (take_all (div_ceil (length trace) every * every) hits (omega (arith, end, beside-long first second trace)))
+      ∙ sym (is hits)
+
+pub add-up : ComparedIntervalsAddUp
+add-up every first second trace some = (
+  sum-all (λ c. c.accesses) length (λ hits. refl) refl length-append every first second trace some,
+  sum-all (λ c. c.both) (count_by (λ h. h.0 && h.1)) (λ hits. refl) refl (counted (λ h. h.0 && h.1)) every first second trace some,
+  sum-all (λ c. c.first_only) (count_by (λ h. h.0 && not h.1)) (λ hits. refl) refl (counted (λ h. h.0 && not h.1)) every first second trace some,
+  sum-all (λ c. c.second_only) (count_by (λ h. not h.0 && h.1)) (λ hits. refl) refl (counted (λ h. not h.0 && h.1)) every first second trace some,
+  sum-all (λ c. c.neither) (count_by (λ h. not h.0 && not h.1)) (λ hits. refl) refl (counted (λ h. not h.0 && not h.1)) every first second trace some,
+)

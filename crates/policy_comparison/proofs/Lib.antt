@@ -1,0 +1,4 @@
+pub mod Walked
+pub mod Texts
+pub mod Compared
+pub mod CutHits

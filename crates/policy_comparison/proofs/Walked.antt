@@ -1,0 +1,99 @@
+-- Two caches side by side, access by access.
+use Rattle.std.proofs.Common.{◌≡◌, ◌≢◌, ℕ, zero, suc, ◌+◌, ◌<◌, ◌≤◌, Bool, true, false, true≢false, inl, inr, Some, None, List, [], ◌∷◌, ◌++◌, length, take, drop, get_or, set, get_or-set_same, get_or-set_other, ◌-◌, ap, ◌∙◌, sym, refl, arith, subst, append-nil}
+use Rattle.std.specs.Prelude.{slice_index, slice_index_or}
+use Rattle.std.proofs.lemmas.Bool.{cases_lt}
+use Rattle.std.proofs.lemmas.List.{length-take-le, get_or_default, get_or_past}
+use mathlib.Core.Bool.{not, beq}
+use Rattle.step_record.specs.declared.job.Job.{Job}
+use Rattle.step_record.specs.declared.limits.TheConstants.{MAX_STEPS}
+use Rattle.step_record.specs.declared.outcome.Outcome.{Outcome}
+use Rattle.step_record.specs.declared.outcome.Outcome.TheVariants.{Kept}
+use Rattle.step_record.specs.Stats.{is_hit}
+use Rattle.policies.specs.declared.any_policy.AnyPolicy.{AnyPolicy}
+use Rattle.policies.specs.AnyPolicy.{HasAccessed, outcomes_on}
+use Rattle.policies.specs.AnyStep.{any_act}
+use Rattle.policies.specs.Theorems.{AnyStepLaw, AnyAccepts, AnyAnswers}
+use Rattle.policies.proofs.Stretches.{next-ahead, added-next}
+use Rattle.policy_comparison.specs.CacheAccess.{StandsAt}
+use Rattle.policy_comparison.specs.Part.{is_hit_at, AgreeBelow}
+use Rattle.policy_comparison.specs.TwoCaches.{IsNoted}
+
+-- ---- one access of one cache
+
+-- behind the first i accesses of the trace stands the next one
+pub next-of : (trace : List ℕ) (i : ℕ) → i < length trace
+    → trace ≡ take i trace ++ slice_index trace i ∷ (drop (suc i) trace ++ [])
+next-of trace i lt = next-ahead trace [] trace [] i lt (sym (append-nil trace))
+
+pub stands-in : (trace : List ℕ) (n key : ℕ) → n < length trace → key ≡ slice_index trace n → StandsAt trace n key
+stands-in trace n key lt is = record { within = lt; same = λ d. get_or_default trace n d 0 lt ∙ sym is }
+
+pub next-key : (trace keys : List ℕ) (i : ℕ) → keys ≡ trace → i < length trace → StandsAt trace i (slice_index keys i)
+next-key trace keys i same lt = stands-in trace i (slice_index keys i) lt (ap (λ (l : List ℕ). slice_index l i) same)
+
+-- a cache that has read ahead stands where it stood
+pub warmed : (j : Job) (trace keys : List ℕ) (d e : AnyPolicy) → e ≡ d → HasAccessed j trace keys d → HasAccessed j trace keys e
+warmed j trace keys d e same s = subst (λ (f : AnyPolicy). HasAccessed j trace keys f) (sym same) s
+
+module _ (trace : List ℕ) (n key : ℕ) (next : StandsAt trace n key) where
+  pub ready : AnyAccepts → length trace ≤ MAX_STEPS → (j : Job) (d : AnyPolicy) → HasAccessed j trace (take n trace) d → any_act d key ≢ None
+  ready law few j d s none =
+      law j trace (take n trace) (drop (suc n) trace ++ []) (slice_index trace n) d (next-of trace n next.within) few s
+      (subst (λ (k : ℕ). any_act d k ≡ None) (sym (next.same 0)) none)
+
+  pub moves : AnyStepLaw → (j : Job) (d : AnyPolicy) (o : Outcome) (e : AnyPolicy) → HasAccessed j trace (take n trace) d
+      → any_act d key ≡ Some (o, e) → HasAccessed j trace (take (n + 1) trace) e
+  moves law j d o e s h =
+      subst (λ (l : List ℕ). HasAccessed j trace l e) (added-next [] trace n next.within)
+      (law j trace (take n trace) d (slice_index trace n) o e s (subst (λ (k : ℕ). any_act d k ≡ Some (o, e)) (sym (next.same 0)) h))
+
+  pub outcome-is : AnyAnswers → (j : Job) (d : AnyPolicy) (o : Outcome) (e : AnyPolicy) → HasAccessed j trace (take n trace) d
+      → any_act d key ≡ Some (o, e) → o ≡ slice_index_or (outcomes_on j trace) n Kept
+  outcome-is law j d o e s h =
+      law j trace (take n trace) (drop (suc n) trace ++ []) (slice_index trace n) d o e Kept (next-of trace n next.within) s
+      (subst (λ (k : ℕ). any_act d k ≡ Some (o, e)) (sym (next.same 0)) h)
+      ∙ ap (λ (m : ℕ). get_or (outcomes_on j trace) m Kept) (length-take-le n trace (omega (arith, next.within)))
+
+  pub answers : AnyAnswers → (j : Job) (d : AnyPolicy) (o : Outcome) (e : AnyPolicy) → HasAccessed j trace (take n trace) d
+      → any_act d key ≡ Some (o, e) → is_hit o ≡ is_hit_at (outcomes_on j trace) (n + 1)
+  answers law j d o e s h =
+      let on : suc n ≡ n + 1 = omega arith in
+      ap is_hit (outcome-is law j d o e s h) ∙ ap (is_hit_at (outcomes_on j trace)) on
+
+-- ---- the accesses at which both hit or neither does
+
+pub agrees : (a b : Bool) → not (beq a b) ≡ false → a ≡ b
+agrees true true h = refl
+agrees true false h = absurd (true≢false h)
+agrees false true h = absurd (true≢false h)
+agrees false false h = refl
+
+pub noted-on : (noted : List Bool) (os : List Outcome) (start i : ℕ) → slice_index_or noted (i - start) false ≡ is_hit_at os (i + 1)
+    → IsNoted noted os start i → IsNoted noted os start (i + 1)
+noted-on noted os start i here before j from below =
+    elim (cases_lt j i) [
+      | inl less ↦ before j from less
+      | inr more ↦ (let same : i ≡ j = omega arith in subst (λ (n : ℕ). slice_index_or noted (n - start) false ≡ is_hit_at os (n + 1)) same here)
+    ]
+
+pub noted-more : (noted : List Bool) (os : List Outcome) (start i : ℕ) (b : Bool) → start ≤ i → i - start < length noted
+    → b ≡ is_hit_at os (i + 1) → IsNoted noted os start i → IsNoted (set noted (i - start) b) os start (i + 1)
+noted-more noted os start i b order room e before =
+    noted-on (set noted (i - start) b) os start i (get_or-set_same noted (i - start) b false room ∙ e)
+    (λ j from below. get_or-set_other noted (i - start) (j - start) b false (λ same. omega (arith, same, from, below, order)) ∙ before j from below)
+
+pub agree-next : (os ps : List Outcome) (i : ℕ) → is_hit_at os (i + 1) ≡ is_hit_at ps (i + 1) → AgreeBelow (i + 1) os ps → AgreeBelow (i + 1 + 1) os ps
+agree-next os ps i here below m lt =
+    elim (cases_lt m (i + 1)) [
+      | inl less ↦ below m less
+      | inr more ↦ (let same : i + 1 ≡ m = omega arith in subst (λ (n : ℕ). is_hit_at os n ≡ is_hit_at ps n) same here)
+    ]
+
+pub agree-everywhere : (os ps : List Outcome) (n : ℕ) → length os ≡ n → length ps ≡ n → AgreeBelow (n + 1) os ps
+    → (m : ℕ) → is_hit_at os m ≡ is_hit_at ps m
+agree-everywhere os ps n l k below zero = refl
+agree-everywhere os ps n l k below (suc m) =
+    elim (cases_lt m n) [
+      | inl less ↦ below (suc m) (omega arith)
+      | inr more ↦ ap is_hit (get_or_past os m Kept (omega (arith, l)) ∙ sym (get_or_past ps m Kept (omega (arith, k))))
+    ]
