@@ -1,20 +1,24 @@
 -- Another count beside an item.
-use Rattle.std.proofs.Common.{◌≡◌, ℕ, suc, zero, ◌+◌, ◌<◌, ◌≤◌, true, false, cond, eqb, List, [], ◌∷◌, length, set, map, ap, ◌∙◌, sym, refl, subst, arith, inl, inr, get_or-set_same, get_or-set_other}
+use Rattle.std.proofs.Common.{◌≡◌, ℕ, suc, zero, ◌+◌, ◌≤◌, true, false, cond, eqb, List, [], ◌∷◌, length, map, ap, ◌∙◌, sym, refl, subst, arith, inl, inr, length-set}
 use Rattle.std.proofs.Math.Path.{fun_ext}
-use Rattle.std.proofs.lemmas.Bool.{cases_Bool, cases_lt, cases_eq, eqb-true, eq-eqb}
+use Rattle.std.proofs.lemmas.Bool.{cases_Bool, cases_lt, eqb-true, eq-eqb}
 use Rattle.step_record.specs.declared.item.Item.{Item}
 use Rattle.queue_table.specs.declared.records.Entry.{Entry}
 use Rattle.queue_table.specs.declared.slot_index.SlotIndex.{SlotIndex}
+use Rattle.queue_table.specs.declared.lengths.Lengths.{Lengths}
 use Rattle.queue_table.specs.declared.slot.Slot.{Slot}
 use Rattle.queue_table.specs.Entries.{is_same_item, entry, occurrences, entries_counted}
 use Rattle.queue_table.specs.Queues.{QUEUES, Queues, times_below, after_count, IsDistinct}
-use Rattle.queue_table.specs.Ring.{entries, newers, olders, tags, slot_entry, slot_item, count, Order, used, lists_of, IsQueued}
-use Rattle.queue_table.specs.QueueTable.{IsInSlots}
+use Rattle.queue_table.specs.Ring.{entries, newers, olders, slot_entry, slot_item, count, Order, used, IsRing, ring, ring_of, order_in, order_of, lists, lists_of, IsQueued, ChangesOnlyEntry}
+use Rattle.queue_table.specs.QueueTable.{entry_at, IsUsed, IsCounted, IsKept, KeepsOthers}
 use Rattle.queue_table.proofs.Splices.{count-here}
-use Rattle.queue_table.proofs.Orders.{section-used}
+use Rattle.queue_table.proofs.Orders.{section-used, order-short}
 use Rattle.queue_table.proofs.Contents.{alone}
 use Rattle.queue_table.proofs.Indexing.{same-map}
-use Rattle.queue_table.proofs.Renewing.{written-item, other-item, entries-length}
+use Rattle.queue_table.proofs.Renewing.{written-entry, other-entry, same-items}
+use Rattle.queue_table.proofs.Staying.{keeps-others}
+use Rattle.queue_table.proofs.Kept.{kept-on}
+use Rattle.queue_table.proofs.Moves.{IsLoose}
 
 map-counted : (f g : ℕ → Entry) (n k : ℕ) (l : List ℕ) → ((j : ℕ) → 1 ≤ count j l → is_same_item (f k).item (f j).item ≡ eqb k j) → ((j : ℕ) → (j ≡ k → ⊥) → g j ≡ f j) → g k ≡ entry (f k).item n →
     map g l ≡ entries_counted (f k).item n (map f l)
@@ -49,35 +53,32 @@ distinct-counted i n s u j = let a = same QUEUES in let b = u j in omega (arith,
     same zero = refl
     same (suc m) = let a = times-counted i j n (s m) in let r = same m in omega (arith, a, r)
 
-module _ (slots slots2 : List Slot) (o : Order) (h : IsQueued slots o) (k n : ℕ) (u : 1 ≤ count k (used o)) (w : k < length slots) (es : entries slots2 ≡ set (entries slots) k (entry (slot_item (entries slots) k) n)) where
-  pub lists-counted : lists_of o (entries slots2) ≡ after_count (slot_item (entries slots) k) n (lists_of o (entries slots))
+module _ (slots slots2 : List Slot) (index : SlotIndex) (lengths : Lengths) (k n : ℕ) (s : Queues) (l : IsLoose slots index lengths k s) (u : IsUsed k slots) (m : ChangesOnlyEntry k (entry (slot_item (entries slots) k) n) slots slots2) where
+  pub order-counted : order_of slots2 ≡ order_of slots
+  order-counted = ap (λ (x : List ℕ). order_in (ring_of x)) m.newers
+
+  pub lists-counted : lists slots2 ≡ after_count (slot_item (entries slots) k) n (lists slots)
   lists-counted =
-      let l = entries-length slots in
-      fun_ext (λ q. elim (cases_lt q QUEUES) [
+      let o : Order = order_of slots in
+      let h = l.held.queued in
+      ap (λ (p : Order). lists_of p (entries slots2)) order-counted ∙ fun_ext (λ q. elim (cases_lt q QUEUES) [
         | inl a ↦ map-counted (λ j. slot_entry (entries slots) j) (λ j. slot_entry (entries slots2) j) n k (o (suc q))
-            (λ j m. alone o (entries slots) k j h.distinct u (section-used q j o a m))
-            (λ j d. ap (λ (s : List Entry). slot_entry s j) es ∙ get_or-set_other (entries slots) k j _ _ d)
-            (ap (λ (s : List Entry). slot_entry s k) es ∙ get_or-set_same (entries slots) k _ _ (omega (arith, l, w)))
+            (λ j c. alone o (entries slots) k j h.distinct u (section-used q j o a c))
+            (other-entry slots slots2 k _ l.within m.entries) (written-entry slots slots2 k _ l.within m.entries)
         | inr a ↦ ap (map (λ j. slot_entry (entries slots2) j)) (h.short (suc q) (omega (arith, a))) ∙ sym (ap (λ t. entries_counted (slot_item (entries slots) k) n (map (λ j. slot_entry (entries slots) j) t)) (h.short (suc q) (omega (arith, a))))
       ])
 
-  module _ (nn : newers slots2 ≡ newers slots) (oo : olders slots2 ≡ olders slots) (tt2 : tags slots2 ≡ tags slots) where
-    queued-counted : IsQueued slots2 o
-    queued-counted = record {
-      linked = rw (nn, oo) h.linked;
-      short = h.short;
-      tagged = rw tt2 h.tagged;
-      distinct = subst IsDistinct (sym lists-counted) (distinct-counted (slot_item (entries slots) k) n (lists_of o (entries slots)) h.distinct);
-    }
+  pub others-counted : KeepsOthers (entry_at k slots).item slots slots2
+  others-counted = keeps-others slots slots2 k (other-entry slots slots2 k _ l.within m.entries) (λ j d. ap (λ (o : Order). count j (used o)) order-counted)
 
-    pub held-counted : (index : SlotIndex) → IsInSlots slots index o → length slots2 ≡ length slots → IsInSlots slots2 index o
-    held-counted index i e =
-        let l = entries-length slots in
-        record {
-          queued = queued-counted;
-          indexed = same-map _ _ _ _ _ _ (λ j. elim (cases_eq j k) [
-            | inl z ↦ ap (slot_item (entries slots2)) z ∙ (written-item (entries slots) (entries slots2) k _ es (omega (arith, l, w)) ∙ ap (slot_item (entries slots)) (sym z))
-            | inr d ↦ other-item (entries slots) (entries slots2) k j _ es d
-          ]) (λ j. refl) i.indexed;
-          room = (let r = i.room in omega (arith, r, e));
-        }
+  pub kept-counted : IsKept slots2 index lengths
+  kept-counted =
+      let queued : IsQueued slots2 (order_of slots2) = record {
+        linked = subst (λ (o : Order). IsRing (newers slots2) (olders slots2) (ring o)) (sym order-counted) (rw (m.newers, m.olders) l.held.queued.linked);
+        short = order-short (ring_of (newers slots2));
+        tagged = λ q j c. rw m.tags (l.held.queued.tagged q j (subst (λ (o : Order). 1 ≤ count j (o (suc q))) order-counted c));
+        distinct = subst IsDistinct (sym lists-counted) (distinct-counted (slot_item (entries slots) k) n (lists slots) l.held.queued.distinct);
+      } in
+      kept-on slots slots2 index index lengths lengths l.kept l.held queued
+      (same-map _ _ _ _ _ _ (same-items slots slots2 k _ l.within m.entries refl) (λ j. ap (λ (o : Order). count j (used o)) order-counted) l.held.indexed)
+      (subst (IsCounted lengths) (sym order-counted) l.kept.counted) (ap length m.entries ∙ length-set (entries slots) k _) refl

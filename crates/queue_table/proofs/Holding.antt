@@ -1,17 +1,17 @@
 -- Slots and index hold together, whatever moves.
-use Rattle.std.proofs.Common.{◌≡◌, ℕ, suc, zero, ◌+◌, ◌<◌, ◌≤◌, false, cond, eqb, Some, List, ◌∷◌, ◌++◌, length, get_or, set, map, ap, ◌∙◌, sym, refl, subst, arith, ◌⊎◌, inl, inr, get_or-set_same, get_or-set_other}
+use Rattle.std.proofs.Common.{◌≡◌, ℕ, suc, zero, ◌+◌, ◌<◌, ◌≤◌, false, cond, eqb, Some, List, ◌∷◌, ◌++◌, length, get_or, map, ap, ◌∙◌, sym, refl, subst, arith, ◌⊎◌, inl, inr}
 use Rattle.std.proofs.lemmas.Bool.{cases_eq, ne_eqb, eq-eqb}
 use Rattle.step_record.specs.declared.item.Item.{Item}
 use Rattle.queue_table.specs.declared.records.Entry.{Entry}
 use Rattle.queue_table.specs.Entries.{is_same_item, last_item, before}
-use Rattle.queue_table.specs.Queues.{QUEUES, queue_holding, place_in, IsDistinct}
+use Rattle.queue_table.specs.Queues.{QUEUES, queue_holding, place_in}
 use Rattle.queue_table.specs.declared.slot.Slot.{Slot}
-use Rattle.queue_table.specs.Ring.{entries, olders, newers, tags, slot_entry, slot_item, count, IsLinked, IsRing, put_before, SECTIONS, FIRST, Order, ring, ring_from, used, used_below, order_of, order_without, sent, lists_of, tag_at, item_or, IsQueued}
+use Rattle.queue_table.specs.Ring.{entries, olders, newers, tags, slot_entry, slot_item, count, IsLinked, put_before, SECTIONS, FIRST, Order, ring, ring_from, used, used_below, order_of, order_without, sent, lists_of, tag_at, item_or, IsQueued}
 use Rattle.step_record.specs.Keys.{keys_without}
 use Rattle.queue_table.proofs.Splices.{count-append, linked-split, older-end, end_of}
 use Rattle.queue_table.proofs.Turning.{IsSplit, split_at, turned}
 use Rattle.queue_table.proofs.Sections.{gone, count-without}
-use Rattle.queue_table.proofs.Orders.{IsOnce, section-few, used-real, count-parts-ring, section-used, order-is, count-put, with-same, with-other, short-sent}
+use Rattle.queue_table.proofs.Orders.{IsOnce, section-few, used-real, count-parts-ring, section-used, order-is, count-put, with-same, with-other}
 use Rattle.queue_table.proofs.Contents.{alone, before-map, item-end, placed-at}
 
 linked-from : (n k s : ℕ) (ns os : List ℕ) (o : Order) (b : ℕ) → IsLinked ns os k (ring_from n k o) b → k ≤ s → s < k + n → IsLinked ns os s (o s) (suc s)
@@ -122,28 +122,3 @@ sent-in k b s r j o n =
       | inl e ↦ subst (λ x. ((j ≡ k) × (x ≡ s)) ⊎ ((j ≡ k → ⊥) × (1 ≤ count j (o x)))) (sym e) (put-in k b j s (o s) (let m = ap (count j) (with-same s (put_before k b (keys_without k (o s))) (order_without k o)) in let m2 = ap (λ x. count j (sent k s b o x)) e in omega (arith, m, m2, n)))
       | inr d ↦ inr (left-in k j (o r) (let m = ap (count j) (with-other s r (put_before k b (keys_without k (o s))) (order_without k o) d) in omega (arith, m, n)))
     ]
-
-module _ (slots slots2 : List Slot) (o : Order) (h : IsQueued slots o) (k : ℕ) where
-  pub queued-sent : (q b : ℕ) → q < QUEUES → IsRing (newers slots2) (olders slots2) (ring (sent k (suc q) b o)) →
-      tags slots2 ≡ set (tags slots) k q → k < length (tags slots) → IsDistinct (lists_of (sent k (suc q) b o) (entries slots2)) → IsQueued slots2 (sent k (suc q) b o)
-  queued-sent q b low r t w d = record {
-    linked = r;
-    short = short-sent k (suc q) b o (omega (arith, low)) h.short;
-    tagged = λ p j n. elim (sent-in k b (suc q) (suc p) j o n) [
-      | inl e ↦ rw t (ap (λ y. tag_at (set (tags slots) k q) y) e.0 ∙ (get_or-set_same (tags slots) k q 0 w ∙ (let z = e.1 in omega (arith, z))))
-      | inr e ↦ rw t (get_or-set_other (tags slots) k j q 0 e.0 ∙ h.tagged p j e.1)
-    ];
-    distinct = d;
-  }
-
-  pub queued-freed : (b : ℕ) → IsRing (newers slots2) (olders slots2) (ring (sent k 0 b o)) →
-      tags slots2 ≡ tags slots → entries slots2 ≡ entries slots → IsDistinct (lists_of (sent k 0 b o) (entries slots)) → IsQueued slots2 (sent k 0 b o)
-  queued-freed b r t i d = record {
-    linked = r;
-    short = short-sent k 0 b o (omega arith) h.short;
-    tagged = λ p j n. elim (sent-in k b 0 (suc p) j o n) [
-      | inl e ↦ absurd (let z = e.1 in omega (arith, z))
-      | inr e ↦ rw t (h.tagged p j e.1)
-    ];
-    distinct = rw i d;
-  }

@@ -1,22 +1,24 @@
 -- What holds of a table while one of its calls works on the slots.
-use Rattle.std.proofs.Common.{◌≡◌, ℕ, suc, zero, ◌<◌, ◌≤◌, ◌+◌, ◌^◌, List, [], ◌∷◌, get_or, length, length-append, map, ap, ◌∙◌, sym, subst, arith, refl}
+use Rattle.std.proofs.Common.{◌≡◌, ℕ, suc, zero, ◌<◌, ◌≤◌, ◌+◌, ◌^◌, List, [], ◌∷◌, ◌++◌, get_or, take, length, length-append, map, ap, ◌∙◌, sym, subst, arith, refl}
 use Rattle.std.proofs.lemmas.List.{length-map}
 use Rattle.step_record.specs.declared.item.Item.{Item}
 use Rattle.queue_table.specs.declared.records.Entry.{Entry}
 use Rattle.queue_table.specs.declared.slot_index.SlotIndex.{SlotIndex}
 use Rattle.queue_table.specs.declared.lengths.Lengths.{Lengths}
 use Rattle.queue_table.specs.declared.slot.Slot.{Slot}
-use Rattle.queue_table.specs.Entries.{entry, items_of}
+use Rattle.queue_table.specs.Entries.{items_of}
 use Rattle.queue_table.specs.Queues.{QUEUES, items_below, IsDistinct}
-use Rattle.queue_table.specs.Ring.{entries, newers, olders, slot_entry, slot_item, count, walk, used, SECTIONS, FIRST, Order, ring, ring_from, ring_of, order_in, IsRing, order_of, lists_of, lists, IsQueued}
-use Rattle.queue_table.specs.Index.{capacity, HasSlot}
-use Rattle.queue_table.specs.QueueTable.{IsLoaded, IsCounted, IsInSlots, IsKept}
+use Rattle.queue_table.specs.Ring.{entries, newers, olders, slot_entry, slot_item, count, walk, used, SECTIONS, FIRST, Order, ring, ring_from, order_of, lists_of, lists, IsQueued}
+use Rattle.queue_table.specs.Index.{HasSlot}
+use Rattle.queue_table.specs.QueueTable.{IsLoaded, IsCounted, IsIndexOf, IsInSlots, IsKept}
 use Rattle.queue_table.proofs.Splices.{walked}
 use Rattle.queue_table.proofs.Orders.{used-real}
 use Rattle.queue_table.proofs.Growing.{still_loaded, no-order}
 use Rattle.queue_table.proofs.Finding.{slots-length}
 use Rattle.queue_table.proofs.Holding.{used-within, linked-section}
-use Rattle.queue_table.proofs.SlotWrites.{no_slot, field_at}
+use Rattle.queue_table.proofs.SlotWrites.{no_slot}
+use Rattle.queue_table.proofs.Renewing.{item_at, entries-length}
+use Rattle.queue_table.proofs.Tables.{take-front}
 
 pub some-slots : (slots : List Slot) (s : ℕ) → 1 ≤ length (order_of slots s) → 0 < length slots
 some-slots [] s n = absurd (let e = ap (λ (o : Order). length (o s)) no-order in omega (arith, n, e))
@@ -26,24 +28,18 @@ pub some-used : (slots : List Slot) (k : ℕ) → 1 ≤ count k (used (order_of 
 some-used [] k n = absurd (let e = ap (λ (o : Order). count k (used o)) no-order in omega (arith, n, e))
 some-used (x ∷ slots) k n = omega arith
 
-pub held-room : (mid slots : List Slot) (index : SlotIndex) (n : Lengths) → IsKept slots index n → mid ≡ slots → 1 ≤ length (order_of mid 0) → IsInSlots mid index (order_of mid)
-held-room mid slots index n k e r =
-    subst (λ (s : List Slot). IsInSlots s index (order_of s)) (sym e) (k.held (some-slots slots 0 (subst (λ (s : List Slot). 1 ≤ length (order_of s 0)) e r)))
-
-pub held-used : (mid slots : List Slot) (index : SlotIndex) (n : Lengths) → IsKept slots index n → mid ≡ slots → (k : ℕ) → 1 ≤ count k (used (order_of mid)) → IsInSlots mid index (order_of mid)
-held-used mid slots index n k e at u =
-    subst (λ (s : List Slot). IsInSlots s index (order_of s)) (sym e) (k.held (some-used slots at (subst (λ (s : List Slot). 1 ≤ count at (used (order_of s))) e u)))
-
-pub room-kept : (slots slots2 : List Slot) (index index2 : SlotIndex) (o : Order) → IsInSlots slots index o → length slots2 ≡ length slots → index2.bits ≡ index.bits → length slots2 ≤ capacity index2.bits
-room-kept slots slots2 index index2 o h l b = let r = h.room in rw b (omega (arith, r, l))
-
-pub kept-on : (slots slots2 : List Slot) (index index2 : SlotIndex) (n n2 : Lengths) → IsKept slots index n → IsInSlots slots2 index2 (order_of slots2) → IsCounted n2 (order_of slots2) → length slots2 ≡ length slots → index2.bits ≡ index.bits → IsKept slots2 index2 n2
-kept-on slots slots2 index index2 n n2 k h c l b = record {
-  held = λ _. h;
-  counted = c;
-  few = (let f = k.few in omega (arith, f, l));
-  load = subst (IsLoaded (length slots2)) (sym b) (still_loaded (length slots) (length slots2) index.bits l k.load);
-}
+pub kept-on : (slots slots2 : List Slot) (index index2 : SlotIndex) (n n2 : Lengths) → IsKept slots index n → IsInSlots slots index (order_of slots) → IsQueued slots2 (order_of slots2) → IsIndexOf index2 (entries slots2) (used (order_of slots2)) → IsCounted n2 (order_of slots2) →
+    length (entries slots2) ≡ length (entries slots) → index2.bits ≡ index.bits → IsKept slots2 index2 n2
+kept-on slots slots2 index index2 n n2 k h q x c e b =
+    let s = entries-length slots in
+    let t = entries-length slots2 in
+    let l : length slots2 ≡ length slots = omega (arith, e, s, t) in
+    record {
+      held = λ _. record { queued = q; indexed = x; room = (let r = h.room in rw b (omega (arith, r, l))) };
+      counted = c;
+      few = (let f = k.few in omega (arith, f, l));
+      load = subst (IsLoaded (length slots2)) (sym b) (still_loaded (length slots) (length slots2) index.bits l k.load);
+    }
 
 pub none-distinct : IsDistinct (lists [])
 none-distinct = subst (λ (o : Order). IsDistinct (lists_of o [])) (sym no-order) (λ (i : Item). omega arith)
@@ -132,9 +128,6 @@ used-slot slots k h u =
     let l = slots-length slots in
     (r, omega (arith, w, l))
 
-pub item_at : (slots : List Slot) (k : ℕ) → slot_item (entries slots) k ≡ (get_or slots k no_slot).item
-item_at slots k = ap (λ (e : Entry). e.item) (field_at (λ (s : Slot). entry s.item s.count) slots k no_slot)
-
 -- and the index knows it, with its item
 pub known : (slots : List Slot) (index : SlotIndex) (k : ℕ) → IsInSlots slots index (order_of slots) → 1 ≤ count k (used (order_of slots)) → HasSlot k (get_or slots k no_slot).item index
 known slots index k h u = record {
@@ -163,9 +156,5 @@ listed slots index lengths q w k =
         walked (newers (x ∷ s)) (olders (x ∷ s)) (suc q) (order_of (x ∷ s) (suc q)) (suc (suc q)) (linked-section (suc q) (newers (x ∷ s)) (olders (x ∷ s)) (order_of (x ∷ s)) (omega (arith, w)) i.queued.linked.linked)
 
 -- a fact of the slots as a call borrows and leaves them is one of the table before and after
-pub on_view : (F : List Slot → List Slot → Type 0) (new left old lent : List Slot) → new ≡ left → lent ≡ old → F left lent → F new old
-on_view F new left old lent a b x = subst (λ (s : List Slot). F s old) (sym a) (subst (λ (s : List Slot). F left s) b x)
-
--- the ring is read from the links alone
-pub ring-read : (ns os ns2 os2 : List ℕ) → ns2 ≡ ns → os2 ≡ os → IsRing ns os (ring (order_in (ring_of ns))) → IsRing ns2 os2 (ring (order_in (ring_of ns2)))
-ring-read ns os ns2 os2 a b x = subst (λ z. IsRing z os2 (ring (order_in (ring_of z)))) (sym a) (subst (λ z. IsRing ns z (ring (order_in (ring_of ns)))) (sym b) x)
+pub on_view : (F : List Slot → List Slot → Type 0) (n : ℕ) (left rest lent old : List Slot) → n ≡ length left → lent ≡ old → F lent left → F old (take n (left ++ rest))
+on_view F n left rest lent old a b x = subst (λ (s : List Slot). F old s) (sym (take-front n left rest a)) (subst (λ (s : List Slot). F s left) b x)

@@ -22,6 +22,7 @@ pub mod Growing
 pub mod Calls
 pub mod Kept
 pub mod Renewing
+pub mod Moves
 pub mod Counting
 pub mod Reading
 pub mod Cutting

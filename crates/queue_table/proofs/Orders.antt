@@ -1,5 +1,5 @@
 -- The ring and the order of the sections in it.
-use Rattle.std.proofs.Common.{◌≡◌, ℕ, suc, zero, ◌+◌, ◌<◌, ◌≤◌, true, false, cond, eqb, nat_lt, List, [], ◌∷◌, ◌++◌, ap, ◌∙◌, sym, refl, subst, arith, append_assoc, ◌⊎◌, inl, inr}
+use Rattle.std.proofs.Common.{◌≡◌, ℕ, suc, zero, ◌+◌, ◌<◌, ◌≤◌, true, false, cond, eqb, nat_lt, List, [], ◌∷◌, ◌++◌, ap, ◌∙◌, sym, refl, arith, append_assoc, ◌⊎◌, inl, inr}
 use Rattle.std.proofs.Math.Path.{fun_ext}
 use Rattle.std.proofs.lemmas.Bool.{cases_Bool, cases_eq, cases_lt, ne_eqb, eq-eqb, lt-ltb, le-ltb}
 use Rattle.queue_table.specs.Queues.{QUEUES}
@@ -356,7 +356,7 @@ count-put j k b (x ∷ l) =
       | inr e ↦ rw e (omega (arith, r))
     ]
 
-used-same : (n : ℕ) (o p : Order) → ((q : ℕ) → q < n → o (suc q) ≡ p (suc q)) → used_below n o ≡ used_below n p
+pub used-same : (n : ℕ) (o p : Order) → ((q : ℕ) → q < n → o (suc q) ≡ p (suc q)) → used_below n o ≡ used_below n p
 used-same zero o p h = refl
 used-same (suc n) o p h =
     let a = h n (omega arith) in
@@ -381,7 +381,7 @@ count-with (suc n) j q l o h =
           omega (arith, a, b, r, c)
     ]
 
-used-other : (j k : ℕ) (o : Order) → (j ≡ k → ⊥) → count j (used (order_without k o)) ≡ count j (used o)
+pub used-other : (j k : ℕ) (o : Order) → (j ≡ k → ⊥) → count j (used (order_without k o)) ≡ count j (used o)
 used-other j k o d = below QUEUES
   where
     below : (n : ℕ) → count j (used_below n (order_without k o)) ≡ count j (used_below n o)
@@ -404,41 +404,31 @@ used-gone k o = below QUEUES
         let r = below n in
         omega (arith, b, c, r)
 
-used-sent : (j k b q : ℕ) (o : Order) → q < QUEUES → count j (used (sent k (suc q) b o)) ≡ cond (eqb j k) 1 0 + count j (used (order_without k o))
+pub used-sent : (j k b q : ℕ) (o : Order) → q < QUEUES → count j (used (sent k (suc q) b o)) ≡ cond (eqb j k) 1 0 + count j (used (order_without k o))
 used-sent j k b q o w =
     let a = count-with QUEUES j q (put_before k b (keys_without k (o (suc q)))) (order_without k o) w in
     let c = count-put j k b (keys_without k (o (suc q))) in
     omega (arith, a, c)
 
--- a slot in use that is sent elsewhere stays in use, alone of them moved
+pub used-freed : (k b : ℕ) (o : Order) → used (sent k 0 b o) ≡ used (order_without k o)
+used-freed k b o = used-same QUEUES (sent k 0 b o) (order_without k o) (λ q w. with-other 0 (suc q) (put_before k b (keys_without k (o 0))) (order_without k o) (λ z. omega (arith, z)))
+
+-- without a slot the others are in use that were
+pub used-without : (j k : ℕ) (o : Order) → count j (used (order_without k o)) ≡ cond (eqb j k) 0 (count j (used o))
+used-without j k o =
+    elim (cases_eq j k) as (λ _. count j (used (order_without k o)) ≡ cond (eqb j k) 0 (count j (used o))) [
+      | inl e ↦ let f : eqb j k ≡ true = eq-eqb j k e in rw f (ap (λ i. count i (used (order_without k o))) e ∙ used-gone k o)
+      | inr d ↦ let f : eqb j k ≡ false = ne_eqb j k d in rw f (used-other j k o d)
+    ]
+
+-- a slot in use that is sent elsewhere stays in use
 pub used-kept : (j k b q : ℕ) (o : Order) → q < QUEUES → count k (used o) ≡ 1 → count j (used (sent k (suc q) b o)) ≡ count j (used o)
 used-kept j k b q o w h =
     let s = used-sent j k b q o w in
+    let r = used-without j k o in
     elim (cases_eq j k) [
-      | inl e ↦ subst (λ i. count i (used (sent k (suc q) b o)) ≡ count i (used o)) (sym e) (let s2 = used-sent k k b q o w in let f : eqb k k ≡ true = eq-eqb k k refl in let s3 = rw f at s2 in let g = used-gone k o in omega (arith, s3, g, h))
-      | inr d ↦ let f : eqb j k ≡ false = ne_eqb j k d in let s3 = rw f at s in let g = used-other j k o d in omega (arith, s3, g)
-    ]
-
--- a free slot that is sent to a queue comes into use
-pub used-more : (j k b q : ℕ) (o : Order) → q < QUEUES → count k (used o) ≡ 0 → count j (used (sent k (suc q) b o)) ≡ cond (eqb j k) 1 0 + count j (used o)
-used-more j k b q o w h =
-    let s = used-sent j k b q o w in
-    elim (cases_eq j k) [
-      | inl e ↦ subst (λ i. count i (used (sent k (suc q) b o)) ≡ cond (eqb i k) 1 0 + count i (used o)) (sym e) (let s2 = used-sent k k b q o w in let g = used-gone k o in omega (arith, s2, g, h))
-      | inr d ↦ let g = used-other j k o d in omega (arith, s, g)
-    ]
-
--- a slot made free
-pub used-freed : (j k b : ℕ) (o : Order) → count j (used (sent k 0 b o)) ≡ cond (eqb j k) 0 (count j (used o))
-used-freed j k b o =
-    let a = ap (count j) (used-same QUEUES (sent k 0 b o) (order_without k o) (λ q w. with-other 0 (suc q) (put_before k b (keys_without k (o 0))) (order_without k o) (λ z. omega (arith, z)))) in
-    elim (cases_eq j k) as (λ _. count j (used (sent k 0 b o)) ≡ cond (eqb j k) 0 (count j (used o))) [
-      | inl e ↦
-          let f : eqb j k ≡ true = eq-eqb j k e in
-          let g = used-gone k o in
-          let z : count j (used (order_without k o)) ≡ count k (used (order_without k o)) = ap (λ i. count i (used (order_without k o))) e in
-          rw f (omega (arith, a, z, g))
-      | inr d ↦ let f : eqb j k ≡ false = ne_eqb j k d in let g = used-other j k o d in rw f (omega (arith, a, g))
+      | inl e ↦ let f : eqb j k ≡ true = eq-eqb j k e in let s2 = rw f at s in let r2 = rw f at r in let g = ap (λ i. count i (used o)) e in omega (arith, s2, r2, g, h)
+      | inr d ↦ let f : eqb j k ≡ false = ne_eqb j k d in let s2 = rw f at s in let g = used-other j k o d in omega (arith, s2, g)
     ]
 
 -- one free slot more

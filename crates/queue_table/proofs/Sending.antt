@@ -1,23 +1,33 @@
 -- A slot sent to a place in a section.
-use Rattle.std.proofs.Common.{◌≡◌, ℕ, ◌<◌, ◌≤◌, List, length, ap, ◌∙◌, sym, subst, arith, inl, inr}
-use Rattle.queue_table.specs.Ring.{count, IsRing, ring_of, moved_before, SECTIONS, FIRST, Order, ring, order_without, sent, IsPlace}
+use Rattle.std.proofs.Common.{◌≡◌, ℕ, ◌<◌, List, length, ap, ◌∙◌, sym, subst, arith, inl, inr}
+use Rattle.queue_table.specs.declared.slot.Slot.{Slot}
+use Rattle.queue_table.specs.Ring.{newers, olders, count, IsRing, ring_of, moved_before, SECTIONS, Order, ring, order_of, order_without, sent, CanGo}
 use Rattle.queue_table.proofs.Sections.{gone, count-without}
-use Rattle.queue_table.proofs.Orders.{section-ring, ring_of-is, ring-sent}
+use Rattle.queue_table.proofs.Orders.{section-ring, ring_of-is, ring-sent, order-is, order-short, short-sent}
+use Rattle.queue_table.proofs.Finding.{slots-length}
 
-pub place-apart : (b k s : ℕ) (o : Order) → s < SECTIONS → FIRST ≤ k → IsPlace b s (order_without k o) → b ≡ k → ⊥
-place-apart b k s o a r (inl n) e = let g = gone k (o s) in let c = ap (λ x. count x (order_without k o s)) e in omega (arith, g, c, n)
-place-apart b k s o a r (inr h) e = omega (arith, a, r, h, e)
+module _ (slots : List Slot) (k s b : ℕ) (low : s < SECTIONS) (c : CanGo k s b slots) where
+  pub place-apart : b ≡ k → ⊥
+  place-apart e = elim c.place as (λ _. ⊥) [
+    | inl n ↦ (let g = gone k (order_of slots s) in let d = ap (λ x. count x (order_without k (order_of slots) s)) e in omega (arith, g, d, n))
+    | inr h ↦ (let r = c.real in omega (arith, low, r, h, e))
+  ]
 
-module _ (ns os : List ℕ) (o : Order) (x : IsRing ns os (ring o)) (k : ℕ) (r : FIRST ≤ k) (w : k < length ns) where
-  pub place-within : (b s : ℕ) → s < SECTIONS → IsPlace b s (order_without k o) → b < length ns
-  place-within b s a (inl n) = x.within b (let c = section-ring b s o a in let d = count-without k b (o s) in omega (arith, c, d, n))
-  place-within b s a (inr h) = omega (arith, a, r, w, h)
+  pub place-within : b < length slots
+  place-within = elim c.place as (λ _. b < length slots) [
+    | inl n ↦ (let a = section-ring b s (order_of slots) low in let d = count-without k b (order_of slots s) in let w = c.linked.within b (omega (arith, a, d, n)) in let l = slots-length slots in omega (arith, w, l))
+    | inr h ↦ (let r = c.real in let w = c.within in omega (arith, low, r, w, h))
+  ]
 
-  pub whole-ring : IsRing ns os (ring_of ns)
-  whole-ring = subst (IsRing ns os) (sym (ring_of-is ns os o x)) x
+  pub whole-ring : IsRing (newers slots) (olders slots) (ring_of (newers slots))
+  whole-ring = subst (IsRing (newers slots) (olders slots)) (sym (ring_of-is (newers slots) (olders slots) (order_of slots) c.linked)) c.linked
 
-  pub ring-after-send : (ns2 os2 ns3 os3 : List ℕ) (b s : ℕ) → s < SECTIONS → IsPlace b s (order_without k o) → ring_of ns2 ≡ moved_before k b (ring_of ns) → IsRing ns2 os2 (ring_of ns2) → ns3 ≡ ns2 → os3 ≡ os2 →
-      IsRing ns3 os3 (ring (sent k s b o))
-  ring-after-send ns2 os2 ns3 os3 b s a p e y ne oe =
-      let f : ring_of ns2 ≡ ring (sent k s b o) = e ∙ (ap (moved_before k b) (ring_of-is ns os o x) ∙ ring-sent k b s o a x.once r p) in
-      rw (ne, oe) (subst (IsRing ns2 os2) f y)
+  module _ (slots2 : List Slot) (x : IsRing (newers slots2) (olders slots2) (ring_of (newers slots2))) (e : ring_of (newers slots2) ≡ moved_before k b (ring_of (newers slots))) where
+    ring-after : IsRing (newers slots2) (olders slots2) (ring (sent k s b (order_of slots)))
+    ring-after = subst (IsRing (newers slots2) (olders slots2)) (e ∙ (ap (moved_before k b) (ring_of-is (newers slots) (olders slots) (order_of slots) c.linked) ∙ ring-sent k b s (order_of slots) low c.linked.once c.real c.place)) x
+
+    pub order-after : order_of slots2 ≡ sent k s b (order_of slots)
+    order-after = order-is (newers slots2) (olders slots2) (sent k s b (order_of slots)) (short-sent k s b (order_of slots) low (order-short (ring_of (newers slots)))) ring-after
+
+    pub linked-after : IsRing (newers slots2) (olders slots2) (ring (order_of slots2))
+    linked-after = subst (λ (o : Order). IsRing (newers slots2) (olders slots2) (ring o)) (sym order-after) ring-after

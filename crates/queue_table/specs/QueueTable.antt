@@ -48,6 +48,13 @@ KeepsOthers i old new =
 abbrev pub IsCounted : Lengths → Order → Type 0
 IsCounted lengths o = (s : ℕ) → s < SECTIONS → slice_index lengths.at s ≡ length (o s)
 
+-- the slot is in use, and no section has too many slots to count one more
+pub record CanLeave (at : ℕ) (slots : List Slot) (lengths : Lengths) : Type 0 where
+  pub queued : IsQueued slots (order_of slots)
+  pub used : IsUsed at slots
+  pub counted : IsCounted lengths (order_of slots)
+  pub few : (s : ℕ) → s < SECTIONS → slice_index lengths.at s + 1 < 2 ^ 64
+
 -- the index knows the used slots, with their items
 abbrev pub IsIndexOf : SlotIndex → List Entry → List ℕ → Type 0
 IsIndexOf index entries used = IsIndexed index (slot_item entries) (λ k. count k used)

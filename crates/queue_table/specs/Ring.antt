@@ -1,7 +1,7 @@
 -- The slots, linked into one ring, and the ring cut by number into the free slots and the queues.
 use Rattle.std.specs.Prelude.{◌≡◌, ℕ, suc, zero, nat_lt, ◌⊎◌, Option, Some, None, ◌+◌, ◌-◌, ◌<◌, ◌≤◌, eqb, cond}
 use Rattle.step_record.specs.Keys.{keys_without}
-use Rattle.std.specs.Prelude.{List, [], ◌∷◌, ◌++◌, length, map, slice_index, slice_index_or}
+use Rattle.std.specs.Prelude.{List, [], ◌∷◌, ◌++◌, length, map, slice_index, slice_index_or, slice_set}
 use Rattle.step_record.specs.declared.item.Item.{Item}
 use Rattle.queue_table.specs.declared.records.Entry.{Entry}
 use Rattle.queue_table.specs.declared.slot.Slot.{Slot}
@@ -25,6 +25,13 @@ tags slots = map (λ (s : Slot). s.queue) slots
 -- of the fields of the slots only the links to the neighbours differ
 pub record ChangesOnlyLinks (old new : List Slot) : Type 0 where
   pub entries : entries new ≡ entries old
+  pub tags : tags new ≡ tags old
+
+-- of the fields of the slots only one entry differs
+pub record ChangesOnlyEntry (k : ℕ) (e : Entry) (old new : List Slot) : Type 0 where
+  pub newers : newers new ≡ newers old
+  pub olders : olders new ≡ olders old
+  pub entries : entries new ≡ slice_set (entries old) k e
   pub tags : tags new ≡ tags old
 
 abbrev pub slot_entry : List Entry → ℕ → Entry
@@ -156,6 +163,27 @@ pub record IsQueued (slots : List Slot) (o : Order) : Type 0 where
 -- b is a place in the section: one of its slots, or the one after it
 abbrev pub IsPlace : ℕ → ℕ → Order → Type 0
 IsPlace b s o = (1 ≤ count b (o s)) ⊎ (b ≡ suc s)
+
+-- the slot may go to the place before b in section s
+pub record CanGo (k s b : ℕ) (slots : List Slot) : Type 0 where
+  pub linked : IsRing (newers slots) (olders slots) (ring (order_of slots))
+  pub real : FIRST ≤ k
+  pub within : k < length slots
+  pub place : IsPlace b s (order_without k (order_of slots))
+
+-- the slot went to the place before b in queue q, with an entry
+pub record IsSent (k q b : ℕ) (e : Entry) (old new : List Slot) : Type 0 where
+  pub low : q < QUEUES
+  pub linked : IsRing (newers new) (olders new) (ring (order_of new))
+  pub order : order_of new ≡ sent k (suc q) b (order_of old)
+  pub entries : entries new ≡ slice_set (entries old) k e
+  pub tags : tags new ≡ slice_set (tags old) k q
+
+-- the slot went to the free ones
+pub record IsFreed (k : ℕ) (old new : List Slot) : Type 0 where
+  pub linked : IsRing (newers new) (olders new) (ring (order_of new))
+  pub order : order_of new ≡ sent k 0 1 (order_of old)
+  pub only : ChangesOnlyLinks old new
 
 -- the item of a slot, None at those between the sections
 abbrev pub item_or : List Entry → ℕ → Option Item

@@ -14,11 +14,11 @@
 ghost use Rattle.std.specs.Prelude.{◌≡◌, ◌≢◌, ◌<◌, ◌≤◌, suc, Some, IfOk, map, length, slice_index, slice_set};
 ghost use Rattle.queue_table.specs.Queues.{QUEUES, place_in};
 ghost use Rattle.queue_table.specs.Ring.{slot_item, count, walk, IsRing, ring_of, moved_before, ring, used};
-ghost use Rattle.queue_table.specs.Ring.{FIRST, order_of, order_without, sent, lists, item_or, first_of, last_of};
-ghost use Rattle.queue_table.specs.Ring.{IsPlace, IsQueued, entries, olders, newers, next_but, tags, ChangesOnlyLinks};
+ghost use Rattle.queue_table.specs.Ring.{order_of, lists, item_or, first_of, last_of, entries, olders, newers, next_but};
+ghost use Rattle.queue_table.specs.Ring.{IsQueued, CanGo, IsSent, IsFreed, ChangesOnlyLinks};
 
-use crate::records::Place;
-use crate::slot::{Slot, set_newer, set_older, set_queue};
+use crate::records::{Entry, Place};
+use crate::slot::{Slot, set_entry, set_newer, set_older, set_queue};
 use std::alloc::{AllocError, Global};
 use step_record::Item;
 
@@ -174,17 +174,14 @@ fn item_of(slots: &[Slot], at: u32) -> Option<Item>
     Some(slots[at as usize].item)
 }
 
-/// Moves the slot to the place before another one in a queue.
+/// Gives the slot an entry, and moves it to the place before another one in a queue.
 #[inline(always)]
-pub(crate) fn send(slots: &mut [Slot], at: u32, queue: u8, before: u32)
+pub(crate) fn send(slots: &mut [Slot], at: u32, entry: Entry, queue: u8, before: u32)
     requires queue { queue < QUEUES }
-    requires ring { IsRing (newers slots.old) (olders slots.old) (ring (order_of slots.old)) }
-    requires at { (FIRST ≤ at) × (at < length slots.old) }
-    requires place { IsPlace before (suc queue) (order_without at (order_of slots.old)) }
-    ensures ring { IsRing (newers slots.new) (olders slots.new) (ring (sent at (suc queue) before (order_of slots.old))) }
-    ensures entries { entries slots.new ≡ entries slots.old }
-    ensures tags { tags slots.new ≡ slice_set (tags slots.old) at queue }
+    requires place { CanGo at (suc queue) before slots.old }
+    ensures { IsSent at queue before entry slots.old slots.new }
 {
+    set_entry(slots, at as usize, entry);
     move_before(slots, at, before);
     set_queue(slots, at as usize, queue);
 }
@@ -192,10 +189,8 @@ pub(crate) fn send(slots: &mut [Slot], at: u32, queue: u8, before: u32)
 /// Moves the slot to the free ones.
 #[inline(always)]
 pub(crate) fn release(slots: &mut [Slot], at: u32)
-    requires ring { IsRing (newers slots.old) (olders slots.old) (ring (order_of slots.old)) }
-    requires at { (FIRST ≤ at) × (at < length slots.old) }
-    ensures ring { IsRing (newers slots.new) (olders slots.new) (ring (sent at 0 1 (order_of slots.old))) }
-    ensures only { ChangesOnlyLinks slots.old slots.new }
+    requires { CanGo at 0 1 slots.old }
+    ensures { IsFreed at slots.old slots.new }
 {
     move_before(slots, at, 1);
 }

@@ -1,13 +1,13 @@
 //! Slots, index and lengths together: what holds of the three, and the calls that keep it.
 ghost use Rattle.std.specs.Prelude.{◌≡◌, ◌≢◌, ◌<◌, ◌≤◌, ◌+◌, ◌*◌, ◌^◌, suc, [], Ok, Option, Some, None, OnOk, IfOk, IfSome, IfNone};
-ghost use Rattle.std.specs.Prelude.{length};
+ghost use Rattle.std.specs.Prelude.{ℕ, length};
 ghost use Rattle.std.specs.List.{Contains};
 ghost use Rattle.step_record.specs.declared.item.Item.{Item};
 ghost use Rattle.queue_table.specs.Entries.{entry, items_of, oldest_of, newest_of, IsGap};
 ghost use Rattle.queue_table.specs.Queues.{QUEUES, empty_queues, queue_holding, items_below, place_in, IsDistinct};
 ghost use Rattle.queue_table.specs.Queues.{after_push, after_removal, after_send, after_count, after_return};
-ghost use Rattle.queue_table.specs.Ring.{entries, lists_of, order_of, order_without, IsPlace, IsQueued};
-ghost use Rattle.queue_table.specs.QueueTable.{queues, spare, entry_at, IsUsed, IsBehind, IsSlotOf};
+ghost use Rattle.queue_table.specs.Ring.{entries, lists_of, order_of, order_without, sent, IsPlace, IsQueued};
+ghost use Rattle.queue_table.specs.QueueTable.{queues, spare, entry_at, CanLeave, IsUsed, IsCounted, IsBehind, IsSlotOf};
 ghost use Rattle.queue_table.specs.QueueTable.{KeepsSlots, KeepsOthers};
 
 use crate::growth::grow;
@@ -17,7 +17,7 @@ use crate::links::{
     slot_before, slot_behind,
 };
 use crate::records::{Entry, Found, Place};
-use crate::slot::{RingItems, Slot, set_count, set_entry};
+use crate::slot::{RingItems, Slot, set_entry};
 use crate::slot_index::SlotIndex;
 use std::alloc::{AllocError, Global};
 use std::marker::Model;
@@ -290,9 +290,8 @@ impl QueueTable {
     {
         let slots: &mut [Slot] = &mut self.slots;
         let at = newest_free(slots);
-        set_entry(slots, at as usize, entry);
         self.index.insert(at, entry.item);
-        send(slots, at, queue, before);
+        send(slots, at, entry, queue, before);
         self.lengths.pass(0, section(queue));
     }
 
@@ -314,10 +313,9 @@ impl QueueTable {
         ensures others { KeepsOthers (entry_at at self.old).item self.old self.new }
     {
         let slots: &mut [Slot] = &mut self.slots;
-        let from = place_of_slot(slots, at);
-        self.lengths.pass(section(from.queue), section(queue));
-        set_count(slots, at as usize, count);
-        send(slots, at, queue, before);
+        let from = leave(slots, &mut self.lengths, at, section(queue));
+        let item = slots[at as usize].item;
+        send(slots, at, Entry { item, count }, queue, before);
         from
     }
 
@@ -412,13 +410,11 @@ impl QueueTable {
         ensures others { KeepsOthers (entry_at at self.old).item self.old self.new }
     {
         let slots: &mut [Slot] = &mut self.slots;
-        let from = place_of_slot(slots, at);
-        self.lengths.pass(section(from.queue), section(queue));
+        let from = leave(slots, &mut self.lengths, at, section(queue));
         let old = slots[at as usize].item;
         self.index.remove(at, old);
-        set_entry(slots, at as usize, entry);
         self.index.insert(at, entry.item);
-        send(slots, at, queue, slot_behind(queue));
+        send(slots, at, entry, queue, slot_behind(queue));
         from
     }
 
@@ -433,8 +429,7 @@ impl QueueTable {
         ensures others { KeepsOthers (entry_at at self.old).item self.old self.new }
     {
         let slots: &mut [Slot] = &mut self.slots;
-        let from = place_of_slot(slots, at);
-        self.lengths.pass(section(from.queue), 0);
+        let from = leave(slots, &mut self.lengths, at, 0);
         let item = slots[at as usize].item;
         self.index.remove(at, item);
         release(slots, at);
@@ -450,6 +445,21 @@ impl QueueTable {
         ensures others { KeepsOthers (entry_at at self.old).item self.old self.new }
     {
         let slots: &mut [Slot] = &mut self.slots;
-        set_count(slots, at as usize, count);
+        let item = slots[at as usize].item;
+        set_entry(slots, at as usize, Entry { item, count });
     }
+}
+
+// Counts a slot in use out of its queue and into a section, and says where it stood.
+#[inline(always)]
+fn leave(slots: &[Slot], lengths: &mut Lengths, at: u32, to: usize) -> Place
+    requires slot { CanLeave at slots.now lengths.old }
+    requires to { to ≤ QUEUES }
+    ensures low { result.queue < QUEUES }
+    ensures place { Some result ≡ place_in (entry_at at slots.now).item (queues slots.now) }
+    ensures counted { (s b : ℕ) → to ≡ s → IsCounted lengths.new (sent at s b (order_of slots.now)) }
+{
+    let from = place_of_slot(slots, at);
+    lengths.pass(section(from.queue), to);
+    from
 }

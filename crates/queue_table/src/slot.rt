@@ -1,7 +1,6 @@
 //! A slot, and writes to one field of it.
 ghost use Rattle.std.specs.Prelude.{◌≡◌, ◌<◌, length, slice_set};
-ghost use Rattle.queue_table.specs.Entries.{entry};
-ghost use Rattle.queue_table.specs.Ring.{entries, olders, newers, tags, slot_item, ChangesOnlyLinks};
+ghost use Rattle.queue_table.specs.Ring.{entries, olders, newers, tags, slot_item, ChangesOnlyLinks, ChangesOnlyEntry};
 
 use crate::records::Entry;
 use crate::slot_index::SlotItems;
@@ -73,24 +72,9 @@ pub(crate) fn set_queue(slots: &mut [Slot], at: usize, to: u8)
 #[inline(always)]
 pub(crate) fn set_entry(slots: &mut [Slot], at: usize, to: Entry)
     requires { at < length slots.old }
-    ensures newers { newers slots.new ≡ newers slots.old }
-    ensures olders { olders slots.new ≡ olders slots.old }
-    ensures entries { entries slots.new ≡ slice_set (entries slots.old) at to }
-    ensures tags { tags slots.new ≡ tags slots.old }
+    ensures { ChangesOnlyEntry at to slots.old slots.new }
 {
     let slot = &mut slots[at];
     slot.item = to.item;
     slot.count = to.count;
-}
-
-#[inline(always)]
-pub(crate) fn set_count(slots: &mut [Slot], at: usize, to: u8)
-    requires { at < length slots.old }
-    ensures newers { newers slots.new ≡ newers slots.old }
-    ensures olders { olders slots.new ≡ olders slots.old }
-    ensures entries { entries slots.new ≡ slice_set (entries slots.old) at (entry (slot_item (entries slots.old) at) to) }
-    ensures tags { tags slots.new ≡ tags slots.old }
-{
-    let slot = &mut slots[at];
-    slot.count = to;
 }

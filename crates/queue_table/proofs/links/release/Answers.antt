@@ -1,18 +1,25 @@
-use Rattle.std.proofs.Common.{arith, inr, refl}
-use Rattle.std.proofs.lemmas.List.{length-map}
-use Rattle.queue_table.specs.Ring.{newers, olders, order_of}
-use Rattle.queue_table.specs.declared.slot.Slot.{Slot}
-use Rattle.queue_table.proofs.Sending.{whole-ring, ring-after-send}
+use Rattle.std.proofs.Common.{◌<◌, arith}
+use Rattle.queue_table.specs.Ring.{SECTIONS}
+use Rattle.queue_table.proofs.Sending.{place-apart, place-within, whole-ring, order-after, linked-after}
 use Rattle.queue_table.proofs.links.release.Goals as goal
 
-pub move_before-requires-clause-ring : goal.move_before-requires-clause-ring
-move_before-requires-clause-ring c =
-    let n = length-map c.args.slots.now (λ (s : Slot). s.newer) in
-    whole-ring (newers c.args.slots.now) (olders c.args.slots.now) (order_of c.args.slots.now) c.requires.ring c.args.at c.requires.at.0 (omega (arith, n))
+pub move_before-requires : goal.move_before-requires
+move_before-requires c =
+    let s : 0 < SECTIONS = omega arith in
+    let r = c.requires.real in
+    record {
+      ring = whole-ring c.args.slots.now c.args.at 0 1 s c.requires;
+      at = (omega (arith, r), c.requires.within);
+      before = place-within c.args.slots.now c.args.at 0 1 s c.requires;
+      apart = place-apart c.args.slots.now c.args.at 0 1 s c.requires;
+    }
 
-pub returns-clause-ring : goal.returns-clause-ring
-returns-clause-ring c =
-    let n = length-map c.args.slots.now (λ (s : Slot). s.newer) in
-    ring-after-send (newers c.args.slots.now) (olders c.args.slots.now) (order_of c.args.slots.now) c.requires.ring c.args.at c.requires.at.0 (omega (arith, n))
-    (newers c.move_before.new.slots) (olders c.move_before.new.slots) (newers c.move_before.new.slots) (olders c.move_before.new.slots) 1 0 (omega arith) (inr refl)
-    c.move_before.ensures.order c.move_before.ensures.ring refl refl
+pub returns : goal.returns
+returns c =
+    let s : 0 < SECTIONS = omega arith in
+    let e = c.move_before.ensures in
+    record {
+      linked = linked-after c.args.slots.now c.args.at 0 1 s c.requires c.move_before.new.slots e.ring e.order;
+      order = order-after c.args.slots.now c.args.at 0 1 s c.requires c.move_before.new.slots e.ring e.order;
+      only = e.only;
+    }

@@ -1,27 +1,40 @@
-use Rattle.std.proofs.Common.{suc, arith}
-use Rattle.std.proofs.lemmas.List.{length-map}
-use Rattle.queue_table.specs.Ring.{newers, olders, order_of}
-use Rattle.queue_table.specs.declared.slot.Slot.{Slot}
-use Rattle.queue_table.proofs.Sending.{place-apart, place-within, whole-ring, ring-after-send}
+use Rattle.std.proofs.Common.{◌≡◌, ◌∙◌, ◌<◌, suc, ap, set, List, ℕ, arith}
+use Rattle.queue_table.specs.Ring.{newers, olders, ring_of, moved_before, SECTIONS, IsRing}
+use Rattle.queue_table.proofs.Sending.{place-apart, place-within, whole-ring, order-after, linked-after}
 use Rattle.queue_table.proofs.links.send.Goals as goal
 
-pub move_before-requires-clause-ring : goal.move_before-requires-clause-ring
-move_before-requires-clause-ring c =
-    let n = length-map c.args.slots.now (λ (s : Slot). s.newer) in
-    whole-ring (newers c.args.slots.now) (olders c.args.slots.now) (order_of c.args.slots.now) c.requires.ring c.args.at c.requires.at.0 (omega (arith, n))
+pub set_entry-requires : goal.set_entry-requires
+set_entry-requires c = c.requires.place.within
 
-pub move_before-requires-clause-before : goal.move_before-requires-clause-before
-move_before-requires-clause-before c =
-    let n = length-map c.args.slots.now (λ (s : Slot). s.newer) in
-    let w = place-within (newers c.args.slots.now) (olders c.args.slots.now) (order_of c.args.slots.now) c.requires.ring c.args.at c.requires.at.0 (omega (arith, n)) c.args.before (suc c.args.queue) (let low = c.requires.queue in omega (arith, low)) c.requires.place in
-    omega (arith, n, w)
+pub move_before-requires : goal.move_before-requires
+move_before-requires c =
+    let low = c.requires.queue in
+    let s : suc c.args.queue < SECTIONS = omega (arith, low) in
+    let can = c.requires.place in
+    let r = can.real in
+    let w = can.within in
+    let b = place-within c.args.slots.now c.args.at (suc c.args.queue) c.args.before s can in
+    record {
+      ring = rw (c.set_entry.ensures.newers, c.set_entry.ensures.olders) (whole-ring c.args.slots.now c.args.at (suc c.args.queue) c.args.before s can);
+      at = (omega (arith, r), omega (arith, w));
+      before = omega (arith, b);
+      apart = place-apart c.args.slots.now c.args.at (suc c.args.queue) c.args.before s can;
+    }
 
-pub move_before-requires-clause-apart : goal.move_before-requires-clause-apart
-move_before-requires-clause-apart c = place-apart c.args.before c.args.at (suc c.args.queue) (order_of c.args.slots.now) (let low = c.requires.queue in omega (arith, low)) c.requires.at.0 c.requires.place
+pub set_queue-requires : goal.set_queue-requires
+set_queue-requires c = let w = c.requires.place.within in omega (arith, w)
 
-pub returns-clause-ring : goal.returns-clause-ring
-returns-clause-ring c =
-    let n = length-map c.args.slots.now (λ (s : Slot). s.newer) in
-    ring-after-send (newers c.args.slots.now) (olders c.args.slots.now) (order_of c.args.slots.now) c.requires.ring c.args.at c.requires.at.0 (omega (arith, n))
-    (newers c.move_before.new.slots) (olders c.move_before.new.slots) (newers c.set_queue.new.slots) (olders c.set_queue.new.slots) c.args.before (suc c.args.queue) (let low = c.requires.queue in omega (arith, low)) c.requires.place
-    c.move_before.ensures.order c.move_before.ensures.ring c.set_queue.ensures.newers c.set_queue.ensures.olders
+pub returns : goal.returns
+returns c =
+    let low = c.requires.queue in
+    let s : suc c.args.queue < SECTIONS = omega (arith, low) in
+    let x : IsRing (newers c.set_queue.new.slots) (olders c.set_queue.new.slots) (ring_of (newers c.set_queue.new.slots)) = rw (c.set_queue.ensures.newers, c.set_queue.ensures.olders) c.move_before.ensures.ring in
+    let e : ring_of (newers c.set_queue.new.slots) ≡ moved_before c.args.at c.args.before (ring_of (newers c.args.slots.now)) =
+    ap ring_of c.set_queue.ensures.newers ∙ (c.move_before.ensures.order ∙ ap (λ (l : List ℕ). moved_before c.args.at c.args.before (ring_of l)) c.set_entry.ensures.newers) in
+    record {
+      low = low;
+      linked = linked-after c.args.slots.now c.args.at (suc c.args.queue) c.args.before s c.requires.place c.set_queue.new.slots x e;
+      order = order-after c.args.slots.now c.args.at (suc c.args.queue) c.args.before s c.requires.place c.set_queue.new.slots x e;
+      entries = c.set_queue.ensures.entries ∙ (c.move_before.ensures.only.entries ∙ c.set_entry.ensures.entries);
+      tags = c.set_queue.ensures.tags ∙ ap (λ (l : List ℕ). set l c.args.at c.args.queue) (c.move_before.ensures.only.tags ∙ c.set_entry.ensures.tags);
+    }

@@ -1,70 +1,45 @@
-use Rattle.std.proofs.Common.{◌≡◌, ◌∙◌, ◌≤◌, ◌++◌, sym, ap, subst, arith, List, ℕ, length, take, drop, refl}
+use Rattle.std.proofs.Common.{◌≡◌, ◌∙◌, ◌++◌, sym, ap, subst, arith, List, length, take, drop}
+use Rattle.step_record.specs.declared.item.Item.{Item}
 use Rattle.queue_table.specs.declared.slot.Slot.{Slot}
-use Rattle.queue_table.specs.Queues.{after_count}
-use Rattle.queue_table.specs.Ring.{entries, slot_item, lists, count, used, Order, order_of, order_in, ring_of, lists_of}
-use Rattle.queue_table.specs.QueueTable.{IsInSlots, IsCounted, KeepsOthers}
-use Rattle.queue_table.proofs.Counting.{lists-counted, held-counted}
-use Rattle.queue_table.proofs.Tables.{take-front}
-use Rattle.queue_table.proofs.Kept.{held-used, used-slot, kept-on, on_view}
-use Rattle.queue_table.proofs.Staying.{stay-written}
+use Rattle.queue_table.specs.Entries.{entry}
+use Rattle.queue_table.specs.Queues.{after_removal}
+use Rattle.queue_table.specs.Ring.{entries, slot_item, lists, Order, ChangesOnlyEntry}
+use Rattle.queue_table.specs.QueueTable.{IsKept}
+use Rattle.queue_table.proofs.Counting.{order-counted, lists-counted, others-counted, kept-counted}
+use Rattle.queue_table.proofs.Kept.{on_view}
+use Rattle.queue_table.proofs.Renewing.{item_at}
+use Rattle.queue_table.proofs.Moves.{IsLoose, used-loose}
 use Rattle.queue_table.proofs.queue_table.QueueTable.set_count.Goals as goal
-use Rattle.queue_table.proofs.queue_table.QueueTable.set_count.Goals.{After-deref_mut-slots, After-set_count}
+use Rattle.queue_table.proofs.queue_table.QueueTable.set_count.Goals.{After-deref_mut-slots, After-set_entry}
 
--- the slots, as they are borrowed, have the slot in use
-used-there : (c : goal.After-deref_mut-slots) → 1 ≤ count c.args.at (used (order_of c.deref_mut-slots.result.now))
-used-there c = subst (λ (s : List Slot). 1 ≤ count c.args.at (used (order_of s))) (sym (c.deref_mut-slots.ensures.value ∙ c.self.view_is)) c.requires.used
+-- the slots are borrowed as they are
+lent : (c : goal.After-deref_mut-slots) → c.deref_mut-slots.result.now ≡ c.args.self.now
+lent c = c.deref_mut-slots.ensures.value ∙ c.self.view_is
 
--- and they hold together
-held-there : (c : goal.After-deref_mut-slots) → IsInSlots c.deref_mut-slots.result.now c.self.inside.index (order_of c.deref_mut-slots.result.now)
-held-there c = held-used c.deref_mut-slots.result.now c.self.inside.slots.items _ _ c.self.invariant c.deref_mut-slots.ensures.value c.args.at (used-there c)
+loose : (c : goal.After-deref_mut-slots) → IsLoose c.args.self.now c.self.inside.index c.self.inside.lengths c.args.at (after_removal (slot_item (entries c.args.self.now) c.args.at) (lists c.args.self.now))
+loose c = used-loose _ _ _ (subst (λ (s : List Slot). IsKept s c.self.inside.index c.self.inside.lengths) c.self.view_is c.self.invariant) c.args.at c.requires.used
 
-counted-there : (c : goal.After-deref_mut-slots) → IsCounted c.self.inside.lengths (order_of c.deref_mut-slots.result.now)
-counted-there c = subst (λ (s : List Slot). IsCounted c.self.inside.lengths (order_of s)) (sym c.deref_mut-slots.ensures.value) c.self.invariant.counted
+-- and the slot has another count
+counted : (c : goal.After-set_entry) → ChangesOnlyEntry c.args.at (entry (slot_item (entries c.args.self.now) c.args.at) c.args.count) c.args.self.now (take c.self.inside.slots.len (c.set_entry.new.slots ++ drop (length c.set_entry.new.slots) c.self.inside.slots.items))
+counted c =
+    let slots = c.deref_mut-slots.result.now in
+    on_view (λ old new. ChangesOnlyEntry c.args.at (entry (slot_item (entries old) c.args.at) c.args.count) old new) _ _ _ _ _ (omega arith) (c.deref_mut-slots.ensures.value ∙ c.self.view_is)
+    (subst (λ (i : Item). ChangesOnlyEntry c.args.at (entry i c.args.count) slots c.set_entry.new.slots) (sym (item_at slots c.args.at)) c.set_entry.ensures)
 
-order-after : (c : goal.After-set_count) → order_of c.set_count.new.slots ≡ order_of c.deref_mut-slots.result.now
-order-after c = ap (λ (l : List ℕ). order_in (ring_of l)) c.set_count.ensures.newers
+pub bounds-slots-at : goal.bounds-slots-at
+bounds-slots-at c = let a = (goal.at.bounds-slots-at c).After-deref_mut-slots in rw (lent a) (loose a).within
 
-pub set_count-requires : goal.set_count-requires
-set_count-requires c =
-    let a = (goal.at.set_count-requires c).After-deref_mut-slots in
-    (used-slot c.deref_mut-slots.result.now c.args.at (held-there a).queued (used-there a)).1
+pub set_entry-requires : goal.set_entry-requires
+set_entry-requires c = let a = (goal.at.set_entry-requires c).After-deref_mut-slots in rw (lent a) (loose a).within
 
 pub invariant_of-self : goal.invariant_of-self
-invariant_of-self c =
-    let at = goal.at.invariant_of-self c in
-    let slots = c.deref_mut-slots.result.now in
-    let e = c.set_count.ensures in
-    let u = used-there at.After-deref_mut-slots in
-    let h = held-there at.After-deref_mut-slots in
-    let eo = order-after at.After-set_count in
-    let held = subst (IsInSlots c.set_count.new.slots c.self.inside.index) (sym eo)
-    (held-counted slots c.set_count.new.slots (order_of slots) h.queued c.args.at c.args.count u (used-slot slots c.args.at h.queued u).1 e.entries e.newers e.olders e.tags c.self.inside.index h (omega arith)) in
-    let counted = subst (IsCounted c.self.inside.lengths) (sym eo) (counted-there at.After-deref_mut-slots) in
-    let whole : take c.self.inside.slots.len (c.set_count.new.slots ++ drop (length c.set_count.new.slots) c.self.inside.slots.items) ≡ c.set_count.new.slots = take-front _ _ _ (omega arith) in
-    rw whole (kept-on c.self.inside.slots.items c.set_count.new.slots _ _ _ _ c.self.invariant held counted (omega arith) refl)
+invariant_of-self c = let at = goal.at.invariant_of-self c in kept-counted _ _ _ _ _ _ _ (loose at.After-deref_mut-slots) c.requires.used (counted at.After-set_entry)
 
 pub returns-clause-queues : goal.returns-clause-queues
-returns-clause-queues c =
-    let at = goal.at.returns-clause-queues c in
-    let slots = c.deref_mut-slots.result.now in
-    let u = used-there at.After-deref_mut-slots in
-    let h = held-there at.After-deref_mut-slots in
-    let e : slots ≡ c.args.self.now = c.deref_mut-slots.ensures.value ∙ c.self.view_is in
-    let whole : take c.self.inside.slots.len (c.set_count.new.slots ++ drop (length c.set_count.new.slots) c.self.inside.slots.items) ≡ c.set_count.new.slots = take-front _ _ _ (omega arith) in
-    on_view (λ new old. lists new ≡ after_count (slot_item (entries old) c.args.at) c.args.count (lists old)) _ _ _ _ whole e (ap (λ (o : Order). lists_of o (entries c.set_count.new.slots)) (order-after at.After-set_count)
-    ∙ lists-counted slots c.set_count.new.slots (order_of slots) h.queued c.args.at c.args.count u (used-slot slots c.args.at h.queued u).1 c.set_count.ensures.entries)
+returns-clause-queues c = let at = goal.at.returns-clause-queues c in lists-counted _ _ _ _ _ _ _ (loose at.After-deref_mut-slots) c.requires.used (counted at.After-set_entry)
 
 pub returns-clause-spare : goal.returns-clause-spare
-returns-clause-spare c =
-    let at = goal.at.returns-clause-spare c in
-    let e : c.deref_mut-slots.result.now ≡ c.args.self.now = c.deref_mut-slots.ensures.value ∙ c.self.view_is in
-    let whole : take c.self.inside.slots.len (c.set_count.new.slots ++ drop (length c.set_count.new.slots) c.self.inside.slots.items) ≡ c.set_count.new.slots = take-front _ _ _ (omega arith) in
-    on_view (λ new old. length (order_of new 0) ≡ length (order_of old 0)) _ _ _ _ whole e (ap (λ (o : Order). length (o 0)) (order-after at.After-set_count))
+returns-clause-spare c = let at = goal.at.returns-clause-spare c in ap (λ (o : Order). length (o 0)) (order-counted _ _ _ _ _ _ _ (loose at.After-deref_mut-slots) c.requires.used (counted at.After-set_entry))
 
 pub returns-clause-others : goal.returns-clause-others
-returns-clause-others c =
-    let at = goal.at.returns-clause-others c in
-    let slots = c.deref_mut-slots.result.now in
-    let e : slots ≡ c.args.self.now = c.deref_mut-slots.ensures.value ∙ c.self.view_is in
-    let whole : take c.self.inside.slots.len (c.set_count.new.slots ++ drop (length c.set_count.new.slots) c.self.inside.slots.items) ≡ c.set_count.new.slots = take-front _ _ _ (omega arith) in
-    on_view (λ new old. KeepsOthers (slot_item (entries old) c.args.at) old new) _ _ _ _ whole e (stay-written slots c.set_count.new.slots c.args.at _ c.set_count.ensures.entries (order-after at.After-set_count))
+returns-clause-others c = let at = goal.at.returns-clause-others c in others-counted _ _ _ _ _ _ _ (loose at.After-deref_mut-slots) c.requires.used (counted at.After-set_entry)

@@ -1,167 +1,63 @@
-use Rattle.std.proofs.Common.{◌≡◌, ◌∙◌, ◌≤◌, ◌++◌, Option, sym, ap, subst, arith, List, ℕ, suc, length, take, drop, set, refl, Some}
+use Rattle.std.proofs.Common.{◌≡◌, ◌∙◌, ◌++◌, sym, subst, arith, List, suc, length, take, drop, refl, Some}
 use Rattle.step_record.specs.declared.item.Item.{Item}
 use Rattle.queue_table.specs.declared.slot.Slot.{Slot}
 use Rattle.queue_table.specs.Entries.{entry}
-use Rattle.queue_table.specs.Queues.{after_push, after_send, after_removal, after_return, place_in, IsDistinct}
-use Rattle.queue_table.specs.Ring.{entries, slot_item, count, newers, olders, ring_of, IsRing, Order, ring, order_in, used, order_of, order_without, sent, lists, lists_of, IsPlace}
-use Rattle.queue_table.specs.QueueTable.{IsInSlots, IsCounted, IsBehind, KeepsOthers}
-use Rattle.queue_table.proofs.QueueLists.{IsAbsent, absent-taken, distinct-taken}
-use Rattle.queue_table.proofs.Orders.{order-is, order-short, short-sent}
-use Rattle.queue_table.proofs.Tables.{take-front}
-use Rattle.queue_table.proofs.Calls.{counted-sent, some-counted, spare-sent, used-not-free, written-queued, written-recent, written-back, used-lists}
-use Rattle.queue_table.proofs.Kept.{held-used, used-slot, room-kept, kept-on, on_view, ring-read}
-use Rattle.queue_table.proofs.Kept.{section-few as fits}
-use Rattle.queue_table.proofs.Renewing.{stays}
-use Rattle.queue_table.proofs.Staying.{stay-sent}
+use Rattle.queue_table.specs.Queues.{after_removal, place_in}
+use Rattle.queue_table.specs.Ring.{entries, slot_item, order_of, sent, lists, IsSent}
+use Rattle.queue_table.specs.QueueTable.{IsCounted, IsKept}
+use Rattle.queue_table.proofs.QueueLists.{absent-taken}
+use Rattle.queue_table.proofs.Kept.{on_view}
+use Rattle.queue_table.proofs.Renewing.{item_at}
+use Rattle.queue_table.proofs.Moves.{IsLoose, used-loose, can-leave, can-go, recent-after, back-after, spare-same, others-stay, stays, kept-after}
 use Rattle.queue_table.proofs.queue_table.QueueTable.shift.Goals as goal
-use Rattle.queue_table.proofs.queue_table.QueueTable.shift.Goals.{After-deref_mut-slots, After-send, After-pass, After-set_count}
+use Rattle.queue_table.proofs.queue_table.QueueTable.shift.Goals.{After-deref_mut-slots, After-send}
 
--- the slots, as they are borrowed, have the slot in use
-used-there : (c : goal.After-deref_mut-slots) → 1 ≤ count c.args.at (used (order_of c.deref_mut-slots.result.now))
-used-there c = subst (λ (s : List Slot). 1 ≤ count c.args.at (used (order_of s))) (sym (c.deref_mut-slots.ensures.value ∙ c.self.view_is)) c.requires.used
+-- the slots are borrowed as they are
+lent : (c : goal.After-deref_mut-slots) → c.deref_mut-slots.result.now ≡ c.args.self.now
+lent c = c.deref_mut-slots.ensures.value ∙ c.self.view_is
 
--- and they hold together
-held-there : (c : goal.After-deref_mut-slots) → IsInSlots c.deref_mut-slots.result.now c.self.inside.index (order_of c.deref_mut-slots.result.now)
-held-there c = held-used c.deref_mut-slots.result.now c.self.inside.slots.items _ _ c.self.invariant c.deref_mut-slots.ensures.value c.args.at (used-there c)
+loose : (c : goal.After-deref_mut-slots) → IsLoose c.args.self.now c.self.inside.index c.self.inside.lengths c.args.at (after_removal (slot_item (entries c.args.self.now) c.args.at) (lists c.args.self.now))
+loose c = used-loose _ _ _ (subst (λ (s : List Slot). IsKept s c.self.inside.index c.self.inside.lengths) c.self.view_is c.self.invariant) c.args.at c.requires.used
 
-counted-there : (c : goal.After-deref_mut-slots) → IsCounted c.self.inside.lengths (order_of c.deref_mut-slots.result.now)
-counted-there c = subst (λ (s : List Slot). IsCounted c.self.inside.lengths (order_of s)) (sym c.deref_mut-slots.ensures.value) c.self.invariant.counted
+-- and the slot goes to its place
+moved : (c : goal.After-send) → IsSent c.args.at c.args.queue c.args.before (entry (slot_item (entries c.args.self.now) c.args.at) c.args.count) c.args.self.now (take c.self.inside.slots.len (c.send.new.slots ++ drop (length c.send.new.slots) c.self.inside.slots.items))
+moved c =
+    let slots = c.deref_mut-slots.result.now in
+    on_view (λ old new. IsSent c.args.at c.args.queue c.args.before (entry (slot_item (entries old) c.args.at) c.args.count) old new) _ _ _ _ _ (omega arith) (c.deref_mut-slots.ensures.value ∙ c.self.view_is)
+    (subst (λ (i : Item). IsSent c.args.at c.args.queue c.args.before (entry i c.args.count) slots c.send.new.slots) (sym (item_at slots c.args.at)) c.send.ensures)
 
-ring-after : (c : goal.After-send) → IsRing (newers c.send.new.slots) (olders c.send.new.slots) (ring (sent c.args.at (suc c.args.queue) c.args.before (order_of c.deref_mut-slots.result.now)))
-ring-after c =
-    let order : order_of c.set_count.new.slots ≡ order_of c.deref_mut-slots.result.now = ap (λ (l : List ℕ). order_in (ring_of l)) c.set_count.ensures.newers in
-    subst (λ (o : Order). IsRing (newers c.send.new.slots) (olders c.send.new.slots) (ring (sent c.args.at (suc c.args.queue) c.args.before o))) order c.send.ensures.ring
+pub leave-from-requires-clause-slot : goal.leave-from-requires-clause-slot
+leave-from-requires-clause-slot c =
+    let a = (goal.at.leave-from-requires-clause-slot c).After-deref_mut-slots in
+    rw (lent a) (can-leave _ _ _ (loose a).kept c.args.at c.requires.used)
 
-order-after : (c : goal.After-send) → order_of c.send.new.slots ≡ sent c.args.at (suc c.args.queue) c.args.before (order_of c.deref_mut-slots.result.now)
-order-after c =
-    let low = c.requires.queue in
-    order-is (newers c.send.new.slots) (olders c.send.new.slots) (sent c.args.at (suc c.args.queue) c.args.before (order_of c.deref_mut-slots.result.now))
-    (short-sent c.args.at (suc c.args.queue) c.args.before (order_of c.deref_mut-slots.result.now) (omega (arith, low)) (order-short (ring_of (newers c.deref_mut-slots.result.now)))) (ring-after c)
-
-entries-after : (c : goal.After-send) → entries c.send.new.slots ≡ set (entries c.deref_mut-slots.result.now) c.args.at (entry (slot_item (entries c.deref_mut-slots.result.now) c.args.at) c.args.count)
-entries-after c = c.send.ensures.entries ∙ c.set_count.ensures.entries
-
-pub place_of_slot-from-requires-clause-queued : goal.place_of_slot-from-requires-clause-queued
-place_of_slot-from-requires-clause-queued c = (held-there ((goal.at.place_of_slot-from-requires-clause-queued c).After-deref_mut-slots)).queued
-
-pub place_of_slot-from-requires-clause-used : goal.place_of_slot-from-requires-clause-used
-place_of_slot-from-requires-clause-used c = used-there ((goal.at.place_of_slot-from-requires-clause-used c).After-deref_mut-slots)
-
-pub set_count-requires : goal.set_count-requires
-set_count-requires c =
-    let a = (goal.at.set_count-requires c).After-deref_mut-slots in
-    (used-slot c.deref_mut-slots.result.now c.args.at (held-there a).queued (used-there a)).1
-
-pub send-requires-clause-ring : goal.send-requires-clause-ring
-send-requires-clause-ring c =
-    let h = (held-there ((goal.at.send-requires-clause-ring c).After-deref_mut-slots)).queued in
-    ring-read (newers c.deref_mut-slots.result.now) (olders c.deref_mut-slots.result.now) _ _ c.set_count.ensures.newers c.set_count.ensures.olders h.linked
-
-pub send-requires-clause-at : goal.send-requires-clause-at
-send-requires-clause-at c =
-    let a = (goal.at.send-requires-clause-at c).After-deref_mut-slots in
-    let b = used-slot c.deref_mut-slots.result.now c.args.at (held-there a).queued (used-there a) in
-    (omega (arith, b.0), omega (arith, b.1))
+pub bounds-slots-at : goal.bounds-slots-at
+bounds-slots-at c = let a = (goal.at.bounds-slots-at c).After-deref_mut-slots in rw (lent a) (loose a).within
 
 pub send-requires-clause-place : goal.send-requires-clause-place
 send-requires-clause-place c =
-    let e : c.deref_mut-slots.result.now ≡ c.args.self.now = c.deref_mut-slots.ensures.value ∙ c.self.view_is in
-    let order : order_of c.set_count.new.slots ≡ order_of c.deref_mut-slots.result.now = ap (λ (l : List ℕ). order_in (ring_of l)) c.set_count.ensures.newers in
-    subst (λ (o : Order). IsPlace c.args.before (suc c.args.queue) (order_without c.args.at o)) (sym (order ∙ ap order_of e)) c.requires.place
-
-pub pass-requires-clause-sections : goal.pass-requires-clause-sections
-pass-requires-clause-sections c =
-    let low = c.requires.queue in
-    let from = c.place_of_slot-from.ensures.low in
-    let s = c.section.ensures in
-    let t = c.section-2.ensures in
-    (omega (arith, from, s), omega (arith, low, t))
-
-pub pass-requires-clause-some : goal.pass-requires-clause-some
-pass-requires-clause-some c =
-    let from = c.place_of_slot-from.ensures.low in
-    rw c.section.ensures (some-counted c.self.inside.lengths (order_of c.deref_mut-slots.result.now) (suc c.place_of_slot-from.result.queue) c.args.at (counted-there ((goal.at.pass-requires-clause-some c).After-deref_mut-slots)) (omega (arith, from)) c.place_of_slot-from.ensures.queue)
-
-pub pass-requires-clause-few : goal.pass-requires-clause-few
-pass-requires-clause-few c = let low = c.requires.queue in let s = c.section-2.ensures in fits c.self.inside.slots.items _ _ c.self.invariant c.section-2.result (omega (arith, low, s))
+    let a = (goal.at.send-requires-clause-place c).After-deref_mut-slots in
+    rw (lent a) (can-go _ _ _ _ _ (loose a) (suc c.args.queue) c.args.before c.requires.place)
 
 pub invariant_of-self : goal.invariant_of-self
 invariant_of-self c =
     let at = goal.at.invariant_of-self c in
-    let slots = c.deref_mut-slots.result.now in
-    let o = order_of slots in
-    let k = c.args.at in
-    let q = c.args.queue in
-    let low = c.requires.queue in
-    let i = slot_item (entries slots) k in
-    let h = held-there at.After-deref_mut-slots in
-    let u = used-there at.After-deref_mut-slots in
-    let eo = order-after at.After-send in
-    let es = entries-after at.After-send in
-    let w = (used-slot slots k h.queued u).1 in
-    let out = used-lists slots o h.queued k u in
-    let queued = written-queued slots c.send.new.slots o h.queued k q c.args.before low (entry i c.args.count) w es (ring-after at.After-send)
-    (c.send.ensures.tags ∙ ap (λ l. set l k q) c.set_count.ensures.tags) (subst IsDistinct out (distinct-taken i (lists_of o (entries slots)) h.queued.distinct)) (subst (IsAbsent i) out (absent-taken i (lists_of o (entries slots)))) in
-    let room = room-kept slots c.send.new.slots c.self.inside.index c.self.inside.index _ h (omega arith) refl in
-    let y = stays slots c.send.new.slots c.self.inside.index o h.queued k q c.args.before (entry i c.args.count) low u es w refl h.indexed in
-    let held = subst (IsInSlots c.send.new.slots c.self.inside.index) (sym eo) record { queued = queued; indexed = y; room = room } in
-    let from = c.place_of_slot-from.ensures.low in
-    let counted = counted-sent c.self.inside.lengths c.pass.new.self k (suc q) c.args.before (suc c.place_of_slot-from.result.queue) c.section.result c.section-2.result o (order_of c.send.new.slots) (counted-there at.After-deref_mut-slots) eo (omega (arith, from)) h.queued.linked.once c.place_of_slot-from.ensures.queue c.section.ensures c.section-2.ensures c.pass.ensures in
-    let whole : take c.self.inside.slots.len (c.send.new.slots ++ drop (length c.send.new.slots) c.self.inside.slots.items) ≡ c.send.new.slots = take-front _ _ _ (omega arith) in
-    rw whole (kept-on c.self.inside.slots.items c.send.new.slots _ _ _ _ c.self.invariant held counted (omega arith) refl)
+    let l = loose at.After-deref_mut-slots in
+    let m = moved at.After-send in
+    kept-after _ _ _ _ _ _ _ _ _ l m c.self.inside.index c.leave-from.new.lengths (absent-taken (slot_item (entries c.args.self.now) c.args.at) (lists c.args.self.now)) (stays _ _ _ _ _ _ _ _ _ l m c.requires.used refl)
+    (subst (λ (s : List Slot). IsCounted c.leave-from.new.lengths (sent c.args.at (suc c.args.queue) c.args.before (order_of s))) (lent at.After-deref_mut-slots) (c.leave-from.ensures.counted (suc c.args.queue) c.args.before c.section.ensures)) refl
 
 pub returns-clause-place : goal.returns-clause-place
-returns-clause-place c = subst (λ (s : List Slot). Some c.place_of_slot-from.result ≡ place_in (slot_item (entries s) c.args.at) (lists s)) (c.deref_mut-slots.ensures.value ∙ c.self.view_is) c.place_of_slot-from.ensures.place
+returns-clause-place c = subst (λ (s : List Slot). Some c.leave-from.result ≡ place_in (slot_item (entries s) c.args.at) (lists s)) (c.deref_mut-slots.ensures.value ∙ c.self.view_is) c.leave-from.ensures.place
 
 pub returns-clause-spare : goal.returns-clause-spare
-returns-clause-spare c =
-    let at = goal.at.returns-clause-spare c in
-    let o = order_of c.deref_mut-slots.result.now in
-    let e : c.deref_mut-slots.result.now ≡ c.args.self.now = c.deref_mut-slots.ensures.value ∙ c.self.view_is in
-    let whole : take c.self.inside.slots.len (c.send.new.slots ++ drop (length c.send.new.slots) c.self.inside.slots.items) ≡ c.send.new.slots = take-front _ _ _ (omega arith) in
-    let a = ap (λ (p : Order). length (p 0)) (order-after at.After-send) in
-    let b = spare-sent c.args.at c.args.queue c.args.before o in
-    let n = used-not-free c.args.at o (held-there at.After-deref_mut-slots).queued.linked.once (used-there at.After-deref_mut-slots) in
-    let r : length (order_of c.send.new.slots 0) ≡ length (o 0) = omega (arith, a, b, n) in
-    on_view (λ new old. length (order_of new 0) ≡ length (order_of old 0)) _ _ _ _ whole e r
+returns-clause-spare c = let at = goal.at.returns-clause-spare c in spare-same _ _ _ _ _ _ _ _ _ (loose at.After-deref_mut-slots) (moved at.After-send) c.requires.used
 
 pub returns-clause-recent : goal.returns-clause-recent
-returns-clause-recent c =
-    let at = goal.at.returns-clause-recent c in
-    let slots = c.deref_mut-slots.result.now in
-    let o = order_of slots in
-    let k = c.args.at in
-    let h = (held-there at.After-deref_mut-slots).queued in
-    let u = used-there at.After-deref_mut-slots in
-    let i = slot_item (entries slots) k in
-    let e : slots ≡ c.args.self.now = c.deref_mut-slots.ensures.value ∙ c.self.view_is in
-    let whole : take c.self.inside.slots.len (c.send.new.slots ++ drop (length c.send.new.slots) c.self.inside.slots.items) ≡ c.send.new.slots = take-front _ _ _ (omega arith) in
-    on_view (λ new old. c.args.before ≡ suc (suc c.args.queue) → lists new ≡ after_send (entry (slot_item (entries old) k) c.args.count) c.args.queue (lists old)) _ _ _ _ whole e (λ z. written-recent slots c.send.new.slots o h k c.args.queue c.args.before c.requires.queue (entry i c.args.count) (used-slot slots k h u).1 (entries-after at.After-send) (order-after at.After-send) z
-    ∙ ap (after_push c.args.queue (entry i c.args.count)) (sym (used-lists slots o h k u)))
+returns-clause-recent c = let at = goal.at.returns-clause-recent c in recent-after _ _ _ _ _ _ _ _ _ (loose at.After-deref_mut-slots) (moved at.After-send)
 
 pub returns-clause-back : goal.returns-clause-back
-returns-clause-back c =
-    let at = goal.at.returns-clause-back c in
-    let slots = c.deref_mut-slots.result.now in
-    let o = order_of slots in
-    let k = c.args.at in
-    let q = c.args.queue in
-    let h = (held-there at.After-deref_mut-slots).queued in
-    let u = used-there at.After-deref_mut-slots in
-    let i = slot_item (entries slots) k in
-    let out = used-lists slots o h k u in
-    let e : slots ≡ c.args.self.now = c.deref_mut-slots.ensures.value ∙ c.self.view_is in
-    let whole : take c.self.inside.slots.len (c.send.new.slots ++ drop (length c.send.new.slots) c.self.inside.slots.items) ≡ c.send.new.slots = take-front _ _ _ (omega arith) in
-    on_view (λ new old. (older : Option Item) → IsBehind c.args.before q older (entries old) (order_without k (order_of old) (suc q)) → lists new ≡ after_return q older (entry (slot_item (entries old) k) c.args.count) (after_removal (slot_item (entries old) k) (lists old))) _ _ _ _ whole e (λ older b. written-back slots c.send.new.slots o h k q c.args.before c.requires.queue (entry i c.args.count) (used-slot slots k h u).1 (entries-after at.After-send) (order-after at.After-send) older
-    (subst IsDistinct out (distinct-taken i (lists_of o (entries slots)) h.distinct)) b
-    ∙ ap (after_return q older (entry i c.args.count)) (sym out))
+returns-clause-back c = let at = goal.at.returns-clause-back c in back-after _ _ _ _ _ _ _ _ _ (loose at.After-deref_mut-slots) (moved at.After-send)
 
 pub returns-clause-others : goal.returns-clause-others
-returns-clause-others c =
-    let at = goal.at.returns-clause-others c in
-    let slots = c.deref_mut-slots.result.now in
-    let h = (held-there at.After-deref_mut-slots).queued in
-    let u = used-there at.After-deref_mut-slots in
-    let e : slots ≡ c.args.self.now = c.deref_mut-slots.ensures.value ∙ c.self.view_is in
-    let whole : take c.self.inside.slots.len (c.send.new.slots ++ drop (length c.send.new.slots) c.self.inside.slots.items) ≡ c.send.new.slots = take-front _ _ _ (omega arith) in
-    on_view (λ new old. KeepsOthers (slot_item (entries old) c.args.at) old new) _ _ _ _ whole e (stay-sent slots c.send.new.slots c.args.at _ (entries-after at.After-send) c.args.queue c.args.before c.requires.queue h u (order-after at.After-send))
+returns-clause-others c = let at = goal.at.returns-clause-others c in others-stay _ _ _ _ _ _ _ _ _ (loose at.After-deref_mut-slots) (moved at.After-send)
