@@ -8,7 +8,7 @@ use Rattle.queue_table.specs.declared.lengths.Lengths.{Lengths}
 use Rattle.queue_table.specs.declared.slot.Slot.{Slot}
 use Rattle.queue_table.specs.Entries.{items_of}
 use Rattle.queue_table.specs.Queues.{QUEUES, items_below, IsDistinct}
-use Rattle.queue_table.specs.Ring.{entries, newers, olders, slot_entry, slot_item, count, walk, used, SECTIONS, FIRST, Order, ring, ring_from, order_of, lists_of, lists, IsQueued}
+use Rattle.queue_table.specs.Ring.{entries, newers, olders, slot_entry, slot_item, count, walk, used, SECTIONS, FIRST, Order, ring, ring_from, order_of, lists_of, lists, IsQueued, HasItems}
 use Rattle.queue_table.specs.Index.{HasSlot}
 use Rattle.queue_table.specs.QueueTable.{IsLoaded, IsCounted, IsIndexOf, IsInSlots, IsKept}
 use Rattle.queue_table.proofs.Splices.{walked}
@@ -40,6 +40,13 @@ kept-on slots slots2 index index2 n n2 k h q x c e b =
       few = (let f = k.few in omega (arith, f, l));
       load = subst (IsLoaded (length slots2)) (sym b) (still_loaded (length slots) (length slots2) index.bits l k.load);
     }
+
+-- a queue that is not of length 0
+pub has-items : (slots : List Slot) (index : SlotIndex) (n : Lengths) → IsKept slots index n → (q m : ℕ) → q < QUEUES → m ≡ get_or n.at (suc q) 0 → (m ≡ 0 → ⊥) → HasItems q slots
+has-items slots index n k q m low e z =
+    let c = k.counted (suc q) (omega (arith, low)) in
+    let some : 1 ≤ length (order_of slots (suc q)) = omega (arith, c, e, z) in
+    record { low = low; queued = (k.held (some-slots slots (suc q) some)).queued; some = some }
 
 pub none-distinct : IsDistinct (lists [])
 none-distinct = subst (λ (o : Order). IsDistinct (lists_of o [])) (sym no-order) (λ (i : Item). omega arith)

@@ -160,6 +160,12 @@ pub record IsQueued (slots : List Slot) (o : Order) : Type 0 where
   pub tagged : (q k : ℕ) → 1 ≤ count k (o (suc q)) → tag_at (tags slots) k ≡ q
   pub distinct : IsDistinct (lists_of o (entries slots))
 
+-- the queue is not empty
+pub record HasItems (q : ℕ) (slots : List Slot) : Type 0 where
+  pub low : q < QUEUES
+  pub queued : IsQueued slots (order_of slots)
+  pub some : 1 ≤ length (order_of slots (suc q))
+
 -- b is a place in the section: one of its slots, or the one after it
 abbrev pub IsPlace : ℕ → ℕ → Order → Type 0
 IsPlace b s o = (1 ≤ count b (o s)) ⊎ (b ≡ suc s)

@@ -15,7 +15,7 @@ ghost use Rattle.std.specs.Prelude.{◌≡◌, ◌≢◌, ◌<◌, ◌≤◌, su
 ghost use Rattle.queue_table.specs.Queues.{QUEUES, place_in};
 ghost use Rattle.queue_table.specs.Ring.{slot_item, count, walk, IsRing, ring_of, moved_before, ring, used};
 ghost use Rattle.queue_table.specs.Ring.{order_of, lists, item_or, first_of, last_of, entries, olders, newers, next_but};
-ghost use Rattle.queue_table.specs.Ring.{IsQueued, CanGo, IsSent, IsFreed, ChangesOnlyLinks};
+ghost use Rattle.queue_table.specs.Ring.{IsQueued, HasItems, CanGo, IsSent, IsFreed, ChangesOnlyLinks};
 
 use crate::records::{Entry, Place};
 use crate::slot::{Slot, set_entry, set_newer, set_older, set_queue};
@@ -108,9 +108,7 @@ pub(crate) fn newest_free(slots: &[Slot]) -> u32
 /// The first slot of a queue that is not empty.
 #[inline(always)]
 pub(crate) fn oldest_slot(slots: &[Slot], queue: u8) -> u32
-    requires queue { queue < QUEUES }
-    requires queued { IsQueued slots.now (order_of slots.now) }
-    requires some { 1 ≤ length (order_of slots.now (suc queue)) }
+    requires { HasItems queue slots.now }
     ensures { first_of (order_of slots.now (suc queue)) ≡ Some result }
 {
     slots[slot_before(queue) as usize].newer
@@ -119,9 +117,7 @@ pub(crate) fn oldest_slot(slots: &[Slot], queue: u8) -> u32
 /// The last slot of a queue that is not empty.
 #[inline(always)]
 pub(crate) fn newest_slot(slots: &[Slot], queue: u8) -> u32
-    requires queue { queue < QUEUES }
-    requires queued { IsQueued slots.now (order_of slots.now) }
-    requires some { 1 ≤ length (order_of slots.now (suc queue)) }
+    requires { HasItems queue slots.now }
     ensures { last_of (order_of slots.now (suc queue)) ≡ Some result }
 {
     slots[slot_behind(queue) as usize].older

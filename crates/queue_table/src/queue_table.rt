@@ -17,7 +17,7 @@ use crate::links::{
     slot_before, slot_behind,
 };
 use crate::records::{Entry, Found, Place};
-use crate::slot::{RingItems, Slot, set_entry};
+use crate::slot::{RingItems, Slot, entry_of, set_entry};
 use crate::slot_index::SlotIndex;
 use std::alloc::{AllocError, Global};
 use std::marker::Model;
@@ -205,12 +205,7 @@ impl QueueTable {
             return None;
         }
         let at = oldest_slot(&self.slots, queue);
-        let slot = &self.slots[at as usize];
-        let entry = Entry {
-            item: slot.item,
-            count: slot.count,
-        };
-        Some((at, entry))
+        Some((at, entry_of(&self.slots, at)))
     }
 
     /// The slot of a queue's newest entry, with the entry.
@@ -226,12 +221,7 @@ impl QueueTable {
             return None;
         }
         let at = newest_slot(&self.slots, queue);
-        let slot = &self.slots[at as usize];
-        let entry = Entry {
-            item: slot.item,
-            count: slot.count,
-        };
-        Some((at, entry))
+        Some((at, entry_of(&self.slots, at)))
     }
 
     /// Where the item of a slot stands.

@@ -1,6 +1,6 @@
 //! A slot, and writes to one field of it.
 ghost use Rattle.std.specs.Prelude.{◌≡◌, ◌<◌, length, slice_set};
-ghost use Rattle.queue_table.specs.Ring.{entries, olders, newers, tags, slot_item, ChangesOnlyLinks, ChangesOnlyEntry};
+ghost use Rattle.queue_table.specs.Ring.{entries, olders, newers, tags, slot_entry, slot_item, ChangesOnlyLinks, ChangesOnlyEntry};
 
 use crate::records::Entry;
 use crate::slot_index::SlotItems;
@@ -32,6 +32,19 @@ impl SlotItems for RingItems<'_> {
     #[inline(always)]
     fn item(&self, at: u32) -> Item {
         self.slots[at as usize].item
+    }
+}
+
+/// The entry of a slot.
+#[inline(always)]
+pub(crate) fn entry_of(slots: &[Slot], at: u32) -> Entry
+    requires { at < length slots.now }
+    ensures { slot_entry (entries slots.now) at ≡ result }
+{
+    let slot = &slots[at as usize];
+    Entry {
+        item: slot.item,
+        count: slot.count,
     }
 }
 

@@ -1,67 +1,42 @@
-use Rattle.std.proofs.Common.{◌≡◌, ◌≤◌, ◌∙◌, List, length, Some, suc, sym, ap, subst, arith}
-use Rattle.queue_table.specs.Entries.{entry, oldest_of}
+use Rattle.std.proofs.Common.{◌≡◌, ◌∙◌, List, Some, suc, sym, ap, subst}
 use Rattle.queue_table.specs.declared.slot.Slot.{Slot}
-use Rattle.queue_table.specs.Ring.{entries, slot_entry, order_of, lists, count, used, IsQueued}
+use Rattle.queue_table.specs.Ring.{entries, slot_entry, order_of, first_of, HasItems}
+use Rattle.queue_table.specs.QueueTable.{entry_at, IsKept, IsUsed}
 use Rattle.queue_table.proofs.Orders.{section-used}
 use Rattle.queue_table.proofs.Calls.{slot-within}
 use Rattle.queue_table.proofs.Ends.{first-stands, first-entry}
-use Rattle.queue_table.proofs.Reading.{entry-read}
-use Rattle.queue_table.proofs.Kept.{some-slots}
+use Rattle.queue_table.proofs.Kept.{has-items}
 use Rattle.queue_table.proofs.queue_table.QueueTable.oldest.Goals as goal
-use Rattle.queue_table.proofs.queue_table.QueueTable.oldest.Goals.{After-deref, After-index-slot, After-oldest_slot-at}
+use Rattle.queue_table.proofs.queue_table.QueueTable.oldest.Goals.{After-deref, After-oldest_slot-at, After-entry_of}
 
--- the queue is not empty
-some-there : (c : goal.After-deref) → 1 ≤ length (order_of c.self.inside.slots.items (suc c.args.queue))
-some-there c =
-    let low = c.requires in
-    let e = c.self.invariant.counted (suc c.args.queue) (omega (arith, low)) in
-    let n = c.of.ensures in
-    let z : c.of.result ≡ 0 → ⊥ = λ h. c.if-of-eq0.false h in
-    omega (arith, e, n, z)
+has-some : (c : goal.After-deref) → HasItems c.args.queue c.args.self.now
+has-some c = has-items _ _ _ (subst (λ (s : List Slot). IsKept s c.self.inside.index c.self.inside.lengths) c.self.view_is c.self.invariant) c.args.queue c.of.result c.requires c.of.ensures c.if-of-eq0.false
 
--- and so the slots hold together
-queued-there : (c : goal.After-deref) → IsQueued c.deref.result.now (order_of c.deref.result.now)
-queued-there c =
-    let h = c.self.invariant.held (some-slots c.self.inside.slots.items (suc c.args.queue) (some-there c)) in
-    subst (λ (s : List Slot). IsQueued s (order_of s)) (sym c.deref.ensures.value) h.queued
+-- the slot at the end, and its entry
+end-there : (c : goal.After-oldest_slot-at) → first_of (order_of c.args.self.now (suc c.args.queue)) ≡ Some c.oldest_slot-at.result
+end-there c = subst (λ (s : List Slot). first_of (order_of s (suc c.args.queue)) ≡ Some c.oldest_slot-at.result) (c.deref.ensures.value ∙ c.self.view_is) c.oldest_slot-at.ensures
 
--- the slot that was found is in use
-used-there : (c : goal.After-oldest_slot-at) → 1 ≤ count c.oldest_slot-at.result (used (order_of c.deref.result.now))
-used-there c = section-used c.args.queue c.oldest_slot-at.result (order_of c.deref.result.now) c.requires (first-stands c.oldest_slot-at.result (order_of c.deref.result.now (suc c.args.queue)) c.oldest_slot-at.ensures)
+used-there : (c : goal.After-oldest_slot-at) → IsUsed c.oldest_slot-at.result c.args.self.now
+used-there c = section-used c.args.queue c.oldest_slot-at.result (order_of c.args.self.now) c.requires (first-stands c.oldest_slot-at.result (order_of c.args.self.now (suc c.args.queue)) (end-there c))
 
--- what is read there is its entry
-entry-there : (c : goal.After-index-slot) → IsQueued c.deref.result.now (order_of c.deref.result.now) → 1 ≤ count c.oldest_slot-at.result (used (order_of c.deref.result.now))
-    → slot_entry (entries c.deref.result.now) c.oldest_slot-at.result ≡ entry c.index-slot.result.now.item c.index-slot.result.now.count
-entry-there c q u =
-    entry-read c.deref.result.now c.self.inside.slots.items c.oldest_slot-at.result c.index-slot.result.now (sym c.deref.ensures.value) (slot-within c.deref.result.now (order_of c.deref.result.now) q c.oldest_slot-at.result u) c.index-slot.ensures
+entry-there : (c : goal.After-entry_of) → entry_at c.oldest_slot-at.result c.args.self.now ≡ c.entry_of.result
+entry-there c = subst (λ (s : List Slot). slot_entry (entries s) c.oldest_slot-at.result ≡ c.entry_of.result) (c.deref-2.ensures.value ∙ c.self.view_is) c.entry_of.ensures
 
-pub oldest_slot-at-requires-clause-queued : goal.oldest_slot-at-requires-clause-queued
-oldest_slot-at-requires-clause-queued c = queued-there ((goal.at.oldest_slot-at-requires-clause-queued c).After-deref)
+pub oldest_slot-at-requires : goal.oldest_slot-at-requires
+oldest_slot-at-requires c = subst (HasItems c.args.queue) (sym (c.deref.ensures.value ∙ c.self.view_is)) (has-some (goal.at.oldest_slot-at-requires c).After-deref)
 
-pub oldest_slot-at-requires-clause-some : goal.oldest_slot-at-requires-clause-some
-oldest_slot-at-requires-clause-some c = subst (λ (s : List Slot). 1 ≤ length (order_of s (suc c.args.queue))) (sym c.deref.ensures.value) (some-there ((goal.at.oldest_slot-at-requires-clause-some c).After-deref))
-
-pub index-slot-requires : goal.index-slot-requires
-index-slot-requires c =
-    let at = goal.at.index-slot-requires c in
-    let w = slot-within c.deref.result.now (order_of c.deref.result.now) (queued-there at.After-deref) c.oldest_slot-at.result (used-there at.After-oldest_slot-at) in
-    let l = c.deref.ensures.len in
-    omega (arith, w, l)
+pub entry_of-requires : goal.entry_of-requires
+entry_of-requires c =
+    let at = goal.at.entry_of-requires c in
+    rw (c.deref-2.ensures.value ∙ c.self.view_is) (slot-within c.args.self.now (order_of c.args.self.now) (has-some at.After-deref).queued c.oldest_slot-at.result (used-there at.After-oldest_slot-at))
 
 pub returns-clause-used : goal.returns-clause-used
-returns-clause-used c =
-    let at = goal.at.returns-clause-used c in
-    subst (λ (s : List Slot). 1 ≤ count c.oldest_slot-at.result (used (order_of s))) (c.deref.ensures.value ∙ c.self.view_is) (used-there at.After-oldest_slot-at)
+returns-clause-used c = used-there (goal.at.returns-clause-used c).After-oldest_slot-at
 
 pub returns-clause-entry : goal.returns-clause-entry
-returns-clause-entry c =
-    let at = goal.at.returns-clause-entry c in
-    let e : c.deref.result.now ≡ c.args.self.now = c.deref.ensures.value ∙ c.self.view_is in
-    subst (λ (s : List Slot). slot_entry (entries s) c.oldest_slot-at.result ≡ entry c.index-slot.result.now.item c.index-slot.result.now.count) e (entry-there at.After-index-slot (queued-there at.After-deref) (used-there at.After-oldest_slot-at))
+returns-clause-entry c = entry-there (goal.at.returns-clause-entry c).After-entry_of
 
 pub returns-clause-first : goal.returns-clause-first
 returns-clause-first c =
     let at = goal.at.returns-clause-first c in
-    let i = entry-there at.After-index-slot (queued-there at.After-deref) (used-there at.After-oldest_slot-at) in
-    let e : c.deref.result.now ≡ c.args.self.now = c.deref.ensures.value ∙ c.self.view_is in
-    subst (λ (s : List Slot). oldest_of (lists s c.args.queue) ≡ Some (entry c.index-slot.result.now.item c.index-slot.result.now.count)) e (first-entry (entries c.deref.result.now) c.oldest_slot-at.result (order_of c.deref.result.now (suc c.args.queue)) c.oldest_slot-at.ensures ∙ ap Some i)
+    first-entry (entries c.args.self.now) c.oldest_slot-at.result (order_of c.args.self.now (suc c.args.queue)) (end-there at.After-oldest_slot-at) ∙ ap Some (entry-there at.After-entry_of)

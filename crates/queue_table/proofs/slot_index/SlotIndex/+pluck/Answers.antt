@@ -1,17 +1,22 @@
-use Rattle.std.proofs.Common.{◌≡◌, ◌+◌, ◌^◌, ◌∙◌, arith, true, false}
+use Rattle.std.proofs.Common.{ℕ, ◌≡◌, ◌+◌, ◌^◌, ◌∙◌, ◌<◌, length, arith, true, false}
 use Rattle.queue_table.specs.Trees.{branch}
 use Rattle.queue_table.proofs.Trees.{any_default}
 use Rattle.queue_table.proofs.Walking.{step, has-below, has-top, smaller}
 use Rattle.queue_table.proofs.Placing.{pluck-end, pluck-left, pluck-right}
 use Rattle.queue_table.proofs.slot_index.SlotIndex.+pluck.Goals as goal
+use Rattle.queue_table.proofs.slot_index.SlotIndex.+pluck.Goals.{After-branch_of-left}
 
-pub index-requires : goal.index-requires
-index-requires t c =
+-- the links have the branches of the slot
+left-room : (t : ℕ) (c : goal.After-branch_of-left t) → c.branch_of-left.result + 1 < length c.args.self.now.links.items
+left-room t c =
     let h = c.requires.tree in
     let n = c.index-at.ensures ∙ any_default _ _ _ 0 h.whole.within in
     let b = c.branch_of-left.ensures in
     let r = (step _ _ c.args.place _ _ false h.shown h.whole n (λ z. let s = c.requires.some in omega (arith, n, z, s)) b).room in
     omega (arith, r, b)
+
+pub index-requires : goal.index-requires
+index-requires t c = let r = left-room t (goal.at.index-requires t c).After-branch_of-left in omega (arith, r)
 
 pub pluck-requires : goal.pluck-requires
 pluck-requires t c =
@@ -37,12 +42,7 @@ returns-then-index-ne0-clause-lowest t c u w =
     (pluck-left _ _ c.args.place _ _ n (omega (arith, n, s)) c.branch_of-left.ensures _ c.pluck.result _ u w c.index.ensures c.if-index-ne0.true c.pluck.ensures.plucked c.pluck.ensures.lowest).1
 
 pub index-requires-2 : goal.index-requires-2
-index-requires-2 t c =
-    let h = c.requires.tree in
-    let n = c.index-at.ensures ∙ any_default _ _ _ 0 h.whole.within in
-    let b = c.branch_of-left.ensures in
-    let r = (step _ _ c.args.place _ _ false h.shown h.whole n (λ z. let s = c.requires.some in omega (arith, n, z, s)) b).room in
-    omega (arith, r, b)
+index-requires-2 t c = let r = left-room t (goal.at.index-requires-2 t c).After-branch_of-left in omega (arith, r)
 
 pub pluck-requires-then-index-ne0-2 : goal.pluck-requires-then-index-ne0-2
 pluck-requires-then-index-ne0-2 t c =
