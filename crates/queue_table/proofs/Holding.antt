@@ -8,6 +8,7 @@ use Rattle.queue_table.specs.Queues.{QUEUES, queue_holding, place_in}
 use Rattle.queue_table.specs.declared.slot.Slot.{Slot}
 use Rattle.queue_table.specs.Ring.{entries, olders, newers, tags, slot_entry, slot_item, count, IsLinked, put_before, SECTIONS, FIRST, Order, ring, ring_from, used, used_below, order_of, order_without, sent, lists_of, tag_at, item_or, IsQueued}
 use Rattle.step_record.specs.Keys.{keys_without}
+use Rattle.queue_table.proofs.Trees.{some_or_none}
 use Rattle.queue_table.proofs.Splices.{count-append, linked-split, older-end, end_of}
 use Rattle.queue_table.proofs.Turning.{IsSplit, split_at, turned}
 use Rattle.queue_table.proofs.Sections.{gone, count-without}
@@ -65,15 +66,11 @@ stands-below : (n k : ℕ) (o : Order) → 1 ≤ count k (used_below n o) → St
 stands-below zero k o h = absurd (omega (arith, h))
 stands-below (suc n) k o h =
     let c = count-append k (o (suc n)) (used_below n o) in
-    elim (cases_some (count k (o (suc n)))) [
+    elim (some_or_none (count k (o (suc n)))) [
       | inl a ↦ stands n (omega arith) a
       | inr a ↦ more (stands-below n k o (omega (arith, c, a, h)))
     ]
   where
-    cases_some : (n : ℕ) → (1 ≤ n) ⊎ (n ≡ 0)
-    cases_some zero = inr refl
-    cases_some (suc n) = inl (omega arith)
-
     more : StandsIn k n o → StandsIn k (suc n) o
     more (stands q w m) = stands q (omega (arith, w)) m
 

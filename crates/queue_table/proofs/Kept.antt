@@ -15,8 +15,9 @@ use Rattle.queue_table.proofs.Splices.{walked}
 use Rattle.queue_table.proofs.Orders.{used-real}
 use Rattle.queue_table.proofs.Growing.{still_loaded, no-order}
 use Rattle.queue_table.proofs.Finding.{slots-length}
-use Rattle.queue_table.proofs.Holding.{used-within, linked-section}
+use Rattle.queue_table.proofs.Holding.{linked-section}
 use Rattle.queue_table.proofs.SlotWrites.{no_slot}
+use Rattle.queue_table.proofs.Calls.{slot-within}
 use Rattle.queue_table.proofs.Renewing.{item_at, entries-length}
 use Rattle.queue_table.proofs.Tables.{take-front}
 
@@ -129,11 +130,7 @@ all-items slots index n k =
 
 -- a slot in use is behind those between the sections, and within the slots
 pub used-slot : (slots : List Slot) (k : ℕ) → IsQueued slots (order_of slots) → 1 ≤ count k (used (order_of slots)) → (FIRST ≤ k) × (k < length slots)
-used-slot slots k h u =
-    let r = used-real (order_of slots) k h.linked.once u in
-    let w = used-within slots (order_of slots) h k u in
-    let l = slots-length slots in
-    (r, omega (arith, w, l))
+used-slot slots k h u = (used-real (order_of slots) k h.linked.once u, slot-within slots (order_of slots) h k u)
 
 -- and the index knows it, with its item
 pub known : (slots : List Slot) (index : SlotIndex) (k : ℕ) → IsInSlots slots index (order_of slots) → 1 ≤ count k (used (order_of slots)) → HasSlot k (get_or slots k no_slot).item index

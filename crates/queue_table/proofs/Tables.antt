@@ -10,6 +10,7 @@ use Rattle.queue_table.specs.Queues.{QUEUES, IsDistinct}
 use Rattle.queue_table.specs.declared.slot.Slot.{Slot}
 use Rattle.queue_table.specs.Ring.{entries, olders, newers, tags, slot_entry, count, IsLinked, IsRing, FIRST, Order, ring, ring_from, used, order_of, order_without, more_free, lists_of, lists, IsPlace, IsQueued}
 use Rattle.queue_table.specs.Index.{capacity}
+use Rattle.queue_table.proofs.Trees.{some_or_none}
 use Rattle.queue_table.proofs.Indexing.{same-map}
 use Rattle.queue_table.specs.QueueTable.{from_first, IsIndexOf, IsInSlots}
 use Rattle.queue_table.proofs.Splices.{count-append, count-here, older-end, end_of, end-stands, linked}
@@ -38,10 +39,6 @@ module _ (slots : List Slot) (o : Order) (h : IsQueued slots o) (k : ℕ) (n : 1
   place-free b q w (inr m) = inr m
 
 -- all slots from the first on are in use
-
-some_or_none : (n : ℕ) → (1 ≤ n) ⊎ (n ≡ 0)
-some_or_none zero = inr refl
-some_or_none (suc n) = inl (omega arith)
 
 below : (k n : ℕ) → (k < n) ⊎ (n ≤ k)
 below k n = elim (cases_lt k n) [ inl e ↦ inl e | inr e ↦ inr (omega arith) ]

@@ -3,19 +3,12 @@ use Rattle.std.proofs.Common.{◌≡◌, ℕ, suc, zero, ◌+◌, ◌-◌, ◌<�
 use Rattle.std.proofs.lemmas.Bool.{eqb-true, ne_eqb, cases_Bool, cases_eq, cond-true, cond-false}
 use Rattle.queue_table.specs.Ring.{count, IsLinked, IsRing, walk, ring_of, put_before, moved_before}
 use Rattle.step_record.specs.Keys.{keys_without}
+use Rattle.queue_table.proofs.Sections.{without-none}
 use Rattle.queue_table.proofs.Splices.{count-append, end_of, start_of, end-stands, start-stands, older-end, newer-start, linked-split, unlinked, linked, walked}
 
 length-walk : (ns : List ℕ) (a n : ℕ) → length (walk ns a n) ≡ n
 length-walk ns a zero = refl
 length-walk ns a (suc n) = ap suc (length-walk ns (get_or ns a 0) n)
-
-without-none : (k : ℕ) (l : List ℕ) → count k l ≡ 0 → keys_without k l ≡ l
-without-none k [] h = refl
-without-none k (x ∷ l) h =
-    elim (cases_Bool (eqb k x)) as (λ _. cond (eqb k x) (keys_without k l) (x ∷ keys_without k l) ≡ x ∷ l) [
-      | inl e ↦ absurd (let no : 1 + count k l ≡ 0 = rw e at h in omega arith)
-      | inr e ↦ rw e (ap (λ t. x ∷ t) (without-none k l (let r : 0 + count k l ≡ 0 = rw e at h in omega arith)))
-    ]
 
 -- where a slot stands
 pub record IsSplit (k : ℕ) (l : List ℕ) : Type 0 where
