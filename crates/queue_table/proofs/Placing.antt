@@ -1,11 +1,11 @@
 -- One step down a tree, and the way back.
-use Rattle.std.proofs.Common.{◌≡◌, ℕ, ◌+◌, ◌<◌, ◌≤◌, Bool, true, false, cond, eqb, List, length, get_or, set, ap, ◌∙◌, sym, subst, arith, inl, inr, get_or-set_same, get_or-set_other, length-set}
-use Rattle.std.proofs.lemmas.Bool.{cases_Bool, eq-eqb, ne_eqb}
+use Rattle.std.proofs.Common.{◌≡◌, ℕ, ◌+◌, ◌<◌, ◌≤◌, Bool, true, false, cond, eqb, List, length, get_or, set, ap, ◌∙◌, sym, subst, arith, get_or-set_same, get_or-set_other, length-set}
+use Rattle.std.proofs.lemmas.Bool.{eq-eqb, ne_eqb}
 use Rattle.step_record.specs.declared.item.Item.{Item}
 use Rattle.queue_table.specs.Trees.{Tree, leaf, fork, tally, branch, turn, grafted, lowest, plucked, lifted, detached}
 use Rattle.queue_table.specs.Places.{IsOutside, IsWhole, IsFree, IsThere, Replaces}
-use Rattle.queue_table.proofs.Trees.{tally-here, same-slot, same-tree, any_default}
-use Rattle.queue_table.proofs.Sorting.{right-side, left-side}
+use Rattle.queue_table.proofs.Trees.{tally-here, on_side, side-tally, same-slot, same-tree, any_default}
+use Rattle.queue_table.proofs.Sorting.{side-sorted, its-side}
 
 module _ (roots : ℕ) (links : List ℕ) (place i : ℕ) (l r : Tree) (w : IsWhole links roots place (fork i l r)) where
   lone : tally i l + tally i r ≡ 0
@@ -15,16 +15,14 @@ module _ (roots : ℕ) (links : List ℕ) (place i : ℕ) (l r : Tree) (w : IsWh
   not-here : (k : ℕ) → 1 ≤ tally k l + tally k r → i ≡ k → ⊥
   not-here k m e = let a = ap (λ j. tally j l + tally j r) e in let z = lone in omega (arith, a, z, m)
 
-  pub right-whole : IsWhole links roots (branch roots i true) r
-  right-whole = record {
+  pub branch-whole : (right : Bool) → IsWhole links roots (branch roots i right) (on_side right l r)
+  branch-whole true = record {
     tree = w.tree.4;
     once = λ k. (let o = w.once k in omega (arith, o));
     outside = λ k side m e. not-here k (omega (arith, m)) (same-slot roots i k true side e);
     within = w.tree.2;
   }
-
-  pub left-whole : IsWhole links roots (branch roots i false) l
-  left-whole = record {
+  branch-whole false = record {
     tree = w.tree.3;
     once = λ k. (let o = w.once k in omega (arith, o));
     outside = λ k side m e. not-here k (omega (arith, m)) (same-slot roots i k false side e);
@@ -32,7 +30,7 @@ module _ (roots : ℕ) (links : List ℕ) (place i : ℕ) (l r : Tree) (w : IsWh
   }
 
   module _ (links2 : List ℕ) where
-    pub right-replaced : (r2 : Tree) → Replaces roots links links2 (branch roots i true) r r2 → Replaces roots links links2 place (fork i l r) (fork i l r2)
+    right-replaced : (r2 : Tree) → Replaces roots links links2 (branch roots i true) r r2 → Replaces roots links links2 place (fork i l r) (fork i l r2)
     right-replaced r2 p =
         let here = tally-here i l r in
         let past : (q : ℕ) → IsOutside roots q (fork i l r) → get_or links2 q 0 ≡ get_or links q 0 =
@@ -51,7 +49,7 @@ module _ (roots : ℕ) (links : List ℕ) (place i : ℕ) (l r : Tree) (w : IsWh
           size = p.size;
         }
 
-    pub left-replaced : (l2 : Tree) → Replaces roots links links2 (branch roots i false) l l2 → Replaces roots links links2 place (fork i l r) (fork i l2 r)
+    left-replaced : (l2 : Tree) → Replaces roots links links2 (branch roots i false) l l2 → Replaces roots links links2 place (fork i l r) (fork i l2 r)
     left-replaced l2 p =
         let here = tally-here i l r in
         let past : (q : ℕ) → IsOutside roots q (fork i l r) → get_or links2 q 0 ≡ get_or links q 0 =
@@ -69,6 +67,17 @@ module _ (roots : ℕ) (links : List ℕ) (place i : ℕ) (l r : Tree) (w : IsWh
           others = λ q d o. past q o;
           size = p.size;
         }
+
+    -- the branch on a side replaced, where the link to it is
+    pub replaced-below : (next below : ℕ) (right : Bool) (f : Tree → Tree) → next ≡ i → below ≡ branch roots next right →
+        (IsWhole links roots below (on_side right l r) → Replaces roots links links2 below (on_side right l r) (f (on_side right l r))) → Replaces roots links links2 place (fork i l r) (cond right (fork i l (f r)) (fork i (f l) r))
+    replaced-below next below right f is b h =
+        let p : below ≡ branch roots i right = b ∙ ap (λ k. branch roots k right) is in
+        on right (subst (λ q. Replaces roots links links2 q (on_side right l r) (f (on_side right l r))) p (h (subst (λ q. IsWhole links roots q (on_side right l r)) (sym p) (branch-whole right))))
+      where
+        on : (side : Bool) → Replaces roots links links2 (branch roots i side) (on_side side l r) (f (on_side side l r)) → Replaces roots links links2 place (fork i l r) (cond side (fork i l (f r)) (fork i (f l) r))
+        on true p = right-replaced (f r) p
+        on false p = left-replaced (f l) p
 
 -- a slot put where there is none
 pub graft-end : (roots : ℕ) (links : List ℕ) (place at depth : ℕ) (item : Item) (t : Tree) → 1 ≤ at → branch roots at true < length links → IsWhole links roots place t → IsFree links roots place at t →
@@ -91,23 +100,14 @@ pub graft-on : (roots : ℕ) (links links2 : List ℕ) (place at depth next belo
 graft-on roots links links2 place at depth next below item leaf w f n some b ih = absurd (some (n ∙ w.tree))
 graft-on roots links links2 place at depth next below item (fork i l r) w f n some b ih =
     let is : next ≡ i = n ∙ w.tree.0 in
+    let right = turn depth item in
     let fresh = f.fresh in
-    let apart : (side other : Bool) → branch roots i side ≡ branch roots at other → ⊥ =
-    λ side other e. let s = same-slot roots i at side other e in let a = ap (λ k. tally k (fork i l r)) s in let here = tally-here i l r in omega (arith, a, here, fresh) in
-    elim (cases_Bool (turn depth item)) as (λ _. Replaces roots links links2 place (fork i l r) (cond (turn depth item) (fork i l (grafted (depth + 1) item at r)) (fork i (grafted (depth + 1) item at l) r))) [
-      | inl e ↦
-          let p : below ≡ branch roots i true = b ∙ (ap (branch roots next) e ∙ ap (λ k. branch roots k true) is) in
-          rw e (right-replaced roots links place i l r w links2 (grafted (depth + 1) item at r)
-          (subst (λ q. Replaces roots links links2 q r (grafted (depth + 1) item at r)) p
-          (ih r (subst (λ q. IsWhole links roots q r) (sym p) (right-whole roots links place i l r w))
-          record { fresh = omega (arith, fresh); bare = f.bare; apart = λ side e2. apart true side (sym p ∙ e2) })))
-      | inr e ↦
-          let p : below ≡ branch roots i false = b ∙ (ap (branch roots next) e ∙ ap (λ k. branch roots k false) is) in
-          rw e (left-replaced roots links place i l r w links2 (grafted (depth + 1) item at l)
-          (subst (λ q. Replaces roots links links2 q l (grafted (depth + 1) item at l)) p
-          (ih l (subst (λ q. IsWhole links roots q l) (sym p) (left-whole roots links place i l r w))
-          record { fresh = omega (arith, fresh); bare = f.bare; apart = λ side e2. apart false side (sym p ∙ e2) })))
-    ]
+    let here = tally-here i l r in
+    replaced-below roots links place i l r w links2 next below right (grafted (depth + 1) item at) is b (λ v. ih (on_side right l r) v record {
+      fresh = (let m = side-tally right at l r in omega (arith, fresh, m));
+      bare = f.bare;
+      apart = λ other e. (let s = same-slot roots i at right other (sym (b ∙ ap (λ k. branch roots k right) is) ∙ e) in let a = ap (λ k. tally k (fork i l r)) s in omega (arith, a, here, fresh));
+    })
 
 -- the slot at the place taken out
 pub detach-end : (roots : ℕ) (links links2 : List ℕ) (place at depth : ℕ) (item : Item) (t : Tree) → IsWhole links roots place t → 1 ≤ tally at t → get_or links place 0 ≡ at →
@@ -125,20 +125,11 @@ detach-on roots links links2 place at depth next below item item_of (fork i l r)
     let is : next ≡ i = n ∙ w.tree.0 in
     let apart : at ≡ i → ⊥ = λ e. other (is ∙ sym e) in
     let g : eqb i at ≡ false = ne_eqb i at (λ e. apart (sym e)) in
-    rw g (elim (cases_Bool (turn depth item)) as (λ _. Replaces roots links links2 place (fork i l r) (cond (turn depth item) (fork i l (detached (depth + 1) item at r)) (fork i (detached (depth + 1) item at l) r))) [
-      | inl e ↦
-          let p : below ≡ branch roots i true = b ∙ (ap (branch roots next) e ∙ ap (λ k. branch roots k true) is) in
-          rw e (right-replaced roots links place i l r w links2 (detached (depth + 1) item at r)
-          (subst (λ q. Replaces roots links links2 q r (detached (depth + 1) item at r)) p
-          (ih r (subst (λ q. IsWhole links roots q r) (sym p) (right-whole roots links place i l r w))
-          record { stands = right-side item_of depth item at i l r h.sorted h.its apart h.stands e; its = h.its; sorted = h.sorted.1 })))
-      | inr e ↦
-          let p : below ≡ branch roots i false = b ∙ (ap (branch roots next) e ∙ ap (λ k. branch roots k false) is) in
-          rw e (left-replaced roots links place i l r w links2 (detached (depth + 1) item at l)
-          (subst (λ q. Replaces roots links links2 q l (detached (depth + 1) item at l)) p
-          (ih l (subst (λ q. IsWhole links roots q l) (sym p) (left-whole roots links place i l r w))
-          record { stands = left-side item_of depth item at i l r h.sorted h.its apart h.stands e; its = h.its; sorted = h.sorted.0 })))
-    ])
+    rw g (replaced-below roots links place i l r w links2 next below (turn depth item) (detached (depth + 1) item at) is b (λ v. ih (on_side (turn depth item) l r) v record {
+      stands = its-side item_of depth item at i l r h.sorted h.its apart h.stands;
+      its = h.its;
+      sorted = side-sorted item_of depth (turn depth item) i l r h.sorted;
+    }))
 
 -- a lowest slot taken out
 
@@ -175,8 +166,8 @@ module _ (roots : ℕ) (links : List ℕ) (place at left : ℕ) (e : at ≡ get_
     pluck-left x (fork i (fork j c d) r) w fx zx f g =
         let is : at ≡ i = e ∙ w.tree.0 in
         let p : left ≡ branch roots i false = omega (arith, b, is) in
-        let u : IsWhole links roots left (fork j c d) = subst (λ q. IsWhole links roots q (fork j c d)) (sym p) (left-whole roots links place i (fork j c d) r w) in
-        (left-replaced roots links place i (fork j c d) r w links2 (plucked (fork j c d)) (subst (λ q. Replaces roots links links2 q (fork j c d) (plucked (fork j c d))) p (f (fork j c d) u)), g (fork j c d) u)
+        let u : IsWhole links roots left (fork j c d) = subst (λ q. IsWhole links roots q (fork j c d)) (sym p) (branch-whole roots links place i (fork j c d) r w false) in
+        (replaced-below roots links place i (fork j c d) r w links2 at left false plucked is b (f (fork j c d)), g (fork j c d) u)
 
     pub pluck-right : (x y : ℕ) (t : Tree) → IsWhole links roots place t → x ≡ get_or links left x → x ≡ 0 → y ≡ get_or links (left + 1) y → (y ≡ 0 → ⊥) →
         ((u : Tree) → IsWhole links roots (left + 1) u → Replaces roots links links2 (left + 1) u (plucked u)) → ((u : Tree) → IsWhole links roots (left + 1) u → last ≡ lowest 0 u) →
@@ -189,5 +180,5 @@ module _ (roots : ℕ) (links : List ℕ) (place at left : ℕ) (e : at ≡ get_
     pluck-right x y (fork i leaf (fork j c d)) w fx zx fy zy f g =
         let is : at ≡ i = e ∙ w.tree.0 in
         let p : left + 1 ≡ branch roots i true = omega (arith, b, is) in
-        let u : IsWhole links roots (left + 1) (fork j c d) = subst (λ q. IsWhole links roots q (fork j c d)) (sym p) (right-whole roots links place i leaf (fork j c d) w) in
-        (right-replaced roots links place i leaf (fork j c d) w links2 (plucked (fork j c d)) (subst (λ q. Replaces roots links links2 q (fork j c d) (plucked (fork j c d))) p (f (fork j c d) u)), g (fork j c d) u)
+        let u : IsWhole links roots (left + 1) (fork j c d) = subst (λ q. IsWhole links roots q (fork j c d)) (sym p) (branch-whole roots links place i leaf (fork j c d) w true) in
+        (replaced-below roots links place i leaf (fork j c d) w links2 at (left + 1) true plucked is (omega (arith, b)) (f (fork j c d)), g (fork j c d) u)

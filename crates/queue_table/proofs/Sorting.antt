@@ -1,9 +1,9 @@
 -- Search trees by the ways of their items.
-use Rattle.std.proofs.Common.{◌≡◌, ℕ, ◌+◌, ◌≤◌, true, false, Bool, cond, eqb, ap, ◌∙◌, sym, refl, arith, inl, inr}
+use Rattle.std.proofs.Common.{◌≡◌, ℕ, ◌+◌, ◌≤◌, true, false, Bool, cond, eqb, ap, ◌∙◌, sym, refl, subst, arith, inl, inr}
 use Rattle.std.proofs.lemmas.Bool.{eq-eqb, ne_eqb, cases_Bool, cases_eq}
 use Rattle.step_record.specs.declared.item.Item.{Item}
 use Rattle.queue_table.specs.Trees.{Tree, leaf, fork, tally, turn, IsSorted, grafted, lowest, pruned, plucked, renamed, lifted, detached}
-use Rattle.queue_table.proofs.Trees.{some_or_none, tally-past}
+use Rattle.queue_table.proofs.Trees.{some_or_none, tally-past, on_side}
 
 pub clash : (b : Bool) → b ≡ true → b ≡ false → ⊥
 clash b t f = let n : ◌≡◌ {A = ℕ} 1 0 = ap (λ (c : Bool). cond c 1 0) (sym t ∙ f) in omega (arith, n)
@@ -86,21 +86,23 @@ lifted-sorted its d t s = renamed-sorted its d (lowest 0 t) (plucked t) (plucked
 
 -- a slot taken out
 
--- on which side the slot stands
-pub right-side : (its : ℕ → Item) (d : ℕ) (x : Item) (at i : ℕ) (l r : Tree) → IsSorted its d (fork i l r) → its at ≡ x → (at ≡ i → ⊥) → 1 ≤ tally at (fork i l r) → turn d x ≡ true → 1 ≤ tally at r
-right-side its d x at i l r s e n m b =
-    let p = tally-past at i l r n in
-    elim (some_or_none (tally at l)) [
-      | inl y ↦ absurd (clash (turn d x) b (ap (turn d) (sym e) ∙ s.2 at y))
-      | inr z ↦ omega (arith, p, m, z)
-    ]
+pub side-sorted : (its : ℕ → Item) (d : ℕ) (right : Bool) (i : ℕ) (l r : Tree) → IsSorted its d (fork i l r) → IsSorted its (d + 1) (on_side right l r)
+side-sorted its d true i l r s = s.1
+side-sorted its d false i l r s = s.0
 
-pub left-side : (its : ℕ → Item) (d : ℕ) (x : Item) (at i : ℕ) (l r : Tree) → IsSorted its d (fork i l r) → its at ≡ x → (at ≡ i → ⊥) → 1 ≤ tally at (fork i l r) → turn d x ≡ false → 1 ≤ tally at l
-left-side its d x at i l r s e n m b =
+-- on which side the slot stands
+pub its-side : (its : ℕ → Item) (d : ℕ) (x : Item) (at i : ℕ) (l r : Tree) → IsSorted its d (fork i l r) → its at ≡ x → (at ≡ i → ⊥) → 1 ≤ tally at (fork i l r) → 1 ≤ tally at (on_side (turn d x) l r)
+its-side its d x at i l r s e n m =
     let p = tally-past at i l r n in
-    elim (some_or_none (tally at r)) [
-      | inl y ↦ absurd (clash (turn d x) (ap (turn d) (sym e) ∙ s.3 at y) b)
-      | inr z ↦ omega (arith, p, m, z)
+    elim (cases_Bool (turn d x)) as (λ _. 1 ≤ tally at (on_side (turn d x) l r)) [
+      | inl b ↦ rw b (elim (some_or_none (tally at l)) [
+        | inl y ↦ absurd (clash (turn d x) b (ap (turn d) (sym e) ∙ s.2 at y))
+        | inr z ↦ omega (arith, p, m, z)
+      ])
+      | inr b ↦ rw b (elim (some_or_none (tally at r)) [
+        | inl y ↦ absurd (clash (turn d x) (ap (turn d) (sym e) ∙ s.3 at y) b)
+        | inr z ↦ omega (arith, p, m, z)
+      ])
     ]
 
 pub detached-tally : (its : ℕ → Item) (d : ℕ) (x : Item) (at k : ℕ) (t : Tree) → IsSorted its d t → its at ≡ x → 1 ≤ tally at t → tally k t ≡ cond (eqb k at) 1 0 + tally k (detached d x at t)
@@ -111,8 +113,8 @@ detached-tally its d x at k (fork i l r) s e m =
       | inr q ↦ (
           let g : eqb i at ≡ false = ne_eqb i at (λ z. q (sym z)) in
           rw g (elim (cases_Bool (turn d x)) as (λ _. tally k (fork i l r) ≡ cond (eqb k at) 1 0 + tally k (cond (turn d x) (fork i l (detached (d + 1) x at r)) (fork i (detached (d + 1) x at l) r))) [
-            | inl b ↦ rw b (let h = detached-tally its (d + 1) x at k r s.1 e (right-side its d x at i l r s e q m b) in omega (arith, h))
-            | inr b ↦ rw b (let h = detached-tally its (d + 1) x at k l s.0 e (left-side its d x at i l r s e q m b) in omega (arith, h))
+            | inl b ↦ rw b (let h = detached-tally its (d + 1) x at k r s.1 e (subst (λ c. 1 ≤ tally at (on_side c l r)) b (its-side its d x at i l r s e q m)) in omega (arith, h))
+            | inr b ↦ rw b (let h = detached-tally its (d + 1) x at k l s.0 e (subst (λ c. 1 ≤ tally at (on_side c l r)) b (its-side its d x at i l r s e q m)) in omega (arith, h))
           ]))
     ]
 
@@ -125,10 +127,10 @@ detached-sorted its d x at (fork i l r) s e m =
           let g : eqb i at ≡ false = ne_eqb i at (λ z. q (sym z)) in
           rw g (elim (cases_Bool (turn d x)) as (λ _. IsSorted its d (cond (turn d x) (fork i l (detached (d + 1) x at r)) (fork i (detached (d + 1) x at l) r))) [
             | inl b ↦ (
-                let there = right-side its d x at i l r s e q m b in
+                let there = subst (λ c. 1 ≤ tally at (on_side c l r)) b (its-side its d x at i l r s e q m) in
                 rw b (s.0, detached-sorted its (d + 1) x at r s.1 e there, s.2, (λ k n. s.3 k (let h = detached-tally its (d + 1) x at k r s.1 e there in omega (arith, h, n)))))
             | inr b ↦ (
-                let there = left-side its d x at i l r s e q m b in
+                let there = subst (λ c. 1 ≤ tally at (on_side c l r)) b (its-side its d x at i l r s e q m) in
                 rw b (detached-sorted its (d + 1) x at l s.0 e there, s.1, (λ k n. s.2 k (let h = detached-tally its (d + 1) x at k l s.0 e there in omega (arith, h, n))), s.3))
           ]))
     ]

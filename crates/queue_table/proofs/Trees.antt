@@ -15,6 +15,18 @@ tally-here i l r = let e : eqb i i ≡ true = eq-eqb i i refl in rw e refl
 pub tally-past : (k i : ℕ) (l r : Tree) → (k ≡ i → ⊥) → tally k (fork i l r) ≡ tally k l + tally k r
 tally-past k i l r d = let e : eqb k i ≡ false = ne_eqb k i d in rw e (omega arith)
 
+-- the branch on a side, the right one if true
+abbrev pub on_side : Bool → Tree → Tree → Tree
+on_side right l r = cond right r l
+
+pub side-tally : (right : Bool) (k : ℕ) (l r : Tree) → tally k (on_side right l r) ≤ tally k l + tally k r
+side-tally true k l r = omega arith
+side-tally false k l r = omega arith
+
+pub side-size : (right : Bool) (l r : Tree) → size (on_side right l r) ≤ size l + size r
+side-size true l r = omega arith
+side-size false l r = omega arith
+
 pub members : (links : List ℕ) (roots place : ℕ) (t : Tree) (k : ℕ) → IsTree links roots place t → 1 ≤ tally k t → (1 ≤ k) × (branch roots k true < length links)
 members links roots place leaf k x m = absurd (omega (arith, m))
 members links roots place (fork i l r) k x m =

@@ -1,15 +1,15 @@
 -- What a walk down a tree knows at the next place.
 use Rattle.std.proofs.Common.{◌≡◌, ℕ, ◌+◌, ◌^◌, ◌<◌, ◌≤◌, Bool, true, false, List, length, get_or, ap, ◌∙◌, sym, refl, arith, inl, inr}
-use Rattle.std.proofs.lemmas.Bool.{cases_Bool, cases_eq}
+use Rattle.std.proofs.lemmas.Bool.{cases_eq}
 use Rattle.step_record.specs.declared.item.Item.{Item}
 use Rattle.queue_table.specs.declared.slot_index.SlotIndex.{SlotIndex}
 use Rattle.queue_table.specs.Trees.{Tree, leaf, fork, tally, size, branch, turn, IsSorted}
 use Rattle.queue_table.specs.Places.{IsWhole, IsThere}
 use Rattle.queue_table.specs.Index.{IsFound}
 use Rattle.queue_table.specs.Walks.{HasTree, HasTreeWithin, IsOnWay}
-use Rattle.queue_table.proofs.Trees.{some_or_none, tally-here, tally-past, tree_at, tree-is, size-few}
-use Rattle.queue_table.proofs.Sorting.{clash, right-side, left-side}
-use Rattle.queue_table.proofs.Placing.{right-whole, left-whole}
+use Rattle.queue_table.proofs.Trees.{tally-here, on_side, side-tally, side-size, tree_at, tree-is, size-few}
+use Rattle.queue_table.proofs.Sorting.{side-sorted, its-side}
+use Rattle.queue_table.proofs.Placing.{branch-whole}
 
 -- the branch of the slot at a place
 pub record IsStep (links : List ℕ) (roots next below : ℕ) (t : Tree) : Type 0 where
@@ -22,23 +22,13 @@ pub record IsStep (links : List ℕ) (roots next below : ℕ) (t : Tree) : Type 
 
 pub step : (links : List ℕ) (roots place next below : ℕ) (side : Bool) (t : Tree) → IsWhole links roots place t → next ≡ get_or links place 0 → (next ≡ 0 → ⊥) → below ≡ branch roots next side → IsStep links roots next below t
 step links roots place next below side leaf w n z b = absurd (z (n ∙ w.tree))
-step links roots place next below true (fork i l r) w n z b =
+step links roots place next below side (fork i l r) w n z b =
     let is : next ≡ i = n ∙ w.tree.0 in
     rw (b, is) record {
-      branch_shown = r;
-      whole = right-whole roots links place i l r w;
-      fewer = omega arith;
-      inside = λ k. omega arith;
-      here = (let h = tally-here i l r in omega (arith, h));
-      room = w.tree.2;
-    }
-step links roots place next below false (fork i l r) w n z b =
-    let is : next ≡ i = n ∙ w.tree.0 in
-    rw (b, is) record {
-      branch_shown = l;
-      whole = left-whole roots links place i l r w;
-      fewer = omega arith;
-      inside = λ k. omega arith;
+      branch_shown = on_side side l r;
+      whole = branch-whole roots links place i l r w side;
+      fewer = (let m = side-size side l r in omega (arith, m));
+      inside = λ k. (let m = side-tally side k l r in omega (arith, m));
       here = (let h = tally-here i l r in omega (arith, h));
       room = w.tree.2;
     }
@@ -85,22 +75,12 @@ way-below index place at next below item depth h n other b = on h.has.shown h.ha
     on (fork i l r) w few there =
         let is : next ≡ i = n ∙ w.tree.0 in
         let apart : at ≡ i → ⊥ = λ e. other (is ∙ sym e) in
-        elim (cases_Bool (turn depth item)) [
-          | inl e ↦
-              let p : below ≡ branch (2 ^ index.bits) i true = b ∙ (ap (branch (2 ^ index.bits) next) e ∙ ap (λ k. branch (2 ^ index.bits) k true) is) in
-              record {
-                has = record { shown = r; whole = rw p (right-whole (2 ^ index.bits) index.links.items place i l r w); few = omega (arith, few); bits = h.has.bits };
-                item_of = h.item_of;
-                there = record { stands = right-side h.item_of depth item at i l r there.sorted there.its apart there.stands e; its = there.its; sorted = there.sorted.1 };
-              }
-          | inr e ↦
-              let p : below ≡ branch (2 ^ index.bits) i false = b ∙ (ap (branch (2 ^ index.bits) next) e ∙ ap (λ k. branch (2 ^ index.bits) k false) is) in
-              record {
-                has = record { shown = l; whole = rw p (left-whole (2 ^ index.bits) index.links.items place i l r w); few = omega (arith, few); bits = h.has.bits };
-                item_of = h.item_of;
-                there = record { stands = left-side h.item_of depth item at i l r there.sorted there.its apart there.stands e; its = there.its; sorted = there.sorted.0 };
-              }
-        ]
+        let less = side-size (turn depth item) l r in
+        record {
+          has = record { shown = on_side (turn depth item) l r; whole = rw (b, is) (branch-whole (2 ^ index.bits) index.links.items place i l r w (turn depth item)); few = omega (arith, few, less); bits = h.has.bits };
+          item_of = h.item_of;
+          there = record { stands = its-side h.item_of depth item at i l r there.sorted there.its apart there.stands; its = there.its; sorted = side-sorted h.item_of depth (turn depth item) i l r there.sorted };
+        }
 
 -- what a search finds
 
@@ -120,31 +100,11 @@ pub found-on : (links : List ℕ) (roots place depth next below result : ℕ) (i
 found-on links roots place depth next below result item item_of leaf w s n z other b ih = absurd (z (n ∙ w.tree))
 found-on links roots place depth next below result item item_of (fork i l r) w s n z other b ih =
     let is : next ≡ i = n ∙ w.tree.0 in
-    elim (cases_Bool (turn depth item)) [
-      | inl e ↦
-          let p : below ≡ branch roots i true = b ∙ (ap (branch roots next) e ∙ ap (λ k. branch roots k true) is) in
-          let f = ih r (rw p (right-whole roots links place i l r w)) s.1 in
-          record {
-            there = λ m. (let q = f.there m in ((let c = q.0 in omega (arith, c)), q.1));
-            missing = λ m k c d. elim (cases_eq k i) [
-              | inl h ↦ other (ap item_of (is ∙ sym h) ∙ d)
-              | inr h ↦ let o = tally-past k i l r h in elim (some_or_none (tally k l)) [
-                | inl a ↦ clash (turn depth item) e (ap (turn depth) (sym d) ∙ s.2 k a)
-                | inr a ↦ f.missing m k (omega (arith, o, a, c)) d
-              ]
-            ];
-          }
-      | inr e ↦
-          let p : below ≡ branch roots i false = b ∙ (ap (branch roots next) e ∙ ap (λ k. branch roots k false) is) in
-          let f = ih l (rw p (left-whole roots links place i l r w)) s.0 in
-          record {
-            there = λ m. (let q = f.there m in ((let c = q.0 in omega (arith, c)), q.1));
-            missing = λ m k c d. elim (cases_eq k i) [
-              | inl h ↦ other (ap item_of (is ∙ sym h) ∙ d)
-              | inr h ↦ let o = tally-past k i l r h in elim (some_or_none (tally k r)) [
-                | inl a ↦ clash (turn depth item) (ap (turn depth) (sym d) ∙ s.3 k a) e
-                | inr a ↦ f.missing m k (omega (arith, o, a, c)) d
-              ]
-            ];
-          }
-    ]
+    let f = ih (on_side (turn depth item) l r) (rw (b, is) (branch-whole roots links place i l r w (turn depth item))) (side-sorted item_of depth (turn depth item) i l r s) in
+    record {
+      there = λ m. (let q = f.there m in ((let c = q.0 in let a = side-tally (turn depth item) result l r in omega (arith, c, a)), q.1));
+      missing = λ m k c d. elim (cases_eq k i) [
+        | inl h ↦ other (ap item_of (is ∙ sym h) ∙ d)
+        | inr h ↦ f.missing m k (its-side item_of depth item k i l r s d h c) d
+      ];
+    }
