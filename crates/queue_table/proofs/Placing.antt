@@ -2,7 +2,7 @@
 use Rattle.std.proofs.Common.{◌≡◌, ℕ, ◌+◌, ◌<◌, ◌≤◌, Bool, true, false, cond, eqb, List, length, get_or, set, ap, ◌∙◌, sym, subst, arith, get_or-set_same, get_or-set_other, length-set}
 use Rattle.std.proofs.lemmas.Bool.{eq-eqb, ne_eqb}
 use Rattle.step_record.specs.declared.item.Item.{Item}
-use Rattle.queue_table.specs.Trees.{Tree, leaf, fork, tally, branch, turn, grafted, lowest, plucked, lifted, detached}
+use Rattle.queue_table.specs.Trees.{Tree, leaf, fork, tally, branch, turn, IsTree, grafted, lowest, plucked, lifted, detached}
 use Rattle.queue_table.specs.Places.{IsOutside, IsWhole, IsFree, IsThere, Replaces}
 use Rattle.queue_table.proofs.Trees.{tally-here, on_side, side-tally, same-slot, same-tree, any_default}
 use Rattle.queue_table.proofs.Sorting.{side-sorted, its-side}
@@ -29,45 +29,27 @@ module _ (roots : ℕ) (links : List ℕ) (place i : ℕ) (l r : Tree) (w : IsWh
     within = (let p = w.tree.2 in omega (arith, p));
   }
 
+  -- another tree on a side leaves the links outside, and the tree on the other side
+  module _ (links2 : List ℕ) (right : Bool) (u : Tree) (p : Replaces roots links links2 (branch roots i right) (on_side right l r) u) where
+    past : (q : ℕ) → IsOutside roots q (fork i l r) → get_or links2 q 0 ≡ get_or links q 0
+    past q o = p.others q (o i right (let h = tally-here i l r in omega (arith, h))) (λ k side m. o k side (let a = side-tally right k l r in omega (arith, m, a)))
+
+    kept : (left : Bool) → (branch roots i left ≡ branch roots i right → ⊥) → ((k : ℕ) → tally k (on_side left l r) + tally k (on_side right l r) ≤ tally k l + tally k r) → IsTree links2 roots (branch roots i left) (on_side left l r)
+    kept left apart both =
+        same-tree links links2 roots (branch roots i left) (branch roots i left) (on_side left l r) p.size
+        (p.others (branch roots i left) apart (λ k side m e. not-here k (let a = side-tally right k l r in omega (arith, m, a)) (same-slot roots i k left side e)))
+        (λ k side m. p.others (branch roots k side) (λ e. not-here k (let a = side-tally left k l r in omega (arith, m, a)) (sym (same-slot roots k i side right e)))
+        (λ j other n e. let s = same-slot roots k j side other e in let a = ap (λ x. tally x (on_side right l r)) s in let b = both k in let o = w.once k in omega (arith, a, b, o, m, n)))
+        (branch-whole left).tree
+
+    replaced : (l2 r2 : Tree) → IsTree links2 roots (branch roots i false) l2 → IsTree links2 roots (branch roots i true) r2 → Replaces roots links links2 place (fork i l r) (fork i l2 r2)
+    replaced l2 r2 x y = record {
+      tree = (past place w.outside ∙ w.tree.0, w.tree.1, (let size = p.size in let room = w.tree.2 in omega (arith, room, size)), x, y);
+      others = λ q d o. past q o;
+      size = p.size;
+    }
+
   module _ (links2 : List ℕ) where
-    right-replaced : (r2 : Tree) → Replaces roots links links2 (branch roots i true) r r2 → Replaces roots links links2 place (fork i l r) (fork i l r2)
-    right-replaced r2 p =
-        let here = tally-here i l r in
-        let past : (q : ℕ) → IsOutside roots q (fork i l r) → get_or links2 q 0 ≡ get_or links q 0 =
-        λ q o. p.others q (o i true (omega (arith, here))) (λ k side m. o k side (omega (arith, m))) in
-        let beside : (k : ℕ) (side : Bool) → 1 ≤ tally k l → get_or links2 (branch roots k side) 0 ≡ get_or links (branch roots k side) 0 =
-        λ k side m. p.others (branch roots k side) (λ e. not-here k (omega (arith, m)) (sym (same-slot roots k i side true e)))
-        (λ j other n e. let s = same-slot roots k j side other e in let a = ap (λ x. tally x r) s in let o = w.once k in omega (arith, a, o, m, n)) in
-        let head : get_or links2 place 0 ≡ get_or links place 0 = past place w.outside in
-        let left : get_or links2 (branch roots i false) 0 ≡ get_or links (branch roots i false) 0 =
-        p.others (branch roots i false) (λ e. omega (arith, e)) (λ k side m e. not-here k (omega (arith, m)) (same-slot roots i k false side e)) in
-        let size = p.size in
-        let room = w.tree.2 in
-        record {
-          tree = (head ∙ w.tree.0, w.tree.1, omega (arith, room, size), same-tree links links2 roots (branch roots i false) (branch roots i false) l p.size left beside w.tree.3, p.tree);
-          others = λ q d o. past q o;
-          size = p.size;
-        }
-
-    left-replaced : (l2 : Tree) → Replaces roots links links2 (branch roots i false) l l2 → Replaces roots links links2 place (fork i l r) (fork i l2 r)
-    left-replaced l2 p =
-        let here = tally-here i l r in
-        let past : (q : ℕ) → IsOutside roots q (fork i l r) → get_or links2 q 0 ≡ get_or links q 0 =
-        λ q o. p.others q (o i false (omega (arith, here))) (λ k side m. o k side (omega (arith, m))) in
-        let beside : (k : ℕ) (side : Bool) → 1 ≤ tally k r → get_or links2 (branch roots k side) 0 ≡ get_or links (branch roots k side) 0 =
-        λ k side m. p.others (branch roots k side) (λ e. not-here k (omega (arith, m)) (sym (same-slot roots k i side false e)))
-        (λ j other n e. let s = same-slot roots k j side other e in let a = ap (λ x. tally x l) s in let o = w.once k in omega (arith, a, o, m, n)) in
-        let head : get_or links2 place 0 ≡ get_or links place 0 = past place w.outside in
-        let right : get_or links2 (branch roots i true) 0 ≡ get_or links (branch roots i true) 0 =
-        p.others (branch roots i true) (λ e. omega (arith, e)) (λ k side m e. not-here k (omega (arith, m)) (same-slot roots i k true side e)) in
-        let size = p.size in
-        let room = w.tree.2 in
-        record {
-          tree = (head ∙ w.tree.0, w.tree.1, omega (arith, room, size), p.tree, same-tree links links2 roots (branch roots i true) (branch roots i true) r p.size right beside w.tree.4);
-          others = λ q d o. past q o;
-          size = p.size;
-        }
-
     -- the branch on a side replaced, where the link to it is
     pub replaced-below : (next below : ℕ) (right : Bool) (f : Tree → Tree) → next ≡ i → below ≡ branch roots next right →
         (IsWhole links roots below (on_side right l r) → Replaces roots links links2 below (on_side right l r) (f (on_side right l r))) → Replaces roots links links2 place (fork i l r) (cond right (fork i l (f r)) (fork i (f l) r))
@@ -76,8 +58,8 @@ module _ (roots : ℕ) (links : List ℕ) (place i : ℕ) (l r : Tree) (w : IsWh
         on right (subst (λ q. Replaces roots links links2 q (on_side right l r) (f (on_side right l r))) p (h (subst (λ q. IsWhole links roots q (on_side right l r)) (sym p) (branch-whole right))))
       where
         on : (side : Bool) → Replaces roots links links2 (branch roots i side) (on_side side l r) (f (on_side side l r)) → Replaces roots links links2 place (fork i l r) (cond side (fork i l (f r)) (fork i (f l) r))
-        on true p = right-replaced (f r) p
-        on false p = left-replaced (f l) p
+        on true p = replaced links2 true (f r) p l (f r) (kept links2 true (f r) p false (λ e. omega (arith, e)) (λ k. omega arith)) p.tree
+        on false p = replaced links2 false (f l) p (f l) r p.tree (kept links2 false (f l) p true (λ e. omega (arith, e)) (λ k. omega arith))
 
 -- a slot put where there is none
 pub graft-end : (roots : ℕ) (links : List ℕ) (place at depth : ℕ) (item : Item) (t : Tree) → 1 ≤ at → branch roots at true < length links → IsWhole links roots place t → IsFree links roots place at t →
