@@ -159,11 +159,8 @@ order-ring o h u = fun_ext (λ s. elim (cases_lt s SECTIONS) as (λ _. cond (nat
   | inr w ↦ let f : nat_lt s SECTIONS ≡ false = le-ltb s SECTIONS (omega (arith, w)) in rw f (sym (h s (omega (arith, w))))
 ])
 
-pub ring_of-is : (ns os : List ℕ) (o : Order) → IsRing ns os (ring o) → ring_of ns ≡ ring o
-ring_of-is ns os o r = ring-is ns os (ring o) r (let l = r.long in omega (arith, l))
-
 pub order-is : (ns os : List ℕ) (o : Order) → IsShort o → IsRing ns os (ring o) → order_in (ring_of ns) ≡ o
-order-is ns os o h r = ap order_in (ring_of-is ns os o r) ∙ order-ring o h r.once
+order-is ns os o h r = ap order_in (ring-is ns os (ring o) r) ∙ order-ring o h r.once
 
 -- no more sections
 

@@ -1,14 +1,10 @@
 -- A slot of a ring moved to another place of it.
-use Rattle.std.proofs.Common.{◌≡◌, ℕ, suc, zero, ◌+◌, ◌-◌, ◌<◌, ◌≤◌, false, cond, eqb, List, [], ◌∷◌, ◌++◌, length, get_or, set, ap, ◌∙◌, sym, refl, subst, arith, ◌⊎◌, inl, inr, length-set, length-append, append-nil}
+use Rattle.std.proofs.Common.{◌≡◌, ℕ, ◌+◌, ◌-◌, ◌<◌, ◌≤◌, false, cond, eqb, List, [], ◌∷◌, ◌++◌, length, get_or, set, ap, ◌∙◌, sym, refl, subst, arith, ◌⊎◌, inl, inr, length-set, length-append, append-nil}
 use Rattle.std.proofs.lemmas.Bool.{eqb-true, ne_eqb, cases_Bool, cases_eq, cond-true, cond-false}
 use Rattle.queue_table.specs.Ring.{count, IsLinked, IsRing, walk, ring_of, put_before, moved_before}
 use Rattle.step_record.specs.Keys.{keys_without}
 use Rattle.queue_table.proofs.Sections.{without-none}
 use Rattle.queue_table.proofs.Splices.{count-append, end_of, start_of, end-stands, start-stands, older-end, newer-start, linked-split, unlinked, linked, walked}
-
-length-walk : (ns : List ℕ) (a n : ℕ) → length (walk ns a n) ≡ n
-length-walk ns a zero = refl
-length-walk ns a (suc n) = ap suc (length-walk ns (get_or ns a 0) n)
 
 -- where a slot stands
 pub record IsSplit (k : ℕ) (l : List ℕ) : Type 0 where
@@ -64,7 +60,6 @@ pub record IsTurned (ns os l : List ℕ) (k b : ℕ) : Type 0 where
   pub older_in : get_or os k 0 < length ns
   pub newer_in : get_or ns k 0 < length ns
   pub next_in : get_or (set os (get_or ns k 0) (get_or os k 0)) b 0 < length ns
-  pub long : length (moved_before k b l) ≡ length l
   pub ring : (let e = get_or (set os (get_or ns k 0) (get_or os k 0)) b 0 in
       IsRing (set (set (set ns (get_or os k 0) (get_or ns k 0)) e k) k b) (set (set (set os (get_or ns k 0) (get_or os k 0)) k e) b k) (moved_before k b l))
 
@@ -76,35 +71,29 @@ turned_to : (ns os l : List ℕ) (k b : ℕ) (r : IsRing ns os l) (xs ys us vs :
     IsLinked (set (set (set ns (end_of 0 xs) (start_of ys 0)) (end_of 0 us) k) k (start_of vs 0)) (set (set (set os (start_of ys 0) (end_of 0 xs)) k (end_of 0 us)) (start_of vs 0) k) 0 (us ++ k ∷ vs) 0 →
     IsTurned ns os l k b
 turned_to ns os l k b r xs ys us vs wh sc wo pu mi oe ne ob st oi ni ui fin =
-    let e : ℕ = get_or (set os (get_or ns k 0) (get_or os k 0)) b 0 in
-    let oe2 : get_or (set os (get_or ns k 0) (get_or os k 0)) b 0 ≡ get_or (set os (start_of ys 0) (end_of 0 xs)) b 0 = ap (λ q. get_or (set os q (get_or os k 0)) b 0) ne ∙ ap (λ q. get_or (set os (start_of ys 0) q) b 0) oe in
-    let ee : e ≡ end_of 0 us = oe2 ∙ ob in
-    let mv : us ++ k ∷ vs ≡ moved_before k b l = sym pu ∙ ap (put_before k b) (sym wo) in
+    let mv : moved_before k b l ≡ us ++ k ∷ vs = ap (put_before k b) wo ∙ pu in
     let ct : (j : ℕ) → count j (0 ∷ us ++ k ∷ vs) ≡ count j (0 ∷ l) = λ j. (let a = count-mid j k us vs in let c = count-mid j k xs ys in let d = ap (count j) wh in let f = sc j in omega (arith, a, c, d, f)) in
     let lo : length (us ++ k ∷ vs) ≡ length l = (let a = ap length wh in let d = ap length mi in let f1 = length-append us (k ∷ vs) in let f2 = length-append xs (k ∷ ys) in let f3 = length-append us vs in let f4 = length-append xs ys in omega (arith, a, d, f1, f2, f3, f4)) in
-    let ring_as : (eo en ev bb : ℕ) → IsLinked (set (set (set ns eo en) ev k) k bb) (set (set (set os en eo) k ev) bb k) 0 (us ++ k ∷ vs) 0 → IsRing (set (set (set ns eo en) ev k) k bb) (set (set (set os en eo) k ev) bb k) (us ++ k ∷ vs) =
-    λ eo en ev bb f. (
-    let n1 = length-set (set (set ns eo en) ev k) k bb in
-    let n2 = length-set (set ns eo en) ev k in
-    let n3 = length-set ns eo en in
-    let o1 = length-set (set (set os en eo) k ev) bb k in
-    let o2 = length-set (set os en eo) k ev in
-    let o3 = length-set os en eo in
+    let n1 = length-set (set (set ns (end_of 0 xs) (start_of ys 0)) (end_of 0 us) k) k (start_of vs 0) in
+    let n2 = length-set (set ns (end_of 0 xs) (start_of ys 0)) (end_of 0 us) k in
+    let n3 = length-set ns (end_of 0 xs) (start_of ys 0) in
+    let o1 = length-set (set (set os (start_of ys 0) (end_of 0 xs)) k (end_of 0 us)) (start_of vs 0) k in
+    let o2 = length-set (set os (start_of ys 0) (end_of 0 xs)) k (end_of 0 us) in
+    let o3 = length-set os (start_of ys 0) (end_of 0 xs) in
     let same = r.same in
     record {
-      linked = f;
-      once = λ j. (let a = ct j in let c = r.once j in omega (arith, a, c));
-      within = λ j h. (let a = ct j in let c = r.within j (omega (arith, a, h)) in omega (arith, n1, n2, n3, c));
-      all = λ j h. (let a = ct j in let c = r.all j (omega (arith, n1, n2, n3, h)) in omega (arith, a, c));
-      same = omega (arith, n1, n2, n3, o1, o2, o3);
-      long = (let rl = r.long in omega (arith, n1, n2, n3, lo, rl));
-    }) in
-    let a0 : IsRing (set (set (set ns (end_of 0 xs) (start_of ys 0)) (end_of 0 us) k) k (start_of vs 0)) (set (set (set os (start_of ys 0) (end_of 0 xs)) k (end_of 0 us)) (start_of vs 0) k) (us ++ k ∷ vs) = ring_as (end_of 0 xs) (start_of ys 0) (end_of 0 us) (start_of vs 0) fin in
-    let a1 = subst (λ bb. IsRing (set (set (set ns (end_of 0 xs) (start_of ys 0)) (end_of 0 us) k) k bb) (set (set (set os (start_of ys 0) (end_of 0 xs)) k (end_of 0 us)) bb k) (us ++ k ∷ vs)) st a0 in
-    let a2 = subst (λ ev. IsRing (set (set (set ns (end_of 0 xs) (start_of ys 0)) ev k) k b) (set (set (set os (start_of ys 0) (end_of 0 xs)) k ev) b k) (us ++ k ∷ vs)) (sym ee) a1 in
-    let a3 = subst (λ en. IsRing (set (set (set ns (end_of 0 xs) en) e k) k b) (set (set (set os en (end_of 0 xs)) k e) b k) (us ++ k ∷ vs)) (sym ne) a2 in
-    let a4 = subst (λ eo. IsRing (set (set (set ns eo (get_or ns k 0)) e k) k b) (set (set (set os (get_or ns k 0) eo) k e) b k) (us ++ k ∷ vs)) (sym oe) a3 in
-    record { older_in = oi; newer_in = ni; next_in = omega (arith, ee, ui); long = (let a = ap length mv in let c = ap length wh in let d = ap length mi in let f1 = length-append us (k ∷ vs) in let f2 = length-append xs (k ∷ ys) in let f3 = length-append us vs in let f4 = length-append xs ys in omega (arith, a, c, d, f1, f2, f3, f4)); ring = subst (IsRing _ _) mv a4 }
+      older_in = oi;
+      newer_in = ni;
+      next_in = rw (ne, oe, ob) ui;
+      ring = rw (mv, ne, oe, ob, ← st) record {
+        linked = fin;
+        once = λ j. (let a = ct j in let c = r.once j in omega (arith, a, c));
+        within = λ j h. (let a = ct j in let c = r.within j (omega (arith, a, h)) in omega (arith, n1, n2, n3, c));
+        all = λ j h. (let a = ct j in let c = r.all j (omega (arith, n1, n2, n3, h)) in omega (arith, a, c));
+        same = omega (arith, n1, n2, n3, o1, o2, o3, same);
+        long = (let rl = r.long in omega (arith, n1, n2, n3, lo, rl));
+      };
+    }
 
 module _ (ns os l : List ℕ) (k b : ℕ) (r : IsRing ns os l) where
   stands_in : (j : ℕ) (xs ys : List ℕ) → l ≡ xs ++ k ∷ ys → count j (0 ∷ l) ≡ cond (eqb j 0) 1 0 + (count j xs + (cond (eqb j k) 1 0 + count j ys))
@@ -151,11 +140,8 @@ module _ (ns os l : List ℕ) (k b : ℕ) (r : IsRing ns os l) where
       let final = linked ns1 os1 0 us k 0 vs e1 e2 ub1 kb1 kb2 vb mid in
       turned_to ns os l k b r xs ys us vs s.whole same_count s.rest t.put t.whole oe ne ob t.start (omega (arith, oe)) (omega (arith, ne)) (omega arith) final
 
-pub ring-is : (ns os l : List ℕ) → IsRing ns os l → length l ≡ length ns - 1 → ring_of ns ≡ l
-ring-is ns os l r n = ap (walk ns 0) (sym n) ∙ walked ns os 0 l 0 r.linked
-
-pub length-ring_of : (ns : List ℕ) → length (ring_of ns) ≡ length ns - 1
-length-ring_of ns = length-walk ns 0 (length ns - 1)
+pub ring-is : (ns os l : List ℕ) → IsRing ns os l → ring_of ns ≡ l
+ring-is ns os l r = ap (walk ns 0) (let n = r.long in let e : length ns - 1 ≡ length l = omega (arith, n) in e) ∙ walked ns os 0 l 0 r.linked
 
 -- what the code leaves
 pub record IsMoved (ns os ns2 os2 : List ℕ) (k b : ℕ) : Type 0 where
@@ -167,17 +153,6 @@ pub moved : (ns os ns1 os1 ns2 os2 : List ℕ) (k b : ℕ) → IsTurned ns os (r
     ns2 ≡ set (set ns1 (get_or os1 b 0) k) k b → os2 ≡ set (set os1 k (get_or os1 b 0)) b k →
     IsMoved ns os ns2 os2 k b
 moved ns os ns1 os1 ns2 os2 k b t n1 o1 n2 o2 =
-    let ne : ns2 ≡ set (set (set ns (get_or os k 0) (get_or ns k 0)) (get_or (set os (get_or ns k 0) (get_or os k 0)) b 0) k) k b =
-    n2 ∙ (ap (λ q. set (set q (get_or os1 b 0) k) k b) n1 ∙ ap (λ q. set (set (set ns (get_or os k 0) (get_or ns k 0)) (get_or q b 0) k) k b) o1) in
-    let oe : os2 ≡ set (set (set os (get_or ns k 0) (get_or os k 0)) k (get_or (set os (get_or ns k 0) (get_or os k 0)) b 0)) b k =
-    o2 ∙ ap (λ q. set (set q k (get_or q b 0)) b k) o1 in
-    let r1 = subst (λ (q : List ℕ). IsRing q (set (set (set os (get_or ns k 0) (get_or os k 0)) k (get_or (set os (get_or ns k 0) (get_or os k 0)) b 0)) b k) (moved_before k b (ring_of ns))) (sym ne) t.ring in
-    let r2 : IsRing ns2 os2 (moved_before k b (ring_of ns)) = subst (λ q. IsRing ns2 q (moved_before k b (ring_of ns))) (sym oe) r1 in
-    let a = length-set (set (set ns (get_or os k 0) (get_or ns k 0)) (get_or (set os (get_or ns k 0) (get_or os k 0)) b 0) k) k b in
-    let c = length-set (set ns (get_or os k 0) (get_or ns k 0)) (get_or (set os (get_or ns k 0) (get_or os k 0)) b 0) k in
-    let d = length-set ns (get_or os k 0) (get_or ns k 0) in
-    let f = ap length ne in
-    let g = length-ring_of ns in
-    let h = t.long in
-    let order : ring_of ns2 ≡ moved_before k b (ring_of ns) = ring-is ns2 os2 (moved_before k b (ring_of ns)) r2 (omega (arith, a, c, d, f, g, h)) in
-    record { order = order; ring = subst (IsRing ns2 os2) (sym order) r2 }
+    let r : IsRing ns2 os2 (moved_before k b (ring_of ns)) = rw (n2, o2, n1, o1) t.ring in
+    let order : ring_of ns2 ≡ moved_before k b (ring_of ns) = ring-is ns2 os2 (moved_before k b (ring_of ns)) r in
+    record { order = order; ring = subst (IsRing ns2 os2) (sym order) r }
