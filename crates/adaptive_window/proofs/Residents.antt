@@ -1,9 +1,5 @@
 -- What the cache keeps of its residents.
-use Rattle.std.proofs.Common.{◌≡◌, ℕ, ◌≤◌, Bool, Option, Some, Ok, Err, ap, ◌∙◌, sym, refl, arith, inl, inr}
-use Rattle.std.proofs.lemmas.Bool.{cases_Bool}
-use Rattle.std.proofs.lemmas.Bool.Decides.{nat_tests}
-use Rattle.step_record.specs.Config.{config_fault, is_from_one}
-use Rattle.step_record.specs.declared.config.Config.{Config}
+use Rattle.std.proofs.Common.{ℕ, Bool, Some, ◌∙◌, sym, refl, arith}
 use Rattle.segments.specs.Items.{nodeless_item}
 use Rattle.segments.specs.Queues.{queue_holding}
 use Rattle.admission.specs.Frequency.{frequency_with}
@@ -12,8 +8,8 @@ use Rattle.replacement.proofs.Residents.{residents-length, resident-queued, resi
 use Rattle.replacement.proofs.Leaving.{hit-keeps, asks-evicts}
 use Rattle.adaptive_window.specs.Climber.{caffeine_rules, first_window}
 use Rattle.adaptive_window.specs.AdaptiveWindow.{rules_at}
-use Rattle.adaptive_window.specs.AdaptiveCache.{AdaptiveCacheState, empty_cache, cache_access, response_to}
-use Rattle.adaptive_window.specs.Residents.{cache_residents, IsServed, IsCache, KeepsCache, CacheKeeps, CacheHitsAskNothing, CacheAsksWhereOneLeft}
+use Rattle.adaptive_window.specs.AdaptiveCache.{AdaptiveCacheState, cache_access, response_to}
+use Rattle.adaptive_window.specs.Residents.{cache_residents, IsServed, IsCache, CacheKeeps, CacheHitsAskNothing, CacheAsksWhereOneLeft}
 use Rattle.adaptive_window.specs.Theorems.{IsAdaptiveAccess}
 use Rattle.adaptive_window.proofs.Keeping.{starts, kept-access, access-is}
 use Rattle.adaptive_window.proofs.Climbing.{rules-fit}

@@ -1,12 +1,12 @@
 -- A cache with an adaptive window: what it shows after a list of accesses, one access as a step, its undo record, and how
 -- the record undoes it. Keys are counted by sixteen counters for each entry and without a doorkeeper, as Caffeine does.
-use Rattle.std.specs.Prelude.{◌≡◌, ◌≢◌, ◌⊎◌, ℕ, ◌≤◌, ◌==◌, true, if◌then◌else◌, Option, Some, None, []}
-use Rattle.step_record.specs.declared.limits.TheConstants.{MAX_STEPS}
+use Rattle.std.specs.Prelude.{◌≡◌, ◌≢◌, ◌⊎◌, ℕ, ◌≤◌, true, Option, Some, None, []}
 use Rattle.step_record.specs.declared.config.Config.{Config}
 use Rattle.step_record.specs.declared.outcome.Outcome.{Outcome}
 use Rattle.step_record.specs.declared.stats.Stats.{Stats}
 use Rattle.step_record.specs.Pace.{Pace}
-use Rattle.step_record.specs.Stats.{stats_of, stats_with, stats_without, IsCounted}
+use Rattle.step_record.specs.Stats.{stats_of, stats_with, stats_without, IsCounted, IsTally}
+use Rattle.step_record.specs.Limited.{limited}
 use Rattle.segments.specs.Items.{nodeless_item}
 use Rattle.segments.specs.Queues.{queue_holding}
 use Rattle.admission.specs.Frequency.{FrequencyData, frequency_of, frequency_with, halves, pace_of}
@@ -42,9 +42,12 @@ cache_after k d = record {
 abbrev pub cache_access : ℕ → AdaptiveCacheState → Outcome × AdaptiveCacheState
 cache_access k d = ((response_to k d).0, cache_after k d)
 
+abbrev pub cache_count : AdaptiveCacheState → ℕ
+cache_count d = d.stats.accesses
+
 -- none is accepted after MAX_STEPS
 abbrev pub cache_act : AdaptiveCacheState → ℕ → Option (Outcome × AdaptiveCacheState)
-cache_act d k = if d.stats.accesses == MAX_STEPS then None else Some (cache_access k d)
+cache_act d k = limited cache_count cache_access d k
 
 -- an empty cache, whose period may be chosen
 abbrev pub empty_cache : Config → Option ℕ → AdaptiveCacheState
@@ -90,17 +93,9 @@ cache_pace d = pace_of d.frequency
 
 -- ---- what holds of a cache
 
--- each count is within that of the accesses, which are as many as may be applied
-pub record AreWithin (s : Stats) : Type 0 where
-  pub hits : s.hits ≤ s.accesses
-  pub misses : s.misses ≤ s.accesses
-  pub evictions : s.evictions ≤ s.accesses
-  pub rejections : s.rejections ≤ s.accesses
-  pub few : s.accesses ≤ MAX_STEPS
-
 -- there were no more halvings than accesses
 pub record IsRunning (f : FrequencyData) (s : Stats) : Type 0 where
-  pub counts : AreWithin s
+  pub counts : IsTally s
   pub halvings : f.halvings ≤ s.accesses
 
 -- each part of the record fits in its turn, and what undoing it leaves holds of a cache

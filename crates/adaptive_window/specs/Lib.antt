@@ -2,7 +2,6 @@ pub mod Climber
 pub mod AdaptiveWindow
 pub mod WindowRecord
 pub mod AdaptiveCache
-pub mod CacheCounts
 pub mod Residents
 pub mod Theorems
 pub mod Examples

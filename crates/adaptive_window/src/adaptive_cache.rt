@@ -149,9 +149,12 @@ impl AdaptiveCache {
 }
 
 impl Engine for AdaptiveCache {
+    ghost use Rattle.std.specs.Prelude.{◌+◌, refl};
+    ghost use Rattle.step_record.specs.Pace.{IsPaced};
+    ghost use Rattle.step_record.proofs.Limited.{related, ended};
+    ghost use Rattle.admission.proofs.Weighing.{recorded_paced};
     ghost use Rattle.adaptive_window.specs.AdaptiveCache.{cache_act, cache_record_of, cache_undone, cache_asks, CacheFits};
-    ghost use Rattle.adaptive_window.specs.AdaptiveCache.{cache_may_ask, cache_words, cache_pace};
-    ghost use Rattle.adaptive_window.specs.CacheCounts.{act_counts, act_ends, act_paced};
+    ghost use Rattle.adaptive_window.specs.AdaptiveCache.{cache_access, cache_count, cache_may_ask, cache_words, cache_pace};
 
     type Step = Key;
 
@@ -175,7 +178,7 @@ impl Engine for AdaptiveCache {
 
     ghost asks = { cache_asks };
 
-    ghost count = { λ d. d.stats.accesses };
+    ghost count = { cache_count };
 
     ghost words_of = { cache_words };
 
@@ -219,11 +222,12 @@ impl Engine for AdaptiveCache {
         done.counting.words()
     }
 
-    ghost counted = { act_counts };
+    ghost counted = { related cache_count cache_access (λ d e. cache_count e ≡ cache_count d + 1) (λ k d. refl) };
 
-    ghost counted_out = { act_ends };
+    ghost counted_out = { ended cache_count cache_access };
 
-    ghost paced = { act_paced };
+    ghost paced = { related cache_count cache_access (λ d e. IsPaced (cache_pace d) (cache_pace e))
+        (λ k d. recorded_paced d.frequency k) };
 }
 
 // The caller of an access that keeps its undo record. The code of an access stands in the program once for each type of

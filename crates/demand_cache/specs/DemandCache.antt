@@ -1,11 +1,12 @@
 -- What the engine shows, and one access to it as a step.
-use Rattle.std.specs.Prelude.{◌≡◌, ℕ, ◌+◌, ◌≤◌, ◌==◌, false, if◌then◌else◌, Option, Some, None}
-use Rattle.step_record.specs.declared.limits.TheConstants.{MAX_STEPS, MAX_CAPACITY}
+use Rattle.std.specs.Prelude.{◌≡◌, ℕ, ◌≤◌, false, Option}
+use Rattle.step_record.specs.declared.limits.TheConstants.{MAX_CAPACITY}
 use Rattle.step_record.specs.declared.outcome.Outcome.{Outcome}
 use Rattle.step_record.specs.declared.stats.Stats.{Stats}
 use Rattle.step_record.specs.Keys.{has_key}
-use Rattle.step_record.specs.Stats.{stats_with, stats_without, IsCounted}
+use Rattle.step_record.specs.Stats.{stats_with, stats_without, IsCounted, IsTally}
 use Rattle.step_record.specs.declared.item.Item.{Item}
+use Rattle.step_record.specs.Limited.{limited}
 use Rattle.queue_table.specs.Queues.{Queues}
 use Rattle.queue_moves.specs.declared.records.Moves.{Moves}
 use Rattle.queue_moves.specs.Moves.{Plan}
@@ -28,12 +29,16 @@ state_of p c x l stats =
 abbrev pub state_with : Stats → Outcome × DemandQueues → DemandState
 state_with stats a = record { queues = a.1; stats = stats_with a.0 stats }
 
+-- an access to k
+abbrev pub demand_access : ℕ → DemandState → Outcome × DemandState
+demand_access k d = ((queues_act k d.queues).0, state_with d.stats (queues_act k d.queues))
+
+abbrev pub demand_count : DemandState → ℕ
+demand_count d = d.stats.accesses
+
 -- an access to k, while fewer than MAX_STEPS are applied
 abbrev pub demand_act : DemandState → ℕ → Option (Outcome × DemandState)
-demand_act d k =
-    if d.stats.accesses == MAX_STEPS
-    then None
-    else Some ((queues_act k d.queues).0, state_with d.stats (queues_act k d.queues))
+demand_act d k = limited demand_count demand_access d k
 
 -- The record of an access to k, from the cache before it. It is this and nothing beside, and holds no list.
 abbrev pub demand_record_of : ℕ → DemandState → DemandRecord
@@ -50,19 +55,12 @@ demand_undone r d = record { queues = queues_undone r.moves d.queues; stats = st
 abbrev pub demand_asks : DemandRecord → Type 0
 demand_asks r = queues_asks r.moves
 
--- the counts of a run: each access is a hit or a miss
-pub record IsTally (s : Stats) : Type 0 where
-  pub whole : s.hits + s.misses ≡ s.accesses
-  pub evictions : s.evictions ≤ s.misses
-  pub rejections : s.rejections ≤ s.evictions
-  pub few : s.accesses ≤ MAX_STEPS
-
 -- what holds of a cache
 pub record IsDemand (d : DemandState) : Type 0 where
   pub least : 1 ≤ d.queues.capacity
   pub most : d.queues.capacity ≤ MAX_CAPACITY
   pub queues : IsQueues d.queues.capacity d.queues
-  pub tally : IsTally d.stats
+  pub counts : IsTally d.stats
 
 -- an access by the plan, of which the outcome o and the policy's number y are read, and not its record
 pub record IsCountedBy (p : Plan) (i : Item) (x : ℕ) (s u : Queues) (o : Outcome) (y : ℕ) : Type 0 where
@@ -73,4 +71,4 @@ pub record IsCountedBy (p : Plan) (i : Item) (x : ℕ) (s u : Queues) (o : Outco
 pub record DemandFits (r : DemandRecord) (d : DemandState) : Type 0 where
   pub queues : QueuesFits r.moves d.queues
   pub counted : IsCounted r.outcome d.stats
-  pub tally : IsTally (stats_without r.outcome d.stats)
+  pub counts : IsTally (stats_without r.outcome d.stats)

@@ -1,4 +1,3 @@
 pub mod DemandQueues
 pub mod DemandCache
-pub mod DemandCounts
 pub mod Theorems

@@ -165,9 +165,10 @@ fn add_both(
 }
 
 impl Engine for DemandCache {
+    ghost use Rattle.std.specs.Prelude.{refl};
+    ghost use Rattle.step_record.proofs.Limited.{related, ended};
     ghost use Rattle.demand_cache.specs.DemandCache.{demand_act, demand_record_of, demand_undone, demand_asks, DemandFits};
-    ghost use Rattle.demand_cache.specs.DemandCache.{demand_may_ask};
-    ghost use Rattle.demand_cache.specs.DemandCounts.{act_counts, act_ends};
+    ghost use Rattle.demand_cache.specs.DemandCache.{demand_access, demand_count, demand_may_ask};
     ghost use Rattle.step_record.specs.Pace.{pace_without_sketch, still-paced};
 
     type Step = Key;
@@ -192,7 +193,7 @@ impl Engine for DemandCache {
 
     ghost asks = { demand_asks };
 
-    ghost count = { λ d. d.stats.accesses };
+    ghost count = { demand_count };
 
     ghost words_of = { λ r. 0 };
 
@@ -244,9 +245,9 @@ impl Engine for DemandCache {
         0
     }
 
-    ghost counted = { act_counts };
+    ghost counted = { related demand_count demand_access (λ d e. demand_count e ≡ demand_count d + 1) (λ k d. refl) };
 
-    ghost counted_out = { act_ends };
+    ghost counted_out = { ended demand_count demand_access };
 
     ghost paced = { λ d s r e h. still-paced };
 }

@@ -1,8 +1,6 @@
 -- What a cache with an adaptive window stands for.
-use Rattle.std.proofs.Common.{◌≡◌, ℕ, ◌+◌, ◌≤◌, ◌==◌, Option, Some, None, Result, Ok, Err, List, [], ◌∷◌, ◌++◌, length, ap, ◌∙◌, sym, refl, subst, arith, inl, inr, append-nil, append_assoc}
-use Rattle.std.proofs.lemmas.Bool.{cases_Bool, eqb-true}
+use Rattle.std.proofs.Common.{◌≡◌, ℕ, ◌+◌, ◌≤◌, Result, Ok, Err, List, [], ◌∷◌, ◌++◌, length, ap, ◌∙◌, sym, refl, subst, arith, append-nil, append_assoc}
 use Rattle.std.proofs.lemmas.List.{length-map}
-use Rattle.step_record.specs.declared.limits.TheConstants.{MAX_STEPS}
 use Rattle.step_record.specs.Config.{config_fault}
 use Rattle.step_record.specs.declared.config.ConfigFault.{ConfigFault}
 use Rattle.step_record.specs.declared.job.Job.{Job}
@@ -12,51 +10,18 @@ use Rattle.step_record.specs.declared.stats.Stats.{Stats}
 use Rattle.step_record.specs.Stats.{stats_of, stats_with}
 use Rattle.step_record.proofs.Counting.{stats-snoc}
 use Rattle.queue_policies.specs.Residents.{state_after_all, outcomes_of_all}
-use Rattle.adaptive_window.specs.AdaptiveCache.{AdaptiveCacheState, cache_access, cache_act}
+use Rattle.adaptive_window.specs.AdaptiveCache.{AdaptiveCacheState, cache_access}
 use Rattle.adaptive_window.specs.Residents.{cache_residents, IsCache, CacheKeeps}
 use Rattle.policies.specs.AnyPolicy.{IsAdaptiveAfter, adaptive_start, adaptive_outcomes}
 use Rattle.policies.proofs.Demand.{state-push, outcomes-long}
 
--- ---- an accepted access
-
-answer_in : Outcome → Option (Outcome × AdaptiveCacheState) → Outcome
-answer_in o None = o
-answer_in o (Some p) = p.0
-
-state_in : AdaptiveCacheState → Option (Outcome × AdaptiveCacheState) → AdaptiveCacheState
-state_in d None = d
-state_in d (Some p) = p.1
-
-pub record IsAccessOf (d : AdaptiveCacheState) (k : ℕ) (o : Outcome) (e : AdaptiveCacheState) : Type 0 where
-  pub outcome : o ≡ (cache_access k d).0
-  pub next : e ≡ (cache_access k d).1
-
-pub adaptive-access : (d : AdaptiveCacheState) (k : ℕ) (o : Outcome) (e : AdaptiveCacheState) → cache_act d k ≡ Some (o, e) → IsAccessOf d k o e
-unfolding answer_in state_in
-adaptive-access d k o e h =
-    elim (cases_Bool (d.stats.accesses == MAX_STEPS)) [
-      | inl f ↦ absurd (let no : None ≡ Some (o, e) = rw f at h in cc (no))
-      | inr f ↦
-          let b : Some (cache_access k d) ≡ Some (o, e) = rw f at h in
-          record { outcome = sym (ap (answer_in o) b); next = sym (ap (state_in d) b) }
-    ]
-
-pub adaptive-refused : (d : AdaptiveCacheState) (k : ℕ) → cache_act d k ≡ None → d.stats.accesses ≡ MAX_STEPS
-adaptive-refused d k h =
-    elim (cases_Bool (d.stats.accesses == MAX_STEPS)) [
-      | inl f ↦ eqb-true d.stats.accesses MAX_STEPS f
-      | inr f ↦ absurd (let no : Some (cache_access k d) ≡ None = rw f at h in cc (no))
-    ]
-
 -- ---- the accesses that it made
 
-pub adaptive_stands : (j : Job) (keys : List ℕ) (d : AdaptiveCacheState) (k : ℕ) (o : Outcome) (e : AdaptiveCacheState)
-    → IsAdaptiveAfter j keys d → cache_act d k ≡ Some (o, e) → IsAdaptiveAfter j (keys ++ k ∷ []) e
-adaptive_stands j keys d k o e s h = record {
+pub adaptive_stands : (j : Job) (keys : List ℕ) (d : AdaptiveCacheState) (k : ℕ) → IsAdaptiveAfter j keys d → IsAdaptiveAfter j (keys ++ k ∷ []) (cache_access k d).1
+adaptive_stands j keys d k s = record {
   design = s.design;
   checked = s.checked;
-  gives = (adaptive-access d k o e h).next
-      ∙ (ap (λ q. (cache_access k q).1) s.gives ∙ sym (state-push cache_access (adaptive_start j) keys k));
+  gives = ap (λ q. (cache_access k q).1) s.gives ∙ sym (state-push cache_access (adaptive_start j) keys k);
 }
 
 from-counts : (d : AdaptiveCacheState) (os : List Outcome) (keys : List ℕ) → d.stats ≡ stats_of os

@@ -1,10 +1,9 @@
 -- What a cache of a policy that keeps each missed key stands for.
-use Rattle.std.proofs.Common.{◌≡◌, ◌⊎◌, ℕ, suc, ◌+◌, ◌≤◌, ◌==◌, true, cond, eqb, Option, Some, None, List, [], ◌∷◌, ◌++◌, length, take, zero, get_or, ap, ◌∙◌, sym, refl, subst, arith, inl, inr}
+use Rattle.std.proofs.Common.{◌≡◌, ◌⊎◌, ℕ, suc, ◌+◌, ◌≤◌, true, cond, eqb, List, [], ◌∷◌, ◌++◌, length, take, zero, get_or, ap, ◌∙◌, sym, refl, subst, arith, inl, inr}
 use Rattle.std.specs.List.{count_by}
 use Rattle.std.proofs.lemmas.Bool.{cases_Bool, eqb-true}
 use Rattle.std.proofs.lemmas.List.{length-map}
 use Rattle.std.proofs.lemmas.List.Sums.{sum_by-cons}
-use Rattle.step_record.specs.declared.limits.TheConstants.{MAX_STEPS}
 use Rattle.step_record.specs.declared.job.Job.{Job}
 use Rattle.step_record.specs.declared.outcome.Outcome.{Outcome}
 use Rattle.step_record.specs.declared.outcome.Outcome.TheVariants.{Hit, Kept, Evicted, Rejected}
@@ -16,7 +15,7 @@ use Rattle.queue_policies.specs.Residents.{times, keys_brought, IsAccess, AreRes
 use Rattle.queue_policies.proofs.Residents.{times-none, times-some, counts-residents}
 use Rattle.demand_cache.specs.declared.demand_policy.DemandPolicy.{DemandPolicy}
 use Rattle.demand_cache.specs.DemandQueues.{DemandQueues, empty_cache, queues_act, queues_residents, IsQueues}
-use Rattle.demand_cache.specs.DemandCache.{DemandState, state_with, demand_act}
+use Rattle.demand_cache.specs.DemandCache.{DemandState, demand_access}
 use Rattle.demand_cache.specs.Theorems.{DemandKeeps}
 use Rattle.demand_cache.proofs.Keeping.{page-outcomes}
 use Rattle.policies.specs.declared.design.DemandDesign.{DemandDesign}
@@ -71,57 +70,23 @@ pub demand-long : (p : DemandPolicy) (c : ℕ) (keys : List ℕ) → length (dem
 demand-long p zero keys = length-map keys (λ k. Rejected k)
 demand-long p (suc c) keys = ap length (with-room p (suc c) keys (omega arith)) ∙ outcomes-long queues_act (empty_cache p (suc c)) keys
 
--- ---- an accepted access
-
-demand-outcome : Outcome → Option (Outcome × DemandState) → Outcome
-demand-outcome o None = o
-demand-outcome o (Some p) = p.0
-
-demand-state : DemandState → Option (Outcome × DemandState) → DemandState
-demand-state d None = d
-demand-state d (Some p) = p.1
-
-pub record IsDemandAccess (d : DemandState) (k : ℕ) (o : Outcome) (e : DemandState) : Type 0 where
-  pub outcome : o ≡ (queues_act k d.queues).0
-  pub next : e ≡ state_with d.stats (queues_act k d.queues)
-
-pub demand-access : (d : DemandState) (k : ℕ) (o : Outcome) (e : DemandState) → demand_act d k ≡ Some (o, e) → IsDemandAccess d k o e
-unfolding demand-outcome demand-state
-demand-access d k o e h =
-    elim (cases_Bool (d.stats.accesses == MAX_STEPS)) [
-      | inl f ↦ absurd (let no : None ≡ Some (o, e) = rw f at h in cc (no))
-      | inr f ↦
-          let b : Some ((queues_act k d.queues).0, state_with d.stats (queues_act k d.queues)) ≡ Some (o, e) = rw f at h in
-          record { outcome = sym (ap (demand-outcome o) b); next = sym (ap (demand-state d) b) }
-    ]
-
-pub demand-refused : (d : DemandState) (k : ℕ) → demand_act d k ≡ None → d.stats.accesses ≡ MAX_STEPS
-demand-refused d k h =
-    elim (cases_Bool (d.stats.accesses == MAX_STEPS)) [
-      | inl f ↦ eqb-true d.stats.accesses MAX_STEPS f
-      | inr f ↦ absurd (let no : Some ((queues_act k d.queues).0, state_with d.stats (queues_act k d.queues)) ≡ None = rw f at h in cc (no))
-    ]
-
 -- ---- the accesses that it made
 
 abbrev start_of : (j : Job) (keys : List ℕ) (d : DemandState) → IsDemandAfter j keys d → DemandQueues
 start_of j keys d s = empty_cache (demand_policy s.kind j) j.config.capacity
 
-pub demand_stands : (j : Job) (keys : List ℕ) (d : DemandState) (k : ℕ) (o : Outcome) (e : DemandState) → IsDemandAfter j keys d
-    → demand_act d k ≡ Some (o, e) → IsDemandAfter j (keys ++ k ∷ []) e
-demand_stands j keys d k o e s h =
-    let a : IsDemandAccess d k o e = demand-access d k o e h in
+pub demand_stands : (j : Job) (keys : List ℕ) (d : DemandState) (k : ℕ) → IsDemandAfter j keys d → IsDemandAfter j (keys ++ k ∷ []) (demand_access k d).1
+demand_stands j keys d k s =
     let start : DemandQueues = start_of j keys d s in
     record {
       kind = s.kind;
       design = s.design;
       checked = s.checked;
-      queues = ap (λ (x : DemandState). x.queues) a.next ∙ (ap (λ q. (queues_act k q).1) s.queues ∙ sym (state-push queues_act start keys k));
-      stats = ap (λ (x : DemandState). x.stats) a.next
-          ∙ (ap (λ q. stats_with (queues_act k q).0 d.stats) s.queues
+      queues = ap (λ q. (queues_act k q).1) s.queues ∙ sym (state-push queues_act start keys k);
+      stats = ap (λ q. stats_with (queues_act k q).0 d.stats) s.queues
           ∙ (ap (stats_with (queues_act k (state_after_all queues_act start keys)).0) s.stats
           ∙ (sym (stats-snoc (outcomes_of_all queues_act start keys) (queues_act k (state_after_all queues_act start keys)).0)
-          ∙ ap stats_of (sym (outcomes-push queues_act start keys k)))));
+          ∙ ap stats_of (sym (outcomes-push queues_act start keys k))));
     }
 
 pub demand-accesses : (j : Job) (keys : List ℕ) (d : DemandState) → IsDemandAfter j keys d → d.stats.accesses ≡ length keys

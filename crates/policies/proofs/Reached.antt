@@ -1,18 +1,20 @@
 -- What some list of accesses gives, one access further.
-use Rattle.std.proofs.Common.{◌≡◌, ◌≢◌, ℕ, ◌+◌, ◌≤◌, Bool, true, false, ◌==◌, inl, inr, Option, Some, None, Ok, Err, List, [], ◌∷◌, ◌++◌, length, ap, ◌∙◌, sym, refl, arith, subst, length-append, append-nil, add-zero}
+use Rattle.std.proofs.Common.{◌≡◌, ◌≢◌, ℕ, ◌+◌, ◌≤◌, Bool, true, false, inl, inr, Option, Some, None, Ok, Err, List, [], ◌∷◌, ◌++◌, length, ap, ◌∙◌, sym, refl, arith, subst, length-append, append-nil, add-zero}
 use Rattle.std.proofs.lemmas.List.{append_assoc}
-use Rattle.std.proofs.lemmas.Bool.{cases_Bool, eqb-true}
+use Rattle.std.proofs.lemmas.Bool.{cases_Bool}
+use Rattle.std.proofs.lemmas.List.Sums.{count_by-le-length}
 use Rattle.std.proofs.lemmas.Bool.Decides.{nat_tests}
 use Rattle.step_record.specs.declared.config.ConfigFault.TheVariants.{Capacity}
 use Rattle.step_record.specs.declared.config.Config.{Config}
 use Rattle.step_record.specs.declared.job.Job.{Job}
+use Rattle.step_record.specs.declared.limits.TheConstants.{MAX_STEPS}
 use Rattle.step_record.specs.declared.outcome.Outcome.{Outcome}
-use Rattle.step_record.specs.declared.outcome.Outcome.TheVariants.{Hit}
 use Rattle.step_record.specs.declared.stats.Stats.{Stats}
 use Rattle.step_record.specs.Config.{config_fault, is_from_one}
 use Rattle.step_record.specs.Pace.{words_of_halvings}
 use Rattle.step_record.specs.Stats.{stats_of, stats_with, is_hit, is_miss, is_eviction, is_rejection, IsSmall}
 use Rattle.segments.specs.Queues.{Queues, empty_queues}
+use Rattle.step_record.proofs.Limited.{accepted}
 use Rattle.admission.specs.declared.freq_record.FreqRecord.{FreqRecord}
 use Rattle.admission.specs.Shape.{Shape}
 use Rattle.admission.specs.Frequency.{FrequencyData, frequency_of}
@@ -26,11 +28,12 @@ use Rattle.replacement.specs.Table.{Response, access}
 use Rattle.replacement.proofs.Shape.{shape-is}
 use Rattle.segments.specs.Items.{nodeless_item}
 use Rattle.policies.specs.Design.{is_counting, rules_of}
-use Rattle.policies.specs.QueueCache.{QueueState, access_response, queue_state_after, frequency_by, frequency_after, state_from, empty_queue_state, state_after, outcome_after, StandsFor}
-use Rattle.policies.specs.QueueStep.{IsReached, recorded_in, queue_act, FitsCounting, unrecorded, pace_by}
+use Rattle.policies.specs.QueueCache.{QueueState, access_response, queue_state_after, frequency_by, frequency_after, state_from, empty_queue_state, state_after, outcomes_after, outcome_after, StandsFor}
+use Rattle.policies.specs.QueueStep.{IsReached, recorded_in, queue_access, queue_count, queue_act, FitsCounting, unrecorded, pace_by}
 use Rattle.admission.specs.FreqRecord.{size_of}
 use Rattle.policies.specs.QueueFields.{FewHalvings}
-use Rattle.clairvoyant.proofs.Listing.{one-few}
+use Rattle.policies.proofs.Answered.{after-length}
+use Rattle.policies.proofs.Counting.{after-counts}
 
 from-snoc : (j : Job) (past : List ℕ) (d : QueueState) (keys : List ℕ) (k : ℕ) → state_from j past d (keys ++ k ∷ []) ≡ queue_state_after (frequency_after j ((past ++ keys) ++ k ∷ [])) k (state_from j past d keys)
 from-snoc j past d [] k = rw (append-nil past) refl
@@ -61,52 +64,26 @@ pub after-job : (j : Job) (keys : List ℕ) → (state_after j keys).job ≡ j
 unfolding state_after
 after-job j keys = from-job j [] (empty_queue_state j) keys
 
--- each count is within that of the accesses
-record IsSteady (d : QueueState) (n : ℕ) : Type 0 where
-  accesses : d.stats.accesses ≡ n
-  hits : d.stats.hits ≤ n
-  misses : d.stats.misses ≤ n
-  evictions : d.stats.evictions ≤ n
-  rejections : d.stats.rejections ≤ n
+-- its counts are those of its outcomes, one for each access
+stands-counts : (j : Job) (keys : List ℕ) (d : QueueState) → StandsFor j keys d → d.stats ≡ stats_of (outcomes_after j keys)
+stands-counts j keys d s = ap (λ (x : QueueState). x.stats) s.gives ∙ after-counts j keys
 
-steady-step : (f : Option FrequencyData) (k : ℕ) (d : QueueState) (n : ℕ) → IsSteady d n → IsSteady (queue_state_after f k d) (n + 1)
-steady-step f k d n h =
-    let o : Outcome = (access_response f k d).outcome in
-    record {
-      accesses = (let e = h.accesses in omega arith);
-      hits = (let a = h.hits in let b = one-few (is_hit o) in omega arith);
-      misses = (let a = h.misses in let b = one-few (is_miss o) in omega arith);
-      evictions = (let a = h.evictions in let b = one-few (is_eviction o) in omega arith);
-      rejections = (let a = h.rejections in let b = one-few (is_rejection o) in omega arith);
-    }
+pub stands-accesses : (j : Job) (keys : List ℕ) (d : QueueState) → StandsFor j keys d → d.stats.accesses ≡ length keys
+stands-accesses j keys d s = ap (λ (x : Stats). x.accesses) (stands-counts j keys d s) ∙ after-length j keys
 
-from-steady : (j : Job) (past : List ℕ) (d : QueueState) (keys : List ℕ) (n : ℕ) → IsSteady d n → IsSteady (state_from j past d keys) (n + length keys)
-from-steady j past d [] n h = subst (IsSteady d) (omega arith) h
-from-steady j past d (a ∷ keys) n h =
-    subst (IsSteady (state_from j (past ++ a ∷ []) (queue_state_after (frequency_after j (past ++ a ∷ [])) a d) keys)) (omega arith)
-    (from-steady j (past ++ a ∷ []) (queue_state_after (frequency_after j (past ++ a ∷ [])) a d) keys (n + 1) (steady-step (frequency_after j (past ++ a ∷ [])) a d n h))
-
-after-steady : (j : Job) (keys : List ℕ) → IsSteady (state_after j keys) (length keys)
-unfolding state_after
-after-steady j keys =
-    subst (IsSteady (state_from j [] (empty_queue_state j) keys)) (omega arith)
-    (from-steady j [] (empty_queue_state j) keys 0
-    record { accesses = refl; hits = omega arith; misses = omega arith; evictions = omega arith; rejections = omega arith })
-
-reached-steady : (d : QueueState) (r : IsReached d) → IsSteady d (length r.keys)
-reached-steady d r = subst (λ (e : QueueState). IsSteady e (length r.keys)) (sym r.stands.gives) (after-steady d.job r.keys)
+small-of : (os : List Outcome) → length os ≤ MAX_STEPS → IsSmall (stats_of os)
+small-of os few = record {
+  accesses = few;
+  hits = omega (arith, few, count_by-le-length is_hit os);
+  misses = omega (arith, few, count_by-le-length is_miss os);
+  evictions = omega (arith, few, count_by-le-length is_eviction os);
+  rejections = omega (arith, few, count_by-le-length is_rejection os);
+}
 
 pub reached-small : (d : QueueState) → IsReached d → IsSmall d.stats
 reached-small d r =
-    let h = reached-steady d r in
-    let n = r.few in
-    record {
-      accesses = (let a = h.accesses in omega arith);
-      hits = (let a = h.hits in omega arith);
-      misses = (let a = h.misses in omega arith);
-      evictions = (let a = h.evictions in omega arith);
-      rejections = (let a = h.rejections in omega arith);
-    }
+    subst IsSmall (sym (stands-counts d.job r.keys d r.stands))
+    (small-of (outcomes_after d.job r.keys) (omega (arith, r.few, after-length d.job r.keys)))
 
 by-few : (b : Bool) (c : Config) (keys : List ℕ) → 1 ≤ c.capacity → length keys ≤ 4294967296 → FewHalvings (frequency_by b (shape_of c) keys)
 unfolding frequency_of
@@ -139,20 +116,19 @@ stands-frequency j keys k d s =
     ∙ recorded-by (is_counting j.policy) j.config keys k (has-room j.config s.checked)
 
 -- it stands for one access more after a step
-stands-step : (j : Job) (keys : List ℕ) (k : ℕ) (d : QueueState) → StandsFor j keys d → queue_state_after (recorded_in k d.frequency) k d ≡ state_after j (keys ++ k ∷ [])
+pub stands-step : (j : Job) (keys : List ℕ) (k : ℕ) (d : QueueState) → StandsFor j keys d → queue_state_after (recorded_in k d.frequency) k d ≡ state_after j (keys ++ k ∷ [])
 stands-step j keys k d s =
     ap (λ f. queue_state_after f k d) (stands-frequency j keys k d s)
     ∙ (ap (queue_state_after (frequency_after j (keys ++ k ∷ [])) k) s.gives ∙ sym (after-snoc j keys k))
 
-stands-outcome : (j : Job) (keys : List ℕ) (k : ℕ) (d : QueueState) → StandsFor j keys d → (access_response (recorded_in k d.frequency) k d).outcome ≡ outcome_after j keys k
+pub stands-outcome : (j : Job) (keys : List ℕ) (k : ℕ) (d : QueueState) → StandsFor j keys d → (access_response (recorded_in k d.frequency) k d).outcome ≡ outcome_after j keys k
 stands-outcome j keys k d s =
     ap (λ f. (access_response f k d).outcome) (stands-frequency j keys k d s)
     ∙ ap (λ x. (access_response (frequency_after j (keys ++ k ∷ [])) k x).outcome) s.gives
 
 reached-step : (d : QueueState) (k : ℕ) → IsReached d → d.stats.accesses ≢ 4294967296 → IsReached (queue_state_after (recorded_in k d.frequency) k d)
 reached-step d k r below =
-    let n = (reached-steady d r).accesses in
-    let less : length r.keys ≢ 4294967296 = λ h. below (n ∙ h) in
+    let less : length r.keys ≢ 4294967296 = λ h. below (stands-accesses d.job r.keys d r.stands ∙ h) in
     record {
       keys = r.keys ++ k ∷ [];
       stands = record { checked = r.stands.checked; gives = stands-step d.job r.keys k d r.stands };
@@ -187,41 +163,12 @@ pub counting-weighs : (r : FreqRecord) (g : Option FrequencyData) → FitsCounti
 counting-weighs r None h = rw (h, add-zero) refl
 counting-weighs r (Some f) h = weight_falls f r h
 
-answer_in : Option (Outcome × QueueState) → Outcome
-answer_in None = Hit
-answer_in (Some p) = p.0
-
-state_in : QueueState → Option (Outcome × QueueState) → QueueState
-state_in d None = d
-state_in d (Some p) = p.1
-
 -- what an accepted step does is what the list of accesses says
 pub act_stands : (j : Job) (keys : List ℕ) (d : QueueState) (k : ℕ) (o : Outcome) (e : QueueState) → StandsFor j keys d
     → queue_act d k ≡ Some (o, e) → (o ≡ outcome_after j keys k) × StandsFor j (keys ++ k ∷ []) e
-unfolding answer_in state_in
-act_stands j keys d k o e s a =
-    elim (cases_Bool (d.stats.accesses == 4294967296)) [
-      | inl f ↦ absurd (let no : None ≡ Some (o, e) = rw f at a in cc (no))
-      | inr f ↦
-          let b : Some ((access_response (recorded_in k d.frequency) k d).outcome, queue_state_after (recorded_in k d.frequency) k d) ≡ Some (o, e) = rw f at a in (
-            sym (ap answer_in b) ∙ stands-outcome j keys k d s,
-            record {
-              checked = s.checked;
-              gives = sym (ap (state_in d) b) ∙ stands-step j keys k d s;
-            },
-          )
-    ]
-
--- a step is refused only where no more can be counted
-pub act_accepts : (d : QueueState) (k : ℕ) → queue_act d k ≡ None → d.stats.accesses ≡ 4294967296
-act_accepts d k h =
-    elim (cases_Bool (d.stats.accesses == 4294967296)) [
-      | inl f ↦ eqb-true d.stats.accesses 4294967296 f
-      | inr f ↦ absurd (let no : Some ((access_response (recorded_in k d.frequency) k d).outcome, queue_state_after (recorded_in k d.frequency) k d) ≡ None = rw f at h in cc (no))
-    ]
-
-pub stands-accesses : (j : Job) (keys : List ℕ) (d : QueueState) → StandsFor j keys d → d.stats.accesses ≡ length keys
-stands-accesses j keys d s = ap (λ (x : QueueState). x.stats.accesses) s.gives ∙ (after-steady j keys).accesses
+act_stands j keys d k o e s h =
+    let a = accepted queue_count queue_access d k o e h in
+    (a.outcome ∙ stands-outcome j keys k d s, record { checked = s.checked; gives = a.next ∙ stands-step j keys k d s })
 
 uncounted-by : (b : Bool) (s : Shape) (keys : List ℕ) → b ≡ false → frequency_by b s keys ≡ None
 uncounted-by false s keys h = refl

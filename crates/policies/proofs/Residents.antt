@@ -1,12 +1,12 @@
 -- How many keys are resident in a cache of any policy.
-use Rattle.std.proofs.Common.{◌≡◌, ℕ, zero, suc, ◌+◌, ◌≤◌, eqb, nat_lt, ◌==◌, cond, map, Option, Some, None, Result, Ok, Err, List, [], ◌∷◌, length, get_or, ap, ◌∙◌, sym, refl, subst, arith, inl, inr}
+use Rattle.std.proofs.Common.{◌≡◌, ℕ, zero, suc, ◌+◌, ◌≤◌, eqb, nat_lt, true, cond, map, Result, Ok, Err, List, [], ◌∷◌, length, get_or, ap, ◌∙◌, sym, refl, subst, arith, inl, inr}
 use Rattle.std.specs.List.{count_by}
 use Rattle.std.proofs.lemmas.Bool.{cases_Bool}
-use Rattle.step_record.specs.declared.limits.TheConstants.{MAX_STEPS}
 use Rattle.step_record.specs.declared.outcome.Outcome.{Outcome}
 use Rattle.clairvoyant.specs.Clairvoyant.{ClairvoyantState, is_next, clairvoyant_after, clairvoyant_act}
 use Rattle.segments.specs.Queues.{residents_in}
-use Rattle.policies.specs.QueueStep.{recorded_in, queue_act}
+use Rattle.step_record.proofs.Limited.{accepted-in, accepted-where}
+use Rattle.policies.specs.QueueStep.{recorded_in, queue_access, queue_count}
 use Rattle.policies.specs.AnyPolicy.{any_residents, outcomes_by, outcomes_on, stats_on, demand_outcomes, adaptive_outcomes}
 use Rattle.policies.specs.declared.design.Design.{Design}
 use Rattle.policies.specs.declared.design.Design.TheVariants as design
@@ -14,21 +14,21 @@ use Rattle.policies.specs.Design.{demand_policy, design_of}
 use Rattle.std.proofs.lemmas.List.Sums.{sum_by-cons}
 use Rattle.step_record.specs.declared.outcome.Outcome.TheVariants.{Rejected}
 use Rattle.demand_cache.specs.declared.demand_policy.DemandPolicy.{DemandPolicy}
-use Rattle.demand_cache.specs.DemandCache.{demand_act, state_with}
+use Rattle.demand_cache.specs.DemandCache.{demand_access, demand_count}
 use Rattle.demand_cache.specs.DemandQueues.{DemandQueues, queues_act, queues_residents, empty_cache, IsQueues}
 use Rattle.demand_cache.specs.Theorems.{DemandKeeps}
 use Rattle.queue_policies.specs.Residents.{KeepsResidents, state_after_all}
 use Rattle.queue_policies.proofs.Residents.{counts-residents}
-use Rattle.policies.proofs.Demand.{demand-access, demand-holds, demand-is-access, demand-counted, demand-came-from, times-by, kept-after, with-room}
+use Rattle.policies.proofs.Demand.{demand-holds, demand-is-access, demand-counted, demand-came-from, times-by, kept-after, with-room}
 use Rattle.step_record.specs.Config.{config_fault}
 use Rattle.step_record.specs.declared.config.ConfigFault.{ConfigFault}
-use Rattle.adaptive_window.specs.AdaptiveCache.{cache_access, cache_act}
+use Rattle.adaptive_window.specs.AdaptiveCache.{cache_access, cache_count}
 use Rattle.adaptive_window.specs.Residents.{CacheKeeps}
-use Rattle.policies.proofs.Adaptive.{adaptive-access, adaptive-sound, adaptive-counted, adaptive-fit}
+use Rattle.policies.proofs.Adaptive.{adaptive-sound, adaptive-counted, adaptive-fit}
 use Rattle.policies.specs.Theorems.{AnyCoversTrace}
 use Rattle.policies.proofs.Counting.{after-counts, hits-misses}
 use Rattle.step_record.specs.declared.job.Job.{Job}
-use Rattle.policies.specs.AnyCounts.{IsQueueStep, IsOptimalStep, IsDemandStep, IsAdaptiveStep, queue_step, optimal_step, demand_step, adaptive_step}
+use Rattle.policies.specs.AnyCounts.{IsOptimalStep, optimal_step}
 use Rattle.step_record.specs.Keys.{has_key, keys_without}
 use Rattle.step_record.specs.Stats.{is_hit, is_miss, is_eviction, one_if, stats_of}
 use Rattle.step_record.specs.declared.stats.Stats.{Stats}
@@ -38,7 +38,8 @@ use Rattle.clairvoyant.specs.Keys.{residents_with, IsAscendingKeys}
 use Rattle.clairvoyant.proofs.Belady.{residents-ascending, full-length, served-has, hit-resident, residents-fit as belady-residents-fit}
 use Rattle.clairvoyant.proofs.Listing.{one-few, times-sum, times-has}
 use Rattle.clairvoyant.proofs.Keys.{length-put}
-use Rattle.policies.specs.QueueCache.{QueueState, access_response, queue_state_after, state_after}
+use Rattle.policies.specs.QueueCache.{QueueState, state_after}
+use Rattle.policies.specs.declared.any_policy.AnyPolicy.{AnyPolicy}
 use Rattle.policies.specs.declared.any_policy.AnyPolicy.TheVariants.{Queues, Optimal, Demand, Adaptive}
 use Rattle.policies.specs.Residents.{StatsAddUp, MissesFit, ResidentsFit, ResidentsDistinct, ResidentsCounted, HitsAreResidents, FetchesOnDemand}
 use Rattle.replacement.proofs.Residents.{residents-length, resident-queued, resident-once}
@@ -157,83 +158,36 @@ residents_distinct law own j trace keys (Adaptive d) k s = (own j.config j.tunin
 
 -- ---- an accepted step
 
-queue-outcome : Outcome → Option (Outcome × QueueState) → Outcome
-queue-outcome o None = o
-queue-outcome o (Some p) = p.0
-
-queue-state : QueueState → Option (Outcome × QueueState) → QueueState
-queue-state d None = d
-queue-state d (Some p) = p.1
-
-record IsQueueAccess (d : QueueState) (k : ℕ) (o : Outcome) (e : QueueState) : Type 0 where
-  outcome : o ≡ (access_response (recorded_in k d.frequency) k d).outcome
-  next : e ≡ queue_state_after (recorded_in k d.frequency) k d
-
-queue-access : (d : QueueState) (k : ℕ) (o : Outcome) (e : QueueState) → queue_act d k ≡ Some (o, e) → IsQueueAccess d k o e
-unfolding queue-outcome queue-state
-queue-access d k o e h =
-    elim (cases_Bool (d.stats.accesses == MAX_STEPS)) [
-      | inl f ↦ absurd (let no : None ≡ Some (o, e) = rw f at h in cc (no))
-      | inr f ↦
-          let b : Some ((access_response (recorded_in k d.frequency) k d).outcome, queue_state_after (recorded_in k d.frequency) k d) ≡ Some (o, e) = rw f at h in
-          record { outcome = sym (ap (queue-outcome o) b); next = sym (ap (queue-state d) b) }
-    ]
-
-optimal-outcome : Outcome → Option (Outcome × ClairvoyantState) → Outcome
-optimal-outcome o None = o
-optimal-outcome o (Some p) = p.0
-
-optimal-state : ClairvoyantState → Option (Outcome × ClairvoyantState) → ClairvoyantState
-optimal-state d None = d
-optimal-state d (Some p) = p.1
-
-record IsOptimalAccess (d : ClairvoyantState) (k : ℕ) (o : Outcome) (e : ClairvoyantState) : Type 0 where
-  outcome : o ≡ belady_answer d.capacity d.trace d.stats.accesses k d.residents
-  next : e ≡ clairvoyant_after d k
-
-optimal-access : (d : ClairvoyantState) (k : ℕ) (o : Outcome) (e : ClairvoyantState) → clairvoyant_act d k ≡ Some (o, e) → IsOptimalAccess d k o e
-unfolding optimal-outcome optimal-state
-optimal-access d k o e h =
-    elim (cases_Bool (is_next d k)) [
-      | inl f ↦
-          let b : Some (belady_answer d.capacity d.trace d.stats.accesses k d.residents, clairvoyant_after d k) ≡ Some (o, e) = rw f at h in
-          record { outcome = sym (ap (optimal-outcome o) b); next = sym (ap (optimal-state d) b) }
-      | inr f ↦ absurd (let no : None ≡ Some (o, e) = rw f at h in cc (no))
-    ]
+abbrev optimal-access : (d : ClairvoyantState) (k : ℕ) → Outcome × ClairvoyantState
+optimal-access d k = (belady_answer d.capacity d.trace d.stats.accesses k d.residents, clairvoyant_after d k)
 
 pub hits_are_residents : DemandKeeps → CacheKeeps → HitsAreResidents
 hits_are_residents law own j trace keys (Queues d) k o e s h =
     let sound : IsBalancedCache d = subst IsBalancedCache (sym s.1.gives) (after-balanced j keys) in
-    let q : IsQueueStep (queue_act d k) o e = queue_step (queue_act d k) o e h in
-    ap is_hit (queue-access d k o q.next q.steps).outcome ∙ ((step-balanced (recorded_in k d.frequency) k d sound).hit ∙ sym (resident-queued k d.queues sound.nodeless))
+    ap is_hit (accepted-in queue_count queue_access Queues d k o e h).outcome ∙ ((step-balanced (recorded_in k d.frequency) k d sound).hit ∙ sym (resident-queued k d.queues sound.nodeless))
 hits_are_residents law own j trace keys (Optimal d) k o e s h =
     let q : IsOptimalStep (clairvoyant_act d k) o e = optimal_step (clairvoyant_act d k) o e h in
-    ap is_hit (optimal-access d k o q.next q.steps).outcome ∙ hit-resident d.capacity d.trace d.stats.accesses k d.residents
+    ap is_hit (accepted-where (is_next d k) (optimal-access d k) o q.next q.steps).outcome ∙ hit-resident d.capacity d.trace d.stats.accesses k d.residents
 hits_are_residents law own j trace keys (Demand d) k o e s h =
-    let q : IsDemandStep (demand_act d k) o e = demand_step (demand_act d k) o e h in
-    ap is_hit (demand-access d k o q.next q.steps).outcome ∙ (demand-is-access law j keys d k s).hits
+    ap is_hit (accepted-in demand_count demand_access Demand d k o e h).outcome ∙ (demand-is-access law j keys d k s).hits
 hits_are_residents law own j trace keys (Adaptive d) k o e s h =
-    let q : IsAdaptiveStep (cache_act d k) o e = adaptive_step (cache_act d k) o e h in
-    ap is_hit (adaptive-access d k o q.next q.steps).outcome
+    ap is_hit (accepted-in cache_count cache_access Adaptive d k o e h).outcome
     ∙ ((own j.config j.tuning.period s.checked).accesses k d (adaptive-sound own j keys d s)).hits
+
+there-in : (x : ℕ) {d e : AnyPolicy} → d ≡ e → has_key x (any_residents e) ≡ true → has_key x (any_residents d) ≡ true
+there-in x same there = ap (λ y. has_key x (any_residents y)) same ∙ there
 
 pub fetches_on_demand : DemandKeeps → CacheKeeps → FetchesOnDemand
 fetches_on_demand law own j trace keys (Queues d) k o e x s h there =
     let sound : IsBalancedCache d = subst IsBalancedCache (sym s.1.gives) (after-balanced j keys) in
-    let q : IsQueueStep (queue_act d k) o e = queue_step (queue_act d k) o e h in
-    let next : e ≡ Queues (queue_state_after (recorded_in k d.frequency) k d) = q.is ∙ ap Queues (queue-access d k o q.next q.steps).next in
-    came-from (recorded_in k d.frequency) k x d sound (ap (λ y. has_key x (any_residents y)) (sym next) ∙ there)
+    came-from (recorded_in k d.frequency) k x d sound (there-in x (sym (accepted-in queue_count queue_access Queues d k o e h).next) there)
 fetches_on_demand law own j trace keys (Optimal d) k o e x s h there =
     let q : IsOptimalStep (clairvoyant_act d k) o e = optimal_step (clairvoyant_act d k) o e h in
-    let next : e ≡ Optimal (clairvoyant_after d k) = q.is ∙ ap Optimal (optimal-access d k o q.next q.steps).next in
-    served-has d.capacity d.trace d.stats.accesses k x d.residents (ap (λ y. has_key x (any_residents y)) (sym next) ∙ there)
+    let next : e ≡ Optimal (clairvoyant_after d k) = q.is ∙ ap Optimal (accepted-where (is_next d k) (optimal-access d k) o q.next q.steps).next in
+    served-has d.capacity d.trace d.stats.accesses k x d.residents (there-in x (sym next) there)
 fetches_on_demand law own j trace keys (Demand d) k o e x s h there =
-    let q : IsDemandStep (demand_act d k) o e = demand_step (demand_act d k) o e h in
-    let next : e ≡ Demand (state_with d.stats (queues_act k d.queues)) = q.is ∙ ap Demand (demand-access d k o q.next q.steps).next in
     demand-came-from j.config.capacity k x (queues_residents d.queues) (queues_act k d.queues).0 (queues_residents (queues_act k d.queues).1)
-    (demand-is-access law j keys d k s) (ap (λ y. has_key x (any_residents y)) (sym next) ∙ there)
+    (demand-is-access law j keys d k s) (there-in x (sym (accepted-in demand_count demand_access Demand d k o e h).next) there)
 fetches_on_demand law own j trace keys (Adaptive d) k o e x s h there =
-    let q : IsAdaptiveStep (cache_act d k) o e = adaptive_step (cache_act d k) o e h in
-    let next : e ≡ Adaptive (cache_access k d).1 = q.is ∙ ap Adaptive (adaptive-access d k o q.next q.steps).next in
     ((own j.config j.tuning.period s.checked).accesses k d (adaptive-sound own j keys d s)).came x
-    (ap (λ y. has_key x (any_residents y)) (sym next) ∙ there)
+    (there-in x (sym (accepted-in cache_count cache_access Adaptive d k o e h).next) there)

@@ -1,7 +1,8 @@
 -- What a cache of any policy stands for.
-use Rattle.std.proofs.Common.{◌≡◌, ℕ, Bool, true, false, suc, ◌+◌, ◌<◌, Option, Some, None, List, [], ◌∷◌, ◌++◌, length, take, get_or, ap, ◌∙◌, sym, refl, arith, subst, length-append}
+use Rattle.std.proofs.Common.{◌≡◌, ℕ, Bool, true, false, suc, ◌+◌, ◌<◌, ◌≤◌, Option, Some, None, List, [], ◌∷◌, ◌++◌, length, take, get_or, ap, ◌∙◌, sym, refl, arith, subst, length-append}
 use Rattle.std.proofs.lemmas.List.{take_more}
 use Rattle.step_record.specs.Config.{config_fault}
+use Rattle.step_record.specs.declared.limits.TheConstants.{MAX_STEPS}
 use Rattle.step_record.specs.declared.job.Job.{Job}
 use Rattle.step_record.specs.declared.outcome.Outcome.{Outcome}
 use Rattle.step_record.specs.declared.outcome.Outcome.TheVariants.{Hit}
@@ -11,27 +12,28 @@ use Rattle.clairvoyant.specs.Theorems.{ClairvoyantStepLaw, ClairvoyantAccepts}
 use Rattle.clairvoyant.specs.Clairvoyant.{ClairvoyantState, clairvoyant_at, clairvoyant_act}
 use Rattle.policies.specs.declared.any_policy.AnyPolicy.TheVariants.{Queues, Optimal, Demand, Adaptive}
 use Rattle.policies.specs.QueueCache.{QueueState, outcomes_after}
-use Rattle.policies.specs.QueueStep.{queue_act}
-use Rattle.demand_cache.specs.DemandCache.{DemandState, demand_act}
+use Rattle.step_record.specs.Limited.{lifted}
+use Rattle.step_record.proofs.Limited.{accepted-in, refused-in}
+use Rattle.policies.specs.QueueStep.{queue_access, queue_count}
+use Rattle.demand_cache.specs.DemandCache.{demand_access, demand_count}
 use Rattle.demand_cache.specs.DemandQueues.{queues_act, empty_cache}
 use Rattle.demand_cache.specs.Theorems.{DemandKeeps, HitsAskNothing, AsksWhereOneLeft}
 use Rattle.queue_policies.specs.Residents.{outcomes_of_all}
-use Rattle.adaptive_window.specs.AdaptiveCache.{AdaptiveCacheState, cache_access, cache_act}
+use Rattle.adaptive_window.specs.AdaptiveCache.{cache_access, cache_count}
 use Rattle.adaptive_window.specs.Residents.{CacheKeeps, CacheHitsAskNothing, CacheAsksWhereOneLeft}
 use Rattle.policies.specs.declared.design.Design.{Design}
 use Rattle.policies.specs.declared.design.Design.TheVariants as design
 use Rattle.policies.specs.Design.{demand_policy, design_of, is_of_queues, is_optimal}
 use Rattle.policies.specs.AnyPolicy.{stats_on, outcomes_by, adaptive_start, demand_run, IsBeladyAt}
-use Rattle.policies.specs.AnyStep.{as_queues, as_optimal, as_demand, as_adaptive}
-use Rattle.policies.specs.AnyCounts.{IsQueueStep, IsOptimalStep, IsDemandStep, IsAdaptiveStep, queue_step, optimal_step, demand_step, adaptive_step}
+use Rattle.policies.specs.AnyCounts.{IsOptimalStep, optimal_step}
 use Rattle.policies.specs.Theorems.{AnyStepLaw, AnyAccepts, AnyIsOne, AnyReports, AnyAnswers, AnyCoversTrace, AnyHitsKeepAll, AnyRecordsShowOutcome, AnyAsksWhereOneLeft}
 use Rattle.clairvoyant.proofs.Records.{outcome-is}
-use Rattle.policies.proofs.Leaving.{hits_keep_all, queue-asks-evicts, act-answers}
+use Rattle.policies.proofs.Leaving.{hit-keeps-all, queue-asks-evicts}
 use Rattle.policies.proofs.Counting.{after-counts}
 use Rattle.policies.proofs.Answered.{after-answers, after-length, at-answers, outcomes-length}
-use Rattle.policies.proofs.Demand.{demand-access, demand_stands, demand-refused, demand-accesses, demand-one, outcomes-at, with-room, demand-room, demand-long, demand-sound}
-use Rattle.policies.proofs.Adaptive.{adaptive-access, adaptive-refused, adaptive_stands, adaptive-stats, adaptive-accesses, adaptive-sound, when-checked, adaptive-long}
-use Rattle.policies.proofs.Reached.{act_stands, act_accepts, stands-accesses}
+use Rattle.policies.proofs.Demand.{demand_stands, demand-accesses, demand-one, outcomes-at, with-room, demand-room, demand-long, demand-sound}
+use Rattle.policies.proofs.Adaptive.{adaptive_stands, adaptive-stats, adaptive-accesses, adaptive-sound, when-checked, adaptive-long}
+use Rattle.policies.proofs.Reached.{stands-step, stands-outcome, stands-accesses}
 
 -- a cache that knows the trace, at its place
 record IsAtPlace (j : Job) (trace keys : List ℕ) (d : ClairvoyantState) : Type 0 where
@@ -73,44 +75,33 @@ optimal_stands law j trace keys d k o e s h =
 
 pub any_step_law : ClairvoyantStepLaw → AnyStepLaw
 any_step_law law j trace keys (Queues d) k o e s h =
-    let q : IsQueueStep (queue_act d k) o e = queue_step (queue_act d k) o e h in
-    rw q.is (s.0, (act_stands j keys d k o q.next s.1 q.steps).1)
+    let a = accepted-in queue_count queue_access Queues d k o e h in
+    rw a.next (s.0, record { checked = s.1.checked; gives = stands-step j keys k d s.1 })
 any_step_law law j trace keys (Optimal d) k o e s h =
     let q : IsOptimalStep (clairvoyant_act d k) o e = optimal_step (clairvoyant_act d k) o e h in
     rw q.is (optimal_stands law j trace keys d k o q.next s q.steps)
 any_step_law law j trace keys (Demand d) k o e s h =
-    let q : IsDemandStep (demand_act d k) o e = demand_step (demand_act d k) o e h in
-    rw q.is (demand_stands j keys d k o q.next s q.steps)
+    let a = accepted-in demand_count demand_access Demand d k o e h in rw a.next (demand_stands j keys d k s)
 any_step_law law j trace keys (Adaptive d) k o e s h =
-    let q : IsAdaptiveStep (cache_act d k) o e = adaptive_step (cache_act d k) o e h in
-    rw q.is (adaptive_stands j keys d k o q.next s q.steps)
+    let a = accepted-in cache_count cache_access Adaptive d k o e h in rw a.next (adaptive_stands j keys d k s)
 
 at-length : (keys rest : List ℕ) (k : ℕ) → get_or (keys ++ k ∷ rest) (length keys) 0 ≡ k
 at-length [] rest k = refl
 at-length (a ∷ keys) rest k = at-length keys rest k
 
-no-queues : (x : Option (Outcome × QueueState)) → as_queues x ≡ None → x ≡ None
-no-queues None h = refl
-no-queues (Some p) h = absurd (cc (h))
-
-no-optimal : (x : Option (Outcome × ClairvoyantState)) → as_optimal x ≡ None → x ≡ None
+no-optimal : (x : Option (Outcome × ClairvoyantState)) → lifted Optimal x ≡ None → x ≡ None
 no-optimal None h = refl
 no-optimal (Some p) h = absurd (cc (h))
 
-no-demand : (x : Option (Outcome × DemandState)) → as_demand x ≡ None → x ≡ None
-no-demand None h = refl
-no-demand (Some p) h = absurd (cc (h))
-
-no-adaptive : (x : Option (Outcome × AdaptiveCacheState)) → as_adaptive x ≡ None → x ≡ None
-no-adaptive None h = refl
-no-adaptive (Some p) h = absurd (cc (h))
+-- a cache that made fewer accesses than the trace has is not at its last
+has-left : (trace keys rest : List ℕ) (k n : ℕ) → trace ≡ keys ++ k ∷ rest → length trace ≤ MAX_STEPS → n ≡ length keys → n ≡ MAX_STEPS → ⊥
+has-left trace keys rest k n t few made all =
+    let l : length trace ≡ length keys + length (k ∷ rest) = ap length t ∙ length-append keys (k ∷ rest) in
+    omega (arith, made, all, l, few)
 
 pub any_accepts : ClairvoyantAccepts → AnyAccepts
 any_accepts law j trace keys rest k (Queues d) t few s h =
-    let n : d.stats.accesses ≡ length keys = stands-accesses j keys d s.1 in
-    let e : d.stats.accesses ≡ 4294967296 = act_accepts d k (no-queues (queue_act d k) h) in
-    let l : length trace ≡ length keys + length (k ∷ rest) = ap length t ∙ length-append keys (k ∷ rest) in
-    omega (arith, n, e, l, few)
+    has-left trace keys rest k d.stats.accesses t few (stands-accesses j keys d s.1) (refused-in queue_count queue_access Queues d k h)
 any_accepts law j trace keys rest k (Optimal d) t few s h =
     let p : IsAtPlace j trace keys d = at_place j trace keys d s in
     let l : length trace ≡ length keys + length (k ∷ rest) = ap length t ∙ length-append keys (k ∷ rest) in
@@ -121,15 +112,9 @@ any_accepts law j trace keys rest k (Optimal d) t few s h =
     let none : clairvoyant_act d k ≡ None = no-optimal (clairvoyant_act d k) h in
     law d (omega (arith, l, long, place)) (omega (arith, long, few)) (subst (λ x. clairvoyant_act d x ≡ None) (sym key) none)
 any_accepts law j trace keys rest k (Demand d) t few s h =
-    let n : d.stats.accesses ≡ length keys = demand-accesses j keys d s in
-    let e : d.stats.accesses ≡ 4294967296 = demand-refused d k (no-demand (demand_act d k) h) in
-    let l : length trace ≡ length keys + length (k ∷ rest) = ap length t ∙ length-append keys (k ∷ rest) in
-    omega (arith, n, e, l, few)
+    has-left trace keys rest k d.stats.accesses t few (demand-accesses j keys d s) (refused-in demand_count demand_access Demand d k h)
 any_accepts law j trace keys rest k (Adaptive d) t few s h =
-    let n : d.stats.accesses ≡ length keys = adaptive-accesses j keys d s in
-    let e : d.stats.accesses ≡ 4294967296 = adaptive-refused d k (no-adaptive (cache_act d k) h) in
-    let l : length trace ≡ length keys + length (k ∷ rest) = ap length t ∙ length-append keys (k ∷ rest) in
-    omega (arith, n, e, l, few)
+    has-left trace keys rest k d.stats.accesses t few (adaptive-accesses j keys d s) (refused-in cache_count cache_access Adaptive d k h)
 
 -- no design is of queues and knows the trace
 apart-kinds : (x : Design) → is_of_queues x ≡ true → is_optimal x ≡ true → ⊥
@@ -203,8 +188,8 @@ any_covers_trace j trace = covers-by (design_of j.policy) j trace
 
 pub any_answers : ClairvoyantStepLaw → AnyAnswers
 any_answers law j trace keys rest k (Queues d) o e x t s h =
-    let q : IsQueueStep (queue_act d k) o e = queue_step (queue_act d k) o e h in
-    (act_stands j keys d k o q.next s.1 q.steps).0 ∙ sym (after-answers j keys rest k x)
+    (accepted-in queue_count queue_access Queues d k o e h).outcome ∙ stands-outcome j keys k d s.1
+    ∙ sym (after-answers j keys rest k x)
     ∙ ap (λ l. get_or (outcomes_after j l) (length keys) x) (sym t)
     ∙ ap (λ os. get_or os (length keys) x) (sym (outcomes-of-queues (design_of j.policy) j trace s.0))
 any_answers law j trace keys rest k (Optimal d) o e x t s h =
@@ -217,17 +202,15 @@ any_answers law j trace keys rest k (Optimal d) o e x t s h =
     place ∙ sym (at-answers j.config.capacity trace (length trace) (length keys) x (omega (arith, l)))
     ∙ ap (λ os. get_or os (length keys) x) (sym (outcomes-of-optimal (design_of j.policy) j trace s.policy))
 any_answers law j trace keys rest k (Demand d) o e x t s h =
-    let q : IsDemandStep (demand_act d k) o e = demand_step (demand_act d k) o e h in
     let start = empty_cache (demand_policy s.kind j) j.config.capacity in
-    (demand-access d k o q.next q.steps).outcome
+    (accepted-in demand_count demand_access Demand d k o e h).outcome
     ∙ ap (λ z. (queues_act k z).0) s.queues
     ∙ sym (outcomes-at queues_act start keys rest k x)
     ∙ ap (λ l. get_or (demand_run (demand_policy s.kind j) j.config.capacity l) (length keys) x) (sym t)
     ∙ ap (λ os. get_or os (length keys) x) (sym (with-room (demand_policy s.kind j) j.config.capacity trace (demand-room j keys d s)))
     ∙ ap (λ z. get_or (outcomes_by z j trace) (length keys) x) (sym s.design)
 any_answers law j trace keys rest k (Adaptive d) o e x t s h =
-    let q : IsAdaptiveStep (cache_act d k) o e = adaptive_step (cache_act d k) o e h in
-    (adaptive-access d k o q.next q.steps).outcome
+    (accepted-in cache_count cache_access Adaptive d k o e h).outcome
     ∙ ap (λ z. (cache_access k z).0) s.gives
     ∙ sym (outcomes-at cache_access (adaptive_start j) keys rest k x)
     ∙ ap (λ l. get_or (outcomes_of_all cache_access (adaptive_start j) l) (length keys) x) (sym t)
@@ -238,43 +221,34 @@ any_answers law j trace keys rest k (Adaptive d) o e x t s h =
 
 pub any_records_show_outcome : ClairvoyantStepLaw → AnyRecordsShowOutcome
 any_records_show_outcome law j trace keys (Queues d) k o e s h =
-    let q : IsQueueStep (queue_act d k) o e = queue_step (queue_act d k) o e h in
-    act-answers d k o q.next q.steps
+    sym (accepted-in queue_count queue_access Queues d k o e h).outcome
 any_records_show_outcome law j trace keys (Optimal d) k o e s h =
     let q : IsOptimalStep (clairvoyant_act d k) o e = optimal_step (clairvoyant_act d k) o e h in
     let p : IsAtPlace j trace keys d = at_place j trace keys d s in
     outcome-is d.capacity d.trace d.stats.accesses ∙ sym (law d k o q.next p.here q.steps).2
 any_records_show_outcome law j trace keys (Demand d) k o e s h =
-    let q : IsDemandStep (demand_act d k) o e = demand_step (demand_act d k) o e h in
-    sym (demand-access d k o q.next q.steps).outcome
+    sym (accepted-in demand_count demand_access Demand d k o e h).outcome
 any_records_show_outcome law j trace keys (Adaptive d) k o e s h =
-    let q : IsAdaptiveStep (cache_act d k) o e = adaptive_step (cache_act d k) o e h in
-    sym (adaptive-access d k o q.next q.steps).outcome
+    sym (accepted-in cache_count cache_access Adaptive d k o e h).outcome
 
 -- undoing a hit asks for no room
 
 pub any_hits_keep_all : HitsAskNothing → CacheHitsAskNothing → AnyHitsKeepAll
-any_hits_keep_all law own (Queues d) k e h =
-    let q : IsQueueStep (queue_act d k) Hit e = queue_step (queue_act d k) Hit e h in
-    λ asks. asks (hits_keep_all d k q.next q.steps)
+any_hits_keep_all law own (Queues d) k e h = λ asks.
+    asks (hit-keeps-all d k (sym (accepted-in queue_count queue_access Queues d k Hit e h).outcome))
 any_hits_keep_all law own (Optimal d) k e h = λ asks. asks
 any_hits_keep_all law own (Demand d) k e h =
-    let q : IsDemandStep (demand_act d k) Hit e = demand_step (demand_act d k) Hit e h in
-    law k d.queues (sym (demand-access d k Hit q.next q.steps).outcome)
+    law k d.queues (sym (accepted-in demand_count demand_access Demand d k Hit e h).outcome)
 any_hits_keep_all law own (Adaptive d) k e h =
-    let q : IsAdaptiveStep (cache_act d k) Hit e = adaptive_step (cache_act d k) Hit e h in
-    own k d (sym (adaptive-access d k Hit q.next q.steps).outcome)
+    own k d (sym (accepted-in cache_count cache_access Adaptive d k Hit e h).outcome)
 
 pub any_asks_where_one_left : DemandKeeps → AsksWhereOneLeft → CacheKeeps → CacheAsksWhereOneLeft → AnyAsksWhereOneLeft
 any_asks_where_one_left keeps law kept own j trace keys (Queues d) k o e s h asks =
-    let q : IsQueueStep (queue_act d k) o e = queue_step (queue_act d k) o e h in
-    ap is_eviction (sym (act-answers d k o q.next q.steps)) ∙ queue-asks-evicts j keys d k s.1 asks
+    ap is_eviction (accepted-in queue_count queue_access Queues d k o e h).outcome ∙ queue-asks-evicts j keys d k s.1 asks
 any_asks_where_one_left keeps law kept own j trace keys (Optimal d) k o e s h asks = absurd asks
 any_asks_where_one_left keeps law kept own j trace keys (Demand d) k o e s h asks =
-    let q : IsDemandStep (demand_act d k) o e = demand_step (demand_act d k) o e h in
-    ap is_eviction (demand-access d k o q.next q.steps).outcome
+    ap is_eviction (accepted-in demand_count demand_access Demand d k o e h).outcome
     ∙ law j.config.capacity k d.queues (demand-sound keeps j keys d s) asks
 any_asks_where_one_left keeps law kept own j trace keys (Adaptive d) k o e s h asks =
-    let q : IsAdaptiveStep (cache_act d k) o e = adaptive_step (cache_act d k) o e h in
-    ap is_eviction (adaptive-access d k o q.next q.steps).outcome
+    ap is_eviction (accepted-in cache_count cache_access Adaptive d k o e h).outcome
     ∙ own j.config.capacity k d (adaptive-sound kept j keys d s) asks

@@ -1,43 +1,27 @@
 -- How one access changes what a cache of any policy shows, and how its undo record undoes it: by the policy's own
 -- engine.
-use Rattle.std.specs.Prelude.{ℕ, Option, Some, None}
+use Rattle.std.specs.Prelude.{ℕ, Option}
 use Rattle.step_record.specs.declared.outcome.Outcome.{Outcome}
 use Rattle.step_record.specs.Pace.{Pace, pace_without_sketch}
-use Rattle.adaptive_window.specs.AdaptiveCache.{AdaptiveCacheState, cache_act, cache_record_of, cache_undone, cache_asks}
+use Rattle.step_record.specs.Limited.{lifted}
+use Rattle.adaptive_window.specs.AdaptiveCache.{cache_act, cache_record_of, cache_undone, cache_asks}
 use Rattle.adaptive_window.specs.AdaptiveCache.{cache_may_ask, cache_words, cache_pace, CacheFits}
-use Rattle.clairvoyant.specs.Clairvoyant.{ClairvoyantState, clairvoyant_act}
+use Rattle.clairvoyant.specs.Clairvoyant.{clairvoyant_act}
 use Rattle.clairvoyant.specs.OptimalRecord.{outcome_of, record_at, clairvoyant_undone, ClairvoyantFits}
-use Rattle.demand_cache.specs.DemandCache.{DemandState, DemandFits}
+use Rattle.demand_cache.specs.DemandCache.{DemandFits}
 use Rattle.demand_cache.specs.DemandCache.{demand_act, demand_record_of, demand_may_ask, demand_undone, demand_asks}
 use Rattle.policies.specs.declared.any_policy.AnyPolicy.{AnyPolicy}
 use Rattle.policies.specs.declared.any_policy.AnyPolicy.TheVariants.{Queues, Optimal, Demand, Adaptive}
 use Rattle.policies.specs.declared.any_policy.AnyRecord.{AnyRecord}
 use Rattle.policies.specs.declared.any_policy.AnyRecord.TheVariants as done
-use Rattle.policies.specs.QueueCache.{QueueState}
 use Rattle.policies.specs.QueueStep.{queue_act, queue_record_of, queue_undone, queue_asks, QueueFits}
 use Rattle.policies.specs.QueueStep.{queue_may_ask, queue_words, queue_pace}
 
-abbrev pub as_queues : Option (Outcome × QueueState) → Option (Outcome × AnyPolicy)
-as_queues None = None
-as_queues (Some p) = Some (p.0, Queues p.1)
-
-abbrev pub as_optimal : Option (Outcome × ClairvoyantState) → Option (Outcome × AnyPolicy)
-as_optimal None = None
-as_optimal (Some p) = Some (p.0, Optimal p.1)
-
-abbrev pub as_demand : Option (Outcome × DemandState) → Option (Outcome × AnyPolicy)
-as_demand None = None
-as_demand (Some p) = Some (p.0, Demand p.1)
-
-abbrev pub as_adaptive : Option (Outcome × AdaptiveCacheState) → Option (Outcome × AnyPolicy)
-as_adaptive None = None
-as_adaptive (Some p) = Some (p.0, Adaptive p.1)
-
 abbrev pub any_act : AnyPolicy → ℕ → Option (Outcome × AnyPolicy)
-any_act (Queues d) k = as_queues (queue_act d k)
-any_act (Optimal d) k = as_optimal (clairvoyant_act d k)
-any_act (Demand d) k = as_demand (demand_act d k)
-any_act (Adaptive d) k = as_adaptive (cache_act d k)
+any_act (Queues d) k = lifted Queues (queue_act d k)
+any_act (Optimal d) k = lifted Optimal (clairvoyant_act d k)
+any_act (Demand d) k = lifted Demand (demand_act d k)
+any_act (Adaptive d) k = lifted Adaptive (cache_act d k)
 
 -- the record of an access to k, from the cache before it
 abbrev pub any_record_of : ℕ → AnyPolicy → AnyRecord

@@ -1,9 +1,10 @@
 -- How one access changes what a cache of queues shows, its undo record, and how the record undoes it.
-use Rattle.std.specs.Prelude.{◌≡◌, ◌≢◌, ◌⊎◌, ℕ, ◌≤◌, ◌==◌, true, if◌then◌else◌, Option, Some, None, List, length}
+use Rattle.std.specs.Prelude.{◌≡◌, ◌≢◌, ◌⊎◌, ℕ, ◌≤◌, true, Option, Some, None, List, length}
 use Rattle.step_record.specs.declared.limits.TheConstants.{MAX_STEPS}
 use Rattle.step_record.specs.declared.outcome.Outcome.{Outcome}
 use Rattle.step_record.specs.Stats.{stats_without, IsCounted}
 use Rattle.step_record.specs.Pace.{Pace, pace_without_sketch}
+use Rattle.step_record.specs.Limited.{limited}
 use Rattle.admission.specs.declared.freq_record.FreqRecord.{FreqRecord}
 use Rattle.admission.specs.Frequency.{FrequencyData, frequency_with, halves, pace_of as frequency_pace}
 use Rattle.admission.specs.declared.freq_record.FreqRecord.TheVariants.{Nothing}
@@ -27,15 +28,19 @@ abbrev pub recorded_in : ℕ → Option FrequencyData → Option FrequencyData
 recorded_in k None = None
 recorded_in k (Some f) = Some (frequency_with k f)
 
--- An access records its key, then moves. None is accepted after MAX_STEPS.
+-- an access records its key, then moves
+abbrev pub queue_access : ℕ → QueueState → Outcome × QueueState
+queue_access k d = (
+  (access_response (recorded_in k d.frequency) k d).outcome,
+  queue_state_after (recorded_in k d.frequency) k d,
+)
+
+abbrev pub queue_count : QueueState → ℕ
+queue_count d = d.stats.accesses
+
+-- none is accepted after MAX_STEPS
 abbrev pub queue_act : QueueState → ℕ → Option (Outcome × QueueState)
-queue_act d k =
-    if d.stats.accesses == MAX_STEPS
-    then None
-    else Some (
-      (access_response (recorded_in k d.frequency) k d).outcome,
-      queue_state_after (recorded_in k d.frequency) k d,
-    )
+queue_act d k = limited queue_count queue_access d k
 
 -- the next key brings a halving, whose undo record takes memory
 abbrev pub FillsSample : Option FrequencyData → Type 0

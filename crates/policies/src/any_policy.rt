@@ -194,10 +194,9 @@ fn access_alone<C>(cache: &mut DemandCache, key: Key) -> Result<Outcome, StepFau
 }
 
 impl Engine for AnyPolicy {
-    ghost use Rattle.policies.specs.AnyPolicy.{stats_in};
     ghost use Rattle.policies.specs.AnyStep.{any_act, any_record_of, MayAllocate, any_undone, any_asks, AnyFits};
     ghost use Rattle.policies.specs.AnyStep.{any_words, any_pace};
-    ghost use Rattle.policies.specs.AnyCounts.{any_counts, any_ends, any_paced};
+    ghost use Rattle.policies.specs.AnyCounts.{any_count, any_counts, any_ends, any_paced};
 
     type Step = Key;
 
@@ -222,7 +221,7 @@ impl Engine for AnyPolicy {
 
     ghost asks = { any_asks };
 
-    ghost count = { λ d. (stats_in d).accesses };
+    ghost count = { any_count };
 
     ghost words_of = { any_words };
 

@@ -189,9 +189,12 @@ impl<P: Drop> QueueCache<P> {
 }
 
 impl<P: Drop> Engine for QueueCache<P> {
+    ghost use Rattle.std.specs.Prelude.{refl};
+    ghost use Rattle.step_record.specs.Pace.{IsPaced};
+    ghost use Rattle.step_record.proofs.Limited.{related, ended};
     ghost use Rattle.policies.specs.QueueStep.{queue_act, queue_record_of, queue_undone, queue_asks, QueueFits};
-    ghost use Rattle.policies.specs.QueueStep.{queue_may_ask, queue_words, queue_pace};
-    ghost use Rattle.policies.specs.QueueCounts.{act_counts, act_ends, act_paced};
+    ghost use Rattle.policies.specs.QueueStep.{queue_access, queue_count, queue_may_ask, queue_words, queue_pace};
+    ghost use Rattle.policies.specs.QueuePace.{paced-by};
 
     type Step = Key;
 
@@ -215,7 +218,7 @@ impl<P: Drop> Engine for QueueCache<P> {
 
     ghost asks = { queue_asks };
 
-    ghost count = { λ d. d.stats.accesses };
+    ghost count = { queue_count };
 
     ghost words_of = { queue_words };
 
@@ -264,11 +267,12 @@ impl<P: Drop> Engine for QueueCache<P> {
         done.counting.words()
     }
 
-    ghost counted = { act_counts };
+    ghost counted = { related queue_count queue_access (λ d e. queue_count e ≡ queue_count d + 1) (λ k d. refl) };
 
-    ghost counted_out = { act_ends };
+    ghost counted_out = { ended queue_count queue_access };
 
-    ghost paced = { act_paced };
+    ghost paced = { related queue_count queue_access (λ d e. IsPaced (queue_pace d) (queue_pace e))
+        (λ k d. paced-by k d.frequency) };
 }
 
 // The caller of an access that keeps its undo record. The code of an access stands in the program once for each type of

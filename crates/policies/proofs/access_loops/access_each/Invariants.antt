@@ -1,10 +1,8 @@
-use Rattle.std.proofs.Common.{ℕ, List, ◌++◌, take, ◌≡◌}
-use Rattle.step_record.specs.declared.job.Job.{Job}
+use Rattle.std.proofs.Common.{◌≡◌}
 use Rattle.policies.specs.declared.any_policy.AnyPolicy.TheVariants.{Queues}
-use Rattle.policies.specs.AnyPolicy.{HasAccessed}
+use Rattle.policies.proofs.Stretches.{HasMade}
 use Rattle.policies.proofs.access_loops.access_each.Given as goal
 
 abbrev pub invariant-loop-i : goal.invariant-loop-i
 invariant-loop-i g l =
-    (l.cache.job ≡ l.initial.cache.job)
-    × ((j : Job) (trace done : List ℕ) → HasAccessed j trace done (Queues l.initial.cache) → HasAccessed j trace (done ++ take l.i l.keys) (Queues l.cache))
+    (l.cache.job ≡ l.initial.cache.job) × HasMade l.keys l.i (Queues l.initial.cache) (Queues l.cache)

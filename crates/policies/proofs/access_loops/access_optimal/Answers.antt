@@ -1,26 +1,20 @@
-use Rattle.std.proofs.Common.{◌++◌, take, ap, ◌∙◌, subst, arith, Err}
-use Rattle.std.specs.Prelude.{slice_index}
-use Rattle.std.proofs.lemmas.List.{take_all}
+use Rattle.std.proofs.Common.{ap, ◌∙◌, arith, Err}
+use Rattle.step_record.specs.Limited.{lifted}
 use Rattle.policies.specs.declared.any_policy.AnyPolicy.TheVariants.{Optimal}
-use Rattle.policies.specs.AnyPolicy.{HasAccessed}
-use Rattle.policies.specs.AnyStep.{as_optimal}
-use Rattle.policies.proofs.Stretches.{next-ahead, added-next}
+use Rattle.policies.proofs.Stretches.{has-made-all, next-made, next-accepted}
 use Rattle.policies.proofs.access_loops.access_optimal.Goals as goal
 
 pub unreachable-requires : goal.unreachable-requires
 unreachable-requires c =
-    let i = c.loop-i.i in let keys = c.args.keys.now in let n = c.requires in
-    c.any_accepts.ensures n.job n.trace (n.before ++ take i keys) _ (slice_index keys i) (Optimal c.loop-i.cache)
-    (next-ahead n.trace n.before keys n.rest i c.loop-i-test.true n.ahead) n.few (c.loop-i.invariant n.job n.trace n.before n.stands)
-    (ap as_optimal (c.apply.ensures.not_now.0 (c.in-Err-NotNow.is ∙ ap Err c.in-Err-NotNow.field-0-is)))
+    next-accepted c.args.keys.now c.loop-i.i (Optimal c.args.cache.now) (Optimal c.loop-i.cache) c.loop-i-test.true
+    c.loop-i.invariant
+    c.any_accepts.ensures c.requires (ap (lifted Optimal) (c.apply.ensures.not_now.0 (c.in-Err-NotNow.is ∙ ap Err c.in-Err-NotNow.field-0-is)))
 
 pub loop-i-preserved : goal.loop-i-preserved
-loop-i-preserved c = λ j trace done s.
-    let i = c.loop-i.i in let keys = c.args.keys.now in
-    subst (λ l. HasAccessed j trace l (Optimal c.apply.new.self)) (added-next done keys i c.loop-i-test.true)
-    (c.any_step_law.ensures j trace (done ++ take i keys) (Optimal c.loop-i.cache) (slice_index keys i) _ (Optimal c.apply.new.self)
-    (c.loop-i.invariant j trace done s) (ap as_optimal c.in-Ok.ensures.accepted))
+loop-i-preserved c =
+    next-made c.args.keys.now c.loop-i.i (Optimal c.args.cache.now) (Optimal c.loop-i.cache) c.loop-i-test.true
+    c.loop-i.invariant
+    c.any_step_law.ensures _ _ (ap (lifted Optimal) c.in-Ok.ensures.accepted)
 
 pub returns : goal.returns
-returns c = λ j trace done s.
-    subst (λ l. HasAccessed j trace (done ++ l) (Optimal c.loop-i.cache)) (take_all c.loop-i.i c.args.keys.now (omega arith)) (c.loop-i.invariant j trace done s)
+returns c = has-made-all c.args.keys.now c.loop-i.i (Optimal c.args.cache.now) (Optimal c.loop-i.cache) (omega arith) c.loop-i.invariant

@@ -1,8 +1,6 @@
-use Rattle.std.proofs.Common.{ℕ, List, ◌++◌, take}
-use Rattle.step_record.specs.declared.job.Job.{Job}
 use Rattle.policies.specs.declared.any_policy.AnyPolicy.TheVariants.{Optimal}
-use Rattle.policies.specs.AnyPolicy.{HasAccessed}
+use Rattle.policies.proofs.Stretches.{HasMade}
 use Rattle.policies.proofs.access_loops.access_optimal.Given as goal
 
 abbrev pub invariant-loop-i : goal.invariant-loop-i
-invariant-loop-i l = (j : Job) (trace done : List ℕ) → HasAccessed j trace done (Optimal l.initial.cache) → HasAccessed j trace (done ++ take l.i l.keys) (Optimal l.cache)
+invariant-loop-i l = HasMade l.keys l.i (Optimal l.initial.cache) (Optimal l.cache)

@@ -1,28 +1,18 @@
-use Rattle.std.proofs.Common.{◌≡◌, ◌<◌, ◌++◌, ◌∷◌, [], ℕ, length, take, ap, ◌∙◌, subst, arith, Err, None}
-use Rattle.std.specs.Prelude.{slice_index}
-use Rattle.std.proofs.lemmas.List.{take_all}
-use Rattle.policies.specs.AnyPolicy.{HasAccessed}
+use Rattle.std.proofs.Common.{ℕ, ap, ◌∙◌, sym, arith, Err}
 use Rattle.policies.specs.AnyStep.{any_act}
-use Rattle.policies.proofs.Stretches.{next-ahead, added-next}
+use Rattle.policies.proofs.Stretches.{has-made-all, next-made, next-accepted}
 use Rattle.policies.proofs.cache_run.access_whole.Goals as goal
 
 pub unreachable-requires : goal.unreachable-requires
 unreachable-requires c =
-    let i = c.loop-i.i in let keys = c.args.uses.now in let n = c.requires in
-    let within : i < length keys = omega (arith, c.len-i-end.ensures.len, c.loop-i-test.true) in
-    c.any_accepts.ensures n.job n.trace (n.before ++ take i keys) _ (slice_index keys i) c.loop-i.cache
-    (next-ahead n.trace n.before keys n.rest i within n.ahead) n.few
-    (c.loop-i.invariant n.job n.trace n.before n.stands)
-    (subst (λ (k : ℕ). any_act c.loop-i.cache k ≡ None) c.key.ensures (c.access.ensures.not_now.0 (c.in-Err-NotNow.is ∙ ap Err c.in-Err-NotNow.field-0-is)))
+    next-accepted c.args.uses.now c.loop-i.i c.args.cache.now c.loop-i.cache (omega (arith, c.len-i-end.ensures.len, c.loop-i-test.true)) c.loop-i.invariant
+    c.any_accepts.ensures c.requires
+    (ap (λ (k : ℕ). any_act c.loop-i.cache k) (sym c.key.ensures) ∙ c.access.ensures.not_now.0 (c.in-Err-NotNow.is ∙ ap Err c.in-Err-NotNow.field-0-is))
 
 pub loop-i-preserved : goal.loop-i-preserved
-loop-i-preserved c = λ j trace done s.
-    let i = c.loop-i.i in let keys = c.args.uses.now in
-    let within : i < length keys = omega (arith, c.len-i-end.ensures.len, c.loop-i-test.true) in
-    subst (λ l. HasAccessed j trace l c.access.new.self) (ap (λ (k : ℕ). (done ++ take i keys) ++ k ∷ []) c.key.ensures ∙ added-next done keys i within)
-    (c.any_step_law.ensures j trace (done ++ take i keys) c.loop-i.cache c.key.result _ c.access.new.self
-    (c.loop-i.invariant j trace done s) c.in-Ok.ensures.accepted)
+loop-i-preserved c =
+    next-made c.args.uses.now c.loop-i.i c.args.cache.now c.loop-i.cache (omega (arith, c.len-i-end.ensures.len, c.loop-i-test.true)) c.loop-i.invariant
+    c.any_step_law.ensures _ _ (ap (λ (k : ℕ). any_act c.loop-i.cache k) (sym c.key.ensures) ∙ c.in-Ok.ensures.accepted)
 
 pub returns : goal.returns
-returns c = λ j trace done s.
-    subst (λ l. HasAccessed j trace (done ++ l) c.loop-i.cache) (take_all c.loop-i.i c.args.uses.now (omega (arith, c.len-i-end.ensures.len))) (c.loop-i.invariant j trace done s)
+returns c = has-made-all c.args.uses.now c.loop-i.i c.args.cache.now c.loop-i.cache (omega (arith, c.len-i-end.ensures.len)) c.loop-i.invariant

@@ -13,6 +13,6 @@ pub invariant_of-result : goal.invariant_of-result
 invariant_of-result c =
     let none = ap (λ (f : FrequencyData). f.halvings) (c.in_ok-frequency.ensures ∙ freq_none (open_shape_of 4 c.args.config.now) (has-room c.args.config.now c.requires)) in
     record {
-      counts = record { hits = omega arith; misses = omega arith; evictions = omega arith; rejections = omega arith; few = omega arith };
+      counts = record { whole = refl; evictions = omega arith; rejections = omega arith; few = omega arith };
       halvings = omega (arith, none);
     }

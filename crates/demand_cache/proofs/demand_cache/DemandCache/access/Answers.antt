@@ -26,7 +26,7 @@ invariant_of-self-in-Ok g c = record {
   least = c.self.invariant.least;
   most = c.self.invariant.most;
   queues = next-queues all-keep c.self.inside.policy c.self.inside.capacity c.self.inside.scalar (queues c.self.inside.queues) c.tabled.ensures c.self.invariant.least c.self.invariant.queues c.args.key (queues c.count_out.new.queues) (made c.in-Ok.done c.in-Ok.ensures.counted.moves) c.in-Ok.ensures.counted.accessed;
-  tally = (let t = c.self.invariant.tally in search rules);
+  counts = (let t = c.self.invariant.counts in search rules);
 }
 
 pub returns-in-Err-clause-memory : goal.returns-in-Err-clause-memory

@@ -8,7 +8,7 @@ invariant_of-result c = record {
   least = c.requires.least;
   most = c.requires.most;
   queues = subst (λ v. IsQueues c.args.capacity (cache_of c.args.policy c.args.capacity 0 v)) (sym c.for_items.ensures) (started all-keep c.args.policy c.args.capacity c.requires.least);
-  tally = search rules;
+  counts = search rules;
 }
 
 pub returns-clause-queues : goal.returns-clause-queues

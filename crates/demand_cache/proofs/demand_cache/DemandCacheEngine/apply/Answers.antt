@@ -20,7 +20,7 @@ invariant_of-self-in-Ok c = record {
   least = c.self.invariant.least;
   most = c.self.invariant.most;
   queues = next-queues all-keep c.self.inside.policy c.self.inside.capacity c.self.inside.scalar (queues c.self.inside.queues) c.tabled.ensures c.self.invariant.least c.self.invariant.queues c.args.step.now (queues c.carry_out.new.queues) c.in-Ok.done c.in-Ok.ensures.accessed;
-  tally = (let t = c.self.invariant.tally in search rules);
+  counts = (let t = c.self.invariant.counts in search rules);
 }
 
 pub returns-in-Err-clause-memory : goal.returns-in-Err-clause-memory
@@ -51,8 +51,8 @@ returns-in-Ok-clause-record_is c =
 pub returns-in-Ok-clause-fits : goal.returns-in-Ok-clause-fits
 returns-in-Ok-clause-fits c = record {
   queues = record-fits all-keep c.self.inside.policy c.self.inside.capacity c.self.inside.scalar (queues c.self.inside.queues) c.tabled.ensures c.self.invariant.least c.self.invariant.queues c.args.step.now (queues c.carry_out.new.queues) c.in-Ok.done c.in-Ok.ensures.accessed;
-  counted = (let t = c.self.invariant.tally in search rules);
-  tally = (let t = c.self.invariant.tally in search rules);
+  counted = (let t = c.self.invariant.counts in search rules);
+  counts = (let t = c.self.invariant.counts in search rules);
 }
 
 pub returns-in-Ok-clause-undone : goal.returns-in-Ok-clause-undone

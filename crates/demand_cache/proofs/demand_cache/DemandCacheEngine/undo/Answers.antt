@@ -23,7 +23,7 @@ invariant_of-self-in-Ok c =
       least = c.self.invariant.least;
       most = c.self.invariant.most;
       queues = subst (IsQueues c.self.inside.capacity) (sym (undone-shown c.self.inside.policy c.self.inside.capacity c.self.inside.scalar (queues c.self.inside.queues) (queues c.undo.new.self) c.tabled.ensures c.args.done.moves c.in-Ok.ensures.ok)) f.queues.before;
-      tally = (let t = f.tally in search rules);
+      counts = (let t = f.counts in search rules);
     }
 
 pub returns-in-Err-clause-err : goal.returns-in-Err-clause-err

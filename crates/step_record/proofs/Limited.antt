@@ -1,0 +1,57 @@
+-- What an access came to that was accepted, and where it is not.
+use Rattle.std.proofs.Common.{◌≡◌, ℕ, ◌==◌, Bool, true, false, if◌then◌else◌, Option, Some, None, ap, sym, subst, refl}
+use Rattle.std.proofs.lemmas.Bool.{eqb-true, eq-eqb}
+use Rattle.step_record.specs.declared.limits.TheConstants.{MAX_STEPS}
+use Rattle.step_record.specs.declared.outcome.Outcome.{Outcome}
+use Rattle.step_record.specs.Limited.{limited, lifted, IsAccepted}
+
+-- ---- by whether it is accepted
+
+abbrev value_or : {A : Type 0} → A → Option A → A
+value_or a None = a
+value_or a (Some b) = b
+
+pub accepted-where : {D : Type 0} (taken : Bool) (p : Outcome × D) (o : Outcome) (e : D) → (if taken then Some p else None) ≡ Some (o, e) → IsAccepted p o e
+accepted-where true p o e h =
+    let same : p ≡ (o, e) = ap (value_or p) h in
+    record { outcome = sym (ap (λ x. x.0) same); next = sym (ap (λ x. x.1) same) }
+accepted-where false p o e h = absurd (cc (h))
+
+accepted-by : {D : Type 0} (refused : Bool) (p : Outcome × D) (o : Outcome) (e : D) → (if refused then None else Some p) ≡ Some (o, e) → IsAccepted p o e
+accepted-by true p o e h = absurd (cc (h))
+accepted-by false p o e h = accepted-where true p o e h
+
+lifted-by : {D E : Type 0} (f : D → E) (refused : Bool) (p : Outcome × D) (o : Outcome) (e : E) → lifted f (if refused then None else Some p) ≡ Some (o, e) → IsAccepted (p.0, f p.1) o e
+lifted-by f true p o e h = absurd (cc (h))
+lifted-by f false p o e h = accepted-by false (p.0, f p.1) o e h
+
+refused-by : {D E : Type 0} (f : D → E) (refused : Bool) (p : Outcome × D) → lifted f (if refused then None else Some p) ≡ None → refused ≡ true
+refused-by f true p h = refl
+refused-by f false p h = absurd (cc (h))
+
+-- ---- of an engine
+
+module _ {D : Type 0} (count : D → ℕ) (access : ℕ → D → Outcome × D) where
+  pub accepted : (d : D) (k : ℕ) (o : Outcome) (e : D) → limited count access d k ≡ Some (o, e) → IsAccepted (access k d) o e
+  accepted d k o e h = accepted-by (count d == MAX_STEPS) (access k d) o e h
+
+  -- a relation to the data after each access is one to the data after an accepted one
+  pub related : (Rel : D → D → Type 0) → ((k : ℕ) (d : D) → Rel d (access k d).1) → (d : D) (k : ℕ) (o : Outcome) (e : D)
+      → limited count access d k ≡ Some (o, e) → Rel d e
+  related Rel all d k o e h = subst (Rel d) (sym (accepted d k o e h).next) (all k d)
+
+  pub ended : (d : D) (k : ℕ) → count d ≡ MAX_STEPS → limited count access d k ≡ None
+  ended d k h = let f : (count d == MAX_STEPS) ≡ true = eq-eqb (count d) MAX_STEPS h in rw f refl
+
+  pub refused : (d : D) (k : ℕ) → limited count access d k ≡ None → count d ≡ MAX_STEPS
+  refused d k h = eqb-true (count d) MAX_STEPS (refused-by (λ x. x) (count d == MAX_STEPS) (access k d) (ap (lifted (λ x. x)) h))
+
+  -- ---- as a part of a whole
+
+  module _ {E : Type 0} (f : D → E) where
+    pub accepted-in : (d : D) (k : ℕ) (o : Outcome) (e : E) → lifted f (limited count access d k) ≡ Some (o, e)
+        → IsAccepted ((access k d).0, f (access k d).1) o e
+    accepted-in d k o e h = lifted-by f (count d == MAX_STEPS) (access k d) o e h
+
+    pub refused-in : (d : D) (k : ℕ) → lifted f (limited count access d k) ≡ None → count d ≡ MAX_STEPS
+    refused-in d k h = eqb-true (count d) MAX_STEPS (refused-by f (count d == MAX_STEPS) (access k d) h)
