@@ -16,10 +16,6 @@ use Rattle.clairvoyant.proofs.Keys.{below-none, below-has}
 use Rattle.clairvoyant.proofs.Ranking.{IsSeen, named}
 use Rattle.clairvoyant.proofs.Belady.{residents-seen, residents-ascending}
 
-pub one-few : (b : Bool) → one_if b ≤ 1
-one-few true = omega arith
-one-few false = omega arith
-
 -- how often k is in a list
 abbrev pub times : ℕ → List ℕ → ℕ
 times k [] = 0

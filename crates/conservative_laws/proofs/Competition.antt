@@ -5,8 +5,8 @@ use Rattle.std.proofs.lemmas.Bool.{cases_Bool, cases_lt}
 use Rattle.step_record.specs.Keys.{has_key}
 use Rattle.step_record.specs.Stats.{one_if}
 use Rattle.clairvoyant.proofs.Belady.{later}
-use Rattle.clairvoyant.proofs.Listing.{one-few}
-use Rattle.policies.specs.Lru.{distinct_keys}
+use Rattle.step_record.proofs.Counting.{one-few}
+use Rattle.queue_cache.specs.Lru.{distinct_keys}
 use Rattle.optimality.specs.Strategy.{IsStrategy, strategy_misses}
 use Rattle.optimality.proofs.Counting.{head-has}
 use Rattle.conservative_laws.specs.Conservative.{stretch, IsConservative, FillsFirst}

@@ -12,8 +12,8 @@ use Rattle.demand_cache.specs.declared.demand_policy.DemandPolicy.TheVariants as
 use Rattle.demand_cache.specs.DemandQueues.{outcomes_of_page}
 use Rattle.demand_cache.specs.Theorems.{RunsByPage}
 use Rattle.policies.specs.AnyPolicy.{demand_run, stats_on}
-use Rattle.policies.specs.declared.design.DemandDesign.TheVariants as demand
-use Rattle.policies.specs.Design.{design_of}
+use Rattle.queue_cache.specs.declared.design.DemandDesign.TheVariants as demand
+use Rattle.queue_cache.specs.Design.{design_of}
 use Rattle.policies.specs.Theorems.{FifoStepLaw}
 use Rattle.conservative_laws.specs.Examples.{anomalous_trace, FifoAndClockHaveAnomaly, sieve_trace, SieveIsNotConservative, s3_fifo_trace, S3FifoIsNotConservative}
 use Rattle.conservative_laws.proofs.Jobs.{demand-misses, fifo-misses, clock-misses}

@@ -4,7 +4,7 @@ use Rattle.std.proofs.lemmas.List.{append_assoc, append-nil}
 use Rattle.std.proofs.lemmas.Bool.{cases_Bool, cases_lt, eqb-true, ltb-false}
 use Rattle.step_record.specs.Keys.{has_key}
 use Rattle.step_record.specs.Stats.{one_if}
-use Rattle.policies.specs.Lru.{distinct_keys}
+use Rattle.queue_cache.specs.Lru.{distinct_keys}
 use Rattle.optimality.specs.Strategy.{strategy_misses}
 use Rattle.queue_policies.specs.Residents.{times, AreResidents, state_after_all}
 use Rattle.queue_policies.specs.Fifo.{fifo_eviction, fifo_act}

@@ -8,7 +8,7 @@ use Rattle.step_record.specs.declared.outcome.Outcome.{Outcome}
 use Rattle.step_record.specs.declared.outcome.Outcome.TheVariants.{Hit, Kept, Evicted, Rejected}
 use Rattle.optimality.specs.Strategy.{IsStrategy, strategy_misses}
 use Rattle.queue_policies.specs.Residents.{IsAccess, AreResidents, KeepsResidents, outcomes_of_all}
-use Rattle.policies.proofs.Counting.{hits-misses}
+use Rattle.queue_cache.proofs.Counting.{hits-misses}
 use Rattle.policies.proofs.Demand.{outcomes-long}
 use Rattle.policy_laws.proofs.Strategies.{Serves, serves, state_at, residents_at, next-is, kept-at, strategy, hits-are}
 use Rattle.conservative_laws.specs.Conservative.{FillsFirst}

@@ -16,13 +16,14 @@ use Rattle.queue_policies.proofs.Fifo.{keeps as fifo-keeps}
 use Rattle.queue_policies.proofs.Clock.{keeps as clock-keeps}
 use Rattle.adaptive_window.specs.Residents.{CacheKeeps}
 use Rattle.demand_cache.specs.Theorems.{DemandKeeps, RunsByPage}
-use Rattle.policies.specs.declared.design.DemandDesign.{DemandDesign}
-use Rattle.policies.specs.declared.design.DemandDesign.TheVariants as demand
-use Rattle.policies.specs.declared.design.Design.TheVariants as design
+use Rattle.queue_cache.specs.declared.design.DemandDesign.{DemandDesign}
+use Rattle.queue_cache.specs.declared.design.DemandDesign.TheVariants as demand
+use Rattle.queue_cache.specs.declared.design.Design.TheVariants as design
 use Rattle.policies.specs.AnyPolicy.{demand_run, demand_outcomes, adaptive_outcomes, outcomes_by, outcomes_on, stats_on}
-use Rattle.policies.specs.Design.{demand_policy, design_of, has_queues}
+use Rattle.queue_cache.specs.Design.{design_of, has_queues}
+use Rattle.policies.specs.DemandDesign.{demand_policy}
 use Rattle.policies.specs.Theorems.{LruStepLaw, FifoStepLaw, AnyCoversTrace}
-use Rattle.policies.proofs.Counting.{count-cons}
+use Rattle.queue_cache.proofs.Counting.{count-cons}
 use Rattle.policies.proofs.Demand.{with-room}
 use Rattle.optimality.specs.Strategy.{strategy_misses}
 use Rattle.optimality.specs.Theorems.{BeladyIsStrategy}

@@ -6,7 +6,7 @@ use Rattle.std.proofs.lemmas.Bool.Decides.{nat_tests}
 use Rattle.step_record.specs.Keys.{has_key}
 use Rattle.step_record.specs.Stats.{one_if}
 use Rattle.clairvoyant.proofs.Belady.{later}
-use Rattle.policies.proofs.Recency.{IsDistinct}
+use Rattle.queue_cache.proofs.Recency.{IsDistinct}
 use Rattle.optimality.proofs.Counting.{head-has}
 use Rattle.queue_policies.specs.Residents.{times}
 use Rattle.queue_policies.proofs.Residents.{times-append}

@@ -6,9 +6,9 @@ use Rattle.step_record.specs.Keys.{has_key}
 use Rattle.step_record.specs.Stats.{is_hit, one_if}
 use Rattle.step_record.specs.declared.outcome.Outcome.TheVariants.{Hit, Kept, Evicted}
 use Rattle.clairvoyant.proofs.Belady.{later}
-use Rattle.clairvoyant.proofs.Listing.{one-few}
-use Rattle.policies.specs.Lru.{distinct_keys, keys_since, lru_residents, is_lru_hit}
-use Rattle.policies.proofs.Recency.{outcome-residents}
+use Rattle.step_record.proofs.Counting.{one-few}
+use Rattle.queue_cache.specs.Lru.{distinct_keys, keys_since, lru_residents, is_lru_hit}
+use Rattle.queue_cache.proofs.Recency.{outcome-residents}
 use Rattle.optimality.specs.Strategy.{strategy_misses}
 use Rattle.policy_laws.proofs.Lru.{lru_at}
 use Rattle.conservative_laws.specs.Conservative.{stretch, IsConservative, FillsFirst}

@@ -7,11 +7,11 @@ use Rattle.step_record.specs.Keys.{has_key}
 use Rattle.step_record.specs.Stats.{one_if}
 use Rattle.step_record.specs.declared.job.Job.{Job}
 use Rattle.step_record.specs.declared.job.Policy.TheVariants.{Lru}
-use Rattle.policies.specs.Design.{has_queues}
+use Rattle.queue_cache.specs.Design.{has_queues}
 use Rattle.policies.specs.AnyPolicy.{outcomes_on, stats_on}
 use Rattle.policies.specs.Theorems.{LruStepLaw, AnyCoversTrace}
-use Rattle.policies.proofs.Balance.{residents-fit}
-use Rattle.policies.proofs.Counting.{hits-misses}
+use Rattle.queue_cache.proofs.Balance.{residents-fit}
+use Rattle.queue_cache.proofs.Counting.{hits-misses}
 use Rattle.optimality.specs.Strategy.{strategy_hits, strategy_misses}
 use Rattle.policy_laws.proofs.Beaten.{kept, no-hits, hits-are, stats-queues}
 use Rattle.policy_laws.proofs.Lru.{lru_at, hits-agree, nothing, lru-kept}

@@ -14,13 +14,14 @@ use Rattle.policies.specs.AnyPolicy.{adaptive_start}
 use Rattle.policy_laws.proofs.Beaten.{adaptive-serves}
 use Rattle.policy_laws.proofs.Strategies.{Serves, kept-after as served-after}
 use Rattle.segments.specs.Queues.{residents_in}
-use Rattle.policies.specs.declared.design.DemandDesign.{DemandDesign}
-use Rattle.policies.specs.declared.design.Design.{Design}
-use Rattle.policies.specs.declared.design.Design.TheVariants as design
-use Rattle.policies.specs.Design.{demand_policy, design_of, is_of_queues, is_optimal}
-use Rattle.policies.specs.QueueCache.{state_after}
+use Rattle.queue_cache.specs.declared.design.DemandDesign.{DemandDesign}
+use Rattle.queue_cache.specs.declared.design.Design.{Design}
+use Rattle.queue_cache.specs.declared.design.Design.TheVariants as design
+use Rattle.queue_cache.specs.Design.{design_of, is_of_queues, is_optimal}
+use Rattle.policies.specs.DemandDesign.{demand_policy}
+use Rattle.queue_cache.specs.QueueCache.{state_after}
 use Rattle.policies.specs.Theorems.{AnyCoversTrace}
-use Rattle.policies.proofs.Balance.{residents-fit}
+use Rattle.queue_cache.proofs.Balance.{residents-fit}
 use Rattle.policies.proofs.Demand.{kept-after}
 use Rattle.optimality.specs.Strategy.{strategy_misses}
 use Rattle.conservative_laws.specs.Conservative.{misses_on}

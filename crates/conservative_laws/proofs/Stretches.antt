@@ -5,7 +5,7 @@ use Rattle.std.proofs.lemmas.List.{take_more, drop-append-le, length-take-le}
 use Rattle.std.proofs.Math.Seq.{drop-length}
 use Rattle.step_record.specs.Keys.{has_key}
 use Rattle.step_record.specs.Stats.{one_if}
-use Rattle.policies.specs.Lru.{distinct_keys}
+use Rattle.queue_cache.specs.Lru.{distinct_keys}
 use Rattle.replacement.proofs.Residents.{has-append}
 use Rattle.optimality.proofs.Counting.{count_keys, count-short, count-subset, head-has}
 use Rattle.queue_policies.specs.Residents.{times}

@@ -2,7 +2,7 @@
 use Rattle.std.specs.Prelude.{ℕ, ◌+◌, ◌≤◌, List, length, take, drop}
 use Rattle.step_record.specs.declared.job.Job.{Job}
 use Rattle.policies.specs.AnyPolicy.{stats_on}
-use Rattle.policies.specs.Lru.{distinct_keys}
+use Rattle.queue_cache.specs.Lru.{distinct_keys}
 
 -- how many of the accesses below place i are misses of the job
 abbrev pub misses_on : Job → List ℕ → ℕ → ℕ

@@ -6,7 +6,7 @@ use Rattle.step_record.specs.declared.job.Job.{Job}
 use Rattle.step_record.specs.declared.job.Policy.{Policy}
 use Rattle.step_record.specs.declared.job.Policy.TheVariants.{Lru, Fifo, Clock}
 use Rattle.policies.specs.AnyPolicy.{stats_on}
-use Rattle.policies.specs.Design.{knows_trace}
+use Rattle.queue_cache.specs.Design.{knows_trace}
 use Rattle.optimality.specs.Strategy.{IsStrategy, strategy_misses}
 use Rattle.conservative_laws.specs.Conservative.{misses_on, IsConservative, FillsFirst}
 

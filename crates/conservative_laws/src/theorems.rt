@@ -34,7 +34,7 @@ pub fn filling_competes_without_bypass()
 pub fn lru_fifo_clock_are_conservative()
     ensures { LruFifoClockAreConservative }
 {
-    policies::theorems::lru_step_law();
+    queue_cache::theorems::lru_step_law();
     policies::theorems::fifo_step_law();
     policies::theorems::any_covers_trace();
     demand_cache::theorems::runs_by_page();
@@ -46,7 +46,7 @@ pub fn lru_fifo_clock_compete()
     ensures { LruFifoClockCompete }
 {
     filling_competes();
-    policies::theorems::lru_step_law();
+    queue_cache::theorems::lru_step_law();
     policies::theorems::fifo_step_law();
     policies::theorems::any_covers_trace();
     demand_cache::theorems::runs_by_page();
@@ -57,7 +57,7 @@ pub fn lru_fifo_clock_compete_without_bypass()
     ensures { LruFifoClockCompeteWithoutBypass }
 {
     filling_competes_without_bypass();
-    policies::theorems::lru_step_law();
+    queue_cache::theorems::lru_step_law();
     policies::theorems::fifo_step_law();
     policies::theorems::any_covers_trace();
     demand_cache::theorems::runs_by_page();

@@ -9,12 +9,12 @@ use Rattle.clairvoyant.specs.Clairvoyant.{ClairvoyantState}
 use Rattle.segments.specs.Queues.{residents_in}
 use Rattle.policies.specs.declared.any_policy.AnyPolicy.{AnyPolicy}
 use Rattle.policies.specs.declared.any_policy.AnyPolicy.TheVariants.{Queues, Optimal, Demand, Adaptive}
-use Rattle.policies.specs.declared.design.Design.{Design}
-use Rattle.policies.specs.declared.design.Design.TheVariants.{KnowsTrace, Queues as OfQueues, Demand as OfDemand, Adaptive as OfAdaptive}
-use Rattle.policies.specs.Design.{design_of, is_of_queues, is_optimal}
+use Rattle.queue_cache.specs.declared.design.Design.{Design}
+use Rattle.queue_cache.specs.declared.design.Design.TheVariants.{KnowsTrace, Queues as OfQueues, Demand as OfDemand, Adaptive as OfAdaptive}
+use Rattle.queue_cache.specs.Design.{design_of, is_of_queues, is_optimal}
 use Rattle.policies.specs.AnyPolicy.{frequency_in, any_residents, HasAccessed}
-use Rattle.policies.specs.QueueCache.{QueueState, frequency_after, state_after}
-use Rattle.policies.proofs.Reached.{after-frequency}
+use Rattle.queue_cache.specs.QueueCache.{QueueState, frequency_after, state_after}
+use Rattle.queue_cache.proofs.Reached.{after-frequency}
 use Rattle.demand_cache.specs.DemandQueues.{queues_residents}
 use Rattle.debug_policies.specs.OnePolicy.{age_in, age_by, residents_at, residents_by}
 use Rattle.debug_policies.specs.Window.{fixed_window, moving_window, window_by, window_in}

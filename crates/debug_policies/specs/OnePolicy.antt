@@ -21,11 +21,12 @@ use Rattle.segments.specs.Queues.{residents_in}
 use Rattle.policies.specs.declared.any_policy.AnyPolicy.{AnyPolicy}
 use Rattle.queue_policies.specs.Residents.{state_after_all}
 use Rattle.demand_cache.specs.DemandQueues.{empty_cache, queues_act, queues_residents}
-use Rattle.policies.specs.declared.design.Design.{Design}
-use Rattle.policies.specs.declared.design.Design.TheVariants.{KnowsTrace, Queues as OfQueues, Demand as OfDemand, Adaptive as OfAdaptive}
-use Rattle.policies.specs.Design.{demand_policy, design_of}
+use Rattle.queue_cache.specs.declared.design.Design.{Design}
+use Rattle.queue_cache.specs.declared.design.Design.TheVariants.{KnowsTrace, Queues as OfQueues, Demand as OfDemand, Adaptive as OfAdaptive}
+use Rattle.queue_cache.specs.Design.{design_of}
+use Rattle.policies.specs.DemandDesign.{demand_policy}
 use Rattle.policies.specs.AnyPolicy.{adaptive_start, outcomes_on, HasAccessed}
-use Rattle.policies.specs.QueueCache.{frequency_after, state_after}
+use Rattle.queue_cache.specs.QueueCache.{frequency_after, state_after}
 
 -- ---- by the definitions
 

@@ -8,11 +8,11 @@ use Rattle.adaptive_window.specs.AdaptiveWindow.{AdaptiveState}
 use Rattle.debug_commands.specs.Texts.{count_text}
 use Rattle.policies.specs.declared.any_policy.AnyPolicy.{AnyPolicy}
 use Rattle.policies.specs.declared.any_policy.AnyPolicy.TheVariants as cache
-use Rattle.policies.specs.declared.design.Design.{Design}
-use Rattle.policies.specs.declared.design.Design.TheVariants.{KnowsTrace, Queues, Demand, Adaptive}
-use Rattle.policies.specs.declared.design.Layout.{Layout}
-use Rattle.policies.specs.declared.design.Layout.TheVariants.{OneQueue, TwoQueues, ThreeQueues}
-use Rattle.policies.specs.Design.{design_of, rules_by}
+use Rattle.queue_cache.specs.declared.design.Design.{Design}
+use Rattle.queue_cache.specs.declared.design.Design.TheVariants.{KnowsTrace, Queues, Demand, Adaptive}
+use Rattle.queue_cache.specs.declared.design.Layout.{Layout}
+use Rattle.queue_cache.specs.declared.design.Layout.TheVariants.{OneQueue, TwoQueues, ThreeQueues}
+use Rattle.queue_cache.specs.Design.{design_of, rules_by}
 use Rattle.policies.specs.AnyPolicy.{adaptive_start}
 use Rattle.queue_policies.specs.Residents.{state_after_all}
 use Rattle.debug_policies.specs.declared.window.Window.{Window}

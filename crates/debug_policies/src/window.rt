@@ -1,7 +1,7 @@
 //! The window of a policy.
 ghost use Rattle.std.specs.Prelude.{◌≡◌, ◌++◌, Ok, OnOk};
 ghost use Rattle.step_record.specs.Config.{config_fault};
-ghost use Rattle.policies.specs.Design.{design_of};
+ghost use Rattle.queue_cache.specs.Design.{design_of};
 ghost use Rattle.debug_policies.specs.Window.{fixed_window, window_in, window_text};
 
 use debug_commands::push_counts_line;

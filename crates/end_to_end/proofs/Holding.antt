@@ -2,8 +2,8 @@
 use Rattle.std.proofs.Common.{◌≡◌, ℕ, ◌+◌, ◌-◌, ◌*◌, ◌/◌, ◌≤◌, Some, ap, sym, ◌∙◌, arith, subst}
 use Rattle.step_record.specs.Pace.{Pace}
 use Rattle.admission.specs.Frequency.{FrequencyData, halving_words}
-use Rattle.policies.specs.QueueCache.{QueueState}
-use Rattle.policies.specs.QueueStep.{pace_by, queue_pace}
+use Rattle.queue_cache.specs.QueueCache.{QueueState}
+use Rattle.queue_cache.specs.QueueStep.{pace_by, queue_pace}
 use Rattle.journal.specs.Session.{HoldsFew}
 
 pub held-by-halvings : (opening now : QueueState) (kept words : ℕ) (f g : FrequencyData) → HoldsFew (queue_pace opening) (queue_pace now) kept words

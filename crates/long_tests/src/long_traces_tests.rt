@@ -2,7 +2,7 @@
 ghost use Rattle.std.specs.Prelude.{◌≡◌, ◌≤◌, IfOk, Ok, false};
 ghost use Rattle.step_record.specs.Config.{config_fault};
 ghost use Rattle.trace_read.specs.declared.limits.TheConstants.{MAX_LONG_ACCESSES, MAX_LONG_TRACE_BYTES};
-ghost use Rattle.policies.specs.Design.{knows_trace};
+ghost use Rattle.queue_cache.specs.Design.{knows_trace};
 ghost use Rattle.long_traces.specs.Taking.{FollowsTrace};
 
 use super::assertions::assert_equal;

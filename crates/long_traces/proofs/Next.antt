@@ -7,7 +7,7 @@ use Rattle.step_record.specs.declared.job.Job.{Job}
 use Rattle.step_record.specs.declared.limits.TheConstants.{MAX_STEPS}
 use Rattle.policies.specs.Accesses.{IsNext}
 use Rattle.policies.specs.AnyPolicy.{HasAccessed}
-use Rattle.policies.specs.Design.{knows_trace}
+use Rattle.queue_cache.specs.Design.{knows_trace}
 use Rattle.policies.specs.declared.any_policy.AnyPolicy.TheVariants.{Adaptive, Demand, Optimal, Queues}
 use Rattle.policies.specs.declared.any_policy.AnyPolicy.{AnyPolicy}
 use Rattle.policy_comparison.specs.CacheAccess.{StandsAt}

@@ -2,7 +2,7 @@
 use Rattle.std.specs.Prelude.{◌≡◌, ◌≤◌, ℕ, ◌+◌, false, List, Option, IfSome, length, drop, take}
 use Rattle.step_record.specs.declared.job.Job.{Job}
 use Rattle.step_record.specs.declared.limits.TheConstants.{MAX_STEPS}
-use Rattle.policies.specs.Design.{knows_trace}
+use Rattle.queue_cache.specs.Design.{knows_trace}
 
 -- what accesses are taken for: jobs, and how many accesses an interval has
 pub record Task : Type 0 where

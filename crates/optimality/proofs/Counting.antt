@@ -6,7 +6,7 @@ use Rattle.step_record.specs.Keys.{has_key, keys_without}
 use Rattle.clairvoyant.specs.Keys.{IsAscendingKeys}
 use Rattle.clairvoyant.proofs.Keys.{has-without, below-none}
 use Rattle.clairvoyant.proofs.Belady.{later}
-use Rattle.clairvoyant.proofs.Listing.{one-few}
+use Rattle.step_record.proofs.Counting.{one-few}
 
 -- how many distinct keys of a list pass the test p
 abbrev pub count_keys : (ℕ → Bool) → List ℕ → ℕ

@@ -18,12 +18,12 @@ use Rattle.demand_cache.specs.DemandQueues.{DemandQueues, empty_cache, queues_ac
 use Rattle.demand_cache.specs.DemandCache.{DemandState, demand_access}
 use Rattle.demand_cache.specs.Theorems.{DemandKeeps}
 use Rattle.demand_cache.proofs.Keeping.{page-outcomes}
-use Rattle.policies.specs.declared.design.DemandDesign.{DemandDesign}
-use Rattle.policies.specs.declared.design.Design.{Design}
-use Rattle.policies.specs.declared.design.Design.TheVariants.{Queues, KnowsTrace, Demand, Adaptive}
-use Rattle.policies.specs.Design.{demand_policy}
+use Rattle.queue_cache.specs.declared.design.DemandDesign.{DemandDesign}
+use Rattle.queue_cache.specs.declared.design.Design.{Design}
+use Rattle.queue_cache.specs.declared.design.Design.TheVariants.{Queues, KnowsTrace, Demand, Adaptive}
+use Rattle.policies.specs.DemandDesign.{demand_policy}
 use Rattle.policies.specs.AnyPolicy.{IsDemandAfter, demand_run, demand_outcomes}
-use Rattle.policies.proofs.Reached.{has-room}
+use Rattle.queue_cache.proofs.Reached.{has-room}
 
 -- ---- any machine over lists
 

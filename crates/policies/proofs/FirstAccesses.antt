@@ -9,16 +9,17 @@ use Rattle.clairvoyant.specs.Clairvoyant.{ClairvoyantState}
 use Rattle.policies.specs.declared.any_policy.AnyPolicy.{AnyPolicy}
 use Rattle.policies.specs.declared.any_policy.AnyPolicy.TheVariants.{Queues, Optimal, Demand, Adaptive}
 use Rattle.policies.specs.AnyPolicy.{stats_in, stats_on, outcomes_on, HasAccessed}
-use Rattle.policies.specs.QueueCache.{QueueState, queue_state_after, frequency_after, empty_queue_state, outcomes_after, outcomes_from, access_response}
-use Rattle.policies.proofs.Answered.{outcomes-length}
+use Rattle.queue_cache.specs.QueueCache.{QueueState, queue_state_after, frequency_after, empty_queue_state, outcomes_after, outcomes_from, access_response}
+use Rattle.policies.proofs.OptimalOutcomes.{outcomes-length}
 use Rattle.demand_cache.specs.DemandQueues.{queues_act, empty_cache}
 use Rattle.adaptive_window.specs.AdaptiveCache.{cache_access}
 use Rattle.policies.specs.AnyPolicy.{outcomes_by, adaptive_start}
-use Rattle.policies.specs.Design.{demand_policy, design_of}
+use Rattle.queue_cache.specs.Design.{design_of}
+use Rattle.policies.specs.DemandDesign.{demand_policy}
 use Rattle.policies.proofs.Demand.{outcomes-first, with-room, demand-room}
 use Rattle.policies.proofs.Adaptive.{adaptive-stats, when-checked}
 use Rattle.policies.proofs.StepLaws.{any_covers_trace, any_reports, outcomes-of-queues, outcomes-of-optimal}
-use Rattle.policies.proofs.Counting.{after-counts}
+use Rattle.queue_cache.proofs.Counting.{after-counts}
 
 from_first : (j : Job) (past : List ℕ) (d : QueueState) (n : ℕ) (keys : List ℕ) → outcomes_from j past d (take n keys) ≡ take n (outcomes_from j past d keys)
 from_first j past d zero keys = refl

@@ -12,13 +12,13 @@ use Rattle.queue_policies.specs.Fifo.{fifo_act}
 use Rattle.queue_policies.specs.Residents.{times, AreResidents, KeepsResidents, state_after_all, outcomes_of_all}
 use Rattle.queue_policies.specs.Theorems.{FifoKeeps}
 use Rattle.queue_policies.proofs.Residents.{no-times}
-use Rattle.policies.specs.Design.{design_of, rules_in, is_counting}
-use Rattle.policies.specs.QueueCache.{QueueState, access_response, queue_state_after, frequency_by, frequency_after, state_from, empty_queue_state, state_after, outcomes_from, outcomes_after}
+use Rattle.queue_cache.specs.Design.{design_of, rules_in, is_counting}
+use Rattle.queue_cache.specs.QueueCache.{QueueState, access_response, queue_state_after, frequency_by, frequency_after, state_from, empty_queue_state, state_after, outcomes_from, outcomes_after}
 use Rattle.policies.specs.AnyPolicy.{outcomes_by}
-use Rattle.policies.specs.SingleQueue.{single_queue}
+use Rattle.queue_cache.specs.SingleQueue.{single_queue}
 use Rattle.policies.specs.Theorems.{FifoStepLaw}
-use Rattle.policies.proofs.OneQueue.{keys_after, one-response}
-use Rattle.policies.proofs.Recency.{IsDistinct, answer}
+use Rattle.queue_cache.proofs.OneQueue.{keys_after, one-response}
+use Rattle.queue_cache.proofs.Recency.{IsDistinct, answer}
 
 fifo-is : (c k : ℕ) (l : List ℕ) → 1 ≤ c → fifo_act c k l ≡ (answer c l k, keys_after Stays c k l)
 fifo-is c k [] w = let room : nat_lt 0 c ≡ true = lt-ltb 0 c (omega (arith, w)) in rw room refl

@@ -6,11 +6,12 @@ use Rattle.step_record.specs.declared.outcome.Outcome.{Outcome}
 use Rattle.clairvoyant.specs.Clairvoyant.{ClairvoyantState, is_next, clairvoyant_after, clairvoyant_act}
 use Rattle.segments.specs.Queues.{residents_in}
 use Rattle.step_record.proofs.Limited.{accepted-in, accepted-where}
-use Rattle.policies.specs.QueueStep.{recorded_in, queue_access, queue_count}
+use Rattle.queue_cache.specs.QueueStep.{recorded_in, queue_access, queue_count}
 use Rattle.policies.specs.AnyPolicy.{any_residents, outcomes_by, outcomes_on, stats_on, demand_outcomes, adaptive_outcomes}
-use Rattle.policies.specs.declared.design.Design.{Design}
-use Rattle.policies.specs.declared.design.Design.TheVariants as design
-use Rattle.policies.specs.Design.{demand_policy, design_of}
+use Rattle.queue_cache.specs.declared.design.Design.{Design}
+use Rattle.queue_cache.specs.declared.design.Design.TheVariants as design
+use Rattle.queue_cache.specs.Design.{design_of}
+use Rattle.policies.specs.DemandDesign.{demand_policy}
 use Rattle.std.proofs.lemmas.List.Sums.{sum_by-cons}
 use Rattle.step_record.specs.declared.outcome.Outcome.TheVariants.{Rejected}
 use Rattle.demand_cache.specs.declared.demand_policy.DemandPolicy.{DemandPolicy}
@@ -26,7 +27,7 @@ use Rattle.adaptive_window.specs.AdaptiveCache.{cache_access, cache_count}
 use Rattle.adaptive_window.specs.Residents.{CacheKeeps}
 use Rattle.policies.proofs.Adaptive.{adaptive-sound, adaptive-counted, adaptive-fit}
 use Rattle.policies.specs.Theorems.{AnyCoversTrace}
-use Rattle.policies.proofs.Counting.{after-counts, hits-misses}
+use Rattle.queue_cache.proofs.Counting.{after-counts, hits-misses}
 use Rattle.step_record.specs.declared.job.Job.{Job}
 use Rattle.policies.specs.AnyCounts.{IsOptimalStep, optimal_step}
 use Rattle.step_record.specs.Keys.{has_key, keys_without}
@@ -36,14 +37,15 @@ use Rattle.step_record.proofs.Counting.{stats-snoc}
 use Rattle.clairvoyant.specs.Belady.{farthest, belady_answer, belady_residents_after, belady_residents, belady_outcome, belady_outcomes}
 use Rattle.clairvoyant.specs.Keys.{residents_with, IsAscendingKeys}
 use Rattle.clairvoyant.proofs.Belady.{residents-ascending, full-length, served-has, hit-resident, residents-fit as belady-residents-fit}
-use Rattle.clairvoyant.proofs.Listing.{one-few, times-sum, times-has}
+use Rattle.clairvoyant.proofs.Listing.{times-sum, times-has}
+use Rattle.step_record.proofs.Counting.{one-few}
 use Rattle.clairvoyant.proofs.Keys.{length-put}
-use Rattle.policies.specs.QueueCache.{QueueState, state_after}
+use Rattle.queue_cache.specs.QueueCache.{QueueState, state_after}
 use Rattle.policies.specs.declared.any_policy.AnyPolicy.{AnyPolicy}
 use Rattle.policies.specs.declared.any_policy.AnyPolicy.TheVariants.{Queues, Optimal, Demand, Adaptive}
 use Rattle.policies.specs.Residents.{StatsAddUp, MissesFit, ResidentsFit, ResidentsDistinct, ResidentsCounted, HitsAreResidents, FetchesOnDemand}
 use Rattle.replacement.proofs.Residents.{residents-length, resident-queued, resident-once}
-use Rattle.policies.proofs.Balance.{IsBalancedCache, step-balanced, after-balanced, residents-fit, came-from}
+use Rattle.queue_cache.proofs.Balance.{IsBalancedCache, step-balanced, after-balanced, residents-fit, came-from}
 
 pub residents_fit : DemandKeeps → CacheKeeps → ResidentsFit
 residents_fit law own j trace keys (Queues d) s =

@@ -11,29 +11,31 @@ use Rattle.clairvoyant.specs.Belady.{belady_outcomes, belady_outcome as outcome_
 use Rattle.clairvoyant.specs.Theorems.{ClairvoyantStepLaw, ClairvoyantAccepts}
 use Rattle.clairvoyant.specs.Clairvoyant.{ClairvoyantState, clairvoyant_at, clairvoyant_act}
 use Rattle.policies.specs.declared.any_policy.AnyPolicy.TheVariants.{Queues, Optimal, Demand, Adaptive}
-use Rattle.policies.specs.QueueCache.{QueueState, outcomes_after}
+use Rattle.queue_cache.specs.QueueCache.{QueueState, outcomes_after}
 use Rattle.step_record.specs.Limited.{lifted}
 use Rattle.step_record.proofs.Limited.{accepted-in, refused-in}
-use Rattle.policies.specs.QueueStep.{queue_access, queue_count}
+use Rattle.queue_cache.specs.QueueStep.{queue_access, queue_count}
 use Rattle.demand_cache.specs.DemandCache.{demand_access, demand_count}
 use Rattle.demand_cache.specs.DemandQueues.{queues_act, empty_cache}
 use Rattle.demand_cache.specs.Theorems.{DemandKeeps, HitsAskNothing, AsksWhereOneLeft}
 use Rattle.queue_policies.specs.Residents.{outcomes_of_all}
 use Rattle.adaptive_window.specs.AdaptiveCache.{cache_access, cache_count}
 use Rattle.adaptive_window.specs.Residents.{CacheKeeps, CacheHitsAskNothing, CacheAsksWhereOneLeft}
-use Rattle.policies.specs.declared.design.Design.{Design}
-use Rattle.policies.specs.declared.design.Design.TheVariants as design
-use Rattle.policies.specs.Design.{demand_policy, design_of, is_of_queues, is_optimal}
+use Rattle.queue_cache.specs.declared.design.Design.{Design}
+use Rattle.queue_cache.specs.declared.design.Design.TheVariants as design
+use Rattle.queue_cache.specs.Design.{design_of, is_of_queues, is_optimal}
+use Rattle.policies.specs.DemandDesign.{demand_policy}
 use Rattle.policies.specs.AnyPolicy.{stats_on, outcomes_by, adaptive_start, demand_run, IsBeladyAt}
 use Rattle.policies.specs.AnyCounts.{IsOptimalStep, optimal_step}
 use Rattle.policies.specs.Theorems.{AnyStepLaw, AnyAccepts, AnyIsOne, AnyReports, AnyAnswers, AnyCoversTrace, AnyHitsKeepAll, AnyRecordsShowOutcome, AnyAsksWhereOneLeft}
 use Rattle.clairvoyant.proofs.Records.{outcome-is}
-use Rattle.policies.proofs.Leaving.{hit-keeps-all, queue-asks-evicts}
-use Rattle.policies.proofs.Counting.{after-counts}
-use Rattle.policies.proofs.Answered.{after-answers, after-length, at-answers, outcomes-length}
+use Rattle.queue_cache.proofs.Leaving.{hit-keeps-all, queue-asks-evicts}
+use Rattle.queue_cache.proofs.Counting.{after-counts}
+use Rattle.queue_cache.proofs.Answered.{after-answers, after-length}
+use Rattle.policies.proofs.OptimalOutcomes.{at-answers, outcomes-length}
 use Rattle.policies.proofs.Demand.{demand_stands, demand-accesses, demand-one, outcomes-at, with-room, demand-room, demand-long, demand-sound}
 use Rattle.policies.proofs.Adaptive.{adaptive_stands, adaptive-stats, adaptive-accesses, adaptive-sound, when-checked, adaptive-long}
-use Rattle.policies.proofs.Reached.{stands-step, stands-outcome, stands-accesses}
+use Rattle.queue_cache.proofs.Reached.{stands-step, stands-outcome, stands-accesses}
 
 -- a cache that knows the trace, at its place
 record IsAtPlace (j : Job) (trace keys : List ℕ) (d : ClairvoyantState) : Type 0 where

@@ -14,8 +14,8 @@ use Rattle.clairvoyant.specs.StepCount.{act_counts as optimal_counts, act_ends a
 use Rattle.demand_cache.specs.DemandCache.{demand_access, demand_count}
 use Rattle.policies.specs.declared.any_policy.AnyPolicy.{AnyPolicy}
 use Rattle.policies.specs.declared.any_policy.AnyPolicy.TheVariants.{Queues, Optimal, Demand, Adaptive}
-use Rattle.policies.specs.QueueStep.{queue_access, queue_count, queue_pace}
-use Rattle.policies.specs.QueuePace.{paced-by}
+use Rattle.queue_cache.specs.QueueStep.{queue_access, queue_count, queue_pace}
+use Rattle.queue_cache.specs.QueuePace.{paced-by}
 use Rattle.policies.specs.AnyPolicy.{stats_in}
 use Rattle.policies.specs.AnyStep.{any_act, any_pace}
 

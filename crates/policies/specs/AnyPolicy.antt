@@ -20,11 +20,12 @@ use Rattle.demand_cache.specs.DemandCache.{DemandState}
 use Rattle.segments.specs.Queues.{residents_in}
 use Rattle.policies.specs.declared.any_policy.AnyPolicy.{AnyPolicy}
 use Rattle.policies.specs.declared.any_policy.AnyPolicy.TheVariants.{Queues, Optimal, Demand, Adaptive}
-use Rattle.policies.specs.declared.design.DemandDesign.{DemandDesign}
-use Rattle.policies.specs.declared.design.Design.{Design}
-use Rattle.policies.specs.declared.design.Design.TheVariants as design
-use Rattle.policies.specs.Design.{demand_policy, design_of, has_queues, knows_trace}
-use Rattle.policies.specs.QueueCache.{outcomes_after, StandsFor}
+use Rattle.queue_cache.specs.declared.design.DemandDesign.{DemandDesign}
+use Rattle.queue_cache.specs.declared.design.Design.{Design}
+use Rattle.queue_cache.specs.declared.design.Design.TheVariants as design
+use Rattle.queue_cache.specs.Design.{design_of, has_queues, knows_trace}
+use Rattle.policies.specs.DemandDesign.{demand_policy}
+use Rattle.queue_cache.specs.QueueCache.{outcomes_after, StandsFor}
 
 -- ---- a job over a trace
 

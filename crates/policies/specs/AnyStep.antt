@@ -14,8 +14,8 @@ use Rattle.policies.specs.declared.any_policy.AnyPolicy.{AnyPolicy}
 use Rattle.policies.specs.declared.any_policy.AnyPolicy.TheVariants.{Queues, Optimal, Demand, Adaptive}
 use Rattle.policies.specs.declared.any_policy.AnyRecord.{AnyRecord}
 use Rattle.policies.specs.declared.any_policy.AnyRecord.TheVariants as done
-use Rattle.policies.specs.QueueStep.{queue_act, queue_record_of, queue_undone, queue_asks, QueueFits}
-use Rattle.policies.specs.QueueStep.{queue_may_ask, queue_words, queue_pace}
+use Rattle.queue_cache.specs.QueueStep.{queue_act, queue_record_of, queue_undone, queue_asks, QueueFits}
+use Rattle.queue_cache.specs.QueueStep.{queue_may_ask, queue_words, queue_pace}
 
 abbrev pub any_act : AnyPolicy → ℕ → Option (Outcome × AnyPolicy)
 any_act (Queues d) k = lifted Queues (queue_act d k)

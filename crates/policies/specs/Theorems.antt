@@ -1,50 +1,18 @@
 -- What the definitions of the policies promise to callers that see a cache by its steps alone.
-use Rattle.std.specs.Prelude.{◌≡◌, ℕ, ◌≤◌, true, Some, None, option_map, List, [], ◌∷◌, ◌++◌, length, slice_index_or}
+use Rattle.std.specs.Prelude.{◌≡◌, ℕ, ◌≤◌, true, Some, None, List, [], ◌∷◌, ◌++◌, length, slice_index_or}
 use Rattle.step_record.specs.declared.limits.TheConstants.{MAX_STEPS}
 use Rattle.step_record.specs.declared.job.Job.{Job}
-use Rattle.step_record.specs.declared.job.Policy.TheVariants.{Fifo, Lru}
+use Rattle.step_record.specs.declared.job.Policy.TheVariants.{Fifo}
 use Rattle.step_record.specs.declared.outcome.Outcome.{Outcome}
 use Rattle.step_record.specs.declared.outcome.Outcome.TheVariants.{Hit}
 use Rattle.step_record.specs.Stats.{is_eviction}
 use Rattle.policies.specs.declared.any_policy.AnyPolicy.{AnyPolicy}
 use Rattle.queue_policies.specs.Fifo.{fifo_act}
 use Rattle.queue_policies.specs.Residents.{state_after_all, outcomes_of_all}
-use Rattle.policies.specs.Lru.{lru_residents, lru_outcome}
-use Rattle.policies.specs.SingleQueue.{single_queue}
-use Rattle.policies.specs.QueueCache.{QueueState, access_response, state_after, outcome_after}
-use Rattle.policies.specs.QueueCache.{StandsFor}
-use Rattle.policies.specs.QueueStep.{recorded_in, queue_act, queue_record_of, IsReached}
+use Rattle.queue_cache.specs.SingleQueue.{single_queue}
+use Rattle.queue_cache.specs.QueueCache.{state_after}
 use Rattle.policies.specs.AnyPolicy.{HasAccessed, stats_in, stats_on, outcomes_on}
 use Rattle.policies.specs.AnyStep.{any_act, any_record_of, any_asks, recorded_outcome}
-
--- For a cache of queues that made some accesses, an accepted step answers the outcome that the definition gives after
--- all of them, and leaves a cache that made one access more.
-abbrev pub QueuesStepLaw : Type 0
-QueuesStepLaw = (j : Job) (keys : List ℕ) (d : QueueState) (k : ℕ) (o : Outcome) (e : QueueState) → StandsFor j keys d
-    → queue_act d k ≡ Some (o, e) → (o ≡ outcome_after j keys k) × StandsFor j (keys ++ k ∷ []) e
-
--- It refuses a key only after MAX_STEPS accesses.
-abbrev pub QueuesAccept : Type 0
-QueuesAccept = (d : QueueState) (k : ℕ) → queue_act d k ≡ None → d.stats.accesses ≡ MAX_STEPS
-
--- The record of a hit moves nothing out of the queues, so undoing a hit is never refused.
-abbrev pub HitsKeepAll : Type 0
-HitsKeepAll = (d : QueueState) (k : ℕ) (e : QueueState) → queue_act d k ≡ Some (Hit, e)
-    → (queue_record_of k d).moves.out ≡ None
-
--- The item that the record of an access moves out is the one that left by the table of moves, and no other: where none
--- left, undoing the access is never refused.
-abbrev pub RecordsShowLeaver : Type 0
-RecordsShowLeaver = (d : QueueState) (k : ℕ) → IsReached d
-    → option_map (λ m. m.item) (queue_record_of k d).moves.out
-    ≡ (access_response (recorded_in k d.frequency) k d).left
-
--- For every list of accesses, a cache of Lru holds the last distinct keys, and the outcome of an access is the one that
--- the whole list gives.
-abbrev pub LruStepLaw : Type 0
-LruStepLaw = (j : Job) (keys : List ℕ) (k : ℕ) → j.policy ≡ Lru → 1 ≤ j.config.capacity
-    → ((state_after j keys).queues ≡ single_queue (lru_residents j.config.capacity keys))
-    × (outcome_after j keys k ≡ lru_outcome j.config.capacity keys k)
 
 -- For every list of accesses, a cache of FIFO holds the keys in the order in which they came in, and its outcomes are
 -- those of the definition over plain keys.

@@ -2,26 +2,20 @@
 //! that keep each missed key, one for the adaptive window, and one for the optimal policy.
 ghost use Rattle.std.specs.Prelude.{◌≡◌, ◌++◌, ◌≤◌, ℕ, List, OnOk, length};
 ghost use Rattle.step_record.specs.declared.job.Job.{Job};
-ghost use Rattle.policies.specs.declared.design.QueueDesign.{QueueDesign};
-ghost use Rattle.policies.specs.Design.{design_of};
-ghost use Rattle.policies.specs.Fifo.{fifo};
-ghost use Rattle.policies.specs.Lru.{lru};
-ghost use Rattle.policies.specs.SegmentedLru.{segmented_lru};
-ghost use Rattle.policies.specs.TinyLfu.{tiny_lfu};
-ghost use Rattle.policies.specs.WindowTinyLfu.{window_tiny_lfu};
+ghost use Rattle.queue_cache.specs.Design.{design_of};
 ghost use Rattle.policies.specs.AnyPolicy.{HasAccessed};
 ghost use Rattle.policies.specs.Accesses.{IsNext};
 
 use crate::any_policy::AnyPolicy;
-use crate::design::{
-    Design, FIFO, FixedDesign, LRU, QueueDesign, SEGMENTED_LRU, TINY_LFU_LRU, TINY_LFU_SEGMENTED,
-    WINDOW_TINY_LFU,
-};
-use crate::queue_cache::QueueCache;
 use crate::theorems;
 use adaptive_window::AdaptiveCache;
 use clairvoyant::Clairvoyant;
 use demand_cache::DemandCache;
+use queue_cache::fixed_design::{
+    FifoDesign, FixedDesign, LruDesign, SegmentedLruDesign, TinyLfuLruDesign,
+    TinyLfuSegmentedDesign, WindowTinyLfuDesign,
+};
+use queue_cache::{Design, QueueCache};
 use std::alloc::AllocError;
 use step_record::{Engine, Key, Policy, StepFault};
 
@@ -130,52 +124,4 @@ pub(crate) fn access_optimal(cache: &mut Clairvoyant, keys: &[Key]) -> Result<()
         }
     }
     Ok(())
-}
-
-struct LruDesign;
-
-impl FixedDesign for LruDesign {
-    ghost DESIGN = { lru };
-
-    const DESIGN: QueueDesign = LRU;
-}
-
-struct SegmentedLruDesign;
-
-impl FixedDesign for SegmentedLruDesign {
-    ghost DESIGN = { segmented_lru };
-
-    const DESIGN: QueueDesign = SEGMENTED_LRU;
-}
-
-struct TinyLfuLruDesign;
-
-impl FixedDesign for TinyLfuLruDesign {
-    ghost DESIGN = { tiny_lfu lru };
-
-    const DESIGN: QueueDesign = TINY_LFU_LRU;
-}
-
-struct TinyLfuSegmentedDesign;
-
-impl FixedDesign for TinyLfuSegmentedDesign {
-    ghost DESIGN = { tiny_lfu segmented_lru };
-
-    const DESIGN: QueueDesign = TINY_LFU_SEGMENTED;
-}
-
-struct WindowTinyLfuDesign;
-
-impl FixedDesign for WindowTinyLfuDesign {
-    ghost DESIGN = { window_tiny_lfu };
-
-    const DESIGN: QueueDesign = WINDOW_TINY_LFU;
-}
-
-struct FifoDesign;
-
-impl FixedDesign for FifoDesign {
-    ghost DESIGN = { fifo };
-
-    const DESIGN: QueueDesign = FIFO;
 }

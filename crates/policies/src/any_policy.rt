@@ -3,13 +3,12 @@ ghost use Rattle.std.specs.Prelude.{◌≡◌, ◌≤◌, ◌↔◌, IfOk, OnErr
 ghost use Rattle.std.specs.Prelude.{Ok, Err, Some, None, [], option_map, length};
 ghost use Rattle.demand_cache.specs.DemandCache.{demand_act, demand_may_ask};
 
-use crate::design::{Design, design_of};
-use crate::queue_cache::{ByJob, QueueCache};
-use crate::record::AccessRecord;
+use crate::demand_design::demand_policy;
 use adaptive_window::{AdaptiveCache, AdaptiveRecord};
 use admission::Frequency;
 use clairvoyant::{Clairvoyant, NextUse, OptimalRecord};
 use demand_cache::{DemandCache, DemandRecord};
+use queue_cache::{AccessRecord, ByJob, Design, QueueCache, design_of};
 use std::alloc::{AllocError, Global};
 use step_record::{Engine, Job, Key, Outcome, Stats, StepFault, Trace};
 
@@ -63,7 +62,7 @@ impl AnyPolicy {
             }
             Design::Demand(design) => Ok(AnyPolicy::Demand(DemandCache::new(
                 alloc,
-                design.policy(job),
+                demand_policy(design, job),
                 job.config.capacity,
             ))),
             Design::Adaptive => {
@@ -92,7 +91,7 @@ impl AnyPolicy {
             }
             Design::Demand(design) => Ok(AnyPolicy::Demand(DemandCache::new(
                 alloc,
-                design.policy(job),
+                demand_policy(design, job),
                 job.config.capacity,
             ))),
             Design::Adaptive => {

@@ -2,36 +2,8 @@
 //! nothing: its contract is the theorem.
 ghost use Rattle.policies.specs.Residents.{ResidentsFit, ResidentsDistinct, ResidentsCounted};
 ghost use Rattle.policies.specs.Residents.{HitsAreResidents, FetchesOnDemand, StatsAddUp, MissesFit};
-ghost use Rattle.policies.specs.Theorems.{QueuesStepLaw, QueuesAccept, HitsKeepAll, RecordsShowLeaver};
-ghost use Rattle.policies.specs.Theorems.{LruStepLaw, FifoStepLaw, AnyHitsKeepAll, AnyRecordsShowOutcome, AnyAsksWhereOneLeft};
+ghost use Rattle.policies.specs.Theorems.{FifoStepLaw, AnyHitsKeepAll, AnyRecordsShowOutcome, AnyAsksWhereOneLeft};
 ghost use Rattle.policies.specs.Theorems.{AnyStepLaw, AnyAccepts, AnyIsOne, AnyReports, AnyAnswers, AnyCoversTrace};
-
-/// An accepted step of a cache of queues answers what the definition gives over the whole list of accesses, and leaves
-/// that list with the key at its end.
-pub fn queues_step_law()
-    ensures { QueuesStepLaw }
-{}
-
-/// A cache of queues refuses a key only after 2^32 accesses.
-pub fn queues_accept()
-    ensures { QueuesAccept }
-{}
-
-/// The undo record of a hit moves nothing out of the queues, so undoing a hit is never refused.
-pub fn hits_keep_all()
-    ensures { HitsKeepAll }
-{}
-
-/// The item that an undo record moves out is the one that left in the access, and no other: undoing an access by which
-/// none left is never refused.
-pub fn records_show_leaver()
-    ensures { RecordsShowLeaver }
-{}
-
-/// What the table of moves gives for Lru is what the last distinct keys give, over the whole list of accesses.
-pub fn lru_step_law()
-    ensures { LruStepLaw }
-{}
 
 /// What the table of moves gives for FIFO is what its definition over plain keys gives, for every list of accesses.
 pub fn fifo_step_law()

@@ -10,9 +10,10 @@ use Rattle.step_record.specs.declared.job.Job.{Job}
 use Rattle.step_record.specs.declared.stats.Stats.{Stats}
 use Rattle.segments.specs.Queues.{residents_in}
 use Rattle.replacement.proofs.Residents.{resident-queued}
-use Rattle.policies.specs.declared.design.Design.{Design}
-use Rattle.policies.specs.declared.design.Design.TheVariants as design
-use Rattle.policies.specs.Design.{demand_policy, design_of, has_queues, is_optimal, knows_trace}
+use Rattle.queue_cache.specs.declared.design.Design.{Design}
+use Rattle.queue_cache.specs.declared.design.Design.TheVariants as design
+use Rattle.queue_cache.specs.Design.{design_of, has_queues, is_optimal, knows_trace}
+use Rattle.policies.specs.DemandDesign.{demand_policy}
 use Rattle.step_record.specs.declared.outcome.Outcome.TheVariants.{Rejected}
 use Rattle.step_record.specs.Stats.{stats_of}
 use Rattle.queue_policies.specs.Residents.{KeepsResidents, outcomes_of_all}
@@ -26,18 +27,18 @@ use Rattle.policies.proofs.Adaptive.{adaptive-stats}
 use Rattle.policies.proofs.StepLaws.{outcomes-of-queues, outcomes-of-optimal}
 use Rattle.policies.proofs.Demand.{demand-keeping, with-room}
 use Rattle.policy_laws.proofs.Strategies.{Serves, serves, residents_at, strategy as served-strategy, hits-are as served-hits, beaten}
-use Rattle.policies.specs.QueueCache.{QueueState, access_response, queue_state_after, frequency_after, state_after}
+use Rattle.queue_cache.specs.QueueCache.{QueueState, access_response, queue_state_after, frequency_after, state_after}
 use Rattle.policies.specs.AnyPolicy.{IsDemandAfter, IsAdaptiveAfter, demand_run, demand_outcomes, adaptive_start, adaptive_outcomes, outcomes_by, stats_on}
 use Rattle.policies.specs.declared.any_policy.AnyPolicy.TheVariants.{Queues, Optimal, Demand, Adaptive}
 use Rattle.clairvoyant.specs.Clairvoyant.{ClairvoyantState}
 use Rattle.step_record.specs.declared.job.Policy.TheVariants.{Clairvoyant}
-use Rattle.policies.proofs.Counting.{after-counts}
-use Rattle.policies.proofs.Reached.{after-snoc}
+use Rattle.queue_cache.proofs.Counting.{after-counts}
+use Rattle.queue_cache.proofs.Reached.{after-snoc}
 use Rattle.optimality.specs.Strategy.{IsStrategy, strategy_hits}
 use Rattle.clairvoyant.specs.Belady.{belady_residents}
 use Rattle.optimality.specs.Theorems.{belady_hits, BeladyIsOptimal, BeladyIsStrategy, BeladyHitsGrow}
 use Rattle.policy_laws.specs.Theorems.{NoPolicyBeatsBelady, BeladyLeads, OptimalHitsGrow}
-use Rattle.policies.proofs.Balance.{IsBalancedCache, step-balanced, after-balanced, came-from, residents-fit}
+use Rattle.queue_cache.proofs.Balance.{IsBalancedCache, step-balanced, after-balanced, came-from, residents-fit}
 
 -- ---- a policy of queues as a strategy
 

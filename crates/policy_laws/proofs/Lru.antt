@@ -6,13 +6,13 @@ use Rattle.step_record.specs.Keys.{has_key}
 use Rattle.step_record.specs.declared.job.Job.{Job}
 use Rattle.step_record.specs.declared.job.Policy.TheVariants.{Lru}
 use Rattle.segments.specs.Queues.{residents_in}
-use Rattle.policies.specs.Design.{has_queues}
-use Rattle.policies.specs.Lru.{distinct_keys, lru_residents}
-use Rattle.policies.specs.SingleQueue.{single_queue}
+use Rattle.queue_cache.specs.Design.{has_queues}
+use Rattle.queue_cache.specs.Lru.{distinct_keys, lru_residents}
+use Rattle.queue_cache.specs.SingleQueue.{single_queue}
 use Rattle.policies.specs.AnyPolicy.{stats_on}
 use Rattle.policies.specs.Theorems.{LruStepLaw}
-use Rattle.policies.proofs.Balance.{residents-fit}
-use Rattle.policies.proofs.Recency.{has-drop}
+use Rattle.queue_cache.proofs.Balance.{residents-fit}
+use Rattle.queue_cache.proofs.Recency.{has-drop}
 use Rattle.optimality.specs.Strategy.{strategy_hits}
 use Rattle.policy_laws.specs.Theorems.{LruHitsGrow}
 use Rattle.policy_laws.proofs.Beaten.{kept, all-hits, stats-queues}

@@ -22,10 +22,10 @@ use Rattle.replacement.proofs.Planned.{access-at}
 use Rattle.replacement.proofs.Balance.{stands-once}
 use Rattle.replacement.proofs.Residents.{resident-queued}
 use Rattle.replacement.proofs.Residents.{resident-queued}
-use Rattle.policies.specs.Design.{design_of, rules_in, rules_of}
-use Rattle.policies.specs.QueueCache.{QueueState, frequency_after, state_after}
-use Rattle.policies.proofs.Reached.{after-job, after-snoc}
-use Rattle.policies.proofs.Balance.{IsBalancedCache, after-balanced, came-from}
+use Rattle.queue_cache.specs.Design.{design_of, rules_in, rules_of}
+use Rattle.queue_cache.specs.QueueCache.{QueueState, frequency_after, state_after}
+use Rattle.queue_cache.proofs.Reached.{after-job, after-snoc}
+use Rattle.queue_cache.proofs.Balance.{IsBalancedCache, after-balanced, came-from}
 use Rattle.optimality.proofs.Counting.{no}
 use Rattle.policy_laws.specs.Scans.{IsScan, ScansSpareProtected}
 

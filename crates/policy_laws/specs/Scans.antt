@@ -4,7 +4,7 @@ use Rattle.step_record.specs.Keys.{has_key}
 use Rattle.step_record.specs.declared.job.Job.{Job}
 use Rattle.step_record.specs.declared.job.Policy.TheVariants.{SegmentedLru, TinyLfuSegmented}
 use Rattle.segments.specs.Queues.{residents_in}
-use Rattle.policies.specs.QueueCache.{state_after}
+use Rattle.queue_cache.specs.QueueCache.{state_after}
 
 -- the keys are accessed once each, and none of them is resident when the scan begins
 abbrev pub IsScan : List ℕ → List ℕ → Type 0

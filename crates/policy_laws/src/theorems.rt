@@ -33,7 +33,7 @@ pub fn optimal_hits_grow()
 pub fn lru_hits_grow()
     ensures { LruHitsGrow }
 {
-    policies::theorems::lru_step_law();
+    queue_cache::theorems::lru_step_law();
 }
 
 /// A scan, which accesses keys once each, leaves the protected queue of segmented Lru as it was, with the admission

@@ -11,9 +11,9 @@ use Rattle.admission.specs.Frequency.{FrequencyData, frequency_of, pace_of}
 use Rattle.admission.proofs.Recording.{recorded_freq}
 use Rattle.replacement.specs.Shape.{shape_of}
 use Rattle.replacement.proofs.Shape.{shape-is, own-shape}
-use Rattle.policies.specs.QueueCache.{QueueState, access_response, queue_state_after, frequency_after, empty_queue_state as opened_policy, outcomes_from, outcomes_after, state_from, state_after}
-use Rattle.policies.specs.QueueStep.{recorded_in}
-use Rattle.policies.proofs.Reached.{has-room, after-frequency, after-job}
+use Rattle.queue_cache.specs.QueueCache.{QueueState, access_response, queue_state_after, frequency_after, empty_queue_state as opened_policy, outcomes_from, outcomes_after, state_from, state_after}
+use Rattle.queue_cache.specs.QueueStep.{recorded_in}
+use Rattle.queue_cache.proofs.Reached.{has-room, after-frequency, after-job}
 use Rattle.shell_model.specs.Shell.{Shell, act}
 use Rattle.shell_model.specs.Consistency.{IsConsistent}
 use Rattle.shell_model.specs.ReachableShell.{IsReachable}

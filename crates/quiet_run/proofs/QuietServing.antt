@@ -15,8 +15,8 @@ use Rattle.segments.specs.Items.{occurrences}
 use Rattle.segments.specs.Queues.{Queues, queues_after_push, IsDistinct}
 use Rattle.replacement.specs.Admission.{admits_in}
 use Rattle.replacement.specs.Table.{Response, after_hit}
-use Rattle.policies.specs.QueueCache.{QueueState, access_response, queue_state_after}
-use Rattle.policies.specs.QueueStep.{recorded_in, queue_act}
+use Rattle.queue_cache.specs.QueueCache.{QueueState, access_response, queue_state_after}
+use Rattle.queue_cache.specs.QueueStep.{recorded_in, queue_act}
 use Rattle.shell_buffers.specs.declared.task.Task.{Task}
 use Rattle.shell_buffers.specs.Buffers.{stripe_at}
 use Rattle.shell_model.specs.declared.holder.Holder.{Holder}

@@ -11,8 +11,8 @@ use Rattle.segments.specs.Queues.{Queues, queue_holding, queues_after_push, IsDi
 use Rattle.replacement.specs.Admission.{admits_in}
 use Rattle.replacement.specs.Rules.{three_queues}
 use Rattle.replacement.specs.Table.{Response, hit_in, after_hit, eviction, access_in, access}
-use Rattle.policies.specs.QueueCache.{QueueState, access_response}
-use Rattle.policies.specs.QueueStep.{recorded_in}
+use Rattle.queue_cache.specs.QueueCache.{QueueState, access_response}
+use Rattle.queue_cache.specs.QueueStep.{recorded_in}
 use Rattle.shell_model.specs.Frequency.{frequency_recorded}
 use Rattle.shell_model.specs.Shell.{shell_protected_size}
 use Rattle.quiet_run.specs.Nodes.{nodeless_queues, nodeless_response, IsOnly, HasKeysOnce}

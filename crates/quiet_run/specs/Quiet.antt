@@ -7,7 +7,7 @@ use Rattle.step_record.specs.declared.job.Policy.TheVariants.{WindowTinyLfu}
 use Rattle.step_record.specs.Job.{published_tuning}
 use Rattle.step_record.specs.declared.drain.Drain.TheVariants.{Idle}
 use Rattle.segments.specs.Items.{occurrences}
-use Rattle.policies.specs.QueueCache.{QueueState}
+use Rattle.queue_cache.specs.QueueCache.{QueueState}
 use Rattle.shell_model.specs.Shell.{Shell, window_size}
 use Rattle.replacement.specs.Counts.{queue_occurrences}
 use Rattle.quiet_run.specs.Nodes.{nodeless_queues, HasKeysOnce}

@@ -4,8 +4,8 @@ use Rattle.step_record.specs.declared.config.Config.{Config}
 use Rattle.step_record.specs.declared.outcome.Outcome.{Outcome}
 use Rattle.step_record.specs.declared.outcome.Outcome.TheVariants.{Kept}
 use Rattle.step_record.specs.History.{data_after, IsLegal, Entries}
-use Rattle.policies.specs.QueueCache.{QueueState, outcomes_after, state_after}
-use Rattle.policies.specs.QueueStep.{queue_act}
+use Rattle.queue_cache.specs.QueueCache.{QueueState, outcomes_after, state_after}
+use Rattle.queue_cache.specs.QueueStep.{queue_act}
 use Rattle.shell_model.specs.Shell.{Shell, act}
 use Rattle.shell_model.specs.ReachableShell.{IsReachable}
 use Rattle.quiet_run.specs.Quiet.{IsQuiet, quiet_job}

@@ -3,7 +3,7 @@ ghost use Rattle.std.specs.Prelude.{◌≡◌, ◌≤◌, ◌↔◌, ℕ, None, 
 ghost use Rattle.step_record.specs.declared.config.Config.{Config};
 ghost use Rattle.step_record.specs.declared.limits.TheConstants.{MAX_STRIPES};
 ghost use Rattle.step_record.specs.declared.outcome.Outcome.TheVariants.{Kept};
-ghost use Rattle.policies.specs.QueueCache.{state_after};
+ghost use Rattle.queue_cache.specs.QueueCache.{state_after};
 ghost use Rattle.shell_model.specs.ReachableShell.{IsReachable};
 ghost use Rattle.quiet_run.specs.Quiet.{IsQuiet, quiet_job};
 ghost use Rattle.maintenance.specs.EmptyShell.{IsOpened};

@@ -8,15 +8,15 @@ use Rattle.step_record.specs.declared.job.Policy.TheVariants.{Lru}
 use Rattle.step_record.specs.declared.outcome.Outcome.{Outcome}
 use Rattle.step_record.specs.declared.stats.Stats.{Stats}
 use Rattle.step_record.specs.Stats.{is_hit, is_miss, is_eviction, is_rejection, stats_of, one_if}
-use Rattle.policies.specs.Lru.{distinct_keys, keys_since, is_lru_hit, lru_outcome}
-use Rattle.policies.specs.QueueCache.{QueueState, queue_state_after, frequency_after, state_after, outcomes_from, outcomes_after, outcome_after}
-use Rattle.policies.specs.Design.{design_of}
+use Rattle.queue_cache.specs.Lru.{distinct_keys, keys_since, is_lru_hit, lru_outcome}
+use Rattle.queue_cache.specs.QueueCache.{QueueState, queue_state_after, frequency_after, state_after, outcomes_from, outcomes_after, outcome_after}
+use Rattle.queue_cache.specs.Design.{design_of}
 use Rattle.policies.specs.AnyPolicy.{stats_on, outcomes_by, outcomes_on}
-use Rattle.policies.proofs.Counting.{count-cons, hits-misses}
-use Rattle.policies.proofs.Reached.{after-snoc, after-job}
-use Rattle.policies.proofs.OneQueue.{outcome-lru}
+use Rattle.queue_cache.proofs.Counting.{count-cons, hits-misses}
+use Rattle.queue_cache.proofs.Reached.{after-snoc, after-job}
+use Rattle.queue_cache.proofs.OneQueue.{outcome-lru}
 use Rattle.stack_distances.specs.Distances.{distance, distances_after, distances, is_within, hits_within, stats_within}
-use Rattle.policies.proofs.Recency.{two}
+use Rattle.queue_cache.proofs.Recency.{two}
 use Rattle.stack_distances.proofs.Stack.{grows, since-within}
 
 -- ---- one access

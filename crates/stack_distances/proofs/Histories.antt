@@ -6,8 +6,8 @@ use Rattle.std.proofs.lemmas.List.{take_more}
 use Rattle.std.proofs.lemmas.List.Sums.{sum_by_push}
 use Rattle.step_record.specs.Keys.{has_key}
 use Rattle.step_record.specs.Bits.{bit_of}
-use Rattle.policies.specs.Lru.{distinct_keys, keys_since}
-use Rattle.policies.proofs.Recency.{has-drop, two}
+use Rattle.queue_cache.specs.Lru.{distinct_keys, keys_since}
+use Rattle.queue_cache.proofs.Recency.{has-drop, two}
 use Rattle.trace_index.specs.KeyPlaces.{place_of}
 use Rattle.trace_index.specs.Uses.{last_below, number_of}
 use Rattle.stack_distances.specs.Distances.{distance, distances_after, distances}

@@ -5,7 +5,7 @@ use Rattle.std.proofs.lemmas.Bool.Decides.{nat_tests}
 use Rattle.std.proofs.lemmas.List.{get_or-take, drop-append-le, length-take-le, take_more}
 use Rattle.std.proofs.Math.ListN.{drop_of_length-le}
 use Rattle.step_record.specs.Keys.{has_key}
-use Rattle.policies.proofs.Recency.{two}
+use Rattle.queue_cache.proofs.Recency.{two}
 use Rattle.trace_index.specs.Uses.{last_below, number_of}
 use Rattle.stack_distances.proofs.Stack.{has-snoc, eqb-sym}
 

@@ -3,11 +3,11 @@ use Rattle.std.proofs.Common.{◌≡◌, ℕ, suc, ◌+◌, ◌≤◌, min, fals
 use Rattle.std.proofs.lemmas.Bool.{cases_lt}
 use Rattle.std.proofs.lemmas.Bool.Decides.{nat_tests}
 use Rattle.step_record.specs.Keys.{has_key}
-use Rattle.policies.specs.Lru.{distinct_keys}
+use Rattle.queue_cache.specs.Lru.{distinct_keys}
 use Rattle.stack_distances.specs.Distances.{distance, distances_after, is_within, hits_within}
 use Rattle.stack_distances.specs.Histogram.{is_at}
-use Rattle.policies.proofs.Counting.{count-cons}
-use Rattle.policies.proofs.Recency.{two}
+use Rattle.queue_cache.proofs.Counting.{count-cons}
+use Rattle.queue_cache.proofs.Recency.{two}
 use Rattle.stack_distances.proofs.Stack.{grows, since-within}
 
 -- ---- one distance more

@@ -7,7 +7,7 @@ use Rattle.std.proofs.lemmas.List.FromFn.{fill_by_all}
 use Rattle.std.proofs.lemmas.List.Sums.{count_by-le-length}
 use Rattle.step_record.specs.Places.{by_place}
 use Rattle.step_record.proofs.Places.{length-by_place, get_or-by_place}
-use Rattle.policies.specs.Lru.{distinct_keys}
+use Rattle.queue_cache.specs.Lru.{distinct_keys}
 use Rattle.stack_distances.specs.Distances.{distances, is_within, hits_within}
 use Rattle.stack_distances.specs.Histogram.{count_at, is_at, IsHistogram}
 use Rattle.stack_distances.specs.declared.histogram.Histogram.{Histogram}

@@ -3,8 +3,8 @@ use Rattle.std.proofs.Common.{◌≡◌, ℕ, suc, zero, ◌≤◌, true, false,
 use Rattle.std.proofs.lemmas.Bool.{eqb-true}
 use Rattle.std.proofs.lemmas.Bool.Decides.{nat_tests}
 use Rattle.step_record.specs.Keys.{has_key}
-use Rattle.policies.specs.Lru.{distinct_keys, keys_since}
-use Rattle.policies.proofs.Recency.{has-drop, two}
+use Rattle.queue_cache.specs.Lru.{distinct_keys, keys_since}
+use Rattle.queue_cache.proofs.Recency.{has-drop, two}
 
 pub eqb-sym : (a b : ℕ) → eqb a b ≡ eqb b a
 eqb-sym a b = grind (arith, nat_tests)

@@ -7,9 +7,9 @@ use Rattle.step_record.specs.Keys.{has_key}
 use Rattle.step_record.specs.Bits.{bit_of}
 use Rattle.step_record.specs.declared.job.Job.{Job}
 use Rattle.step_record.specs.declared.job.Policy.TheVariants.{Lru}
-use Rattle.policies.specs.Lru.{distinct_keys}
+use Rattle.queue_cache.specs.Lru.{distinct_keys}
 use Rattle.policies.specs.AnyPolicy.{stats_on}
-use Rattle.policies.proofs.Recency.{has-drop, two}
+use Rattle.queue_cache.proofs.Recency.{has-drop, two}
 use Rattle.stack_distances.specs.Distances.{distance, is_within, hits_within}
 use Rattle.trace_index.specs.Uses.{last_below, number_of}
 use Rattle.stack_distances.specs.Window.{IsWindow, IsFirstClear, stats_in}

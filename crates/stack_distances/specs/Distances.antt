@@ -3,7 +3,7 @@ use Rattle.std.specs.Prelude.{ℕ, suc, ◌-◌, min, nat_le, Bool, false, if◌
 use Rattle.std.specs.Prelude.{List, [], ◌∷◌, ◌++◌, length, count_by}
 use Rattle.step_record.specs.Keys.{has_key}
 use Rattle.step_record.specs.declared.stats.Stats.{Stats}
-use Rattle.policies.specs.Lru.{distinct_keys, keys_since}
+use Rattle.queue_cache.specs.Lru.{distinct_keys, keys_since}
 
 -- The distance of an access to k after the accesses xs: how many distinct keys were accessed since the last access to
 -- k, k itself included. A first access has none.

@@ -3,7 +3,7 @@ use Rattle.std.specs.Prelude.{◌≡◌, ℕ, ◌≤◌, List}
 use Rattle.step_record.specs.declared.job.Job.{Job}
 use Rattle.step_record.specs.declared.job.Policy.TheVariants.{Lru}
 use Rattle.step_record.specs.Stats.{is_hit}
-use Rattle.policies.specs.QueueCache.{outcome_after}
+use Rattle.queue_cache.specs.QueueCache.{outcome_after}
 use Rattle.policies.specs.AnyPolicy.{stats_on}
 use Rattle.stack_distances.specs.Distances.{distance, is_within, hits_within, stats_within}
 

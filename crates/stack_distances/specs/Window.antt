@@ -5,7 +5,7 @@ use Rattle.step_record.specs.declared.limits.TheConstants.{MAX_ACCESSES}
 use Rattle.step_record.specs.Keys.{has_key}
 use Rattle.step_record.specs.declared.stats.Stats.{Stats}
 use Rattle.step_record.specs.Bits.{bit_of}
-use Rattle.policies.specs.Lru.{distinct_keys}
+use Rattle.queue_cache.specs.Lru.{distinct_keys}
 use Rattle.stack_distances.specs.Distances.{hits_within}
 use Rattle.stack_distances.specs.declared.window.Window.{Window}
 

@@ -1,7 +1,7 @@
 use Rattle.std.proofs.Common.{ap, ◌∙◌, sym, subst, Err}
 use Rattle.step_record.specs.Limited.{lifted}
 use Rattle.policies.specs.declared.any_policy.AnyPolicy.TheVariants.{Queues}
-use Rattle.policies.specs.QueueCache.{QueueState}
+use Rattle.queue_cache.specs.QueueCache.{QueueState}
 use Rattle.policies.proofs.Stretches.{HasMade, next-made, next-accepted}
 use Rattle.policies.proofs.access_loops.access_each.Goals as goal
 

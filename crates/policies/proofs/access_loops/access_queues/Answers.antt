@@ -2,9 +2,9 @@ use Rattle.std.proofs.Common.{◌≡◌, ◌⊎◌, inl, inr, true, false, ap, �
 use Rattle.step_record.specs.declared.job.Job.{Job}
 use Rattle.step_record.specs.declared.job.Policy.{Policy}
 use Rattle.step_record.specs.declared.job.Policy.TheVariants.{Clairvoyant, Clock, Sieve, S3Fifo, TwoQ, Arc, Caffeine}
-use Rattle.policies.specs.Design.{has_queues}
-use Rattle.policies.specs.QueueCache.{QueueState}
-use Rattle.policies.proofs.Reached.{after-job}
+use Rattle.queue_cache.specs.Design.{has_queues}
+use Rattle.queue_cache.specs.QueueCache.{QueueState}
+use Rattle.queue_cache.proofs.Reached.{after-job}
 use Rattle.policies.proofs.access_loops.access_queues.Goals as goal
 
 not-of-queues : (p : Policy) → (p ≡ Clairvoyant) ⊎ ((p ≡ Clock) ⊎ ((p ≡ Sieve) ⊎ ((p ≡ S3Fifo) ⊎ ((p ≡ TwoQ) ⊎ ((p ≡ Arc) ⊎ (p ≡ Caffeine))))))

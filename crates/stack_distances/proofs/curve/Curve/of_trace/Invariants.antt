@@ -1,6 +1,6 @@
 use Rattle.std.proofs.Common.{◌≡◌, ◌≤◌, length}
 use Rattle.step_record.specs.declared.limits.TheConstants.{MAX_ACCESSES}
-use Rattle.policies.specs.Lru.{distinct_keys}
+use Rattle.queue_cache.specs.Lru.{distinct_keys}
 use Rattle.stack_distances.specs.Histogram.{IsHistogram}
 use Rattle.stack_distances.proofs.Reading.{IsSummed}
 use Rattle.stack_distances.proofs.curve.Curve.of_trace.Given as goal

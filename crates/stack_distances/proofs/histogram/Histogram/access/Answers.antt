@@ -1,6 +1,6 @@
 use Rattle.std.proofs.Common.{◌≡◌, ◌+◌, ◌-◌, ◌*◌, ◌<◌, ℕ, suc, cond, eqb, None, Some, List, length, count_by, get_or, take, ap, ◌∙◌, sym, arith}
 use Rattle.std.proofs.lemmas.List.{length_push}
-use Rattle.policies.specs.Lru.{distinct_keys, keys_since}
+use Rattle.queue_cache.specs.Lru.{distinct_keys, keys_since}
 use Rattle.trace_index.specs.KeyPlaces.{place_of}
 use Rattle.stack_distances.specs.Sums.{mark_of, sum_below}
 use Rattle.stack_distances.specs.Histogram.{count_at}

@@ -1,4 +1,4 @@
-use Rattle.policies.proofs.Reached.{has-room}
+use Rattle.queue_cache.proofs.Reached.{has-room}
 use Rattle.sweeps.proofs.prepared_trace.PreparedTrace.report.Goals as goal
 
 pub stats-requires : goal.stats-requires

@@ -1,6 +1,0 @@
-use Rattle.policies.proofs.Reached.{after-job}
-use Rattle.policies.proofs.OneQueue.{after-lru, outcome-lru}
-use Rattle.policies.proofs.theorems.lru_step_law.Goals as goal
-
-pub returns : goal.returns
-returns c = λ j keys k p room. (after-lru j p room keys, outcome-lru j p room keys k (after-job j keys))

@@ -1,0 +1,69 @@
+-- What holds of every cache of queues that made some accesses.
+use Rattle.std.proofs.Common.{◌≡◌, ◌⊎◌, ℕ, ◌+◌, ◌≤◌, true, Option, List, [], ◌∷◌, ◌++◌, length, ap, ◌∙◌, refl, arith}
+use Rattle.step_record.specs.declared.config.Config.{Config}
+use Rattle.step_record.specs.declared.job.Job.{Job}
+use Rattle.step_record.specs.declared.job.Policy.{Policy}
+use Rattle.step_record.specs.declared.job.Policy.TheVariants.{Lru, WindowTinyLfu}
+use Rattle.step_record.specs.Keys.{has_key}
+use Rattle.segments.specs.Items.{nodeless_item}
+use Rattle.segments.specs.Queues.{empty_queues, residents_in, total_items, IsDistinct}
+use Rattle.admission.specs.Frequency.{FrequencyData}
+use Rattle.replacement.specs.Admission.{admits_in}
+use Rattle.replacement.proofs.Balance.{FitsBy, fits-total, IsBalanced, balanced}
+use Rattle.replacement.proofs.Residents.{AreNodeless, residents-length, still-nodeless, queued-from}
+use Rattle.queue_cache.specs.Design.{design_of, rules_in, rules_of}
+use Rattle.queue_cache.specs.QueueCache.{QueueState, access_response, queue_state_after, frequency_after, state_from, empty_queue_state, state_after}
+use Rattle.queue_cache.proofs.Reached.{after-job}
+
+pub record IsBalancedCache (d : QueueState) : Type 0 where
+  pub once : IsDistinct d.queues
+  pub nodeless : AreNodeless d.queues
+  pub sizes : FitsBy (rules_of d.job).placement (rules_of d.job) d.queues
+  pub counted : total_items d.queues + d.stats.evictions ≡ d.stats.misses
+
+pub step-balanced : (f : Option FrequencyData) (k : ℕ) (d : QueueState) → IsBalancedCache d → IsBalanced (rules_of d.job) (nodeless_item k) d.queues (access_response f k d)
+step-balanced f k d s = balanced (rules_of d.job) (admits_in f) (nodeless_item k) d.queues s.once s.sizes
+
+pub next-balanced : (f : Option FrequencyData) (k : ℕ) (d : QueueState) → IsBalancedCache d → IsBalancedCache (queue_state_after f k d)
+next-balanced f k d s =
+    let v : IsBalanced (rules_of d.job) (nodeless_item k) d.queues (access_response f k d) = step-balanced f k d s in
+    record {
+      once = v.once;
+      nodeless = still-nodeless k d.queues (access_response f k d).queues s.nodeless v.came;
+      sizes = v.sizes;
+      counted = (let before = s.counted in let now = v.counted in omega (arith, before, now));
+    }
+
+empty-fits : (p : Policy) (c : Config) → FitsBy (rules_in (design_of p) c).placement (rules_in (design_of p) c) empty_queues
+empty-fits WindowTinyLfu c = (omega arith, omega arith)
+empty-fits _ c = omega arith
+
+own-capacity : (p : Policy) (c : Config) → (rules_in (design_of p) c).capacity ≡ c.capacity
+own-capacity Lru c = refl
+own-capacity _ c = refl
+
+empty-balanced : (j : Job) → IsBalancedCache (empty_queue_state j)
+empty-balanced j = record { once = λ i. omega arith; nodeless = λ i h. absurd (omega (arith, h)); sizes = empty-fits j.policy j.config; counted = refl }
+
+from-balanced : (j : Job) (past : List ℕ) (d : QueueState) (keys : List ℕ) → IsBalancedCache d → IsBalancedCache (state_from j past d keys)
+from-balanced j past d [] s = s
+from-balanced j past d (k ∷ keys) s =
+    from-balanced j (past ++ k ∷ []) (queue_state_after (frequency_after j (past ++ k ∷ [])) k d) keys (next-balanced (frequency_after j (past ++ k ∷ [])) k d s)
+
+pub after-balanced : (j : Job) (keys : List ℕ) → IsBalancedCache (state_after j keys)
+unfolding state_after
+after-balanced j keys = from-balanced j [] (empty_queue_state j) keys (empty-balanced j)
+
+-- ---- the residents
+
+pub residents-fit : (j : Job) (keys : List ℕ) → length (residents_in (state_after j keys).queues) ≤ j.config.capacity
+residents-fit j keys =
+    let s : IsBalancedCache (state_after j keys) = after-balanced j keys in
+    let d : QueueState = state_after j keys in
+    let within : total_items d.queues ≤ (rules_of d.job).capacity = fits-total (rules_of d.job).placement (rules_of d.job) d.queues s.sizes in
+    let own : (rules_of d.job).capacity ≡ j.config.capacity = own-capacity d.job.policy d.job.config ∙ ap (λ (x : Job). x.config.capacity) (after-job j keys) in
+    omega (arith, within, own, residents-length d.queues)
+
+-- a key that is resident after an access came in with it or was resident before
+pub came-from : (f : Option FrequencyData) (k x : ℕ) (d : QueueState) → IsBalancedCache d → has_key x (residents_in (queue_state_after f k d).queues) ≡ true → (x ≡ k) ⊎ (has_key x (residents_in d.queues) ≡ true)
+came-from f k x d s h = queued-from k d.queues (access_response f k d).queues s.nodeless (step-balanced f k d s).came x h

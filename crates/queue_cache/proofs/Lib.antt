@@ -1,0 +1,8 @@
+pub mod Recency
+pub mod OneQueue
+pub mod Counting
+pub mod Reached
+pub mod Balance
+pub mod Answered
+pub mod Recorded
+pub mod Leaving

@@ -1,0 +1,181 @@
+-- What some list of accesses gives, one access further.
+use Rattle.std.proofs.Common.{◌≡◌, ◌≢◌, ℕ, ◌+◌, ◌≤◌, Bool, true, false, inl, inr, Option, Some, None, Ok, Err, List, [], ◌∷◌, ◌++◌, length, ap, ◌∙◌, sym, refl, arith, subst, length-append, append-nil, add-zero}
+use Rattle.std.proofs.lemmas.List.{append_assoc}
+use Rattle.std.proofs.lemmas.Bool.{cases_Bool}
+use Rattle.std.proofs.lemmas.List.Sums.{count_by-le-length}
+use Rattle.std.proofs.lemmas.Bool.Decides.{nat_tests}
+use Rattle.step_record.specs.declared.config.ConfigFault.TheVariants.{Capacity}
+use Rattle.step_record.specs.declared.config.Config.{Config}
+use Rattle.step_record.specs.declared.job.Job.{Job}
+use Rattle.step_record.specs.declared.limits.TheConstants.{MAX_STEPS}
+use Rattle.step_record.specs.declared.outcome.Outcome.{Outcome}
+use Rattle.step_record.specs.declared.stats.Stats.{Stats}
+use Rattle.step_record.specs.Config.{config_fault, is_from_one}
+use Rattle.step_record.specs.Pace.{words_of_halvings}
+use Rattle.step_record.specs.Stats.{stats_of, stats_with, is_hit, is_miss, is_eviction, is_rejection, IsSmall}
+use Rattle.segments.specs.Queues.{Queues, empty_queues}
+use Rattle.step_record.proofs.Limited.{accepted}
+use Rattle.admission.specs.declared.freq_record.FreqRecord.{FreqRecord}
+use Rattle.admission.specs.Shape.{Shape}
+use Rattle.admission.specs.Frequency.{FrequencyData, frequency_of}
+use Rattle.admission.proofs.Recording.{recorded_freq}
+use Rattle.admission.proofs.Weighing.{halvings_bounded, weight_falls}
+use Rattle.replacement.specs.declared.rules.Rules.{Rules}
+use Rattle.replacement.specs.declared.record.Effect.{Effect}
+use Rattle.replacement.specs.Admission.{admits_in}
+use Rattle.replacement.specs.Shape.{shape_of}
+use Rattle.replacement.specs.Table.{Response, access}
+use Rattle.replacement.proofs.Shape.{shape-is}
+use Rattle.segments.specs.Items.{nodeless_item}
+use Rattle.queue_cache.specs.Design.{is_counting, rules_of}
+use Rattle.queue_cache.specs.QueueCache.{QueueState, access_response, queue_state_after, frequency_by, frequency_after, state_from, empty_queue_state, state_after, outcomes_after, outcome_after, StandsFor}
+use Rattle.queue_cache.specs.QueueStep.{IsReached, recorded_in, queue_access, queue_count, queue_act, FitsCounting, unrecorded, pace_by}
+use Rattle.admission.specs.FreqRecord.{size_of}
+use Rattle.queue_cache.specs.QueueFields.{FewHalvings}
+use Rattle.queue_cache.proofs.Answered.{after-length}
+use Rattle.queue_cache.proofs.Counting.{after-counts}
+
+from-snoc : (j : Job) (past : List ℕ) (d : QueueState) (keys : List ℕ) (k : ℕ) → state_from j past d (keys ++ k ∷ []) ≡ queue_state_after (frequency_after j ((past ++ keys) ++ k ∷ [])) k (state_from j past d keys)
+from-snoc j past d [] k = rw (append-nil past) refl
+from-snoc j past d (a ∷ keys) k =
+    from-snoc j (past ++ a ∷ []) (queue_state_after (frequency_after j (past ++ a ∷ [])) a d) keys k
+    ∙ rw (append_assoc past (a ∷ []) keys) refl
+
+-- one access more
+pub after-snoc : (j : Job) (keys : List ℕ) (k : ℕ) → state_after j (keys ++ k ∷ []) ≡ queue_state_after (frequency_after j (keys ++ k ∷ [])) k (state_after j keys)
+unfolding state_after
+after-snoc j keys k = from-snoc j [] (empty_queue_state j) keys k
+
+from-frequency : (j : Job) (past : List ℕ) (d : QueueState) (keys : List ℕ) → d.frequency ≡ frequency_after j past → (state_from j past d keys).frequency ≡ frequency_after j (past ++ keys)
+from-frequency j past d [] h = rw (append-nil past) h
+from-frequency j past d (a ∷ keys) h =
+    from-frequency j (past ++ a ∷ []) (queue_state_after (frequency_after j (past ++ a ∷ [])) a d) keys refl
+    ∙ rw (append_assoc past (a ∷ []) keys) refl
+
+pub after-frequency : (j : Job) (keys : List ℕ) → (state_after j keys).frequency ≡ frequency_after j keys
+unfolding state_after
+after-frequency j keys = from-frequency j [] (empty_queue_state j) keys refl
+
+from-job : (j : Job) (past : List ℕ) (d : QueueState) (keys : List ℕ) → (state_from j past d keys).job ≡ d.job
+from-job j past d [] = refl
+from-job j past d (a ∷ keys) = from-job j (past ++ a ∷ []) (queue_state_after (frequency_after j (past ++ a ∷ [])) a d) keys
+
+pub after-job : (j : Job) (keys : List ℕ) → (state_after j keys).job ≡ j
+unfolding state_after
+after-job j keys = from-job j [] (empty_queue_state j) keys
+
+-- its counts are those of its outcomes, one for each access
+stands-counts : (j : Job) (keys : List ℕ) (d : QueueState) → StandsFor j keys d → d.stats ≡ stats_of (outcomes_after j keys)
+stands-counts j keys d s = ap (λ (x : QueueState). x.stats) s.gives ∙ after-counts j keys
+
+pub stands-accesses : (j : Job) (keys : List ℕ) (d : QueueState) → StandsFor j keys d → d.stats.accesses ≡ length keys
+stands-accesses j keys d s = ap (λ (x : Stats). x.accesses) (stands-counts j keys d s) ∙ after-length j keys
+
+small-of : (os : List Outcome) → length os ≤ MAX_STEPS → IsSmall (stats_of os)
+small-of os few = record {
+  accesses = few;
+  hits = omega (arith, few, count_by-le-length is_hit os);
+  misses = omega (arith, few, count_by-le-length is_miss os);
+  evictions = omega (arith, few, count_by-le-length is_eviction os);
+  rejections = omega (arith, few, count_by-le-length is_rejection os);
+}
+
+pub reached-small : (d : QueueState) → IsReached d → IsSmall d.stats
+reached-small d r =
+    subst IsSmall (sym (stands-counts d.job r.keys d r.stands))
+    (small-of (outcomes_after d.job r.keys) (omega (arith, r.few, after-length d.job r.keys)))
+
+by-few : (b : Bool) (c : Config) (keys : List ℕ) → 1 ≤ c.capacity → length keys ≤ 4294967296 → FewHalvings (frequency_by b (shape_of c) keys)
+unfolding frequency_of
+by-few false c keys some few = tt
+by-few true c keys some few = let h = halvings_bounded c.capacity (length keys) some in omega arith
+
+pub has-room : (c : Config) → config_fault c ≡ Ok tt → 1 ≤ c.capacity
+has-room c h =
+    elim (cases_Bool (is_from_one 1048576 c.capacity)) [
+      | inl e ↦ grind (arith, nat_tests)
+      | inr e ↦ absurd (let no : Err Capacity ≡ Ok tt = rw e at h in cc (no))
+    ]
+
+pub reached-halvings : (d : QueueState) → IsReached d → FewHalvings d.frequency
+reached-halvings d r =
+    subst FewHalvings (sym (ap (λ (e : QueueState). e.frequency) r.stands.gives ∙ after-frequency d.job r.keys))
+    (by-few (is_counting d.job.policy) d.job.config r.keys (has-room d.job.config r.stands.checked) r.few)
+
+-- recording the key in the frequency of the accesses gives that of one more
+recorded-by : (b : Bool) (c : Config) (keys : List ℕ) (k : ℕ) → 1 ≤ c.capacity → recorded_in k (frequency_by b (shape_of c) keys) ≡ frequency_by b (shape_of c) (keys ++ k ∷ [])
+recorded-by false c keys k some = refl
+recorded-by true c keys k some =
+    let is = shape-is c some in
+    ap Some (recorded_freq (shape_of c) is.some (omega (arith, is.width.1)) keys k)
+
+-- for a cache that stands for some accesses: the frequency with the key
+stands-frequency : (j : Job) (keys : List ℕ) (k : ℕ) (d : QueueState) → StandsFor j keys d → recorded_in k d.frequency ≡ frequency_after j (keys ++ k ∷ [])
+stands-frequency j keys k d s =
+    ap (recorded_in k) (ap (λ (x : QueueState). x.frequency) s.gives ∙ after-frequency j keys)
+    ∙ recorded-by (is_counting j.policy) j.config keys k (has-room j.config s.checked)
+
+-- it stands for one access more after a step
+pub stands-step : (j : Job) (keys : List ℕ) (k : ℕ) (d : QueueState) → StandsFor j keys d → queue_state_after (recorded_in k d.frequency) k d ≡ state_after j (keys ++ k ∷ [])
+stands-step j keys k d s =
+    ap (λ f. queue_state_after f k d) (stands-frequency j keys k d s)
+    ∙ (ap (queue_state_after (frequency_after j (keys ++ k ∷ [])) k) s.gives ∙ sym (after-snoc j keys k))
+
+pub stands-outcome : (j : Job) (keys : List ℕ) (k : ℕ) (d : QueueState) → StandsFor j keys d → (access_response (recorded_in k d.frequency) k d).outcome ≡ outcome_after j keys k
+stands-outcome j keys k d s =
+    ap (λ f. (access_response f k d).outcome) (stands-frequency j keys k d s)
+    ∙ ap (λ x. (access_response (frequency_after j (keys ++ k ∷ [])) k x).outcome) s.gives
+
+reached-step : (d : QueueState) (k : ℕ) → IsReached d → d.stats.accesses ≢ 4294967296 → IsReached (queue_state_after (recorded_in k d.frequency) k d)
+reached-step d k r below =
+    let less : length r.keys ≢ 4294967296 = λ h. below (stands-accesses d.job r.keys d r.stands ∙ h) in
+    record {
+      keys = r.keys ++ k ∷ [];
+      stands = record { checked = r.stands.checked; gives = stands-step d.job r.keys k d r.stands };
+      few = omega (arith, r.few, less, length-append r.keys (k ∷ []));
+    }
+
+-- a cache that made no access
+pub first-stands : (j : Job) (f : Option FrequencyData) (q : Queues) → config_fault j.config ≡ Ok tt → f ≡ frequency_after j [] → q ≡ empty_queues
+    → StandsFor j [] record { job = j; queues = q; frequency = f; stats = stats_of [] }
+unfolding state_after
+first-stands j f q h g e = record { checked = h; gives = rw (e, g) refl }
+
+-- an access as the fields show it
+pub access-reached : (j : Job) (r : Rules) (q p t : Queues) (f g : Option FrequencyData) (s z : Stats) (k : ℕ) (w : Effect)
+    → r ≡ rules_of j → IsReached record { job = j; queues = q; frequency = f; stats = s } → s.accesses ≢ 4294967296
+    → p ≡ q → g ≡ recorded_in k f → w.outcome ≡ (access r (admits_in g) (nodeless_item k) p).outcome → t ≡ (access r (admits_in g) (nodeless_item k) p).queues
+    → z ≡ stats_with w.outcome s → IsReached record { job = j; queues = t; frequency = g; stats = z }
+access-reached j r q p t f g s z k w er reached below ep eg ho hl ez =
+    let d : QueueState = record { job = j; queues = q; frequency = f; stats = s } in
+    let new : QueueState = record { job = j; queues = t; frequency = g; stats = z } in
+    let same : access r (admits_in g) (nodeless_item k) p ≡ access (rules_of j) (admits_in (recorded_in k f)) (nodeless_item k) q =
+    ap (λ (x : Queues). access r (admits_in g) (nodeless_item k) x) ep
+    ∙ (ap (λ (x : Option FrequencyData). access r (admits_in x) (nodeless_item k) q) eg ∙ ap (λ (x : Rules). access x (admits_in (recorded_in k f)) (nodeless_item k) q) er) in
+    let lists : t ≡ (access (rules_of j) (admits_in (recorded_in k f)) (nodeless_item k) q).queues = hl ∙ ap (λ (x : Response). x.queues) same in
+    let outcome : w.outcome ≡ (access (rules_of j) (admits_in (recorded_in k f)) (nodeless_item k) q).outcome = ho ∙ ap (λ (x : Response). x.outcome) same in
+    let stats : z ≡ stats_with (access (rules_of j) (admits_in (recorded_in k f)) (nodeless_item k) q).outcome s = ez ∙ ap (λ o. stats_with o s) outcome in
+    let all : new ≡ queue_state_after (recorded_in k f) k d = rw (lists, eg, stats) refl in
+    subst IsReached (sym all) (reached-step d k reached below)
+
+-- the words of a record of the frequency
+pub counting-weighs : (r : FreqRecord) (g : Option FrequencyData) → FitsCounting r g → words_of_halvings (pace_by g) ≡ words_of_halvings (pace_by (unrecorded r g)) + size_of r
+counting-weighs r None h = rw (h, add-zero) refl
+counting-weighs r (Some f) h = weight_falls f r h
+
+-- what an accepted step does is what the list of accesses says
+pub act_stands : (j : Job) (keys : List ℕ) (d : QueueState) (k : ℕ) (o : Outcome) (e : QueueState) → StandsFor j keys d
+    → queue_act d k ≡ Some (o, e) → (o ≡ outcome_after j keys k) × StandsFor j (keys ++ k ∷ []) e
+act_stands j keys d k o e s h =
+    let a = accepted queue_count queue_access d k o e h in
+    (a.outcome ∙ stands-outcome j keys k d s, record { checked = s.checked; gives = a.next ∙ stands-step j keys k d s })
+
+uncounted-by : (b : Bool) (s : Shape) (keys : List ℕ) → b ≡ false → frequency_by b s keys ≡ None
+uncounted-by false s keys h = refl
+uncounted-by true s keys h = cc (h)
+
+-- where the policy counts no keys, there is no frequency
+pub reached-uncounted : (d : QueueState) → IsReached d → is_counting d.job.policy ≡ false → d.frequency ≡ None
+reached-uncounted d r h =
+    ap (λ (e : QueueState). e.frequency) r.stands.gives ∙ after-frequency d.job r.keys
+    ∙ uncounted-by (is_counting d.job.policy) (shape_of d.job.config) r.keys h

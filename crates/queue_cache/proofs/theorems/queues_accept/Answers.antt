@@ -1,0 +1,6 @@
+use Rattle.step_record.proofs.Limited.{refused}
+use Rattle.queue_cache.specs.QueueStep.{queue_access, queue_count}
+use Rattle.queue_cache.proofs.theorems.queues_accept.Goals as goal
+
+pub returns : goal.returns
+returns c = refused queue_count queue_access

@@ -1,0 +1,12 @@
+pub mod Fifo
+pub mod Lru
+pub mod SegmentedLru
+pub mod TinyLfu
+pub mod WindowTinyLfu
+pub mod Design
+pub mod QueueCache
+pub mod QueueStep
+pub mod QueueFields
+pub mod QueuePace
+pub mod SingleQueue
+pub mod Theorems

@@ -1,0 +1,427 @@
+//! The policies of queues, as one engine.
+ghost use Rattle.std.specs.Prelude.{◌≡◌, ◌≢◌, ◌+◌, ◌≤◌, ◌<◌, ◌↔◌, [], ◌++◌, option_map, map, length, false};
+ghost use Rattle.std.specs.Prelude.{IfOk, OnOk, OnErr, Ok, Option, Some, None};
+ghost use Rattle.step_record.specs.declared.limits.TheConstants.{MAX_STEPS};
+ghost use Rattle.step_record.specs.Config.{config_fault};
+ghost use Rattle.step_record.specs.Stats.{is_eviction};
+ghost use Rattle.segments.specs.Queues.{queue_holding};
+ghost use Rattle.replacement.specs.Shape.{shape_of};
+ghost use Rattle.queue_cache.specs.declared.design.Design.TheVariants.{Queues};
+ghost use Rattle.queue_cache.specs.Design.{design_of};
+ghost use Rattle.queue_cache.specs.QueueCache.{frequency_by};
+ghost use Rattle.queue_cache.specs.QueueStep.{recorded_in, counting_record, unrecorded, FitsCounting, FillsSample};
+ghost use Rattle.queue_cache.specs.QueueFields.{FewHalvings};
+
+use crate::design::{Layout, QueueDesign};
+use crate::fixed_design::FixedDesign;
+use crate::record::AccessRecord;
+use admission::{FreqRecord, Frequency};
+use queue_table::AHEAD;
+use replacement::{KeptMoves, Rules, access, make_room, open_frequency, undo};
+use segments::{Queue, Segments};
+use std::alloc::{AllocError, Global};
+use std::marker::{Model, PhantomData};
+use step_record::{Config, Engine, Item, Job, Key, MAX_STEPS, Outcome, Stats, StepFault};
+
+// The least capacity at which it is read ahead. Smaller queues stay in the processor's caches, where that costs more
+// than it spares; where keys are counted, the sketch shares the caches with them.
+const AHEAD_FROM: usize = 65_536;
+
+const AHEAD_FROM_WHERE_COUNTING: usize = 4096;
+
+/// Marks a cache whose policy is known by its job alone.
+#[derive(Drop)]
+pub struct ByJob;
+
+/// A cache of a policy of queues. `P` marks the types of single policies, as `Lru`, and is nothing to the cache.
+#[derive(Drop)]
+pub struct QueueCache<P = ByJob> {
+    job: Job,
+    rules: Rules,
+    segments: Segments,
+    frequency: Option<Frequency>,
+    stats: Stats,
+    policy: PhantomData<P>,
+}
+
+impl<P> Model for QueueCache<P> {
+    ghost use Rattle.queue_cache.specs.QueueCache.{QueueState};
+    ghost use Rattle.queue_cache.specs.QueueFields.{IsHolding};
+
+    ghost Value = { QueueState };
+
+    ghost view = { λ q. record { job = q.job; queues = q.segments.lists; frequency = q.frequency; stats = q.stats } };
+
+    ghost invariant = { λ q. IsHolding q.job q.rules q.segments.lists q.frequency q.stats };
+}
+
+impl<P: Drop> QueueCache<P> {
+    ghost use Rattle.segments.specs.Queues.{residents_in};
+    ghost use Rattle.queue_cache.specs.QueueCache.{StandsFor};
+    ghost use Rattle.queue_cache.specs.QueueStep.{queue_act, queue_record_of, queue_undone, queue_asks, QueueFits};
+    ghost use Rattle.queue_cache.specs.QueueStep.{queue_may_ask, queue_words, queue_pace};
+
+    /// An empty cache for a job. It requires a configuration that `Config::check` accepts, and the design of the job's
+    /// policy. The one error is that an allocation failed.
+    pub fn with_design(
+        alloc: Global,
+        job: Job,
+        design: QueueDesign,
+    ) -> Result<QueueCache<P>, AllocError>
+        requires checked { config_fault job.config ≡ Ok tt }
+        requires design { design_of job.policy ≡ Queues design }
+        ensures stands { IfOk result (λ q. StandsFor job [] q) }
+        ensures fresh { IfOk result (λ q. q.stats.accesses ≡ 0) }
+    {
+        let frequency = first_frequency(alloc, design.counts_keys, &job.config)?;
+        Ok(QueueCache {
+            job,
+            rules: design.rules(&job.config),
+            segments: Segments::for_items(alloc, job.config.capacity),
+            frequency,
+            stats: Stats::NONE,
+            policy: PhantomData,
+        })
+    }
+
+    /// Reads ahead, once for each few keys, what accesses to the keys from the one at `i` on read first, where the queues
+    /// are larger than the processor's caches: to be called before each access of a loop over them. It changes nothing.
+    #[inline(always)]
+    pub fn prefetch_at(&mut self, keys: &[Key], i: usize)
+        requires { i ≤ length keys.now }
+        ensures { self.new ≡ self.old }
+    {
+        if i % AHEAD == 0 {
+            self.read_ahead(keys, i);
+        }
+    }
+
+    fn read_ahead(&mut self, keys: &[Key], i: usize)
+        requires { i ≤ length keys.now }
+        ensures { self.new ≡ self.old }
+    {
+        let least = if self.frequency.is_some() {
+            AHEAD_FROM_WHERE_COUNTING
+        } else {
+            AHEAD_FROM
+        };
+        if self.rules.capacity >= least {
+            self.segments.read_ahead(keys, i);
+        }
+    }
+
+    /// Makes an access that is not to be undone: that of `apply`, without its undo record.
+    ///
+    /// Errors: `NotNow` exactly where `MAX_STEPS` accesses are applied, and `OutOfMemory`; each leaves the cache as it
+    /// was.
+    ///
+    /// `C` only selects an instance: calls with different `C` are compiled apart, so that one which is called at one
+    /// place is part of the loop there.
+    #[inline(always)]
+    pub fn access<C>(&mut self, key: Key) -> Result<Outcome, StepFault>
+        ensures accepted { IfOk result (λ o. queue_act self.old key ≡ Some (o, self.new)) }
+        ensures not_now { result ≡ Err StepFault.NotNow ↔ queue_act self.old key ≡ None }
+        ensures memory { result ≡ Err StepFault.OutOfMemory → queue_may_ask self.old key }
+        ensures err { OnErr result (self.new ≡ self.old) }
+    {
+        let item = Item { key, node: 0 };
+        room_for(&self.stats, &mut self.segments, item)?;
+        let Ok(()) = count_in(&mut self.frequency, key) else {
+            return Err(StepFault::OutOfMemory);
+        };
+        let frequency = self.frequency.as_ref();
+        let effect = access::<C>(&mut self.segments, frequency, &self.rules, item);
+        self.stats.count(effect.outcome);
+        Ok(effect.outcome)
+    }
+
+    /// Makes an access as `access` does, compiled for a design, which is that of the job's policy.
+    ///
+    /// Errors: those of `access`.
+    #[inline(always)]
+    pub fn access_by<D: FixedDesign>(&mut self, key: Key) -> Result<Outcome, StepFault>
+        requires { design_of self.old.job.policy ≡ Queues D.DESIGN }
+        ensures accepted { IfOk result (λ o. queue_act self.old key ≡ Some (o, self.new)) }
+        ensures not_now { result ≡ Err StepFault.NotNow ↔ queue_act self.old key ≡ None }
+        ensures memory { result ≡ Err StepFault.OutOfMemory → queue_may_ask self.old key }
+        ensures err { OnErr result (self.new ≡ self.old) }
+        ensures job { self.new.job ≡ self.old.job }
+    {
+        let design = D::DESIGN;
+        let item = Item { key, node: 0 };
+        room_for(&self.stats, &mut self.segments, item)?;
+        let Ok(()) = count_where(design.counts_keys, &mut self.frequency, key) else {
+            return Err(StepFault::OutOfMemory);
+        };
+        let frequency = frequency_where(design.counts_keys, &self.frequency);
+        let rules = design.fixed(&self.rules);
+        let effect = access::<D>(&mut self.segments, frequency, &rules, item);
+        self.stats.count(effect.outcome);
+        prepare_victim(design, &mut self.frequency, &self.segments, effect.outcome);
+        Ok(effect.outcome)
+    }
+
+    /// The job that it runs.
+    pub fn job(&self) -> Job
+        ensures { result ≡ self.now.job }
+    {
+        self.job
+    }
+
+    /// What was counted of the applied accesses.
+    pub fn stats(&self) -> Stats
+        ensures { result ≡ self.now.stats }
+    {
+        self.stats
+    }
+
+    /// How often keys came, where the policy counts them.
+    pub fn frequency(&self) -> Option<&Frequency>
+        ensures { option_map (λ f. f.now) result ≡ self.now.frequency }
+    {
+        self.frequency.as_ref()
+    }
+
+    /// The keys that it holds: those of the window, of probation and of protected in that order, oldest first. The one
+    /// error is that an allocation failed.
+    pub fn residents(&self, alloc: Global) -> Result<Vec<Key>, AllocError>
+        ensures { IfOk result (λ keys. keys.items ≡ residents_in self.now.queues) }
+    {
+        self.segments.keys(alloc)
+    }
+}
+
+impl<P: Drop> Engine for QueueCache<P> {
+    ghost use Rattle.std.specs.Prelude.{refl};
+    ghost use Rattle.step_record.specs.Pace.{IsPaced};
+    ghost use Rattle.step_record.proofs.Limited.{related, ended};
+    ghost use Rattle.queue_cache.specs.QueueStep.{queue_act, queue_record_of, queue_undone, queue_asks, QueueFits};
+    ghost use Rattle.queue_cache.specs.QueueStep.{queue_access, queue_count, queue_may_ask, queue_words, queue_pace};
+    ghost use Rattle.queue_cache.specs.QueuePace.{paced-by};
+
+    type Step = Key;
+
+    type Reply = Outcome;
+
+    type Record = AccessRecord;
+
+    type Data = QueueCache<P>;
+
+    ghost seen = { λ q. q };
+
+    ghost act = { queue_act };
+
+    ghost record_of = { queue_record_of };
+
+    ghost may_ask = { queue_may_ask };
+
+    ghost fits = { QueueFits };
+
+    ghost undone = { queue_undone };
+
+    ghost asks = { queue_asks };
+
+    ghost count = { queue_count };
+
+    ghost words_of = { queue_words };
+
+    ghost pace = { queue_pace };
+
+    #[inline(always)]
+    fn apply(&mut self, step: &Key) -> Result<(Outcome, AccessRecord), StepFault> {
+        let key = *step;
+        let item = Item { key, node: 0 };
+        room_for(&self.stats, &mut self.segments, item)?;
+        let Ok(counting) = record_in(&mut self.frequency, key) else {
+            return Err(StepFault::OutOfMemory);
+        };
+        let frequency = self.frequency.as_ref();
+        let effect = access::<Recorder>(&mut self.segments, frequency, &self.rules, item);
+        self.stats.count(effect.outcome);
+        let record = AccessRecord {
+            counting,
+            moves: KeptMoves::of(effect.moves),
+            outcome: effect.outcome,
+        };
+        Ok((effect.outcome, record))
+    }
+
+    fn undo(&mut self, done: AccessRecord) -> Result<(), AccessRecord> {
+        let moves = done.moves.moves();
+        if moves.out.is_some() && self.segments.reserve().is_err() {
+            return Err(done);
+        }
+        let AccessRecord {
+            counting,
+            moves: _,
+            outcome,
+        } = done;
+        self.stats.uncount(outcome);
+        undo(&mut self.segments, moves);
+        unrecord_in(&mut self.frequency, counting);
+        Ok(())
+    }
+
+    fn standing(&self) -> u64 {
+        self.stats.accesses
+    }
+
+    fn words(done: &AccessRecord) -> u64 {
+        done.counting.words()
+    }
+
+    ghost counted = { related queue_count queue_access (λ d e. queue_count e ≡ queue_count d + 1) (λ k d. refl) };
+
+    ghost counted_out = { ended queue_count queue_access };
+
+    ghost paced = { related queue_count queue_access (λ d e. IsPaced (queue_pace d) (queue_pace e))
+        (λ k d. paced-by k d.frequency) };
+}
+
+// The caller of an access that keeps its undo record. The code of an access stands in the program once for each type of
+// caller, so that the code for callers that drop the record neither makes nor copies it.
+struct Recorder;
+
+// The frequency of no key, where keys are counted.
+fn first_frequency(
+    alloc: Global,
+    counts_keys: bool,
+    config: &Config,
+) -> Result<Option<Frequency>, AllocError>
+    requires { config_fault config.now ≡ Ok tt }
+    ensures { IfOk result (λ f. f ≡ frequency_by counts_keys (shape_of config.now) []) }
+{
+    if !counts_keys {
+        return Ok(None);
+    }
+    let frequency = open_frequency(alloc, config)?;
+    Ok(Some(frequency))
+}
+
+// Makes the room that one more access takes, before its key is counted: what follows takes none.
+#[inline(always)]
+fn room_for(stats: &Stats, segments: &mut Segments, item: Item) -> Result<(), StepFault>
+    ensures below { OnOk result (stats.now.accesses ≢ MAX_STEPS) }
+    ensures room { OnOk result (queue_holding item segments.new.lists ≡ None → 1 ≤ segments.new.spare) }
+    ensures lists { segments.new.lists ≡ segments.old.lists }
+    ensures not_now { result ≡ Err StepFault.NotNow ↔ stats.now.accesses ≡ MAX_STEPS }
+    ensures memory { result ≡ Err StepFault.OutOfMemory → queue_holding item segments.old.lists ≡ None }
+{
+    if stats.accesses == MAX_STEPS {
+        return Err(StepFault::NotNow);
+    }
+    match make_room(segments, item) {
+        Ok(()) => Ok(()),
+        Err(_) => Err(StepFault::OutOfMemory),
+    }
+}
+
+// Records a key where keys are counted, for an access that is not to be undone.
+#[inline(always)]
+fn count_in(frequency: &mut Option<Frequency>, key: Key) -> Result<(), AllocError>
+    requires { FewHalvings frequency.old }
+    ensures after { OnOk result (frequency.new ≡ recorded_in key frequency.old) }
+    ensures memory { OnErr result (FillsSample frequency.old) }
+    ensures err { OnErr result (frequency.new ≡ frequency.old) }
+{
+    if let Some(frequency) = frequency {
+        frequency.count(key)?;
+    }
+    Ok(())
+}
+
+// The same where it is known beforehand whether keys are counted.
+#[inline(always)]
+fn count_where(
+    counts_keys: bool,
+    frequency: &mut Option<Frequency>,
+    key: Key,
+) -> Result<(), AllocError>
+    requires few { FewHalvings frequency.old }
+    requires counts { counts_keys ≡ false → frequency.old ≡ None }
+    ensures after { OnOk result (frequency.new ≡ recorded_in key frequency.old) }
+    ensures memory { OnErr result (FillsSample frequency.old) }
+    ensures err { OnErr result (frequency.new ≡ frequency.old) }
+{
+    if counts_keys {
+        count_in(frequency, key)
+    } else {
+        Ok(())
+    }
+}
+
+// The frequency, where it is known beforehand whether keys are counted.
+#[inline(always)]
+fn frequency_where(counts_keys: bool, frequency: &Option<Frequency>) -> Option<&Frequency>
+    requires { counts_keys ≡ false → frequency.now ≡ None }
+    ensures { option_map (λ f. f.now) result ≡ frequency.now }
+{
+    if counts_keys {
+        frequency.as_ref()
+    } else {
+        None
+    }
+}
+
+// Prepares the frequency, where keys are counted, for the next victim of an admission, once a miss in a full cache has
+// decided on one. What it is asked of is then the same key for as long as it is not evicted.
+#[inline(always)]
+fn prepare_victim(
+    design: QueueDesign,
+    frequency: &mut Option<Frequency>,
+    segments: &Segments,
+    outcome: Outcome,
+)
+    ensures { frequency.new ≡ frequency.old }
+{
+    if !design.counts_keys || !is_of_full_cache(outcome) {
+        return;
+    }
+    let queue = match design.layout {
+        Layout::OneQueue => Queue::Window,
+        Layout::TwoQueues | Layout::ThreeQueues => Queue::Probation,
+    };
+    if let Some(frequency) = frequency {
+        if let Some(victim) = segments.oldest(queue) {
+            frequency.prepare(victim.key);
+        }
+    }
+}
+
+// Whether an access was a miss in a full cache.
+#[inline(always)]
+fn is_of_full_cache(outcome: Outcome) -> bool
+    ensures { result ≡ is_eviction outcome }
+{
+    match outcome {
+        Outcome::Evicted(_) | Outcome::Rejected(_) => true,
+        Outcome::Hit | Outcome::Kept => false,
+    }
+}
+
+// Records a key where keys are counted.
+#[inline(always)]
+fn record_in(frequency: &mut Option<Frequency>, key: Key) -> Result<FreqRecord, AllocError>
+    requires { FewHalvings frequency.old }
+    ensures after { OnOk result (frequency.new ≡ recorded_in key frequency.old) }
+    ensures memory { OnErr result (FillsSample frequency.old) }
+    ensures record { IfOk result (λ r. r ≡ counting_record key frequency.old) }
+    ensures fits { IfOk result (λ r. FitsCounting r frequency.new) }
+    ensures undone { IfOk result (λ r. unrecorded r frequency.new ≡ frequency.old) }
+    ensures err { OnErr result (frequency.new ≡ frequency.old) }
+{
+    match frequency {
+        Some(frequency) => frequency.record(key),
+        None => Ok(FreqRecord::Nothing),
+    }
+}
+
+// Undoes the recording of a key, if there was one.
+fn unrecord_in(frequency: &mut Option<Frequency>, done: FreqRecord)
+    requires { FitsCounting done frequency.old }
+    ensures { frequency.new ≡ unrecorded done frequency.old }
+{
+    if let Some(frequency) = frequency {
+        frequency.unrecord(done);
+    }
+}
