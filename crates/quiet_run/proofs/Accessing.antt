@@ -1,168 +1,170 @@
--- An access over keys comes to what it comes to over items.
-use Rattle.std.proofs.Common.{◌≡◌, ℕ, ◌≤◌, Bool, nat_lt, Option, Some, None, length, ap, ◌∙◌, sym, refl, arith, inl, inr}
-use Rattle.std.proofs.lemmas.Bool.{cases_Bool}
+-- Where each key has one item, an access over the keys comes to what it comes to over the items.
+use Rattle.std.proofs.Common.{◌≡◌, ◌⊎◌, ℕ, ◌≤◌, Bool, true, false, cond, eqb, nat_lt, Option, Some, None, List, [], ◌∷◌, ◌++◌, length, ap, ◌∙◌, sym, refl, arith, inl, inr}
+use Rattle.std.proofs.lemmas.Bool.{eq-eqb, eqb-true, cases_Bool, cond_both}
+use Rattle.std.proofs.lemmas.List.{length-map, map-append}
 use Rattle.step_record.specs.declared.item.Item.{Item}
-use Rattle.step_record.specs.declared.outcome.Outcome.{Outcome}
-use Rattle.step_record.specs.declared.outcome.Outcome.TheVariants.{Hit, Evicted, Rejected}
 use Rattle.segments.specs.declared.records.Queue.{Queue}
 use Rattle.segments.specs.declared.records.Queue.TheVariants.{Window, Probation, Protected}
-use Rattle.segments.specs.Items.{is_same_item, occurrences, oldest_of}
-use Rattle.segments.specs.Queues.{Queues, queue_of, queue_holding, queues_after_push, queues_without, queues_after_move, total_items, IsDistinct}
-use Rattle.segments.proofs.MoveLaws.{Stands, in_window, in_probation, in_protected, nowhere, stands}
+use Rattle.segments.specs.Items.{is_same_item, occurrences, items_without, oldest_of}
+use Rattle.segments.specs.Queues.{Queues, queue_of, queue_holding, queues_after_push, queues_without, queues_after_move, total_items}
+use Rattle.segments.proofs.ItemLists.{same-refl}
 use Rattle.replacement.specs.declared.rules.HitRule.{HitRule}
 use Rattle.replacement.specs.declared.rules.HitRule.TheVariants.{Renews, Stays}
 use Rattle.replacement.specs.declared.rules.Placement.{Placement}
 use Rattle.replacement.specs.declared.rules.Placement.TheVariants.{Direct, Windowed}
 use Rattle.replacement.specs.declared.rules.Rules.{Rules}
-use Rattle.replacement.specs.Table.{Response, kept_in, with_recent, queues_after_demotion, hit_in, hit_by, contest, trial, trial_of, eviction, response_with_victim, response_without_trial, miss_by, miss, access_in, access}
+use Rattle.replacement.specs.Table.{kept_in, with_recent, queues_after_demotion, hit_response, hit_by, contest, trial, trial_of, eviction, response_with_victim, miss_by, access_in, access}
 use Rattle.replacement.specs.Counts.{queue_occurrences}
-use Rattle.replacement.proofs.Counting.{queued-kept}
-use Rattle.shell_model.proofs.Undoing.{first-queued}
-use Rattle.quiet_run.specs.Nodes.{nodeless, nodeless_queues, nodeless_option, nodeless_response, IsOnly, HasKeysOnce, AccessesAgree}
-use Rattle.quiet_run.proofs.Nodes.{AreAlike, length-nodeless, first-nodeless, place-nodeless, total-nodeless, taken-nodeless, pushed-nodeless, moved-nodeless, oldest-nodeless, same-nodeless, only-alike, once-kept, once-pushed, distinct-pushed}
+use Rattle.quiet_run.specs.Nodes.{nodeless, nodeless_list, nodeless_queues, nodeless_response, IsOnly, HasKeysOnce, AccessesAgree}
 
--- an item that is queued where each key has one item
-queued-alike : (i : Item) (q : Queues) → HasKeysOnce q → 1 ≤ queue_occurrences i q → AreAlike i q
-queued-alike i q u h = only-alike i q (u i h)
+-- a function of what a test chooses
+chosen : {A B : Type 0} (f : A → B) (b : Bool) (x y : A) (u v : B) → u ≡ f x → v ≡ f y → cond b u v ≡ f (cond b x y)
+chosen f true x y u v g h = g
+chosen f false x y u v g h = h
 
--- ---- hits
+-- IsThere holds of the items of the queues and of the accessed one, no two of which have one key
+module _ (IsThere : Item → Type 0) (only : (i j : Item) → IsThere i → IsThere j → i.key ≡ j.key → i ≡ j) where
+  abbrev AreThere : List Item → Type 0
+  AreThere [] = Unit {0}
+  AreThere (x ∷ l) = IsThere x × AreThere l
 
-recent-nodeless : (o : Option Item) (q : Queues) → HasKeysOnce q → ((d : Item) → o ≡ Some d → 1 ≤ queue_occurrences d q)
-    → with_recent (nodeless_option o) Probation (nodeless_queues q) ≡ nodeless_queues (with_recent o Probation q)
-recent-nodeless None q u h = refl
-recent-nodeless (Some d) q u h = sym (moved-nodeless d Probation q (queued-alike d q u (h d refl)))
+  abbrev AllThere : Queues → Type 0
+  AllThere q = AreThere q.window × AreThere q.probation × AreThere q.protected
 
-demoted-nodeless : (size : ℕ) (q : Queues) → HasKeysOnce q → queues_after_demotion size (nodeless_queues q) ≡ nodeless_queues (queues_after_demotion size q)
-demoted-nodeless size q u =
-    let len : length (nodeless_queues q).protected ≡ length q.protected = length-nodeless q.protected in
-    let oldest : oldest_of (nodeless_queues q).protected ≡ nodeless_option (oldest_of q.protected) = first-nodeless q.protected in
-    let recent = recent-nodeless (oldest_of q.protected) q u (λ d f. let n : 1 ≤ occurrences d q.protected = first-queued d q.protected f in omega (arith, n)) in
-    elim (cases_Bool (nat_lt size (length q.protected))) as (λ _. queues_after_demotion size (nodeless_queues q) ≡ nodeless_queues (queues_after_demotion size q)) [
-      | inl e ↦ rw (len, e, oldest) recent
-      | inr e ↦ rw (len, e) refl
-    ]
+  -- ---- lists
 
-hits-nodeless : (size : ℕ) (i : Item) (p : Queue) (q : Queues) → HasKeysOnce q → queue_occurrences i q ≡ 1
-    → hit_in size (nodeless i) (Some p) (nodeless_queues q) ≡ nodeless_queues (hit_in size i (Some p) q)
-hits-nodeless size i Window q u h = sym (moved-nodeless i Window q (queued-alike i q u (omega (arith, h))))
-hits-nodeless size i Protected q u h = sym (moved-nodeless i Protected q (queued-alike i q u (omega (arith, h))))
-hits-nodeless size i Probation q u h =
-    let m : nodeless_queues (queues_after_move i Protected q) ≡ queues_after_move (nodeless i) Protected (nodeless_queues q) = moved-nodeless i Protected q (queued-alike i q u (omega (arith, h))) in
-    let v : HasKeysOnce (queues_after_move i Protected q) = once-kept q (queues_after_move i Protected q) (λ j. queued-kept j i Protected q h) u in
-    ap (queues_after_demotion size) (sym m) ∙ demoted-nodeless size (queues_after_move i Protected q) v
+  same : (i x : Item) → IsThere i → IsThere x → is_same_item (nodeless i) (nodeless x) ≡ is_same_item i x
+  same i x h a =
+      elim (cases_Bool (eqb i.key x.key)) as (λ _. is_same_item (nodeless i) (nodeless x) ≡ is_same_item i x) [
+        | inl e ↦ let n : eqb i.node x.node ≡ true = eq-eqb i.node x.node (ap (λ (y : Item). y.node) (only i x h a (eqb-true i.key x.key e))) in rw (e, n) refl
+        | inr e ↦ rw e refl
+      ]
 
-hits-by-nodeless : (h : HitRule) (size : ℕ) (i : Item) (p : Queue) (q : Queues) → HasKeysOnce q → queue_occurrences i q ≡ 1
-    → hit_by h size (nodeless i) p (nodeless_queues q) ≡ nodeless_queues (hit_by h size i p q)
-hits-by-nodeless Renews size i p q u h = hits-nodeless size i p q u h
-hits-by-nodeless Stays size i p q u h = refl
+  times : (i : Item) (l : List Item) → IsThere i → AreThere l → occurrences (nodeless i) (nodeless_list l) ≡ occurrences i l
+  times i [] h a = refl
+  times i (x ∷ l) h a = rw (same i x h a.0, times i l h a.1) refl
 
--- ---- evictions
+  without : (i : Item) (l : List Item) → IsThere i → AreThere l → items_without (nodeless i) (nodeless_list l) ≡ nodeless_list (items_without i l)
+  without i [] h a = refl
+  without i (x ∷ l) h a = rw (same i x h a.0, without i l h a.1) (chosen nodeless_list (is_same_item i x) _ _ _ _ refl refl)
 
-abbrev response : Outcome → Option Item → Queues → Response
-response o l q = record { outcome = o; left = l; queues = q }
+  rest-there : (i : Item) (l : List Item) → AreThere l → AreThere (items_without i l)
+  rest-there i [] a = tt
+  rest-there i (x ∷ l) a = let rest = rest-there i l a.1 in cond_both (is_same_item i x) (items_without i l) (x ∷ items_without i l) AreThere (λ e. rest) (λ e. (a.0, rest))
 
-contests-nodeless : (admits : ℕ → ℕ → Bool) (c : Item) (o : Option Item) (q : Queues) → HasKeysOnce q → 1 ≤ queue_occurrences c q
-    → ((v : Item) → o ≡ Some v → 1 ≤ queue_occurrences v q)
-    → contest admits (nodeless c) (nodeless_option o) (nodeless_queues q) ≡ nodeless_response (contest admits c o q)
-contests-nodeless admits c None q u h k =
-    ap (response (Rejected c.key) (Some (nodeless c))) (sym (taken-nodeless c q (queued-alike c q u h)))
-contests-nodeless admits c (Some v) q u h k =
-    let n : 1 ≤ queue_occurrences v q = k v refl in
-    let s : is_same_item (nodeless c) (nodeless v) ≡ is_same_item c v = same-nodeless c v (u c h v n) in
-    let rejects = ap (response (Rejected c.key) (Some (nodeless c))) (sym (taken-nodeless c q (queued-alike c q u h))) in
-    let evicts = ap (response (Evicted v.key) (Some (nodeless v))) (sym (taken-nodeless v q (queued-alike v q u n))) in
-    elim (cases_Bool (is_same_item c v)) as (λ _. contest admits (nodeless c) (nodeless_option (Some v)) (nodeless_queues q) ≡ nodeless_response (contest admits c (Some v) q)) [
-      | inl e ↦ rw (s, e) rejects
-      | inr e ↦ rw (s, e) (elim (cases_Bool (admits c.key v.key)) [
-        | inl f ↦ rw f evicts
-        | inr f ↦ rw f rejects
-      ])
-    ]
+  more-there : (i : Item) (l : List Item) → IsThere i → AreThere l → AreThere (l ++ i ∷ [])
+  more-there i [] h a = (h, tt)
+  more-there i (x ∷ l) h a = (a.0, more-there i l h a.1)
 
-trials-nodeless : (r : Rules) (admits : ℕ → ℕ → Bool) (c : Item) (q : Queues) → HasKeysOnce q → 1 ≤ queue_occurrences c q
-    → trial r admits (nodeless c) (nodeless_queues q) ≡ nodeless_response (trial r admits c q)
-trials-nodeless r admits c q u h =
-    let all : total_items (nodeless_queues q) ≡ total_items q = total-nodeless q in
-    let oldest : oldest_of (nodeless_queues q).probation ≡ nodeless_option (oldest_of q.probation) = first-nodeless q.probation in
-    let one = contests-nodeless admits c (oldest_of q.probation) q u h (λ v f. let n : 1 ≤ occurrences v q.probation = first-queued v q.probation f in omega (arith, n)) in
-    elim (cases_Bool (nat_lt r.capacity (total_items q))) as (λ _. trial r admits (nodeless c) (nodeless_queues q) ≡ nodeless_response (trial r admits c q)) [
-      | inl e ↦ rw (all, e, oldest) one
-      | inr e ↦ rw (all, e) refl
-    ]
+  listed-there : (l : List Item) → ((j : Item) → 1 ≤ occurrences j l → IsThere j) → AreThere l
+  listed-there [] u = tt
+  listed-there (x ∷ l) u = (u x (let t = same-refl x in rw t (omega arith)), listed-there l (λ j h. u j (omega (arith, h))))
 
-oldest-trials : (r : Rules) (admits : ℕ → ℕ → Bool) (o : Option Item) (q : Queues) → IsDistinct q → HasKeysOnce q
-    → ((c : Item) → o ≡ Some c → 1 ≤ queue_occurrences c q)
-    → trial_of r admits (nodeless_option o) (nodeless_queues q) ≡ nodeless_response (trial_of r admits o q)
-oldest-trials r admits None q d u k = refl
-oldest-trials r admits (Some c) q d u k =
-    let n : 1 ≤ queue_occurrences c q = k c refl in
-    let few : queue_occurrences c q ≤ 1 = d c in
-    let same_queued : (j : Item) → queue_occurrences j (queues_after_move c Probation q) ≡ queue_occurrences j q = λ j. queued-kept j c Probation q (omega (arith, n, few)) in
-    ap (trial r admits (nodeless c)) (sym (moved-nodeless c Probation q (queued-alike c q u n)))
-    ∙ trials-nodeless r admits c (queues_after_move c Probation q) (once-kept q (queues_after_move c Probation q) same_queued u) (omega (arith, n, same_queued c))
+  -- ---- queues
 
-pub evictions-nodeless : (r : Rules) (admits : ℕ → ℕ → Bool) (q : Queues) → IsDistinct q → HasKeysOnce q
-    → eviction r admits (nodeless_queues q) ≡ nodeless_response (eviction r admits q)
-evictions-nodeless r admits q d u =
-    let len : length (nodeless_queues q).window ≡ length q.window = length-nodeless q.window in
-    let oldest : oldest_of (nodeless_queues q).window ≡ nodeless_option (oldest_of q.window) = first-nodeless q.window in
-    let one = oldest-trials r admits (oldest_of q.window) q d u (λ c f. let n : 1 ≤ occurrences c q.window = first-queued c q.window f in omega (arith, n)) in
-    elim (cases_Bool (nat_lt r.window (length q.window))) as (λ _. eviction r admits (nodeless_queues q) ≡ nodeless_response (eviction r admits q)) [
-      | inl e ↦ rw (len, e, oldest) one
-      | inr e ↦ rw (len, e) refl
-    ]
+  total : (q : Queues) → total_items (nodeless_queues q) ≡ total_items q
+  total q = rw (length-map q.window nodeless, length-map q.probation nodeless, length-map q.protected nodeless) refl
 
--- ---- misses
+  place : (i : Item) (q : Queues) → IsThere i → AllThere q → queue_holding (nodeless i) (nodeless_queues q) ≡ queue_holding i q
+  place i q h a = rw (times i q.window h a.0, times i q.probation h a.1, times i q.protected h a.2) refl
 
-oldest-queued : (from : Queue) (q : Queues) (v : Item) → oldest_of (queue_of from q) ≡ Some v → 1 ≤ queue_occurrences v q
-oldest-queued Window q v f = let n : 1 ≤ occurrences v q.window = first-queued v q.window f in omega (arith, n)
-oldest-queued Probation q v f = let n : 1 ≤ occurrences v q.probation = first-queued v q.probation f in omega (arith, n)
-oldest-queued Protected q v f = let n : 1 ≤ occurrences v q.protected = first-queued v q.protected f in omega (arith, n)
+  taken : (i : Item) (q : Queues) → IsThere i → AllThere q → queues_without (nodeless i) (nodeless_queues q) ≡ nodeless_queues (queues_without i q)
+  taken i q h a = rw (without i q.window h a.0, without i q.probation h a.1, without i q.protected h a.2) refl
 
-replacing-nodeless : (admits : ℕ → ℕ → Bool) (to : Queue) (i : Item) (o : Option Item) (q : Queues) → HasKeysOnce q
-    → ((v : Item) → o ≡ Some v → 1 ≤ queue_occurrences v q)
-    → response_with_victim admits to (nodeless i) (nodeless_option o) (nodeless_queues q) ≡ nodeless_response (response_with_victim admits to i o q)
-replacing-nodeless admits to i None q u k = refl
-replacing-nodeless admits to i (Some v) q u k =
-    let pushes : queues_after_push to (nodeless i) (queues_without (nodeless v) (nodeless_queues q)) ≡ nodeless_queues (queues_after_push to i (queues_without v q)) =
-    ap (queues_after_push to (nodeless i)) (sym (taken-nodeless v q (queued-alike v q u (k v refl)))) ∙ sym (pushed-nodeless to i (queues_without v q)) in
-    elim (cases_Bool (admits i.key v.key)) as (λ _. response_with_victim admits to (nodeless i) (nodeless_option (Some v)) (nodeless_queues q) ≡ nodeless_response (response_with_victim admits to i (Some v) q)) [
-      | inl e ↦ rw e (ap (response (Evicted v.key) (Some (nodeless v))) pushes)
-      | inr e ↦ rw e refl
-    ]
+  pushed : (to : Queue) (i : Item) (q : Queues) → queues_after_push to (nodeless i) (nodeless_queues q) ≡ nodeless_queues (queues_after_push to i q)
+  pushed Window i q = rw (map-append nodeless q.window (i ∷ [])) refl
+  pushed Probation i q = rw (map-append nodeless q.probation (i ∷ [])) refl
+  pushed Protected i q = rw (map-append nodeless q.protected (i ∷ [])) refl
 
-direct-nodeless : (r : Rules) (admits : ℕ → ℕ → Bool) (p : Queue) (i : Item) (q : Queues) → HasKeysOnce q
-    → response_without_trial r admits p (nodeless i) (nodeless_queues q) ≡ nodeless_response (response_without_trial r admits p i q)
-direct-nodeless r admits p i q u =
-    let all : total_items (nodeless_queues q) ≡ total_items q = total-nodeless q in
-    let oldest : oldest_of (queue_of p (nodeless_queues q)) ≡ nodeless_option (oldest_of (queue_of p q)) = oldest-nodeless p q in
-    let one = replacing-nodeless admits p i (oldest_of (queue_of p q)) q u (λ v f. oldest-queued p q v f) in
-    elim (cases_Bool (nat_lt (total_items q) r.capacity)) as (λ _. response_without_trial r admits p (nodeless i) (nodeless_queues q) ≡ nodeless_response (response_without_trial r admits p i q)) [
-      | inl e ↦ rw (all, e) (ap kept_in (sym (pushed-nodeless p i q)))
-      | inr e ↦ rw (all, e, oldest) one
-    ]
+  pushed-there : (to : Queue) (i : Item) (q : Queues) → IsThere i → AllThere q → AllThere (queues_after_push to i q)
+  pushed-there Window i q h a = (more-there i q.window h a.0, a.1, a.2)
+  pushed-there Probation i q h a = (a.0, more-there i q.probation h a.1, a.2)
+  pushed-there Protected i q h a = (a.0, a.1, more-there i q.protected h a.2)
 
-misses-nodeless : (r : Rules) (admits : ℕ → ℕ → Bool) (i : Item) (q : Queues) → IsDistinct q → HasKeysOnce q → IsOnly i q → queue_occurrences i q ≡ 0
-    → miss r admits (nodeless i) (nodeless_queues q) ≡ nodeless_response (miss r admits i q)
-misses-nodeless r admits i q d u n z = by r.placement
-  where
-    by : (p : Placement) → miss_by p r admits (nodeless i) (nodeless_queues q) ≡ nodeless_response (miss_by p r admits i q)
-    by (Direct p) = direct-nodeless r admits p i q u
-    by Windowed =
-        ap (eviction r admits) (sym (pushed-nodeless Window i q))
-        ∙ evictions-nodeless r admits (queues_after_push Window i q) (distinct-pushed i q d z) (once-pushed i q z n u)
+  moved : (i : Item) (to : Queue) (q : Queues) → IsThere i → AllThere q
+      → (queues_after_move (nodeless i) to (nodeless_queues q) ≡ nodeless_queues (queues_after_move i to q)) × AllThere (queues_after_move i to q)
+  moved i to q h a = (
+    ap (queues_after_push to (nodeless i)) (taken i q h a) ∙ pushed to i (queues_without i q),
+    pushed-there to i (queues_without i q) h (rest-there i q.window a.0, rest-there i q.probation a.1, rest-there i q.protected a.2),
+  )
 
--- ---- accesses
+  -- ---- hits
 
-placed-nodeless : (r : Rules) (admits : ℕ → ℕ → Bool) (i : Item) (q : Queues) (o : Option Queue) → Stands i q o → IsDistinct q → HasKeysOnce q → IsOnly i q
-    → access_in r admits (nodeless i) o (nodeless_queues q) ≡ nodeless_response (access_in r admits i o q)
-placed-nodeless r admits i q o (nowhere e f g) d u n = misses-nodeless r admits i q d u n (omega (arith, e, f, g))
-placed-nodeless r admits i q o (in_window e f g) d u n = ap (response Hit None) (hits-by-nodeless r.hits r.protected i Window q u (omega (arith, e, f, g)))
-placed-nodeless r admits i q o (in_probation e f g) d u n = ap (response Hit None) (hits-by-nodeless r.hits r.protected i Probation q u (omega (arith, e, f, g)))
-placed-nodeless r admits i q o (in_protected e f g) d u n = ap (response Hit None) (hits-by-nodeless r.hits r.protected i Protected q u (omega (arith, e, f, g)))
+  recent : (l : List Item) (q : Queues) → AreThere l → AllThere q
+      → with_recent (oldest_of (nodeless_list l)) Probation (nodeless_queues q) ≡ nodeless_queues (with_recent (oldest_of l) Probation q)
+  recent [] q b a = refl
+  recent (x ∷ l) q b a = (moved x Probation q b.0 a).0
+
+  demoted : (size : ℕ) (q : Queues) → AllThere q → queues_after_demotion size (nodeless_queues q) ≡ nodeless_queues (queues_after_demotion size q)
+  demoted size q a = rw (length-map q.protected nodeless) (chosen nodeless_queues (nat_lt size (length q.protected)) _ _ _ _ (recent q.protected q a.2 a) refl)
+
+  hit : (r : HitRule) (size : ℕ) (i : Item) (p : Queue) (q : Queues) → IsThere i → AllThere q → hit_by r size (nodeless i) p (nodeless_queues q) ≡ nodeless_queues (hit_by r size i p q)
+  hit Stays size i p q h a = refl
+  hit Renews size i Window q h a = (moved i Window q h a).0
+  hit Renews size i Probation q h a = let m = moved i Protected q h a in ap (queues_after_demotion size) m.0 ∙ demoted size (queues_after_move i Protected q) m.1
+  hit Renews size i Protected q h a = (moved i Protected q h a).0
+
+  -- ---- evictions
+
+  contested : (admits : ℕ → ℕ → Bool) (c : Item) (l : List Item) (q : Queues) → IsThere c → AreThere l → AllThere q
+      → contest admits (nodeless c) (oldest_of (nodeless_list l)) (nodeless_queues q) ≡ nodeless_response (contest admits c (oldest_of l) q)
+  contested admits c [] q h b a = rw (taken c q h a) refl
+  contested admits c (v ∷ l) q h b a =
+      rw (same c v h b.0, taken c q h a, taken v q b.0 a)
+      (chosen nodeless_response (is_same_item c v) _ _ _ _ refl (chosen nodeless_response (admits c.key v.key) _ _ _ _ refl refl))
+
+  tried : (r : Rules) (admits : ℕ → ℕ → Bool) (l : List Item) (q : Queues) → AreThere l → AllThere q
+      → trial_of r admits (oldest_of (nodeless_list l)) (nodeless_queues q) ≡ nodeless_response (trial_of r admits (oldest_of l) q)
+  tried r admits [] q b a = refl
+  tried r admits (c ∷ l) q b a =
+      let s : Queues = queues_after_move c Probation q in
+      let m = moved c Probation q b.0 a in
+      ap (trial r admits (nodeless c)) m.0 ∙ rw (total s) (chosen nodeless_response (nat_lt r.capacity (total_items s)) _ _ _ _ (contested admits c s.probation s b.0 m.1.1 m.1) refl)
+
+  evicted : (r : Rules) (admits : ℕ → ℕ → Bool) (q : Queues) → AllThere q → eviction r admits (nodeless_queues q) ≡ nodeless_response (eviction r admits q)
+  evicted r admits q a = rw (length-map q.window nodeless) (chosen nodeless_response (nat_lt r.window (length q.window)) _ _ _ _ (tried r admits q.window q a.0 a) refl)
+
+  -- ---- misses
+
+  replaced : (admits : ℕ → ℕ → Bool) (to : Queue) (i : Item) (l : List Item) (q : Queues) → AreThere l → AllThere q
+      → response_with_victim admits to (nodeless i) (oldest_of (nodeless_list l)) (nodeless_queues q) ≡ nodeless_response (response_with_victim admits to i (oldest_of l) q)
+  replaced admits to i [] q b a = refl
+  replaced admits to i (v ∷ l) q b a = rw (taken v q b.0 a, pushed to i (queues_without v q)) (chosen nodeless_response (admits i.key v.key) _ _ _ _ refl refl)
+
+  replaced-in : (admits : ℕ → ℕ → Bool) (to : Queue) (i : Item) (q : Queues) → AllThere q
+      → response_with_victim admits to (nodeless i) (oldest_of (queue_of to (nodeless_queues q))) (nodeless_queues q) ≡ nodeless_response (response_with_victim admits to i (oldest_of (queue_of to q)) q)
+  replaced-in admits Window i q a = replaced admits Window i q.window q a.0 a
+  replaced-in admits Probation i q a = replaced admits Probation i q.probation q a.1 a
+  replaced-in admits Protected i q a = replaced admits Protected i q.protected q a.2 a
+
+  missed : (p : Placement) (r : Rules) (admits : ℕ → ℕ → Bool) (i : Item) (q : Queues) → IsThere i → AllThere q
+      → miss_by p r admits (nodeless i) (nodeless_queues q) ≡ nodeless_response (miss_by p r admits i q)
+  missed (Direct to) r admits i q h a = rw (total q) (chosen nodeless_response (nat_lt (total_items q) r.capacity) _ _ _ _ (ap kept_in (pushed to i q)) (replaced-in admits to i q a))
+  missed Windowed r admits i q h a = ap (eviction r admits) (pushed Window i q) ∙ evicted r admits (queues_after_push Window i q) (pushed-there Window i q h a)
+
+  -- ---- accesses
+
+  accessed-in : (r : Rules) (admits : ℕ → ℕ → Bool) (i : Item) (p : Option Queue) (q : Queues) → IsThere i → AllThere q
+      → access_in r admits (nodeless i) p (nodeless_queues q) ≡ nodeless_response (access_in r admits i p q)
+  accessed-in r admits i None q h a = missed r.placement r admits i q h a
+  accessed-in r admits i (Some p) q h a = ap hit_response (hit r.hits r.protected i p q h a)
+
+  accessed : (r : Rules) (admits : ℕ → ℕ → Bool) (i : Item) (q : Queues) → IsThere i → ((j : Item) → 1 ≤ queue_occurrences j q → IsThere j)
+      → access r admits (nodeless i) (nodeless_queues q) ≡ nodeless_response (access r admits i q)
+  unfolding access
+  accessed r admits i q h u =
+      let a : AllThere q = (listed-there q.window (λ j g. u j (omega (arith, g))), listed-there q.probation (λ j g. u j (omega (arith, g))), listed-there q.protected (λ j g. u j (omega (arith, g)))) in
+      ap (λ (p : Option Queue). access_in r admits (nodeless i) p (nodeless_queues q)) (place i q h a) ∙ accessed-in r admits i (queue_holding i q) q h a
+
+-- the item, and those of the queues
+abbrev IsMet : Item → Queues → Item → Type 0
+IsMet i q j = (j ≡ i) ⊎ (1 ≤ queue_occurrences j q)
+
+met-once : (i : Item) (q : Queues) → HasKeysOnce q → IsOnly i q → (j k : Item) → IsMet i q j → IsMet i q k → j.key ≡ k.key → j ≡ k
+met-once i q u n j k (inl e) (inl f) g = e ∙ sym f
+met-once i q u n j k (inl e) (inr f) g = e ∙ n k f (ap (λ (x : Item). x.key) (sym e) ∙ g)
+met-once i q u n j k (inr e) (inl f) g = sym (f ∙ n j e (ap (λ (x : Item). x.key) (sym f) ∙ sym g))
+met-once i q u n j k (inr e) (inr f) g = u j e k f g
 
 pub accesses-law : AccessesAgree
-unfolding access
-accesses-law r admits i q d u n =
-    ap (λ (o : Option Queue). access_in r admits (nodeless i) o (nodeless_queues q)) (place-nodeless i q (only-alike i q n))
-    ∙ placed-nodeless r admits i q (queue_holding i q) (stands i q d) d u n
+accesses-law r admits i q d u n = accessed (IsMet i q) (met-once i q u n) r admits i q (inl refl) (λ j h. inr h)

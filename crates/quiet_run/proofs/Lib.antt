@@ -1,8 +1,6 @@
 pub mod Agreeing
-pub mod Nodes
 pub mod Accessing
 pub mod Residents
-pub mod Serving
 pub mod Rounds
 pub mod Alone
 pub mod Adding

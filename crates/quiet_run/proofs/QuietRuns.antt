@@ -44,21 +44,21 @@ frequency-next c h past d k e =
     ap (recorded_in k) e ∙ ap (λ (f : FrequencyData). Some f) (recorded_freq (shape_of c) is.some (omega (arith, is.width.1)) past k)
 
 pub runs : (c : Config) → config_fault c ≡ Ok tt → (ks past : List ℕ) (x : Shell) (d : QueueState) (os : List Outcome) (es : Entries)
-    → x.config ≡ c → IsConsistent x → IsQuiet x d → d.frequency ≡ frequency_after (quiet_job c) past
+    → d.job ≡ quiet_job c → IsConsistent x → IsQuiet x d → d.frequency ≡ frequency_after (quiet_job c) past
     → AreQuietWalks c.stripes ks os es → IsLegal act x es
     → (os ≡ outcomes_from (quiet_job c) past d ks) × IsQuiet (data_after act x es) (state_from (quiet_job c) past d ks)
-runs c h [] past x d [] es b v q f w l = (refl, subst (λ (y : Entries). IsQuiet (data_after act x y) d) (sym w) q)
-runs c h [] past x d (o ∷ os) es b v q f w l = absurd w
-runs c h (k ∷ ks) past x d [] es b v q f w l = absurd w
-runs c h (k ∷ ks) past x d (o ∷ os) es b v q f (walk, rest, cut, walks, outcome_is, more) l =
+runs c h [] past x d [] es j v q f w l = (refl, subst (λ (y : Entries). IsQuiet (data_after act x y) d) (sym w) q)
+runs c h [] past x d (o ∷ os) es j v q f w l = absurd w
+runs c h (k ∷ ks) past x d [] es j v q f w l = absurd w
+runs c h (k ∷ ks) past x d (o ∷ os) es j v q f (walk, rest, cut, walks, outcome_is, more) l =
+    let b : c ≡ x.config = ap (λ (y : Job). y.config) (sym j ∙ q.job) in
     let p = legal-split x walk rest (subst (λ (y : Entries). IsLegal act x y) cut l) in
-    let n : 1 ≤ x.config.stripes = subst (λ (y : Config). 1 ≤ y.stripes) (sym b) (stripes_checked c h).0 in
-    let m = key-served x d k walk v q n (subst (λ (y : Config). IsQuietWalk y.stripes k walk) (sym b) walks) p.0 in
+    let m = key-served x d k walk v q (subst (λ (y : Config). 1 ≤ y.stripes) b (stripes_checked c h).0) (subst (λ (y : Config). IsQuietWalk y.stripes k walk) b walks) p.0 in
     let g : recorded_in k d.frequency ≡ frequency_after (quiet_job c) (past ++ k ∷ []) = frequency-next c h past d k f in
     let d2 : QueueState = queue_state_after (frequency_after (quiet_job c) (past ++ k ∷ [])) k d in
     let first : o ≡ (access_response (frequency_after (quiet_job c) (past ++ k ∷ [])) k d).outcome = outcome_is ∙ m.0 ∙ ap (λ (y : Option FrequencyData). (access_response y k d).outcome) g in
-    let quiet : IsQuiet (data_after act x walk) d2 = subst (λ (y : Option FrequencyData). IsQuiet (data_after act x walk) (queue_state_after y k d)) g m.1.quiet in
-    let r = runs c h ks (past ++ k ∷ []) (data_after act x walk) d2 os rest (m.1.config ∙ b) m.1.consistent quiet refl more p.1 in
+    let quiet : IsQuiet (data_after act x walk) d2 = subst (λ (y : Option FrequencyData). IsQuiet (data_after act x walk) (queue_state_after y k d)) g m.2 in
+    let r = runs c h ks (past ++ k ∷ []) (data_after act x walk) d2 os rest j m.1 quiet refl more p.1 in
     let all = outcomes_from (quiet_job c) (past ++ k ∷ []) d2 ks in (
       ap (λ (y : Outcome). y ∷ os) first ∙ ap (λ (y : List Outcome). (access_response (frequency_after (quiet_job c) (past ++ k ∷ [])) k d).outcome ∷ y) r.0,
       subst (λ (y : Shell). IsQuiet y (state_from (quiet_job c) (past ++ k ∷ []) d2 ks)) (sym (after-append x walk rest) ∙ ap (data_after act x) (sym cut)) r.1,
@@ -90,7 +90,7 @@ new-run x c ks os es r n w l =
     let same : x.config ≡ c = ap (λ (y : Shell). y.config) n.is in
     let quiet : IsQuiet x (opened_policy (quiet_job c)) =
     subst (λ (y : Shell). IsQuiet y (opened_policy (quiet_job c))) (sym n.is) (opened-quiet c n.shape (own-frequency c n.shape n.shape_is)) in
-    runs c (subst (λ (y : Config). config_fault y ≡ Ok tt) same r.checked) ks [] x (opened_policy (quiet_job c)) os es same (reached-sound x r) quiet refl
+    runs c (subst (λ (y : Config). config_fault y ≡ Ok tt) same r.checked) ks [] x (opened_policy (quiet_job c)) os es refl (reached-sound x r) quiet refl
     (subst (λ (y : Config). AreQuietWalks y.stripes ks os es) same w) l
 
 -- ---- from a cache that made some accesses
@@ -127,9 +127,10 @@ pub later-run : (x : Shell) (c : Config) (past ks : List ℕ) (os : List Outcome
     → AreQuietWalks x.config.stripes ks os es → IsLegal act x es → QuietGoesOn c past ks os (data_after act x es)
 later-run x c past ks os es r q w l =
     let j : Job = quiet_job c in
-    let same : x.config ≡ c = ap (λ (y : Job). y.config) (sym q.job ∙ after-job (quiet_job c) past) in
+    let job : (state_after (quiet_job c) past).job ≡ quiet_job c = after-job (quiet_job c) past in
+    let same : x.config ≡ c = ap (λ (y : Job). y.config) (sym q.job ∙ job) in
     goes-by c past ks os (data_after act x es)
-    (runs c (subst (λ (y : Config). config_fault y ≡ Ok tt) same r.checked) ks past x (state_after (quiet_job c) past) os es same (reached-sound x r) q (after-frequency (quiet_job c) past)
+    (runs c (subst (λ (y : Config). config_fault y ≡ Ok tt) same r.checked) ks past x (state_after (quiet_job c) past) os es job (reached-sound x r) q (after-frequency (quiet_job c) past)
     (subst (λ (y : Config). AreQuietWalks y.stripes ks os es) same w) l)
 
 -- ---- in a session
