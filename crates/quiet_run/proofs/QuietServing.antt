@@ -20,6 +20,7 @@ use Rattle.replacement.specs.Admission.{admits_in}
 use Rattle.replacement.specs.Counts.{queue_occurrences}
 use Rattle.replacement.specs.Rules.{three_queues}
 use Rattle.replacement.specs.Table.{Response, hit_response, hit_in, after_hit, access_in, access}
+use Rattle.replacement.proofs.Balance.{hit-renewed}
 use Rattle.replacement.proofs.Planned.{access-at}
 use Rattle.queue_cache.specs.QueueCache.{QueueState, access_response, queue_state_after}
 use Rattle.queue_cache.specs.QueueStep.{recorded_in, queue_act}
@@ -38,7 +39,7 @@ use Rattle.quiet_run.specs.Nodes.{nodeless_queues, nodeless_response, IsOnly}
 use Rattle.quiet_run.specs.Quiet.{IsQuiet, quiet_job}
 use Rattle.quiet_run.specs.QuietRuns.{KeysAgree}
 use Rattle.quiet_run.proofs.Accessing.{accesses-law}
-use Rattle.quiet_run.proofs.Residents.{resident, distinct-in, keys-once, not-queued, only-one, hit-window}
+use Rattle.quiet_run.proofs.Residents.{resident, distinct-in, keys-once, not-queued, only-one}
 use Rattle.quiet_run.proofs.QuietSteps.{Leads, Leaves, state}
 use Rattle.quiet_run.proofs.QuietRounds.{evicted, window-after}
 use Rattle.quiet_run.proofs.QuietKeys.{hits, misses}
@@ -115,7 +116,8 @@ module _ (j : ℕ) (c : Config) (t : List Item) (n : ℕ) (q : Queues) (f : Freq
       let apart : IsDistinct q = distinct-in t n q p in
       let there : 1 ≤ occurrences i t = listed-times i t (node-listed i t e) in
       let one : queue_occurrences i q ≡ 1 = omega (arith, there, apart i, resident t n q p i) in
-      let fits : length (after_hit (shell_protected_size c) i q).window ≤ window_size c = (let short = hit-window (shell_protected_size c) i q apart in omega (arith, short, few)) in
+      let same = (hit-renewed (shell_protected_size c) i (queue_holding i q) q apart (stands i q apart)).window in
+      let fits : length (after_hit (shell_protected_size c) i q).window ≤ window_size c = omega (arith, same, few) in
       served node (hit_response (after_hit (shell_protected_size c) i q)) (keys-once t n q p i (omega (arith, one))) (hit-access c _ i q apart one) fits
       (λ leaves. hits c t n q (nones j) f s m k node Quiet e (p.below i (omega (arith, there))) (omega (arith, striped, length-replicate {A = List Item} j [])) (all-empty (suc j)) fits (leaves t n))
 

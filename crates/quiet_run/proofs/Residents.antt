@@ -1,15 +1,11 @@
 -- The table and the queues where no task waits.
-use Rattle.std.proofs.Common.{◌≡◌, ℕ, ◌≤◌, true, eqb, nat_lt, Option, Some, None, List, [], ◌∷◌, length, ap, ◌∙◌, sym, refl, arith, inl, inr, length-append}
-use Rattle.std.proofs.lemmas.Bool.{eq-eqb, eqb-true, and_from, true_from_ne_false, cases_Bool}
+use Rattle.std.proofs.Common.{◌≡◌, ℕ, ◌≤◌, true, eqb, Option, Some, None, List, [], ap, ◌∙◌, sym, refl, arith}
+use Rattle.std.proofs.lemmas.Bool.{eq-eqb, eqb-true, and_from, true_from_ne_false}
 use Rattle.step_record.specs.declared.item.Item.{Item}
-use Rattle.segments.specs.declared.records.Queue.{Queue}
-use Rattle.segments.specs.declared.records.Queue.TheVariants.{Probation, Protected}
-use Rattle.segments.specs.Items.{occurrences, items_without, oldest_of}
-use Rattle.segments.specs.Queues.{Queues, queue_holding, queues_after_move, IsDistinct}
-use Rattle.segments.proofs.ItemLists.{same-true, length-without}
-use Rattle.segments.proofs.MoveLaws.{Stands, in_window, in_probation, in_protected, nowhere, stands}
+use Rattle.segments.specs.Items.{occurrences}
+use Rattle.segments.specs.Queues.{Queues, IsDistinct}
+use Rattle.segments.proofs.ItemLists.{same-true}
 use Rattle.replacement.specs.Counts.{queue_occurrences}
-use Rattle.replacement.specs.Table.{with_recent, queues_after_demotion, hit_in, after_hit}
 use Rattle.shell_model.specs.ShellState.{node_of, is_node, is_listed}
 use Rattle.shell_model.specs.Consistency.{IsPlaced}
 use Rattle.shell_model.proofs.Counting.{unlisted-times}
@@ -42,25 +38,3 @@ module _ (t : List Item) (n : ℕ) (q : Queues) (p : IsPlaced t n q []) where
 
     pub only-one : IsOnly i q
     only-one j h e = absurd (let no : None ≡ Some j.node = sym lacks ∙ (ap (λ (k : ℕ). node_of k t) e ∙ node-of-queued j h) in cc no)
-
--- a hit does not lengthen the window
-
-demoted-window : (size : ℕ) (q : Queues) → length (queues_after_demotion size q).window ≤ length q.window
-demoted-window size q =
-    elim (cases_Bool (nat_lt size (length q.protected))) as (λ _. length (queues_after_demotion size q).window ≤ length q.window) [
-      | inl e ↦ rw e (by (oldest_of q.protected))
-      | inr e ↦ rw e (omega arith)
-    ]
-  where
-    by : (o : Option Item) → length (with_recent o Probation q).window ≤ length q.window
-    by None = omega arith
-    by (Some d) = omega (arith, length-without d q.window)
-
-hit-from-window : (size : ℕ) (i : Item) (q : Queues) (p : Option Queue) → Stands i q p → length (hit_in size i p q).window ≤ length q.window
-hit-from-window size i q p (nowhere e f g) = omega arith
-hit-from-window size i q p (in_window e f g) = omega (arith, e, length-without i q.window, length-append (items_without i q.window) (i ∷ []))
-hit-from-window size i q p (in_protected e f g) = omega (arith, length-without i q.window)
-hit-from-window size i q p (in_probation e f g) = omega (arith, length-without i q.window, demoted-window size (queues_after_move i Protected q))
-
-pub hit-window : (size : ℕ) (i : Item) (q : Queues) → IsDistinct q → length (after_hit size i q).window ≤ length q.window
-hit-window size i q d = hit-from-window size i q (queue_holding i q) (stands i q d)

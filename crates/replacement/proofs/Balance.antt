@@ -32,9 +32,9 @@ fits-total Windowed r s f = let w = f.0 in let m = f.1 in omega (arith, w, m)
 -- ---- a hit
 
 -- items only changed their places, and none left or came behind the window
-record IsRenewed (s t : Queues) : Type 0 where
+pub record IsRenewed (s t : Queues) : Type 0 where
   same : (j : Item) → queue_occurrences j t ≡ queue_occurrences j s
-  window : length t.window ≡ length s.window
+  pub window : length t.window ≡ length s.window
   main : main_length t ≡ main_length s
 
 renewed-none : (s : Queues) → IsRenewed s s
@@ -84,7 +84,7 @@ demoted-renewed size s u =
         let there : 1 ≤ occurrences x s.protected = first-stands x s.protected h in
         probation-renewed x s (omega (arith, u x, there)) (omega (arith, u x, there))
 
-hit-renewed : (size : ℕ) (i : Item) (p : Option Queue) (s : Queues) → IsDistinct s → Stands i s p → IsRenewed s (hit_in size i p s)
+pub hit-renewed : (size : ℕ) (i : Item) (p : Option Queue) (s : Queues) → IsDistinct s → Stands i s p → IsRenewed s (hit_in size i p s)
 hit-renewed size i p s u (in_window a b c) = window-renewed i s a b c
 hit-renewed size i p s u (in_probation a b c) =
     let moved : IsRenewed s (queues_after_move i Protected s) = protected-renewed i s a (omega (arith, b, c)) in
