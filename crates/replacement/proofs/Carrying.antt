@@ -1,20 +1,15 @@
 -- Carrying a plan out is undone by its record.
-use Rattle.std.proofs.Common.{◌≡◌, Option, Some, None, refl, subst}
+use Rattle.std.proofs.Common.{◌≡◌, Option, Some, None, refl}
 use Rattle.step_record.specs.declared.item.Item.{Item}
-use Rattle.segments.specs.declared.records.Queue.{Queue}
 use Rattle.segments.specs.declared.records.MoveRecord.{MoveRecord}
 use Rattle.segments.specs.Queues.{Queues, queues_without, queues_after_move, IsDistinct}
 use Rattle.segments.specs.Moves.{move_record}
 use Rattle.segments.proofs.MoveLaws.{move-recorded, out-recorded}
-use Rattle.segments.proofs.QueueLists.{absent-taken, distinct-taken, distinct-put, put-last}
+use Rattle.segments.proofs.QueueLists.{distinct-taken}
 use Rattle.replacement.specs.declared.record.Moves.{Moves}
 use Rattle.replacement.specs.Plan.{Transfer, Plan}
 use Rattle.replacement.specs.PlanMoves.{queues_after_transfer, removed, queues_after, transfer_record, removal_record, moves_of, undone_by, FitsBy, needed_by, UndoesMoves}
-
-pub moved-distinct : (i : Item) (q : Queue) (s : Queues) → IsDistinct s → IsDistinct (queues_after_move i q s)
-moved-distinct i q s d =
-    let t = distinct-taken i s d in
-    subst IsDistinct (put-last q i (queues_without i s) t) (distinct-put q _ i (queues_without i s) t (absent-taken i s))
+use Rattle.replacement.proofs.Counting.{distinct-moved}
 
 -- the record of one move, or of none, fits the distinct items that the move left, and undoes it
 pub record UndoesMove (before after : Queues) (r : Option MoveRecord) : Type 0 where
@@ -26,7 +21,7 @@ pub transfer-undone : (t : Option Transfer) (s : Queues) → IsDistinct s → Un
 transfer-undone None s d = record { fits = tt; undone = refl; distinct = d }
 transfer-undone (Some t) s d =
     let r = move-recorded t.item t.to s (queues_after_move t.item t.to s) (move_record t.item (Some t.to) s) d refl refl in
-    record { fits = r.fits; undone = r.undone; distinct = moved-distinct t.item t.to s d }
+    record { fits = r.fits; undone = r.undone; distinct = distinct-moved t.item t.to s d }
 
 pub removal-undone : (i : Option Item) (s : Queues) → IsDistinct s → UndoesMove s (removed i s) (removal_record i s)
 removal-undone None s d = record { fits = tt; undone = refl; distinct = d }

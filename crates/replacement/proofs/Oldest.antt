@@ -1,22 +1,15 @@
 -- Moves of the oldest item of a queue, and of one that stands in none.
-use Rattle.std.proofs.Common.{◌≡◌, ◌≤◌, Option, Some, None, List, [], ◌∷◌, refl, subst, arith}
+use Rattle.std.proofs.Common.{◌≡◌, Option, Some, None, List, [], ◌∷◌, refl, subst}
 use Rattle.std.specs.Prelude.{MatchOption, IfSome}
 use Rattle.step_record.specs.declared.item.Item.{Item}
 use Rattle.segments.specs.declared.records.Queue.{Queue}
 use Rattle.segments.specs.declared.records.MoveRecord.{MoveRecord}
-use Rattle.segments.specs.Items.{occurrences, oldest_of, last_item, before}
+use Rattle.segments.specs.Items.{oldest_of, last_item, before}
 use Rattle.segments.specs.Queues.{Queues, queue_of, queue_holding, IsDistinct}
 use Rattle.segments.specs.Moves.{move_record, IsMoveRecord}
 use Rattle.segments.proofs.ItemLists.{same-refl}
-use Rattle.segments.proofs.QueueLists.{placed}
+use Rattle.segments.proofs.QueueLists.{placed, first-stands}
 use Rattle.replacement.specs.KeptMoves.{IsOldest, IsDrop, IsFirstMove}
-
-first-times : (l : List Item) (i : Item) → oldest_of l ≡ Some i → 1 ≤ occurrences i l
-first-times [] i e = absurd (cc (e))
-first-times (x ∷ l) i e =
-    let s : x ≡ i = cc (e) in
-    let r = same-refl x in
-    subst (λ y. 1 ≤ occurrences y (x ∷ l)) s (rw r (omega arith))
 
 none-before : (l : List Item) (i : Item) → oldest_of l ≡ Some i → last_item (before i l) ≡ None
 none-before [] i e = absurd (cc (e))
@@ -29,7 +22,7 @@ none-before (x ∷ l) i e =
 pub sent-oldest : (q to : Queue) (i : Item) (s : Queues) (r : MoveRecord) → IsDistinct s → oldest_of (queue_of q s) ≡ Some i
     → r ≡ move_record i (Some to) s → IsOldest (Some r)
 sent-oldest q to i s r d e h =
-    let p = placed q i s d (first-times (queue_of q s) i e) in
+    let p = placed q i s d (first-stands i (queue_of q s) e) in
     rw (h, p) (none-before (queue_of q s) i e, tt)
 
 pub sent-if : (q to : Queue) (o : Option MoveRecord) (s t : Queues) → IsDistinct s
@@ -42,7 +35,7 @@ sent-if q to (Some r) s t d e h = sent-oldest q to r.item s r d e h.is
 pub dropped-oldest : (q : Queue) (i : Item) (s : Queues) (r : MoveRecord) → IsDistinct s → oldest_of (queue_of q s) ≡ Some i
     → r ≡ move_record i None s → IsDrop (Some r)
 dropped-oldest q i s r d e h =
-    let p = placed q i s d (first-times (queue_of q s) i e) in
+    let p = placed q i s d (first-stands i (queue_of q s) e) in
     rw (h, p) ((none-before (queue_of q s) i e, tt), refl)
 
 -- an item that stands in no queue comes to the recent end of one

@@ -19,7 +19,7 @@ use Rattle.replacement.specs.Table.{Response, kept_in, with_recent, queues_after
 use Rattle.replacement.specs.Plan.{Plan, Transfer, transfer, demotion, hit_plan_by, stay_plan, contest_plan, direct_plan, candidate_of, eviction_of, eviction_plan, joining_first, miss_plan_by, miss_plan, plan_in, plan}
 use Rattle.replacement.specs.PlanMoves.{queues_after_transfer, removed, response_of_plan}
 use Rattle.replacement.specs.Theorems.{HitsPlanned, EvictionsPlanned, AccessesPlanned}
-use Rattle.replacement.proofs.Carrying.{moved-distinct}
+use Rattle.replacement.proofs.Counting.{distinct-moved}
 
 -- ---- hits
 
@@ -180,7 +180,7 @@ miss-planned r a i s d h = by r.placement
     by (Direct q) = direct-planned r a q i s h
     by Windowed =
         ap (eviction r a) (pushed-moved i Window s h)
-        ∙ (evictions-planned r a (queues_after_move i Window s) (moved-distinct i Window s d)
+        ∙ (evictions-planned r a (queues_after_move i Window s) (distinct-moved i Window s d)
         ∙ sym (joined-response i (eviction_plan r a (queues_after_move i Window s)) s (evicts-first r a (queues_after_move i Window s))))
 
 pub access-planned-in : (r : Rules) (a : ℕ → ℕ → Bool) (i : Item) (p : Option Queue) (s : Queues) → IsDistinct s → queue_holding i s ≡ p

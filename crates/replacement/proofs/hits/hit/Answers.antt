@@ -2,13 +2,14 @@ use Rattle.std.proofs.Common.{◌∙◌, ap, refl, sym, subst}
 use Rattle.segments.specs.Queues.{Queues, IsDistinct, queue_after_access}
 use Rattle.replacement.specs.Plan.{hit_plan, settling}
 use Rattle.replacement.specs.PlanMoves.{queues_after_transfer}
-use Rattle.replacement.proofs.Carrying.{moved-distinct, plan-undone}
+use Rattle.replacement.proofs.Carrying.{plan-undone}
+use Rattle.replacement.proofs.Counting.{distinct-moved}
 use Rattle.replacement.proofs.Oldest.{renewed-first}
 use Rattle.replacement.proofs.hits.hit.Goals as goal
 
 pub settle-last-requires : goal.settle-last-requires
 settle-last-requires c =
-    subst IsDistinct (sym c.in_ok-queue.ensures.lists) (moved-distinct c.args.item (queue_after_access c.in_ok-queue.queue) c.args.segments.now.lists c.in_ok-queue.ensures.distinct)
+    subst IsDistinct (sym c.in_ok-queue.ensures.lists) (distinct-moved c.args.item (queue_after_access c.in_ok-queue.queue) c.args.segments.now.lists c.in_ok-queue.ensures.distinct)
 
 pub returns-clause-record : goal.returns-clause-record
 returns-clause-record c = record {

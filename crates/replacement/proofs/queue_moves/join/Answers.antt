@@ -1,7 +1,7 @@
 use Rattle.std.proofs.Common.{◌∙◌, sym, subst}
 use Rattle.segments.specs.Queues.{IsDistinct}
 use Rattle.segments.proofs.QueueLists.{pushed-moved}
-use Rattle.replacement.proofs.Carrying.{moved-distinct}
+use Rattle.replacement.proofs.Counting.{distinct-moved}
 use Rattle.replacement.proofs.queue_moves.join.Goals as goal
 
 pub returns-clause-lists : goal.returns-clause-lists
@@ -9,4 +9,4 @@ returns-clause-lists c = c.push_recent.ensures.lists ∙ pushed-moved c.args.ite
 
 pub returns-clause-distinct : goal.returns-clause-distinct
 returns-clause-distinct c =
-    subst IsDistinct (sym (returns-clause-lists c)) (moved-distinct c.args.item c.args.queue c.args.segments.now.lists c.requires.distinct)
+    subst IsDistinct (sym (returns-clause-lists c)) (distinct-moved c.args.item c.args.queue c.args.segments.now.lists c.requires.distinct)
