@@ -18,7 +18,7 @@ use Rattle.replacement.specs.declared.rules.Rules.{Rules}
 use Rattle.replacement.specs.Table.{Response, with_recent, queues_after_demotion, hit_in, hit_by, rejection, contest, trial, trial_of, eviction, response_with_victim, response_without_trial, miss_by, access_in, access}
 use Rattle.replacement.specs.Counts.{queue_occurrences, main_length}
 use Rattle.replacement.proofs.Planned.{access-at}
-use Rattle.replacement.proofs.Counting.{queued-taken, queued-pushed, queued-kept, taken-total, pushed-total}
+use Rattle.replacement.proofs.Counting.{taken-less, queued-pushed, queued-kept, taken-total, pushed-total}
 
 -- the queues are within their sizes, so that another item has its place or is met by an eviction
 abbrev pub FitsBy : Placement → Rules → Queues → Type 0
@@ -114,10 +114,7 @@ record IsShed (s t : Queues) : Type 0 where
 
 shed : (x : Item) (s : Queues) → queue_occurrences x s ≡ 1 → occurrences x s.window ≡ 0 → IsShed s (queues_without x s)
 shed x s a b = record {
-  came = λ j. elim (cases_Bool (is_same_item j x)) [
-    | inl e ↦ let none : queue_occurrences j (queues_without x s) ≡ 0 = queued-taken j x s ∙ ap (λ y. cond y 0 (queue_occurrences j s)) e in omega (arith, none)
-    | inr e ↦ let rest : queue_occurrences j (queues_without x s) ≡ queue_occurrences j s = queued-taken j x s ∙ ap (λ y. cond y 0 (queue_occurrences j s)) e in omega (arith, rest)
-  ];
+  came = λ j. taken-less j x s;
   total = omega (arith, a, taken-total x s);
   window = omega (arith, b, length-without x s.window);
 }
@@ -241,7 +238,7 @@ module _ (r : Rules) (admits : ℕ → ℕ → Bool) (i : Item) (s : Queues) (u 
         | inl e ↦
             let one : queue_occurrences v s ≡ 1 = once_in q (first-stands v (queue_of q s) h) in
             let left : Queues = queues_without v s in
-            let less : (j : Item) → queue_occurrences j left ≤ queue_occurrences j s = λ j. taken-less j in
+            let less : (j : Item) → queue_occurrences j left ≤ queue_occurrences j s = λ j. taken-less j v s in
             let gone : queue_occurrences i left ≡ 0 = (let a = less i in omega (arith, a, none)) in
             let apart : IsDistinct left = λ j. (let a = less j in let b = u j in omega (arith, a, b)) in
             let out : total_items left + queue_occurrences v s ≡ total_items s = taken-total v s in
@@ -261,12 +258,6 @@ module _ (r : Rules) (admits : ℕ → ℕ → Bool) (i : Item) (s : Queues) (u 
       once_in Window a = omega (arith, u v, a)
       once_in Probation a = omega (arith, u v, a)
       once_in Protected a = omega (arith, u v, a)
-
-      taken-less : (j : Item) → queue_occurrences j (queues_without v s) ≤ queue_occurrences j s
-      taken-less j = elim (cases_Bool (is_same_item j v)) [
-        | inl e ↦ let n : queue_occurrences j (queues_without v s) ≡ 0 = queued-taken j v s ∙ ap (λ y. cond y 0 (queue_occurrences j s)) e in omega (arith, n)
-        | inr e ↦ let n : queue_occurrences j (queues_without v s) ≡ queue_occurrences j s = queued-taken j v s ∙ ap (λ y. cond y 0 (queue_occurrences j s)) e in omega (arith, n)
-      ]
 
   direct : (q : Queue) → r.placement ≡ Direct q → total_items s ≤ r.capacity → IsBalanced r i s (response_without_trial r admits q i s)
   direct q p f =

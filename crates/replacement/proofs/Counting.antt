@@ -6,7 +6,7 @@ use Rattle.segments.specs.declared.records.Queue.{Queue}
 use Rattle.segments.specs.declared.records.Queue.TheVariants.{Window, Probation, Protected}
 use Rattle.segments.specs.Items.{is_same_item, occurrences, items_without}
 use Rattle.segments.specs.Queues.{Queues, queues_after_push, queues_without, queues_after_move, total_items, IsDistinct}
-use Rattle.segments.proofs.ItemLists.{same-true, times-append, length-without}
+use Rattle.segments.proofs.ItemLists.{same-true, times-append, times-without, length-without}
 use Rattle.replacement.specs.Counts.{queue_occurrences}
 
 abbrev pub once : Item → Item → ℕ
@@ -34,6 +34,9 @@ queued-taken j i q =
       | inl e ↦ rw e refl
       | inr e ↦ rw e refl
     ])
+
+pub taken-less : (j i : Item) (q : Queues) → queue_occurrences j (queues_without i q) ≤ queue_occurrences j q
+taken-less j i q = omega (arith, times-without i j q.window, times-without i j q.probation, times-without i j q.protected)
 
 pub queued-pushed : (j i : Item) (to : Queue) (q : Queues) → queue_occurrences j (queues_after_push to i q) ≡ queue_occurrences j q + once j i
 queued-pushed j i Window q = rw (times-append j q.window (i ∷ [])) (omega arith)
