@@ -6,6 +6,7 @@ use Rattle.trace_read.specs.Lines.{line_of, run_of}
 use Rattle.trace_read.specs.declared.arc.BlockRun.{BlockRun}
 use Rattle.trace_read.specs.declared.arc.UsualLine.{UsualLine}
 use Rattle.trace_read.specs.declared.digit_runs.DigitRun.{DigitRun}
+use Rattle.trace_read.specs.declared.digits.TheConstants.{MAX_DIGITS, SHORT_DIGITS}
 use Rattle.trace_read.specs.declared.format.Format.{Format}
 use Rattle.trace_read.specs.declared.format.Format.TheVariants.{Lirs, Arc}
 
@@ -20,8 +21,8 @@ pub record IsUsualLine (format : Format) (bytes : List ℕ) (first : DigitRun) (
 
 -- a line that begins with a run of digits begins as one of the usual form
 abbrev pub BeginsUsual : Format → List ℕ → DigitRun → Type 0
-BeginsUsual Lirs bytes run = HasUpTo 20 run × (get_or bytes run.end 0 ≡ 10)
-BeginsUsual Arc bytes run = HasUpTo 16 run × (is_ascii_digit (get_or bytes (run.end + 1) 0) ≡ true)
+BeginsUsual Lirs bytes run = HasUpTo MAX_DIGITS run × (get_or bytes run.end 0 ≡ 10)
+BeginsUsual Arc bytes run = HasUpTo SHORT_DIGITS run × (is_ascii_digit (get_or bytes (run.end + 1) 0) ≡ true)
 
 -- a line is a run of at most `room` accesses
 pub record IsLongRun (format : Format) (text : List ℕ) (room : ℕ) (run : BlockRun) : Type 0 where

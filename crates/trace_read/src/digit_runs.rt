@@ -3,6 +3,7 @@ ghost use Rattle.std.specs.Prelude.{◌≡◌, ◌↔◌, ◌≤◌, ◌+◌, �
 ghost use Rattle.std.specs.Simd.Lanes.{mask_l};
 ghost use Rattle.trace_read.specs.DigitRuns.{is_other, DigitsBetween, HasUpTo, IsDigitRuns, IsNextRun, IsLineEnd};
 
+use crate::digits::SHORT_DIGITS;
 use std::simd::prelude::*;
 
 // How many bytes are looked at at once.
@@ -19,13 +20,13 @@ pub struct DigitRun {
 }
 
 impl DigitRun {
-    /// Whether there are one to sixteen digits.
+    /// Whether there are one to `SHORT_DIGITS` digits.
     #[inline(always)]
     pub fn is_short(self) -> bool
         requires { self.start ≤ self.end }
-        ensures { IsTrue result ↔ HasUpTo 16 self }
+        ensures { IsTrue result ↔ HasUpTo SHORT_DIGITS self }
     {
-        (self.end - self.start).wrapping_sub(1) < 16
+        (self.end - self.start).wrapping_sub(1) < SHORT_DIGITS
     }
 }
 

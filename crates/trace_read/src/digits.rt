@@ -7,6 +7,12 @@ ghost use Rattle.std.specs.Str.{all_ascii_digits};
 ghost use Rattle.std.specs.Str.Parse.{digits_value};
 ghost use Rattle.trace_read.specs.DigitRuns.{AreDigits};
 
+/// How many digits two words of eight have.
+pub const SHORT_DIGITS: usize = 16;
+
+/// How many digits 2^64 - 1 has.
+pub const MAX_DIGITS: usize = 20;
+
 /// The number that the first bytes write, one to eight digits.
 #[inline(always)]
 pub fn short_number(text: &[u8], count: usize) -> u64

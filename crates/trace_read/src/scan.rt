@@ -13,7 +13,7 @@ use super::arc::{
     AT_ONCE, BlockRun, UsualLine, add_arc_line, long_run, push_reserved_run, usual_run,
 };
 use super::digit_runs::{DigitRun, DigitRuns, are_at};
-use super::digits::first_word;
+use super::digits::{MAX_DIGITS, first_word};
 use super::follower::Follower;
 use super::format::Format;
 use super::lirs::{add_lirs_line, usual_number};
@@ -399,14 +399,15 @@ fn long_line(format: Format, text: &[u8], room: usize) -> Option<BlockRun>
 }
 
 // Whether a line that begins with this run of digits begins as one of the format's usual form: with a number of at most
-// twenty digits, which a line feed ends, or one of at most sixteen, and one byte between it and the next.
+// `MAX_DIGITS`, which a line feed ends, or one of at most `SHORT_DIGITS`, and one byte between it and the next.
 #[inline(always)]
 fn begins_usual_line(format: Format, bytes: &[u8], first: DigitRun) -> bool
     requires { (first.start ≤ first.end) × (first.end + 1 < length bytes.now) }
     ensures { IsTrue result ↔ BeginsUsual format bytes.now first }
 {
     match format {
-        Format::Lirs => bytes[first.end] == b'\n' && (first.end - first.start).wrapping_sub(1) < 20,
+        Format::Lirs => bytes[first.end] == b'\n'
+            && (first.end - first.start).wrapping_sub(1) < MAX_DIGITS,
         Format::Arc => first.is_short() && bytes[first.end + 1].is_ascii_digit(),
     }
 }
