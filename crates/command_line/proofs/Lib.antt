@@ -1,4 +1,3 @@
-pub mod Examples
 pub mod Numbers
 pub mod Naming
 pub mod Folds
