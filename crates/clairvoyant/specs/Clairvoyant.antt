@@ -39,7 +39,8 @@ clairvoyant_after d k = record {
   stats = stats_with (belady_answer d.capacity d.trace d.stats.accesses k d.residents) d.stats;
 }
 
+abbrev pub clairvoyant_access : ℕ → ClairvoyantState → Outcome × ClairvoyantState
+clairvoyant_access k d = (belady_answer d.capacity d.trace d.stats.accesses k d.residents, clairvoyant_after d k)
+
 abbrev pub clairvoyant_act : ClairvoyantState → ℕ → Option (Outcome × ClairvoyantState)
-clairvoyant_act d k =
-    cond (is_next d k)
-    (Some (belady_answer d.capacity d.trace d.stats.accesses k d.residents, clairvoyant_after d k)) None
+clairvoyant_act d k = cond (is_next d k) (Some (clairvoyant_access k d)) None

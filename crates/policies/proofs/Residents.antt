@@ -2,8 +2,7 @@
 use Rattle.std.proofs.Common.{◌≡◌, ℕ, zero, suc, ◌+◌, ◌≤◌, eqb, nat_lt, true, cond, map, Result, Ok, Err, List, [], ◌∷◌, length, get_or, ap, ◌∙◌, sym, refl, subst, arith, inl, inr}
 use Rattle.std.specs.List.{count_by}
 use Rattle.std.proofs.lemmas.Bool.{cases_Bool}
-use Rattle.step_record.specs.declared.outcome.Outcome.{Outcome}
-use Rattle.clairvoyant.specs.Clairvoyant.{ClairvoyantState, is_next, clairvoyant_after, clairvoyant_act}
+use Rattle.clairvoyant.specs.Clairvoyant.{ClairvoyantState, is_next, clairvoyant_access, clairvoyant_after, clairvoyant_act}
 use Rattle.segments.specs.Queues.{residents_in}
 use Rattle.step_record.proofs.Limited.{accepted-in, accepted-where}
 use Rattle.queue_cache.specs.QueueStep.{recorded_in, queue_access, queue_count}
@@ -160,16 +159,13 @@ residents_distinct law own j trace keys (Adaptive d) k s = (own j.config j.tunin
 
 -- ---- an accepted step
 
-abbrev optimal-access : (d : ClairvoyantState) (k : ℕ) → Outcome × ClairvoyantState
-optimal-access d k = (belady_answer d.capacity d.trace d.stats.accesses k d.residents, clairvoyant_after d k)
-
 pub hits_are_residents : DemandKeeps → CacheKeeps → HitsAreResidents
 hits_are_residents law own j trace keys (Queues d) k o e s h =
     let sound : IsBalancedCache d = subst IsBalancedCache (sym s.1.gives) (after-balanced j keys) in
     ap is_hit (accepted-in queue_count queue_access Queues d k o e h).outcome ∙ ((step-balanced (recorded_in k d.frequency) k d sound).hit ∙ sym (resident-queued k d.queues sound.nodeless))
 hits_are_residents law own j trace keys (Optimal d) k o e s h =
     let q : IsOptimalStep (clairvoyant_act d k) o e = optimal_step (clairvoyant_act d k) o e h in
-    ap is_hit (accepted-where (is_next d k) (optimal-access d k) o q.next q.steps).outcome ∙ hit-resident d.capacity d.trace d.stats.accesses k d.residents
+    ap is_hit (accepted-where (is_next d k) (clairvoyant_access k d) o q.next q.steps).outcome ∙ hit-resident d.capacity d.trace d.stats.accesses k d.residents
 hits_are_residents law own j trace keys (Demand d) k o e s h =
     ap is_hit (accepted-in demand_count demand_access Demand d k o e h).outcome ∙ (demand-is-access law j keys d k s).hits
 hits_are_residents law own j trace keys (Adaptive d) k o e s h =
@@ -185,7 +181,7 @@ fetches_on_demand law own j trace keys (Queues d) k o e x s h there =
     came-from (recorded_in k d.frequency) k x d sound (there-in x (sym (accepted-in queue_count queue_access Queues d k o e h).next) there)
 fetches_on_demand law own j trace keys (Optimal d) k o e x s h there =
     let q : IsOptimalStep (clairvoyant_act d k) o e = optimal_step (clairvoyant_act d k) o e h in
-    let next : e ≡ Optimal (clairvoyant_after d k) = q.is ∙ ap Optimal (accepted-where (is_next d k) (optimal-access d k) o q.next q.steps).next in
+    let next : e ≡ Optimal (clairvoyant_after d k) = q.is ∙ ap Optimal (accepted-where (is_next d k) (clairvoyant_access k d) o q.next q.steps).next in
     served-has d.capacity d.trace d.stats.accesses k x d.residents (there-in x (sym next) there)
 fetches_on_demand law own j trace keys (Demand d) k o e x s h there =
     demand-came-from j.config.capacity k x (queues_residents d.queues) (queues_act k d.queues).0 (queues_residents (queues_act k d.queues).1)

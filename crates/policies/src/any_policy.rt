@@ -251,34 +251,22 @@ impl Engine for AnyPolicy {
     fn undo(&mut self, done: AnyRecord) -> Result<(), AnyRecord> {
         match self {
             AnyPolicy::Queues(cache) => match done {
-                AnyRecord::Queues(done) => match cache.undo(done) {
-                    Ok(()) => Ok(()),
-                    Err(done) => Err(AnyRecord::Queues(done)),
-                },
+                AnyRecord::Queues(done) => cache.undo(done).map_err(AnyRecord::Queues),
                 AnyRecord::Optimal(_) | AnyRecord::Demand(_) | AnyRecord::Adaptive(_) =>
                     unreachable!(),
             },
             AnyPolicy::Optimal(cache) => match done {
-                AnyRecord::Optimal(done) => match cache.undo(done) {
-                    Ok(()) => Ok(()),
-                    Err(done) => Err(AnyRecord::Optimal(done)),
-                },
+                AnyRecord::Optimal(done) => cache.undo(done).map_err(AnyRecord::Optimal),
                 AnyRecord::Queues(_) | AnyRecord::Demand(_) | AnyRecord::Adaptive(_) =>
                     unreachable!(),
             },
             AnyPolicy::Demand(cache) => match done {
-                AnyRecord::Demand(done) => match cache.undo(done) {
-                    Ok(()) => Ok(()),
-                    Err(done) => Err(AnyRecord::Demand(done)),
-                },
+                AnyRecord::Demand(done) => cache.undo(done).map_err(AnyRecord::Demand),
                 AnyRecord::Queues(_) | AnyRecord::Optimal(_) | AnyRecord::Adaptive(_) =>
                     unreachable!(),
             },
             AnyPolicy::Adaptive(cache) => match done {
-                AnyRecord::Adaptive(done) => match cache.undo(done) {
-                    Ok(()) => Ok(()),
-                    Err(done) => Err(AnyRecord::Adaptive(done)),
-                },
+                AnyRecord::Adaptive(done) => cache.undo(done).map_err(AnyRecord::Adaptive),
                 AnyRecord::Queues(_) | AnyRecord::Optimal(_) | AnyRecord::Demand(_) =>
                     unreachable!(),
             },

@@ -1,10 +1,10 @@
 use Rattle.std.proofs.Common.{◌≡◌, ℕ, ◌*◌, ◌++◌, ◌≤◌, List, length, take, drop, ap, sym, ◌∙◌, subst, arith, append_assoc}
 use Rattle.std.proofs.lemmas.Grind.{div_ceil_times}
-use Rattle.std.proofs.lemmas.List.{take_all}
 use Rattle.step_record.specs.declared.limits.TheConstants.{MAX_BATCH}
 use Rattle.policies.specs.AnyPolicy.{HasAccessed}
 use Rattle.policies.proofs.Batches.{next-piece, taken-more}
 use Rattle.policies.proofs.Pieces.{next_rest}
+use Rattle.policies.proofs.Stretches.{has-made-all}
 use Rattle.policies.proofs.trace_run.access_in_batches.Goals as goal
 
 pub access_all-requires : goal.access_all-requires
@@ -33,8 +33,8 @@ loop-number-preserved g c =
     )
 
 pub returns : goal.returns
-returns g c = λ j trace done s.
+returns g c =
     let keys = c.args.keys.now in let k = c.loop-number.number in
     let last : c.div_ceil-number-end.result ≡ k = omega arith in
     let all = subst (λ (n : ℕ). length keys ≤ n * MAX_BATCH) (sym c.div_ceil-number-end.ensures ∙ last) (div_ceil_times (length keys) MAX_BATCH (omega arith)).0 in
-    subst (λ (l : List ℕ). HasAccessed j trace (done ++ l) c.loop-number.cache) (take_all (k * MAX_BATCH) keys all) (c.loop-number.invariant.1 j trace done s)
+    has-made-all keys (k * MAX_BATCH) c.args.cache.now c.loop-number.cache all c.loop-number.invariant.1
