@@ -1,6 +1,6 @@
 //! All policies as one engine.
-ghost use Rattle.std.specs.Prelude.{◌≡◌, ◌≤◌, ◌↔◌, IfOk, OnErr};
-ghost use Rattle.std.specs.Prelude.{Ok, Err, Some, None, [], option_map, length};
+ghost use Rattle.std.specs.Prelude.{◌≡◌, ◌≤◌, ◌↔◌, ℕ, List, MatchOption, IfOk, OnErr};
+ghost use Rattle.std.specs.Prelude.{Ok, Err, Some, None, [], option_map, length, true};
 ghost use Rattle.demand_cache.specs.DemandCache.{demand_act, demand_may_ask};
 
 use crate::demand_design::demand_policy;
@@ -41,6 +41,7 @@ pub enum AnyRecord {
 impl AnyPolicy {
     ghost use Rattle.step_record.specs.Config.{config_fault};
     ghost use Rattle.policies.specs.AnyPolicy.{HasAccessed, stats_in, any_residents, frequency_in};
+    ghost use Rattle.queue_cache.specs.Design.{knows_trace};
     ghost use Rattle.policies.specs.AnyStep.{any_act, MayAllocate};
 
     /// An empty cache for a job over a trace. It requires a configuration that `Config::check` accepts. The one error
@@ -50,26 +51,12 @@ impl AnyPolicy {
         ensures stands { IfOk result (λ p. HasAccessed job.now trace.now [] p) }
         ensures fresh { IfOk result (λ p. (stats_in p).accesses ≡ 0) }
     {
-        match design_of(job.policy) {
-            Design::Queues(design) => {
-                let cache = QueueCache::with_design(alloc, *job, design)?;
-                Ok(AnyPolicy::Queues(cache))
-            }
-            Design::KnowsTrace => {
-                let uses = NextUse::build(alloc, trace)?;
-                let cache = Clairvoyant::open(alloc, uses, job.config.capacity)?;
-                Ok(AnyPolicy::Optimal(cache))
-            }
-            Design::Demand(design) => Ok(AnyPolicy::Demand(DemandCache::new(
-                alloc,
-                demand_policy(design, job),
-                job.config.capacity,
-            ))),
-            Design::Adaptive => {
-                let cache = AdaptiveCache::new(alloc, &job.config, job.tuning.period)?;
-                Ok(AnyPolicy::Adaptive(cache))
-            }
+        if let Some(cache) = AnyPolicy::open_online(alloc, job)? {
+            return Ok(cache);
         }
+        let uses = NextUse::build(alloc, trace)?;
+        let cache = Clairvoyant::open(alloc, uses, job.config.capacity)?;
+        Ok(AnyPolicy::Optimal(cache))
     }
 
     /// An empty cache for a job over the trace that these next uses are of: several caches can share them. The
@@ -80,23 +67,33 @@ impl AnyPolicy {
         ensures stands { IfOk result (λ p. HasAccessed job.now uses.now [] p) }
         ensures fresh { IfOk result (λ p. (stats_in p).accesses ≡ 0) }
     {
+        if let Some(cache) = AnyPolicy::open_online(alloc, job)? {
+            return Ok(cache);
+        }
+        let cache = Clairvoyant::open(alloc, uses.share()?, job.config.capacity)?;
+        Ok(AnyPolicy::Optimal(cache))
+    }
+
+    // An empty cache for a job, but where its policy is the optimal one.
+    fn open_online(alloc: Global, job: &Job) -> Result<Option<AnyPolicy>, AllocError>
+        requires { config_fault job.now.config ≡ Ok tt }
+        ensures stands { IfOk result (λ r. MatchOption r (knows_trace job.now.policy ≡ true)
+            (λ p. ((trace : List ℕ) → HasAccessed job.now trace [] p) × ((stats_in p).accesses ≡ 0))) }
+    {
         match design_of(job.policy) {
-            Design::KnowsTrace => {
-                let cache = Clairvoyant::open(alloc, uses.share()?, job.config.capacity)?;
-                Ok(AnyPolicy::Optimal(cache))
-            }
+            Design::KnowsTrace => Ok(None),
             Design::Queues(design) => {
                 let cache = QueueCache::with_design(alloc, *job, design)?;
-                Ok(AnyPolicy::Queues(cache))
+                Ok(Some(AnyPolicy::Queues(cache)))
             }
-            Design::Demand(design) => Ok(AnyPolicy::Demand(DemandCache::new(
-                alloc,
-                demand_policy(design, job),
-                job.config.capacity,
-            ))),
+            Design::Demand(design) => {
+                let policy = demand_policy(design, job);
+                let cache = DemandCache::new(alloc, policy, job.config.capacity);
+                Ok(Some(AnyPolicy::Demand(cache)))
+            }
             Design::Adaptive => {
                 let cache = AdaptiveCache::new(alloc, &job.config, job.tuning.period)?;
-                Ok(AnyPolicy::Adaptive(cache))
+                Ok(Some(AnyPolicy::Adaptive(cache)))
             }
         }
     }
