@@ -1,12 +1,11 @@
 -- How the count of accesses and the age of the frequency go on in a cache of any policy.
-use Rattle.std.specs.Prelude.{◌≡◌, ℕ, ◌+◌, Option, Some, None}
+use Rattle.std.specs.Prelude.{◌≡◌, ℕ, ◌+◌, true, Option, Some, None}
 use Rattle.std.proofs.Common.{ap, sym, subst}
 use Rattle.step_record.specs.declared.limits.TheConstants.{MAX_STEPS}
 use Rattle.step_record.specs.declared.outcome.Outcome.{Outcome}
-use Rattle.step_record.specs.declared.outcome.Outcome.TheVariants.{Hit}
 use Rattle.step_record.specs.Pace.{IsPaced, still-paced}
 use Rattle.step_record.specs.Limited.{lifted}
-use Rattle.step_record.proofs.Limited.{accepted-in, ended}
+use Rattle.step_record.proofs.Limited.{accepted-where, accepted-in, ended}
 use Rattle.adaptive_window.specs.AdaptiveCache.{cache_access, cache_count, cache_pace}
 use Rattle.admission.proofs.Weighing.{recorded_paced}
 use Rattle.clairvoyant.specs.Clairvoyant.{ClairvoyantState, clairvoyant_act}
@@ -28,22 +27,12 @@ pub record IsOptimalStep (x : Option (Outcome × ClairvoyantState)) (o : Outcome
   pub is : e ≡ Optimal next
   pub steps : x ≡ Some (o, next)
 
-abbrev outcome_in : Option (Outcome × AnyPolicy) → Outcome
-outcome_in None = Hit
-outcome_in (Some p) = p.0
-
-abbrev state_in : AnyPolicy → Option (Outcome × AnyPolicy) → AnyPolicy
-state_in d None = d
-state_in d (Some p) = p.1
-
 pub optimal_step : (x : Option (Outcome × ClairvoyantState)) (o : Outcome) (e : AnyPolicy) → lifted Optimal x ≡ Some (o, e)
     → IsOptimalStep x o e
 optimal_step None o e h = absurd (cc (h))
-optimal_step (Some p) o e h = record {
-  next = p.1;
-  is = sym (ap (state_in e) h);
-  steps = ap (λ (x : Outcome). Some (x, p.1)) (ap outcome_in h);
-}
+optimal_step (Some p) o e h =
+    let a = accepted-where true (p.0, Optimal p.1) o e h in
+    record { next = p.1; is = a.next; steps = ap (λ (x : Outcome). Some (x, p.1)) (sym a.outcome) }
 
 pub any_counts : (d : AnyPolicy) (k : ℕ) (o : Outcome) (e : AnyPolicy) → any_act d k ≡ Some (o, e)
     → any_count e ≡ any_count d + 1

@@ -7,28 +7,15 @@ use Rattle.queue_cache.specs.QueueCache.{QueueState}
 use Rattle.queue_cache.proofs.Reached.{after-job}
 use Rattle.policies.proofs.access_loops.access_queues.Goals as goal
 
+either : {A B C : Type 0} → (A → C) → (B → C) → A ⊎ B → C
+either f g (inl a) = f a
+either f g (inr b) = g b
+
 not-of-queues : (p : Policy) → (p ≡ Clairvoyant) ⊎ ((p ≡ Clock) ⊎ ((p ≡ Sieve) ⊎ ((p ≡ S3Fifo) ⊎ ((p ≡ TwoQ) ⊎ ((p ≡ Arc) ⊎ (p ≡ Caffeine))))))
     → has_queues p ≡ false
-not-of-queues p e =
-    elim e [
-      | inl x ↦ ap has_queues x
-      | inr r0 ↦ elim r0 [
-        | inl x ↦ ap has_queues x
-        | inr r1 ↦ elim r1 [
-          | inl x ↦ ap has_queues x
-          | inr r2 ↦ elim r2 [
-            | inl x ↦ ap has_queues x
-            | inr r3 ↦ elim r3 [
-              | inl x ↦ ap has_queues x
-              | inr r4 ↦ elim r4 [
-                | inl x ↦ ap has_queues x
-                | inr x ↦ ap has_queues x
-              ]
-            ]
-          ]
-        ]
-      ]
-    ]
+not-of-queues p =
+    either (λ x. ap has_queues x) (either (λ x. ap has_queues x) (either (λ x. ap has_queues x) (either (λ x. ap has_queues x)
+    (either (λ x. ap has_queues x) (either (λ x. ap has_queues x) (λ x. ap has_queues x))))))
 
 pub unreachable-requires : goal.unreachable-requires
 unreachable-requires c =
