@@ -1,5 +1,5 @@
 -- Steps that came to the end of a session.
-use Rattle.std.proofs.Common.{◌≡◌, ℕ, ◌+◌, ◌-◌, Option, Some, None, option_map, [], ◌∷◌, ◌++◌, length, length-append, Result, Ok, Err, IfOk, OnErr, refl, sym, ap, ◌∙◌, subst, arith}
+use Rattle.std.proofs.Common.{◌≡◌, ℕ, ◌+◌, ◌-◌, Option, Some, None, option_map, [], ◌∷◌, ◌++◌, length, length-append, refl, sym, ap, ◌∙◌, subst, arith}
 use Rattle.std.proofs.lemmas.List.{append_assoc, append-nil}
 use Rattle.step_record.specs.declared.entry.Entry.{Entry}
 use Rattle.step_record.specs.declared.outcome.Outcome.{Outcome}
@@ -93,11 +93,3 @@ adds_joined P Q R old now new m n f = record {
 
 pub adds_known : (P Q : Entries → Type 0) (old new : ShellSession) → AddsSteps P old new → ((es : Entries) → P es → Q es) → AddsSteps Q old new
 adds_known P Q old new m f = record { made = m.made; entered = m.entered; tail = m.tail; holds = f m.made m.holds }
-
-pub map_ok : {T F : Type 0} (r : Result T F) (P Q : T → Type 0) → ((x : T) → P x → Q x) → IfOk r P → IfOk r Q
-map_ok (Ok x) P Q f h = f x h
-map_ok (Err e) P Q f h = tt
-
-pub map_err : {T F : Type 0} (r : Result T F) (P Q : Type 0) → (P → Q) → OnErr r P → OnErr r Q
-map_err (Ok x) P Q f h = tt
-map_err (Err e) P Q f h = f h

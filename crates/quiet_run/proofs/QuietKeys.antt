@@ -74,7 +74,8 @@ hits c t n q rest f s m k nd Q e b r u v g =
 miss-round : (j : ℕ) (c : Config) (t : List Item) (n : ℕ) (q : Queues) (l : List (List Item)) (i : Item) (f : FrequencyData) (s : ShellStats) (m : ℕ) (Q : Shell → Type 0)
     → suc j ≡ c.stripes → length l ≡ c.stripes → ((k : ℕ) → stripe_at k l ≡ [])
     → length (queues_after_push Window i q).window ≤ window_size c + 1
-    → Leaves Q c (unlisted_by (evicted c (queues_after_push Window i q) (frequency_recorded f i.key)).left t) n (evicted c (queues_after_push Window i q) (frequency_recorded f i.key)).queues l (frequency_recorded f i.key)
+    → (length (evicted c (queues_after_push Window i q) (frequency_recorded f i.key)).queues.window ≤ window_size c
+    → Leaves Q c (unlisted_by (evicted c (queues_after_push Window i q) (frequency_recorded f i.key)).left t) n (evicted c (queues_after_push Window i q) (frequency_recorded f i.key)).queues l (frequency_recorded f i.key))
     → Leads (IsRound 0 c.stripes) (state c t n q l (Add i ∷ []) f drain.Required None s m) outcome.Kept (evicted c (queues_after_push Window i q) (frequency_recorded f i.key)).outcome Q
 miss-round j c t n q l i f s m Q z r u v g =
     let goal : Outcome = (evicted c (queues_after_push Window i q) (frequency_recorded f i.key)).outcome in
@@ -93,8 +94,9 @@ miss-round j c t n q l i f s m Q z r u v g =
 pub misses : (j : ℕ) (c : Config) (t : List Item) (n : ℕ) (q : Queues) (l : List (List Item)) (f : FrequencyData) (s : ShellStats) (m k : ℕ) (Q : Shell → Type 0)
     → node_of k t ≡ None → suc j ≡ c.stripes → length l ≡ c.stripes → ((i : ℕ) → stripe_at i l ≡ [])
     → length (queues_after_push Window record { key = k; node = n } q).window ≤ window_size c + 1
+    → (length (evicted c (queues_after_push Window record { key = k; node = n } q) (frequency_recorded f k)).queues.window ≤ window_size c
     → Leaves Q c (unlisted_by (evicted c (queues_after_push Window record { key = k; node = n } q) (frequency_recorded f k)).left (table_with record { key = k; node = n } t)) (n + 1)
-    (evicted c (queues_after_push Window record { key = k; node = n } q) (frequency_recorded f k)).queues l (frequency_recorded f k)
+    (evicted c (queues_after_push Window record { key = k; node = n } q) (frequency_recorded f k)).queues l (frequency_recorded f k))
     → Leads (IsQuietWalk c.stripes k) (state c t n q l [] f drain.Idle None s m) outcome.Kept (evicted c (queues_after_push Window record { key = k; node = n } q) (frequency_recorded f k)).outcome Q
 misses j c t n q l f s m k Q e z r u v g =
     let i : Item = record { key = k; node = n } in

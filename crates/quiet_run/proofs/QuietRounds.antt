@@ -96,22 +96,9 @@ first-some : (l : List Item) (n : ℕ) → n < length l → (i : Item) × (oldes
 first-some [] n h = absurd (omega arith)
 first-some (x ∷ l) n h = (x, refl)
 
--- the window fits again after the eviction
-pub window-after : (c : Config) (q : Queues) (f : FrequencyData) → length q.window ≤ window_size c + 1 → length (evicted c q f).queues.window ≤ window_size c
-window-after c q f h =
-    elim (cases_Bool (nat_lt (window_size c) (length q.window))) as (λ _. length (evicted c q f).queues.window ≤ window_size c) [
-      | inl e ↦
-          let lt : window_size c < length q.window = grind (arith, nat_tests) in
-          let o = first-some q.window (window_size c) lt in
-          let g : IsTried c.stripes o.0 q (trial (three_queues c) (admits_in (Some f)) o.0 (queues_after_move o.0 Probation q)) = trial-tried c.stripes c (admits_in (Some f)) o.0 q (first-queued o.0 q.window o.1) in
-          let s = g.shorter in
-          rw (e, o.1) (omega (arith, s, h))
-      | inr e ↦ let small : length q.window ≤ window_size c = grind (arith, nat_tests) in rw e small
-    ]
-
 -- evictions until the window fits, where it is over its size by one at most
 pub evicts : (c : Config) (t : List Item) (n : ℕ) (q : Queues) (l : List (List Item)) (f : FrequencyData) (p : Phase) (left : ℕ) (s : ShellStats) (m : ℕ) (Q : Shell → Type 0)
-    → length q.window ≤ window_size c + 1 → Leaves Q c (unlisted_by (evicted c q f).left t) n (evicted c q f).queues l f
+    → length q.window ≤ window_size c + 1 → (length (evicted c q f).queues.window ≤ window_size c → Leaves Q c (unlisted_by (evicted c q f).left t) n (evicted c q f).queues l f)
     → Leads (IsEvicting 0 c.stripes) (state c t n q l [] f drain.ToIdle (held p left) s m) outcome.Kept (evicted c q f).outcome Q
 evicts c t n q l f p left s m Q v k =
     elim (cases_Bool (nat_lt (window_size c) (length q.window))) [
@@ -121,10 +108,11 @@ evicts c t n q l f p left s m Q v k =
           let r : Response = trial (three_queues c) (admits_in (Some f)) o.0 (queues_after_move o.0 Probation q) in
           let is : evicted c q f ≡ trial (three_queues c) (admits_in (Some f)) o.0 (queues_after_move o.0 Probation q) = rw (e, o.1) refl in
           let g : IsTried c.stripes o.0 q r = trial-tried c.stripes c (admits_in (Some f)) o.0 q (first-queued o.0 q.window o.1) in
-          let k2 : Leaves Q c (unlisted_by r.left t) n r.queues l f = rw is at k in
+          let small : length r.queues.window ≤ window_size c = (let d = g.shorter in omega (arith, d, v)) in
+          let k2 : length r.queues.window ≤ window_size c → Leaves Q c (unlisted_by r.left t) n r.queues l f = rw is at k in
           let b : Reply = reply_by r.outcome r.left o.0 in
           let next : Leads (IsEvicting 0 c.stripes) (state c (unlisted_by r.left t) n r.queues l [] f drain.ToIdle (held Evictions left) (shell_stats_after b s) (m + 1)) r.outcome r.outcome Q =
-          fits c (unlisted_by r.left t) n r.queues l f Evictions left (shell_stats_after b s) (m + 1) r.outcome Q (let d = g.shorter in omega (arith, d, v)) k2 in
+          fits c (unlisted_by r.left t) n r.queues l f Evictions left (shell_stats_after b s) (m + 1) r.outcome Q small (k2 small) in
           rw is (evicting-opens c.stripes (state c t n q l [] f drain.ToIdle (held p left) s m) outcome.Kept r.outcome Q
           (opens c.stripes a.Evict (λ r es. FollowsEvict 0 c.stripes (IsEvicting 0 c.stripes es) r es) (state c t n q l [] f drain.ToIdle (held p left) s m) outcome.Kept r.outcome Q b (state c (unlisted_by r.left t) n r.queues l [] f drain.ToIdle (held Evictions left) s m)
           (evict-is 0 record { worker = 0; phase = p; left = left } (state c t n q l [] f drain.ToIdle (held p left) s m) refl
@@ -132,8 +120,8 @@ evicts c t n q l f p left s m Q v k =
           (rw g.outcome_is (λ es w. next es (g.more (IsEvicting 0 c.stripes es) es w)))))
       | inr e ↦
           let small : length q.window ≤ window_size c = grind (arith, nat_tests) in
-          let k2 : Leaves Q c t n q l f = rw e at k in
-          rw e (fits c t n q l f p left s m outcome.Kept Q small k2)
+          let k2 : length q.window ≤ window_size c → Leaves Q c t n q l f = rw e at k in
+          rw e (fits c t n q l f p left s m outcome.Kept Q small (k2 small))
     ]
 
 -- ---- the write queue

@@ -41,7 +41,7 @@ use Rattle.quiet_run.specs.QuietRuns.{KeysAgree}
 use Rattle.quiet_run.proofs.Accessing.{accesses-law}
 use Rattle.quiet_run.proofs.Residents.{resident, distinct-in, keys-once, not-queued, only-one}
 use Rattle.quiet_run.proofs.QuietSteps.{Leads, Leaves, state}
-use Rattle.quiet_run.proofs.QuietRounds.{evicted, window-after}
+use Rattle.quiet_run.proofs.QuietRounds.{evicted}
 use Rattle.quiet_run.proofs.QuietKeys.{hits, misses}
 
 abbrev outcome_at : QueueState → ℕ → Outcome
@@ -89,15 +89,14 @@ module _ (j : ℕ) (c : Config) (t : List Item) (n : ℕ) (q : Queues) (f : Freq
 
   -- what the access to the key's item comes to is, nodes aside, what the policy's access comes to
   served : (node : ℕ) (a : Response) → IsOnly (item node) q → access (three_queues c) (admits_in (Some (frequency_recorded f k))) (item node) q ≡ a
-      → length a.queues.window ≤ window_size c
-      → (((u : List Item) (l : ℕ) → Leaves Quiet c u l a.queues (nones (suc j)) (frequency_recorded f k)) → Leads (IsQuietWalk c.stripes k) before outcome.Kept a.outcome Quiet)
+      → (((u : List Item) (l : ℕ) → length a.queues.window ≤ window_size c → Leaves Quiet c u l a.queues (nones (suc j)) (frequency_recorded f k)) → Leads (IsQuietWalk c.stripes k) before outcome.Kept a.outcome Quiet)
       → Serves before d k
   unfolding frequency_recorded
-  served node a only e fits walk =
+  served node a only e walk =
       let agree = accesses-law (three_queues c) (admits_in (Some (frequency_recorded f k))) (item node) q (distinct-in t n q p) (keys-once t n q p) only in
       let same : access_response (recorded_in k d.frequency) k d ≡ nodeless_response a = rw (same_job, same_queues, same_frequency) (agree ∙ ap nodeless_response e) in
       subst (λ (o : Outcome). Leads (IsQuietWalk c.stripes k) before outcome.Kept o Quiet) (sym (ap (λ (y : Response). y.outcome) same))
-      (walk (λ u l s2 m2 v. record {
+      (walk (λ u l fits s2 m2 v. record {
         job = same_job;
         queues = ap (λ (y : Response). y.queues) same;
         frequency = rw same_frequency refl;
@@ -118,8 +117,8 @@ module _ (j : ℕ) (c : Config) (t : List Item) (n : ℕ) (q : Queues) (f : Freq
       let one : queue_occurrences i q ≡ 1 = omega (arith, there, apart i, resident t n q p i) in
       let same = (hit-renewed (shell_protected_size c) i (queue_holding i q) q apart (stands i q apart)).window in
       let fits : length (after_hit (shell_protected_size c) i q).window ≤ window_size c = omega (arith, same, few) in
-      served node (hit_response (after_hit (shell_protected_size c) i q)) (keys-once t n q p i (omega (arith, one))) (hit-access c _ i q apart one) fits
-      (λ leaves. hits c t n q (nones j) f s m k node Quiet e (p.below i (omega (arith, there))) (omega (arith, striped, length-replicate {A = List Item} j [])) (all-empty (suc j)) fits (leaves t n))
+      served node (hit_response (after_hit (shell_protected_size c) i q)) (keys-once t n q p i (omega (arith, one))) (hit-access c _ i q apart one)
+      (λ leaves. hits c t n q (nones j) f s m k node Quiet e (p.below i (omega (arith, there))) (omega (arith, striped, length-replicate {A = List Item} j [])) (all-empty (suc j)) fits (leaves t n fits))
 
   miss : node_of k t ≡ None → Serves before d k
   miss e =
@@ -128,7 +127,6 @@ module _ (j : ℕ) (c : Config) (t : List Item) (n : ℕ) (q : Queues) (f : Freq
       let absent : queue_holding i q ≡ None = is_absent i q record { window = omega (arith, none); probation = omega (arith, none); protected = omega (arith, none) } in
       let longer : length (queues_after_push Window i q).window ≤ window_size c + 1 = omega (arith, few, length-append q.window (i ∷ [])) in
       served n (evicted c (queues_after_push Window i q) (frequency_recorded f k)) (only-one t n q p i e) (access-at (three_queues c) _ i q None absent)
-      (window-after c (queues_after_push Window i q) (frequency_recorded f k) longer)
       (λ leaves. misses j c t n q (nones (suc j)) f s m k Quiet e (sym striped) (omega (arith, striped, length-replicate {A = List Item} (suc j) [])) (all-empty (suc j)) longer (leaves _ (n + 1)))
 
   accessed : (o : Option ℕ) → node_of k t ≡ o → Serves before d k

@@ -1,10 +1,11 @@
 use Rattle.std.proofs.Common.{ℕ, Option, ◌++◌, sym, subst}
+use Rattle.std.proofs.lemmas.Result.{IfOk-weaker, on_err_weaker}
 use Rattle.step_record.specs.declared.step.Call.TheVariants as call
 use Rattle.shell_model.specs.declared.holder.Holder.{Holder}
 use Rattle.walks.specs.Walks.{IsWalk}
 use Rattle.quiet_run.specs.QuietWalks.{with_rounds}
 use Rattle.quiet_run.specs.Settle.{IsAtStart}
-use Rattle.quiet_run.proofs.Adding.{adds_known, map_ok, map_err}
+use Rattle.quiet_run.proofs.Adding.{adds_known}
 use Rattle.quiet_run.proofs.run.quiet_key.Goals as goal
 
 pub finish_walk-requires-clause-place : goal.finish_walk-requires-clause-place
@@ -13,13 +14,13 @@ finish_walk-requires-clause-place c =
 
 pub returns-clause-ok : goal.returns-clause-ok
 returns-clause-ok c =
-    map_ok c.finish_walk.result _ _
+    IfOk-weaker c.finish_walk.result _ _
     (λ o m. adds_known _ _ _ _ m (λ es h. (subst (λ (v : ℕ). IsWalk v c.args.stripes (call.Read c.args.key) (with_rounds es)) c.first_worker.ensures ((c.start-local.ensures.ahead (with_rounds es)).1 h.0), h.1)))
     c.finish_walk.ensures.ok
 
 pub returns-clause-err : goal.returns-clause-err
 returns-clause-err c =
-    map_err c.finish_walk.result _ _
+    on_err_weaker c.finish_walk.result
     (λ m. adds_known _ _ _ _ m
     (λ es h. (h.0, h.1, subst (λ (v : ℕ). IsWalk v c.args.stripes (call.Read c.args.key) (with_rounds (es ++ h.0))) c.first_worker.ensures ((c.start-local.ensures.ahead (with_rounds (es ++ h.0))).1 h.2))))
     c.finish_walk.ensures.err
