@@ -1,5 +1,5 @@
 //! The line of progress: its text, and when it is drawn and cleared.
-use super::progress_line::{ProgressLine, ProgressText, Watch, Work};
+use progress::{ProgressLine, ProgressText, Watch, Work};
 use std::fmt::{Display, Write};
 use std::rt::Clock;
 use std::sync::atomic::AtomicU64;
