@@ -17,7 +17,7 @@ use Rattle.queue_cache.specs.Design.{knows_trace}
 use Rattle.policies.specs.FaultyJobs.{at_capacity, faulty_from, faulty_in, ReturnsFault}
 use Rattle.policies.specs.declared.actor_fault.ActorFault.{ActorFault}
 use Rattle.policies.specs.declared.actor_fault.ActorFault.TheVariants.{OutOfMemory}
-use Rattle.sweeps.specs.Sweep.{AreAccepted, first_config_fault, jobs_over, sweep_fault}
+use Rattle.sweeps.specs.Sweep.{first_config_fault, jobs_over, sweep_fault}
 use Rattle.policy_actors.specs.Following.{CanFollow}
 use Rattle.policy_actors.proofs.Following.{all_follow}
 use Rattle.long_traces.specs.Taking.{FollowsTrace}
@@ -25,13 +25,14 @@ use Rattle.long_traces.proofs.Following.{all-follow}
 use Rattle.policy_actors.specs.Faults.{actor_fault}
 use Rattle.sweeps.specs.Intervals.{intervals_fault}
 use Rattle.policies.specs.declared.job_checks.TheConstants.{MAX_ACTORS}
-use Rattle.command_line.specs.Accepted.{AreAcceptedIntervals, IsAcceptedPart, IsAcceptedRun, IsAcceptedSweep, is_clairvoyant, is_long, needs_whole_trace}
+use Rattle.command_line.specs.Accepted.{AreAcceptedIntervals, AreAcceptedJobs, IsAcceptedPart, IsAcceptedRun, IsAcceptedSweep, is_clairvoyant, is_long, needs_whole_trace}
 use Rattle.command_line.specs.declared.arguments.Arguments.TheVariants.{Intervals, Run, Sweep}
 use Rattle.command_line.specs.declared.arguments.IntervalsArguments.{IntervalsArguments}
+use Rattle.command_line.specs.declared.arguments.JobArguments.{JobArguments}
 use Rattle.command_line.specs.declared.arguments.PartArguments.{PartArguments}
 use Rattle.command_line.specs.declared.arguments.RunArguments.{RunArguments}
 use Rattle.command_line.specs.declared.arguments.SweepArguments.{SweepArguments}
-use Rattle.cachesim.specs.TraceOutput.{jobs_by_policy}
+use Rattle.cachesim.specs.TraceOutput.{jobs_asked, jobs_by_policy}
 
 no_fault : (config : Config) (tuning : Tuning) (i : ℕ) (policies : List Policy) → config_fault config ≡ Ok tt → faulty_from i (jobs_by_policy config tuning policies) ≡ None
 no_fault config tuning i [] ok = refl
@@ -60,21 +61,21 @@ no_config_fault config tuning (policy ∷ policies) cs ok all =
     rw (at_each (record { policy = policy; config = config; tuning = tuning }) 0 cs ok all) (no_config_fault config tuning policies cs ok all)
 
 -- so the jobs of an accepted `sweep` have no fault, if they are not too many
-pub can_sweep : (sweep : SweepArguments) (jobs : List Job) (capacities : List ℕ) → IsAcceptedSweep sweep → jobs ≡ jobs_by_policy sweep.config sweep.tuning sweep.policies
+pub can_sweep : (sweep : SweepArguments) (jobs : List Job) (capacities : List ℕ) → IsAcceptedSweep sweep → jobs ≡ jobs_asked sweep.jobs
     → capacities ≡ sweep.capacities → length jobs ≤ MAX_ACTORS → sweep_fault jobs capacities ≡ None
 can_sweep sweep jobs capacities accepted is same few =
-    rw (le-leb (length jobs) MAX_ACTORS few, is, same) (no_config_fault sweep.config sweep.tuning sweep.policies sweep.capacities accepted.config accepted.capacities)
+    rw (le-leb (length jobs) MAX_ACTORS few, is, same) (no_config_fault sweep.jobs.config sweep.jobs.tuning sweep.jobs.policies sweep.capacities accepted.jobs.config accepted.capacities)
 
 -- so those of an accepted `intervals` have none
-pub can_count : (config : Config) (tuning : Tuning) (policies : List Policy) (jobs : List Job) → config_fault config ≡ Ok tt → jobs ≡ jobs_by_policy config tuning policies
-    → length jobs ≤ MAX_ACTORS → intervals_fault jobs ≡ None
-can_count config tuning policies jobs ok is few = rw (le-leb (length jobs) MAX_ACTORS few, is) (no_fault config tuning 0 policies ok)
+pub can_count : (asked : JobArguments) (jobs : List Job) → AreAcceptedJobs asked → jobs ≡ jobs_asked asked → length jobs ≤ MAX_ACTORS
+    → intervals_fault jobs ≡ None
+can_count asked jobs accepted is few = rw (le-leb (length jobs) MAX_ACTORS few, is) (no_fault asked.config asked.tuning 0 asked.policies accepted.config)
 
 -- and those of an accepted `run` can be run, if they are not too many
-pub can_run : (run : RunArguments) (jobs : List Job) → IsAcceptedRun run → jobs ≡ jobs_by_policy run.config run.tuning run.policies → length jobs ≤ MAX_ACTORS
+pub can_run : (run : RunArguments) (jobs : List Job) → IsAcceptedRun run → jobs ≡ jobs_asked run.jobs → length jobs ≤ MAX_ACTORS
     → actor_fault run.batch jobs ≡ None
 can_run run jobs accepted is few =
-    rw (in_batch run.batch accepted.some accepted.few) (can_count run.config run.tuning run.policies jobs accepted.config is few)
+    rw (in_batch run.batch accepted.some accepted.few) (can_count run.jobs jobs accepted.jobs is few)
 
 -- and the two of an accepted `part` have no fault
 pub pair_accepted : (part : PartArguments) → IsAcceptedPart part → faulty_in (part.first ∷ part.second ∷ []) ≡ None
@@ -94,21 +95,21 @@ forgets : (policy : Policy) → is_clairvoyant policy ≡ false → knows_trace 
 forgets Clairvoyant other = absurd (cc other)
 forgets _ other = refl
 
-each_forgets : (config : Config) (tuning : Tuning) (policies : List Policy) → list_any is_clairvoyant policies ≡ false
+each_follows : (config : Config) (tuning : Tuning) (policies : List Policy) → config_fault config ≡ Ok tt → list_any is_clairvoyant policies ≡ false
     → All FollowsTrace (jobs_by_policy config tuning policies)
-each_forgets config tuning [] none = All-nil FollowsTrace
-each_forgets config tuning (policy ∷ policies) none =
+each_follows config tuning [] ok none = All-nil FollowsTrace
+each_follows config tuning (policy ∷ policies) ok none =
     let both = neither (is_clairvoyant policy) (list_any is_clairvoyant policies) none in
-    All-cons FollowsTrace _ _ (forgets policy both.0) (each_forgets config tuning policies both.1)
+    All-cons FollowsTrace _ _ (ok, forgets policy both.0) (each_follows config tuning policies ok both.1)
 
 -- the jobs of a `run` that is accepted can be run within its limits
-pub can_follow : (run : RunArguments) (jobs : List Job) → needs_whole_trace (Run run) ≡ false → jobs ≡ jobs_by_policy run.config run.tuning run.policies
-    → All (CanFollow run.limits.accesses) jobs
-can_follow run jobs kept is = elim (cases_Bool (nat_lt MAX_ACCESSES run.limits.accesses)) [
+pub can_follow : (run : RunArguments) (jobs : List Job) → IsAcceptedRun run → needs_whole_trace (Run run) ≡ false
+    → jobs ≡ jobs_asked run.jobs → All (CanFollow run.jobs.limits.accesses) jobs
+can_follow run jobs accepted kept is = elim (cases_Bool (nat_lt MAX_ACCESSES run.jobs.limits.accesses)) [
   | inl long ↦
-      let none : list_any is_clairvoyant run.policies ≡ false = rw long at kept in
-      subst (All (CanFollow run.limits.accesses)) (sym is) (all-follow run.limits.accesses _ (each_forgets run.config run.tuning run.policies none))
-  | inr short ↦ all_follow run.limits.accesses jobs (ltb-false MAX_ACCESSES run.limits.accesses short)
+      let none : list_any is_clairvoyant run.jobs.policies ≡ false = rw long at kept in
+      subst (All (CanFollow run.jobs.limits.accesses)) (sym is) (all-follow run.jobs.limits.accesses _ (each_follows run.jobs.config run.jobs.tuning run.jobs.policies accepted.jobs.config none))
+  | inr short ↦ all_follow run.jobs.limits.accesses jobs (ltb-false MAX_ACCESSES run.jobs.limits.accesses short)
 ]
 
 -- and no job at all can be run
@@ -116,10 +117,6 @@ pub can_pass : (run : RunArguments) → IsAcceptedRun run → actor_fault run.ba
 can_pass run accepted = rw (in_batch run.batch accepted.some accepted.few) refl
 
 -- ---- over a long trace
-
-each_accepted : (config : Config) (tuning : Tuning) (policies : List Policy) → config_fault config ≡ Ok tt → AreAccepted (jobs_by_policy config tuning policies)
-each_accepted config tuning [] ok = All-nil (λ job. config_fault job.config ≡ Ok tt)
-each_accepted config tuning (policy ∷ policies) ok = All-cons (λ job. config_fault job.config ≡ Ok tt) _ _ ok (each_accepted config tuning policies ok)
 
 -- what holds of a policy at each capacity of a sweep holds of its jobs
 at_capacities : (P : Job → Type 0) (job : Job) (cs : List ℕ) → ((c : ℕ) → is_from_one MAX_CAPACITY c ≡ true → P (at_capacity job c)) → AllPass (is_from_one MAX_CAPACITY) cs
@@ -134,27 +131,22 @@ over_capacities P [] cs each all has = All-nil P
 over_capacities P (job ∷ jobs) cs each all has =
     All-append P _ _ (at_capacities P job cs (λ c fits. each job c fits (All-head P job jobs has)) all) (over_capacities P jobs cs each all (All-tail P job jobs has))
 
--- the jobs of a `sweep` over a long trace are accepted, and no policy has to know the whole of it
-pub sweeps_long : (sweep : SweepArguments) (rows : List Job) → IsAcceptedSweep sweep → needs_whole_trace (Sweep sweep) ≡ false → is_long sweep.limits ≡ true
-    → rows ≡ jobs_over (jobs_by_policy sweep.config sweep.tuning sweep.policies) sweep.capacities → AreAccepted rows × All FollowsTrace rows
+-- the jobs of a `sweep` over a long trace can be run while it is read
+pub sweeps_long : (sweep : SweepArguments) (rows : List Job) → IsAcceptedSweep sweep → needs_whole_trace (Sweep sweep) ≡ false → is_long sweep.jobs.limits ≡ true
+    → rows ≡ jobs_over (jobs_asked sweep.jobs) sweep.capacities → All FollowsTrace rows
 sweeps_long sweep rows accepted kept long is =
-    let none : list_any is_clairvoyant sweep.policies ≡ false = rw long at kept in (
-      subst AreAccepted (sym is) (over_capacities (λ job. config_fault job.config ≡ Ok tt) _ sweep.capacities (λ job c fits ok. at_other job.config c ok fits) accepted.capacities
-          (each_accepted sweep.config sweep.tuning sweep.policies accepted.config)),
-      subst (All FollowsTrace) (sym is) (over_capacities FollowsTrace _ sweep.capacities (λ job c fits follows. follows) accepted.capacities
-          (each_forgets sweep.config sweep.tuning sweep.policies none)),
-    )
+    let none : list_any is_clairvoyant sweep.jobs.policies ≡ false = rw long at kept in
+    subst (All FollowsTrace) (sym is) (over_capacities FollowsTrace _ sweep.capacities (λ job c fits follows. (at_other job.config c follows.0 fits, follows.1)) accepted.capacities
+    (each_follows sweep.jobs.config sweep.jobs.tuning sweep.jobs.policies accepted.jobs.config none))
 
-pub swept_rows : (sweep : SweepArguments) (jobs rows : List Job) (cs : List ℕ) → jobs ≡ jobs_by_policy sweep.config sweep.tuning sweep.policies → cs ≡ sweep.capacities
-    → rows ≡ jobs_over jobs cs → rows ≡ jobs_over (jobs_by_policy sweep.config sweep.tuning sweep.policies) sweep.capacities
+pub swept_rows : (sweep : SweepArguments) (jobs rows : List Job) (cs : List ℕ) → jobs ≡ jobs_asked sweep.jobs → cs ≡ sweep.capacities
+    → rows ≡ jobs_over jobs cs → rows ≡ jobs_over (jobs_asked sweep.jobs) sweep.capacities
 swept_rows sweep jobs rows cs are is made =
-    made ∙ (ap (λ (js : List Job). jobs_over js cs) are ∙ ap (jobs_over (jobs_by_policy sweep.config sweep.tuning sweep.policies)) is)
+    made ∙ (ap (λ (js : List Job). jobs_over js cs) are ∙ ap (jobs_over (jobs_asked sweep.jobs)) is)
 
 -- so are those of an `intervals`
 pub counts_long : (intervals : IntervalsArguments) (jobs : List Job) → AreAcceptedIntervals intervals → needs_whole_trace (Intervals intervals) ≡ false
-    → is_long intervals.limits ≡ true → jobs ≡ jobs_by_policy intervals.config intervals.tuning intervals.policies → AreAccepted jobs × All FollowsTrace jobs
+    → is_long intervals.jobs.limits ≡ true → jobs ≡ jobs_asked intervals.jobs → All FollowsTrace jobs
 counts_long intervals jobs accepted kept long is =
-    let none : list_any is_clairvoyant intervals.policies ≡ false = rw long at kept in (
-      subst AreAccepted (sym is) (each_accepted intervals.config intervals.tuning intervals.policies accepted.config),
-      subst (All FollowsTrace) (sym is) (each_forgets intervals.config intervals.tuning intervals.policies none),
-    )
+    let none : list_any is_clairvoyant intervals.jobs.policies ≡ false = rw long at kept in
+    subst (All FollowsTrace) (sym is) (each_follows intervals.jobs.config intervals.jobs.tuning intervals.jobs.policies accepted.jobs.config none)

@@ -83,11 +83,11 @@ IsFoundInFile file P fault = IfSome file (P fault)
 -- the call of these arguments finds the fault in the bytes of the input or of its file, or in the arguments
 abbrev pub IsFound : Arguments → KnownFiles → Option (List ℕ) → Fault → Type 0
 IsFound (asked.Run run) files input fault =
-    IfSome input (IsFoundWithin run.limits run.format (IsTooMany run.policies) fault)
+    IfSome input (IsFoundWithin run.jobs.limits run.jobs.format (IsTooMany run.jobs.policies) fault)
 IsFound (asked.Sweep sweep) files input fault =
-    IfSome input (IsFoundWithin sweep.limits sweep.format (IsTooMany sweep.policies) fault)
+    IfSome input (IsFoundWithin sweep.jobs.limits sweep.jobs.format (IsTooMany sweep.jobs.policies) fault)
 IsFound (asked.Intervals intervals) files input fault =
-    IfSome input (IsFoundWithin intervals.limits intervals.format (IsTooMany intervals.policies) fault)
+    IfSome input (IsFoundWithin intervals.jobs.limits intervals.jobs.format (IsTooMany intervals.jobs.policies) fault)
 IsFound (asked.Part part) files input fault = IfSome input (IsFoundWithin part.limits part.format (λ f. ⊥) fault)
 IsFound (asked.Compare compare) files input fault =
     IfSome input (IsFoundWithin compare.policies.limits compare.policies.format (λ f. ⊥) fault)

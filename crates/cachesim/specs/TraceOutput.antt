@@ -7,6 +7,7 @@ use Rattle.step_record.specs.declared.job.Policy.{Policy}
 use Rattle.step_record.specs.declared.limits.TheConstants.{MAX_ACCESSES}
 use Rattle.command_line.specs.declared.arguments.Arguments.{Arguments}
 use Rattle.command_line.specs.declared.arguments.Arguments.TheVariants as asked
+use Rattle.command_line.specs.declared.arguments.JobArguments.{JobArguments}
 use Rattle.command_line.specs.declared.arguments.PartArguments.{PartArguments}
 use Rattle.sweeps.specs.Sweep.{jobs_over}
 use Rattle.trace_read.specs.TraceText.{fault_within, keys_in}
@@ -26,6 +27,9 @@ use Rattle.policy_comparison.specs.Part.{part_line, IsPart}
 abbrev pub jobs_by_policy : Config → Tuning → List Policy → List Job
 jobs_by_policy config tuning policies =
     map (λ policy. record { policy = policy; config = config; tuning = tuning }) policies
+
+abbrev pub jobs_asked : JobArguments → List Job
+jobs_asked asked = jobs_by_policy asked.config asked.tuning asked.policies
 
 -- the report of each job over the accesses: it counts the outcomes of its policy's definition
 abbrev pub reports_on : List Job → List ℕ → List Report
@@ -55,13 +59,11 @@ IfFaultless = IfFaultlessWithin MAX_ACCESSES
 -- `compare` the header and the row of what is counted of both, or a row for each interval.
 abbrev pub IsText : Arguments → List ℕ → List ℕ → Type 0
 IsText (asked.Run run) keys text =
-    text ≡ reports_text (reports_on (jobs_by_policy run.config run.tuning run.policies) keys)
+    text ≡ reports_text (reports_on (jobs_asked run.jobs) keys)
 IsText (asked.Sweep sweep) keys text =
-    text ≡ reports_text (reports_on (jobs_over (jobs_by_policy sweep.config sweep.tuning sweep.policies) sweep.capacities)
-    keys)
+    text ≡ reports_text (reports_on (jobs_over (jobs_asked sweep.jobs) sweep.capacities) keys)
 IsText (asked.Intervals intervals) keys text =
-    text ≡ intervals_text (rows_on intervals.every (jobs_by_policy intervals.config intervals.tuning intervals.policies)
-    keys)
+    text ≡ intervals_text (rows_on intervals.every (jobs_asked intervals.jobs) keys)
 IsText (asked.Part part) keys text = (found : Option ℕ)
     × IsPart (outcomes_on part.first keys) (outcomes_on part.second keys) found × (text ≡ part_line found)
 IsText (asked.Compare compare) keys text = text ≡ compared_text compare.policies compare.every keys
@@ -70,11 +72,11 @@ IsText arguments keys text = ⊥
 -- so it is of the bytes of a trace, which have no fault
 abbrev pub IsTextOf : Arguments → Option (List ℕ) → List ℕ → Type 0
 IsTextOf (asked.Run run) input text =
-    IfFaultlessWithin run.limits.accesses run.format input (λ keys. IsText (asked.Run run) keys text)
+    IfFaultlessWithin run.jobs.limits.accesses run.jobs.format input (λ keys. IsText (asked.Run run) keys text)
 IsTextOf (asked.Sweep sweep) input text =
-    IfFaultlessWithin sweep.limits.accesses sweep.format input (λ keys. IsText (asked.Sweep sweep) keys text)
-IsTextOf (asked.Intervals intervals) input text =
-    IfFaultlessWithin intervals.limits.accesses intervals.format input (λ keys. IsText (asked.Intervals intervals) keys text)
+    IfFaultlessWithin sweep.jobs.limits.accesses sweep.jobs.format input (λ keys. IsText (asked.Sweep sweep) keys text)
+IsTextOf (asked.Intervals intervals) input text = IfFaultlessWithin intervals.jobs.limits.accesses intervals.jobs.format
+    input (λ keys. IsText (asked.Intervals intervals) keys text)
 IsTextOf (asked.Part part) input text =
     IfFaultlessWithin part.limits.accesses part.format input (λ keys. IsText (asked.Part part) keys text)
 IsTextOf (asked.Compare compare) input text = IfFaultlessWithin compare.policies.limits.accesses compare.policies.format

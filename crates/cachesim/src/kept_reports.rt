@@ -5,12 +5,12 @@ ghost use Rattle.command_line.specs.Accepted.{IsAcceptedSweep};
 ghost use Rattle.command_line.specs.declared.arguments.Arguments.TheVariants.{Compare, Intervals, Part, Sweep};
 ghost use Rattle.policies.specs.declared.job_checks.TheConstants.{MAX_ACTORS};
 ghost use Rattle.cachesim.specs.FaultCauses.{IsTooMany};
-ghost use Rattle.cachesim.specs.TraceOutput.{IsText, compared_text, jobs_by_policy};
+ghost use Rattle.cachesim.specs.TraceOutput.{IsText, compared_text, jobs_asked};
 
 use crate::fault::{Fault, only_memory};
 use crate::reports::jobs;
 use command_line::{
-    CompareArguments, IntervalsArguments, PartArguments, PolicyList, SweepArguments,
+    CompareArguments, IntervalsArguments, JobArguments, PartArguments, SweepArguments,
 };
 use policies::MAX_ACTORS;
 use policy_comparison::{
@@ -20,7 +20,7 @@ use progress::Watch;
 use report::{intervals_text, reports_text};
 use std::alloc::Global;
 use std::thread::Threads;
-use step_record::{Config, Job, Trace, Tuning};
+use step_record::{Job, Trace};
 use sweeps::{interval_batches, sweep_batches, sweep_each};
 
 /// The reports of the policies that the arguments name at each of the capacities, as text: those of the first policy in
@@ -34,14 +34,9 @@ pub fn sweep<T: Threads + Sync, P: Watch>(
 ) -> Result<Vec<u8>, Fault>
     requires { IsAcceptedSweep arguments.now }
     ensures text { IfOk result (λ text. IsText (Sweep arguments.now) trace.now text.items) }
-    ensures fault { IfErr result (λ fault. (fault ≡ Fault.OutOfMemory) ⊎ IsTooMany arguments.now.policies fault) }
+    ensures fault { IfErr result (λ fault. (fault ≡ Fault.OutOfMemory) ⊎ IsTooMany arguments.now.jobs.policies fault) }
 {
-    let jobs = few_jobs(
-        alloc,
-        arguments.config,
-        arguments.tuning,
-        &arguments.policies,
-    )?;
+    let jobs = few_jobs(alloc, &arguments.jobs)?;
     let capacities = arguments.capacities.as_slice();
     watch.begin(
         "sweep",
@@ -63,14 +58,9 @@ pub fn intervals<T: Threads + Sync, P: Watch>(
 ) -> Result<Vec<u8>, Fault>
     requires { AreAcceptedIntervals arguments.now }
     ensures text { IfOk result (λ text. IsText (Intervals arguments.now) trace.now text.items) }
-    ensures fault { IfErr result (λ fault. (fault ≡ Fault.OutOfMemory) ⊎ IsTooMany arguments.now.policies fault) }
+    ensures fault { IfErr result (λ fault. (fault ≡ Fault.OutOfMemory) ⊎ IsTooMany arguments.now.jobs.policies fault) }
 {
-    let jobs = few_jobs(
-        alloc,
-        arguments.config,
-        arguments.tuning,
-        &arguments.policies,
-    )?;
+    let jobs = few_jobs(alloc, &arguments.jobs)?;
     let every = arguments.every as usize;
     let batches = interval_batches(trace, jobs.as_slice(), every);
     watch.begin("intervals", Some(batches));
@@ -166,17 +156,12 @@ fn compare_intervals<R: Threads, P: Watch>(
 }
 
 // A job for each policy, where they are not too many.
-fn few_jobs(
-    alloc: Global,
-    config: Config,
-    tuning: Tuning,
-    policies: &PolicyList,
-) -> Result<Vec<Job>, Fault>
-    ensures jobs { IfOk result (λ jobs. jobs.items ≡ jobs_by_policy config tuning policies.now) }
+fn few_jobs(alloc: Global, asked: &JobArguments) -> Result<Vec<Job>, Fault>
+    ensures jobs { IfOk result (λ jobs. jobs.items ≡ jobs_asked asked.now) }
     ensures few { IfOk result (λ jobs. length jobs.items ≤ MAX_ACTORS) }
-    ensures fault { IfErr result (λ fault. (fault ≡ Fault.OutOfMemory) ⊎ IsTooMany policies.now fault) }
+    ensures fault { IfErr result (λ fault. (fault ≡ Fault.OutOfMemory) ⊎ IsTooMany asked.now.policies fault) }
 {
-    let jobs = jobs(alloc, config, tuning, policies)?;
+    let jobs = jobs(alloc, asked)?;
     if jobs.len() > MAX_ACTORS {
         return Err(Fault::Actors);
     }

@@ -28,16 +28,16 @@ pub fn sweep<T: Threads + Wait + Sync, R: CountedRead, P: Watch>(
 ) -> Result<Vec<u8>, Fault>
     requires accepted { IsAcceptedSweep arguments.now }
     requires kept { needs_whole_trace (Sweep arguments.now) ≡ false }
-    requires long { is_long arguments.now.limits ≡ true }
+    requires long { is_long arguments.now.jobs.limits ≡ true }
     ensures { IsMade (Sweep arguments.now) (R.remaining input.old) (R.tally input.old) (R.tally input.new) result }
 {
-    let (format, limits) = (arguments.format, arguments.limits);
-    let policies = &arguments.policies;
-    if policies.as_slice().len() > MAX_ACTORS {
+    let asked = &arguments.jobs;
+    let (format, limits) = (asked.format, asked.limits);
+    if asked.policies.as_slice().len() > MAX_ACTORS {
         long_traces::reports(rt, alloc, input, format, limits, &[], watch)?;
         return Err(Fault::Actors);
     }
-    let jobs = jobs(alloc, arguments.config, arguments.tuning, policies)?;
+    let jobs = jobs(alloc, asked)?;
     let each = jobs_over(alloc, jobs.as_slice(), arguments.capacities.as_slice())?;
     watch.begin("sweep", None);
     let reports = long_traces::reports(rt, alloc, input, format, limits, each.as_slice(), watch);
@@ -55,16 +55,16 @@ pub fn intervals<T: Threads + Wait + Sync, R: CountedRead, P: Watch>(
 ) -> Result<Vec<u8>, Fault>
     requires accepted { AreAcceptedIntervals arguments.now }
     requires kept { needs_whole_trace (Intervals arguments.now) ≡ false }
-    requires long { is_long arguments.now.limits ≡ true }
+    requires long { is_long arguments.now.jobs.limits ≡ true }
     ensures { IsMade (Intervals arguments.now) (R.remaining input.old) (R.tally input.old) (R.tally input.new) result }
 {
-    let (format, limits) = (arguments.format, arguments.limits);
-    let policies = &arguments.policies;
-    if policies.as_slice().len() > MAX_ACTORS {
+    let asked = &arguments.jobs;
+    let (format, limits) = (asked.format, asked.limits);
+    if asked.policies.as_slice().len() > MAX_ACTORS {
         long_traces::reports(rt, alloc, input, format, limits, &[], watch)?;
         return Err(Fault::Actors);
     }
-    let jobs = jobs(alloc, arguments.config, arguments.tuning, policies)?;
+    let jobs = jobs(alloc, asked)?;
     let every = arguments.every as usize;
     watch.begin("intervals", None);
     let rows = long_traces::intervals(alloc, input, format, limits, jobs.as_slice(), every, watch);

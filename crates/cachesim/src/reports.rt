@@ -4,12 +4,12 @@ ghost use Rattle.command_line.specs.Accepted.{AreAcceptedIntervals, IsAcceptedCo
 ghost use Rattle.command_line.specs.Accepted.{IsAcceptedRun, IsAcceptedSweep, needs_whole_trace};
 ghost use Rattle.command_line.specs.declared.arguments.Arguments.TheVariants.{Compare, Intervals, Part, Run, Sweep};
 ghost use Rattle.cachesim.specs.Subcommand.{IsMade};
-ghost use Rattle.cachesim.specs.TraceOutput.{jobs_by_policy};
+ghost use Rattle.cachesim.specs.TraceOutput.{jobs_asked};
 
 use crate::fault::Fault;
 use crate::{kept_reports, long_reports};
 use command_line::{
-    CompareArguments, IntervalsArguments, PartArguments, PolicyList, RunArguments, SweepArguments,
+    CompareArguments, IntervalsArguments, JobArguments, PartArguments, RunArguments, SweepArguments,
 };
 use policies::MAX_ACTORS;
 use policy_actors::run_reading_within;
@@ -18,7 +18,7 @@ use report::reports_text;
 use std::alloc::{AllocError, Global};
 use std::sync::Wait;
 use std::thread::Threads;
-use step_record::{Config, Job, Tuning};
+use step_record::Job;
 use streams::CountedRead;
 use trace_read::read_trace_within;
 
@@ -35,30 +35,17 @@ pub fn run<T: Threads + Wait + Sync, R: CountedRead, P: Watch>(
     requires kept { needs_whole_trace (Run arguments.now) ≡ false }
     ensures { IsMade (Run arguments.now) (R.remaining input.old) (R.tally input.old) (R.tally input.new) result }
 {
-    let policies = arguments.policies.as_slice();
-    let (format, limits) = (arguments.format, arguments.limits);
+    let (asked, batch) = (&arguments.jobs, arguments.batch);
+    let policies = asked.policies.as_slice();
+    let (format, limits) = (asked.format, asked.limits);
     if policies.len() > MAX_ACTORS {
-        let batch = arguments.batch;
         run_reading_within(rt, alloc, input, format, limits, &[], batch, watch)?;
         return Err(Fault::Actors);
     }
-    let jobs = jobs(
-        alloc,
-        arguments.config,
-        arguments.tuning,
-        &arguments.policies,
-    )?;
+    let jobs = jobs(alloc, asked)?;
+    let jobs = jobs.as_slice();
     watch.begin("run", None);
-    let reports = run_reading_within(
-        rt,
-        alloc,
-        input,
-        format,
-        limits,
-        jobs.as_slice(),
-        arguments.batch,
-        watch,
-    );
+    let reports = run_reading_within(rt, alloc, input, format, limits, jobs, batch, watch);
     watch.end();
     Ok(reports_text(alloc, reports?.as_slice())?)
 }
@@ -77,11 +64,11 @@ pub fn sweep<T: Threads + Wait + Sync, R: CountedRead, P: Watch>(
     requires kept { needs_whole_trace (Sweep arguments.now) ≡ false }
     ensures { IsMade (Sweep arguments.now) (R.remaining input.old) (R.tally input.old) (R.tally input.new) result }
 {
-    let limits = arguments.limits;
+    let limits = arguments.jobs.limits;
     if limits.are_long() {
         return long_reports::sweep(rt, alloc, arguments, input, watch);
     }
-    let trace = read_trace_within(alloc, input, arguments.format, limits)?;
+    let trace = read_trace_within(alloc, input, arguments.jobs.format, limits)?;
     kept_reports::sweep(rt, alloc, arguments, &trace, watch)
 }
 
@@ -98,11 +85,11 @@ pub fn intervals<T: Threads + Wait + Sync, R: CountedRead, P: Watch>(
     requires kept { needs_whole_trace (Intervals arguments.now) ≡ false }
     ensures { IsMade (Intervals arguments.now) (R.remaining input.old) (R.tally input.old) (R.tally input.new) result }
 {
-    let limits = arguments.limits;
+    let limits = arguments.jobs.limits;
     if limits.are_long() {
         return long_reports::intervals(rt, alloc, arguments, input, watch);
     }
-    let trace = read_trace_within(alloc, input, arguments.format, limits)?;
+    let trace = read_trace_within(alloc, input, arguments.jobs.format, limits)?;
     kept_reports::intervals(rt, alloc, arguments, &trace, watch)
 }
 
@@ -148,15 +135,12 @@ pub fn compare<T: Threads, R: CountedRead, P: Watch>(
 }
 
 /// A job for each policy, in order, all on one configuration with one tuning. The one error is out of memory.
-pub fn jobs(
-    alloc: Global,
-    config: Config,
-    tuning: Tuning,
-    policies: &PolicyList,
-) -> Result<Vec<Job>, AllocError>
-    ensures { IfOk result (λ jobs. jobs.items ≡ jobs_by_policy config tuning policies.now) }
+pub fn jobs(alloc: Global, asked: &JobArguments) -> Result<Vec<Job>, AllocError>
+    ensures { IfOk result (λ jobs. jobs.items ≡ jobs_asked asked.now) }
 {
-    policies
+    let (config, tuning) = (asked.config, asked.tuning);
+    asked
+        .policies
         .as_slice()
         .iter()
         .map(|policy| Job {

@@ -18,6 +18,7 @@ use Rattle.command_line.specs.declared.arguments.Arguments.TheVariants.{Replay, 
 use Rattle.command_line.specs.declared.arguments.CompareArguments.{CompareArguments}
 use Rattle.command_line.specs.declared.arguments.DriveArguments.{DriveArguments}
 use Rattle.command_line.specs.declared.arguments.IntervalsArguments.{IntervalsArguments}
+use Rattle.command_line.specs.declared.arguments.JobArguments.{JobArguments}
 use Rattle.command_line.specs.declared.arguments.PartArguments.{PartArguments}
 use Rattle.command_line.specs.declared.arguments.RunArguments.{RunArguments}
 use Rattle.command_line.specs.declared.arguments.SweepArguments.{SweepArguments}
@@ -37,24 +38,23 @@ pub record AreLimits (limits : Limits) : Type 0 where
   pub accesses : limits.accesses ≤ MAX_LONG_ACCESSES
   pub bytes : limits.bytes ≤ MAX_LONG_TRACE_BYTES
 
+pub record AreAcceptedJobs (jobs : JobArguments) : Type 0 where
+  pub config : config_fault jobs.config ≡ Ok tt
+  pub tuning : IsTuning jobs.tuning
+  pub limits : AreLimits jobs.limits
+
 pub record IsAcceptedRun (run : RunArguments) : Type 0 where
-  pub config : config_fault run.config ≡ Ok tt
-  pub tuning : IsTuning run.tuning
+  pub jobs : AreAcceptedJobs run.jobs
   pub some : 1 ≤ run.batch
   pub few : run.batch ≤ MAX_BATCH
-  pub limits : AreLimits run.limits
 
 pub record IsAcceptedSweep (sweep : SweepArguments) : Type 0 where
-  pub config : config_fault sweep.config ≡ Ok tt
-  pub tuning : IsTuning sweep.tuning
+  pub jobs : AreAcceptedJobs sweep.jobs
   pub capacities : AllPass (is_from_one MAX_CAPACITY) sweep.capacities
-  pub limits : AreLimits sweep.limits
 
 pub record AreAcceptedIntervals (intervals : IntervalsArguments) : Type 0 where
-  pub config : config_fault intervals.config ≡ Ok tt
-  pub tuning : IsTuning intervals.tuning
+  pub jobs : AreAcceptedJobs intervals.jobs
   pub some : 1 ≤ intervals.every
-  pub limits : AreLimits intervals.limits
 
 pub record IsAcceptedPart (part : PartArguments) : Type 0 where
   pub first : config_fault part.first.config ≡ Ok tt
@@ -90,25 +90,30 @@ abbrev pub is_clairvoyant : Policy → Bool
 is_clairvoyant Clairvoyant = true
 is_clairvoyant policy = false
 
--- one of the two policies is
-abbrev pub has_clairvoyant : PartArguments → Bool
-has_clairvoyant part = is_clairvoyant part.first.policy || is_clairvoyant part.second.policy
-
 -- a trace within these limits may be too long to be kept
 abbrev pub is_long : Limits → Bool
 is_long limits = nat_lt MAX_ACCESSES limits.accesses
 
+-- one of the policies is, over a trace that may be too long to be kept
+abbrev pub jobs_need_whole_trace : JobArguments → Bool
+jobs_need_whole_trace jobs = is_long jobs.limits && list_any is_clairvoyant jobs.policies
+
+-- so is one of the two
+abbrev pub pair_needs_whole_trace : PartArguments → Bool
+pair_needs_whole_trace part =
+    is_long part.limits && (is_clairvoyant part.first.policy || is_clairvoyant part.second.policy)
+
 -- the arguments name a policy that has to know the whole trace, over a trace that may be too long to be kept
 abbrev pub needs_whole_trace : Arguments → Bool
-needs_whole_trace (Run run) = is_long run.limits && list_any is_clairvoyant run.policies
-needs_whole_trace (Sweep sweep) = is_long sweep.limits && list_any is_clairvoyant sweep.policies
-needs_whole_trace (Intervals intervals) = is_long intervals.limits && list_any is_clairvoyant intervals.policies
-needs_whole_trace (Part part) = is_long part.limits && has_clairvoyant part
-needs_whole_trace (Compare compare) = is_long compare.policies.limits && has_clairvoyant compare.policies
+needs_whole_trace (Run run) = jobs_need_whole_trace run.jobs
+needs_whole_trace (Sweep sweep) = jobs_need_whole_trace sweep.jobs
+needs_whole_trace (Intervals intervals) = jobs_need_whole_trace intervals.jobs
+needs_whole_trace (Part part) = pair_needs_whole_trace part
+needs_whole_trace (Compare compare) = pair_needs_whole_trace compare.policies
 needs_whole_trace arguments = false
 
 -- an interval has more accesses than the trace may have
 abbrev pub has_long_intervals : Arguments → Bool
-has_long_intervals (Intervals intervals) = nat_lt intervals.limits.accesses intervals.every
+has_long_intervals (Intervals intervals) = nat_lt intervals.jobs.limits.accesses intervals.every
 has_long_intervals (Compare compare) = option_map_or (nat_lt compare.policies.limits.accesses) compare.every false
 has_long_intervals arguments = false

@@ -21,6 +21,7 @@ use Rattle.command_line.specs.Options.{row_of}
 use Rattle.command_line.specs.Choices.{all_named, format_named, limits_named, policy_named, rate_named, spread_named}
 use Rattle.command_line.specs.declared.arguments.Arguments.{Arguments}
 use Rattle.command_line.specs.declared.arguments.Arguments.TheVariants as asked
+use Rattle.command_line.specs.declared.arguments.JobArguments.{JobArguments}
 use Rattle.command_line.specs.declared.arguments.PartArguments.{PartArguments}
 use Rattle.command_line.specs.declared.fault.ParseFault.{ParseFault}
 use Rattle.command_line.specs.declared.fault.ParseFault.TheVariants.{Incomplete, LongIntervals, Stripes, WholeTrace}
@@ -133,40 +134,31 @@ tuning_in rows = option_and_then (λ small. option_and_then (λ kin. option_map 
 
 -- ---- what a subcommand is asked for; none where its matches are incomplete
 
+-- the policies that are given to an option, on this configuration, and their trace
+unfoldable pub jobs_in : OptionName → Config → List Row → Option JobArguments
+jobs_in name config rows = option_and_then (λ tuning. option_map (λ policies. record {
+  config = config;
+  tuning = tuning;
+  policies = policies;
+  format = format_in rows;
+  limits = limits_in rows;
+}) (policies_in name rows)) (tuning_in rows)
+
 unfoldable pub run_in : List Row → Option Arguments
-run_in rows = option_and_then (λ config. option_and_then (λ tuning. option_and_then (λ batch. option_map (λ policies.
-    asked.Run (record {
-      config = config;
-      tuning = tuning;
-      policies = policies;
-      batch = batch;
-      format = format_in rows;
-      limits = limits_in rows;
-    }))
-    (policies_in option.Policies rows)) (number_in option.Batch rows)) (tuning_in rows)) (config_in rows)
+run_in rows = option_and_then (λ config. option_and_then (λ batch. option_map (λ jobs.
+    asked.Run (record { jobs = jobs; batch = batch }))
+    (jobs_in option.Policies config rows)) (number_in option.Batch rows)) (config_in rows)
 
 -- each capacity replaces the configuration's
 unfoldable pub sweep_in : List Row → Option Arguments
-sweep_in rows = option_and_then (λ config. option_and_then (λ tuning. option_and_then (λ policies. option_map (λ capacities.
-    asked.Sweep (record {
-      config = config;
-      tuning = tuning;
-      policies = policies;
-      capacities = capacities;
-      format = format_in rows;
-      limits = limits_in rows;
-    })) (capacities_in rows)) (policies_in option.SweptPolicies rows)) (tuning_in rows)) (config_at 1 1 1 rows)
+sweep_in rows = option_and_then (λ config. option_and_then (λ jobs. option_map (λ capacities.
+    asked.Sweep (record { jobs = jobs; capacities = capacities }))
+    (capacities_in rows)) (jobs_in option.SweptPolicies config rows)) (config_at 1 1 1 rows)
 
 unfoldable pub intervals_in : List Row → Option Arguments
-intervals_in rows = option_and_then (λ config. option_and_then (λ tuning. option_and_then (λ every. option_map (λ policies.
-    asked.Intervals (record {
-      config = config;
-      tuning = tuning;
-      policies = policies;
-      every = every;
-      format = format_in rows;
-      limits = limits_in rows;
-    })) (policies_in option.Policies rows)) (number_in option.Every rows)) (tuning_in rows)) (config_in rows)
+intervals_in rows = option_and_then (λ config. option_and_then (λ every. option_map (λ jobs.
+    asked.Intervals (record { jobs = jobs; every = every }))
+    (jobs_in option.Policies config rows)) (number_in option.Every rows)) (config_in rows)
 
 -- two policies on one configuration with one tuning
 unfoldable pub part_in : List Row → Option PartArguments

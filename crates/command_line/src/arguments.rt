@@ -1,8 +1,8 @@
 //! What a call asks for, as typed values, and how they are made of the matches of a subcommand.
 ghost use Rattle.std.specs.Prelude.{◌≡◌};
-ghost use Rattle.command_line.specs.Accepted.{AreAccepted, IsTuning, IsAcceptedPart, IsConfig};
+ghost use Rattle.command_line.specs.Accepted.{AreAccepted, AreAcceptedJobs, IsTuning, IsAcceptedPart, IsConfig};
 ghost use Rattle.command_line.specs.Values.{Answers, compare_in, concurrent_in, config_at, config_in, debug_in, drive_in};
-ghost use Rattle.command_line.specs.Values.{intervals_in, part_in, tuning_in, replay_in, run_in, sample_in, sweep_in};
+ghost use Rattle.command_line.specs.Values.{intervals_in, jobs_in, part_in, tuning_in, replay_in, run_in, sample_in, sweep_in};
 
 use crate::fault::{ValueFault, ValueResult};
 use crate::lists::{CapacityList, FilePath, PolicyList};
@@ -35,55 +35,46 @@ pub enum Arguments {
     Replay(ReplayArguments),
 }
 
-/// The arguments of `run`.
+/// The arguments of each call about any number of policies: a job for each of them, over one trace.
 #[derive(Drop)]
-pub struct RunArguments {
+pub struct JobArguments {
     /// The configuration of each policy. Its numbers are in their ranges.
     pub config: Config,
     /// What is chosen of the policies.
     pub tuning: Tuning,
-    /// The policies, in the order of their reports.
+    /// The policies, in the order of their reports or rows.
     pub policies: PolicyList,
-    /// How many accesses a policy is given at once: 1 to `MAX_BATCH`.
-    pub batch: u32,
     /// The format of the trace.
     pub format: Format,
     /// The most accesses and bytes of the trace.
     pub limits: Limits,
+}
+
+/// The arguments of `run`.
+#[derive(Drop)]
+pub struct RunArguments {
+    /// The policies, and their trace.
+    pub jobs: JobArguments,
+    /// How many accesses a policy is given at once: 1 to `MAX_BATCH`.
+    pub batch: u32,
 }
 
 /// The arguments of `sweep`.
 #[derive(Drop)]
 pub struct SweepArguments {
-    /// The configuration of each policy at capacity 1, which each of `capacities` replaces.
-    pub config: Config,
-    /// What is chosen of the policies.
-    pub tuning: Tuning,
-    /// The policies, in the order of their reports: those of the first at each capacity come first.
-    pub policies: PolicyList,
+    /// The policies at capacity 1, which each of `capacities` replaces, and their trace.
+    pub jobs: JobArguments,
     /// The capacities, in the order of a policy's reports: each is 1 to `MAX_CAPACITY`.
     pub capacities: CapacityList,
-    /// The format of the trace.
-    pub format: Format,
-    /// The most accesses and bytes of the trace.
-    pub limits: Limits,
 }
 
 /// The arguments of `intervals`.
 #[derive(Drop)]
 pub struct IntervalsArguments {
-    /// The configuration of each policy. Its numbers are in their ranges.
-    pub config: Config,
-    /// What is chosen of the policies.
-    pub tuning: Tuning,
-    /// The policies, in the order of their rows.
-    pub policies: PolicyList,
+    /// The policies, and their trace.
+    pub jobs: JobArguments,
     /// How many accesses an interval has: from 1 to as many as the trace may have.
     pub every: u32,
-    /// The format of the trace.
-    pub format: Format,
-    /// The most accesses and bytes of the trace.
-    pub limits: Limits,
 }
 
 /// The arguments of `part`, and of each call about two policies.
@@ -154,17 +145,9 @@ pub(crate) fn run(alloc: Global, asked: &Matches<'_, '_>) -> ValueResult<Argumen
     ensures { Answers (run_in asked.now) AreAccepted result }
 {
     let config = policy_config(asked)?;
-    let tuning = tuning(asked)?;
     let batch = asked.number(OptionName::Batch)?;
-    let policies = asked.policies(alloc, OptionName::Policies)?;
-    Ok(Arguments::Run(RunArguments {
-        config,
-        tuning,
-        policies,
-        batch,
-        format: asked.format(),
-        limits: asked.limits(),
-    }))
+    let jobs = jobs(alloc, asked, config, OptionName::Policies)?;
+    Ok(Arguments::Run(RunArguments { jobs, batch }))
 }
 
 /// What `sweep` is asked for by its matches.
@@ -173,17 +156,9 @@ pub(crate) fn sweep(alloc: Global, asked: &Matches<'_, '_>) -> ValueResult<Argum
     ensures { Answers (sweep_in asked.now) AreAccepted result }
 {
     let config = config(asked, 1, 1, 1)?;
-    let tuning = tuning(asked)?;
-    let policies = asked.policies(alloc, OptionName::SweptPolicies)?;
+    let jobs = jobs(alloc, asked, config, OptionName::SweptPolicies)?;
     let capacities = asked.capacities(alloc)?;
-    Ok(Arguments::Sweep(SweepArguments {
-        config,
-        tuning,
-        policies,
-        capacities,
-        format: asked.format(),
-        limits: asked.limits(),
-    }))
+    Ok(Arguments::Sweep(SweepArguments { jobs, capacities }))
 }
 
 /// What `intervals` is asked for by its matches.
@@ -192,17 +167,9 @@ pub(crate) fn intervals(alloc: Global, asked: &Matches<'_, '_>) -> ValueResult<A
     ensures { Answers (intervals_in asked.now) AreAccepted result }
 {
     let config = policy_config(asked)?;
-    let tuning = tuning(asked)?;
     let every = asked.number(OptionName::Every)?;
-    let policies = asked.policies(alloc, OptionName::Policies)?;
-    Ok(Arguments::Intervals(IntervalsArguments {
-        config,
-        tuning,
-        policies,
-        every,
-        format: asked.format(),
-        limits: asked.limits(),
-    }))
+    let jobs = jobs(alloc, asked, config, OptionName::Policies)?;
+    Ok(Arguments::Intervals(IntervalsArguments { jobs, every }))
 }
 
 /// What `part` is asked for by its matches.
@@ -288,6 +255,28 @@ pub(crate) fn replay(alloc: Global, asked: &Matches<'_, '_>) -> ValueResult<Argu
     let config = concurrent_config(asked)?;
     let journal = asked.path(alloc, OptionName::Journal)?;
     Ok(Arguments::Replay(ReplayArguments { config, journal }))
+}
+
+// The policies that the matches name, on this configuration, and their trace.
+#[tactic(auto, unfolding(crate::specs::Values::jobs_in))]
+fn jobs(
+    alloc: Global,
+    asked: &Matches<'_, '_>,
+    config: Config,
+    name: OptionName,
+) -> ValueResult<JobArguments>
+    requires { IsConfig config }
+    ensures { Answers (jobs_in name config asked.now) AreAcceptedJobs result }
+{
+    let tuning = tuning(asked)?;
+    let policies = asked.policies(alloc, name)?;
+    Ok(JobArguments {
+        config,
+        tuning,
+        policies,
+        format: asked.format(),
+        limits: asked.limits(),
+    })
 }
 
 // The configuration of a policy that the matches name.

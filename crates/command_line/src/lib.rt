@@ -18,8 +18,8 @@ mod parser;
 mod values;
 
 pub use arguments::{
-    Arguments, CompareArguments, DebugArguments, DriveArguments, IntervalsArguments, PartArguments,
-    ReplayArguments, RunArguments, SampleArguments, SweepArguments,
+    Arguments, CompareArguments, DebugArguments, DriveArguments, IntervalsArguments, JobArguments,
+    PartArguments, ReplayArguments, RunArguments, SampleArguments, SweepArguments,
 };
 pub use fault::ParseFault;
 pub use lists::{CapacityList, FilePath, NamedList, PolicyList};

@@ -1,18 +1,18 @@
 //! The words of a call, to its arguments.
 ghost use Rattle.std.specs.Prelude.{◌≡◌, false, IfOk, map};
 ghost use Rattle.clap.specs.Words.{subcommand_rows_of};
-ghost use Rattle.std.specs.List.{list_any};
-ghost use Rattle.command_line.specs.Accepted.{AreAccepted, has_clairvoyant, has_long_intervals, is_clairvoyant, needs_whole_trace};
+ghost use Rattle.command_line.specs.Accepted.{AreAccepted, has_long_intervals, jobs_need_whole_trace};
+ghost use Rattle.command_line.specs.Accepted.{needs_whole_trace, pair_needs_whole_trace};
 ghost use Rattle.command_line.specs.ParseResult.{IsAskedFor, ParsedBy};
 ghost use Rattle.command_line.specs.Values.{Answers, asked_in, asked_of, has_wrong_stripes};
 
 use crate::arguments::{
-    Arguments, PartArguments, compare, debug, drive, intervals, part, replay, run, sample, sweep,
+    Arguments, JobArguments, PartArguments, compare, debug, drive, intervals, part, replay, run,
+    sample, sweep,
 };
 use crate::choices::{WordLists, format_words, policy_words, rate_words, spread_words};
 use crate::commands::program;
 use crate::fault::{ParseFault, ValueFault, ValueResult};
-use crate::lists::PolicyList;
 use crate::options::OptionName;
 use crate::values::{Matches, stripes_from};
 use clap::ArgMatches;
@@ -100,31 +100,28 @@ fn needs_whole_trace(arguments: &Arguments) -> bool
     ensures { result ≡ needs_whole_trace arguments.now }
 {
     match arguments {
-        Arguments::Run(run) => run.limits.are_long() && have_clairvoyant(&run.policies),
-        Arguments::Sweep(sweep) => sweep.limits.are_long() && have_clairvoyant(&sweep.policies),
-        Arguments::Intervals(intervals) => {
-            intervals.limits.are_long() && have_clairvoyant(&intervals.policies)
-        }
-        Arguments::Part(part) => part.limits.are_long() && has_clairvoyant(part),
-        Arguments::Compare(compare) => {
-            compare.policies.limits.are_long() && has_clairvoyant(&compare.policies)
-        }
+        Arguments::Run(run) => jobs_need_whole_trace(&run.jobs),
+        Arguments::Sweep(sweep) => jobs_need_whole_trace(&sweep.jobs),
+        Arguments::Intervals(intervals) => jobs_need_whole_trace(&intervals.jobs),
+        Arguments::Part(part) => pair_needs_whole_trace(part),
+        Arguments::Compare(compare) => pair_needs_whole_trace(&compare.policies),
         _ => false,
     }
 }
 
-// Whether Belady's policy is among these.
-fn have_clairvoyant(policies: &PolicyList) -> bool
-    ensures { result ≡ list_any is_clairvoyant policies.now }
+// Whether one of the policies has to know the whole trace, which may be too long to be kept.
+fn jobs_need_whole_trace(jobs: &JobArguments) -> bool
+    ensures { result ≡ jobs_need_whole_trace jobs.now }
 {
-    policies.as_slice().contains(&Policy::Clairvoyant)
+    jobs.limits.are_long() && jobs.policies.as_slice().contains(&Policy::Clairvoyant)
 }
 
-// Whether it is one of the two.
-fn has_clairvoyant(part: &PartArguments) -> bool
-    ensures { result ≡ has_clairvoyant part.now }
+// Whether one of the two has to.
+fn pair_needs_whole_trace(part: &PartArguments) -> bool
+    ensures { result ≡ pair_needs_whole_trace part.now }
 {
-    part.first.policy == Policy::Clairvoyant || part.second.policy == Policy::Clairvoyant
+    let (first, second) = (part.first.policy, part.second.policy);
+    part.limits.are_long() && (first == Policy::Clairvoyant || second == Policy::Clairvoyant)
 }
 
 // Whether an interval has more accesses than the trace may have.
@@ -132,7 +129,8 @@ fn has_long_intervals(arguments: &Arguments) -> bool
     ensures { result ≡ has_long_intervals arguments.now }
 {
     match arguments {
-        Arguments::Intervals(intervals) => intervals.every as usize > intervals.limits.accesses,
+        Arguments::Intervals(intervals) => intervals.every as usize
+            > intervals.jobs.limits.accesses,
         Arguments::Compare(compare) => match compare.every {
             Some(every) => every as usize > compare.policies.limits.accesses,
             None => false,

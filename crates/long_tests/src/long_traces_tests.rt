@@ -1,6 +1,5 @@
 //! Jobs over a trace that is read and not kept, whose answers were worked out by hand.
-ghost use Rattle.std.specs.Prelude.{◌≡◌, ◌≤◌, IfOk, Ok, false};
-ghost use Rattle.step_record.specs.Config.{config_fault};
+ghost use Rattle.std.specs.Prelude.{◌≡◌, ◌≤◌, IfOk, false};
 ghost use Rattle.trace_read.specs.declared.limits.TheConstants.{MAX_LONG_ACCESSES, MAX_LONG_TRACE_BYTES};
 ghost use Rattle.queue_cache.specs.Design.{knows_trace};
 ghost use Rattle.long_traces.specs.Taking.{FollowsTrace};
@@ -29,8 +28,7 @@ const AT_TWO: Config = Config {
 // A job of the policy at two entries.
 fn job(policy: Policy) -> Result<Job, Fail>
     requires { knows_trace policy ≡ false }
-    ensures accepted { IfOk result (λ job. config_fault job.config ≡ Ok tt) }
-    ensures follows { IfOk result FollowsTrace }
+    ensures { IfOk result FollowsTrace }
 {
     let job = Job {
         policy,

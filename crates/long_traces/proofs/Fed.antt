@@ -1,5 +1,6 @@
 -- A trace that is fed piece by piece.
-use Rattle.std.proofs.Common.{◌≡◌, ℕ, ◌+◌, ◌≤◌, List, [], ◌++◌, length, take, drop, Option, Some, None, IfSome, sym, ap, subst, refl, ◌∙◌, arith, length-append}
+use Rattle.std.proofs.Common.{◌≡◌, ℕ, ◌+◌, ◌≤◌, List, [], ◌++◌, length, take, drop, Option, Some, None, IfSome, Result, Ok, Err, OnOk, true, true≢false, sym, ap, subst, refl, ◌∙◌, arith, length-append}
+use Rattle.std.specs.Result.{is_ok}
 use Rattle.std.proofs.Math.Seq.{drop-append_seam, take-add}
 use Rattle.std.proofs.lemmas.List.{drop-take, append_cancel_right, take_all}
 use Rattle.step_record.specs.declared.limits.TheConstants.{MAX_STEPS}
@@ -12,6 +13,11 @@ module _ (place : ℕ) (keys done trace : List ℕ) (long : length done ≡ plac
 
   front : done ≡ take place trace
   front = append_cancel_right done (take place trace) keys (is ∙ take-add place (length keys) trace ∙ ap (λ (l : List ℕ). take place trace ++ l) (sym piece))
+
+-- what comes where there was no error
+pub went : {T E P : Type 0} (r : Result T E) → is_ok r ≡ true → OnOk r P → P
+went (Ok v) ok h = h
+went (Err e) ok h = absurd (true≢false (sym ok))
 
 nothing-known : (known : Option (List ℕ)) → IfSome known (λ all. [] ≡ take 0 all)
 nothing-known None = tt

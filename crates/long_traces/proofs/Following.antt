@@ -1,19 +1,15 @@
 -- Jobs that can be run while the trace is read.
-use Rattle.std.proofs.Common.{◌≡◌, ◌∙◌, ◌+◌, ℕ, List, [], ◌∷◌, Ok, None, sym, refl, false, true≢false}
+use Rattle.std.proofs.Common.{◌≡◌, ◌∙◌, ◌+◌, ℕ, List, [], ◌∷◌, None, sym, refl, false, true≢false}
 use Rattle.std.specs.List.{All}
 use Rattle.std.proofs.lemmas.List.Elements.{All-head, All-tail}
-use Rattle.step_record.specs.Config.{config_fault}
 use Rattle.step_record.specs.declared.job.Job.{Job}
 use Rattle.policies.specs.FaultyJobs.{faulty_from}
 use Rattle.policy_actors.specs.Following.{CanFollow}
-use Rattle.sweeps.specs.Sweep.{AreAccepted}
 use Rattle.long_traces.specs.Taking.{FollowsTrace}
 
-pub none-faulty : (i : ℕ) (jobs : List Job) → AreAccepted jobs → faulty_from i jobs ≡ None
+pub none-faulty : (i : ℕ) (jobs : List Job) → All FollowsTrace jobs → faulty_from i jobs ≡ None
 none-faulty i [] all = refl
-none-faulty i (job ∷ jobs) all =
-    rw (All-head (λ (j : Job). config_fault j.config ≡ Ok tt) job jobs all)
-    (none-faulty (i + 1) jobs (All-tail (λ (j : Job). config_fault j.config ≡ Ok tt) job jobs all))
+none-faulty i (job ∷ jobs) all = rw (All-head FollowsTrace job jobs all).0 (none-faulty (i + 1) jobs (All-tail FollowsTrace job jobs all))
 
 pub all-follow : (most : ℕ) (jobs : List Job) → All FollowsTrace jobs → All (CanFollow most) jobs
-all-follow most jobs all = λ i d lt knows. absurd (true≢false (sym knows ∙ all i d lt))
+all-follow most jobs all = λ i d lt knows. absurd (true≢false (sym knows ∙ (all i d lt).1))

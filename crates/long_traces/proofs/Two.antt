@@ -1,5 +1,5 @@
 -- Two policies, access by access.
-use Rattle.std.proofs.Common.{◌≡◌, ℕ, zero, suc, List, [], ◌∷◌, Bool, true, false, Option, Some, None, IfNone, refl, arith, true≢false, sym}
+use Rattle.std.proofs.Common.{◌≡◌, ℕ, zero, suc, List, [], ◌∷◌, Bool, true, false, Option, Some, None, IfNone, OnOk, Result, Ok, Err, refl, arith, true≢false, sym}
 use Rattle.std.specs.Option.{is_some}
 use mathlib.Core.Bool.{not, beq}
 use Rattle.step_record.specs.declared.job.Job.{Job}
@@ -12,6 +12,12 @@ two-then [] P Q f h = h
 two-then (a ∷ []) P Q f h = h
 two-then (a ∷ b ∷ []) P Q f h = f a b h
 two-then (a ∷ b ∷ c ∷ rest) P Q f h = h
+
+-- so where a call has brought it about
+pub two-after : {T E : Type 0} (jobs : List Job) (r : Result T E) (P Q : Job → Job → Type 0) → ((first second : Job) → P first second → OnOk r (Q first second))
+    → AreTwo jobs P → OnOk r (AreTwo jobs Q)
+two-after jobs (Ok v) P Q f h = two-then jobs P Q f h
+two-after jobs (Err e) P Q f h = tt
 
 pub agree-none : (os ps : List Outcome) → AgreeBelow 1 os ps
 agree-none os ps zero lt = refl

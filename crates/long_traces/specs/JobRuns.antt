@@ -1,5 +1,5 @@
 -- What a run of a job has of a trace whose accesses come in pieces.
-use Rattle.std.specs.Prelude.{◌≡◌, ◌≤◌, ◌<◌, ℕ, ◌+◌, ◌*◌, true, List, length, map, take}
+use Rattle.std.specs.Prelude.{◌≡◌, ◌≤◌, ◌<◌, ℕ, ◌+◌, ◌*◌, List, length, map, take}
 use Rattle.std.specs.List.{All}
 use Rattle.step_record.specs.Stats.{stats_of}
 use Rattle.policies.specs.AnyPolicy.{HasAccessed, outcomes_on}
@@ -37,10 +37,10 @@ pub record EndsSomeRow (run : JobRun) : Type 0 where
   pub trace : List ℕ
   pub ends : EndsRow trace run
 
--- it made the first n accesses, in intervals of this length, unless it was out of memory
+-- it made the first n accesses, in intervals of this length
 pub record HasRun (every : ℕ) (trace : List ℕ) (n : ℕ) (run : JobRun) : Type 0 where
   pub size : run.every ≡ every
-  pub cut : run.is_open ≡ true → HasCut trace n run
+  pub cut : HasCut trace n run
 
 -- so did a run of each job
 pub record HaveRun (task : Task) (trace : List ℕ) (n : ℕ) (all : JobRuns) : Type 0 where

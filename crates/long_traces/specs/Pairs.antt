@@ -1,5 +1,5 @@
 -- What two caches have of a trace whose accesses come in pieces.
-use Rattle.std.specs.Prelude.{◌≡◌, ◌≤◌, ℕ, ◌+◌, true, IfNone, IfSome, List, [], ◌∷◌, Some, length, take}
+use Rattle.std.specs.Prelude.{◌≡◌, ◌≤◌, ℕ, ◌+◌, IfNone, IfSome, List, [], ◌∷◌, Some, length, take}
 use Rattle.step_record.specs.declared.job.Job.{Job}
 use Rattle.step_record.specs.declared.limits.TheConstants.{MAX_STEPS}
 use Rattle.policies.specs.AnyPolicy.{HasAccessed, outcomes_on}
@@ -40,13 +40,9 @@ pub record HasCompared (every : ℕ) (first second : Job) (trace : List ℕ) (n 
   pub pair : HavePaired first second trace n run.pair
   pub counted : HasCounted every (hits_beside (outcomes_on first trace) (outcomes_on second trace)) n run.counted
 
--- so unless it was out of memory
-abbrev pub HasComparedRun : ℕ → Job → Job → List ℕ → ℕ → ComparedRun → Type 0
-HasComparedRun every first second trace n run = run.is_open ≡ true → HasCompared every first second trace n run
-
 abbrev pub HasComparedTask : Task → List ℕ → ℕ → ComparedRun → Type 0
 HasComparedTask task trace n run =
-    AreTwo task.jobs (λ first second. HasComparedRun task.every first second trace n run)
+    AreTwo task.jobs (λ first second. HasCompared task.every first second trace n run)
 
 -- ---- the first access at which just one hits
 
@@ -57,7 +53,6 @@ pub record HasParted (first second : Job) (trace : List ℕ) (n : ℕ) (run : Pa
   pub none : IfNone run.found ((run.place ≡ n) × HavePaired first second trace n run.pair
       × AgreeBelow (n + 1) (outcomes_on first trace) (outcomes_on second trace))
 
--- so unless it was out of memory
 abbrev pub HasPartedTask : Task → List ℕ → ℕ → PartRun → Type 0
 HasPartedTask task trace n run =
-    AreTwo task.jobs (λ first second. run.is_open ≡ true → HasParted first second trace n run)
+    AreTwo task.jobs (λ first second. HasParted first second trace n run)

@@ -1,5 +1,6 @@
 -- What takes the accesses of a trace, piece by piece.
-use Rattle.std.specs.Prelude.{◌≡◌, ◌≤◌, ℕ, ◌+◌, false, List, Option, IfSome, length, drop, take}
+use Rattle.std.specs.Prelude.{◌≡◌, ◌≤◌, ℕ, ◌+◌, false, List, Ok, Option, IfSome, length, drop, take}
+use Rattle.step_record.specs.Config.{config_fault}
 use Rattle.step_record.specs.declared.job.Job.{Job}
 use Rattle.step_record.specs.declared.limits.TheConstants.{MAX_STEPS}
 use Rattle.queue_cache.specs.Design.{knows_trace}
@@ -9,9 +10,10 @@ pub record Task : Type 0 where
   pub jobs : List Job
   pub every : ℕ
 
--- a policy that does not have to know the whole trace
+-- The job can be run while the trace is read: its configuration is accepted, and its policy does not have to know the
+-- whole trace.
 abbrev pub FollowsTrace : Job → Type 0
-FollowsTrace job = knows_trace job.policy ≡ false
+FollowsTrace job = (config_fault job.config ≡ Ok tt) × (knows_trace job.policy ≡ false)
 
 -- these keys come next in a trace, behind the first n
 pub record AreNext (trace : List ℕ) (n : ℕ) (keys : List ℕ) : Type 0 where

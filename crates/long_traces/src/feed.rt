@@ -1,5 +1,5 @@
 //! How the accesses of a trace reach what takes them while it is read.
-ghost use Rattle.std.specs.Prelude.{◌≡◌, ◌≤◌, ◌+◌, ℕ, List, Option, Some, Err, IfOk, IfSome, length, take, drop};
+ghost use Rattle.std.specs.Prelude.{◌≡◌, ◌≤◌, ◌+◌, ℕ, List, Option, Some, Err, IfOk, IfSome, OnOk, length, take, drop};
 ghost use Rattle.step_record.specs.declared.limits.TheConstants.{MAX_STEPS};
 ghost use Rattle.streams.specs.Tally.{FailsWhere};
 ghost use Rattle.trace_read.specs.ReadTrace.{IsReadWithin};
@@ -8,7 +8,6 @@ ghost use Rattle.trace_read.specs.declared.limits.TheConstants.{MAX_LONG_TRACE_B
 ghost use Rattle.long_traces.specs.Taking.{AreNext, CanTakeFor, FollowsTrace, HasTakenAll, Task};
 ghost use Rattle.std.specs.List.{All};
 ghost use Rattle.step_record.specs.declared.job.Job.{Job};
-ghost use Rattle.sweeps.specs.Sweep.{AreAccepted};
 
 use std::alloc::{AllocError, Global};
 use std::marker::{Brand, Model, PhantomData};
@@ -27,21 +26,20 @@ pub(crate) trait Taker: Drop {
     // so many of the first accesses of a trace were taken for a task
     ghost has_taken: { Task → List ℕ → ℕ → Self → Type 0 };
 
-    /// What takes accesses for the jobs, before the first one, with intervals of `every` accesses. The configurations
-    /// are such as `Config::check` accepts. The one error is out of memory.
+    /// What takes accesses for the jobs, before the first one, with intervals of `every` accesses. The one error is
+    /// out of memory.
     fn open(alloc: Global, jobs: &[Job], every: usize) -> Result<Self, AllocError>
         requires fits { fits jobs.now }
-        requires checked { AreAccepted jobs.now }
         requires follow { All FollowsTrace jobs.now }
         requires some { 1 ≤ every }
         ensures { IfOk result (λ taker. (trace : List ℕ)
             → has_taken (record { jobs = jobs.now; every = every }) trace 0 taker) };
 
-    /// Takes the next accesses.
-    fn take(&mut self, keys: &[Key])
+    /// Takes the next accesses. The one error is out of memory; it is of no more use then.
+    fn take(&mut self, keys: &[Key]) -> Result<(), AllocError>
         requires { CanTakeFor has_taken keys.now self.old }
         ensures { (task : Task) (trace : List ℕ) (n : ℕ) → AreNext trace n keys.now → has_taken task trace n self.old
-            → has_taken task trace (n + length keys.now) self.new };
+            → OnOk result (has_taken task trace (n + length keys.now) self.new) };
 }
 
 /// The trace that is read, where its keys are known, how many there are at most, and what they are taken for. It
@@ -67,7 +65,7 @@ impl ReadTrace for Brand {
 /// Reads the whole reader as a trace file within these limits, and has all its accesses taken for the jobs, the first
 /// while later ones are still read. The gate is called after each piece.
 ///
-/// Errors: those of `read_followed`.
+/// Errors: those of `read_followed`, and `OutOfMemory` also where what takes them is out of memory.
 pub(crate) fn read_taken<S: ReadTrace, R: CountedRead, K: Taker, G: Gate>(
     alloc: Global,
     reader: &mut R,
@@ -83,7 +81,6 @@ pub(crate) fn read_taken<S: ReadTrace, R: CountedRead, K: Taker, G: Gate>(
     requires known { AreOfFile format (R.remaining reader.old) S.known }
     requires task { S.task ≡ record { jobs = jobs.now; every = every } }
     requires fits { K.fits jobs.now }
-    requires checked { AreAccepted jobs.now }
     requires follow { All FollowsTrace jobs.now }
     requires some { 1 ≤ every }
     ensures some { IfOk result (HasTakenAll (K.has_taken S.task)) }
@@ -93,6 +90,7 @@ pub(crate) fn read_taken<S: ReadTrace, R: CountedRead, K: Taker, G: Gate>(
 {
     let fed: Fed<S, K> = Fed {
         taker: K::open(alloc, jobs, every)?,
+        is_open: true,
         place: 0,
         marker: PhantomData,
     };
@@ -102,7 +100,7 @@ pub(crate) fn read_taken<S: ReadTrace, R: CountedRead, K: Taker, G: Gate>(
     match read {
         Ok(rest) => {
             fed.take(rest.as_slice());
-            Ok(fed.into_taker())
+            Ok(fed.into_taker()?)
         }
         Err(fault) => {
             drop(fed);
@@ -115,13 +113,15 @@ pub(crate) fn read_taken<S: ReadTrace, R: CountedRead, K: Taker, G: Gate>(
 #[derive(Drop)]
 struct Fed<S: ReadTrace, K: Taker> {
     taker: K,
-    // How many accesses were taken.
+    // It was never out of memory. Where it was, it takes no more accesses.
+    is_open: bool,
+    // How many accesses came.
     place: usize,
     marker: PhantomData<S>,
 }
 
 impl<S: ReadTrace, K: Taker> Model for Fed<S, K> {
-    ghost use Rattle.std.specs.Prelude.{ℕ, ◌≤◌};
+    ghost use Rattle.std.specs.Prelude.{◌≡◌, ◌≤◌, ℕ, true};
     ghost use Rattle.step_record.specs.declared.limits.TheConstants.{MAX_STEPS};
     ghost use Rattle.long_traces.specs.Taking.{IsFed};
 
@@ -129,7 +129,8 @@ impl<S: ReadTrace, K: Taker> Model for Fed<S, K> {
 
     ghost view = { λ f. (f.taker, f.place) };
 
-    ghost invariant = { λ f. IsFed (K.has_taken S.task) S.known f.place f.taker × (S.most ≤ MAX_STEPS) };
+    ghost invariant = { λ f. (f.is_open ≡ true → IsFed (K.has_taken S.task) S.known f.place f.taker)
+        × (S.most ≤ MAX_STEPS) };
 }
 
 // What is fed, and watched at work.
@@ -161,22 +162,28 @@ impl<'g, S: ReadTrace, K: Taker, G: Gate> Follower for WatchedFed<'g, S, K, G> {
 }
 
 impl<S: ReadTrace, K: Taker> Fed<S, K> {
-    // Takes these accesses, which come next.
+    // Takes these accesses, which come next, or none from now on where there is no memory for them.
     fn take(&mut self, keys: &[Key])
         requires few { self.old.1 + length keys.now ≤ S.most }
         requires next { IfSome S.known (λ all. keys.now ≡ take (length keys.now) (drop self.old.1 all)) }
         ensures { self.new.1 ≡ self.old.1 + length keys.now }
     {
-        self.taker.take(keys);
         self.place += keys.len();
+        if self.is_open {
+            self.is_open = self.taker.take(keys).is_ok();
+        }
     }
 
-    // What took the accesses, all of them.
-    fn into_taker(self) -> K
+    // What took the accesses, all of them. The one error is out of memory.
+    fn into_taker(self) -> Result<K, AllocError>
         requires { IfSome S.known (λ all. self.1 ≡ length all) }
-        ensures some { HasTakenAll (K.has_taken S.task) result }
-        ensures taken { IfSome S.known (λ all. K.has_taken S.task all (length all) result) }
+        ensures some { IfOk result (HasTakenAll (K.has_taken S.task)) }
+        ensures taken { IfOk result (λ taker. IfSome S.known (λ all. K.has_taken S.task all (length all) taker)) }
     {
-        self.taker
+        if self.is_open {
+            Ok(self.taker)
+        } else {
+            Err(AllocError)
+        }
     }
 }

@@ -1,6 +1,5 @@
 //! A job over a trace whose accesses come in pieces, with a row for each interval.
 ghost use Rattle.std.specs.Prelude.{◌≡◌, ◌≤◌, ◌<◌, ◌+◌, ◌*◌, ◌++◌, ◌∷◌, [], ℕ, List, Ok, IfOk, OnOk, length};
-ghost use Rattle.step_record.specs.Config.{config_fault};
 ghost use Rattle.policies.specs.AnyPolicy.{outcomes_on};
 ghost use Rattle.policies.specs.Reports.{report_on};
 ghost use Rattle.sweeps.specs.Intervals.{interval_at, intervals_on};
@@ -23,15 +22,11 @@ pub(crate) struct JobRun {
     // What was counted before that one.
     cut: Stats,
     rows: Vec<Interval>,
-    // It was never out of memory. Where it was, it makes no more accesses.
-    is_open: bool,
 }
 
 impl JobRun {
-    /// A run of the job before the first access, with intervals of `every` accesses. It requires a configuration that
-    /// `Config::check` accepts. The one error is out of memory.
+    /// A run of the job before the first access, with intervals of `every` accesses. The one error is out of memory.
     pub(crate) fn open(alloc: Global, job: &Job, every: usize) -> Result<JobRun, AllocError>
-        requires checked { config_fault job.now.config ≡ Ok tt }
         requires follows { FollowsTrace job.now }
         requires some { 1 ≤ every }
         ensures job { IfOk result (λ run. run.job ≡ job.now) }
@@ -48,53 +43,11 @@ impl JobRun {
             used: 0,
             cut,
             rows,
-            is_open: true,
         })
     }
 
-    /// Takes the next accesses, or none from now on where there is no memory for them.
-    pub(crate) fn take(&mut self, keys: &[Key])
-        requires { CanTake (HasRun self.old.every) keys.now self.old }
-        ensures job { self.new.job ≡ self.old.job }
-        ensures taken { (every : ℕ) (trace : List ℕ) (n : ℕ) → AreNext trace n keys.now → HasRun every trace n self.old
-            → HasRun every trace (n + length keys.now) self.new }
-    {
-        if self.is_open && self.take_all(keys).is_err() {
-            self.is_open = false;
-        }
-    }
-
-    /// Adds the report of the job once all accesses were taken. The one error is out of memory.
-    pub(crate) fn add_report(&self, reports: &mut Vec<Report>) -> Result<(), AllocError>
-        ensures { (every : ℕ) (trace : List ℕ) → HasRun every trace (length trace) self.now
-            → OnOk result (reports.new.items ≡ reports.old.items ++ report_on self.now.job trace ∷ []) }
-    {
-        if !self.is_open {
-            return Err(AllocError);
-        }
-        reports.push(Report::of(&self.job, self.cache.stats()))?;
-        Ok(())
-    }
-
-    /// Adds the rows of the job once all accesses were taken. The one error is out of memory.
-    pub(crate) fn add_rows(&self, rows: &mut Vec<Interval>) -> Result<(), AllocError>
-        requires { HasTakenAll (HasRun self.now.every) self.now }
-        ensures { (every : ℕ) (trace : List ℕ) → HasRun every trace (length trace) self.now
-            → OnOk result (rows.new.items ≡ rows.old.items ++ intervals_on self.now.job every trace) }
-    {
-        if !self.is_open {
-            return Err(AllocError);
-        }
-        rows.extend_from_slice(self.rows.as_slice())?;
-        if self.used == 0 {
-            return Ok(());
-        }
-        rows.push(self.row())?;
-        Ok(())
-    }
-
-    // Takes accesses, of one interval after another. The one error is out of memory.
-    fn take_all(&mut self, keys: &[Key]) -> Result<(), AllocError>
+    /// Takes the next accesses, of one interval after another. The one error is out of memory.
+    pub(crate) fn take(&mut self, keys: &[Key]) -> Result<(), AllocError>
         requires { CanTake HasCut keys.now self.old }
         ensures kept { (self.new.job ≡ self.old.job) × (self.new.every ≡ self.old.every) }
         ensures cut { (trace : List ℕ) (n : ℕ) → AreNext trace n keys.now → HasCut trace n self.old
@@ -107,6 +60,29 @@ impl JobRun {
             self.take_piece(&keys[at..end])?;
             at = end;
         }
+        Ok(())
+    }
+
+    /// Adds the report of the job once all accesses were taken. The one error is out of memory.
+    pub(crate) fn add_report(&self, reports: &mut Vec<Report>) -> Result<(), AllocError>
+        ensures { (every : ℕ) (trace : List ℕ) → HasRun every trace (length trace) self.now
+            → OnOk result (reports.new.items ≡ reports.old.items ++ report_on self.now.job trace ∷ []) }
+    {
+        reports.push(Report::of(&self.job, self.cache.stats()))?;
+        Ok(())
+    }
+
+    /// Adds the rows of the job once all accesses were taken. The one error is out of memory.
+    pub(crate) fn add_rows(&self, rows: &mut Vec<Interval>) -> Result<(), AllocError>
+        requires { HasTakenAll (HasRun self.now.every) self.now }
+        ensures { (every : ℕ) (trace : List ℕ) → HasRun every trace (length trace) self.now
+            → OnOk result (rows.new.items ≡ rows.old.items ++ intervals_on self.now.job every trace) }
+    {
+        rows.extend_from_slice(self.rows.as_slice())?;
+        if self.used == 0 {
+            return Ok(());
+        }
+        rows.push(self.row())?;
         Ok(())
     }
 

@@ -62,9 +62,10 @@ impl Taker for JobRuns {
         Ok(JobRuns { runs })
     }
 
-    fn take(&mut self, keys: &[Key]) {
+    fn take(&mut self, keys: &[Key]) -> Result<(), AllocError> {
         for i in 0..self.runs.len() {
-            self.runs[i].take(keys);
+            self.runs[i].take(keys)?;
         }
+        Ok(())
     }
 }

@@ -4,7 +4,6 @@ ghost use Rattle.std.specs.List.{All};
 ghost use Rattle.policies.specs.Reports.{report_on};
 ghost use Rattle.streams.specs.Tally.{FailsWhere};
 ghost use Rattle.sweeps.specs.Intervals.{intervals_on};
-ghost use Rattle.sweeps.specs.Sweep.{AreAccepted};
 ghost use Rattle.trace_read.specs.ReadTrace.{IsReadWithin};
 ghost use Rattle.trace_read.specs.TraceText.{keys_in};
 ghost use Rattle.trace_read.specs.declared.limits.TheConstants.{MAX_LONG_ACCESSES, MAX_LONG_TRACE_BYTES};
@@ -40,7 +39,6 @@ pub fn reports<T: Threads + Wait + Sync, R: CountedRead, G: Gate>(
     jobs: &[Job],
     gate: &G,
 ) -> Result<Vec<Report>, TraceFault>
-    requires checked { AreAccepted jobs.now }
     requires follow { All FollowsTrace jobs.now }
     requires accesses { limits.accesses ≤ MAX_LONG_ACCESSES }
     requires bytes { limits.bytes ≤ MAX_LONG_TRACE_BYTES }
@@ -75,7 +73,6 @@ pub fn intervals<R: CountedRead, G: Gate>(
     every: usize,
     gate: &G,
 ) -> Result<Vec<Interval>, TraceFault>
-    requires checked { AreAccepted jobs.now }
     requires follow { All FollowsTrace jobs.now }
     requires some { 1 ≤ every }
     requires accesses { limits.accesses ≤ MAX_LONG_ACCESSES }

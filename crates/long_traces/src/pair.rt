@@ -1,6 +1,5 @@
 //! Two caches that make the same accesses.
 ghost use Rattle.std.specs.Prelude.{◌≡◌, ◌<◌, ◌+◌, ℕ, List, Ok, IfOk, OnOk, length};
-ghost use Rattle.step_record.specs.Config.{config_fault};
 ghost use Rattle.step_record.specs.declared.job.Job.{Job};
 ghost use Rattle.policies.specs.AnyPolicy.{outcomes_on};
 ghost use Rattle.policy_comparison.specs.Part.{is_hit_at};
@@ -20,11 +19,9 @@ pub(crate) struct Pair {
 }
 
 impl Pair {
-    /// Empty caches of both jobs, whose configurations `Config::check` accepts. The one error is out of memory.
+    /// Empty caches of both jobs. The one error is out of memory.
     pub(crate) fn open(alloc: Global, first: &Job, second: &Job) -> Result<Pair, AllocError>
-        requires first { config_fault first.now.config ≡ Ok tt }
-        requires second { config_fault second.now.config ≡ Ok tt }
-        requires follows { FollowsTrace first.now × FollowsTrace second.now }
+        requires { FollowsTrace first.now × FollowsTrace second.now }
         ensures { IfOk result (λ pair. (trace : List ℕ) → HavePaired first.now second.now trace 0 pair) }
     {
         let none = Trace::new(Vec::new(alloc));

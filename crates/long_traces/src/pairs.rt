@@ -1,6 +1,5 @@
 //! Where two policies differ over a trace that is read, and how often they hit together.
 ghost use Rattle.std.specs.Prelude.{◌≡◌, ◌≤◌, Err, Ok, IfOk, IfSome};
-ghost use Rattle.step_record.specs.Config.{config_fault};
 ghost use Rattle.policies.specs.AnyPolicy.{outcomes_on};
 ghost use Rattle.policy_comparison.specs.Comparison.{compared_on};
 ghost use Rattle.policy_comparison.specs.ComparedIntervals.{compared_intervals_on};
@@ -35,8 +34,6 @@ pub fn compare<R: CountedRead, G: Gate>(
     second: &Job,
     gate: &G,
 ) -> Result<Comparison, TraceFault>
-    requires first { config_fault first.now.config ≡ Ok tt }
-    requires second { config_fault second.now.config ≡ Ok tt }
     requires follows { FollowsTrace first.now × FollowsTrace second.now }
     requires accesses { limits.accesses ≤ MAX_LONG_ACCESSES }
     requires bytes { limits.bytes ≤ MAX_LONG_TRACE_BYTES }
@@ -51,7 +48,7 @@ pub fn compare<R: CountedRead, G: Gate>(
     )?;
     let counts = run.counts();
     drop(run);
-    Ok(counts?)
+    Ok(counts)
 }
 
 /// What is counted of the policies of both jobs over the trace that the reader gives, cut into intervals of `every`
@@ -68,8 +65,6 @@ pub fn compare_intervals<R: CountedRead, G: Gate>(
     every: usize,
     gate: &G,
 ) -> Result<Vec<ComparedInterval>, TraceFault>
-    requires first { config_fault first.now.config ≡ Ok tt }
-    requires second { config_fault second.now.config ≡ Ok tt }
     requires follows { FollowsTrace first.now × FollowsTrace second.now }
     requires some { 1 ≤ every }
     requires accesses { limits.accesses ≤ MAX_LONG_ACCESSES }
@@ -99,8 +94,6 @@ pub fn part<R: CountedRead, G: Gate>(
     second: &Job,
     gate: &G,
 ) -> Result<Option<u64>, TraceFault>
-    requires first { config_fault first.now.config ≡ Ok tt }
-    requires second { config_fault second.now.config ≡ Ok tt }
     requires follows { FollowsTrace first.now × FollowsTrace second.now }
     requires accesses { limits.accesses ≤ MAX_LONG_ACCESSES }
     requires bytes { limits.bytes ≤ MAX_LONG_TRACE_BYTES }
@@ -115,5 +108,5 @@ pub fn part<R: CountedRead, G: Gate>(
     )?;
     let found = run.found();
     drop(run);
-    Ok(found?)
+    Ok(found)
 }

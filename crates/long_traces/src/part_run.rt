@@ -1,6 +1,5 @@
 //! The first access of a trace that comes in pieces at which one policy hits and the other does not.
-ghost use Rattle.std.specs.Prelude.{◌≡◌, ◌≤◌, ◌<◌, ◌+◌, ℕ, List, Ok, Some, true, IfOk, IfSome, IfNone, OnOk, length};
-ghost use Rattle.step_record.specs.Config.{config_fault};
+ghost use Rattle.std.specs.Prelude.{◌≡◌, ◌≤◌, ◌<◌, ◌+◌, ℕ, List, Ok, Some, IfOk, IfSome, IfNone, OnOk, length};
 ghost use Rattle.step_record.specs.declared.job.Job.{Job};
 ghost use Rattle.policies.specs.AnyPolicy.{outcomes_on};
 ghost use Rattle.policy_comparison.specs.Part.{AgreeBelow, IsPart};
@@ -21,17 +20,12 @@ pub(crate) struct PartRun {
     place: u64,
     // Once it is found they make no more.
     found: Option<u64>,
-    // It was never out of memory. Where it was, it makes no more accesses.
-    is_open: bool,
 }
 
 impl PartRun {
-    // A run of both jobs before the first access. Their configurations are such as `Config::check` accepts. The one
-    // error is out of memory.
+    // A run of both jobs before the first access. The one error is out of memory.
     fn of_two(alloc: Global, first: &Job, second: &Job) -> Result<PartRun, AllocError>
-        requires first { config_fault first.now.config ≡ Ok tt }
-        requires second { config_fault second.now.config ≡ Ok tt }
-        requires follows { FollowsTrace first.now × FollowsTrace second.now }
+        requires { FollowsTrace first.now × FollowsTrace second.now }
         ensures { IfOk result (λ run. (trace : List ℕ) → HasParted first.now second.now trace 0 run) }
     {
         let pair = Pair::open(alloc, first, second)?;
@@ -39,22 +33,16 @@ impl PartRun {
             pair,
             place: 0,
             found: None,
-            is_open: true,
         })
     }
 
-    /// What was found once all accesses were taken: the access, counted from 1, or `None`. The one error is out of
-    /// memory.
-    pub(crate) fn found(&self) -> Result<Option<u64>, AllocError>
-        ensures { (first second : Job) (trace : List ℕ)
-            → (self.now.is_open ≡ true → HasParted first second trace (length trace) self.now)
-            → IfOk result (IsPart (outcomes_on first trace) (outcomes_on second trace)) }
+    /// What was found once all accesses were taken: the access, counted from 1, or `None`.
+    pub(crate) fn found(&self) -> Option<u64>
+        ensures { (first second : Job) (trace : List ℕ) → HasParted first second trace (length trace) self.now
+            → IsPart (outcomes_on first trace) (outcomes_on second trace) result }
     {
         theorems::any_covers_trace();
-        if !self.is_open {
-            return Err(AllocError);
-        }
-        Ok(self.found)
+        self.found
     }
 
     // Takes the accesses in turn, up to the first at which just one of the caches hits. The one error is out of memory.
@@ -113,9 +101,7 @@ impl Taker for PartRun {
         PartRun::of_two(alloc, &jobs[0], &jobs[1])
     }
 
-    fn take(&mut self, keys: &[Key]) {
-        if self.is_open && self.take_all(keys).is_err() {
-            self.is_open = false;
-        }
+    fn take(&mut self, keys: &[Key]) -> Result<(), AllocError> {
+        self.take_all(keys)
     }
 }

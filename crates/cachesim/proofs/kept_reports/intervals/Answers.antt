@@ -8,4 +8,4 @@ pub only_memory-requires : goal.only_memory-requires
 only_memory-requires g c =
     let is = c.as_slice-2.ensures.value in
     let few = subst (λ (l : List Job). length l ≤ MAX_ACTORS) (sym is) c.in_ok-jobs.ensures.few in
-    memory_alone _ _ (can_count c.args.arguments.now.config c.args.arguments.now.tuning _ _ c.requires.config (is ∙ c.in_ok-jobs.ensures.jobs) few) c.intervals-rows.ensures.fault
+    memory_alone _ _ (can_count c.args.arguments.now.jobs _ c.requires.jobs (is ∙ c.in_ok-jobs.ensures.jobs) few) c.intervals-rows.ensures.fault

@@ -5,7 +5,7 @@ use Rattle.long_traces.proofs.feed.read_taken.Goals as goal
 
 pub invariant_of-fed : goal.invariant_of-fed
 invariant_of-fed g c = (
-  begun (g.K.Taker.has_taken g.S.ReadTrace.task) g.S.ReadTrace.known c.in_ok-open.field-0
+  λ opened. begun (g.K.Taker.has_taken g.S.ReadTrace.task) g.S.ReadTrace.known c.in_ok-open.field-0
       (λ trace. subst (λ (task : Task). g.K.Taker.has_taken task trace 0 c.in_ok-open.field-0) (sym c.requires.task) (c.in_ok-open.ensures trace)),
   c.requires.few,
 )

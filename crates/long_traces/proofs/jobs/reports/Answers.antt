@@ -17,7 +17,7 @@ returns-then-jobs-gt-MAX_ACTORS-clause-reports g c =
 pub run_reading_within-requires-clause-due : goal.run_reading_within-requires-clause-due
 run_reading_within-requires-clause-due g c κs within =
     let few : length c.args.jobs.now ≤ MAX_ACTORS = omega arith in
-    rw (le-leb (length c.args.jobs.now) MAX_ACTORS few) (none-faulty 0 c.args.jobs.now c.requires.checked)
+    rw (le-leb (length c.args.jobs.now) MAX_ACTORS few) (none-faulty 0 c.args.jobs.now c.requires.follow)
 
 pub run_reading_within-requires-clause-follow : goal.run_reading_within-requires-clause-follow
 run_reading_within-requires-clause-follow g c κs within = all-follow c.args.limits.accesses c.args.jobs.now c.requires.follow

@@ -1,43 +1,35 @@
-use Rattle.std.proofs.Common.{IfOk, List, ◌≡◌, ℕ, Bool, true, false, true≢false, ap, length, refl, subst, sym}
-use mathlib.Core.Bool.{not}
+use Rattle.std.proofs.Common.{IfOk, List, ◌≡◌, ℕ, ap, length, subst, sym}
 use Rattle.std.specs.Int.{div_ceil}
 use Rattle.step_record.specs.declared.job.Job.{Job}
 use Rattle.policies.specs.AnyPolicy.{outcomes_on}
 use Rattle.policy_comparison.specs.Comparison.{hits_beside}
 use Rattle.policy_comparison.specs.ComparedIntervals.{compared_intervals_on, first_compared}
-use Rattle.policy_comparison.specs.ComparedRows.{HasCompared}
 use Rattle.policy_comparison.specs.ComparedRows as rows
 use Rattle.policy_comparison.proofs.Compared.{beside-long}
 use Rattle.policy_comparison.specs.declared.compared_rows.ComparedInterval.{ComparedInterval}
-use Rattle.long_traces.specs.Pairs.{HasComparedRun}
+use Rattle.long_traces.specs.Pairs.{HasCompared}
 use Rattle.long_traces.specs.declared.compared_run.ComparedRun.{ComparedRun}
 use Rattle.long_traces.proofs.compared_run.ComparedRun.into_rows.Goals as goal
 
-is-open : (b : Bool) → not b ≡ false → b ≡ true
-is-open true h = refl
-is-open false h = absurd (true≢false h)
-
 -- all hits are counted
-all : (every : ℕ) (first second : Job) (trace : List ℕ) (run : ComparedRun) → HasComparedRun every first second trace (length trace) run → run.is_open ≡ true
-    → HasCompared every (outcomes_on first trace) (outcomes_on second trace) run.counted
-all every first second trace run has opened =
-    subst (λ n. rows.HasCounted every (hits_beside (outcomes_on first trace) (outcomes_on second trace)) n run.counted) (sym (beside-long first second trace)) (has opened).counted
+all : (every : ℕ) (first second : Job) (trace : List ℕ) (run : ComparedRun) → HasCompared every first second trace (length trace) run
+    → rows.HasCompared every (outcomes_on first trace) (outcomes_on second trace) run.counted
+all every first second trace run has =
+    subst (λ n. rows.HasCounted every (hits_beside (outcomes_on first trace) (outcomes_on second trace)) n run.counted) (sym (beside-long first second trace)) has.counted
 
 pub into_rows-requires : goal.into_rows-requires
 into_rows-requires c =
-    let opened : c.args.self.is_open ≡ true = is-open c.args.self.is_open c.if-not-self.false in
     let run = c.requires in
     record {
       every = run.0;
       hits = hits_beside (outcomes_on run.1 run.3.trace) (outcomes_on run.2 run.3.trace);
-      counted = all run.0 run.1 run.2 run.3.trace c.args.self run.3.taken opened;
+      counted = all run.0 run.1 run.2 run.3.trace c.args.self run.3.taken;
     }
 
 pub returns : goal.returns
 unfolding compared_intervals_on
 returns c = λ every first second trace has.
-    let opened : c.args.self.is_open ≡ true = is-open c.args.self.is_open c.if-not-self.false in
     let hits = hits_beside (outcomes_on first trace) (outcomes_on second trace) in
     subst (λ (l : List ComparedInterval). IfOk c.into_rows.result (λ rows. rows.items ≡ l))
     (ap (λ (n : ℕ). first_compared every hits (div_ceil n every)) (beside-long first second trace))
-    (c.into_rows.ensures every hits (all every first second trace c.args.self has opened))
+    (c.into_rows.ensures every hits (all every first second trace c.args.self has))

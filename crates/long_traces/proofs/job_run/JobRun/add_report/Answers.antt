@@ -1,4 +1,4 @@
-use Rattle.std.proofs.Common.{◌≡◌, ◌∙◌, ◌++◌, ◌∷◌, [], List, ℕ, ap, arith, length, rules, subst, true}
+use Rattle.std.proofs.Common.{◌∙◌, ◌++◌, ◌∷◌, [], List, ℕ, ap, arith, length, subst}
 use Rattle.std.proofs.lemmas.List.{take_all}
 use Rattle.policies.specs.AnyPolicy.{HasAccessed}
 use Rattle.policies.specs.Reports.{report_of}
@@ -9,11 +9,10 @@ use Rattle.long_traces.proofs.job_run.JobRun.add_report.Goals as goal
 pub returns : goal.returns
 returns c = λ every trace has.
     let run = c.args.self.now in
-    let opened : run.is_open ≡ true = search rules in
     c.in_ok-push.ensures.items
     ∙ ap (λ (r : Report). c.args.reports.now.items ++ r ∷ [])
     (c.of.ensures
     ∙ ap (report_of run.job)
     (c.stats.ensures
     ∙ any_reports run.job trace run.cache
-    (subst (λ (l : List ℕ). HasAccessed run.job trace l run.cache) (take_all (length trace) trace (omega arith)) (has.cut opened).stands)))
+    (subst (λ (l : List ℕ). HasAccessed run.job trace l run.cache) (take_all (length trace) trace (omega arith)) has.cut.stands)))

@@ -1,4 +1,4 @@
-use Rattle.std.proofs.Common.{◌≡◌, ◌∙◌, ◌++◌, ◌∷◌, [], ◌<◌, ℕ, List, ap, append_assoc, arith, rules, subst, true}
+use Rattle.std.proofs.Common.{◌≡◌, ◌∙◌, ◌++◌, ◌∷◌, [], ◌<◌, ℕ, List, ap, append_assoc, arith, subst}
 use Rattle.policies.specs.declared.report.Interval.{Interval}
 use Rattle.sweeps.specs.Intervals.{intervals_on}
 use Rattle.long_traces.proofs.Cuts.{all-whole, all-with-last, last-ends}
@@ -7,25 +7,22 @@ use Rattle.long_traces.proofs.job_run.JobRun.add_rows.Goals as goal
 pub returns-then-self-eq0 : goal.returns-then-self-eq0
 returns-then-self-eq0 c = λ every trace has.
     let run = c.args.self.now in
-    let opened : run.is_open ≡ true = search rules in
     let none : run.used ≡ 0 = omega (arith, c.if-self-eq0.true) in
     subst (λ (n : ℕ). c.extend_from_slice.new.self.items ≡ c.args.rows.now.items ++ intervals_on run.job n trace) has.size
     (c.in_ok-extend_from_slice.ensures.items
-    ∙ ap (λ (l : List Interval). c.args.rows.now.items ++ l) (c.as_slice.ensures.value ∙ all-whole trace run (has.cut opened) none))
+    ∙ ap (λ (l : List Interval). c.args.rows.now.items ++ l) (c.as_slice.ensures.value ∙ all-whole trace run has.cut none))
 
 pub row-requires : goal.row-requires
 row-requires c =
     let run = c.args.self.now in
-    let opened : run.is_open ≡ true = search rules in
     let part : 0 < run.used = omega (arith, c.if-self-eq0.false) in
-    record { trace = c.requires.trace; ends = last-ends c.requires.trace run (c.requires.taken.cut opened) part }
+    record { trace = c.requires.trace; ends = last-ends c.requires.trace run c.requires.taken.cut part }
 
 pub returns : goal.returns
 returns c = λ every trace has.
     let run = c.args.self.now in
-    let opened : run.is_open ≡ true = search rules in
     let part : 0 < run.used = omega (arith, c.if-self-eq0.false) in
-    let cut = has.cut opened in
+    let cut = has.cut in
     subst (λ (n : ℕ). c.push.new.self.items ≡ c.args.rows.now.items ++ intervals_on run.job n trace) has.size
     (c.in_ok-push.ensures.items
     ∙ ap (λ (l : List Interval). l ++ c.row.result ∷ [])

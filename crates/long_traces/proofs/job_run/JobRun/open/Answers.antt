@@ -12,13 +12,13 @@ returns-clause-taken c = λ trace.
     let job = c.args.job.now in
     let cache = c.in_ok-cache.cache in
     let none = c.new-rows.ensures.items in
-    let stands = free job _ trace [] cache c.requires.follows c.in_ok-cache.ensures.stands in
+    let stands = free job _ trace [] cache c.requires.follows.1 c.in_ok-cache.ensures.stands in
     let rows : length c.new-rows.result.items ≡ 0 = ap (λ (l : List Interval). length l) none in
     let zero : 0 * c.args.every ≡ 0 = omega arith in
     let start : length c.new-rows.result.items * c.args.every ≡ 0 = ap (λ (n : ℕ). n * c.args.every) rows ∙ zero in
     record {
       size = refl;
-      cut = λ opened. record {
+      cut = record {
         rows = record {
           some = c.requires.some;
           cut = c.stats-cut.ensures ∙ first-counts job trace 0 cache stands ∙ ap (λ (n : ℕ). stats_of (take n (outcomes_on job trace))) (sym start);

@@ -17,7 +17,7 @@ take-requires c =
     let up = c.loop-i.invariant.1 t.task t.can.trace t.can.place t.can.next t.can.taken in
     let lt : c.loop-i.i < length c.loop-i.self.runs.items = omega (arith, c.loop-i-test.true, c.loop-i.invariant.0, c.args.self.now.runs.ok.0) in
     let has = subst (HasRun t.task.every t.can.trace t.can.place) (sym c.index_mut.ensures.value) (up.ahead c.loop-i.i run lt (omega arith)) in
-    record { trace = t.can.trace; place = t.can.place; next = t.can.next; few = t.can.few; taken = record { size = refl; cut = has.cut } }
+    record { trace = t.can.trace; place = t.can.place; next = t.can.next; few = t.can.few; taken = has.cut }
 
 pub loop-i-preserved : goal.loop-i-preserved
 loop-i-preserved c =
@@ -26,7 +26,8 @@ loop-i-preserved c =
       length-set runs c.loop-i.i c.take.new.self ∙ c.loop-i.invariant.0,
       λ task trace n next have.
           taken-more task.jobs task.every trace n (length c.args.keys.now) c.loop-i.i runs c.index_mut.result.now c.take.new.self lt
-          c.index_mut.ensures.value c.take.ensures.job (c.take.ensures.taken task.every trace n next) (c.loop-i.invariant.1 task trace n next have),
+          c.index_mut.ensures.value c.take.ensures.kept.0
+          (λ has. record { size = c.take.ensures.kept.1 ∙ has.size; cut = c.in_ok-take.ensures.cut trace n next has.cut }) (c.loop-i.invariant.1 task trace n next have),
     )
 
 pub returns : goal.returns

@@ -1,7 +1,7 @@
 use Rattle.std.proofs.Common.{◌≡◌, ◌≤◌, ◌+◌, ◌-◌, ℕ, List, length}
 use Rattle.long_traces.specs.Taking.{AreNext}
 use Rattle.long_traces.specs.JobRuns.{HasCut}
-use Rattle.long_traces.proofs.job_run.JobRun.take_all.Given as goal
+use Rattle.long_traces.proofs.job_run.JobRun.take.Given as goal
 
 abbrev pub invariant-pieces : goal.invariant-pieces
 invariant-pieces l = (l.at ≤ length l.keys) × (l.self.job ≡ l.initial.self.job) × (l.self.every ≡ l.initial.self.every)
