@@ -22,7 +22,8 @@ use Rattle.queue_cache.specs.declared.design.Design.TheVariants as design
 use Rattle.policies.specs.AnyPolicy.{demand_run, demand_outcomes, adaptive_outcomes, outcomes_by, outcomes_on, stats_on}
 use Rattle.queue_cache.specs.Design.{design_of, has_queues}
 use Rattle.policies.specs.DemandDesign.{demand_policy}
-use Rattle.policies.specs.Theorems.{LruStepLaw, FifoStepLaw, AnyCoversTrace}
+use Rattle.policies.specs.Theorems.{FifoStepLaw, AnyCoversTrace}
+use Rattle.queue_cache.specs.Theorems.{LruStepLaw}
 use Rattle.queue_cache.proofs.Counting.{count-cons}
 use Rattle.policies.proofs.Demand.{with-room}
 use Rattle.optimality.specs.Strategy.{strategy_misses}

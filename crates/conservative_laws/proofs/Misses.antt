@@ -9,7 +9,8 @@ use Rattle.step_record.specs.declared.job.Job.{Job}
 use Rattle.step_record.specs.declared.job.Policy.TheVariants.{Lru}
 use Rattle.queue_cache.specs.Design.{has_queues}
 use Rattle.policies.specs.AnyPolicy.{outcomes_on, stats_on}
-use Rattle.policies.specs.Theorems.{LruStepLaw, AnyCoversTrace}
+use Rattle.policies.specs.Theorems.{AnyCoversTrace}
+use Rattle.queue_cache.specs.Theorems.{LruStepLaw}
 use Rattle.queue_cache.proofs.Balance.{residents-fit}
 use Rattle.queue_cache.proofs.Counting.{hits-misses}
 use Rattle.optimality.specs.Strategy.{strategy_hits, strategy_misses}

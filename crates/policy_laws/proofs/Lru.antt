@@ -10,7 +10,7 @@ use Rattle.queue_cache.specs.Design.{has_queues}
 use Rattle.queue_cache.specs.Lru.{distinct_keys, lru_residents}
 use Rattle.queue_cache.specs.SingleQueue.{single_queue}
 use Rattle.policies.specs.AnyPolicy.{stats_on}
-use Rattle.policies.specs.Theorems.{LruStepLaw}
+use Rattle.queue_cache.specs.Theorems.{LruStepLaw}
 use Rattle.queue_cache.proofs.Balance.{residents-fit}
 use Rattle.queue_cache.proofs.Recency.{has-drop}
 use Rattle.optimality.specs.Strategy.{strategy_hits}
