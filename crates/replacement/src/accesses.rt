@@ -94,7 +94,7 @@ fn access_planned<C>(
         };
     }
     match rules.placement {
-        Placement::Windowed => windowed(segments, frequency, rules, item),
+        Placement::Windowed => windowed::<C>(segments, frequency, rules, item),
         Placement::Direct(queue) => direct(segments, frequency, rules, queue, item),
     }
 }

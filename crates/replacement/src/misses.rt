@@ -36,9 +36,10 @@ pub fn evict(segments: &mut Segments, frequency: Option<&Frequency>, rules: &Rul
     evict_planned(segments, frequency, rules)
 }
 
-// A new item joins the window, and one eviction follows.
+// A new item joins the window, and one eviction follows. Each `C` has an instance of its own, called at one place: it is
+// large, and with several calls it would be part of none of its callers.
 #[inline(always)]
-pub(crate) fn windowed(
+pub(crate) fn windowed<C>(
     segments: &mut Segments,
     frequency: Option<&Frequency>,
     rules: &Rules,
