@@ -1,16 +1,52 @@
 """What the checks share: what is wrong, calls, changes of a text, and how a check itself is called."""
 import os
+import random
+import re
 import signal
 import subprocess
 import sys
+from collections import namedtuple
 from pathlib import Path
 
 TOP = Path(__file__).resolve().parent.parent
 SECONDS = 300
 
+# How a call ended: its status, or that it did not end, its output and its standard error.
+Ended = namedtuple("Ended", "status out error")
+
 # An interrupt ends a check, and what it began, without a word.
 if signal.getsignal(signal.SIGINT) is signal.default_int_handler:
     signal.signal(signal.SIGINT, signal.SIG_DFL)
+
+
+def start(main, about=None):
+    """Runs a check, or says what it does where the call asks that. Where nobody reads what it prints, it ends as by a signal."""
+    try:
+        try:
+            if about and sys.argv[1:] in (["-h"], ["--help"]):
+                print(about.strip())
+            else:
+                main()
+        finally:
+            sys.stdout.flush()
+    except BrokenPipeError:
+        os._exit(128 + signal.SIGPIPE)
+
+
+def conclude(wrong, right):
+    """Ends a check: by what is wrong, line by line, or by what was found to be right."""
+    if wrong:
+        sys.exit("\n".join(f"{Path(sys.argv[0]).name}: {it}" for it in wrong))
+    if right:
+        print(right)
+
+
+def named_program(own="crates/cachesim/out/cachesim"):
+    """The program that the call names, or the repository's own."""
+    program = Path(sys.argv[1] if len(sys.argv) > 1 else TOP / own).resolve()
+    if not os.access(program, os.X_OK):
+        sys.exit(f"there is no program {program}")
+    return program
 
 
 def patience(seconds):
@@ -36,14 +72,40 @@ def fault_of(test, *words):
     return None
 
 
-def call(*words, typed="", seconds=SECONDS, **how):
-    """The output of a call, its standard error and its status."""
-    how = {"input": typed.encode() if isinstance(typed, str) else typed, "stdout": subprocess.PIPE, **how}
+def octets(text):
+    return text if isinstance(text, bytes) else text.encode()
+
+
+def ended(words, seconds=SECONDS, typed="", **how):
+    """How a call of these words ended, which reads what is typed, or another standard input."""
+    given = {} if "stdin" in how else {"input": octets(typed)}
+    how = {**given, "stdout": subprocess.PIPE, "stderr": subprocess.PIPE, **how}
+    words = [it if isinstance(it, bytes) else str(it) for it in words]
     try:
-        ended = subprocess.run([it if isinstance(it, bytes) else str(it) for it in words], stderr=subprocess.PIPE, timeout=patience(seconds), check=False, **how)
+        found = subprocess.run(words, timeout=patience(seconds), check=False, **how)
     except subprocess.TimeoutExpired:
-        raise Wrong(f"{words}: no end after {seconds} seconds") from None
-    return (ended.stdout or b"").decode(errors="replace"), ended.stderr.decode(errors="replace"), ended.returncode
+        return Ended(f"none within {seconds} seconds", b"", b"")
+    return Ended(found.returncode, found.stdout or b"", found.stderr or b"")
+
+
+def call(*words, **how):
+    """The output of a call, its standard error and its status."""
+    found = ended(words, **how)
+    if isinstance(found.status, str):
+        raise Wrong(f"{words}: the end is {found.status}")
+    return found.out.decode(errors="replace"), found.error.decode(errors="replace"), found.status
+
+
+def listed_policies(program):
+    """The policies that a program lists."""
+    listed = re.search(r"\[possible values: (lru, [^]]*)\]", call(program, "run", "--help")[0])
+    return listed[1].split(", ") if listed else []
+
+
+def skewed_keys(count, keys, seed=0):
+    """Accesses of which small keys come more often: which one comes is as likely as one over its number."""
+    rng = random.Random(seed)
+    return [int((keys + 1) ** rng.random()) for _ in range(count)]
 
 
 def replaced(old, new):
@@ -53,18 +115,3 @@ def replaced(old, new):
             raise ValueError(f"`{old}` stands {text.count(old)} times")
         return text.replace(old, new)
     return change
-
-
-def named_program(own="cachesim"):
-    """The program that the call names, or the repository's own."""
-    program = Path(sys.argv[1] if len(sys.argv) > 1 else TOP / own).resolve()
-    if not os.access(program, os.X_OK):
-        sys.exit(f"there is no program {program}")
-    return program
-
-
-def answer_help(text):
-    """Says what a tool does, where the call asks that."""
-    if sys.argv[1:] in (["-h"], ["--help"]):
-        print(text.strip())
-        sys.exit(0)

@@ -7,9 +7,7 @@ for the crates of tests, which it names together. Each link of each document lea
 of it.
 """
 import re
-from pathlib import Path
 
-TOP = Path(__file__).resolve().parent.parent
 CLAIMS = "| Claim | Function | Definition | Mutation |"
 CODE = re.compile(r"`([^`]+)`")
 FILE = re.compile(r"`(\w+)/(src/[\w/]*(?:\.rt)?)`")

@@ -7,10 +7,9 @@ from .debugger import debug
 from .faults import Fault
 from .journals import replay
 from .options import DEFAULTS, NUMBERS, POLICIES
-from .reports import compare, intervals, part, run, sweep
-from .samples import sample
+from .reports import answer, run, sweep
 from .traces import MAX_ACCESSES, MAX_LONG_ACCESSES, keys_of
 from .walks import Worker, check_walks, drive_alone, journal, walk
 
-__all__ = ["DEFAULTS", "MAX_ACCESSES", "MAX_LONG_ACCESSES", "NUMBERS", "POLICIES", "Fault", "Shell", "Worker", "check_walks",
-           "compare", "debug", "drive_alone", "intervals", "journal", "keys_of", "part", "replay", "run", "sample", "sweep", "walk"]
+__all__ = ["DEFAULTS", "MAX_ACCESSES", "MAX_LONG_ACCESSES", "NUMBERS", "POLICIES", "Fault", "Shell", "Worker", "answer",
+           "check_walks", "debug", "drive_alone", "journal", "keys_of", "replay", "run", "sweep", "walk"]

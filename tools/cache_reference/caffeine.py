@@ -38,7 +38,7 @@ class Caffeine(WindowTinyLfu):
     def __init__(self, capacity, main, spread, period):
         super().__init__(capacity, main, spread)
         self.frequency = self.queues.frequency = Frequency(capacity, spread, columns=4, has_door=False)
-        self.shared = self.queues.window_size + self.queues.queues.protected_size
+        self.shared = self.queues.window_size + self.queues.main.protected_size
         period = 10 * capacity if period is None else max(period, capacity)
         self.climber = Climber(capacity, self.queues.window_size, self.shared, period)
 
@@ -49,16 +49,16 @@ class Caffeine(WindowTinyLfu):
         return outcome, left
 
     def resize(self, size):
-        self.queues.window_size, self.queues.queues.protected_size = size, self.shared - size
+        self.queues.window_size, self.queues.main.protected_size = size, self.shared - size
 
     def move_window(self):
         """The window comes nearer to its target by one entry."""
-        size, window, main = self.queues.window_size, self.queues.window, self.queues.queues
+        size, window, main = self.queues.window_size, self.queues.window, self.queues.main
         if size < self.climber.target:
             self.resize(size + 1)
             if len(main.protected) > main.protected_size:
                 main.probation.append(main.protected.pop(0))
-            if len(main) > self.queues.capacity - self.queues.window_size:
+            if len(main.residents()) > self.queues.capacity - self.queues.window_size:
                 window.append(main.probation.pop(0))
         elif size > self.climber.target:
             self.resize(size - 1)

@@ -102,7 +102,7 @@ class Shell:
         self.left -= 1
         task, item = self.writes.pop(0)
         if task == "remove":
-            for queue in (self.queues.window, self.queues.queues.probation, self.queues.queues.protected):
+            for queue in (self.queues.window, self.queues.main.probation, self.queues.main.protected):
                 if item in queue:
                     queue.remove(item)
             return f"cleared {item[0]} {item[1]}"
@@ -141,7 +141,7 @@ class Shell:
         holder = "none" if self.holder is None else f"{self.holder} {self.phase} {self.left}"
         lines = [f"drain {self.drain}", f"holder {holder}", f"next {self.next_node}",
                  f"table{named(sorted(self.table.items()))}", f"window{named(self.queues.window)}",
-                 f"probation{named(self.queues.queues.probation)}", f"protected{named(self.queues.queues.protected)}"]
+                 f"probation{named(self.queues.main.probation)}", f"protected{named(self.queues.main.protected)}"]
         lines += [f"stripe {number}{named(buffer)}" for number, buffer in enumerate(self.stripes)]
         lines.append("writes" + "".join(f" {task}{named([item])}" for task, item in self.writes))
         lines.append(f"age {self.queues.frequency.age} halvings {self.queues.frequency.halvings}")

@@ -1,40 +1,34 @@
 """The debugger of two policies. A timeline has the text that `show`, or a command like it, prints at each position, and what
 each step from one to the next did."""
+from collections import Counter
+
 from .caffeine import Caffeine
 from .faults import Fault
 from .options import DEFAULTS, opened
 from .policies import WindowTinyLfu
-from .reports import Counts
+from .reports import counts_of
 from .traces import BLANKS, keys_of, number_of
 
 MAX_COMMANDS = 2**20
 MAX_BREAKPOINTS = 64
 
 
-class Events:
-    """What a step did, as breakpoints ask for it."""
-
-    def __init__(self, hits=(), left=(), is_halved=False, is_odd=False):
-        self.hits, self.left, self.is_halved, self.is_odd = hits, left, is_halved, is_odd
-
-    def holds(self, breakpoint):
-        name, *key = breakpoint
-        if name in ("hit", "evict"):
-            return key[0] in (self.hits if name == "hit" else self.left)
-        return self.is_halved if name == "halve" else self.is_odd
+def events_of(hits, left, is_halved, odd):
+    """What a step did, as the breakpoints that it meets."""
+    return {*(("hit", it) for it in hits), *(("evict", it) for it in left), *[("halve",)] * is_halved, *((it,) for it in odd)}
 
 
 class Side:
     """One of the two policies of a debugger."""
 
     def __init__(self, letter, policy, capacity, options, keys):
-        self.letter, self.policy, self.counts = letter, policy, Counts()
+        self.letter, self.policy, self.outcomes = letter, policy, Counter()
         self.cache = opened(policy, capacity, options, keys)
 
     def show(self):
-        hits, misses, evictions, rejections = self.counts.values()
-        counted = f"{self.policy} hits {hits} misses {misses} evictions {evictions} rejections {rejections}"
-        return f"{self.letter} {counted}\n{self.letter} holds{items(self.cache.residents())}\n"
+        counts = zip(("hits", "misses", "evictions", "rejections"), counts_of(self.outcomes))
+        counted = " ".join(f"{it}" for pair in counts for it in pair)
+        return f"{self.letter} {self.policy} {counted}\n{self.letter} holds{items(self.cache.residents())}\n"
 
     def window(self):
         size = self.cache.queues.window_size if isinstance(self.cache, WindowTinyLfu) else "none"
@@ -47,7 +41,7 @@ class Side:
     def access(self, key):
         age = self.age()
         outcome, left = self.cache.access(key)
-        self.counts.add(outcome)
+        self.outcomes[outcome] += 1
         return outcome == "hit", left, self.age() < age
 
 
@@ -65,7 +59,7 @@ class PolicyTimeline:
         for key in keys:
             (a_hit, a_left, a_halved), (b_hit, b_left, b_halved) = a.access(key), b.access(key)
             hits, left = [key] if a_hit or b_hit else [], [it for it in (a_left, b_left) if it is not None]
-            self.events.append(Events(hits, left, a_halved or b_halved, a_hit != b_hit))
+            self.events.append(events_of(hits, left, a_halved or b_halved, ["part"] * (a_hit != b_hit)))
             self.look()
 
     def look(self):
@@ -73,7 +67,7 @@ class PolicyTimeline:
             texts.append("".join(getattr(it, name)() for it in self.sides))
 
     def whole_answer(self, _):
-        parts = [number for number, event in enumerate(self.events, 1) if event.is_odd]
+        parts = [number for number, event in enumerate(self.events, 1) if ("part",) in event]
         return f"part {parts[0]}\n" if parts else "part none\n"
 
 
@@ -133,7 +127,7 @@ class Dialogue:
             return "fault: PastEnd\n"
         while self.at < self.end:
             self.at += 1
-            held = [it for it in self.breakpoints if self.timeline.events[self.at - 1].holds(it)]
+            held = [it for it in self.breakpoints if it in self.timeline.events[self.at - 1]]
             if held:
                 return f"stop {held[0][0]}\nat {self.at}\n"
         return f"end\nat {self.at}\n"

@@ -1,21 +1,27 @@
-"""Six policies that take in each key that is missed, count no keys, and evict one key at each miss of a full cache. Queues
-are lists, oldest first. A ghost is a queue of keys that are not resident, remembered from when they left."""
+"""Policies that take in each key that is missed, count no keys, and evict one key at each miss of a full cache. Queues are
+lists, oldest first. A ghost is a queue of keys that are not resident, remembered from when they left."""
 
 
 class Demand:
-    """What the six have in common. A policy says what a hit does, which key leaves, and where a new one goes."""
+    """What they have in common. A policy says what a hit does, which key leaves, and where a new one goes."""
 
     frequency = None
 
     def __init__(self, capacity):
-        self.capacity = capacity
+        self.capacity, self.queue = capacity, []
 
     def access(self, key):
         if key in self.residents():
             self.hit(key)
             return "hit", None
-        left = self.miss(key, len(self.residents()) == self.capacity)
+        left = self.miss(key, self.is_full())
         return ("kept", None) if left is None else ("evicted", left)
+
+    def is_full(self):
+        return len(self.residents()) == self.capacity
+
+    def residents(self):
+        return self.queue
 
 
 def join_ghost(ghost, key, size):
@@ -36,10 +42,6 @@ def leave_ghost(ghost, key):
 class Fifo(Demand):
     """The oldest leaves; a hit moves nothing."""
 
-    def __init__(self, capacity):
-        super().__init__(capacity)
-        self.queue = []
-
     def hit(self, key):
         pass
 
@@ -48,8 +50,8 @@ class Fifo(Demand):
         self.queue.append(key)
         return left
 
-    def residents(self):
-        return list(self.queue)
+    def victim(self):
+        return self.queue[0]
 
 
 class Clock(Demand):
@@ -58,25 +60,19 @@ class Clock(Demand):
 
     def __init__(self, capacity):
         super().__init__(capacity)
-        self.queue, self.referenced = [], set()
+        self.referenced = set()
 
     def hit(self, key):
         self.referenced.add(key)
 
     def miss(self, key, is_full):
-        left = None
-        if is_full:
-            while self.queue[0] in self.referenced:
-                turned = self.queue.pop(0)
-                self.referenced.remove(turned)
-                self.queue.append(turned)
-            left = self.queue.pop(0)
+        while is_full and self.queue[0] in self.referenced:
+            self.referenced.remove(self.queue[0])
+            self.queue.append(self.queue.pop(0))
+        left = self.queue.pop(0) if is_full else None
         self.queue.append(key)
         self.referenced.add(key)
         return left
-
-    def residents(self):
-        return list(self.queue)
 
 
 class Sieve(Demand):
@@ -192,13 +188,10 @@ class Arc(Demand):
         self.t2.append(key)
 
     def replace(self, key):
-        if self.t1 and (len(self.t1) > self.p or len(self.t1) == self.p and key in self.b2):
-            left = self.t1.pop(0)
-            self.b1.append(left)
-        else:
-            left = self.t2.pop(0)
-            self.b2.append(left)
-        return left
+        is_new = self.t1 and (len(self.t1) > self.p or len(self.t1) == self.p and key in self.b2)
+        queue, ghost = (self.t1, self.b1) if is_new else (self.t2, self.b2)
+        ghost.append(queue.pop(0))
+        return ghost[-1]
 
     def from_ghost(self, key):
         if key in self.b1:

@@ -1,6 +1,6 @@
 """Journals, and the debugger that replays one."""
 from .concurrent_cache import Shell
-from .debugger import Dialogue, Events
+from .debugger import Dialogue, events_of
 from .faults import Fault
 from .traces import ALL_BITS
 from .walks import journal
@@ -87,7 +87,7 @@ class JournalTimeline:
         hits = [int(act.split(" ")[1])] if name == "hit" else []
         left = [int(words[0])] if name in ("evicted", "rejected") else []
         is_halved = self.shell.queues.frequency.age < age
-        self.events.append(Events(hits, left, is_halved, name in ("full", "lost")))
+        self.events.append(events_of(hits, left, is_halved, ["drop"] * (name in ("full", "lost"))))
         self.lines.append(line)
         self.shown["show"].append(self.shell.show())
 

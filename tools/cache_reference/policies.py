@@ -2,14 +2,24 @@
 the key that left."""
 from collections import defaultdict
 
+from .demand_policies import Demand, Fifo
 from .frequency import Frequency
 
 
-class Segmented:
-    """The main part of a segmented cache: a hit moves to the protected part, whose oldest falls back."""
+class Lru(Fifo):
+    """A hit moves to the recent end."""
 
-    def __init__(self, protected_size):
-        self.protected_size, self.probation, self.protected = protected_size, [], []
+    def hit(self, key):
+        self.queue.remove(key)
+        self.queue.append(key)
+
+
+class SegmentedLru(Demand):
+    """A hit moves to the protected part, whose oldest falls back to the probation part; the oldest key of that leaves."""
+
+    def __init__(self, capacity):
+        super().__init__(capacity)
+        self.protected_size, self.probation, self.protected = capacity * 80 // 100, [], []
 
     def hit(self, item):
         (self.probation if item in self.probation else self.protected).remove(item)
@@ -17,77 +27,30 @@ class Segmented:
         if len(self.protected) > self.protected_size:
             self.probation.append(self.protected.pop(0))
 
-    def __contains__(self, item):
-        return item in self.probation or item in self.protected
-
-    def __len__(self):
-        return len(self.probation) + len(self.protected)
-
-
-class Lru:
-    frequency = None
-
-    def __init__(self, capacity, **_):
-        self.capacity, self.queue = capacity, []
-
-    def access(self, key):
-        if key in self.queue:
-            self.queue.remove(key)
-            self.queue.append(key)
-            return "hit", None
-        left = self.queue.pop(0) if len(self.queue) == self.capacity else None
-        self.queue.append(key)
-        return ("kept", None) if left is None else ("evicted", left)
-
-    def is_full(self):
-        return len(self.queue) == self.capacity
+    def miss(self, key, is_full):
+        left = self.probation.pop(0) if is_full else None
+        self.probation.append(key)
+        return left
 
     def victim(self):
-        return self.queue[0]
+        return self.probation[0]
 
     def residents(self):
-        return list(self.queue)
-
-
-class SegmentedLru:
-    frequency = None
-
-    def __init__(self, capacity, **_):
-        self.capacity, self.queues = capacity, Segmented(capacity * 80 // 100)
-
-    def access(self, key):
-        if key in self.queues:
-            self.queues.hit(key)
-            return "hit", None
-        left = self.queues.probation.pop(0) if self.is_full() else None
-        self.queues.probation.append(key)
-        return ("kept", None) if left is None else ("evicted", left)
-
-    def is_full(self):
-        return len(self.queues) == self.capacity
-
-    def victim(self):
-        return self.queues.probation[0]
-
-    def residents(self):
-        return self.queues.probation + self.queues.protected
+        return self.probation + self.protected
 
 
 class TinyLfu:
     """A policy with an admission filter before it."""
 
     def __init__(self, inner, capacity, spread):
-        self.inner, self.frequency = inner, Frequency(capacity, spread)
+        self.inner, self.frequency, self.residents = inner, Frequency(capacity, spread), inner.residents
 
     def access(self, key):
         self.frequency.record(key)
-        is_new = key not in self.inner.residents()
+        is_new = key not in self.residents()
         if is_new and self.inner.is_full() and not self.frequency.admits(key, self.inner.victim()):
             return "rejected", key
         return self.inner.access(key)
-
-    def residents(self):
-        return self.inner.residents()
 
 
 class WindowQueues:
@@ -96,38 +59,38 @@ class WindowQueues:
     def __init__(self, capacity, main, spread, key=lambda item: item):
         size = capacity * main // 100
         self.capacity, self.window_size, self.key = capacity, capacity - size, key
-        self.window, self.queues, self.frequency = [], Segmented(size * 80 // 100), Frequency(capacity, spread)
+        self.window, self.main, self.frequency = [], SegmentedLru(size), Frequency(capacity, spread)
 
     def hit(self, item):
         if item in self.window:
             self.window.remove(item)
             self.window.append(item)
-        elif item in self.queues:
-            self.queues.hit(item)
+        elif item in self.main.residents():
+            self.main.hit(item)
 
     def evict(self):
         """One eviction: what became of it, and the item that moved or left."""
         if len(self.window) <= self.window_size:
             return "fits", None
         candidate = self.window.pop(0)
-        self.queues.probation.append(candidate)
-        if len(self.window) + len(self.queues) <= self.capacity:
+        self.main.probation.append(candidate)
+        if len(self.residents()) <= self.capacity:
             return "shifted", candidate
-        victim = self.queues.probation[0]
+        victim = self.main.victim()
         if candidate != victim and self.frequency.admits(self.key(candidate), self.key(victim)):
-            self.queues.probation.remove(victim)
+            self.main.probation.remove(victim)
             return "evicted", victim
-        self.queues.probation.remove(candidate)
+        self.main.probation.remove(candidate)
         return "rejected", candidate
 
     def residents(self):
-        return self.window + self.queues.probation + self.queues.protected
+        return self.window + self.main.residents()
 
 
 class WindowTinyLfu:
     def __init__(self, capacity, main, spread):
         self.queues = WindowQueues(capacity, main, spread)
-        self.frequency = self.queues.frequency
+        self.frequency, self.residents = self.queues.frequency, self.queues.residents
 
     def access(self, key):
         self.frequency.record(key)
@@ -138,33 +101,22 @@ class WindowTinyLfu:
         outcome, left = self.queues.evict()
         return (outcome, left) if outcome in ("evicted", "rejected") else ("kept", None)
 
-    def residents(self):
-        return self.queues.residents()
-
 
 class Clairvoyant:
     frequency = None
 
     def __init__(self, capacity, keys):
-        self.capacity, self.keys, self.at, self.last = capacity, keys, 0, {}
-        self.places = defaultdict(list)
+        self.capacity, self.last, self.places = capacity, {}, defaultdict(list)
         for place, key in enumerate(keys):
             self.places[key].append(place)
 
-    def next_use(self, key):
-        return next((place for place in self.places[key] if place >= self.at), None)
-
     def distance(self, key):
         """Larger for a key that is to leave before another."""
-        place = self.next_use(key)
-        return (1, -self.last[key]) if place is None else (0, place)
+        return (0, self.places[key][0]) if self.places[key] else (1, -self.last[key])
 
     def access(self, key):
-        was_there, now = key in self.last, self.at
-        self.at += 1
-        while self.places[key] and self.places[key][0] < self.at:
-            self.places[key].pop(0)
-        self.last[key] = now
+        was_there = key in self.last
+        self.last[key] = self.places[key].pop(0)
         if was_there or len(self.last) <= self.capacity:
             return ("hit" if was_there else "kept"), None
         leaver = max(self.last, key=self.distance)

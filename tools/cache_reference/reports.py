@@ -2,6 +2,7 @@
 from collections import Counter
 
 from .options import DEFAULTS, opened
+from .samples import sample
 
 HEADER = "policy,capacity,accesses,hits,misses,evictions,rejections,rate\n"
 INTERVALS_HEADER = "policy,capacity,first,last,hits,misses,evictions,rejections,rate\n"
@@ -9,62 +10,44 @@ COMPARE_HEADER = "first,second,capacity,accesses,both,first_only,second_only,nei
 COMPARE_INTERVALS_HEADER = "first,second,capacity,from,to,both,first_only,second_only,neither\n"
 
 
-class Counts:
-    """What a report counts."""
-
-    def __init__(self):
-        self.of = Counter()
-
-    def add(self, outcome):
-        self.of["hits" if outcome == "hit" else "misses"] += 1
-        self.of["evictions"] += outcome in ("evicted", "rejected")
-        self.of["rejections"] += outcome == "rejected"
-
-    def values(self):
-        return [self.of[name] for name in ("hits", "misses", "evictions", "rejections")]
-
-
 def outcomes_of(policy, capacity, options, keys):
     cache = opened(policy, capacity, options, keys)
     return [cache.access(key)[0] for key in keys]
 
 
-def rate(counts, accesses):
-    hundredths = counts.of["hits"] * 10000 // accesses if accesses else 0
-    return f"{hundredths // 100}.{hundredths % 100:02}"
+def counts_of(outcomes):
+    """Hits, misses, evictions and rejections, of how often each outcome came."""
+    hits, rejections = outcomes["hit"], outcomes["rejected"]
+    return hits, outcomes.total() - hits, outcomes["evicted"] + rejections, rejections
 
 
-def report(policy, capacity, options, keys):
-    counts = Counts()
-    for outcome in outcomes_of(policy, capacity, options, keys):
-        counts.add(outcome)
-    numbers = ",".join(map(str, counts.values()))
-    return f"{policy},{capacity},{len(keys)},{numbers},{rate(counts, len(keys))}\n"
+def row(counts, *begin):
+    """A row: how it begins, the counts, and the hit ratio."""
+    hits, accesses = counts[0], counts[0] + counts[1]
+    hundredths = hits * 10000 // accesses if accesses else 0
+    return ",".join(map(str, [*begin, *counts])) + f",{hundredths // 100}.{hundredths % 100:02}\n"
 
 
 def run(keys, policies, capacities, options=DEFAULTS):
     """The reports of each policy at each capacity."""
-    rows = [report(policy, capacity, options, keys) for policy in policies for capacity in capacities]
-    return HEADER + "".join(rows)
+    return HEADER + "".join(row(counts_of(Counter(outcomes_of(policy, capacity, options, keys))), policy, capacity, len(keys))
+                            for policy in policies for capacity in capacities)
 
 
 def lru_curve(keys, capacities):
     """The reports of Lru at each capacity. It hits where fewer other keys than it holds came since, so the keys in the order
     of their last accesses say it of all capacities at once."""
-    recent, known, depths = [], set(), Counter()
+    recent, known, depths, rows = [], set(), Counter(), []
     for key in keys:
         if key in known:
             depths[len(recent) - recent.index(key)] += 1
             recent.remove(key)
         recent.append(key)
         known.add(key)
-    rows = []
     for capacity in capacities:
-        counts = Counts()
-        counts.of["hits"] = sum(times for depth, times in depths.items() if depth <= capacity)
-        counts.of["misses"] = len(keys) - counts.of["hits"]
-        counts.of["evictions"] = max(0, counts.of["misses"] - capacity)
-        rows.append(f"lru,{capacity},{len(keys)},{','.join(map(str, counts.values()))},{rate(counts, len(keys))}\n")
+        hits = sum(times for depth, times in depths.items() if depth <= capacity)
+        misses = len(keys) - hits
+        rows.append(row((hits, misses, max(0, misses - capacity), 0), "lru", capacity, len(keys)))
     return HEADER + "".join(rows)
 
 
@@ -82,27 +65,24 @@ def intervals(keys, policies, every, capacity, options=DEFAULTS):
         outcomes = outcomes_of(policy, capacity, options, keys)
         for start in range(0, len(keys), every):
             piece = outcomes[start:start + every]
-            counts = Counts()
-            for outcome in piece:
-                counts.add(outcome)
-            places = f"{start + 1},{start + len(piece)}"
-            rows.append(f"{policy},{capacity},{places},{','.join(map(str, counts.values()))},{rate(counts, len(piece))}\n")
+            rows.append(row(counts_of(Counter(piece)), policy, capacity, start + 1, start + len(piece)))
     return INTERVALS_HEADER + "".join(rows)
 
 
+def hits_of(keys, first, second, capacity, options):
+    """Whether each of two policies hits, at each access."""
+    return [*zip(*([it == "hit" for it in outcomes_of(policy, capacity, options, keys)] for policy in (first, second)))]
+
+
 def part(keys, first, second, capacity, options=DEFAULTS):
-    a, b = (opened(policy, capacity, options, keys) for policy in (first, second))
-    for number, key in enumerate(keys, 1):
-        if (a.access(key)[0] == "hit") != (b.access(key)[0] == "hit"):
-            return f"part {number}\n"
-    return "part none\n"
+    pairs = enumerate(hits_of(keys, first, second, capacity, options), 1)
+    return f"part {next((number for number, (a, b) in pairs if a != b), 'none')}\n"
 
 
 def compare(keys, first, second, capacity, options=DEFAULTS, every=None):
     """At how many accesses both of two policies hit, only the first, only the second, and neither; or at how many of each
     interval of so many accesses."""
-    hits = ([outcome == "hit" for outcome in outcomes_of(policy, capacity, options, keys)] for policy in (first, second))
-    pairs, rows = list(zip(*hits)), []
+    pairs, rows = hits_of(keys, first, second, capacity, options), []
     for start in range(0, len(pairs), every) if every else [0]:
         piece = pairs[start:start + every] if every else pairs
         counts = Counter(piece)
@@ -110,3 +90,19 @@ def compare(keys, first, second, capacity, options=DEFAULTS, every=None):
         numbers = [*places, *(counts[pair] for pair in ((True, True), (True, False), (False, True), (False, False)))]
         rows.append(f"{first},{second},{capacity},{','.join(map(str, numbers))}\n")
     return (COMPARE_INTERVALS_HEADER if every else COMPARE_HEADER) + "".join(rows)
+
+
+def answer(command, keys, options):
+    """What a command prints of these accesses, and says on standard error. Its options have policies and capacities too."""
+    policies, capacity, pair = options.get("policies"), options.get("capacity"), (options.get("first"), options.get("second"))
+    if command == "sample":
+        return sample(keys, int(options["rate"].removeprefix("1/")), options["seed"])
+    if command == "run":
+        return run(keys, policies, [capacity], options), ""
+    if command == "sweep":
+        return sweep(keys, policies, options["capacities"], options), ""
+    if command == "intervals":
+        return intervals(keys, policies, options["every"], capacity, options), ""
+    if command == "part":
+        return part(keys, *pair, capacity, options), ""
+    return compare(keys, *pair, capacity, options, options.get("every")), ""

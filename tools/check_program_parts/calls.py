@@ -1,11 +1,8 @@
 """Calls of a program, and what is expected of them."""
-import random
 import re
-import subprocess
-from collections import namedtuple
 from pathlib import Path
 
-from checks import TOP, patience
+from checks import TOP, Ended, ended, listed_policies, octets
 
 RECORDED = TOP / "examples/sqlite.lirs"
 SECONDS = 60
@@ -17,8 +14,6 @@ COMPARE_HEADER = "first,second,capacity,accesses,both,first_only,second_only,nei
 PARTING = ("--capacity", 2, "--first", "lru", "--second", "slru")
 # The parts, and about how many seconds each takes: those that take long begin first.
 PARTS = {}
-
-Ended = namedtuple("Ended", "status out error")
 
 
 def part(seconds=1):
@@ -33,22 +28,13 @@ def lines(*rows):
     return "".join(f"{row}\n" for row in rows)
 
 
-def octets(text):
-    return text if isinstance(text, bytes) else text.encode()
-
-
 class Check:
     """A part of the check of one program, in a folder of its own, and what went wrong in it."""
 
     def __init__(self, program, room, is_short):
         self.program, self.room, self.is_short = program, Path(room), is_short
-        self.tried, self.faults = 0, []
-        self.policies = self.listed_policies()
+        self.tried, self.faults, self.policies = 0, [], listed_policies(program)
         self.trace = self.file("trace", lines(1, 1, 2, 3, 1))
-
-    def listed_policies(self):
-        found = re.search(rb"\[possible values: (lru, [^]]*)\]", self.call("run", "--help").out)
-        return found[1].decode().split(", ") if found else []
 
     def size(self, whole, short):
         """A size at which a user comes, or a small one where only the check itself is tried."""
@@ -62,25 +48,20 @@ class Check:
     def fail(self, name, text):
         self.faults.append(f"{name}: {text}")
 
-    def call(self, *words, typed="", stdin=None, stdout=subprocess.PIPE, stderr=subprocess.PIPE, seconds=SECONDS, under=()):
+    def call(self, *words, stdin=None, seconds=SECONDS, under=(), **how):
         """A call of the program, whose words may follow those of another one."""
-        words = [it if isinstance(it, bytes) else str(it) for it in (*under, self.program, *words)]
-        how = {"input": octets(typed)} if stdin is None else {"stdin": stdin}
         if isinstance(stdin, Path):
             with open(stdin, "rb") as file:
-                return self.call(*words[len(under) + 1:], stdin=file, stdout=stdout, stderr=stderr, seconds=seconds, under=under)
-        try:
-            ended = subprocess.run(words, stdout=stdout, stderr=stderr, timeout=patience(seconds), check=False, **how)
-        except subprocess.TimeoutExpired:
-            return Ended(f"none within {seconds} seconds", b"", b"")
-        return Ended(ended.returncode, ended.stdout or b"", ended.stderr or b"")
+                return self.call(*words, stdin=file, seconds=seconds, under=under, **how)
+        given = {} if stdin is None else {"stdin": stdin}
+        return ended([*under, self.program, *words], seconds, **given, **how)
 
-    def compare(self, name, ended, right):
+    def compare(self, name, found, right):
         """Compares how a call ended with what is right."""
         self.tried += 1
-        if ended != right:
+        if found != right:
             self.fail(name, "".join(f"\nthe {what} is\n{shown(was)}\nwhere this is right:\n{shown(wanted)}"
-                                    for what, was, wanted in zip(Ended._fields, ended, right) if was != wanted))
+                                    for what, was, wanted in zip(Ended._fields, found, right) if was != wanted))
 
     def expect(self, name, *words, status=0, out="", error="", **how):
         """One call, its status, and all of its output and of its standard error."""
@@ -94,17 +75,13 @@ class Check:
         """A fault that is found before anything is written, and its line."""
         self.expect(name, *words, status=1, error=f"{line}\n", **how)
 
-    def expect_file_fault(self, name, text, line, *words):
-        """A fault of the trace or of the journal in the file that the last word names."""
-        self.expect_fault(name, line, *words, self.file("file", text), typed="show\n")
-
     def expect_usage_error(self, name, *words, error=None):
         """A usage error: status 2, nothing on the output, and a text of its own on standard error, which is there to its
         end; or this text, whole."""
-        ended = self.call(*words, stdin=self.trace)
-        if error is None and re.fullmatch(rb"error: .+\n\nFor more information, try '--help'\.\n", ended.error, re.DOTALL):
-            error = ended.error
-        self.compare(name, ended, Ended(2, b"", octets(error or "error: ..\n\nFor more information, try '--help'.\n")))
+        found = self.call(*words, stdin=self.trace)
+        if error is None and re.fullmatch(rb"error: .+\n\nFor more information, try '--help'\.\n", found.error, re.DOTALL):
+            error = found.error
+        self.compare(name, found, Ended(2, b"", octets(error or "error: ..\n\nFor more information, try '--help'.\n")))
 
     def expect_full(self, name, *words, **how):
         """A call whose output takes nothing."""
@@ -113,24 +90,16 @@ class Check:
 
     def answer(self, name, *words, seconds=SECONDS_OF_A_LONG_CALL, **how):
         """The output of a call that ends well and reports nothing."""
-        ended = self.call(*words, seconds=seconds, **how)
-        self.compare(name, ended, Ended(0, ended.out, b""))
-        return ended.out
+        found = self.call(*words, seconds=seconds, **how)
+        self.compare(name, found, Ended(0, found.out, b""))
+        return found.out
 
     def expect_same(self, name, answer, right):
         """An answer that was worked out otherwise."""
-        self.tried += 1
-        if octets(answer) != octets(right):
-            self.fail(name, f"this is the answer\n{shown(octets(answer))}\nwhere this is right:\n{shown(octets(right))}")
+        self.compare(name, Ended(0, octets(answer), b""), Ended(0, octets(right), b""))
 
 
 def shown(value):
     """The beginning of what a call printed, as text."""
     text = value.decode(errors="replace") if isinstance(value, bytes) else str(value)
     return text if len(text) < 3000 else f"{text[:1500]}\n.. {len(text)} characters ..\n{text[-1000:]}"
-
-
-def skewed_keys(count, keys, seed=0):
-    """Accesses of which small keys come more often: which one comes is as likely as one over its number."""
-    rng = random.Random(seed)
-    return [int((keys + 1) ** rng.random()) for _ in range(count)]

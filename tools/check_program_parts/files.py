@@ -5,9 +5,9 @@ import shutil
 import subprocess
 import time
 
-from checks import patience
+from checks import Ended, patience
 
-from .calls import HEADER, PARTING, RECORDED, SECONDS, Ended, lines, part, shown
+from .calls import HEADER, PARTING, RECORDED, SECONDS, lines, part, shown
 
 # A put, and the maintenance that it brings, cut off after four steps.
 CUT = """cachesim journal 2
@@ -60,6 +60,7 @@ def streams(check):
         check.compare("a fault to a full standard error", check.call(*run, typed="x\n", stderr=full), Ended(1, b"", b""))
     check.expect_full("help to a full output", "--help")
     check.expect_full("a report to a full output", *run, stdin=check.trace)
+    check.expect_full("a sample to a full output", "sample", "--rate", "1/2", typed=lines(*range(1, 21)))
     check.expect_full("answers to a full output", "debug", *PARTING, "--trace", check.trace, typed="part\n")
     check.expect_full("a cut journal to a full output", "drive", *SINGLE, "--workers", 1, "--limit", 4, typed="1\n")
 
@@ -105,7 +106,8 @@ def files(check):
 def file_faults(check):
     """What is wrong with the file that the words name."""
     replay = "replay", *SINGLE, "--journal"
-    check.expect_file_fault("a faulty trace in a file", "1\n12a\n", "fault: BadNumber line 2", "debug", *PARTING, "--trace")
+    check.expect_fault("a faulty trace in a file", "fault: BadNumber line 2", "debug", *PARTING, "--trace",
+                       check.file("file", "1\n12a\n"), typed="show\n")
     for name, text, line in (
             ("an empty journal", "", "Header"), ("a version that there is not", "cachesim journal 9\n", "Header"),
             ("a journal without its end", "cachesim journal 2\n", "Unended"),
@@ -113,9 +115,9 @@ def file_faults(check):
             ("a key with a zero in front", "cachesim journal 2\n0 put 01 = added 0\nsteps 1\n", "Line step 1"),
             ("a false reply", "cachesim journal 2\n0 look 1 = hit 0\nsteps 1\n", "FalseReply step 1"),
             ("a step that is not accepted", "cachesim journal 2\n1 drainread 0 = empty\nsteps 1\n", "NotNow step 1")):
-        check.expect_file_fault(name, text, f"fault: {line}", *replay)
-    check.expect_file_fault("a journal over its limit", ROUND, "fault: JournalFull step 4", "replay", *SINGLE, "--limit", 3,
-                            "--journal")
+        check.expect_fault(name, f"fault: {line}", *replay, check.file("file", text), typed="show\n")
+    check.expect_fault("a journal over its limit", "fault: JournalFull step 4", *replay, check.file("file", ROUND), "--limit", 3,
+                       typed="show\n")
 
 
 @part(2)
@@ -123,41 +125,6 @@ def answers(check):
     """The commands on standard input."""
     journal, cut = check.file("journal", ROUND), check.file("cut", CUT)
     debug, replay = ("debug", *PARTING, "--trace", check.trace), ("replay", *SINGLE, "--journal", journal)
-    check.expect("answers about a trace", *debug, typed="part\ngoto 5\nback 1\nshow\nwindow\nback 5\ngoto 0\nbreak part\nrun\nrun\njump\n",
-                 out="""part 5
-at 5
-at 4
-a lru hits 1 misses 3 evictions 1 rejections 0
-a holds 2 3
-b slru hits 1 misses 3 evictions 1 rejections 0
-b holds 3 1
-a lru window none
-b slru window none
-fault: PastStart
-at 0
-ok
-stop part
-at 5
-fault: PastEnd
-fault: Command
-""")
-    check.expect("answers about a journal", *replay, typed="back 3\nshow\nbreak drop\nrun\nstep 1\n", out="""at 6
-drain toidle
-holder 0 writes 127
-next 1
-table 1:0
-window 1:0
-probation
-protected
-stripe 0
-writes
-age 1 halvings 0
-hits 0 misses 1 kept 0 full 0 lost 0 added 1 updated 0 refused 0 evictions 0 rejections 0 begun 1 busy 0 removed 0
-ok
-end
-at 9
-fault: PastEnd
-""")
     check.expect("no commands", *debug)
     check.expect("no commands about a journal", *replay)
     check.expect_fault("blanks over the limit", "fault: TooLarge", *debug, typed=b"\n" + b" " * MOST_COMMANDS)
@@ -215,6 +182,6 @@ def threads(check):
     for name, out, *words in (("each policy", whole, "run", "--capacity", 3, *check.policies),
                               ("a sweep", sweep, "sweep", "--policy", "lru", 3, 4, 5)):
         for kilobytes in (10000, 20000, 40000, 80000):
-            ended = check.call(*words, stdin=check.trace, under=("bash", "-c", f'ulimit -v {kilobytes} && exec "$@"', "bash"))
-            right = Ended(0, out.encode(), b"") if ended.status == 0 else Ended(1, b"", b"fault: OutOfMemory\n")
-            check.compare(f"{name} in {kilobytes} KB", ended, right)
+            found = check.call(*words, stdin=check.trace, under=("bash", "-c", f'ulimit -v {kilobytes} && exec "$@"', "bash"))
+            right = Ended(0, out.encode(), b"") if found.status == 0 else Ended(1, b"", b"fault: OutOfMemory\n")
+            check.compare(f"{name} in {kilobytes} KB", found, right)

@@ -8,9 +8,9 @@ import threading
 import time
 from concurrent.futures import ThreadPoolExecutor
 
-from checks import patience
+from checks import Ended, octets, patience
 
-from .calls import SECONDS, Ended, octets, part
+from .calls import SECONDS, part
 from .workers import crowd
 
 # How long the trace rests in its middle: longer than the line waits, so that no machine is too fast for it.

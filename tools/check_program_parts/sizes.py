@@ -3,9 +3,9 @@ import itertools
 import random
 import re
 
-from checks import TOP
+from checks import TOP, Ended
 
-from .calls import COMPARE_HEADER, HEADER, INTERVALS_HEADER, PARTING, RECORDED, SECONDS_OF_A_LONG_CALL, Ended, lines, part
+from .calls import COMPARE_HEADER, HEADER, INTERVALS_HEADER, PARTING, RECORDED, SECONDS_OF_A_LONG_CALL, lines, part
 
 FILTERED = ("tinylfu-lru", "tinylfu-slru", "wtinylfu", "caffeine")
 ACCESSES_OF_RECORDED = 84333
@@ -160,14 +160,14 @@ def limits(check):
     with open(trace, "w", encoding="ascii") as file:
         for start in range(0, count, 10**6):
             file.write(lines(*range(start, min(count, start + 10**6))))
-    ended = check.call("run", "--capacity", capacity, *check.policies, stdin=trace, seconds=SECONDS_OF_A_LONG_CALL)
-    rows = [line.split(",") for line in ended.out.decode().splitlines()[1:]]
+    found = check.call("run", "--capacity", capacity, *check.policies, stdin=trace, seconds=SECONDS_OF_A_LONG_CALL)
+    rows = [line.split(",") for line in found.out.decode().splitlines()[1:]]
     for row in rows:
         # No key comes twice; a filter may let in one whose counters others have raised.
         if row[0] in FILTERED and 0 < int(row[6]) <= int(row[5]):
             row[6] = "some"
     wanted = [[it, capacity, count, 0, count, count - capacity, "some" if it in FILTERED else 0, "0.00"] for it in check.policies]
-    check.compare("the limits", Ended(ended.status, lines(*map(",".join, rows)).encode(), ended.error),
+    check.compare("the limits", Ended(found.status, lines(*map(",".join, rows)).encode(), found.error),
                   Ended(0, lines(*(",".join(map(str, row)) for row in wanted)).encode(), b""))
     how = {"stdin": trace, "seconds": SECONDS_OF_A_LONG_CALL}
     for policies, capacities in ((["lru"], range(capacity - 15, capacity + 1)), (["lru", "clairvoyant"], (capacity - 1, capacity))):

@@ -2,12 +2,11 @@
 read back by the program."""
 import re
 import shlex
-import subprocess
 import sys
 
-from checks import TOP, patience
+from checks import TOP, Ended, ended, skewed_keys
 
-from .calls import SECONDS_OF_A_LONG_CALL, Ended, lines, part, skewed_keys
+from .calls import SECONDS_OF_A_LONG_CALL, lines, part
 
 # How many steps of a cut journal are compared.
 COMPARED = 20000
@@ -21,9 +20,8 @@ def crowd(check, name, times=1):
 
 def check_walks(check, name, *words, typed=""):
     """What tools/check_walks says."""
-    call = [sys.executable, TOP / "tools/check_walks", *map(str, words)]
-    ended = subprocess.run(call, input=typed, capture_output=True, text=True, timeout=patience(SECONDS_OF_A_LONG_CALL), check=False)
-    check.compare(name, Ended(ended.returncode, b"", ended.stderr.encode()), Ended(0, b"", b""))
+    call = [sys.executable, TOP / "tools/check_walks", *words]
+    check.compare(name, ended(call, SECONDS_OF_A_LONG_CALL, typed), Ended(0, b"", b""))
 
 
 def steps_of(journal):
@@ -79,7 +77,7 @@ def workers(check):
         check.expect(f"a journal of {limit} steps", *alone, "--limit", limit, stdin=trace, status=1,
                      out=cut + f"steps {limit}\n".encode(), error="fault: JournalFull\n")
     defaults = check.answer("workers with the defaults", "drive", "--capacity", 50, stdin=trace)
-    check_walks(check, "two workers and four read buffers", trace, 2, 4, 50, typed=defaults.decode())
+    check_walks(check, "two workers and four read buffers", trace, 2, 4, 50, typed=defaults)
     check.expect("workers with the defaults, read back", "replay", "--capacity", 50, "--journal", check.file("default", defaults),
                  typed="save\n", out=defaults)
 
@@ -96,12 +94,12 @@ def full_journals(check):
 
 def full_journal(check, name, trace, workers, steps, *more):
     """A journal that is full: so many steps of walks, of which the first are compared, which are read back."""
-    ended = check.call("drive", "--workers", workers, "--capacity", 50, *more, stdin=trace, seconds=SECONDS_OF_A_LONG_CALL)
-    rows = ended.out.splitlines(keepends=True) or [b"none"]
-    check.compare(name, Ended(ended.status, rows[-1], ended.error), Ended(1, f"steps {steps}\n".encode(), b"fault: JournalFull\n"))
+    found = check.call("drive", "--workers", workers, "--capacity", 50, *more, stdin=trace, seconds=SECONDS_OF_A_LONG_CALL)
+    rows = found.out.splitlines(keepends=True) or [b"none"]
+    check.compare(name, Ended(found.status, rows[-1], found.error), Ended(1, f"steps {steps}\n".encode(), b"fault: JournalFull\n"))
     compared = min(steps, COMPARED)
     beginning = b"".join(rows[:compared + 1]).decode() + f"steps {compared}\n"
     check_walks(check, f"{name}, its walks", "--cut", trace, workers, 4, 50, typed=beginning)
-    answers = check.answer(f"{name}, read back", "replay", "--capacity", 50, "--journal", check.file("full", ended.out), *more,
+    answers = check.answer(f"{name}, read back", "replay", "--capacity", 50, "--journal", check.file("full", found.out), *more,
                            typed=lines("goto 0", f"goto {steps}", "save"))
-    check.expect_same(f"{name}, read back", answers, lines("at 0", f"at {steps}").encode() + ended.out)
+    check.expect_same(f"{name}, read back", answers, lines("at 0", f"at {steps}").encode() + found.out)

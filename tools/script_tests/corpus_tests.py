@@ -224,7 +224,7 @@ def has_reader(pipe):
     return True
 
 
-def check_ended_by(number, corpus, folder, environment, program):
+def end_by(number, corpus, folder, environment, program):
     """A run that a signal ends leaves its results whole and no job, and taken up again it gives the report of one that was
     not ended."""
     traces, how = known_traces(folder)[:2], {"cwd": folder, "env": environment}
@@ -247,20 +247,20 @@ def check_ended_by(number, corpus, folder, environment, program):
     expect("the report", *(run(corpus, "report", it, cwd=folder)[0] for it in ("out", "whole")))
 
 
-def check_ends(corpus, folder, program, *numbers):
+def end_each(corpus, folder, program, *numbers):
     for number, (name, environment) in zip(numbers, environments(folder)):
         place = folder / name
         place.mkdir()
-        check_ended_by(number, corpus, place, environment, program)
+        end_by(number, corpus, place, environment, program)
 
 
 def check_interrupt(corpus, folder, program):
     """One that the terminal sends, by each program that runs jobs."""
-    check_ends(corpus, folder, program, signal.SIGINT, signal.SIGINT)
+    end_each(corpus, folder, program, signal.SIGINT, signal.SIGINT)
 
 
 def check_termination(corpus, folder, program):
-    check_ends(corpus, folder, program, signal.SIGKILL, signal.SIGTERM)
+    end_each(corpus, folder, program, signal.SIGKILL, signal.SIGTERM)
 
 
 def place_of_server(name):
@@ -377,8 +377,6 @@ def check_slurm(corpus, folder, program):
     run(corpus, *words, "--out=here", *traces, status=1, cwd=folder)
     expect("the report", *(run(corpus, "report", it, cwd=folder)[0] for it in ("array", "here")))
 
-
-TESTS = [check_known_report, check_beside_reference, check_long, check_faults, check_interrupt, check_termination, check_hosts, check_slurm]
 
 MISTAKES = {
     "percentiles from outside": Mistake(check_known_report, "reductions.py", 'method="inclusive"', 'method="exclusive"'),

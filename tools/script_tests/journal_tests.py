@@ -123,8 +123,6 @@ def check_ways(journal, folder, _):
     expect_quiet_interrupt(journal, folder)
 
 
-TESTS = [check_counts, check_beside_replay, check_many, check_large, check_ways]
-
 MISTAKES = {
     "a journal cut short": Mistake(check_counts, "journal", "if self.version == 2 and not self.is_ended:", "if False:"),
     "columns that are not in line": Mistake(check_counts, "journal", "widths = [max(", "widths = [min("),

@@ -257,9 +257,6 @@ def check_pictures(plot, folder, _):
     expect("a PNG", picture[:8], b"\x89PNG\r\n\x1a\n")
 
 
-TESTS = [check_curves, check_dense, check_heights, check_marks, check_styles, check_refusals, check_files, check_intervals, check_comparisons,
-         check_below_optimal_intervals, check_sampled, check_unsafe_texts, check_pictures]
-
 MISTAKES = {
     "a row that hides another": Mistake(check_refusals, "curves.py", "other.begin < row.end if is_intervals else True", "False"),
     "slopes where steps are asked for": Mistake(check_curves, "plot", "(args.steps or places >= DENSE)", "places >= DENSE"),

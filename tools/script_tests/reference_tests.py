@@ -35,13 +35,11 @@ def check_beside_program(reference, _, program):
     expect_full_disk(reference, "run", *CACHE, "lru", typed="1\n")
 
 
-TESTS = [check_beside_program]
-
 MISTAKES = {
     "reports that may pass for the program's": Mistake(check_beside_program, "reference", "    print(NOTE, file=sys.stderr)\n", ""),
-    "a spread that is not handed on": Mistake(check_beside_program, "reference", "**vars(args)}", '**vars(args), "spread": "mixed"}'),
-    "the second policy as the first": Mistake(check_beside_program, "reference", "reference.compare(keys, args.first, args.second",
-                                              "reference.compare(keys, args.second, args.first"),
-    "a sample by one seed": Mistake(check_beside_program, "reference", "args.seed)", "1)"),
+    "a spread that is not handed on": Mistake(check_beside_program, "reference", "**asked}", '**asked, "spread": "mixed"}'),
+    "the second policy as the first": Mistake(check_beside_program, "cache_reference/reports.py",
+                                              'options.get("first"), options.get("second")', 'options.get("second"), options.get("first")'),
+    "a sample by one seed": Mistake(check_beside_program, "cache_reference/reports.py", 'options["seed"])', "1)"),
     "more policies than a call takes": Mistake(check_beside_program, "reference", "> MAX_POLICIES", "> 99"),
 }

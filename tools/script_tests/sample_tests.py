@@ -61,8 +61,6 @@ def check_refusals(sample, folder, program):
         expect("a full disk", sampled("--rate", "1/2", typed="".join(f"{it}\n" for it in range(99)), status=1, stdout=full)[1], "fault: Write\n")
 
 
-TESTS = [check_blocks, check_rate, check_ranges, check_refusals]
-
 MISTAKES = {
     "a seed without effect": Mistake(check_blocks, "sample", '"--seed={args.seed}"', '"--seed=1"'),
     "another rate": Mistake(check_rate, "sample", '"--rate={args.rate}"', '"--rate=1/2"'),

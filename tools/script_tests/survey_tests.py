@@ -452,9 +452,6 @@ def check_drawn(survey, folder, program):
     expect_parts("nothing to draw", run(survey, "-", *words[2:], "picture.png", status=1, **how)[1], "no accesses to draw")
 
 
-TESTS = [check_best, check_nearly_best, check_windows, check_parts, check_columns, check_width, check_many_rows, check_progress, check_cliffs, check_reach, check_percent_of_reach, check_large, check_large_capacities, check_jumps_and_powers,
-         check_lost_row, check_ways, check_beside_run, check_after, check_sampled, check_sampled_once, check_best_of_sample, check_unsafe_name, check_kept_picture, check_drawn]
-
 MISTAKES = {
     "a row dropped": Mistake(check_best, "measures.py", "return sorted({capacity for _, capacity in rows})",
                              "return sorted({capacity for _, capacity in rows})[1:]"),
