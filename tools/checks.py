@@ -5,6 +5,7 @@ import re
 import signal
 import subprocess
 import sys
+import time
 from collections import namedtuple
 from pathlib import Path
 
@@ -52,6 +53,14 @@ def named_program(own="crates/cachesim/out/cachesim"):
 def patience(seconds):
     """How long a call is waited for that takes at most so many seconds of a quiet machine: longer on a busy one."""
     return seconds * (1 + os.getloadavg()[0] / os.cpu_count())
+
+
+def becomes(is_so, seconds):
+    """Whether something becomes so within so many seconds of a quiet machine."""
+    end = time.monotonic() + patience(seconds)
+    while not (found := is_so()) and time.monotonic() < end:
+        time.sleep(0.01)
+    return found
 
 
 class Wrong(Exception):

@@ -58,7 +58,6 @@ def row_of(where, number, line, is_intervals):
 
 
 def rows_of(text, where):
-    """The rows of one file, and its header."""
     header, *_ = text.splitlines() or [""]
     if header not in HEADERS:
         refuse(f"{where}line 1 is not the header of a sweep: {SWEEP}")

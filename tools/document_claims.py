@@ -19,10 +19,6 @@ NAMING_OTHERS = ("check_tools", "check_new_policy")
 NAMING = ("CONTRIBUTING.md", *(f"docs/{it}.md" for it in ("PROOFS", "MUTATIONS", "PROVING", "ARCHITECTURE", "DECISIONS")))
 
 
-def cells_of(line):
-    return [it.strip() for it in re.split(r"(?<!\\)\|", line)[1:-1]]
-
-
 class Sources:
     """The texts of the crates, by kind, and every word that stands in them."""
 
@@ -53,13 +49,12 @@ class Sources:
 
 
 def wrong_claims(top, sources):
-    """What is wrong in the tables of claims."""
     text, last, is_table, count = (top / "docs/PROOFS.md").read_text(), (None, None), False, 0
     for line in text.splitlines():
         is_table = line.startswith("|") and (is_table or line == CLAIMS)
         if not is_table or line == CLAIMS or line.startswith("|---"):
             continue
-        cells, count = cells_of(line), count + 1
+        cells, count = [it.strip() for it in re.split(r"(?<!\\)\|", line)[1:-1]], count + 1
         if len(cells) != 4:
             yield f"a row has {len(cells)} cells: {line[:60]}"
             continue
@@ -92,7 +87,6 @@ def wrong_names(top, sources, document):
 
 
 def wrong_links(top, document):
-    """The links of a document within the repository that lead nowhere."""
     for name, heading in LINK.findall(FENCED.sub("", (top / document).read_text())):
         file = (top / document).parent / name if name else top / document
         if "://" not in name and not file.exists():
@@ -127,14 +121,12 @@ def wrong_crates(top):
 
 
 def root_sentence(crate):
-    """The first sentence of a crate's root file."""
     root = next((it for name in ("lib", "main") if (it := crate / f"src/{name}.rt").exists()), None)
     text = re.match(r"(//!.*\n)*", root.read_text())[0] if root else ""
     return re.split(r"(?<=\.)\s", re.sub(r"\s*//!\s*", " ", text).strip())[0]
 
 
 def sentence_of(row):
-    """A row of a table as a sentence, without links."""
     text = re.sub(r" \(\[.*?\]\(.*?\)\)", "", row)
     return f"{text[0].upper()}{text[1:]}."
 

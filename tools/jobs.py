@@ -75,13 +75,11 @@ def lines_of(program, settings, names, jobs):
 
 
 def jobs_in_memory():
-    """How many jobs this machine has processors and memory for."""
     kilobytes = int(re.search(r"MemAvailable: +([0-9]+)", Path("/proc/meminfo").read_text())[1])
     return max(1, min(len(os.sched_getaffinity(0)), kilobytes * 1024 // JOB_MEMORY))
 
 
 def words_of_job(script, program, settings):
-    """The command of a job, without its traces."""
     words = [*script, "job", f"--program={program}", f"--format={settings['format']}"]
     words += [f"--policy={it}" for it in settings["policies"]]
     return words + [f"--percent={it}" for it in settings["percents"]]
@@ -105,11 +103,6 @@ def sent_files(folder, program):
             scripts.write(it, it.name)
     shutil.copy(program, folder / name / "cachesim")
     return name
-
-
-def words_of_sending(folder, name):
-    """What has GNU parallel bring the copies to each host before its first job, and take them away after the last."""
-    return [*(word for it in ("jobs.pyz", "cachesim") for word in ("--basefile", f"{folder}/./{name}/{it}")), "--cleanup"]
 
 
 def words_of_parallel(folder, job, names, jobs, hosts):
@@ -170,7 +163,6 @@ class Engine:
             self.end()
 
     def end(self):
-        """Ends the program, if it has not, and its jobs."""
         if self.label and self.process.poll() != 0:
             subprocess.run(["scancel", f"--name={self.label}"], check=False)
         for _ in range(2):
@@ -178,8 +170,3 @@ class Engine:
                 os.killpg(self.process.pid, signal.SIGTERM)
                 with contextlib.suppress(subprocess.TimeoutExpired):
                     self.process.wait(SECONDS_TO_END)
-
-
-def slurm_label():
-    """A name by which all tasks of a run can be cancelled."""
-    return f"corpus-{os.urandom(8).hex()}"

@@ -101,7 +101,6 @@ def highest_of(trace, largest, footprint):
 
 
 def rows_of(trace, policies, footprint, args, progress):
-    """The row of each policy at each capacity of the survey."""
     if not progress.begins("policies"):
         return {}
     capacities = capacities_of(trace, footprint, args, progress)
@@ -126,7 +125,6 @@ def capacities_of(trace, footprint, args, progress):
 
 
 def part_of(footprint, percent):
-    """The capacity that is so many percent of a footprint."""
     return max(1, int(footprint * percent / 100))
 
 

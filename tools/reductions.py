@@ -48,7 +48,6 @@ def shown(number):
 
 
 def table_of(columns):
-    """The rows of the table, its heads first."""
     yield HEADS
     for it in columns:
         if it.parts:

@@ -28,8 +28,6 @@ def rate(hits, accesses):
 
 
 class Program:
-    """The program, and what its calls print."""
-
     def __init__(self, path, tool):
         self.path, self.tool = path, tool
 
@@ -48,7 +46,6 @@ class Program:
             sys.exit(f"{self.tool}: {self.path} cannot be called: {fault.strerror}")
 
     def policies(self):
-        """The words of the policies that the program takes, in its order."""
         text = self.output(["sweep", "--help"], stdin=subprocess.DEVNULL).stdout.decode(errors="replace")
         words = re.search(r"--policy <POLICY>[^\[]*\[possible values: ([^]]*)\]", text)
         if not words:
@@ -119,7 +116,6 @@ class Trace:
         return self.converted(self.reports(policies, capacities, main, self.file.begun(), part), main, part)
 
     def converted(self, rows, main=None, part=()):
-        """What the program's reports stand for."""
         if self.warm_up:
             # What a policy hits in the warm-up does not depend on what follows. Belady's policy knows that, but it has the
             # most hits of all up to every place, so these too are those of the warm-up alone.
@@ -130,7 +126,6 @@ class Trace:
         return {at: self.estimated(row) for at, row in rows.items()}
 
     def reports(self, policies, capacities, main, trace, part=()):
-        """The program's reports of each policy at each capacity."""
         if not policies:
             return {}
         options = self.options

@@ -150,7 +150,6 @@ def named(names, most):
 
 
 def width_of(widths):
-    """How wide columns are together, with the gap after each."""
     return sum(width + GAP for width in widths)
 
 
@@ -199,7 +198,6 @@ def for_people(name, rows, notes):
 
 
 def text_of(args, surveys):
-    """The tables that were asked for."""
     tables = {name: list(TABLES[name](surveys)) for name in args.table}
     if args.csv:
         out = io.StringIO()

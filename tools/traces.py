@@ -52,7 +52,6 @@ class TraceFile:
 
 
 def copy_of(source, first):
-    """A copy of what a source has, unpacked."""
     copy = tempfile.TemporaryFile()
     if first.startswith(ZSTD):
         unpack_zstd(source, copy)
@@ -96,7 +95,6 @@ def number_of(field):
 
 
 def blocks_of(lines, form):
-    """The accesses of a trace."""
     if form == "lirs":
         return (block for block, _ in ranges_of(lines, form))
     return (block for first, count in ranges_of(lines, form) for block in range(first, first + count))

@@ -29,7 +29,6 @@ def row(counts, *begin):
 
 
 def run(keys, policies, capacities, options=DEFAULTS):
-    """The reports of each policy at each capacity."""
     return HEADER + "".join(row(counts_of(Counter(outcomes_of(policy, capacity, options, keys))), policy, capacity, len(keys))
                             for policy in policies for capacity in capacities)
 
@@ -70,7 +69,6 @@ def intervals(keys, policies, every, capacity, options=DEFAULTS):
 
 
 def hits_of(keys, first, second, capacity, options):
-    """Whether each of two policies hits, at each access."""
     return [*zip(*([it == "hit" for it in outcomes_of(policy, capacity, options, keys)] for policy in (first, second)))]
 
 

@@ -9,7 +9,6 @@ def is_sampled(block, inverse, seed):
 
 
 def sample(keys, inverse, seed):
-    """The sample as text, and what is said of it."""
     kept = [key for key in keys if is_sampled(key, inverse, seed)]
     said = f"{len(kept)} of {len(keys)} accesses, {len(set(kept))} blocks: --sampled 1/{inverse} --accesses {len(keys)}\n"
     return "".join(f"{key}\n" for key in kept), said

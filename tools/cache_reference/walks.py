@@ -19,7 +19,6 @@ def round_of(worker, stripes):
 
 
 def walk(worker, stripes, key):
-    """The acts of a worker's access to a key."""
     looked = (yield f"look {key}").split(" ")
     if looked[0] == "hit":
         answer = yield f"offer {worker % stripes} {key} {looked[1]}"

@@ -17,7 +17,6 @@ PARTS = {}
 
 
 def part(seconds=1):
-    """Makes a function a part of the check, under its own name."""
     def named(function):
         PARTS[function.__name__] = seconds, function
         return function
@@ -57,7 +56,6 @@ class Check:
         return ended([*under, self.program, *words], seconds, **given, **how)
 
     def compare(self, name, found, right):
-        """Compares how a call ended with what is right."""
         self.tried += 1
         if found != right:
             self.fail(name, "".join(f"\nthe {what} is\n{shown(was)}\nwhere this is right:\n{shown(wanted)}"
@@ -68,7 +66,6 @@ class Check:
         self.compare(name, self.call(*words, **how), Ended(status, octets(out), octets(error)))
 
     def expect_report(self, name, rows, *words, **how):
-        """The reports of a trace, as rows below the header."""
         self.expect(name, *words, out=HEADER + rows, **how)
 
     def expect_fault(self, name, line, *words, **how):
@@ -84,7 +81,6 @@ class Check:
         self.compare(name, found, Ended(2, b"", octets(error or "error: ..\n\nFor more information, try '--help'.\n")))
 
     def expect_full(self, name, *words, **how):
-        """A call whose output takes nothing."""
         with open("/dev/full", "wb") as full:
             self.compare(name, self.call(*words, stdout=full, **how), Ended(1, b"", b"fault: Write\n"))
 

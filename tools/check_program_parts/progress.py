@@ -45,7 +45,6 @@ class Shown:
         os.close(terminal)
 
     def feed(self, text):
-        """The trace in two halves, with a rest between them."""
         try:
             self.process.stdin.write(text[: len(text) // 2])
             self.process.stdin.flush()

@@ -15,7 +15,7 @@ from fractions import Fraction
 from pathlib import Path
 
 import cache_reference
-from checks import patience
+from checks import becomes
 from script_tests.frame import (NOTING, SECONDS, Mistake, Wrong, expect, expect_full_disk, expect_parts, fake, file_of, gnuplot_by,
                                 opened_by_a_reader, rows_of, run, without_texts)
 
@@ -186,34 +186,21 @@ def check_faults(corpus, folder, program):
     expect_parts("its result", held, '"accesses": 9')
 
 
-def becomes(is_so, seconds=SECONDS_TO_END):
-    end = time.monotonic() + patience(seconds)
-    while not is_so():
-        if time.monotonic() > end:
-            return False
-        time.sleep(0.1)
-    return True
-
-
 def waiting_run(corpus, folder, words, how):
     """A run whose other jobs have ended, and the end to write to of the pipe that the last one reads."""
     process = subprocess.Popen(["env", "--default-signal=INT,TERM", sys.executable, corpus, *words], stdin=subprocess.DEVNULL,
                                stdout=subprocess.PIPE, stderr=subprocess.PIPE, **how)
-    writer, end = opened_by_a_reader(folder / "pipe", process), time.monotonic() + patience(SECONDS)
-    while len(list((folder / "out/results").glob("*.json"))) < 2:
-        if time.monotonic() > end:
-            raise Wrong("its other jobs do not end")
-        time.sleep(0.02)
+    writer = opened_by_a_reader(folder / "pipe", process)
+    expect("its other jobs end", becomes(lambda: len(list((folder / "out/results").glob("*.json"))) >= 2, SECONDS), True)
     return process, writer
 
 
 def status_of(process):
     """The status of a run that was sent a signal."""
-    try:
-        return process.wait(patience(SECONDS_TO_END))
-    except subprocess.TimeoutExpired:
+    if not becomes(lambda: process.poll() is not None, SECONDS_TO_END):
         process.kill()
-        raise Wrong("it does not end") from None
+        raise Wrong("it does not end")
+    return process.returncode
 
 
 def has_reader(pipe):
@@ -321,7 +308,7 @@ def check_hosts(corpus, folder, program):
     words, (port,) = ("run", "--program", program, *BOTH, "--jobs=1"), free_ports(1)
     running, host = ssh_server(folder, port)
     with running:
-        if not becomes(lambda: is_open(port)) or subprocess.run([*host.split(), "true"], check=False).returncode:
+        if not becomes(lambda: is_open(port), SECONDS_TO_END) or subprocess.run([*host.split(), "true"], check=False).returncode:
             return pass_over("sshd that lets its user in")
         run(corpus, *words, "--hosts", file_of(folder, "both", f":\n{host}\n"), "--out=both.out", *traces[:3], **how)
         run(corpus, *words, "--hosts", file_of(folder, "other", f"{host}\n"), "--out=other.out", *traces, status=1, **how)
@@ -351,7 +338,7 @@ def slurm(folder):
                                                             ("log-file", "munged.log"), ("seed-file", "seed")))
     with server(at, "munged", "--foreground", "--force", *files), server(at, "slurmctld", "-D", **how), server(
             at, "slurmd", "-D", "-N", host, **how):
-        is_idle = becomes(lambda: b"idle" in subprocess.run(["sinfo"], capture_output=True, check=False, **how).stdout)
+        is_idle = becomes(lambda: b"idle" in subprocess.run(["sinfo"], capture_output=True, check=False, **how).stdout, SECONDS_TO_END)
         yield how["env"] if is_idle else None
 
 
@@ -372,7 +359,7 @@ def check_slurm(corpus, folder, program):
         process, writer = waiting_run(corpus, folder, [*words, "--slurm", "--out=out", *traces[:2], folder / "pipe"], how)
         process.send_signal(signal.SIGTERM)
         expect("the status", status_of(process), -signal.SIGTERM)
-        expect("its jobs end", becomes(lambda: not has_reader(folder / "pipe")), True)
+        expect("its jobs end", becomes(lambda: not has_reader(folder / "pipe"), SECONDS_TO_END), True)
         os.close(writer)
     run(corpus, *words, "--out=here", *traces, status=1, cwd=folder)
     expect("the report", *(run(corpus, "report", it, cwd=folder)[0] for it in ("array", "here")))
