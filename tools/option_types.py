@@ -3,21 +3,23 @@ import argparse
 from decimal import Decimal, InvalidOperation
 
 
-def number_in(low, high, text):
-    """A number that is typed, within these bounds."""
-    try:
-        number = Decimal(text)
-    except InvalidOperation:
-        number = None
-    if number is None or not number.is_finite() or not low <= number <= high:
-        raise argparse.ArgumentTypeError(f"{text} is not a number from {low} to {high}")
-    return number
-
-
-def whole_number(high):
-    """The type of whole numbers from 1 to this one."""
+def number_in(low, high):
+    """The type of numbers within these bounds."""
     def read(text):
-        if not (text.isascii() and text.isdigit() and 1 <= int(text) <= high):
-            raise argparse.ArgumentTypeError(f"{text} is not a whole number from 1 to {high}")
+        try:
+            number = Decimal(text)
+        except InvalidOperation:
+            number = None
+        if number is None or not number.is_finite() or not low <= number <= high:
+            raise argparse.ArgumentTypeError(f"{text} is not a number from {low} to {high}")
+        return number
+    return read
+
+
+def whole_number(high, low=1):
+    """The type of whole numbers within these bounds."""
+    def read(text):
+        if not (text.isascii() and text.isdigit() and low <= int(text[:99]) <= high):
+            raise argparse.ArgumentTypeError(f"{text} is not a whole number from {low} to {high}")
         return int(text)
     return read

@@ -25,10 +25,7 @@ static void report(char what)
     close(file);
 }
 
-__attribute__((constructor)) static void loaded(void)
-{
-    report('L');
-}
+__attribute__((constructor)) static void loaded(void) { report('L'); }
 
 static int is_refused(void)
 {
@@ -40,30 +37,15 @@ static int is_refused(void)
     return 1;
 }
 
-void *malloc(size_t size)
-{
-    return is_refused() ? NULL : __libc_malloc(size);
-}
+void *malloc(size_t size) { return is_refused() ? NULL : __libc_malloc(size); }
 
-void *calloc(size_t count, size_t size)
-{
-    return is_refused() ? NULL : __libc_calloc(count, size);
-}
+void *calloc(size_t count, size_t size) { return is_refused() ? NULL : __libc_calloc(count, size); }
 
-void *realloc(void *old, size_t size)
-{
-    return is_refused() ? NULL : __libc_realloc(old, size);
-}
+void *realloc(void *old, size_t size) { return is_refused() ? NULL : __libc_realloc(old, size); }
 
-void *memalign(size_t align, size_t size)
-{
-    return is_refused() ? NULL : __libc_memalign(align, size);
-}
+void *memalign(size_t align, size_t size) { return is_refused() ? NULL : __libc_memalign(align, size); }
 
-void *aligned_alloc(size_t align, size_t size)
-{
-    return memalign(align, size);
-}
+void *aligned_alloc(size_t align, size_t size) { return memalign(align, size); }
 
 int posix_memalign(void **result, size_t align, size_t size)
 {

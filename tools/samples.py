@@ -3,6 +3,8 @@ import argparse
 import re
 from collections import namedtuple
 
+from option_types import whole_number
+
 # What is known of a sample: the N of its rate 1/N, how many accesses the whole trace has, and how many it has itself.
 Sample = namedtuple("Sample", "inverse accesses kept", defaults=(None, None))
 SAID = re.compile(r"([0-9]+) of ([1-9][0-9]*) accesses, [0-9]+ blocks: --sampled (1/[0-9]+) --accesses \2")
@@ -39,15 +41,9 @@ def add_options(parser, what):
     parser.add_argument("--sampled", type=named, metavar="1/N",
                         help=f"{what} from a sample by tools/sample, of this rate: estimate the whole trace. In place of 1/N and "
                              "--accesses also a file with what tools/sample said of it, which has to fit exactly")
-    parser.add_argument("--accesses", type=number_of_accesses, metavar="N",
+    parser.add_argument("--accesses", type=whole_number(1 << 60), metavar="N",
                         help="with --sampled 1/N: the accesses of the whole trace. Refused where those of the sample times N are "
                              "over twice as many or under half, or where it has no fewer")
-
-
-def number_of_accesses(text):
-    if not (text.isascii() and text.isdigit() and 1 <= int(text[:99]) <= 1 << 60):
-        raise argparse.ArgumentTypeError(f"{text} is not a whole number from 1 to {1 << 60}")
-    return int(text)
 
 
 def settle(parser, args):

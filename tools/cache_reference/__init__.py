@@ -4,11 +4,10 @@ program, and is slow: each state is kept, so that going back is looking one up.
 """
 from .concurrent_cache import Shell
 from .debugger import debug
-from .faults import Fault
 from .journals import replay
 from .options import DEFAULTS, NUMBERS, POLICIES
 from .reports import answer, run, sweep
-from .traces import MAX_ACCESSES, MAX_LONG_ACCESSES, keys_of
+from .traces import MAX_ACCESSES, MAX_LONG_ACCESSES, Fault, keys_of
 from .walks import Worker, check_walks, drive_alone, journal, walk
 
 __all__ = ["DEFAULTS", "MAX_ACCESSES", "MAX_LONG_ACCESSES", "NUMBERS", "POLICIES", "Fault", "Shell", "Worker", "answer",

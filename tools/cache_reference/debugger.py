@@ -3,11 +3,10 @@ each step from one to the next did."""
 from collections import Counter
 
 from .caffeine import Caffeine
-from .faults import Fault
 from .options import DEFAULTS, opened
 from .policies import WindowTinyLfu
 from .reports import counts_of
-from .traces import BLANKS, keys_of, number_of
+from .traces import BLANKS, Fault, keys_of, number_of
 
 MAX_COMMANDS = 2**20
 MAX_BREAKPOINTS = 64

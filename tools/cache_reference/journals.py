@@ -1,8 +1,7 @@
 """Journals, and the debugger that replays one."""
 from .concurrent_cache import Shell
 from .debugger import Dialogue, events_of
-from .faults import Fault
-from .traces import ALL_BITS
+from .traces import ALL_BITS, Fault
 from .walks import journal
 
 ACTS = {"look": "K", "offer": "SKN", "lose": "SKN", "put": "K", "remove": "K", "afterread": "A", "afterwrite": "", "begin": "",

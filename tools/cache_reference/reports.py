@@ -1,8 +1,9 @@
 """Reports: of each policy at each capacity, of each interval of a trace, and of two policies access by access."""
 from collections import Counter
 
+from .frequency import mix
 from .options import DEFAULTS, opened
-from .samples import sample
+from .traces import ALL_BITS
 
 HEADER = "policy,capacity,accesses,hits,misses,evictions,rejections,rate\n"
 INTERVALS_HEADER = "policy,capacity,first,last,hits,misses,evictions,rejections,rate\n"
@@ -88,6 +89,13 @@ def compare(keys, first, second, capacity, options=DEFAULTS, every=None):
         numbers = [*places, *(counts[pair] for pair in ((True, True), (True, False), (False, True), (False, False)))]
         rows.append(f"{first},{second},{capacity},{','.join(map(str, numbers))}\n")
     return (COMPARE_INTERVALS_HEADER if every else COMPARE_HEADER) + "".join(rows)
+
+
+def sample(keys, inverse, seed):
+    """All accesses to one block in so many, by its hash, and what is said of them."""
+    kept = [it for it in keys if mix(it + (seed + 1) * 0x9E3779B97F4A7C15 & ALL_BITS) < (ALL_BITS + 1) // inverse]
+    said = f"{len(kept)} of {len(keys)} accesses, {len(set(kept))} blocks: --sampled 1/{inverse} --accesses {len(keys)}\n"
+    return "".join(f"{key}\n" for key in kept), said
 
 
 def answer(command, keys, options):

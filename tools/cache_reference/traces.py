@@ -1,10 +1,17 @@
-"""Traces: the accesses that a text stands for, or its first fault."""
-from .faults import Fault
+"""Traces: the accesses that a text stands for, or its first fault; faults as the program reports them."""
 
 BLANKS = b" \t\r"
 ALL_BITS = 2**64 - 1
 MAX_ACCESSES = 2**24
 MAX_LONG_ACCESSES = 2**32 - 1
+
+
+class Fault(Exception):
+    """A fault with the words of its line, and what is printed in spite of it."""
+
+    def __init__(self, words, printed="", status=1):
+        super().__init__(words)
+        self.words, self.printed, self.status = words, printed, status
 
 
 def number_of(field):

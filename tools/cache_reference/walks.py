@@ -1,6 +1,6 @@
 """Walks: what a worker does to access a key."""
 from .concurrent_cache import BUFFERED, Shell
-from .faults import Fault
+from .traces import Fault
 
 
 def round_of(worker, stripes):
