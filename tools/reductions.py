@@ -56,10 +56,6 @@ def table_of(columns):
             yield it.percent, it.policy, str(len(it.parts)), *map(shown, numbers), *wins
 
 
-def colour_of(policy):
-    return POLICIES[policy].colour if policy in POLICIES else "#888888"
-
-
 def axis_of(name, numbers):
     """The range and the marks of an axis around these numbers and 0."""
     low, high = min(0, *numbers), max(0, *numbers)
@@ -100,7 +96,7 @@ def boxes_of(columns, baseline, is_png):
 
 
 def box_of(at, policy):
-    colour = f"linecolor rgb '{colour_of(policy)}'"
+    colour = f"linecolor rgb '{POLICIES[policy].colour if policy in POLICIES else '#888888'}'"
     return (f"$policy{at} using 1:3:2:6:5 with candlesticks whiskerbars 0.5 {colour} title {quoted(policy)}, "
             f"$policy{at} using 1:4:4:4:4 with candlesticks linewidth 2 {colour} notitle, "
             f"$policy{at} using 1:7 with points pointtype 7 pointsize 0.6 linecolor rgb 'black' notitle")

@@ -98,7 +98,7 @@ class Dialogue:
             return self.set_breakpoint(words[1:])
         if len(words) == 1 and name in self.timeline.shown:
             return self.timeline.shown[name][self.at]
-        alone = {"run": self.run, "clear": self.clear, self.timeline.whole: self.whole}
+        alone = {"run": self.run, "clear": self.clear, self.timeline.whole: lambda: self.timeline.whole_answer(self.at)}
         return alone[name]() if len(words) == 1 and name in alone else "fault: Command\n"
 
     def move(self, name, number):
@@ -134,9 +134,6 @@ class Dialogue:
     def clear(self):
         self.breakpoints = []
         return "ok\n"
-
-    def whole(self):
-        return self.timeline.whole_answer(self.at)
 
 
 def debug(trace, commands, form, first, second, capacity, options=DEFAULTS):

@@ -4,7 +4,6 @@ import pty
 import re
 import signal
 import subprocess
-import threading
 import time
 from concurrent.futures import ThreadPoolExecutor
 
@@ -34,14 +33,12 @@ class Shown:
         self.terminal, self.whole, self.pieces, self.start, self.lag = terminal, whole, [], time.monotonic(), 0
         self.process = subprocess.Popen(words, stdin=subprocess.PIPE, stdout=subprocess.PIPE, stderr=error)
         os.close(error)
-        self.out, threads = b"", [threading.Thread(target=it) for it in (self.read_terminal, self.read_output)]
-        for it in threads:
-            it.start()
-        self.feed(text)
-        self.pace()
-        for it in threads:
-            it.join()
-        self.status = self.process.returncode
+        with ThreadPoolExecutor(2) as readers:
+            readers.submit(self.read_terminal)
+            out = readers.submit(self.process.stdout.read)
+            self.feed(text)
+            self.pace()
+        self.out, self.status = out.result(), self.process.returncode
         os.close(terminal)
 
     def feed(self, text):
@@ -59,9 +56,6 @@ class Shown:
 
     def numbers(self):
         return [int(it[2] or it[3]) for it in LINE.finditer(self.drawn())]
-
-    def seconds_of_last_line(self):
-        return max((seconds for seconds, piece in self.pieces if LINE.search(piece)), default=0)
 
     def pace(self):
         """Has the process work and rest in turn, until the line is cleared."""
@@ -85,9 +79,6 @@ class Shown:
                 self.pieces.append((time.monotonic() - self.start, more))
         except OSError:
             pass  # so a terminal ends whose other side is closed
-
-    def read_output(self):
-        self.out = self.process.stdout.read()
 
 
 def fault_of_lines(shown, fault, name, is_counted):
@@ -114,7 +105,7 @@ def times_of(found):
 def fault_of_pace(shown, first, last):
     """What is wrong with the times and the numbers of the lines that were drawn: these go from below one part of the whole to
     above another."""
-    seconds, numbers = shown.seconds_of_last_line(), shown.numbers()
+    seconds, numbers = max(at for at, piece in shown.pieces if LINE.search(piece)), shown.numbers()
     if not max(1, seconds - 2 - shown.lag) <= times_of(LINE.finditer(shown.drawn()))[-1] <= seconds:
         return f"the last line shows another time than {seconds:.1f} seconds"
     if len(numbers) > 4 and not (numbers[0] <= first * shown.whole and numbers[-1] >= last * shown.whole):

@@ -112,11 +112,6 @@ def linear(parts, percent):
     return ordered[low] + (ordered[min(low + 1, len(ordered) - 1)] - ordered[low]) * (place - low)
 
 
-def misses_by_reference(blocks, policies, capacity):
-    rows = rows_of(cache_reference.sweep(blocks, policies, [capacity]))
-    return {row["policy"]: int(row["misses"]) for row in rows}
-
-
 def check_beside_reference(corpus, folder, program):
     """The report of made traces beside the misses that the reference counts."""
     policies, lists = ["fifo", "lru", "sieve", "clairvoyant"], []
@@ -128,7 +123,8 @@ def check_beside_reference(corpus, folder, program):
     rows = {(row["% of footprint"], row["policy"]): row for row in rows_of(run(corpus, "report", "--csv", folder / "out")[0])}
     expect("the rows", list(rows), [(percent, policy) for percent in ("5", "50") for policy in policies])
     for percent in ("5", "50"):
-        counts = [misses_by_reference(blocks, policies, max(1, len(set(blocks)) * int(percent) // 100)) for blocks in lists]
+        counts = [{row["policy"]: int(row["misses"]) for row in rows_of(cache_reference.sweep(
+            blocks, policies, [max(1, len(set(blocks)) * int(percent) // 100)]))} for blocks in lists]
         for policy in policies:
             row, parts = rows[percent, policy], [100 - Fraction(100 * it[policy], it["fifo"]) for it in counts]
             wanted = [sum(parts) / len(parts), *(linear(parts, it) for it in (10, 25, 50, 75, 90))]
