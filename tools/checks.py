@@ -2,6 +2,7 @@
 import os
 import random
 import re
+import select
 import signal
 import subprocess
 import sys
@@ -109,6 +110,17 @@ def listed_policies(program):
     """The policies that a program lists."""
     listed = re.search(r"\[possible values: (lru, [^]]*)\]", call(program, "run", "--help")[0])
     return listed[1].split(", ") if listed else []
+
+
+def read_until(file, end, seconds):
+    """What is written to an open file, by its number, up to this end, or within so many seconds of a quiet machine."""
+    read, last = b"", time.monotonic() + patience(seconds)
+    while end not in read and (left := last - time.monotonic()) > 0:
+        if select.select([file], [], [], left)[0]:
+            read += (more := os.read(file, 1))
+            if not more:
+                break
+    return read
 
 
 def skewed_keys(count, keys, seed=0):

@@ -1,11 +1,9 @@
 """The streams and the files of a call, and the commands of the debuggers."""
 import os
-import select
 import shutil
 import subprocess
-import time
 
-from checks import Ended, patience
+from checks import Ended, patience, read_until
 
 from .calls import HEADER, PARTING, RECORDED, SECONDS, lines, part, shown
 
@@ -149,25 +147,13 @@ def expect_at_once(check, name, words, dialogue):
         for command, wanted in dialogue:
             child.stdin.write(f"{command}\n".encode())
             child.stdin.flush()
-            answer = answer_of(child.stdout)
+            answer = shown(read_until(child.stdout.fileno(), b"\n", SECONDS / 6).removesuffix(b"\n"))
             if answer != wanted:
                 check.fail(name, f"{command} is answered by {answer} where {wanted} is right")
                 child.kill()
                 return
         rest, error = child.communicate(b"quit\n", timeout=patience(SECONDS))
     check.compare(name, Ended(child.returncode, rest, error), Ended(0, b"", b""))
-
-
-def answer_of(stream):
-    """The line that a program writes next, or what is there of it after some seconds."""
-    answer, end = b"", time.monotonic() + patience(SECONDS / 6)
-    while not answer.endswith(b"\n") and (left := end - time.monotonic()) > 0:
-        if select.select([stream], [], [], left)[0]:
-            byte = os.read(stream.fileno(), 1)
-            if not byte:
-                break
-            answer += byte
-    return shown(answer.removesuffix(b"\n"))
 
 
 @part()
