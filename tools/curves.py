@@ -28,33 +28,23 @@ def number_of(text):
     return int(text)
 
 
-def comparisons_of(where, number, line):
-    """The two rows of a line of a comparison: the hits that each policy has alone."""
+def rows_of_line(where, number, line, header):
+    """The rows of a line: of a comparison one for each of both policies, with the hits that it has alone."""
+    heads, words, named = header.split(","), line.split(","), 2 if header == COMPARISONS else 1
     try:
-        first, second, *texts = line.split(",")
-        capacity, begin, end, both, first_only, second_only, neither = map(number_of, texts)
-    except ValueError:
-        refuse(f"{where}line {number} is no row of a comparison by interval: {line}")
-    accesses = both + first_only + second_only + neither
-    if not accesses or accesses != end - begin + 1:
-        refuse(f"{where}line {number} has counts that are not its accesses: {line}")
-    return [Row(number, policy, capacity, begin - 1, end, accesses, hits)
-            for policy, hits in ((first, first_only), (second, second_only))]
-
-
-def row_of(where, number, line, is_intervals):
-    try:
-        policy, *texts, _ = line.split(",")
-        capacity, *numbers = map(number_of, texts)
-        first, last, hits, misses, _, _ = numbers if is_intervals else (capacity, capacity, *numbers[1:])
+        of = {head: number_of(word) for head, word in zip(heads[named:], words[named:], strict=True) if head != "rate"}
     except ValueError:
         refuse(f"{where}line {number} is no row of a report: {line}")
-    accesses = hits + misses
-    if accesses != (last - first + 1 if is_intervals else numbers[0]):
+    begin, end = {SWEEP: ("capacity", "capacity"), INTERVALS: ("first", "last"), COMPARISONS: ("from", "to")}[header]
+    begin, end = of[begin] - (header != SWEEP), of[end]
+    alone = [of[it] for it in (("first_only", "second_only") if header == COMPARISONS else ("hits",))]
+    counted = sum(alone) + (of["both"] + of["neither"] if header == COMPARISONS else of["misses"])
+    accesses = of["accesses"] if header == SWEEP else end - begin
+    if counted != accesses:
         refuse(f"{where}line {number} has hits and misses that are not its accesses: {line}")
     if accesses == 0:
         refuse(f"{where}line {number} has no hit ratio, since it has no accesses: {line}")
-    return Row(number, policy, capacity, first - 1 if is_intervals else first, last, accesses, hits)
+    return [Row(number, policy, of["capacity"], begin, end, accesses, hits) for policy, hits in zip(words, alone)]
 
 
 def rows_of(text, where):
@@ -62,10 +52,7 @@ def rows_of(text, where):
     if header not in HEADERS:
         refuse(f"{where}line 1 is not the header of a sweep: {SWEEP}")
     lines = [(number, line) for number, line in enumerate(text.splitlines(), 1) if line != header]
-    if header == COMPARISONS:
-        rows = [row for number, line in lines for row in comparisons_of(where, number, line)]
-    else:
-        rows = [row_of(where, number, line, header == INTERVALS) for number, line in lines]
+    rows = [row for number, line in lines for row in rows_of_line(where, number, line, header)]
     if not rows:
         refuse(f"{where}there are no reports in it")
     for row in rows:

@@ -33,23 +33,6 @@ def journal(lines):
     return "cachesim journal 2\n" + "".join(line + "\n" for line in lines) + f"steps {len(lines)}\n"
 
 
-def drive_alone(keys, capacity, stripes, limit, main, spread):
-    """The journal of one worker, who alone can make but one."""
-    shell, lines = Shell(capacity, stripes, main, spread), []
-    for key in keys:
-        acts, reply = walk(0, stripes, key), None
-        while True:
-            try:
-                act = acts.send(reply)
-            except StopIteration:
-                break
-            if len(lines) == limit:
-                raise Fault("JournalFull", journal(lines))
-            reply = shell.step(0, act)
-            lines.append(f"0 {act} = {reply}")
-    return journal(lines)
-
-
 class Worker:
     """What a worker has still to do: the rest of a walk, and the keys of the walks to come."""
 
@@ -67,6 +50,18 @@ class Worker:
             return None
         self.walk = walk(self.number, self.stripes, key)
         return next(self.walk)
+
+
+def drive_alone(keys, capacity, stripes, limit, main, spread):
+    """The journal of one worker, who alone can make but one."""
+    shell, lines, worker = Shell(capacity, stripes, main, spread), [], Worker(0, stripes, keys)
+    while worker.act:
+        if len(lines) == limit:
+            raise Fault("JournalFull", journal(lines))
+        reply = shell.step(0, worker.act)
+        lines.append(f"0 {worker.act} = {reply}")
+        worker.act = worker.next_act(reply)
+    return journal(lines)
 
 
 def steps_of(lines):

@@ -1,7 +1,6 @@
 """Sizes that a user comes to: by contract the program may be out of memory at any of them."""
 import itertools
 import random
-import re
 
 from checks import TOP, Ended
 
@@ -11,42 +10,32 @@ FILTERED = ("tinylfu-lru", "tinylfu-slru", "wtinylfu", "caffeine")
 ACCESSES_OF_RECORDED = 84333
 
 
-def far(check, first, second, form):
-    """Two policies back and forth over the whole recorded trace, beside the same policies from its start."""
-    trace = RECORDED if form == "lirs" else TOP / "examples/sqlite.arc"
-    debug = "debug", "--capacity", 20, "--format", form, "--first", first, "--second", second, "--trace", trace
-    name, end = f"{first} and {second} over the recorded trace", ACCESSES_OF_RECORDED
-    found = check.answer(name, *debug, typed=lines(f"goto {end}", "show", "back 84000", "show", "step 84000", "show", "step 1",
-                                                   "goto 0", "goto 333", "show", "back 334")).decode()
-    early = check.answer(name, *debug, typed=lines("goto 333", "show")).decode()
+def there_and_back(check, first, second, trace, count, near, *cache):
+    """Two policies back and forth over a whole trace, beside the same policies from its start, and beside a run of both."""
+    debug = "debug", *cache, "--first", first, "--second", second, "--trace", trace
+    name, far = f"{first} and {second} over {count} accesses", count - near
+    found = check.answer(name, *debug, typed=lines(f"goto {count}", "show", f"back {far}", "show", f"step {far}", "show", "step 1",
+                                                   "goto 0", f"goto {near}", "show", f"back {near + 1}")).decode()
+    early = check.answer(name, *debug, typed=lines(f"goto {near}", "show")).decode()
     late = "".join(found.splitlines(keepends=True)[1:5])
     check.expect_same(f"{name}, back and forth", found,
-                      f"at {end}\n{late}at 333\n{early.partition(chr(10))[2]}at {end}\n{late}fault: PastEnd\nat 0\n{early}"
-                      "fault: PastStart\n")
-    expect_counts(check, name, late, "run", "--capacity", 20, "--format", form, first, second, stdin=trace)
-
-
-def expect_counts(check, name, shown, *run, **how):
-    """What a debugger of two policies shows at the end of a trace has the counts of a run of both."""
-    rows = check.answer(f"{name}, run", *run, **how).decode()
-    counted = [line.split(",") for line in rows.splitlines()[1:]]
+                      f"at {count}\n{late}{early}at {count}\n{late}fault: PastEnd\nat 0\n{early}fault: PastStart\n")
+    rows = check.answer(f"{name}, run", "run", *cache, first, second, stdin=trace).decode()
     wanted = [f"{letter} {row[0]} hits {row[3]} misses {row[4]} evictions {row[5]} rejections {row[6]}"
-              for letter, row in zip("ab", counted)]
-    check.expect_same(f"{name}, and a run", lines(*(it for it in shown.splitlines() if " hits " in it)), lines(*wanted))
+              for letter, row in zip("ab", (line.split(",") for line in rows.splitlines()[1:]))]
+    check.expect_same(f"{name}, and a run", lines(*(it for it in late.splitlines() if " hits " in it)), lines(*wanted))
 
 
 @part(6)
 def far_back(check):
     """The debugger of two policies over a long trace."""
-    far(check, "lru", "slru", "lirs")
-    if check.is_short:
-        return
-    far(check, "tinylfu-lru", "tinylfu-slru", "lirs")
-    far(check, "wtinylfu", "clairvoyant", "arc")
-    far(check, "caffeine", "wtinylfu", "lirs")
     rest = [it for it in check.policies if it not in ("lru", "slru", *FILTERED, "clairvoyant")]
-    for first, second in zip(rest[::2], rest[1::2]):
-        far(check, first, second, "lirs")
+    pairs = [("lru", "slru"), ("tinylfu-lru", "tinylfu-slru"), ("caffeine", "wtinylfu"), *zip(rest[::2], rest[1::2])]
+    for first, second in pairs[:check.size(len(pairs), 1)]:
+        there_and_back(check, first, second, RECORDED, ACCESSES_OF_RECORDED, 333, "--capacity", 20)
+    if not check.is_short:
+        there_and_back(check, "wtinylfu", "clairvoyant", TOP / "examples/sqlite.arc", ACCESSES_OF_RECORDED, 333, "--capacity", 20,
+                       "--format", "arc")
 
 
 @part(20)
@@ -56,14 +45,8 @@ def large_caches(check):
     dice = random.Random(7)
     trace = check.file("hit", lines(*(int(hot * dice.random() ** 2) if dice.random() < 0.5 else hot + at % loop
                                       for at in range(count))))
-    near, far_from = 2 * count // 7, 5 * count // 7
-    typed = lines(f"goto {count}", "show", f"back {far_from}", "show", f"step {far_from}", "show", f"goto {near}", "show", "goto 0")
     for first, second in (("clock", "sieve"), ("s3-fifo", "2q"), ("arc", "wtinylfu")):
-        name = f"large caches of {first} and {second}"
-        found = check.answer(name, "debug", "--capacity", capacity, "--first", first, "--second", second, "--trace", trace, typed=typed)
-        shown = re.split(r"^at \d+\n", found.decode(), flags=re.MULTILINE)[1:]
-        check.expect_same(f"{name}, there and back", str(shown[2:] == [*shown[:2], ""]), "True")
-        expect_counts(check, name, shown[0], "run", "--capacity", capacity, first, second, stdin=trace)
+        there_and_back(check, first, second, trace, count, 2 * count // 7, "--capacity", capacity)
 
 
 @part(6)

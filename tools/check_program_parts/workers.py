@@ -84,22 +84,17 @@ def workers(check):
 
 @part(20)
 def full_journals(check):
-    """Journals of workers that are full, one of them at the default limit."""
-    longer = crowd(check, "longer", 3)
-    full_journal(check, "a full journal of two workers", longer, 2, 2000, "--limit", 2000)
-    # Alone: on a busy machine each turn that passes from one of two workers to the other takes a tenth of a millisecond.
-    if not check.is_short:
-        full_journal(check, "a journal at the default limit", longer, 1, 2**20)
-
-
-def full_journal(check, name, trace, workers, steps, *more):
-    """A journal that is full: so many steps of walks, of which the first are compared, which are read back."""
-    found = check.call("drive", "--workers", workers, "--capacity", 50, *more, stdin=trace, seconds=SECONDS_OF_A_LONG_CALL)
-    rows = found.out.splitlines(keepends=True) or [b"none"]
-    check.compare(name, Ended(found.status, rows[-1], found.error), Ended(1, f"steps {steps}\n".encode(), b"fault: JournalFull\n"))
-    compared = min(steps, COMPARED)
-    beginning = b"".join(rows[:compared + 1]).decode() + f"steps {compared}\n"
-    check_walks(check, f"{name}, its walks", "--cut", trace, workers, 4, 50, typed=beginning)
-    answers = check.answer(f"{name}, read back", "replay", "--capacity", 50, "--journal", check.file("full", found.out), *more,
-                           typed=lines("goto 0", f"goto {steps}", "save"))
-    check.expect_same(f"{name}, read back", answers, lines("at 0", f"at {steps}").encode() + found.out)
+    """Journals that are full, one at the default limit: so many steps of walks, the first of which are compared."""
+    trace = crowd(check, "longer", 3)
+    # The longer one of one worker: on a busy machine a turn that passes from one to the other takes a tenth of a millisecond.
+    for workers, steps, *more in ((2, 2000, "--limit", 2000), (1, 2**20))[:check.size(2, 1)]:
+        name = f"a full journal of {steps} steps"
+        found = check.call("drive", "--workers", workers, "--capacity", 50, *more, stdin=trace, seconds=SECONDS_OF_A_LONG_CALL)
+        rows = found.out.splitlines(keepends=True) or [b"none"]
+        check.compare(name, Ended(found.status, rows[-1], found.error), Ended(1, f"steps {steps}\n".encode(), b"fault: JournalFull\n"))
+        compared = min(steps, COMPARED)
+        beginning = b"".join(rows[:compared + 1]).decode() + f"steps {compared}\n"
+        check_walks(check, f"{name}, its walks", "--cut", trace, workers, 4, 50, typed=beginning)
+        answers = check.answer(f"{name}, read back", "replay", "--capacity", 50, "--journal", check.file("full", found.out), *more,
+                               typed=lines("goto 0", f"goto {steps}", "save"))
+        check.expect_same(f"{name}, read back", answers, lines("at 0", f"at {steps}").encode() + found.out)
