@@ -95,8 +95,6 @@ def number_of(field):
 
 
 def blocks_of(lines, form):
-    if form == "lirs":
-        return (block for block, _ in ranges_of(lines, form))
     return (block for first, count in ranges_of(lines, form) for block in range(first, first + count))
 
 

@@ -20,49 +20,23 @@ For more information, try '--help'.
 # The blocks below 16777217 whose hash is below 2^44.
 FEW = (5876302, 6024624, 7203822, 7493493, 7752209, 8027875, 8701426, 9325862, 9567911, 11238764, 11928856, 12481084, 12566159,
        12659979, 13463424, 14228372, 16088728)
-# Words of which each call has something wrong.
-WRONG_WORDS = """
-walk
-run lru
-run --capacity 3
-run --capacity 0 lru
-run --capacity 1048577 lru
-run --capacity 3 --main 100 lru
-run --capacity 3 --small 0 s3-fifo
-run --capacity 3 --small 100 s3-fifo
-run --capacity 3 --in 0 2q
-run --capacity 3 --in 100 2q
-run --capacity 3 --out 0 2q
-run --capacity 3 --out 101 2q
-run --capacity 3 mru
-run --capacity 3 --spread even lru
-run --capacity 3 --batch 0 lru
-run --capacity 3 --batch 65537 lru
-run --capacity 3 --long=3 lru
-sweep --policy lru
-sweep 3
-sweep --policy lru 3 0
-sweep --policy lru --capacity 3 4
-part --capacity 2 --first lru
-compare --capacity 2 --second lru
-compare --first lru --second lru
-intervals --capacity 3 lru
-intervals --every 3 lru
-intervals --capacity 3 --every 3
-intervals --capacity 3 --every 0 lru
-intervals --capacity 3 --every 4294967296 --long lru
-debug --long --trace none --capacity 3 --first lru --second lru
-drive --long --capacity 3
-sample
-sample --rate 8
-sample --rate 1/1
-sample --rate 1/3
-sample --rate 1/2097152
-sample --rate 1/8 --seed -1
-sample --rate 1/8 --seed 18446744073709551616
-sample --rate 1/8 --capacity 3
-sample --rate 1/8 --long
-"""
+# Words of which each call has something wrong, by the subcommand.
+WRONG_WORDS = {
+    "walk": [""],
+    "run": ["lru", "--capacity 3", "--capacity 0 lru", "--capacity 1048577 lru", "--capacity 3 --main 100 lru",
+            "--capacity 3 --small 0 s3-fifo", "--capacity 3 --small 100 s3-fifo", "--capacity 3 --in 0 2q",
+            "--capacity 3 --in 100 2q", "--capacity 3 --out 0 2q", "--capacity 3 --out 101 2q", "--capacity 3 mru",
+            "--capacity 3 --spread even lru", "--capacity 3 --batch 0 lru", "--capacity 3 --batch 65537 lru",
+            "--capacity 3 --long=3 lru"],
+    "sweep": ["--policy lru", "3", "--policy lru 3 0", "--policy lru --capacity 3 4"],
+    "part": ["--capacity 2 --first lru"],
+    "compare": ["--capacity 2 --second lru", "--first lru --second lru"],
+    "intervals": ["--capacity 3 lru", "--every 3 lru", "--capacity 3 --every 3", "--capacity 3 --every 0 lru",
+                  "--capacity 3 --every 4294967296 --long lru"],
+    "debug": ["--long --trace none --capacity 3 --first lru --second lru"],
+    "drive": ["--long --capacity 3"],
+    "sample": ["", "--rate 8", "--rate 1/1", "--rate 1/3", "--rate 1/2097152", "--rate 1/8 --seed -1",
+               "--rate 1/8 --seed 18446744073709551616", "--rate 1/8 --capacity 3", "--rate 1/8 --long"]}
 
 
 @part()
@@ -88,7 +62,8 @@ def words(check):
 @part()
 def usage_errors(check):
     """What is wrong with the words, each by itself."""
-    for call in WRONG_WORDS.split("\n"):
+    check.expect_usage_error("no words")
+    for call in (f"{sub} {words}" for sub, calls in WRONG_WORDS.items() for words in calls):
         check.expect_usage_error(f"the words '{call}'", *call.split())
     check.expect_usage_error("the text of a usage error", "run", "--capacity", 3, "--format", "csv", "lru", error="""\
 error: invalid value 'csv' for '--format <FORMAT>'
