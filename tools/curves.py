@@ -75,8 +75,7 @@ def refuse_hidden(rows, where, is_intervals):
 
 
 def estimated(row, inverse, accesses):
-    """What a row of a sweep of a sample, of one block in so many, says of the whole trace: as many times its misses at as
-    many times its capacity, and hits otherwise."""
+    """A row of a sample of one block in so many as one of the whole trace: as many times its misses and its capacity."""
     misses = min(accesses, (row.accesses - row.hits) * inverse)
     capacity = row.capacity * inverse
     return row._replace(capacity=capacity, begin=capacity, end=capacity, accesses=accesses, hits=accesses - misses)

@@ -102,8 +102,7 @@ def headings_of(document):
 
 
 def wrong_crates(top):
-    """Crates without their row of ARCHITECTURE, rows without a crate or in another order than crates.txt has, and rows that a
-    crate's root file says otherwise."""
+    """Crates without their row of ARCHITECTURE or with another, rows without a crate, and rows in another order."""
     text = (top / "docs/ARCHITECTURE.md").read_text().partition("\n## Crates\n")[2].partition("\n## ")[0]
     crates = [line.split(":")[0].split()[0] for line in (top / "crates.txt").read_text().splitlines() if re.match(r"\w", line)]
     rows = re.findall(r"^\| `(\w+)` \| (.*) \|$", text, re.M)

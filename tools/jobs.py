@@ -93,8 +93,7 @@ def has_gnu_parallel():
 
 
 def sent_files(folder, program):
-    """The name of a folder in this one, which other hosts get too, with copies of the program and, in one file, of all that a
-    job imports."""
+    """The name of a folder in this one, which other hosts get too, with the program and all that a job imports."""
     name, tools = f"corpus-{os.urandom(8).hex()}", Path(__file__).resolve().parent
     (folder / name).mkdir()
     with zipfile.ZipFile(folder / name / "jobs.pyz", "w") as scripts:

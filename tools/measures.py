@@ -242,8 +242,7 @@ def above(capacity):
 
 
 def is_jump(points, low, high):
-    """Whether the hit ratio changes by so many points at least; of a small cache, where one entry is many percent, a rise
-    has to be steep too."""
+    """Whether the hit ratio changes by so many points; of a small cache a rise has to be steep too."""
     return rises_by(points, low, high) and is_steep(low, high) or high.hits < low.hits and rises_by(points, high, low)
 
 
@@ -268,16 +267,14 @@ def has_ratio(row, ratio):
 
 
 def bounds_of(known, ratio):
-    """The row of the smallest known capacity that reaches a ratio, if one does, and before it that of the next smaller
-    capacity, or of the largest one."""
+    """The smallest row that reaches a ratio, if one does, and before it the next smaller one, or the largest one."""
     reached = min((it for it, row in known.items() if has_ratio(row, ratio)), default=None)
     below = max((it for it in known if reached is None or it < reached), default=None)
     return known.get(below), known.get(reached)
 
 
 def tries_between(below, reached, ratio):
-    """The capacities to try next between one that does not reach a ratio and one that does: none where they differ by
-    one percent or by one entry."""
+    """The capacities to try next between both: none where they differ by one percent or by one entry."""
     if not reached:
         return []
     low, high = below.capacity if below else 0, reached.capacity
@@ -304,8 +301,7 @@ def powers_of(trace, rows, policies, progress):
 
 
 def drawn_of(survey, progress):
-    """The rows of a picture: every policy at capacities in equal ratios, from 1 percent of the footprint to all of it, and at
-    both ends of each jump that was found."""
+    """Every policy at capacities in equal ratios from 1 percent of the footprint on, and at both ends of each jump."""
     progress.begins("picture")
     top = min(survey.footprint, MAX_CAPACITY)
     low = max(1, survey.footprint // 100)

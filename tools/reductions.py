@@ -37,8 +37,7 @@ def columns_of(results, settings, baseline):
 
 
 def percentiles_of(parts):
-    """The 10th, 25th, 50th, 75th and 90th percentile: the lowest is the 0th and the highest the 100th, and between two
-    neighbours they go linearly."""
+    """From the lowest, the 0th, to the highest, the 100th; between two neighbours they go linearly."""
     cuts = statistics.quantiles(parts if len(parts) > 1 else parts * 2, n=20, method="inclusive")
     return [cuts[at] for at in (1, 4, 9, 14, 17)]
 
@@ -70,8 +69,7 @@ def frame_of(title, is_png):
 
 
 def boxes_of(columns, baseline, is_png):
-    """For gnuplot: for each size a row of policies, each a box from P25 to P75 with the median, whiskers to P10 and P90, and a
-    dot for the mean."""
+    """For gnuplot: boxes from P25 to P75 with the median, whiskers to P10 and P90, and a dot for the mean."""
     drawn = [it for it in columns if it.parts and it.policy != baseline]
     policies, percents = (list(dict.fromkeys(it)) for it in zip(*((it.policy, it.percent) for it in drawn)))
     wide = len(policies) + 1

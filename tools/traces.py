@@ -30,8 +30,7 @@ class Unreadable(Exception):
 
 
 class TraceFile:
-    """The text of a trace, which can be read again and again: the file itself, or an unpacked copy where it is packed or
-    comes by a pipe."""
+    """The text of a trace, which can be read again and again: the file, or an unpacked copy of it or of a pipe."""
 
     def __init__(self, name):
         try:

@@ -145,8 +145,7 @@ class S3Fifo(Demand):
 
 
 class TwoQ(Demand):
-    """A queue of new keys, in which a hit moves nothing, beside an Lru of keys that came back after they left it: a ghost
-    remembers them."""
+    """A queue of new keys, in which a hit moves nothing, beside an Lru of keys that came back after they left it."""
 
     def __init__(self, capacity, new=25, ghost=50):
         super().__init__(capacity)

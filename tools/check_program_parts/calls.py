@@ -73,8 +73,7 @@ class Check:
         self.expect(name, *words, status=1, error=f"{line}\n", **how)
 
     def expect_usage_error(self, name, *words, error=None):
-        """A usage error: status 2, nothing on the output, and a text of its own on standard error, which is there to its
-        end; or this text, whole."""
+        """Status 2, no output, and a text on standard error that is there to its end; or this text, whole."""
         found = self.call(*words, stdin=self.trace)
         if error is None and re.fullmatch(rb"error: .+\n\nFor more information, try '--help'\.\n", found.error, re.DOTALL):
             error = found.error

@@ -16,11 +16,7 @@ CUT = """cachesim journal 2
 steps 4
 """
 # A miss, whose write brings a whole round of maintenance.
-ROUND = """cachesim journal 2
-0 look 1 = miss
-0 put 1 = added 0
-0 afterwrite = drain
-0 begin = began
+ROUND = CUT.removesuffix("steps 4\n") + """\
 0 drainread 0 = empty
 0 drainwrite = applied 1 0
 0 drainwrite = empty
@@ -158,8 +154,7 @@ def expect_at_once(check, name, words, dialogue):
 
 @part()
 def threads(check):
-    """Actors and workers, each on a thread, which may not start where there is little memory: all of the output, or the
-    fault and none."""
+    """Threads that may not start where there is little memory: all of the output, or the fault and none."""
     drive = "drive", *SINGLE, "--workers", 1, "--limit"
     check.expect("a whole round", *drive, 9, "--spread", "plain", typed="1\n", out=ROUND)
     check.expect("a full journal", *drive, 4, typed="1\n", status=1, out=CUT, error="fault: JournalFull\n")

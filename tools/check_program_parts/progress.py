@@ -103,8 +103,7 @@ def times_of(found):
 
 
 def fault_of_pace(shown, first, last):
-    """What is wrong with the times and the numbers of the lines that were drawn: these go from below one part of the whole to
-    above another."""
+    """What is wrong with the times and the numbers: these go from below one part of the whole to above another."""
     seconds, numbers = max(at for at, piece in shown.pieces if LINE.search(piece)), shown.numbers()
     if not max(1, seconds - 2 - shown.lag) <= times_of(LINE.finditer(shown.drawn()))[-1] <= seconds:
         return f"the last line shows another time than {seconds:.1f} seconds"
