@@ -75,7 +75,7 @@ def refuse_hidden(rows, where, is_intervals):
 
 
 def estimated(row, inverse, accesses):
-    """A row of a sample of one block in so many as one of the whole trace: as many times its misses and its capacity."""
+    """A row of a sample of one block in so many as that of the whole trace: as many times the misses and the capacity."""
     misses = min(accesses, (row.accesses - row.hits) * inverse)
     capacity = row.capacity * inverse
     return row._replace(capacity=capacity, begin=capacity, end=capacity, accesses=accesses, hits=accesses - misses)

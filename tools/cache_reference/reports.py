@@ -79,7 +79,7 @@ def part(keys, first, second, capacity, options=DEFAULTS):
 
 
 def compare(keys, first, second, capacity, options=DEFAULTS, every=None):
-    """How many accesses hit in both, in the first, in the second and in neither; or those of each interval of so many."""
+    """How many accesses hit in both, in the first, in the second, in neither; or those of each interval of so many."""
     pairs, rows = hits_of(keys, first, second, capacity, options), []
     for start in range(0, len(pairs), every) if every else [0]:
         piece = pairs[start:start + every] if every else pairs

@@ -31,7 +31,7 @@ def steps_of(journal):
 
 
 def journal_of(check, name, trace, workers, capacity, stripes, main, spread, *more):
-    """Has the program read the whole journal of workers back and forth. Returns the line of it for tools/check_walks."""
+    """Has the program read the journal of workers back and forth. Returns the line of it for tools/check_walks."""
     cache = "--capacity", capacity, "--stripes", stripes, "--main", main, "--spread", spread, *more
     journal = check.answer(name, "drive", "--workers", workers, *cache, stdin=trace)
     path, steps = check.file(f"journal_of_{check.tried}", journal), steps_of(journal)

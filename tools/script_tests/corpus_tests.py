@@ -208,7 +208,7 @@ def has_reader(pipe):
 
 
 def end_by(number, corpus, folder, environment, program):
-    """A run that a signal ends leaves its results whole and no job; taken up again it gives the report of a whole run."""
+    """A run that a signal ends leaves whole results and no job; taken up again it gives the report of a whole run."""
     traces, how = known_traces(folder)[:2], {"cwd": folder, "env": environment}
     words = "run", "--program", str(program), "--jobs", "2", *BOTH, "--out"
     pipe = folder / "pipe"
