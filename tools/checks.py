@@ -31,7 +31,10 @@ def start(main, about=None):
                 main()
         finally:
             sys.stdout.flush()
-    except BrokenPipeError:
+    except BrokenPipeError as fault:
+        # What was found wrong is said all the same.
+        if isinstance(fault.__context__, SystemExit) and isinstance(fault.__context__.code, str):
+            print(fault.__context__.code, file=sys.stderr)
         os._exit(128 + signal.SIGPIPE)
 
 
