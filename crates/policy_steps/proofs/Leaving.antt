@@ -1,14 +1,14 @@
 -- A queue's oldest key leaves it, and what that leaves alone.
-use Rattle.std.proofs.Common.{◌≡◌, ℕ, zero, suc, ◌-◌, Option, Some, None, List, [], ◌∷◌, ap, ◌∙◌, refl}
+use Rattle.std.proofs.Common.{◌≡◌, ℕ, zero, suc, ◌-◌, ◌<◌, Option, Some, None, List, [], ◌∷◌, drop, ap, sym, ◌∙◌, refl}
 use Rattle.step_record.specs.declared.item.Item.{Item}
 use Rattle.queue_table.specs.declared.records.Entry.{Entry}
 use Rattle.queue_table.specs.Entries.{entry, occurrences, oldest_of}
-use Rattle.queue_table.specs.Queues.{Queues, with_queue, after_push}
+use Rattle.queue_table.specs.Queues.{QUEUES, Queues, with_queue, after_push}
 use Rattle.queue_moves.specs.declared.records.Run.{Run}
 use Rattle.queue_moves.specs.Moves.{turned, after_turn, after_turns, after_run, departed, leaving, after_leaving}
 use Rattle.queue_moves.specs.Tabled.{IsTabled}
 use Rattle.queue_moves.proofs.Laws.{first-other, off-after-send}
-use Rattle.queue_moves.proofs.Tabled.{oldest-gone}
+use Rattle.queue_moves.proofs.Tabled.{oldest-gone, turns-within}
 
 pub oldest-out : (s : Queues) → IsTabled s → (q : ℕ) (e : Entry) (l : List Entry) → s q ≡ e ∷ l → after_leaving (leaving q None) s ≡ with_queue q l s
 oldest-out s t q e l h = ap (λ o. departed None o s) (ap oldest_of h) ∙ oldest-gone s t q e l h
@@ -18,6 +18,14 @@ oldest-sent s t q to e l h = ap (λ o. departed (Some (to, 0)) o s) (ap oldest_o
 
 pub none-out : (s : Queues) (q : ℕ) → s q ≡ [] → after_leaving (leaving q None) s ≡ s
 none-out s q h = ap (λ o. departed None o s) (ap oldest_of h)
+
+-- whether it has a key or not
+pub any-out : (s : Queues) → IsTabled s → (q : ℕ) → q < QUEUES → after_leaving (leaving q None) s ≡ with_queue q (drop 1 (s q)) s
+any-out s t q low = at (s q) refl
+  where
+    at : (l : List Entry) → s q ≡ l → after_leaving (leaving q None) s ≡ with_queue q (drop 1 (s q)) s
+    at [] h = none-out s q h ∙ turns-within s t 0 q 0 low ∙ ap (λ l. with_queue q l s) (h ∙ ap (drop 1) (sym h))
+    at (e ∷ l) h = oldest-out s t q e l h ∙ ap (λ x. with_queue q (drop 1 x) s) (sym h)
 
 -- ---- an entry of other queues stays out of those that keys leave
 
