@@ -26,9 +26,9 @@ use Rattle.policy_steps.specs.Misses.{Leavers, no_leavers, one_leaver, after_lea
 use Rattle.policy_steps.specs.Planned.{IsPlannedBy}
 use Rattle.policy_steps.specs.S3Fifo.{SMALL, MAIN, GHOST, s3_fifo_of, promotions, gives_main, main_turns, joins, s3_fifo_miss, plan_at}
 use Rattle.policy_steps.specs.Theorems.{S3FifoIsPlanned}
-use Rattle.policy_steps.proofs.Counted.{counted-append, counted-with}
+use Rattle.policy_steps.proofs.Counted.{counted-append, keys-counted, counted-with}
 use Rattle.policy_steps.proofs.Ghosts.{leavers-low}
-use Rattle.policy_steps.proofs.Keys.{keys-counted, without-keys, without-counted, has-both, its-count}
+use Rattle.policy_steps.proofs.Keys.{without-keys, without-counted, has-both, its-count}
 use Rattle.policy_steps.proofs.Moving.{first-of, apart-first, AreLow, tabled-leavers}
 use Rattle.policy_steps.proofs.S3FifoMoves.{state_without, resident-count, IsPromoted, promotes, last_eviction, IsLeft, main-left, small-left}
 use Rattle.policy_steps.proofs.Turns.{turns-keep}
@@ -46,8 +46,8 @@ place-is false k ghost s h = rw h refl
 
 joined : (r : Bool) (k : ℕ) (u : Queues) → HasKeys u → has_key k (keys_of (u SMALL)) ≡ false → has_key k (keys_of (u MAIN)) ≡ false →
     s3_fifo_of (after_send (entry (item_of k) 0) (joins r) u) ≡ added r k (made (counted_keys (u SMALL)) (counted_keys (u MAIN)) (keys_without k (keys_of (u GHOST))))
-joined true k u h small main = rw (without-counted k (u SMALL) small, counted-append (entries_without (item_of k) (u MAIN)) (entry (item_of k) 0 ∷ []), without-counted k (u MAIN) main, without-keys k (u GHOST) (h GHOST)) refl
-joined false k u h small main = rw (counted-append (entries_without (item_of k) (u SMALL)) (entry (item_of k) 0 ∷ []), without-counted k (u SMALL) small, without-counted k (u MAIN) main, without-keys k (u GHOST) (h GHOST)) refl
+joined true k u h small main = rw (without-counted k (u SMALL) (h SMALL) small, counted-append (entries_without (item_of k) (u MAIN)) (entry (item_of k) 0 ∷ []), without-counted k (u MAIN) (h MAIN) main, without-keys k (u GHOST) (h GHOST)) refl
+joined false k u h small main = rw (counted-append (entries_without (item_of k) (u SMALL)) (entry (item_of k) 0 ∷ []), without-counted k (u SMALL) (h SMALL) small, without-counted k (u MAIN) (h MAIN) main, without-keys k (u GHOST) (h GHOST)) refl
 
 -- ---- which queues the plan names
 

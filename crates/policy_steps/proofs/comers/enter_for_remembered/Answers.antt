@@ -1,10 +1,11 @@
-use Rattle.std.proofs.Common.{nat_lt, Some, None, length, ◌∙◌, sym, arith}
+use Rattle.std.proofs.Common.{nat_lt, Some, None, length, ap, ◌∙◌, sym, arith}
 use Rattle.std.proofs.lemmas.Bool.{or_parts}
+use Rattle.queue_table.specs.Entries.{occurrences}
 use Rattle.queue_table.specs.Queues.{Queues}
 use Rattle.queue_table.specs.QueueTable.{queues}
 use Rattle.queue_moves.specs.Moves.{item_of, leaving, after_leaving}
 use Rattle.policy_steps.proofs.Coming.{comes-on}
-use Rattle.policy_steps.proofs.Leaving.{off-sent}
+use Rattle.policy_steps.proofs.Leaving.{none-left}
 use Rattle.policy_steps.proofs.comers.enter_for_remembered.Goals as goal
 
 pub enter-own-requires-clause-comes : goal.enter-own-requires-clause-comes
@@ -21,7 +22,8 @@ pub enter_for_oldest-requires-clause-off : goal.enter_for_oldest-requires-clause
 enter_for_oldest-requires-clause-off g c =
     let s : Queues = queues c.args.table.now in
     let new = (or_parts c.args.remembered (nat_lt (length (s c.args.into)) c.args.size) (sym c.ghost_keeps-keeps.ensures ∙ c.if-keeps.false)).0 in
-    off-sent (item_of c.args.key) c.args.from c.args.into 0 c.args.into s (queues c.send_oldest-first.new.self) c.send_oldest-first.ensures.left.after c.requires.off (c.requires.new new)
+    ap (λ (u : Queues). occurrences (item_of c.args.key) (u c.args.into)) c.send_oldest-first.ensures.left.after
+    ∙ none-left (item_of c.args.key) c.args.from (Some (c.args.into, 0)) s c.args.into c.requires.off (c.requires.new new)
 
 pub returns-then-keeps : goal.returns-then-keeps
 returns-then-keeps g c =
