@@ -16,7 +16,7 @@ use Rattle.queue_policies.specs.Ghost.{ghost_place_of}
 use Rattle.queue_policies.specs.S3Fifo.{S3FifoState, s3_fifo_residents, s3_fifo_main_size, main_eviction, small_eviction, most_moves, s3_fifo_room, s3_fifo_with_key, s3_fifo_with_count, hit_count, s3_fifo_act, IsS3Fifo}
 use Rattle.queue_policies.proofs.Residents.{times-none, no-times, brought-few}
 use Rattle.queue_policies.proofs.CountedKeys.{keys-times, count-append, keys-with}
-use Rattle.queue_policies.proofs.S3Fifo.{made, unmoved, join-times, room-made}
+use Rattle.queue_policies.proofs.S3Fifo.{unmoved, join-times, room-made}
 use Rattle.queue_moves.specs.declared.records.Run.{Run}
 use Rattle.queue_moves.specs.Moves.{item_of, standing, no_run, counts, goes, Plan, own_plan, after_run, after_runs, leaving, outcome_after, IsLowRun, IsLowOwn, IsLowPlan}
 use Rattle.queue_moves.specs.Tabled.{IsTabled, StandsAs, keys_of, HasKeys}
@@ -35,19 +35,12 @@ use Rattle.policy_steps.proofs.Turns.{turns-keep}
 
 -- ---- the key comes in
 
--- the state with the key in the queue that it joins
-abbrev added : Bool → ℕ → S3FifoState → S3FifoState
-added true k s = made s.small (s.main ++ uncounted_key k ∷ []) s.ghost
-added false k s = made (s.small ++ uncounted_key k ∷ []) s.main s.ghost
-
-place-is : (r : Bool) (k : ℕ) (ghost : List ℕ) (s : S3FifoState) → has_key k ghost ≡ r → added r k s ≡ s3_fifo_with_key (ghost_place_of k ghost) k s
-place-is true k ghost s h = rw h refl
-place-is false k ghost s h = rw h refl
-
-joined : (r : Bool) (k : ℕ) (u : Queues) → HasKeys u → has_key k (keys_of (u SMALL)) ≡ false → has_key k (keys_of (u MAIN)) ≡ false →
-    s3_fifo_of (after_send (entry (item_of k) 0) (joins r) u) ≡ added r k (made (counted_keys (u SMALL)) (counted_keys (u MAIN)) (keys_without k (keys_of (u GHOST))))
-joined true k u h small main = rw (without-counted k (u SMALL) (h SMALL) small, counted-append (entries_without (item_of k) (u MAIN)) (entry (item_of k) 0 ∷ []), without-counted k (u MAIN) (h MAIN) main, without-keys k (u GHOST) (h GHOST)) refl
-joined false k u h small main = rw (counted-append (entries_without (item_of k) (u SMALL)) (entry (item_of k) 0 ∷ []), without-counted k (u SMALL) (h SMALL) small, without-counted k (u MAIN) (h MAIN) main, without-keys k (u GHOST) (h GHOST)) refl
+joined : (r : Bool) (k : ℕ) (ghost : List ℕ) (u : Queues) (o : Outcome) (e : Outcome × S3FifoState) → has_key k ghost ≡ r → HasKeys u → has_key k (keys_of (u SMALL)) ≡ false → has_key k (keys_of (u MAIN)) ≡ false → IsLeft k u o e
+    → s3_fifo_of (after_send (entry (item_of k) 0) (joins r) u) ≡ s3_fifo_with_key (ghost_place_of k ghost) k e.1
+joined true k ghost u o e is z small main left =
+    rw (is, without-counted k (u SMALL) (z SMALL) small, counted-append (entries_without (item_of k) (u MAIN)) (entry (item_of k) 0 ∷ []), without-counted k (u MAIN) (z MAIN) main, without-keys k (u GHOST) (z GHOST), left.small, left.main, left.ghost) refl
+joined false k ghost u o e is z small main left =
+    rw (is, counted-append (entries_without (item_of k) (u SMALL)) (entry (item_of k) 0 ∷ []), without-counted k (u SMALL) (z SMALL) small, without-counted k (u MAIN) (z MAIN) main, without-keys k (u GHOST) (z GHOST), left.small, left.main, left.ghost) refl
 
 -- ---- which queues the plan names
 
@@ -82,10 +75,7 @@ module _ (part c k x : ℕ) (r : Bool) (s : Queues) (t : IsTabled s) (some : 1 �
   none-in l m h n = ap (has_key k) (sym (keys-counted l) ∙ ap counted.keys_of h) ∙ no-times k (counted.keys_of m) n
 
   abbrev IsMiss : Plan → Type 0
-  IsMiss p = IsPlannedBy p k s (λ x. s3_fifo_of) (s3_fifo_act part c k v) (has_key k (s3_fifo_residents v))
-
-  acts : s3_fifo_act part c k v ≡ (room.0, s3_fifo_with_key (ghost_place_of k v.ghost) k room.1)
-  acts = rw absent refl
+  IsMiss p = IsPlannedBy p k s (λ x. s3_fifo_of) (room.0, s3_fifo_with_key (ghost_place_of k v.ghost) k room.1) false
 
   -- a miss by the plan, once the queues that it leaves and its outcome are those of the definition
   brought : (early late : Run) (l : Leavers) (e : Outcome × S3FifoState) → IsLowRun early → IsLowRun late → AreLow l → room ≡ e
@@ -97,22 +87,17 @@ module _ (part c k x : ℕ) (r : Bool) (s : Queues) (t : IsTabled s) (some : 1 �
       let left : IsLeft k q (outcome_after l.first (after_runs p s)) room = subst (IsLeft k q (outcome_after l.first (after_runs p s))) (sym same) came in
       let both = keys-times k room.1.small room.1.main in
       record {
-        outcome = left.outcome ∙ ap (λ (a : Outcome × S3FifoState). a.0) (sym acts);
-        state = joined r k q (tabled-leavers l (after_runs p s) low_leavers (tabled-runs s t p low)).keys
-            (none-in (q SMALL) room.1.small left.small (omega (arith, none-after, both))) (none-in (q MAIN) room.1.main left.main (omega (arith, none-after, both)))
-            ∙ ap (added r k) (rw (left.small, left.main, left.ghost) refl)
-            ∙ place-is r k v.ghost room.1 is ∙ ap (λ (a : Outcome × S3FifoState). a.1) (sym acts);
-        hits = sym absent;
+        outcome = left.outcome;
+        state = joined r k v.ghost q _ room is (tabled-leavers l (after_runs p s) low_leavers (tabled-runs s t p low)).keys
+            (none-in (q SMALL) room.1.small left.small (omega (arith, none-after, both))) (none-in (q MAIN) room.1.main left.main (omega (arith, none-after, both))) left;
+        hits = refl;
         low = low;
       }
-
-  many : length (s SMALL) + length (s MAIN) ≡ length (s3_fifo_residents w)
-  many = sym (resident-count s)
 
   -- where there is room
   fits : nat_lt (length (s SMALL) + length (s MAIN)) c ≡ true → IsMiss (own_plan false (goes (joins r) 0) x)
   fits f =
-      brought no_run no_run no_leavers (outcome.Kept, w) (omega arith, omega arith) (omega arith, omega arith) (tt, tt) (rw (ap (λ n. nat_lt n c) (sym many) ∙ f) refl)
+      brought no_run no_run no_leavers (outcome.Kept, w) (omega arith, omega arith) (omega arith, omega arith) (tt, tt) (rw (ap (λ n. nat_lt n c) (resident-count s) ∙ f) refl)
       record { outcome = refl; small = refl; main = refl; ghost = refl }
 
   -- where there is none: once the promotions are made
@@ -127,7 +112,7 @@ module _ (part c k x : ℕ) (r : Bool) (s : Queues) (t : IsTabled s) (some : 1 �
 
   module _ (f : nat_lt (length (s SMALL) + length (s MAIN)) c ≡ false) where
     full : room ≡ last_eviction size k a
-    full = rw (ap (λ n. nat_lt n c) (sym many) ∙ f) promoted.comes
+    full = rw (ap (λ n. nat_lt n c) (resident-count s) ∙ f) promoted.comes
 
     main-evicts : gives_main size a ≡ true → IsMiss (run_plan (promotions size s) (main_turns a) (one_leaver (leaving MAIN None)) (goes (joins r) 0) x)
     main-evicts g =
@@ -151,9 +136,9 @@ module _ (part c k x : ℕ) (r : Bool) (s : Queues) (t : IsTabled s) (some : 1 �
         (small-left size k a r e first.1.0 a-tabled first.1.1 (ap (has_key k) ghost ∙ is) (apart-first k e.item.key (keys_of first.1.0) (ap (λ l. has_key k (keys_of l)) (sym first.1.1) ∙ none))
         (subst (λ l. length l ≤ size) (sym ghost) state.ghost_fits))
 
-  pub missed : IsMiss (s3_fifo_miss part c r x s)
-  missed =
-      cond_both (nat_lt (length (s SMALL) + length (s MAIN)) c) _ _ IsMiss fits (λ f. cond_both (gives_main size a) _ _ IsMiss (main-evicts f) (small-evicts f))
+  missed : IsPlannedBy (s3_fifo_miss part c r x s) k s (λ x. s3_fifo_of) (s3_fifo_act part c k v) (has_key k (s3_fifo_residents v))
+  missed = rw absent (
+    cond_both (nat_lt (length (s SMALL) + length (s MAIN)) c) _ _ IsMiss fits (λ f. cond_both (gives_main size a) _ _ IsMiss (main-evicts f) (small-evicts f)))
 
 -- ---- an access
 
