@@ -1,5 +1,5 @@
 -- The step of S3-FIFO, from what its calls ensure.
-use Rattle.std.proofs.Common.{◌≡◌, ℕ, ◌+◌, ◌-◌, ◌≤◌, Bool, false, nat_lt, Option, None, List, length, ap, ◌∙◌, sym, subst, refl, arith}
+use Rattle.std.proofs.Common.{◌≡◌, ℕ, ◌+◌, ◌-◌, ◌≤◌, Bool, false, nat_lt, Option, None, List, length, ap, ◌∙◌, subst, refl, arith}
 use Rattle.step_record.specs.declared.item.Item.{Item}
 use Rattle.queue_table.specs.declared.records.Entry.{Entry}
 use Rattle.queue_table.specs.declared.records.Found.{Found}
@@ -9,12 +9,12 @@ use Rattle.queue_table.specs.Queues.{Queues, queue_holding}
 use Rattle.queue_table.specs.QueueTable.{queues, spare, HoldsAt}
 use Rattle.queue_table.proofs.QueueLists.{absent}
 use Rattle.queue_moves.specs.declared.records.Run.{Run}
-use Rattle.queue_moves.specs.Moves.{item_of, standing_at, after_run, Plan}
+use Rattle.queue_moves.specs.Moves.{after_run, Plan}
 use Rattle.queue_moves.specs.Undoing.{IsRun}
 use Rattle.queue_moves.specs.Tabled.{IsTabled}
 use Rattle.queue_policies.specs.S3Fifo.{S3FifoState, s3_fifo_residents, s3_fifo_main_size, most_moves, IsS3Fifo}
 use Rattle.queue_policies.proofs.S3Fifo.{unmoved}
-use Rattle.policy_steps.specs.S3Fifo.{SMALL, MAIN, GHOST, s3_fifo_of, promotions, eviction_plan, s3_fifo_miss, plan_at, s3_fifo_plan}
+use Rattle.policy_steps.specs.S3Fifo.{SMALL, MAIN, GHOST, s3_fifo_of, promotions, eviction_plan, s3_fifo_miss}
 use Rattle.policy_steps.specs.S3FifoStep.{IsOutside}
 use Rattle.policy_steps.proofs.Coming.{comes-ran}
 use Rattle.policy_steps.proofs.Leaving.{off-run}
@@ -33,9 +33,6 @@ pub outside-ran : (r : Bool) (found : Option Found) (i : Item) (run : Run) (old 
 outside-ran r found i run old new from ran room others h =
     let off : (j : ℕ) → occurrences i (queues old j) ≡ 0 → occurrences i (queues new j) ≡ 0 = λ j. off-run i run SMALL j (queues old) (queues new) from ran.after h.small in
     record { comes = comes-ran found i run SMALL old new ran room others h.small h.comes; small = off SMALL h.small; main = off MAIN h.main; ghost = λ f. off GHOST (h.ghost f) }
-
-pub new-plan : (part c k x : ℕ) (s : Queues) → queue_holding (item_of k) s ≡ None → s3_fifo_miss part c false x s ≡ s3_fifo_plan part c k x s
-new-plan part c k x s none = ap (λ h. plan_at part c x (standing_at (item_of k) h s) s) (sym none)
 
 -- ---- room
 

@@ -15,6 +15,14 @@ by-plan plan p i x s t u r same is h = subst (λ v. IsAccessed (plan v) i x v u 
 pub still-none : (i : Item) (s t : Queues) → t ≡ s → queue_holding i s ≡ None → queue_holding i t ≡ None
 still-none i s t same none = subst (λ v. queue_holding i v ≡ None) (sym same) none
 
+-- by where it stands
+pub found-accessed : (plan : Option (ℕ × ℕ) → Plan) (i : Item) (x : ℕ) (s u : Queues) (r : Accessed) (at : Option (ℕ × ℕ)) → standing i s ≡ at → IsAccessed (plan at) i x s u r → IsAccessed (plan (standing i s)) i x s u r
+found-accessed plan i x s u r at h = subst (λ o. IsAccessed (plan o) i x s u r) (sym h)
+
+pub new-accessed : (plan : Option (ℕ × ℕ) → Queues → Plan) (i : Item) (x : ℕ) (s t u : Queues) (r : Accessed) → t ≡ s → queue_holding i s ≡ None → IsAccessed (plan None t) i x t u r → IsAccessed (plan (standing i s) s) i x s u r
+new-accessed plan i x s t u r same none h =
+    by-plan (λ v. plan (standing i v) v) (plan None t) i x s t u r same (ap (λ o. plan (standing_at i o t) t) (sym (still-none i s t same none))) h
+
 module _ (i : Item) (s : Queues) (room : Bool) (hit join : Own) (x : ℕ) (full : Plan) where
   abbrev plan : Option (ℕ × ℕ) → Plan
   plan o = resident_plan o room hit join x full

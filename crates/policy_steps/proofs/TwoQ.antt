@@ -4,7 +4,7 @@ use Rattle.std.proofs.lemmas.Bool.{cond_both, cases_Bool, cases_eq, eq-eqb, ne_e
 use Rattle.step_record.specs.Keys.{has_key, keys_without}
 use Rattle.queue_table.specs.declared.records.Entry.{Entry}
 use Rattle.queue_table.specs.Entries.{entry, oldest_of}
-use Rattle.queue_table.specs.Queues.{queue_holding, QUEUES, Queues, after_send}
+use Rattle.queue_table.specs.Queues.{QUEUES, Queues, after_send}
 use Rattle.queue_policies.specs.Ghost.{ghost_place_of}
 use Rattle.ghost_policies.specs.TwoQ.{TwoQState, two_q_residents, leaver_of_a1in, leaver_of_am, two_q_leaver, two_q_after_recall, two_q_after_eviction, two_q_after_join, two_q_outcome, two_q_act, IsTwoQ}
 use Rattle.ghost_policies.specs.declared.two_q.TwoQSizes.{TwoQSizes}
@@ -12,12 +12,12 @@ use Rattle.ghost_policies.specs.declared.two_q.TwoQLeaver.{TwoQLeaver}
 use Rattle.ghost_policies.specs.declared.two_q.TwoQLeaver.TheVariants.{NoLeaver, FromA1in}
 use Rattle.ghost_policies.proofs.ArcPlans.{none-out}
 use Rattle.ghost_policies.proofs.Weights.{has-append}
-use Rattle.queue_moves.specs.Moves.{item_of, standing, standing_at, leaving, after_leaving, evicted, outcome_after, stays, goes, own_plan}
+use Rattle.queue_moves.specs.Moves.{item_of, standing, leaving, after_leaving, evicted, outcome_after, stays, goes, own_plan}
 use Rattle.queue_moves.specs.Tabled.{HasKeys, IsTabled, keys_of, StandsAs}
 use Rattle.queue_moves.proofs.Tabled.{stands, stands-nowhere}
 use Rattle.policy_steps.specs.Planned.{IsPlannedBy}
 use Rattle.policy_steps.specs.Misses.{Leavers, no_leavers, one_leaver, leavers_for_ghost}
-use Rattle.policy_steps.specs.TwoQ.{A1IN, A1OUT, AM, two_q_of, gives_a1in, two_q_leavers, joins, two_q_miss, plan_at, two_q_plan}
+use Rattle.policy_steps.specs.TwoQ.{A1IN, A1OUT, AM, two_q_of, gives_a1in, two_q_leavers, joins, two_q_miss, plan_at}
 use Rattle.policy_steps.specs.Theorems.{TwoQIsPlanned}
 use Rattle.policy_steps.proofs.Ghosts.{leavers-low, leavers-gone, ghost-keys}
 use Rattle.policy_steps.proofs.Moving.{length-keys, keys-sent, left-keys, without-rest, without-drop, first-of, apart-first, own-low, AreLow, miss-low, tabled-leavers}
@@ -191,15 +191,3 @@ module _ (z : TwoQSizes) (c k x : ℕ) (s : Queues) (some : 1 ≤ c) (t : IsTabl
 
 pub planned : TwoQIsPlanned
 planned z c k x s some t i = planned-at z c k x s some t i (standing (item_of k) s) refl
-
--- ---- the plan, by the queue where the key stands
-
-module _ (z : TwoQSizes) (c k x q n : ℕ) (s : Queues) (at : standing (item_of k) s ≡ Some (q, n)) where
-  pub am-plan : q ≡ AM → two_q_plan z c k x s ≡ own_plan true (goes AM 0) x
-  am-plan e = ap (λ p. plan_at z c x p s) at ∙ rw (eq-eqb q AM e) refl
-
-  pub a1in-plan : q ≡ A1IN → two_q_plan z c k x s ≡ own_plan true stays x
-  a1in-plan e = ap (λ p. plan_at z c x p s) at ∙ rw e refl
-
-pub new-plan : (z : TwoQSizes) (c k x : ℕ) (s : Queues) → queue_holding (item_of k) s ≡ None → two_q_miss z c false x s ≡ two_q_plan z c k x s
-new-plan z c k x s none = ap (λ h. plan_at z c x (standing_at (item_of k) h s) s) (sym none)
