@@ -1,26 +1,27 @@
 -- 2Q's plan is its definition.
-use Rattle.std.proofs.Common.{◌≡◌, ℕ, ◌+◌, ◌<◌, ◌≤◌, Bool, true, false, cond, eqb, nat_lt, Option, Some, None, List, [], ◌∷◌, ◌++◌, length, drop, ap, ◌∙◌, sym, subst, refl, arith, inl, inr, length-append}
-use Rattle.std.proofs.lemmas.Bool.{cond_both, cases_Bool, cases_eq, eq-eqb, ne_eqb, ltb-true, ltb-false, eqb-true, or_cases}
+use Rattle.std.proofs.Common.{◌≡◌, ℕ, ◌+◌, ◌<◌, ◌≤◌, Bool, true, false, eqb, nat_lt, ◌||◌, ◌==◌, Option, Some, None, List, [], ◌∷◌, ◌++◌, length, drop, ap, ◌∙◌, sym, subst, refl, arith, inl, inr, length-append}
+use Rattle.std.proofs.lemmas.Bool.{cases_Bool, cases_eq, eq-eqb, ne_eqb, ltb-true, ltb-false, eqb-true, or_cases, eqb-false, or_parts}
 use Rattle.step_record.specs.Keys.{has_key, keys_without}
 use Rattle.queue_table.specs.declared.records.Entry.{Entry}
 use Rattle.queue_table.specs.Entries.{entry, oldest_of}
-use Rattle.queue_table.specs.Queues.{QUEUES, Queues, after_send}
+use Rattle.queue_table.specs.Queues.{with_queue, QUEUES, Queues, after_send}
 use Rattle.queue_policies.specs.Ghost.{ghost_place_of}
-use Rattle.ghost_policies.specs.TwoQ.{TwoQState, two_q_residents, leaver_of_a1in, leaver_of_am, two_q_leaver, two_q_after_recall, two_q_after_eviction, two_q_after_join, two_q_outcome, two_q_act, IsTwoQ}
+use Rattle.ghost_policies.specs.TwoQ.{TwoQState, two_q_residents, leaver_of_a1in, leaver_of_am, two_q_after_recall, two_q_after_eviction, two_q_after_join, two_q_outcome, two_q_act, IsTwoQ}
 use Rattle.ghost_policies.specs.declared.two_q.TwoQSizes.{TwoQSizes}
 use Rattle.ghost_policies.specs.declared.two_q.TwoQLeaver.{TwoQLeaver}
-use Rattle.ghost_policies.specs.declared.two_q.TwoQLeaver.TheVariants.{NoLeaver, FromA1in}
+use Rattle.ghost_policies.specs.declared.two_q.TwoQLeaver.TheVariants.{NoLeaver, FromA1in, FromAm}
 use Rattle.ghost_policies.proofs.ArcPlans.{none-out}
 use Rattle.ghost_policies.proofs.Weights.{has-append}
-use Rattle.queue_moves.specs.Moves.{item_of, standing, leaving, after_leaving, evicted, outcome_after, stays, goes, own_plan}
+use Rattle.queue_moves.specs.Moves.{item_of, standing, leaving, evicted, outcome_after, stays, goes, own_plan}
 use Rattle.queue_moves.specs.Tabled.{HasKeys, IsTabled, keys_of, StandsAs}
 use Rattle.queue_moves.proofs.Tabled.{stands, stands-nowhere}
 use Rattle.policy_steps.specs.Planned.{IsPlannedBy}
-use Rattle.policy_steps.specs.Misses.{Leavers, no_leavers, one_leaver, leavers_for_ghost}
-use Rattle.policy_steps.specs.TwoQ.{A1IN, A1OUT, AM, two_q_of, gives_a1in, two_q_leavers, joins, two_q_miss, plan_at}
+use Rattle.policy_steps.specs.Misses.{Leavers, no_leavers, one_leaver, leavers_for_ghost, after_leavers, miss_plan}
+use Rattle.policy_steps.specs.TwoQ.{A1IN, A1OUT, AM, two_q_of, gives_a1in, joins, two_q_miss, plan_at}
 use Rattle.policy_steps.specs.Theorems.{TwoQIsPlanned}
-use Rattle.policy_steps.proofs.Ghosts.{leavers-low, leavers-gone, ghost-keys}
-use Rattle.policy_steps.proofs.Moving.{length-keys, keys-sent, left-keys, without-rest, without-drop, first-of, apart-first, own-low, AreLow, miss-low, tabled-leavers}
+use Rattle.policy_steps.proofs.Ghosts.{leavers-low, sent, kept, leavers-gone, ghost-keys}
+use Rattle.policy_steps.proofs.Leaving.{oldest-out}
+use Rattle.policy_steps.proofs.Moving.{length-keys, keys-sent, without-rest, first-of, apart-first, own-low, AreLow, miss-low, tabled-leavers}
 
 -- ---- the state, queue by queue
 
@@ -46,71 +47,49 @@ joined true k ghost u d h z at = rw h
 joined false k ghost u d h z at = rw h
     (same-state (keys-sent k 0 A1IN u z A1IN ∙ ap (λ t. t ++ k ∷ []) at.a1in) (keys-sent k 0 A1IN u z A1OUT ∙ at.a1out) (keys-sent k 0 A1IN u z AM ∙ at.am))
 
--- ---- the keys that leave
+-- ---- a miss
 
-record Evicts (z : TwoQSizes) (k : ℕ) (l : Leavers) (v : TwoQLeaver) (s : Queues) : Type 0 where
-  outcome : outcome_after l.first s ≡ two_q_outcome v
-  shows : Shows k (after_leaving l.second (after_leaving l.first s)) (two_q_after_eviction z v (two_q_after_recall k (two_q_of s)))
-
-low-leavers : (z : TwoQSizes) (c : ℕ) (r : Bool) (s : Queues) → AreLow (two_q_leavers z c r s)
-low-leavers z c r s =
-    cond_both (nat_lt (length (s A1IN) + length (s AM)) c) _ _ AreLow (λ e. (tt, tt)) (λ e.
-    cond_both (gives_a1in z.kin s) _ _ AreLow
-    (λ f. leavers-low A1IN A1OUT z.kout r s (omega arith) (omega arith))
-    (λ f. ((omega arith, tt), tt)))
-
-page-leaver : (z : TwoQSizes) (c : ℕ) (s : Queues) → two_q_leaver z c (two_q_of s)
-    ≡ cond (nat_lt (length (s A1IN) + length (s AM)) c) NoLeaver (cond (gives_a1in z.kin s) (leaver_of_a1in (keys_of (s A1IN))) (leaver_of_am (keys_of (s AM))))
-page-leaver z c s =
-    let a : length (keys_of (s A1IN)) ≡ length (s A1IN) = length-keys (s A1IN) in
-    let m : length (keys_of (s AM)) ≡ length (s AM) = length-keys (s AM) in
-    let all : length (two_q_residents (two_q_of s)) ≡ length (s A1IN) + length (s AM) = length-append (keys_of (s A1IN)) (keys_of (s AM)) ∙ rw (a, m) refl in
-    rw (all, a, m) refl
-
-am-outcome : (l : List Entry) → evicted (oldest_of l) ≡ two_q_outcome (leaver_of_am (keys_of l))
-am-outcome [] = refl
-am-outcome (e ∷ l) = refl
-
-page-am : (z : TwoQSizes) (l : List ℕ) (d : TwoQState) → d.am ≡ l → two_q_after_eviction z (leaver_of_am l) d ≡ record d { am = drop 1 l }
-page-am z [] d h = same-state refl refl h
-page-am z (v ∷ l) d h = same-state refl refl (ap (drop 1) h)
-
-module _ (z : TwoQSizes) (c k : ℕ) (r : Bool) (s : Queues) (some : 1 ≤ c) (t : IsTabled s) (i : IsTwoQ z c (two_q_of s))
+module _ (z : TwoQSizes) (c k x : ℕ) (r : Bool) (s : Queues) (some : 1 ≤ c) (t : IsTabled s) (i : IsTwoQ z c (two_q_of s))
     (no_am : has_key k (keys_of (s AM)) ≡ false) (no_a1in : has_key k (keys_of (s A1IN)) ≡ false)
     (in_a1out : has_key k (keys_of (s A1OUT)) ≡ r) where
-  none-leaves : Evicts z k no_leavers NoLeaver s
-  none-leaves = record {
-    outcome = refl;
-    shows = record { a1in = none-out k (keys_of (s A1IN)) no_a1in; a1out = refl; am = none-out k (keys_of (s AM)) no_am };
+  abbrev after : TwoQLeaver → TwoQState
+  after v = two_q_after_eviction z v (two_q_after_recall k (two_q_of s))
+
+  abbrev IsMiss : Leavers → TwoQLeaver → Type 0
+  IsMiss l v = IsPlannedBy (miss_plan l (goes (joins r) 0) x) k s (λ y. two_q_of) (two_q_outcome v, two_q_after_join (ghost_place_of k (keys_of (s A1OUT))) k (after v)) false
+
+  brought : (l : Leavers) (v : TwoQLeaver) → AreLow l → outcome_after l.first s ≡ two_q_outcome v → Shows k (after_leavers l s) (after v) → IsMiss l v
+  brought l v low left shows = record {
+    outcome = left;
+    state = joined r k (keys_of (s A1OUT)) (after_leavers l s) (after v) in_a1out (tabled-leavers l s low t).keys shows;
+    hits = refl;
+    low = miss-low l (goes (joins r) 0) x low (joins-low r);
   }
 
-  am-leaves : Evicts z k (one_leaver (leaving AM None)) (leaver_of_am (keys_of (s AM))) s
-  am-leaves =
-      let at = λ (j : ℕ). ap (keys_without k) (left-keys s AM t None j) in
-      record {
-        outcome = am-outcome (s AM);
-        shows = subst (Shows k (after_leaving (leaving AM None) s)) (sym (page-am z (keys_of (s AM)) (two_q_after_recall k (two_q_of s)) refl)) record {
-          a1in = at A1IN ∙ none-out k (keys_of (s A1IN)) no_a1in;
-          a1out = at A1OUT;
-          am = at AM ∙ without-drop k (keys_of (s AM)) no_am;
-        };
-      }
+  none-leaves : IsMiss no_leavers NoLeaver
+  none-leaves = brought no_leavers NoLeaver (tt, tt) refl
+      record { a1in = none-out k (keys_of (s A1IN)) no_a1in; a1out = refl; am = none-out k (keys_of (s AM)) no_am }
 
-  a1in-leaves : 1 ≤ length (s A1IN) → Evicts z k (leavers_for_ghost A1IN A1OUT z.kout r s) (leaver_of_a1in (keys_of (s A1IN))) s
-  a1in-leaves n =
-      let first = first-of (s A1IN) n in
-      let e : Entry = first.0 in
-      let l : List Entry = first.1.0 in
-      let h : s A1IN ≡ e ∷ l = first.1.1 in
-      let none : has_key k (keys_of (e ∷ l)) ≡ false = ap (λ x. has_key k (keys_of x)) (sym h) ∙ no_a1in in
-      subst (λ v. Evicts z k (leavers_for_ghost A1IN A1OUT z.kout r s) v s) (sym (ap (λ x. leaver_of_a1in (keys_of x)) h)) record {
-        outcome = ap (λ x. evicted (oldest_of x)) h;
-        shows = subst (λ u. Shows k u (two_q_after_eviction z (FromA1in e.item.key) (two_q_after_recall k (two_q_of s)))) (sym (leavers-gone s t A1IN A1OUT z.kout r e l h (omega arith) (omega arith))) record {
-          a1in = without-rest k e.item.key (keys_of l) none ∙ ap (λ x. drop 1 (keys_of x)) (sym h);
-          a1out = ghost-keys k z.kout e (s A1OUT) r in_a1out (apart-first k e.item.key (keys_of l) none) i.few;
-          am = none-out k (keys_of (s AM)) no_am;
-        };
-      }
+  -- the keys of a queue once its oldest has left
+  rest : (q : ℕ) (e : Entry) (l : List Entry) → s q ≡ e ∷ l → has_key k (keys_of (s q)) ≡ false → keys_without k (keys_of l) ≡ drop 1 (keys_of (s q))
+  rest q e l h none = without-rest k e.item.key (keys_of l) (ap (λ x. has_key k (keys_of x)) (sym h) ∙ none) ∙ ap (λ x. drop 1 (keys_of x)) (sym h)
+
+  am-leaves : (e : Entry) (l : List Entry) → s AM ≡ e ∷ l → IsMiss (one_leaver (leaving AM None)) (leaver_of_am (keys_of (s AM)))
+  am-leaves e l h =
+      let v : TwoQLeaver = FromAm e.item.key in
+      let shows : Shows k (with_queue AM l s) (after v) = record { a1in = none-out k (keys_of (s A1IN)) no_a1in; a1out = refl; am = rest AM e l h no_am } in
+      subst (IsMiss (one_leaver (leaving AM None))) (sym (ap (λ x. leaver_of_am (keys_of x)) h))
+      (brought (one_leaver (leaving AM None)) v ((omega arith, tt), tt) (ap (λ x. evicted (oldest_of x)) h) (subst (λ u. Shows k u (after v)) (sym (oldest-out s t AM e l h)) shows))
+
+  a1in-leaves : (e : Entry) (l : List Entry) → s A1IN ≡ e ∷ l → IsMiss (leavers_for_ghost A1IN A1OUT z.kout r s) (leaver_of_a1in (keys_of (s A1IN)))
+  a1in-leaves e l h =
+      let v : TwoQLeaver = FromA1in e.item.key in
+      let other = apart-first k e.item.key (keys_of l) (ap (λ x. has_key k (keys_of x)) (sym h) ∙ no_a1in) in
+      let gone : Queues = with_queue A1OUT (kept (r || nat_lt (length (s A1OUT)) z.kout) (sent A1IN A1OUT e l s A1OUT)) (sent A1IN A1OUT e l s) in
+      let shows : Shows k gone (after v) = record { a1in = rest A1IN e l h no_a1in; a1out = ghost-keys k z.kout e (s A1OUT) r in_a1out other i.few; am = none-out k (keys_of (s AM)) no_am } in
+      subst (IsMiss (leavers_for_ghost A1IN A1OUT z.kout r s)) (sym (ap (λ x. leaver_of_a1in (keys_of x)) h))
+      (brought (leavers_for_ghost A1IN A1OUT z.kout r s) v (leavers-low A1IN A1OUT z.kout r s (omega arith) (omega arith)) (ap (λ x. evicted (oldest_of x)) h)
+      (subst (λ u. Shows k u (after v)) (sym (leavers-gone s t A1IN A1OUT z.kout r e l h (omega arith) (omega arith))) shows))
 
   a1in-some : c ≤ length (s A1IN) + length (s AM) → gives_a1in z.kin s ≡ true → 1 ≤ length (s A1IN)
   a1in-some full f =
@@ -119,31 +98,24 @@ module _ (z : TwoQSizes) (c k : ℕ) (r : Bool) (s : Queues) (some : 1 ≤ c) (t
         | inr none ↦ let empty = eqb-true (length (s AM)) 0 none in omega (arith, empty, full, some)
       ]
 
-  evicts : Evicts z k (two_q_leavers z c r s) (two_q_leaver z c (two_q_of s)) s
-  evicts =
-      subst (λ v. Evicts z k (two_q_leavers z c r s) v s) (sym (page-leaver z c s))
-      (elim (cases_Bool (nat_lt (length (s A1IN) + length (s AM)) c)) as (λ _. Evicts z k (two_q_leavers z c r s) (cond (nat_lt (length (s A1IN) + length (s AM)) c) NoLeaver (cond (gives_a1in z.kin s) (leaver_of_a1in (keys_of (s A1IN))) (leaver_of_am (keys_of (s AM))))) s) [
+  planned-miss : IsPlannedBy (two_q_miss z c r x s) k s (λ y. two_q_of) (two_q_act z c k (two_q_of s)) (has_key k (two_q_residents (two_q_of s)))
+  planned-miss =
+      let absent : has_key k (two_q_residents (two_q_of s)) ≡ false = has-append k (keys_of (s A1IN)) (keys_of (s AM)) ∙ rw (no_a1in, no_am) refl in
+      let a : length (keys_of (s A1IN)) ≡ length (s A1IN) = length-keys (s A1IN) in
+      let m : length (keys_of (s AM)) ≡ length (s AM) = length-keys (s AM) in
+      let all : length (two_q_residents (two_q_of s)) ≡ length (s A1IN) + length (s AM) = length-append (keys_of (s A1IN)) (keys_of (s AM)) ∙ rw (a, m) refl in
+      rw (no_am, no_a1in, absent, all, a, m) (elim (cases_Bool (nat_lt (length (s A1IN) + length (s AM)) c)) [
         | inl e ↦ rw e none-leaves
-        | inr e ↦
-            let full : c ≤ length (s A1IN) + length (s AM) = ltb-false (length (s A1IN) + length (s AM)) c e in
-            rw e (elim (cases_Bool (gives_a1in z.kin s)) [
-              | inl f ↦ rw f (a1in-leaves (a1in-some full f))
-              | inr f ↦ rw f am-leaves
-            ])
+        | inr e ↦ rw e (elim (cases_Bool (gives_a1in z.kin s)) [
+          | inl f ↦
+              let first = first-of (s A1IN) (a1in-some (ltb-false (length (s A1IN) + length (s AM)) c e) f) in
+              rw f (a1in-leaves first.0 first.1.0 first.1.1)
+          | inr f ↦
+              let some_am = eqb-false (length (s AM)) 0 (or_parts (nat_lt z.kin (length (s A1IN))) (length (s AM) == 0) f).1 in
+              let first = first-of (s AM) (omega (arith, some_am)) in
+              rw f (am-leaves first.0 first.1.0 first.1.1)
+        ])
       ])
-
-  planned-miss : (x : ℕ) → IsPlannedBy (two_q_miss z c r x s) k s (λ y. two_q_of) (two_q_act z c k (two_q_of s)) (has_key k (two_q_residents (two_q_of s)))
-  planned-miss x =
-      let l : Leavers = two_q_leavers z c r s in
-      let u : Queues = after_leaving l.second (after_leaving l.first s) in
-      let d : TwoQState = two_q_after_eviction z (two_q_leaver z c (two_q_of s)) (two_q_after_recall k (two_q_of s)) in
-      let low : AreLow l = low-leavers z c r s in
-      rw (no_am, no_a1in) record {
-        outcome = evicts.outcome;
-        state = joined r k (keys_of (s A1OUT)) u d in_a1out (tabled-leavers l s low t).keys evicts.shows;
-        hits = sym (has-append k (keys_of (s A1IN)) (keys_of (s AM)) ∙ rw (no_a1in, no_am) refl);
-        low = miss-low l (goes (joins r) 0) x low (joins-low r);
-      }
 
 -- ---- an access
 
@@ -176,17 +148,17 @@ module _ (z : TwoQSizes) (c k x : ℕ) (s : Queues) (some : 1 ≤ c) (t : IsTabl
         | inr e ↦ rw (ne_eqb q AM e) (elim (cases_eq q A1IN) [
           | inl f ↦ rw (eq-eqb q A1IN f) (unmoved z c k x n s t (subst (λ j. StandsAs k j n s) f a))
           | inr f ↦ rw (ne_eqb q A1IN f)
-              (planned-miss z c k (eqb q A1OUT) s some t i (a.off AM (λ z. e (sym z))) (a.off A1IN (λ z. f (sym z))) (elim (cases_eq q A1OUT) [
+              (planned-miss z c k x (eqb q A1OUT) s some t i (a.off AM (λ z. e (sym z))) (a.off A1IN (λ z. f (sym z))) (elim (cases_eq q A1OUT) [
                 | inl g ↦ rw (eq-eqb q A1OUT g) (subst (λ j. has_key k (keys_of (s j)) ≡ true) g a.here)
                 | inr g ↦ rw (ne_eqb q A1OUT g) (a.off A1OUT (λ z. g (sym z)))
-              ]) x)
+              ]))
         ])
       ]
 
   planned-at : (p : Option (ℕ × ℕ)) → standing (item_of k) s ≡ p → Planned p
   planned-at None h =
       let nowhere = stands-nowhere s t k h in
-      planned-miss z c k false s some t i (nowhere AM).0 (nowhere A1IN).0 (nowhere A1OUT).0 x
+      planned-miss z c k x false s some t i (nowhere AM).0 (nowhere A1IN).0 (nowhere A1OUT).0
   planned-at (Some p) h = planned-in p.0 p.1 (stands s t k p.0 p.1 h)
 
 pub planned : TwoQIsPlanned
