@@ -4,12 +4,12 @@ use Rattle.std.proofs.lemmas.Bool.{cases_Bool, ltb-true, ltb-false, eqb-true, eq
 use Rattle.step_record.specs.Keys.{has_key, keys_without}
 use Rattle.step_record.specs.Stats.{is_hit, is_eviction, is_rejection, one_if}
 use Rattle.queue_policies.specs.Residents.{times, keys_evicted, IsAccess, AreResidents}
-use Rattle.ghost_policies.specs.TwoQ.{TwoQState, empty_two_q, two_q_residents, leaver_of_a1in, leaver_of_am, two_q_leaver, two_q_after_recall, two_q_after_eviction, two_q_after_join, two_q_after_miss, two_q_outcome, two_q_act, two_q_after_renewal, IsTwoQ}
+use Rattle.ghost_policies.specs.TwoQ.{TwoQState, two_q_residents, leaver_of_a1in, leaver_of_am, two_q_leaver, two_q_after_recall, two_q_after_eviction, two_q_after_join, two_q_after_miss, two_q_outcome, two_q_act, two_q_after_renewal, IsTwoQ}
 use Rattle.ghost_policies.specs.declared.two_q.TwoQSizes.{TwoQSizes}
 use Rattle.ghost_policies.specs.declared.two_q.TwoQLeaver.TheVariants.{FromA1in, FromAm, NoLeaver}
 use Rattle.ghost_policies.specs.declared.two_q.TwoQLeaver.{TwoQLeaver}
-use Rattle.ghost_policies.specs.Theorems.{TwoQKeeps, TwoQCounts}
-use Rattle.queue_policies.proofs.Residents.{times-append, times-none, counts-residents, access-keeps}
+use Rattle.ghost_policies.specs.Theorems.{TwoQKeeps}
+use Rattle.queue_policies.proofs.Residents.{times-append, times-none, access-keeps}
 use Rattle.queue_policies.specs.Ghost.{ghost_place_of}
 use Rattle.queue_policies.specs.declared.ghost_place.GhostPlace.{GhostPlace}
 use Rattle.queue_policies.specs.declared.ghost_place.GhostPlace.TheVariants.{Known, Unknown}
@@ -231,6 +231,3 @@ keeps z c h = record {
   accesses = λ k s i. access z c k s h i;
   holds = λ s i. holds z c s i;
 }
-
-pub counts : TwoQCounts
-counts z c h = counts-residents c empty_two_q (two_q_act z c) two_q_residents (IsTwoQ z c) (keeps z c h)
