@@ -1,7 +1,6 @@
 -- Entries as keys with counts.
-use Rattle.std.proofs.Common.{◌≡◌, ℕ, suc, ◌+◌, ◌≤◌, true, false, ◌&&◌, eqb, nat_lt, List, [], ◌∷◌, ◌++◌, length, ap, ◌∙◌, sym, refl, arith, inl, inr}
+use Rattle.std.proofs.Common.{◌≡◌, ℕ, suc, ◌+◌, ◌≤◌, eqb, nat_lt, List, [], ◌∷◌, ◌++◌, length, ap, ◌∙◌, sym, refl, arith, inl, inr}
 use Rattle.std.proofs.lemmas.Bool.{cases_Bool}
-use Rattle.step_record.specs.declared.item.Item.{Item}
 use Rattle.step_record.specs.Keys.{has_key}
 use Rattle.queue_table.specs.declared.records.Entry.{Entry}
 use Rattle.queue_table.specs.Entries.{is_same_item, entry, oldest_of, occurrences, entries_counted}
@@ -9,7 +8,7 @@ use Rattle.queue_table.proofs.EntryLists.{times-append}
 use Rattle.queue_policies.specs.CountedKeys.{keys_of, with_count, oldest_count}
 use Rattle.queue_moves.specs.Moves.{item_of, count_or}
 use Rattle.queue_moves.specs.Tabled.{nodes_of, keys_of as entry_keys}
-use Rattle.queue_moves.proofs.Tabled.{has-occurs}
+use Rattle.queue_moves.proofs.Tabled.{counted-none, same-key, has-occurs}
 use Rattle.policy_steps.specs.Counted.{counted_key, counted_keys}
 
 pub counted-append : (a b : List Entry) → counted_keys (a ++ b) ≡ counted_keys a ++ counted_keys b
@@ -23,9 +22,6 @@ length-counted (e ∷ l) = ap suc (length-counted l)
 pub oldest-counted : (l : List Entry) → oldest_count (counted_keys l) ≡ count_or 0 (oldest_of l)
 oldest-counted [] = refl
 oldest-counted (e ∷ l) = refl
-
-same-key : (k : ℕ) (i : Item) → i.node ≡ 0 → is_same_item (item_of k) i ≡ eqb k i.key
-same-key k i h = ap (λ n. eqb k i.key && eqb 0 n) h ∙ elim (eqb k i.key) as (λ b. (b && true) ≡ b) [ true ↦ refl | false ↦ refl ]
 
 keys-counted : (l : List Entry) → keys_of (counted_keys l) ≡ entry_keys l
 keys-counted [] = refl
@@ -44,14 +40,6 @@ key-both k a b za zb =
     let nodes = nodes-append a b in
     ap (λ l. has_key k (keys_of l)) (sym (counted-append a b)) ∙ key-counted k (a ++ b) (omega (arith, nodes, za, zb)) ∙ ap (nat_lt 0) (times-append (item_of k) a b)
 
-uncounted : (i : Item) (n : ℕ) (l : List Entry) → occurrences i l ≡ 0 → entries_counted i n l ≡ l
-uncounted i n [] h = refl
-uncounted i n (e ∷ l) h =
-    elim (cases_Bool (is_same_item i e.item)) [
-      | inl g ↦ absurd (let some : 1 + occurrences i l ≡ 0 = rw g at h in omega (arith, some))
-      | inr g ↦ let none : 0 + occurrences i l ≡ 0 = rw g at h in rw g (ap (λ t. e ∷ t) (uncounted i n l (omega (arith, none))))
-    ]
-
 pub counted-with : (k n : ℕ) (l : List Entry) → nodes_of l ≡ 0 → occurrences (item_of k) l ≤ 1 → counted_keys (entries_counted (item_of k) n l) ≡ with_count k n (counted_keys l)
 counted-with k n [] h few = refl
 counted-with k n (e ∷ l) h few =
@@ -59,7 +47,7 @@ counted-with k n (e ∷ l) h few =
     elim (cases_Bool (eqb k e.item.key)) [
       | inl g ↦
           let one : 1 + occurrences (item_of k) l ≤ 1 = rw (same, g) at few in
-          rw (same, g) (ap (λ t. counted_key (entry e.item n) ∷ counted_keys t) (uncounted (item_of k) n l (omega (arith, one))))
+          rw (same, g) (ap (λ t. counted_key (entry e.item n) ∷ counted_keys t) (counted-none (item_of k) n l (omega (arith, one))))
       | inr g ↦
           let one : 0 + occurrences (item_of k) l ≤ 1 = rw (same, g) at few in
           rw (same, g) (ap (λ t. counted_key e ∷ t) (counted-with k n l (omega (arith, h)) (omega (arith, one))))

@@ -28,7 +28,7 @@ off-turn i from to less j s a z = go (oldest_of (s from)) refl
     go None h = z
     go (Some e) h = off-after-send i (entry e.item (e.count - less)) to j s (first-other (entry i 0) e (s from) h a) z
 
-off-turns : (i : Item) (n from to less j : ℕ) (s : Queues) → occurrences i (s from) ≡ 0 → occurrences i (s j) ≡ 0 → occurrences i (after_turns n from to less s j) ≡ 0
+pub off-turns : (i : Item) (n from to less j : ℕ) (s : Queues) → occurrences i (s from) ≡ 0 → occurrences i (s j) ≡ 0 → occurrences i (after_turns n from to less s j) ≡ 0
 off-turns i zero from to less j s a z = z
 off-turns i (suc n) from to less j s a z = off-turns i n from to less j (after_turn from to less s) (off-turn i from to less from s a a) (off-turn i from to less j s a z)
 

@@ -1,5 +1,5 @@
 -- What the parts of an access make of the keys of the queues.
-use Rattle.std.proofs.Common.{◌≡◌, ℕ, ◌+◌, ◌<◌, ◌≤◌, Bool, true, false, cond, eqb, ◌&&◌, Option, Some, None, List, [], ◌∷◌, ◌++◌, length, take, drop, append-nil, ap, ◌∙◌, sym, subst, refl, arith, inl, inr}
+use Rattle.std.proofs.Common.{◌≡◌, ℕ, ◌<◌, ◌≤◌, Bool, true, false, cond, eqb, Option, Some, None, List, [], ◌∷◌, ◌++◌, length, take, drop, append-nil, ap, ◌∙◌, sym, subst, refl, arith, inl, inr}
 use Rattle.std.proofs.lemmas.Bool.{cases_Bool, eqb-true}
 use Rattle.std.proofs.lemmas.List.{length-map}
 use Rattle.step_record.specs.declared.item.Item.{Item}
@@ -7,12 +7,13 @@ use Rattle.step_record.specs.Keys.{has_key, keys_without}
 use Rattle.queue_table.specs.declared.records.Entry.{Entry}
 use Rattle.queue_table.specs.Entries.{is_same_item, entry, occurrences, oldest_of, entries_without}
 use Rattle.queue_table.specs.Queues.{QUEUES, Queues, with_queue, queue_holding, after_removal, after_send}
-use Rattle.queue_table.proofs.EntryLists.{times-append, times-without}
+use Rattle.queue_table.proofs.EntryLists.{times-without}
 use Rattle.queue_table.proofs.QueueLists.{IsAbsent, absent, is_absent}
 use Rattle.ghost_policies.proofs.ArcPlans.{none-out}
 use Rattle.queue_moves.specs.Moves.{item_of, Leaving, leaving, IsLowTarget, IsLowLeaving, departed, after_leaving, Own, IsLowOwn, own_plan, IsLowPlan}
-use Rattle.queue_moves.specs.Tabled.{nodes_of, HasKeys, IsTabled, keys_of}
-use Rattle.queue_moves.proofs.Tabled.{keys-append, oldest-gone, tabled-leaving}
+use Rattle.queue_moves.specs.Tabled.{HasKeys, IsTabled, keys_of}
+use Rattle.queue_moves.proofs.Laws.{first-other, off-after-send}
+use Rattle.queue_moves.proofs.Tabled.{keys-append, keys-taken, oldest-gone, tabled-leaving}
 use Rattle.queue_moves.specs.declared.records.Left.{Left}
 use Rattle.queue_moves.specs.Undoing.{IsLeft}
 use Rattle.policy_steps.specs.Misses.{Leavers, miss_plan}
@@ -20,24 +21,14 @@ use Rattle.policy_steps.specs.Misses.{Leavers, miss_plan}
 pub length-keys : (l : List Entry) → length (keys_of l) ≡ length l
 length-keys l = length-map l (λ (e : Entry). e.item.key)
 
-keys-gone : (k : ℕ) (l : List Entry) → nodes_of l ≡ 0 → keys_of (entries_without (item_of k) l) ≡ keys_without k (keys_of l)
-keys-gone k [] z = refl
-keys-gone k (e ∷ l) z =
-    let node : e.item.node ≡ 0 = omega (arith, z) in
-    let rest : keys_of (entries_without (item_of k) l) ≡ keys_without k (keys_of l) = keys-gone k l (omega (arith, z)) in
-    elim (cases_Bool (eqb k e.item.key)) as (λ _. keys_of (cond (eqb k e.item.key && eqb 0 e.item.node) (entries_without (item_of k) l) (e ∷ entries_without (item_of k) l)) ≡ cond (eqb k e.item.key) (keys_without k (keys_of l)) (e.item.key ∷ keys_without k (keys_of l))) [
-      | inl f ↦ rw (node, f) rest
-      | inr f ↦ rw f (ap (λ t. e.item.key ∷ t) rest)
-    ]
-
 -- ---- the accessed key goes to the recent end of a queue
 
 pub keys-sent : (k m q : ℕ) (s : Queues) → HasKeys s → (j : ℕ)
     → keys_of (after_send (entry (item_of k) m) q s j) ≡ cond (eqb j q) (keys_without k (keys_of (s q)) ++ k ∷ []) (keys_without k (keys_of (s j)))
 keys-sent k m q s z j =
     elim (cases_Bool (eqb j q)) as (λ _. keys_of (cond (eqb j q) (entries_without (item_of k) (s q) ++ entry (item_of k) m ∷ []) (entries_without (item_of k) (s j))) ≡ cond (eqb j q) (keys_without k (keys_of (s q)) ++ k ∷ []) (keys_without k (keys_of (s j)))) [
-      | inl f ↦ rw f (keys-append (entries_without (item_of k) (s q)) (entry (item_of k) m ∷ []) ∙ ap (λ t. t ++ k ∷ []) (keys-gone k (s q) (z q)))
-      | inr f ↦ rw f (keys-gone k (s j) (z j))
+      | inl f ↦ rw f (keys-append (entries_without (item_of k) (s q)) (entry (item_of k) m ∷ []) ∙ ap (λ t. t ++ k ∷ []) (sym (keys-taken k (s q) (z q))))
+      | inr f ↦ rw f (sym (keys-taken k (s j) (z j)))
     ]
 
 -- ---- a queue's oldest key leaves it
@@ -159,28 +150,10 @@ tabled-leavers l s w t = tabled-leaving (after_leaving l.first s) (tabled-leavin
 
 -- ---- an item that stands nowhere, or in other queues, does not come with a key that leaves
 
-oldest-other : (i : Item) (l : List Entry) (e : Entry) → occurrences i l ≡ 0 → oldest_of l ≡ Some e → is_same_item i e.item ≡ false
-oldest-other i [] e z h = absurd (cc h)
-oldest-other i (x ∷ l) e z h =
-    let same : x ≡ e = cc h in
-    let none : occurrences i (e ∷ l) ≡ 0 = subst (λ v. occurrences i (v ∷ l) ≡ 0) same z in
-    elim (cases_Bool (is_same_item i e.item)) [
-      | inl f ↦ absurd (let one : 1 + occurrences i l ≡ 0 = rw f at none in omega (arith, one))
-      | inr f ↦ f
-    ]
-
 none-departed : (i : Item) (to : Option (ℕ × ℕ)) (e : Entry) (s : Queues) (j : ℕ) → is_same_item i e.item ≡ false → occurrences i (s j) ≡ 0
     → occurrences i (departed to (Some e) s j) ≡ 0
 none-departed i None e s j other z = let less = times-without e.item i (s j) in omega (arith, less, z)
-none-departed i (Some p) e s j other z =
-    elim (cases_Bool (eqb j p.0)) as (λ _. occurrences i (cond (eqb j p.0) (entries_without e.item (s p.0) ++ entry e.item p.1 ∷ []) (entries_without e.item (s j))) ≡ 0) [
-      | inl f ↦
-          let there = ap (λ x. occurrences i (s x)) (eqb-true j p.0 f) in
-          let less = times-without e.item i (s p.0) in
-          let new : occurrences i (entry e.item p.1 ∷ []) ≡ 0 = rw other refl in
-          rw f (omega (arith, times-append i (entries_without e.item (s p.0)) (entry e.item p.1 ∷ []), there, less, new, z))
-      | inr f ↦ let less = times-without e.item i (s j) in rw f (omega (arith, less, z))
-    ]
+none-departed i (Some p) e s j other z = off-after-send i (entry e.item p.1) p.0 j s other z
 
 pub none-left : (i : Item) (from : ℕ) (to : Option (ℕ × ℕ)) (s : Queues) (j : ℕ) → occurrences i (s from) ≡ 0 → occurrences i (s j) ≡ 0
     → occurrences i (after_leaving (leaving from to) s j) ≡ 0
@@ -188,7 +161,7 @@ none-left i from to s j a z = at (oldest_of (s from)) refl
   where
     at : (o : Option Entry) → oldest_of (s from) ≡ o → occurrences i (departed to o s j) ≡ 0
     at None h = z
-    at (Some e) h = none-departed i to e s j (oldest-other i (s from) e a h) z
+    at (Some e) h = none-departed i to e s j (first-other (entry i 0) e (s from) h a) z
 
 still-absent : (i : Item) (l : Option Leaving) (s : Queues) → IsLowLeaving l → IsAbsent i s → IsAbsent i (after_leaving l s)
 still-absent i None s w h = h

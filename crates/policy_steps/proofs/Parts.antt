@@ -1,24 +1,16 @@
 -- What the parts of a plan do to the queues.
-use Rattle.std.proofs.Common.{◌≡◌, sym, ℕ, zero, suc, ◌+◌, ◌-◌, ◌<◌, ◌≤◌, false, Option, Some, None, List, [], ◌∷◌, ap, ◌∙◌, arith, inl, inr}
-use Rattle.std.proofs.lemmas.Bool.{ltb-true, cases_Bool, cases_eq, cases_lt}
+use Rattle.std.proofs.Common.{◌≡◌, sym, ℕ, zero, suc, ◌-◌, ◌<◌, ◌≤◌, Option, Some, None, ap, ◌∙◌, arith, inl, inr}
+use Rattle.std.proofs.lemmas.Bool.{ltb-true, cases_lt}
 use Rattle.step_record.specs.declared.item.Item.{Item}
 use Rattle.queue_table.specs.declared.records.Entry.{Entry}
-use Rattle.queue_table.specs.Entries.{is_same_item, entry, oldest_of, occurrences, entries_without, entries_counted}
-use Rattle.queue_table.specs.Queues.{QUEUES, Queues, with_queue, after_removal, after_send, after_push, after_count}
-use Rattle.queue_table.proofs.EntryLists.{times-append}
-use Rattle.queue_table.proofs.QueueLists.{IsAbsent, absent, still-absent, with-queue-same, with-queue-other}
+use Rattle.queue_table.specs.Entries.{entry, oldest_of, occurrences, entries_without, entries_counted}
+use Rattle.queue_table.specs.Queues.{QUEUES, Queues, after_removal, after_send, after_count}
+use Rattle.queue_table.proofs.QueueLists.{IsAbsent, absent, with-queue-other}
 use Rattle.queue_moves.specs.Moves.{item_of, standing, turned, after_turn, after_turns, departed, leaving, after_leaving}
 use Rattle.queue_moves.specs.Tabled.{IsTabled}
 use Rattle.policy_steps.specs.Planned.{IsWithin}
-use Rattle.queue_moves.proofs.Tabled.{oldest-gone, nowhere-standing, has-occurs, stands}
-
--- ---- one turn
-
-pub turn-is : (from to less : ℕ) (s : Queues) (e : Entry) (l : List Entry) → IsTabled s → s from ≡ e ∷ l → after_turn from to less s ≡ after_push to (entry e.item (e.count - less)) (with_queue from l s)
-turn-is from to less s e l t h = ap (λ x. turned to less (oldest_of x) s) h ∙ ap (after_push to (entry e.item (e.count - less))) (oldest-gone s t from e l h)
-
-pub turn-none : (from to less : ℕ) (s : Queues) → s from ≡ [] → after_turn from to less s ≡ s
-turn-none from to less s h = ap (λ x. turned to less (oldest_of x) s) h
+use Rattle.queue_moves.proofs.Tabled.{nowhere-standing, has-occurs, stands}
+use Rattle.policy_steps.proofs.Leaving.{off-turns}
 
 -- ---- the queues from n on stay empty
 
@@ -48,34 +40,8 @@ first-out n from s h = first-departed n (oldest_of (s from)) s h
 
 -- ---- a key that stands nowhere
 
-absent-send : (i : Item) (e : Entry) (to : ℕ) (s : Queues) → is_same_item i e.item ≡ false → IsAbsent i s → IsAbsent i (after_send e to s)
-absent-send i e to s passed_queue h q w =
-    let gone = still-absent i e.item s h in
-    elim (cases_eq q to) [
-      | inl z ↦
-          let sum = ap (λ x. occurrences i (after_send e to s x)) z ∙ ap (occurrences i) (with-queue-same to _ (after_removal e.item s)) ∙ times-append i (entries_without e.item (s to)) (e ∷ []) in
-          let sum2 = rw passed_queue at sum in
-          let none = gone q w in
-          let there = ap (λ x. occurrences i (entries_without e.item (s x))) z in
-          omega (arith, sum2, none, there)
-      | inr z ↦ ap (occurrences i) (with-queue-other to q _ (after_removal e.item s) z) ∙ gone q w
-    ]
-
--- it is not the oldest
-other-first : (i : Item) (e : Entry) (l : List Entry) → occurrences i (e ∷ l) ≡ 0 → is_same_item i e.item ≡ false
-other-first i e l h =
-    elim (cases_Bool (is_same_item i e.item)) [
-      | inl g ↦ absurd (let some : 1 + occurrences i l ≡ 0 = rw g at h in omega (arith, some))
-      | inr g ↦ g
-    ]
-
-absent-turned : (i : Item) (to less : ℕ) (l : List Entry) (s : Queues) → occurrences i l ≡ 0 → IsAbsent i s → IsAbsent i (turned to less (oldest_of l) s)
-absent-turned i to less [] s none h = h
-absent-turned i to less (e ∷ l) s none h = absent-send i (entry e.item (e.count - less)) to s (other-first i e l none) h
-
 pub absent-turns : (i : Item) (n from to less : ℕ) (s : Queues) → from < QUEUES → IsAbsent i s → IsAbsent i (after_turns n from to less s)
-absent-turns i zero from to less s w h = h
-absent-turns i (suc n) from to less s w h = absent-turns i n from to less (after_turn from to less s) w (absent-turned i to less (s from) s (h from w) h)
+absent-turns i n from to less s w h q v = off-turns i n from to less q s (h from w) (h q v)
 
 pub nowhere : (i : Item) (s : Queues) → standing i s ≡ None → IsAbsent i s
 nowhere i s h = absent i s (nowhere-standing i s h)

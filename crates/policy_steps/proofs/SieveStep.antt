@@ -10,7 +10,7 @@ use Rattle.queue_moves.proofs.Tabled.{oldest-gone}
 use Rattle.queue_table.specs.Queues.{Queues}
 use Rattle.queue_moves.specs.declared.records.Run.{Run}
 use Rattle.queue_moves.specs.Moves.{leaving, goes, Plan, after_turn, after_turns, after_run, turns_due, count_or, after_leaving, departed}
-use Rattle.policy_steps.specs.Sieve.{queue_ahead, passed_queue, pass_run, after_early, ahead_late, after_late, after_leaver, ahead_new, sieve_eviction_plan}
+use Rattle.policy_steps.specs.Sieve.{queue_ahead, passed_queue, pass_run, sieve_eviction_plan}
 use Rattle.policy_steps.specs.Planned.{leaver_plan}
 
 module _ (c x : ℕ) (s a b d : Queues) (early late : Run) (mid new y : ℕ) where
@@ -19,13 +19,7 @@ module _ (c x : ℕ) (s a b d : Queues) (early late : Run) (mid new y : ℕ) whe
 
   pub eviction : a ≡ after_run early s → early ≡ pass_run c x s → mid ≡ queue_ahead x a → b ≡ after_run late a → late ≡ pass_run c mid a → d ≡ after_leaving (leaving mid None) b → new ≡ queue_ahead mid d → y ≡ new
       → plan a mid new y ≡ sieve_eviction_plan c x s
-  eviction ha he hm hb hl hd hn hy =
-      let at_early : a ≡ after_early c x s = ha ∙ ap (λ r. after_run r s) he in
-      let at_mid : mid ≡ ahead_late c x s = hm ∙ ap (queue_ahead x) at_early in
-      let at_late : b ≡ after_late c x s = hb ∙ ap (λ r. after_run r a) hl ∙ ap (λ m. after_run (pass_run c m a) a) at_mid ∙ ap (λ q. after_run (pass_run c (ahead_late c x s) q) q) at_early in
-      let at_leaver : d ≡ after_leaver c x s = hd ∙ ap (λ m. after_leaving (leaving m None) b) at_mid ∙ ap (after_leaving (leaving (ahead_late c x s) None)) at_late in
-      let at_new : new ≡ ahead_new c x s = hn ∙ ap (λ m. queue_ahead m d) at_mid ∙ ap (queue_ahead (ahead_late c x s)) at_leaver in
-      rw (hy, at_early, at_mid, at_new) refl
+  eviction ha he hm hb hl hd hn hy = cc
 
 -- a run that made fewer turns than it may has stopped at a key whose count is low
 turns-stop : (n from to less least : ℕ) (s : Queues) → turns_due n from to less least s < n

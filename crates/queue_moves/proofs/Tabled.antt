@@ -91,7 +91,7 @@ has-occurs k (x ∷ l) h =
       | inr e ↦ rw (own, e) (let z : occurrences (item_of k) l ≡ 0 + occurrences (item_of k) l = omega arith in r ∙ ap (nat_lt 0) z)
     ]
 
-keys-taken : (k : ℕ) (l : List Entry) → nodes_of l ≡ 0 → keys_without k (keys_of l) ≡ keys_of (entries_without (item_of k) l)
+pub keys-taken : (k : ℕ) (l : List Entry) → nodes_of l ≡ 0 → keys_without k (keys_of l) ≡ keys_of (entries_without (item_of k) l)
 keys-taken k [] h = refl
 keys-taken k (x ∷ l) h =
     let own : is_same_item (item_of k) x.item ≡ eqb k x.item.key = same-key k x.item (omega (arith, h)) in
