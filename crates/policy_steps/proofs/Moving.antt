@@ -163,7 +163,7 @@ none-left i from to s j a z = at (oldest_of (s from)) refl
     at None h = z
     at (Some e) h = none-departed i to e s j (first-other (entry i 0) e (s from) h a) z
 
-still-absent : (i : Item) (l : Option Leaving) (s : Queues) → IsLowLeaving l → IsAbsent i s → IsAbsent i (after_leaving l s)
+pub still-absent : (i : Item) (l : Option Leaving) (s : Queues) → IsLowLeaving l → IsAbsent i s → IsAbsent i (after_leaving l s)
 still-absent i None s w h = h
 still-absent i (Some l) s w h = λ q v. none-left i l.from l.to s q (h l.from w.0) (h q v)
 
