@@ -37,18 +37,14 @@ pass-first s h = pass-within (total_count (whole s)) s refl h
 
 -- ---- bits
 
+-- there is an oldest key, and its bit is clear
 abbrev pub IsClear : List Entry → Type 0
-IsClear [] = ⊥
-IsClear (e ∷ l) = e.count ≡ 0
+IsClear l = (1 ≤ length l) × (count_or 0 (oldest_of l) ≡ 0)
 
 -- some key's bit is clear
 abbrev pub HasClear : List Entry → Type 0
 HasClear [] = ⊥
 HasClear (e ∷ l) = (e.count ≡ 0) ⊎ HasClear l
-
-pub clear-first : (l : List Entry) → IsClear l → HasClear l
-clear-first [] h = absurd h
-clear-first (e ∷ l) h = inl h
 
 clear-last : (l : List Entry) (e : Entry) → e.count ≡ 0 → HasClear (l ++ e ∷ [])
 clear-last [] e h = inl h
@@ -111,7 +107,7 @@ module _ (x : ℕ) (low : x ≤ 1) where
       let bit = ap (λ v. nat_lt (count_or 0 (oldest_of v)) 1) h in
       let few = w.1 in
       elim (cases_lt e.count 1) [
-        | inl g ↦ let clear = bit ∙ lt-ltb e.count 1 g in rw clear (subst IsClear (sym h) (omega (arith, g)))
+        | inl g ↦ let clear = bit ∙ lt-ltb e.count 1 g in rw clear (subst IsClear (sym h) (omega arith, omega (arith, g)))
         | inr g ↦
             let set = bit ∙ le-ltb e.count 1 g in
             let rest : HasClear l = elim w.0 [ inl z ↦ absurd (omega (arith, z, g)) | inr r ↦ r ] in
