@@ -16,8 +16,9 @@ use Rattle.ghost_policies.specs.declared.arc.ArcGhost.TheVariants.{InB1, InB2, N
 use Rattle.ghost_policies.specs.declared.arc.ArcForgets.TheVariants.{NoneForgotten}
 use Rattle.ghost_policies.specs.Theorems.{ArcKeeps}
 use Rattle.queue_policies.proofs.Residents.{times-append, times-none, access-keeps}
+use Rattle.queue_policies.proofs.CountedKeys.{by-oldest}
 use Rattle.ghost_policies.proofs.Weights.{weight, length-weight, times-weight, weight-append, weight-push, weight-first, weight-without, weight-out, weight-renewed, hit-moves, miss-moves, has-append}
-use Rattle.ghost_policies.proofs.ArcPlans.{none-out, new-cases, by-oldest, replace-cases}
+use Rattle.ghost_policies.proofs.ArcPlans.{none-out, new-cases, replace-cases}
 
 -- what the four queues weigh
 abbrev weighs : (ℕ → ℕ) → ArcState → ℕ

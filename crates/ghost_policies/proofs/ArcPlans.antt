@@ -2,6 +2,7 @@
 use Rattle.std.proofs.Common.{cond, ap, ◌≡◌, ℕ, ◌+◌, ◌*◌, ◌<◌, ◌≤◌, Bool, true, false, eqb, nat_lt, ◌⊎◌, ◌&&◌, List, [], ◌∷◌, length, refl, arith, inl, inr}
 use Rattle.std.proofs.lemmas.Bool.{cases_Bool, ltb-true, ltb-false, eqb-true, eqb-false}
 use Rattle.step_record.specs.Keys.{has_key, keys_without}
+use Rattle.queue_policies.proofs.CountedKeys.{by-oldest}
 use Rattle.ghost_policies.specs.Arc.{ArcState, arc_total, forgotten_of_b1, forgotten_of_b2, leaver_to_b1, leaver_to_b2, leaver_dropped, arc_replace, plan_of_new_key}
 use Rattle.ghost_policies.specs.declared.arc.ArcLeaver.{ArcLeaver}
 use Rattle.ghost_policies.specs.declared.arc.ArcPlan.{ArcPlan}
@@ -46,11 +47,6 @@ none-out k (a ∷ l) h =
       | inl e ↦ absurd (let no : true ≡ false = rw e at h in cc (no))
       | inr e ↦ rw e (ap (λ t. a ∷ t) (none-out k l (rw e at h)))
     ]
-
--- what is shown of a queue by its oldest key, where it has one
-pub by-oldest : (P : List ℕ → Type 0) (l : List ℕ) → 1 ≤ length l → ((v : ℕ) (r : List ℕ) → l ≡ v ∷ r → P (v ∷ r)) → P l
-by-oldest P [] n h = absurd (omega (arith, n))
-by-oldest P (v ∷ r) n h = h v r refl
 
 -- In a full cache the oldest of t1 leaves, or that of t2, which has one where t1 has none, or not over p.
 pub replace-cases : (in_b2 : Bool) (c p : ℕ) (s : ArcState) (P : ArcLeaver → Type 0) → 1 ≤ c → length s.t1 + length s.t2 ≡ c → p ≤ c → (in_b2 ≡ true) ⊎ (length s.t1 < c)

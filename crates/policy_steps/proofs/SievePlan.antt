@@ -11,7 +11,7 @@ use Rattle.queue_table.proofs.MoveBack.{without-none}
 use Rattle.queue_table.proofs.QueueLists.{IsAbsent, still-absent, queue-few, with-queue-same, with-queue-other}
 use Rattle.queue_policies.specs.Queues.{is_empty}
 use Rattle.queue_policies.specs.Sieve.{SieveState, sieve_residents, after_wrap, sieve_with_key, sieve_eviction, HasAhead, IsSieve, sieve_with_count}
-use Rattle.queue_policies.proofs.CountedKeys.{length-keys, counted-second}
+use Rattle.queue_policies.proofs.CountedKeys.{by-oldest, length-keys, counted-second}
 use Rattle.queue_moves.specs.Moves.{item_of, standing, evicted, departed, counts, goes}
 use Rattle.queue_moves.specs.Tabled.{IsTabled}
 use Rattle.queue_moves.proofs.Tabled.{oldest-gone, tabled-turns}
@@ -26,16 +26,13 @@ use Rattle.policy_steps.proofs.Hand.{apart, stopped, no-pass, IsClear, HasClear,
 
 -- ---- the two roles
 
-twice : (x : ℕ) → x ≤ 1 → passed_queue (passed_queue x) ≡ x
-twice x h = omega (arith, h)
-
 wrapped-low : (x : ℕ) (l : List Entry) → x ≤ 1 → (if is_empty l then passed_queue x else x) ≤ 1
 wrapped-low x [] h = omega arith
 wrapped-low x (e ∷ l) h = h
 
 -- the roles after the hand went back where nothing is ahead of it
 wrapped-at : (x : ℕ) (s : Queues) (l : List Entry) → x ≤ 1 → s x ≡ l → sieve_of (if is_empty l then passed_queue x else x) s ≡ after_wrap (counted_keys (s (passed_queue x))) (counted_keys l)
-wrapped-at x s [] low h = ap (λ v. record { passed = counted_keys v; ahead = counted_keys (s (passed_queue x)) }) (ap s (twice x low) ∙ h)
+wrapped-at x s [] low h = ap (λ v. record { passed = counted_keys v; ahead = counted_keys (s (passed_queue x)) }) (ap s (omega (arith, low)) ∙ h)
 wrapped-at x s (e ∷ l) low h = ap (λ v. record { passed = counted_keys (s (passed_queue x)); ahead = counted_keys v }) h
 
 sieve-wrapped : (x : ℕ) (s : Queues) → x ≤ 1 → sieve_of (queue_ahead x s) s ≡ after_wrap (counted_keys (s (passed_queue x))) (counted_keys (s x))
@@ -45,12 +42,10 @@ sieve-wrapped x s low = wrapped-at x s (s x) low refl
 abbrev IsAhead : List Entry → Type 0
 IsAhead l = 1 ≤ length l
 
-ahead-at : (x : ℕ) (s : Queues) (l : List Entry) → s x ≡ l → IsAhead l → after_wrap (counted_keys (s (passed_queue x))) (counted_keys l) ≡ sieve_of x s
-ahead-at x s [] h some = absurd (omega (arith, some))
-ahead-at x s (e ∷ l) h some = sym (ap (λ v. record { passed = counted_keys (s (passed_queue x)); ahead = counted_keys v }) h)
-
 not-wrapped : (x : ℕ) (s : Queues) → IsAhead (s x) → after_wrap (counted_keys (s (passed_queue x))) (counted_keys (s x)) ≡ sieve_of x s
-not-wrapped x s some = ahead-at x s (s x) refl some
+not-wrapped x s some =
+    let passed = counted_keys (s (passed_queue x)) in
+    by-oldest (λ l. after_wrap passed (counted_keys l) ≡ record { passed = passed; ahead = counted_keys l }) (s x) some (λ e l h. refl)
 
 clear-ahead : (l : List Entry) → HasClear l → IsAhead l
 clear-ahead [] h = absurd h
