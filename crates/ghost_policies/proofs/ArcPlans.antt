@@ -2,6 +2,7 @@
 use Rattle.std.proofs.Common.{cond, ap, ◌≡◌, ℕ, ◌+◌, ◌*◌, ◌<◌, ◌≤◌, Bool, true, false, eqb, nat_lt, ◌⊎◌, ◌&&◌, List, [], ◌∷◌, length, refl, arith, inl, inr}
 use Rattle.std.proofs.lemmas.Bool.{cases_Bool, ltb-true, ltb-false, eqb-true, eqb-false}
 use Rattle.step_record.specs.Keys.{has_key, keys_without}
+use Rattle.queue_policies.proofs.Residents.{apart}
 use Rattle.queue_policies.proofs.CountedKeys.{by-oldest}
 use Rattle.ghost_policies.specs.Arc.{ArcState, arc_total, forgotten_of_b1, forgotten_of_b2, leaver_to_b1, leaver_to_b2, leaver_dropped, arc_replace, plan_of_new_key}
 use Rattle.ghost_policies.specs.declared.arc.ArcLeaver.{ArcLeaver}
@@ -42,11 +43,7 @@ new-cases c s P drops_b1 drops_t1 joins drops_b2 replaces =
 -- a key that is not there is taken out for nothing
 pub none-out : (k : ℕ) (l : List ℕ) → has_key k l ≡ false → keys_without k l ≡ l
 none-out k [] h = refl
-none-out k (a ∷ l) h =
-    elim (cases_Bool (eqb k a)) as (λ _. cond (eqb k a) (keys_without k l) (a ∷ keys_without k l) ≡ a ∷ l) [
-      | inl e ↦ absurd (let no : true ≡ false = rw e at h in cc (no))
-      | inr e ↦ rw e (ap (λ t. a ∷ t) (none-out k l (rw e at h)))
-    ]
+none-out k (a ∷ l) h = let w = apart k a l h in rw w.0 (ap (λ t. a ∷ t) (none-out k l w.1))
 
 -- In a full cache the oldest of t1 leaves, or that of t2, which has one where t1 has none, or not over p.
 pub replace-cases : (in_b2 : Bool) (c p : ℕ) (s : ArcState) (P : ArcLeaver → Type 0) → 1 ≤ c → length s.t1 + length s.t2 ≡ c → p ≤ c → (in_b2 ≡ true) ⊎ (length s.t1 < c)

@@ -8,7 +8,7 @@ use Rattle.queue_table.proofs.EntryLists.{times-append}
 use Rattle.queue_policies.specs.CountedKeys.{keys_of, with_count, oldest_count}
 use Rattle.queue_moves.specs.Moves.{item_of, count_or}
 use Rattle.queue_moves.specs.Tabled.{nodes_of, keys_of as entry_keys}
-use Rattle.queue_moves.proofs.Tabled.{counted-none, same-key, has-occurs}
+use Rattle.queue_moves.proofs.Tabled.{nodes-append, counted-none, same-key, has-occurs}
 use Rattle.policy_steps.specs.Counted.{counted_key, counted_keys}
 
 pub counted-append : (a b : List Entry) → counted_keys (a ++ b) ≡ counted_keys a ++ counted_keys b
@@ -29,10 +29,6 @@ keys-counted (e ∷ l) = ap (λ t. e.item.key ∷ t) (keys-counted l)
 
 pub key-counted : (k : ℕ) (l : List Entry) → nodes_of l ≡ 0 → has_key k (keys_of (counted_keys l)) ≡ nat_lt 0 (occurrences (item_of k) l)
 key-counted k l h = ap (has_key k) (keys-counted l) ∙ has-occurs k l h
-
-nodes-append : (a b : List Entry) → nodes_of (a ++ b) ≡ nodes_of a + nodes_of b
-nodes-append [] b = omega arith
-nodes-append (e ∷ a) b = omega (arith, nodes-append a b)
 
 -- keys of two queues
 pub key-both : (k : ℕ) (a b : List Entry) → nodes_of a ≡ 0 → nodes_of b ≡ 0 → has_key k (keys_of (counted_keys a ++ counted_keys b)) ≡ nat_lt 0 (occurrences (item_of k) a + occurrences (item_of k) b)

@@ -7,6 +7,7 @@ use Rattle.queue_table.specs.Entries.{entry, entries_without}
 use Rattle.queue_table.specs.Queues.{Queues}
 use Rattle.queue_policies.specs.CountedKeys.{CountedKey, count_of}
 use Rattle.queue_policies.specs.CountedKeys as counted
+use Rattle.queue_policies.proofs.Residents.{apart}
 use Rattle.queue_policies.proofs.CountedKeys.{count-append}
 use Rattle.queue_policies.proofs.Ghost.{without-length}
 use Rattle.queue_moves.specs.Moves.{item_of}
@@ -30,10 +31,8 @@ without-keys k (e ∷ l) h =
 pub without-counted : (k : ℕ) (l : List Entry) → has_key k (keys_of l) ≡ false → counted_keys (entries_without (item_of k) l) ≡ counted_keys l
 without-counted k [] h = refl
 without-counted k (e ∷ l) h =
-    elim (cases_Bool (eqb k e.item.key)) [
-      | inl f ↦ absurd (let no : true ≡ false = rw f at h in cc (no))
-      | inr f ↦ rw f (ap (λ t. record { key = e.item.key; count = e.count } ∷ t) (without-counted k l (rw f at h)))
-    ]
+    let w = apart k e.item.key (keys_of l) h in
+    rw w.0 (ap (λ t. record { key = e.item.key; count = e.count } ∷ t) (without-counted k l w.1))
 
 pub has-both : (k : ℕ) (a b : List CountedKey) → has_key k (counted.keys_of (a ++ b)) ≡ cond (has_key k (counted.keys_of a)) true (has_key k (counted.keys_of b))
 has-both k [] b = refl

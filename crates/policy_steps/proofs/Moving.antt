@@ -9,6 +9,7 @@ use Rattle.queue_table.specs.Entries.{is_same_item, entry, occurrences, oldest_o
 use Rattle.queue_table.specs.Queues.{QUEUES, Queues, with_queue, queue_holding, after_removal, after_send}
 use Rattle.queue_table.proofs.EntryLists.{times-without}
 use Rattle.queue_table.proofs.QueueLists.{IsAbsent, absent, is_absent}
+use Rattle.queue_policies.proofs.Residents.{apart}
 use Rattle.ghost_policies.proofs.ArcPlans.{none-out}
 use Rattle.queue_moves.specs.Moves.{item_of, Leaving, leaving, IsLowTarget, IsLowLeaving, departed, after_leaving, Own, IsLowOwn, own_plan, IsLowPlan}
 use Rattle.queue_moves.specs.Tabled.{HasKeys, IsTabled, keys_of}
@@ -101,11 +102,7 @@ left-twice s t from to low w q j =
 
 -- a key that is not there is taken out for nothing, also once the oldest key has left
 pub without-rest : (k v : ℕ) (l : List ℕ) → has_key k (v ∷ l) ≡ false → keys_without k l ≡ l
-without-rest k v l h =
-    elim (cases_Bool (eqb k v)) [
-      | inl f ↦ absurd (let no : true ≡ false = rw f at h in cc no)
-      | inr f ↦ none-out k l (rw f at h)
-    ]
+without-rest k v l h = none-out k l (apart k v l h).1
 
 pub without-drop : (k : ℕ) (l : List ℕ) → has_key k l ≡ false → keys_without k (drop 1 l) ≡ drop 1 l
 without-drop k [] h = refl
@@ -120,11 +117,7 @@ first-of [] n = absurd (omega (arith, n))
 first-of (e ∷ r) n = (e, (r, refl))
 
 pub apart-first : (k v : ℕ) (l : List ℕ) → has_key k (v ∷ l) ≡ false → eqb k v ≡ false
-apart-first k v l h =
-    elim (cases_Bool (eqb k v)) [
-      | inl f ↦ absurd (let no : true ≡ false = rw f at h in cc no)
-      | inr f ↦ f
-    ]
+apart-first k v l h = (apart k v l h).0
 
 pub without-push : (k v : ℕ) (l : List ℕ) → eqb k v ≡ false → keys_without k (l ++ v ∷ []) ≡ keys_without k l ++ v ∷ []
 without-push k v [] h = rw h refl
