@@ -8,9 +8,10 @@ use Rattle.queue_table.specs.declared.records.Entry.{Entry}
 use Rattle.queue_table.specs.Entries.{oldest_of}
 use Rattle.queue_table.specs.Queues.{Queues}
 use Rattle.queue_policies.specs.CountedKeys as counted
+use Rattle.queue_policies.specs.S3Fifo.{s3_fifo_main_size}
 use Rattle.ghost_policies.specs.declared.two_q.TwoQSizes.{TwoQSizes}
 use Rattle.ghost_policies.specs.Arc.{IsArc}
-use Rattle.queue_moves.specs.Moves.{item_of, standing, Leaving, Own, Plan, own_plan, outcome_of, outcome_after, evicted, after_runs, after_first}
+use Rattle.queue_moves.specs.Moves.{item_of, standing, Leaving, Own, Plan, own_plan, outcome_of, outcome_after, evicted, after_run, after_runs, after_first}
 use Rattle.queue_moves.specs.Undoing.{record_of, left_of, outs, MovesAsk}
 use Rattle.queue_moves.specs.Tabled.{IsTabled, keys_of, StandsAs}
 use Rattle.queue_moves.proofs.Tabled.{stands}
@@ -63,9 +64,15 @@ resident-alone : (at : Option (ℕ × ℕ)) (room : Bool) (hit join : Own) (x : 
 resident-alone (Some a) room hit join x full f = own-alone true hit x
 resident-alone None room hit join x full f = either room (own_plan false join x) full (own-alone false join x) (never full f)
 
+s3-miss-alone : (part c x : ℕ) (r : Bool) (s : Queues) → OwnAlone (s3_fifo.s3_fifo_miss part c r x s)
+s3-miss-alone part c x r s =
+    let m : ℕ = s3_fifo_main_size part c in
+    either (nat_lt (length (s s3_fifo.SMALL) + length (s s3_fifo.MAIN)) c) _ _ (own-alone false _ x)
+    (either (s3_fifo.gives_main m (after_run (s3_fifo.promotions m s) s)) _ _ (never _ refl) (never _ refl))
+
 s3-fifo-alone : (at : Option (ℕ × ℕ)) (part c x : ℕ) (s : Queues) → OwnAlone (s3_fifo.plan_at part c x at s)
-s3-fifo-alone None part c x s = never _ refl
-s3-fifo-alone (Some p) part c x s = either (s3_fifo.is_resident p.0) _ _ (own-alone true _ x) (never _ refl)
+s3-fifo-alone None part c x s = s3-miss-alone part c x false s
+s3-fifo-alone (Some p) part c x s = either (s3_fifo.is_resident p.0) _ _ (own-alone true _ x) (s3-miss-alone part c x _ s)
 
 two-q-alone : (at : Option (ℕ × ℕ)) (z : TwoQSizes) (c x : ℕ) (s : Queues) → OwnAlone (two_q.plan_at z c x at s)
 two-q-alone None z c x s = never _ refl
@@ -152,19 +159,10 @@ module _ (c x : ℕ) (s : Queues) where
   abbrev S3Full : ℕ → Type 0
   S3Full part = nat_lt (length (residents_by (S3Fifo part) x s)) c ≡ false
 
-  s3-room : (part : ℕ) (r : Bool) → ((s3_fifo.room_plan part c r s).first ≡ None) × ((s3_fifo.room_plan part c r s).second ≡ None) ⊎ S3Full part
-  s3-room part r =
-      elim (cases_Bool (nat_lt (length (s s3_fifo.SMALL) + length (s s3_fifo.MAIN)) c)) [
-        | inl e ↦ inl (rw e (refl, refl))
-        | inr e ↦ inr (not-less _ _ c (both-length (s s3_fifo.SMALL) (s s3_fifo.MAIN)) e)
-      ]
-
   s3-miss : (part : ℕ) (r : Bool) → LeavesFull (S3Full part) (s3_fifo.s3_fifo_miss part c r x s)
   s3-miss part r =
-      elim (s3-room part r) [
-        | inl n ↦ inl (record { first = n.0; second = n.1 })
-        | inr f ↦ inr f
-      ]
+      one-of (S3Full part) (nat_lt (length (s s3_fifo.SMALL) + length (s s3_fifo.MAIN)) c) _ _ (λ e. own-none (S3Full part) false _ x)
+      (λ e. inr (not-less _ _ c (both-length (s s3_fifo.SMALL) (s s3_fifo.MAIN)) e))
 
   s3-full : (part : ℕ) (at : Option (ℕ × ℕ)) → LeavesFull (S3Full part) (s3_fifo.plan_at part c x at s)
   s3-full part None = s3-miss part false

@@ -25,7 +25,8 @@ use Rattle.policy_steps.specs.Misses.{Leavers, no_leavers, miss_plan}
 use Rattle.policy_steps.specs.Arc.{T1, T2, B1, B2, arc_of, total, step_size, gives_t1, replaced, new_key_leavers, new_key_plan, recall_plan, plan_in, plan_at, arc_plan}
 use Rattle.policy_steps.specs.Theorems.{ArcIsPlanned}
 use Rattle.policy_steps.proofs.Parts.{nowhere}
-use Rattle.policy_steps.proofs.Moving.{length-keys, keys-sent, keys_left, left-keys, without-drop, without-push, apart-first, own-low, AreLow, miss-low, tabled-leavers, still-absent}
+use Rattle.policy_steps.proofs.Moving.{length-keys, keys-sent, keys_left, left-keys, without-drop, without-push, apart-first, own-low, AreLow, miss-low, tabled-leavers}
+use Rattle.policy_steps.proofs.Leaving.{still-absent}
 
 -- ---- the state, queue by queue
 

@@ -19,7 +19,8 @@ use Rattle.policy_steps.specs.Clock.{clock_of, clock_eviction_plan}
 use Rattle.policy_steps.proofs.Residents.{resident-planned}
 use Rattle.policy_steps.specs.Theorems.{ClockIsPlanned}
 use Rattle.policy_steps.proofs.Counted.{counted-append, length-counted, key-counted, counted-with}
-use Rattle.policy_steps.proofs.Parts.{first-send, first-turns, first-out, absent-turns}
+use Rattle.policy_steps.proofs.Parts.{first-send, first-turns, first-out}
+use Rattle.policy_steps.proofs.Leaving.{absent-turns}
 use Rattle.policy_steps.proofs.Turns.{turns-are}
 use Rattle.queue_moves.proofs.Tabled.{oldest-gone, tabled-turns}
 

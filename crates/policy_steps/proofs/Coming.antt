@@ -11,8 +11,7 @@ use Rattle.queue_moves.specs.declared.records.Run.{Run}
 use Rattle.queue_moves.specs.Moves.{leaving, IsLowLeaving}
 use Rattle.queue_moves.specs.Undoing.{IsLeft, IsRun}
 use Rattle.policy_steps.specs.Comers.{Comes}
-use Rattle.policy_steps.proofs.Moving.{absent-left}
-use Rattle.policy_steps.proofs.Steps.{absent-run}
+use Rattle.policy_steps.proofs.Leaving.{absent-left, absent-run}
 
 -- the oldest of a queue that it is not in has left this
 pub comes-on : (found : Option Found) (i : Item) (from : ℕ) (to : Option (ℕ × ℕ)) (old new : List Slot) (r : Left) → IsLowLeaving (leaving from to) → IsLeft (leaving from to) (queues old) (queues new) r

@@ -1,6 +1,7 @@
 -- Entries as keys with counts.
-use Rattle.std.proofs.Common.{◌≡◌, ℕ, suc, ◌+◌, ◌≤◌, eqb, nat_lt, List, [], ◌∷◌, ◌++◌, length, ap, ◌∙◌, sym, refl, arith, inl, inr}
+use Rattle.std.proofs.Common.{◌≡◌, ℕ, ◌+◌, ◌≤◌, eqb, nat_lt, List, [], ◌∷◌, ◌++◌, length, ap, ◌∙◌, sym, refl, arith, inl, inr}
 use Rattle.std.proofs.lemmas.Bool.{cases_Bool}
+use Rattle.std.proofs.lemmas.List.{length-map, map-append}
 use Rattle.step_record.specs.Keys.{has_key}
 use Rattle.queue_table.specs.declared.records.Entry.{Entry}
 use Rattle.queue_table.specs.Entries.{is_same_item, entry, oldest_of, occurrences, entries_counted}
@@ -8,27 +9,29 @@ use Rattle.queue_table.proofs.EntryLists.{times-append}
 use Rattle.queue_policies.specs.CountedKeys.{keys_of, with_count, oldest_count}
 use Rattle.queue_moves.specs.Moves.{item_of, count_or}
 use Rattle.queue_moves.specs.Tabled.{nodes_of, keys_of as entry_keys}
-use Rattle.queue_moves.proofs.Tabled.{nodes-append, counted-none, same-key, has-occurs}
+use Rattle.queue_moves.proofs.Tabled.{same-key, has-occurs, counted-none}
 use Rattle.policy_steps.specs.Counted.{counted_key, counted_keys}
 
 pub counted-append : (a b : List Entry) → counted_keys (a ++ b) ≡ counted_keys a ++ counted_keys b
-counted-append [] b = refl
-counted-append (e ∷ a) b = ap (λ t. counted_key e ∷ t) (counted-append a b)
+counted-append a b = map-append counted_key a b
 
 pub length-counted : (l : List Entry) → length (counted_keys l) ≡ length l
-length-counted [] = refl
-length-counted (e ∷ l) = ap suc (length-counted l)
+length-counted l = length-map l counted_key
 
 pub oldest-counted : (l : List Entry) → oldest_count (counted_keys l) ≡ count_or 0 (oldest_of l)
 oldest-counted [] = refl
 oldest-counted (e ∷ l) = refl
 
-keys-counted : (l : List Entry) → keys_of (counted_keys l) ≡ entry_keys l
+pub keys-counted : (l : List Entry) → keys_of (counted_keys l) ≡ entry_keys l
 keys-counted [] = refl
 keys-counted (e ∷ l) = ap (λ t. e.item.key ∷ t) (keys-counted l)
 
 pub key-counted : (k : ℕ) (l : List Entry) → nodes_of l ≡ 0 → has_key k (keys_of (counted_keys l)) ≡ nat_lt 0 (occurrences (item_of k) l)
 key-counted k l h = ap (has_key k) (keys-counted l) ∙ has-occurs k l h
+
+nodes-append : (a b : List Entry) → nodes_of (a ++ b) ≡ nodes_of a + nodes_of b
+nodes-append [] b = omega arith
+nodes-append (e ∷ a) b = omega (arith, nodes-append a b)
 
 -- keys of two queues
 pub key-both : (k : ℕ) (a b : List Entry) → nodes_of a ≡ 0 → nodes_of b ≡ 0 → has_key k (keys_of (counted_keys a ++ counted_keys b)) ≡ nat_lt 0 (occurrences (item_of k) a + occurrences (item_of k) b)

@@ -1,14 +1,18 @@
 -- A queue's oldest key leaves it, and what that leaves alone.
-use Rattle.std.proofs.Common.{◌≡◌, ℕ, zero, suc, ◌-◌, Option, Some, None, List, [], ◌∷◌, ap, ◌∙◌, refl}
+use Rattle.std.proofs.Common.{◌≡◌, ℕ, zero, suc, ◌-◌, ◌<◌, false, Option, Some, None, List, [], ◌∷◌, drop, ap, sym, subst, ◌∙◌, refl, arith}
 use Rattle.step_record.specs.declared.item.Item.{Item}
 use Rattle.queue_table.specs.declared.records.Entry.{Entry}
-use Rattle.queue_table.specs.Entries.{entry, occurrences, oldest_of}
-use Rattle.queue_table.specs.Queues.{Queues, with_queue, after_push}
+use Rattle.queue_table.specs.Entries.{is_same_item, entry, occurrences, oldest_of}
+use Rattle.queue_table.specs.Queues.{QUEUES, Queues, with_queue, queue_holding, after_push}
+use Rattle.queue_table.proofs.EntryLists.{times-without}
+use Rattle.queue_table.proofs.QueueLists.{IsAbsent, absent, is_absent}
+use Rattle.queue_moves.specs.declared.records.Left.{Left}
 use Rattle.queue_moves.specs.declared.records.Run.{Run}
-use Rattle.queue_moves.specs.Moves.{turned, after_turn, after_turns, after_run, departed, leaving, after_leaving}
+use Rattle.queue_moves.specs.Moves.{turned, after_turn, after_turns, after_run, Leaving, departed, leaving, after_leaving, IsLowLeaving}
 use Rattle.queue_moves.specs.Tabled.{IsTabled}
+use Rattle.queue_moves.specs.Undoing.{IsLeft, IsRun}
 use Rattle.queue_moves.proofs.Laws.{first-other, off-after-send}
-use Rattle.queue_moves.proofs.Tabled.{oldest-gone}
+use Rattle.queue_moves.proofs.Tabled.{oldest-gone, turns-within}
 
 pub oldest-out : (s : Queues) → IsTabled s → (q : ℕ) (e : Entry) (l : List Entry) → s q ≡ e ∷ l → after_leaving (leaving q None) s ≡ with_queue q l s
 oldest-out s t q e l h = ap (λ o. departed None o s) (ap oldest_of h) ∙ oldest-gone s t q e l h
@@ -19,6 +23,14 @@ oldest-sent s t q to e l h = ap (λ o. departed (Some (to, 0)) o s) (ap oldest_o
 pub none-out : (s : Queues) (q : ℕ) → s q ≡ [] → after_leaving (leaving q None) s ≡ s
 none-out s q h = ap (λ o. departed None o s) (ap oldest_of h)
 
+-- whether it has a key or not
+pub any-out : (s : Queues) → IsTabled s → (q : ℕ) → q < QUEUES → after_leaving (leaving q None) s ≡ with_queue q (drop 1 (s q)) s
+any-out s t q low = at (s q) refl
+  where
+    at : (l : List Entry) → s q ≡ l → after_leaving (leaving q None) s ≡ with_queue q (drop 1 (s q)) s
+    at [] h = none-out s q h ∙ turns-within s t 0 q 0 low ∙ ap (λ l. with_queue q l s) (h ∙ ap (drop 1) (sym h))
+    at (e ∷ l) h = oldest-out s t q e l h ∙ ap (λ x. with_queue q (drop 1 x) s) (sym h)
+
 -- ---- an entry of other queues stays out of those that keys leave
 
 off-turn : (i : Item) (from to less j : ℕ) (s : Queues) → occurrences i (s from) ≡ 0 → occurrences i (s j) ≡ 0 → occurrences i (after_turn from to less s j) ≡ 0
@@ -28,16 +40,37 @@ off-turn i from to less j s a z = go (oldest_of (s from)) refl
     go None h = z
     go (Some e) h = off-after-send i (entry e.item (e.count - less)) to j s (first-other (entry i 0) e (s from) h a) z
 
-pub off-turns : (i : Item) (n from to less j : ℕ) (s : Queues) → occurrences i (s from) ≡ 0 → occurrences i (s j) ≡ 0 → occurrences i (after_turns n from to less s j) ≡ 0
+off-turns : (i : Item) (n from to less j : ℕ) (s : Queues) → occurrences i (s from) ≡ 0 → occurrences i (s j) ≡ 0 → occurrences i (after_turns n from to less s j) ≡ 0
 off-turns i zero from to less j s a z = z
 off-turns i (suc n) from to less j s a z = off-turns i n from to less j (after_turn from to less s) (off-turn i from to less from s a a) (off-turn i from to less j s a z)
 
 pub off-run : (i : Item) (r : Run) (from j : ℕ) (s u : Queues) → r.from ≡ from → u ≡ after_run r s → occurrences i (s from) ≡ 0 → occurrences i (s j) ≡ 0 → occurrences i (u j) ≡ 0
 off-run i r from j s u is after a z = ap (λ (t : Queues). occurrences i (t j)) after ∙ off-turns i r.times r.from r.to r.less j s (ap (λ q. occurrences i (s q)) is ∙ a) z
 
-pub off-sent : (i : Item) (from to n j : ℕ) (s u : Queues) → u ≡ after_leaving (leaving from (Some (to, n))) s → occurrences i (s from) ≡ 0 → occurrences i (s j) ≡ 0 → occurrences i (u j) ≡ 0
-off-sent i from to n j s u after a z = ap (λ (t : Queues). occurrences i (t j)) after ∙ go (oldest_of (s from)) refl
+pub none-left : (i : Item) (from : ℕ) (to : Option (ℕ × ℕ)) (s : Queues) (j : ℕ) → occurrences i (s from) ≡ 0 → occurrences i (s j) ≡ 0
+    → occurrences i (after_leaving (leaving from to) s j) ≡ 0
+none-left i from to s j a z = at (oldest_of (s from)) refl
   where
-    go : (o : Option Entry) → oldest_of (s from) ≡ o → occurrences i (departed (Some (to, n)) o s j) ≡ 0
-    go None h = z
-    go (Some e) h = off-after-send i (entry e.item n) to j s (first-other (entry i 0) e (s from) h a) z
+    gone : (to : Option (ℕ × ℕ)) (e : Entry) → is_same_item i e.item ≡ false → occurrences i (departed to (Some e) s j) ≡ 0
+    gone None e other = let less = times-without e.item i (s j) in omega (arith, less, z)
+    gone (Some p) e other = off-after-send i (entry e.item p.1) p.0 j s other z
+
+    at : (o : Option Entry) → oldest_of (s from) ≡ o → occurrences i (departed to o s j) ≡ 0
+    at None h = z
+    at (Some e) h = gone to e (first-other (entry i 0) e (s from) h a)
+
+-- ---- an item that stands nowhere still does
+
+pub absent-turns : (i : Item) (n from to less : ℕ) (s : Queues) → from < QUEUES → IsAbsent i s → IsAbsent i (after_turns n from to less s)
+absent-turns i n from to less s w h = λ q v. off-turns i n from to less q s (h from w) (h q v)
+
+pub still-absent : (i : Item) (l : Option Leaving) (s : Queues) → IsLowLeaving l → IsAbsent i s → IsAbsent i (after_leaving l s)
+still-absent i None s w h = h
+still-absent i (Some l) s w h = λ q v. none-left i l.from l.to s q (h l.from w.0) (h q v)
+
+pub absent-left : (i : Item) (l : Option Leaving) (s u : Queues) (r : Left) → IsLowLeaving l → IsLeft l s u r → queue_holding i s ≡ None → queue_holding i u ≡ None
+absent-left i l s u r w left h = is_absent i u (subst (IsAbsent i) (sym left.after) (still-absent i l s w (absent i s h)))
+
+pub absent-run : (i : Item) (r : Run) (s u : Queues) → IsRun r s u → queue_holding i s ≡ None → queue_holding i u ≡ None
+absent-run i r s u ran none =
+    subst (λ v. queue_holding i v ≡ None) (sym ran.after) (is_absent i (after_run r s) (absent-turns i r.times r.from r.to r.less s ran.fits.from (absent i s none)))

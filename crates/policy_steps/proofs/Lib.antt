@@ -9,10 +9,11 @@ pub mod SieveStep
 pub mod Keys
 pub mod Turns
 pub mod Leaving
+pub mod Moving
+pub mod Ghosts
 pub mod S3FifoMoves
 pub mod S3Fifo
 pub mod S3FifoStep
-pub mod Moving
 pub mod Coming
 pub mod TwoQ
 pub mod ArcPlan

@@ -1,23 +1,18 @@
 -- What the parts of an access make of the keys of the queues.
-use Rattle.std.proofs.Common.{◌≡◌, ℕ, ◌<◌, ◌≤◌, Bool, true, false, cond, eqb, Option, Some, None, List, [], ◌∷◌, ◌++◌, length, take, drop, append-nil, ap, ◌∙◌, sym, subst, refl, arith, inl, inr}
+use Rattle.std.proofs.Common.{◌≡◌, ℕ, ◌<◌, ◌≤◌, Bool, true, false, cond, eqb, Option, Some, None, List, [], ◌∷◌, ◌++◌, length, take, drop, append-nil, ap, ◌∙◌, sym, refl, arith, inl, inr}
 use Rattle.std.proofs.lemmas.Bool.{cases_Bool, eqb-true}
 use Rattle.std.proofs.lemmas.List.{length-map}
-use Rattle.step_record.specs.declared.item.Item.{Item}
 use Rattle.step_record.specs.Keys.{has_key, keys_without}
 use Rattle.queue_table.specs.declared.records.Entry.{Entry}
-use Rattle.queue_table.specs.Entries.{is_same_item, entry, occurrences, oldest_of, entries_without}
-use Rattle.queue_table.specs.Queues.{QUEUES, Queues, with_queue, queue_holding, after_removal, after_send}
-use Rattle.queue_table.proofs.EntryLists.{times-without}
-use Rattle.queue_table.proofs.QueueLists.{IsAbsent, absent, is_absent}
+use Rattle.queue_table.specs.Entries.{entry, oldest_of, entries_without}
+use Rattle.queue_table.specs.Queues.{QUEUES, Queues, with_queue, after_removal, after_send}
 use Rattle.queue_policies.proofs.Residents.{apart}
 use Rattle.ghost_policies.proofs.ArcPlans.{none-out}
-use Rattle.queue_moves.specs.Moves.{item_of, Leaving, leaving, IsLowTarget, IsLowLeaving, departed, after_leaving, Own, IsLowOwn, own_plan, IsLowPlan}
+use Rattle.queue_moves.specs.Moves.{item_of, leaving, IsLowTarget, IsLowLeaving, departed, after_leaving, Own, IsLowOwn, own_plan, IsLowPlan}
 use Rattle.queue_moves.specs.Tabled.{HasKeys, IsTabled, keys_of}
-use Rattle.queue_moves.proofs.Laws.{first-other, off-after-send}
-use Rattle.queue_moves.proofs.Tabled.{keys-append, keys-taken, oldest-gone, tabled-leaving}
-use Rattle.queue_moves.specs.declared.records.Left.{Left}
-use Rattle.queue_moves.specs.Undoing.{IsLeft}
+use Rattle.queue_moves.proofs.Tabled.{keys-append, oldest-gone, tabled-leaving}
 use Rattle.policy_steps.specs.Misses.{Leavers, miss_plan}
+use Rattle.policy_steps.proofs.Keys.{without-keys}
 
 pub length-keys : (l : List Entry) → length (keys_of l) ≡ length l
 length-keys l = length-map l (λ (e : Entry). e.item.key)
@@ -28,8 +23,8 @@ pub keys-sent : (k m q : ℕ) (s : Queues) → HasKeys s → (j : ℕ)
     → keys_of (after_send (entry (item_of k) m) q s j) ≡ cond (eqb j q) (keys_without k (keys_of (s q)) ++ k ∷ []) (keys_without k (keys_of (s j)))
 keys-sent k m q s z j =
     elim (cases_Bool (eqb j q)) as (λ _. keys_of (cond (eqb j q) (entries_without (item_of k) (s q) ++ entry (item_of k) m ∷ []) (entries_without (item_of k) (s j))) ≡ cond (eqb j q) (keys_without k (keys_of (s q)) ++ k ∷ []) (keys_without k (keys_of (s j)))) [
-      | inl f ↦ rw f (keys-append (entries_without (item_of k) (s q)) (entry (item_of k) m ∷ []) ∙ ap (λ t. t ++ k ∷ []) (sym (keys-taken k (s q) (z q))))
-      | inr f ↦ rw f (sym (keys-taken k (s j) (z j)))
+      | inl f ↦ rw f (keys-append (entries_without (item_of k) (s q)) (entry (item_of k) m ∷ []) ∙ ap (λ t. t ++ k ∷ []) (without-keys k (s q) (z q)))
+      | inr f ↦ rw f (without-keys k (s j) (z j))
     ]
 
 -- ---- a queue's oldest key leaves it
@@ -140,25 +135,3 @@ miss-low l o x w h = record { early = (omega arith, omega arith); late = (omega 
 
 pub tabled-leavers : (l : Leavers) (s : Queues) → AreLow l → IsTabled s → IsTabled (after_leaving l.second (after_leaving l.first s))
 tabled-leavers l s w t = tabled-leaving (after_leaving l.first s) (tabled-leaving s t l.first w.0) l.second w.1
-
--- ---- an item that stands nowhere, or in other queues, does not come with a key that leaves
-
-none-departed : (i : Item) (to : Option (ℕ × ℕ)) (e : Entry) (s : Queues) (j : ℕ) → is_same_item i e.item ≡ false → occurrences i (s j) ≡ 0
-    → occurrences i (departed to (Some e) s j) ≡ 0
-none-departed i None e s j other z = let less = times-without e.item i (s j) in omega (arith, less, z)
-none-departed i (Some p) e s j other z = off-after-send i (entry e.item p.1) p.0 j s other z
-
-pub none-left : (i : Item) (from : ℕ) (to : Option (ℕ × ℕ)) (s : Queues) (j : ℕ) → occurrences i (s from) ≡ 0 → occurrences i (s j) ≡ 0
-    → occurrences i (after_leaving (leaving from to) s j) ≡ 0
-none-left i from to s j a z = at (oldest_of (s from)) refl
-  where
-    at : (o : Option Entry) → oldest_of (s from) ≡ o → occurrences i (departed to o s j) ≡ 0
-    at None h = z
-    at (Some e) h = none-departed i to e s j (first-other (entry i 0) e (s from) h a) z
-
-pub still-absent : (i : Item) (l : Option Leaving) (s : Queues) → IsLowLeaving l → IsAbsent i s → IsAbsent i (after_leaving l s)
-still-absent i None s w h = h
-still-absent i (Some l) s w h = λ q v. none-left i l.from l.to s q (h l.from w.0) (h q v)
-
-pub absent-left : (i : Item) (l : Option Leaving) (s u : Queues) (r : Left) → IsLowLeaving l → IsLeft l s u r → queue_holding i s ≡ None → queue_holding i u ≡ None
-absent-left i l s u r w left h = is_absent i u (subst (IsAbsent i) (sym left.after) (still-absent i l s w (absent i s h)))

@@ -4,13 +4,12 @@ use Rattle.std.proofs.lemmas.Bool.{ltb-true, cases_lt}
 use Rattle.step_record.specs.declared.item.Item.{Item}
 use Rattle.queue_table.specs.declared.records.Entry.{Entry}
 use Rattle.queue_table.specs.Entries.{entry, oldest_of, occurrences, entries_without, entries_counted}
-use Rattle.queue_table.specs.Queues.{QUEUES, Queues, after_removal, after_send, after_count}
+use Rattle.queue_table.specs.Queues.{Queues, after_removal, after_send, after_count}
 use Rattle.queue_table.proofs.QueueLists.{IsAbsent, absent, with-queue-other}
 use Rattle.queue_moves.specs.Moves.{item_of, standing, turned, after_turn, after_turns, departed, leaving, after_leaving}
 use Rattle.queue_moves.specs.Tabled.{IsTabled}
 use Rattle.policy_steps.specs.Planned.{IsWithin}
 use Rattle.queue_moves.proofs.Tabled.{nowhere-standing, has-occurs, stands}
-use Rattle.policy_steps.proofs.Leaving.{off-turns}
 
 -- ---- the queues from n on stay empty
 
@@ -39,9 +38,6 @@ pub first-out : (n from : ℕ) (s : Queues) → IsWithin n s → IsWithin n (aft
 first-out n from s h = first-departed n (oldest_of (s from)) s h
 
 -- ---- a key that stands nowhere
-
-pub absent-turns : (i : Item) (n from to less : ℕ) (s : Queues) → from < QUEUES → IsAbsent i s → IsAbsent i (after_turns n from to less s)
-absent-turns i n from to less s w h q v = off-turns i n from to less q s (h from w) (h q v)
 
 pub nowhere : (i : Item) (s : Queues) → standing i s ≡ None → IsAbsent i s
 nowhere i s h = absent i s (nowhere-standing i s h)

@@ -1,6 +1,6 @@
 -- The plan of an access to an S3-FIFO cache comes to what the definition says.
-use Rattle.std.proofs.Common.{◌≡◌, ℕ, ◌+◌, ◌-◌, ◌*◌, ◌<◌, ◌≤◌, Bool, true, false, if◌then◌else◌, eqb, ◌==◌, ◌||◌, nat_lt, Option, Some, None, List, [], ◌∷◌, ◌++◌, length, ap, sym, subst, ◌∙◌, refl, arith, inl, inr, length-append}
-use Rattle.std.proofs.lemmas.Bool.{cases_Bool, eq-eqb, eqb-true, eqb-false}
+use Rattle.std.proofs.Common.{◌≡◌, ℕ, ◌+◌, ◌-◌, ◌<◌, ◌≤◌, Bool, true, false, eqb, ◌==◌, nat_lt, Option, Some, None, List, [], ◌∷◌, ◌++◌, length, ap, sym, subst, ◌∙◌, refl, arith, inl, inr}
+use Rattle.std.proofs.lemmas.Bool.{cases_Bool, cond_both, or_parts, eq-eqb, eqb-true, eqb-false}
 use Rattle.step_record.specs.Keys.{has_key, keys_without}
 use Rattle.step_record.specs.Stats.{one_if}
 use Rattle.step_record.specs.declared.outcome.Outcome.{Outcome}
@@ -8,30 +8,30 @@ use Rattle.step_record.specs.declared.outcome.Outcome.TheVariants as outcome
 use Rattle.queue_table.specs.declared.records.Entry.{Entry}
 use Rattle.queue_table.specs.Entries.{entry, entries_without, entries_counted}
 use Rattle.queue_table.specs.Queues.{QUEUES, Queues, after_send}
-use Rattle.queue_policies.specs.Residents.{times}
-use Rattle.queue_policies.specs.CountedKeys.{CountedKey, uncounted_key, count_of, with_count, AreCounted, total_count}
-use Rattle.queue_policies.specs.CountedKeys as counted
-use Rattle.queue_policies.specs.Turns.{turn_count, after_turns}
-use Rattle.queue_policies.specs.Ghost.{ghost_place_of}
-use Rattle.queue_policies.specs.S3Fifo.{S3FifoState, s3_fifo_residents, s3_fifo_main_size, main_gives, main_eviction, small_eviction, without_ghost_key, s3_fifo_with_key, s3_fifo_with_count, hit_count, s3_fifo_act, IsS3Fifo}
-use Rattle.queue_policies.specs.S3FifoPlan.{promotion_count_within, promotion_count, after_promotions, planned_eviction, planned_room}
 use Rattle.queue_table.proofs.QueueLists.{queue-few}
+use Rattle.queue_policies.specs.Residents.{times}
+use Rattle.queue_policies.specs.CountedKeys.{CountedKey, uncounted_key, count_of, with_count}
+use Rattle.queue_policies.specs.CountedKeys as counted
+use Rattle.queue_policies.specs.Ghost.{ghost_place_of}
+use Rattle.queue_policies.specs.S3Fifo.{S3FifoState, s3_fifo_residents, s3_fifo_main_size, main_eviction, small_eviction, most_moves, s3_fifo_room, s3_fifo_with_key, s3_fifo_with_count, hit_count, s3_fifo_act, IsS3Fifo}
 use Rattle.queue_policies.proofs.Residents.{times-none, no-times, brought-few}
-use Rattle.queue_policies.proofs.CountedKeys.{keys-times, length-keys, counted-first, counted-second, count-append, keys-with}
-use Rattle.queue_policies.proofs.S3Fifo.{promoted-times, promoted-counted, join-times, plan-made, BothCounted}
-use Rattle.queue_policies.proofs.S3FifoPlan.{room-planned}
-use Rattle.queue_moves.specs.Moves.{item_of, standing, counts, goes, Plan, own_plan, after_run, after_runs, leaving, after_first, after_second, outcome_of, IsLowRun, IsLowLeaving, IsLowOwn, IsLowPlan}
+use Rattle.queue_policies.proofs.CountedKeys.{keys-times, count-append, keys-with}
+use Rattle.queue_policies.proofs.S3Fifo.{made, unmoved, join-times, room-made}
+use Rattle.queue_moves.specs.declared.records.Run.{Run}
+use Rattle.queue_moves.specs.Moves.{item_of, standing, no_run, counts, goes, Plan, own_plan, after_run, after_runs, leaving, outcome_after, IsLowRun, IsLowOwn, IsLowPlan}
 use Rattle.queue_moves.specs.Tabled.{IsTabled, StandsAs, keys_of, HasKeys}
+use Rattle.queue_moves.proofs.Tabled.{stands, stands-nowhere, tabled-turns, tabled-runs}
 use Rattle.policy_steps.specs.Counted.{counted_keys}
-use Rattle.policy_steps.proofs.Counted.{counted-append, length-counted, counted-with}
-use Rattle.policy_steps.specs.S3Fifo.{SMALL, MAIN, GHOST, s3_fifo_of, promotions, gives_main, main_turns, forgets, joins, main_eviction_plan, small_eviction_plan, room_plan, s3_fifo_miss, plan_at}
-use Rattle.policy_steps.specs.Rooms.{RoomPlan, no_room_plan, miss_plan}
+use Rattle.policy_steps.specs.Misses.{Leavers, no_leavers, one_leaver, after_leavers, leavers_for_ghost, run_plan}
 use Rattle.policy_steps.specs.Planned.{IsPlannedBy}
+use Rattle.policy_steps.specs.S3Fifo.{SMALL, MAIN, GHOST, s3_fifo_of, promotions, gives_main, main_turns, joins, s3_fifo_miss, plan_at}
 use Rattle.policy_steps.specs.Theorems.{S3FifoIsPlanned}
-use Rattle.queue_moves.proofs.Tabled.{stands, stands-nowhere, tabled-turns, tabled-runs, tabled-leaving}
-use Rattle.policy_steps.proofs.Keys.{keys-counted, without-keys, without-counted, has-both, its-count}
-use Rattle.policy_steps.proofs.Turns.{turns-are, turns-keep}
-use Rattle.policy_steps.proofs.S3FifoMoves.{made, promoted, total-few, gives-is, IsLeft, main-left, small-left}
+use Rattle.policy_steps.proofs.Counted.{counted-append, keys-counted, counted-with}
+use Rattle.policy_steps.proofs.Ghosts.{leavers-low}
+use Rattle.policy_steps.proofs.Keys.{without-keys, without-counted, has-both, its-count}
+use Rattle.policy_steps.proofs.Moving.{first-of, apart-first, AreLow, tabled-leavers}
+use Rattle.policy_steps.proofs.S3FifoMoves.{state_without, resident-count, IsPromoted, promotes, last_eviction, IsLeft, main-left, small-left}
+use Rattle.policy_steps.proofs.Turns.{turns-keep}
 
 -- ---- the key comes in
 
@@ -46,8 +46,8 @@ place-is false k ghost s h = rw h refl
 
 joined : (r : Bool) (k : ℕ) (u : Queues) → HasKeys u → has_key k (keys_of (u SMALL)) ≡ false → has_key k (keys_of (u MAIN)) ≡ false →
     s3_fifo_of (after_send (entry (item_of k) 0) (joins r) u) ≡ added r k (made (counted_keys (u SMALL)) (counted_keys (u MAIN)) (keys_without k (keys_of (u GHOST))))
-joined true k u h small main = rw (without-counted k (u SMALL) small, counted-append (entries_without (item_of k) (u MAIN)) (entry (item_of k) 0 ∷ []), without-counted k (u MAIN) main, without-keys k (u GHOST) (h GHOST)) refl
-joined false k u h small main = rw (counted-append (entries_without (item_of k) (u SMALL)) (entry (item_of k) 0 ∷ []), without-counted k (u SMALL) small, without-counted k (u MAIN) main, without-keys k (u GHOST) (h GHOST)) refl
+joined true k u h small main = rw (without-counted k (u SMALL) (h SMALL) small, counted-append (entries_without (item_of k) (u MAIN)) (entry (item_of k) 0 ∷ []), without-counted k (u MAIN) (h MAIN) main, without-keys k (u GHOST) (h GHOST)) refl
+joined false k u h small main = rw (counted-append (entries_without (item_of k) (u SMALL)) (entry (item_of k) 0 ∷ []), without-counted k (u SMALL) (h SMALL) small, without-counted k (u MAIN) (h MAIN) main, without-keys k (u GHOST) (h GHOST)) refl
 
 -- ---- which queues the plan names
 
@@ -55,151 +55,105 @@ low-own : (r : Bool) → IsLowOwn (goes (joins r) 0)
 low-own true = omega arith
 low-own false = omega arith
 
-low-forgets : (size : ℕ) (r : Bool) (s : Queues) → IsLowLeaving (forgets size r s)
-low-forgets size r s = go (r || nat_lt (length (s GHOST)) size)
-  where
-    go : (f : Bool) → IsLowLeaving (if f then None else leaving GHOST None)
-    go true = tt
-    go false = (omega arith, tt)
-
-abbrev IsLowRoom : RoomPlan → Type 0
-IsLowRoom w = IsLowRun w.early × IsLowRun w.late × IsLowLeaving w.first × IsLowLeaving w.second
-
-low-miss : (w : RoomPlan) (r : Bool) (x : ℕ) → IsLowRoom w → IsLowPlan (miss_plan w (goes (joins r) 0) x)
-low-miss w r x low = record { early = low.0; late = low.1; first = low.2; second = low.3; own = low-own r }
-
 -- ---- a miss
 
 module _ (part c k x : ℕ) (r : Bool) (s : Queues) (t : IsTabled s) (some : 1 ≤ c) (state : IsS3Fifo part c (s3_fifo_of s)) (absent : has_key k (s3_fifo_residents (s3_fifo_of s)) ≡ false) (is : has_key k (keys_of (s GHOST)) ≡ r) where
   abbrev v : S3FifoState
   v = s3_fifo_of s
 
+  abbrev w : S3FifoState
+  w = state_without k s
+
   abbrev size : ℕ
   size = s3_fifo_main_size part c
 
-  abbrev w : S3FifoState
-  w = without_ghost_key k v
-
   abbrev room : Outcome × S3FifoState
-  room = planned_room part c w
+  room = s3_fifo_room part c w
 
   -- the key is in neither queue once room is made
   none-after : times k (counted.keys_of (room.1.small ++ room.1.main)) ≤ 0
   none-after =
-      let access = (plan-made part c k (ghost_place_of k v.ghost) w some absent).moves k in
+      let moves = (room-made part c k (ghost_place_of k v.ghost) w some absent state.counts).access.moves k in
       let before : times k (s3_fifo_residents w) ≡ 0 = times-none k (s3_fifo_residents w) absent in
       let self : one_if (eqb k k) ≡ 1 = ap one_if (eq-eqb k k refl) in
-      omega (arith, access, before, self, brought-few k k room.0, join-times k k (ghost_place_of k v.ghost) room.1)
+      omega (arith, moves, before, self, brought-few k k room.0, join-times k k (ghost_place_of k v.ghost) room.1)
 
   none-in : (l : List Entry) (m : List CountedKey) → counted_keys l ≡ m → times k (counted.keys_of m) ≤ 0 → has_key k (keys_of l) ≡ false
   none-in l m h n = ap (has_key k) (sym (keys-counted l) ∙ ap counted.keys_of h) ∙ no-times k (counted.keys_of m) n
 
-  abbrev IsMiss : RoomPlan → Type 0
-  IsMiss m = IsPlannedBy (miss_plan m (goes (joins r) 0) x) k s (λ x. s3_fifo_of) (s3_fifo_act part c k v) (has_key k (s3_fifo_residents v))
+  abbrev IsMiss : Plan → Type 0
+  IsMiss p = IsPlannedBy p k s (λ x. s3_fifo_of) (s3_fifo_act part c k v) (has_key k (s3_fifo_residents v))
 
-  -- the plan m comes to the eviction e
-  abbrev ComesTo : RoomPlan → Outcome × S3FifoState → Type 0
-  ComesTo m e = IsLeft k (after_second (miss_plan m (goes (joins r) 0) x) s) (outcome_of (miss_plan m (goes (joins r) 0) x) s) e
+  acts : s3_fifo_act part c k v ≡ (room.0, s3_fifo_with_key (ghost_place_of k v.ghost) k room.1)
+  acts = rw absent refl
 
-  -- a miss by the plan, once its room is that of the definition
-  brought : (m : RoomPlan) (e : Outcome × S3FifoState) → IsLowRoom m → room ≡ e → ComesTo m e → IsMiss m
-  brought m e low same came =
-      let p : Plan = miss_plan m (goes (joins r) 0) x in
-      let q : Queues = after_second p s in
-      let first : IsTabled (after_first p s) = tabled-leaving (after_runs p s) (tabled-runs s t p (low-miss m r x low)) m.first low.2 in
-      let u : IsTabled q = tabled-leaving (after_first p s) first m.second low.3 in
-      let left : ComesTo m room = subst (ComesTo m) (sym same) came in
+  -- a miss by the plan, once the queues that it leaves and its outcome are those of the definition
+  brought : (early late : Run) (l : Leavers) (e : Outcome × S3FifoState) → IsLowRun early → IsLowRun late → AreLow l → room ≡ e
+      → IsLeft k (after_leavers l (after_run late (after_run early s))) (outcome_after l.first (after_run late (after_run early s))) e → IsMiss (run_plan early late l (goes (joins r) 0) x)
+  brought early late l e low_early low_late low_leavers same came =
+      let p : Plan = run_plan early late l (goes (joins r) 0) x in
+      let low : IsLowPlan p = record { early = low_early; late = low_late; first = low_leavers.0; second = low_leavers.1; own = low-own r } in
+      let q : Queues = after_leavers l (after_runs p s) in
+      let left : IsLeft k q (outcome_after l.first (after_runs p s)) room = subst (IsLeft k q (outcome_after l.first (after_runs p s))) (sym same) came in
       let both = keys-times k room.1.small room.1.main in
-      let acts : s3_fifo_act part c k v ≡ (room.0, s3_fifo_with_key (ghost_place_of k v.ghost) k room.1) =
-      rw absent (ap (λ (a : Outcome × S3FifoState). (a.0, s3_fifo_with_key (ghost_place_of k v.ghost) k a.1)) (sym (room-planned part c w))) in
       record {
         outcome = left.outcome ∙ ap (λ (a : Outcome × S3FifoState). a.0) (sym acts);
-        state = joined r k q u.keys (none-in (q SMALL) room.1.small left.small (omega (arith, none-after, both))) (none-in (q MAIN) room.1.main left.main (omega (arith, none-after, both)))
+        state = joined r k q (tabled-leavers l (after_runs p s) low_leavers (tabled-runs s t p low)).keys
+            (none-in (q SMALL) room.1.small left.small (omega (arith, none-after, both))) (none-in (q MAIN) room.1.main left.main (omega (arith, none-after, both)))
             ∙ ap (added r k) (rw (left.small, left.main, left.ghost) refl)
             ∙ place-is r k v.ghost room.1 is ∙ ap (λ (a : Outcome × S3FifoState). a.1) (sym acts);
         hits = sym absent;
-        low = low-miss m r x low;
+        low = low;
       }
 
-  -- the state once the promotions are made, and the plan's queues then
-  abbrev p_state : S3FifoState
-  p_state = after_promotions (promotion_count size v) v
+  many : length (s SMALL) + length (s MAIN) ≡ length (s3_fifo_residents w)
+  many = sym (resident-count s)
 
+  -- where there is room
+  fits : nat_lt (length (s SMALL) + length (s MAIN)) c ≡ true → IsMiss (own_plan false (goes (joins r) 0) x)
+  fits f =
+      brought no_run no_run no_leavers (outcome.Kept, w) (omega arith, omega arith) (omega arith, omega arith) (tt, tt) (rw (ap (λ n. nat_lt n c) (sym many) ∙ f) refl)
+      record { outcome = refl; small = refl; main = refl; ghost = refl }
+
+  -- where there is none: once the promotions are made
   abbrev a : Queues
   a = after_run (promotions size s) s
 
   a-tabled : IsTabled a
   a-tabled = tabled-turns s t (promotions size s).times SMALL MAIN 0 (omega arith)
 
-  a-state : s3_fifo_of a ≡ p_state
-  a-state =
-      promoted (size + 1 - length (s MAIN)) s t (s SMALL) refl
-      ∙ ap (λ l. after_promotions (promotion_count_within (size + 1 - l) v.small) v) (sym (length-counted (s MAIN)))
+  promoted : IsPromoted size k (s3_fifo_residents w) w.ghost (most_moves w) s a
+  promoted = promotes size k (s3_fifo_residents w) w.ghost (size + 1 - length (s MAIN)) (most_moves w) s (s SMALL) t refl refl (omega arith) (unmoved w state.counts)
 
-  p-counted : BothCounted p_state
-  p-counted = promoted-counted (promotion_count size v) v record { small = counted-first 3 v.small v.main state.counts; main = counted-second 3 v.small v.main state.counts }
+  module _ (f : nat_lt (length (s SMALL) + length (s MAIN)) c ≡ false) where
+    full : room ≡ last_eviction size k a
+    full = rw (ap (λ n. nat_lt n c) (sym many) ∙ f) promoted.comes
 
-  full : nat_lt (length (s SMALL) + length (s MAIN)) c ≡ nat_lt (length (s3_fifo_residents w)) c
-  full = ap (λ n. nat_lt n c) (let n : length (s SMALL) + length (s MAIN) ≡ length (s3_fifo_residents w) = omega (arith, length-keys (v.small ++ v.main), length-append v.small v.main, length-counted (s SMALL), length-counted (s MAIN)) in n)
+    main-evicts : gives_main size a ≡ true → IsMiss (run_plan (promotions size s) (main_turns a) (one_leaver (leaving MAIN None)) (goes (joins r) 0) x)
+    main-evicts g =
+        let b : Queues = after_run (main_turns a) a in
+        let same : (j : ℕ) → (j ≡ MAIN → ⊥) → b j ≡ a j = λ j d. turns-keep MAIN (main_turns a).times 1 j a (omega arith) a-tabled d in
+        let leaves : last_eviction size k a ≡ main_eviction (counted_keys (a SMALL)) (counted_keys (b MAIN)) (keys_without k (keys_of (a GHOST))) = rw g refl in
+        brought (promotions size s) (main_turns a) (one_leaver (leaving MAIN None)) _ (omega arith, omega arith) (omega arith, omega arith) ((omega arith, tt), tt) (full ∙ leaves)
+        (main-left k b (counted_keys (a SMALL)) (keys_without k (keys_of (a GHOST))) (tabled-turns a a-tabled (main_turns a).times MAIN MAIN 1 (omega arith))
+        (ap counted_keys (same SMALL (λ e. omega (arith, e)))) (ap (λ l. keys_without k (keys_of l)) (same GHOST (λ e. omega (arith, e)))))
 
-  gives : gives_main size a ≡ main_gives size p_state
-  gives = gives-is size a ∙ ap (main_gives size) a-state
+    small-evicts : gives_main size a ≡ false → IsMiss (run_plan (promotions size s) no_run (leavers_for_ghost SMALL GHOST size r a) (goes (joins r) 0) x)
+    small-evicts g =
+        let empty = eqb-false (length (a SMALL)) 0 (or_parts (length (a SMALL) == 0) (nat_lt size (length (a MAIN))) g).0 in
+        let first = first-of (a SMALL) (omega (arith, empty)) in
+        let e : Entry = first.0 in
+        let none : has_key k (keys_of (a SMALL)) ≡ false = none-in (a SMALL) (counted_keys (a SMALL)) refl
+        (omega (arith, promoted.moved.keys k, times-none k (s3_fifo_residents v) absent, keys-times k (counted_keys (a SMALL)) (counted_keys (a MAIN)))) in
+        let ghost : keys_of (a GHOST) ≡ keys_of (s GHOST) = ap keys_of promoted.ghost in
+        let leaves : last_eviction size k a ≡ small_eviction size (counted_keys (a SMALL)) (counted_keys (a MAIN)) (keys_without k (keys_of (a GHOST))) = rw g refl in
+        brought (promotions size s) no_run (leavers_for_ghost SMALL GHOST size r a) _ (omega arith, omega arith) (omega arith, omega arith) (leavers-low SMALL GHOST size r a (omega arith) (omega arith)) (full ∙ leaves)
+        (small-left size k a r e first.1.0 a-tabled first.1.1 (ap (has_key k) ghost ∙ is) (apart-first k e.item.key (keys_of first.1.0) (ap (λ l. has_key k (keys_of l)) (sym first.1.1) ∙ none))
+        (subst (λ l. length l ≤ size) (sym ghost) state.ghost_fits))
 
-  room-full : nat_lt (length (s3_fifo_residents w)) c ≡ false → room ≡ planned_eviction size (after_promotions (promotion_count size w) w)
-  room-full f = rw f refl
-
-  -- where there is room
-  fits : nat_lt (length (s SMALL) + length (s MAIN)) c ≡ true → IsMiss (room_plan part c r s)
-  fits f =
-      let plan : room_plan part c r s ≡ no_room_plan = rw f refl in
-      subst IsMiss (sym plan)
-      (brought no_room_plan (outcome.Kept, w) ((omega arith, omega arith), (omega arith, omega arith), tt, tt) (rw (sym full ∙ f) refl) record { outcome = refl; small = refl; main = refl; ghost = refl })
-
-  -- where main gives up a key
-  abbrev b : Queues
-  b = after_run (main_turns a) a
-
-  b-state : s3_fifo_of b ≡ made p_state.small (after_turns (turn_count p_state.main) p_state.main) v.ghost
-  b-state =
-      let main : List CountedKey = counted_keys (a MAIN) in
-      let counts : AreCounted 3 main = subst (AreCounted 3) (ap (λ (y : S3FifoState). y.main) (sym a-state)) p-counted.main in
-      let n : ℕ = 3 * length (a MAIN) in
-      let same : (j : ℕ) → (j ≡ MAIN → ⊥) → b j ≡ a j = λ j d. turns-keep MAIN (main_turns a).times 1 j a (omega arith) a-tabled d in
-      rw (same SMALL (λ e. omega (arith, e)), same GHOST (λ e. omega (arith, e)), turns-are MAIN n (total_count main) a (omega arith) a-tabled (omega (arith, total-few main counts, length-counted (a MAIN))) (omega arith)) refl
-      ∙ ap (λ (y : S3FifoState). made y.small (after_turns (turn_count y.main) y.main) y.ghost) a-state
-
-  main-evicts : nat_lt (length (s3_fifo_residents w)) c ≡ false → gives_main size a ≡ true → IsMiss (main_eviction_plan (promotions size s) a)
-  main-evicts f g =
-      let evicts : planned_eviction size (after_promotions (promotion_count size w) w) ≡ main_eviction p_state.small (after_turns (turn_count p_state.main) p_state.main) w.ghost = rw (sym gives ∙ g) refl in
-      brought (main_eviction_plan (promotions size s) a) _ ((omega arith, omega arith), (omega arith, omega arith), (omega arith, tt), tt)
-      (room-full f ∙ evicts ∙ sym (ap (λ (y : S3FifoState). main_eviction y.small y.main (keys_without k y.ghost)) b-state))
-      (main-left k b (tabled-turns a a-tabled (main_turns a).times MAIN MAIN 1 (omega arith)) (b MAIN) refl)
-
-  -- where the small queue does
-  small-evicts : nat_lt (length (s3_fifo_residents w)) c ≡ false → gives_main size a ≡ false → IsMiss (small_eviction_plan size r (promotions size s) a)
-  small-evicts f g =
-      let evicts : planned_eviction size (after_promotions (promotion_count size w) w) ≡ small_eviction size p_state.small p_state.main w.ghost = rw (sym gives ∙ g) refl in
-      let ghost : keys_of (a GHOST) ≡ keys_of (s GHOST) = ap (λ (y : S3FifoState). y.ghost) a-state in
-      let small : counted_keys (a SMALL) ≡ p_state.small = ap (λ (y : S3FifoState). y.small) a-state in
-      let before : times k (s3_fifo_residents v) ≡ 0 = times-none k (s3_fifo_residents v) absent in
-      let none = none-in (a SMALL) p_state.small small (omega (arith, before, promoted-times k (promotion_count size v) v, keys-times k p_state.small p_state.main)) in
-      brought (small_eviction_plan size r (promotions size s) a) _ ((omega arith, omega arith), (omega arith, omega arith), (omega arith, omega arith), low-forgets size r a)
-      (room-full f ∙ evicts ∙ sym (ap (λ (y : S3FifoState). small_eviction size y.small y.main (keys_without k y.ghost)) a-state))
-      (small-left size k a a-tabled (subst (λ l. length l ≤ size) (sym ghost) state.ghost_fits) r (ap (has_key k) ghost ∙ is) (a SMALL) refl g none)
-
-  pub missed : IsMiss (room_plan part c r s)
+  pub missed : IsMiss (s3_fifo_miss part c r x s)
   missed =
-      elim (cases_Bool (nat_lt (length (s SMALL) + length (s MAIN)) c)) [
-        | inl f ↦ fits f
-        | inr f ↦ elim (cases_Bool (gives_main size a)) [
-          | inl g ↦
-              let plan : room_plan part c r s ≡ main_eviction_plan (promotions size s) a = rw (f, g) refl in
-              subst IsMiss (sym plan) (main-evicts (sym full ∙ f) g)
-          | inr g ↦
-              let plan : room_plan part c r s ≡ small_eviction_plan size r (promotions size s) a = rw (f, g) refl in
-              subst IsMiss (sym plan) (small-evicts (sym full ∙ f) g)
-        ]
-      ]
+      cond_both (nat_lt (length (s SMALL) + length (s MAIN)) c) _ _ IsMiss fits (λ f. cond_both (gives_main size a) _ _ IsMiss (main-evicts f) (small-evicts f))
 
 -- ---- an access
 

@@ -21,7 +21,8 @@ use Rattle.policy_steps.specs.Sieve.{passed_queue, sieve_of, queue_ahead, pass_r
 use Rattle.policy_steps.proofs.Residents.{resident-planned}
 use Rattle.policy_steps.specs.Theorems.{SieveIsPlanned}
 use Rattle.policy_steps.proofs.Counted.{counted-append, length-counted, oldest-counted, key-both, counted-with}
-use Rattle.policy_steps.proofs.Parts.{first-send, first-turns, first-out, absent-turns}
+use Rattle.policy_steps.proofs.Parts.{first-send, first-turns, first-out}
+use Rattle.policy_steps.proofs.Leaving.{absent-turns}
 use Rattle.policy_steps.proofs.Hand.{apart, stopped, no-pass, IsClear, HasClear, Waits, passes, ends, stops}
 
 -- ---- the two roles

@@ -2,13 +2,10 @@
 use Rattle.std.proofs.Common.{◌≡◌, ℕ, Bool, false, if◌then◌else◌, Option, None, ap, ◌∙◌, sym, subst, Some, true}
 use Rattle.step_record.specs.declared.item.Item.{Item}
 use Rattle.queue_table.specs.Queues.{Queues, queue_holding}
-use Rattle.queue_table.proofs.QueueLists.{absent, is_absent}
 use Rattle.queue_moves.specs.declared.records.Accessed.{Accessed}
-use Rattle.queue_moves.specs.declared.records.Run.{Run}
-use Rattle.queue_moves.specs.Moves.{standing, standing_at, Own, Plan, own_plan, after_run}
-use Rattle.queue_moves.specs.Undoing.{IsRun, IsAccessed}
+use Rattle.queue_moves.specs.Moves.{standing, standing_at, Own, Plan, own_plan}
+use Rattle.queue_moves.specs.Undoing.{IsAccessed}
 use Rattle.policy_steps.specs.Planned.{resident_plan}
-use Rattle.policy_steps.proofs.Parts.{absent-turns}
 
 -- ---- which plan it is, once room is reserved and the queues are as before
 
@@ -33,9 +30,3 @@ module _ (i : Item) (s : Queues) (room : Bool) (hit join : Own) (x : ℕ) (full 
 
   pub full-plan : queue_holding i s ≡ None → room ≡ false → full ≡ plan (standing i s)
   full-plan none h = ap (λ b. if b then own_plan false join x else full) (sym h) ∙ absent-plan none
-
--- ---- the key still stands nowhere
-
-pub absent-run : (i : Item) (r : Run) (s u : Queues) → IsRun r s u → queue_holding i s ≡ None → queue_holding i u ≡ None
-absent-run i r s u ran none =
-    subst (λ v. queue_holding i v ≡ None) (sym ran.after) (is_absent i (after_run r s) (absent-turns i r.times r.from r.to r.less s ran.fits.from (absent i s none)))

@@ -1,27 +1,26 @@
 -- 2Q's plan is its definition.
-use Rattle.std.proofs.Common.{◌≡◌, ℕ, ◌+◌, ◌<◌, ◌≤◌, Bool, true, false, cond, eqb, nat_lt, ◌||◌, Option, Some, None, List, [], ◌∷◌, ◌++◌, length, take, drop, ap, ◌∙◌, sym, subst, refl, arith, inl, inr, length-append}
-use Rattle.std.proofs.lemmas.Bool.{cond_both, cases_Bool, cases_eq, eq-eqb, ne_eqb, ltb-true, ltb-false, lt-ltb, eqb-true, or_cases}
+use Rattle.std.proofs.Common.{◌≡◌, ℕ, ◌+◌, ◌<◌, ◌≤◌, Bool, true, false, cond, eqb, nat_lt, Option, Some, None, List, [], ◌∷◌, ◌++◌, length, drop, ap, ◌∙◌, sym, subst, refl, arith, inl, inr, length-append}
+use Rattle.std.proofs.lemmas.Bool.{cond_both, cases_Bool, cases_eq, eq-eqb, ne_eqb, ltb-true, ltb-false, eqb-true, or_cases}
 use Rattle.step_record.specs.Keys.{has_key, keys_without}
 use Rattle.queue_table.specs.declared.records.Entry.{Entry}
 use Rattle.queue_table.specs.Entries.{entry, oldest_of}
 use Rattle.queue_table.specs.Queues.{queue_holding, QUEUES, Queues, after_send}
-use Rattle.queue_policies.specs.Queues.{without_oldest}
-use Rattle.queue_policies.specs.Ghost.{ghost_place_of, ghost_with}
+use Rattle.queue_policies.specs.Ghost.{ghost_place_of}
 use Rattle.ghost_policies.specs.TwoQ.{TwoQState, two_q_residents, leaver_of_a1in, leaver_of_am, two_q_leaver, two_q_after_recall, two_q_after_eviction, two_q_after_join, two_q_outcome, two_q_act, IsTwoQ}
 use Rattle.ghost_policies.specs.declared.two_q.TwoQSizes.{TwoQSizes}
 use Rattle.ghost_policies.specs.declared.two_q.TwoQLeaver.{TwoQLeaver}
-use Rattle.ghost_policies.specs.declared.two_q.TwoQLeaver.TheVariants.{NoLeaver}
-use Rattle.queue_policies.proofs.Ghost.{without-length}
+use Rattle.ghost_policies.specs.declared.two_q.TwoQLeaver.TheVariants.{NoLeaver, FromA1in}
 use Rattle.ghost_policies.proofs.ArcPlans.{none-out}
 use Rattle.ghost_policies.proofs.Weights.{has-append}
-use Rattle.queue_moves.specs.Moves.{item_of, standing, standing_at, leaving, after_leaving, IsLowLeaving, evicted, outcome_after, stays, goes, own_plan}
+use Rattle.queue_moves.specs.Moves.{item_of, standing, standing_at, leaving, after_leaving, evicted, outcome_after, stays, goes, own_plan}
 use Rattle.queue_moves.specs.Tabled.{HasKeys, IsTabled, keys_of, StandsAs}
 use Rattle.queue_moves.proofs.Tabled.{stands, stands-nowhere}
 use Rattle.policy_steps.specs.Planned.{IsPlannedBy}
-use Rattle.policy_steps.specs.Misses.{Leavers, no_leavers}
-use Rattle.policy_steps.specs.TwoQ.{A1IN, A1OUT, AM, two_q_of, gives_a1in, forgets, two_q_leavers, joins, two_q_miss, plan_at, two_q_plan}
+use Rattle.policy_steps.specs.Misses.{Leavers, no_leavers, one_leaver, leavers_for_ghost}
+use Rattle.policy_steps.specs.TwoQ.{A1IN, A1OUT, AM, two_q_of, gives_a1in, two_q_leavers, joins, two_q_miss, plan_at, two_q_plan}
 use Rattle.policy_steps.specs.Theorems.{TwoQIsPlanned}
-use Rattle.policy_steps.proofs.Moving.{length-keys, keys-sent, left-keys, left-twice, without-drop, first-of, apart-first, without-push, own-low, AreLow, miss-low, tabled-leavers, without-cond}
+use Rattle.policy_steps.proofs.Ghosts.{leavers-low, leavers-gone, ghost-keys}
+use Rattle.policy_steps.proofs.Moving.{length-keys, keys-sent, left-keys, without-rest, without-drop, first-of, apart-first, own-low, AreLow, miss-low, tabled-leavers}
 
 -- ---- the state, queue by queue
 
@@ -47,44 +46,17 @@ joined true k ghost u d h z at = rw h
 joined false k ghost u d h z at = rw h
     (same-state (keys-sent k 0 A1IN u z A1IN ∙ ap (λ t. t ++ k ∷ []) at.a1in) (keys-sent k 0 A1IN u z A1OUT ∙ at.a1out) (keys-sent k 0 A1IN u z AM ∙ at.am))
 
--- ---- a1out, which the key may leave
-
-shorter : (k : ℕ) (l : List ℕ) → has_key k l ≡ true → length (keys_without k l) < length l
-shorter k [] h = absurd (cc h)
-shorter k (a ∷ l) h =
-    elim (cases_Bool (eqb k a)) [
-      | inl f ↦ rw f (omega (arith, without-length k l))
-      | inr f ↦ let rest : length (keys_without k l) < length l = shorter k l (rw f at h) in rw f (omega (arith, rest))
-    ]
-
-drop-oldest : (l : List ℕ) → drop 1 l ≡ without_oldest l
-drop-oldest [] = refl
-drop-oldest (a ∷ l) = refl
-
-remembered : (k size v : ℕ) (g : List ℕ) (r : Bool) → has_key k g ≡ r → eqb k v ≡ false → length g ≤ size
-    → keys_without k (cond (r || nat_lt (length g) size) (g ++ v ∷ []) (drop 1 (g ++ v ∷ []))) ≡ ghost_with size v (keys_without k g)
-remembered k size v g true h other few =
-    let room : length (keys_without k g) < size = omega (arith, shorter k g h, few) in
-    rw (lt-ltb (length (keys_without k g)) size room) (without-push k v g other)
-remembered k size v g false h other few =
-    let none : has_key k (g ++ v ∷ []) ≡ false = has-append k g (v ∷ []) ∙ rw (h, other) refl in
-    rw (none-out k g h) (without-cond k (nat_lt (length g) size) _ _ (none-out k (g ++ v ∷ []) none) (without-drop k (g ++ v ∷ []) none ∙ drop-oldest (g ++ v ∷ [])))
-
-cond-twice : (b : Bool) (x y z : List ℕ) → cond b x (cond b y z) ≡ cond b x z
-cond-twice true x y z = refl
-cond-twice false x y z = refl
-
 -- ---- the keys that leave
 
 record Evicts (z : TwoQSizes) (k : ℕ) (l : Leavers) (v : TwoQLeaver) (s : Queues) : Type 0 where
   outcome : outcome_after l.first s ≡ two_q_outcome v
   shows : Shows k (after_leaving l.second (after_leaving l.first s)) (two_q_after_eviction z v (two_q_after_recall k (two_q_of s)))
 
-pub leavers-low : (z : TwoQSizes) (c : ℕ) (r : Bool) (s : Queues) → AreLow (two_q_leavers z c r s)
-leavers-low z c r s =
+low-leavers : (z : TwoQSizes) (c : ℕ) (r : Bool) (s : Queues) → AreLow (two_q_leavers z c r s)
+low-leavers z c r s =
     cond_both (nat_lt (length (s A1IN) + length (s AM)) c) _ _ AreLow (λ e. (tt, tt)) (λ e.
     cond_both (gives_a1in z.kin s) _ _ AreLow
-    (λ f. ((omega arith, omega arith), cond_both (r || nat_lt (length (s A1OUT)) z.kout) _ _ IsLowLeaving (λ g. tt) (λ g. (omega arith, tt))))
+    (λ f. leavers-low A1IN A1OUT z.kout r s (omega arith) (omega arith))
     (λ f. ((omega arith, tt), tt)))
 
 page-leaver : (z : TwoQSizes) (c : ℕ) (s : Queues) → two_q_leaver z c (two_q_of s)
@@ -112,7 +84,7 @@ module _ (z : TwoQSizes) (c k : ℕ) (r : Bool) (s : Queues) (some : 1 ≤ c) (t
     shows = record { a1in = none-out k (keys_of (s A1IN)) no_a1in; a1out = refl; am = none-out k (keys_of (s AM)) no_am };
   }
 
-  am-leaves : Evicts z k record { first = leaving AM None; second = None } (leaver_of_am (keys_of (s AM))) s
+  am-leaves : Evicts z k (one_leaver (leaving AM None)) (leaver_of_am (keys_of (s AM))) s
   am-leaves =
       let at = λ (j : ℕ). ap (keys_without k) (left-keys s AM t None j) in
       record {
@@ -124,33 +96,19 @@ module _ (z : TwoQSizes) (c k : ℕ) (r : Bool) (s : Queues) (some : 1 ≤ c) (t
         };
       }
 
-  -- the keys once the oldest of a1in has left, and a1out may have forgotten one
-  forgotten-keys : (j : ℕ) → keys_of (after_leaving (forgets z.kout r s) (after_leaving (leaving A1IN (Some (A1OUT, 0))) s) j)
-      ≡ cond (eqb j A1OUT) (cond (r || nat_lt (length (s A1OUT)) z.kout) (keys_of (s A1OUT) ++ take 1 (keys_of (s A1IN))) (drop 1 (keys_of (s A1OUT) ++ take 1 (keys_of (s A1IN)))))
-      (cond (eqb j A1IN) (drop 1 (keys_of (s A1IN))) (keys_of (s j)))
-  forgotten-keys j =
-      elim (cases_Bool (r || nat_lt (length (s A1OUT)) z.kout)) as (λ _. keys_of (after_leaving (forgets z.kout r s) (after_leaving (leaving A1IN (Some (A1OUT, 0))) s) j)
-      ≡ cond (eqb j A1OUT) (cond (r || nat_lt (length (s A1OUT)) z.kout) (keys_of (s A1OUT) ++ take 1 (keys_of (s A1IN))) (drop 1 (keys_of (s A1OUT) ++ take 1 (keys_of (s A1IN)))))
-      (cond (eqb j A1IN) (drop 1 (keys_of (s A1IN))) (keys_of (s j)))) [
-        | inl f ↦ rw f (left-keys s A1IN t (Some (A1OUT, 0)) j)
-        | inr f ↦ rw f (left-twice s t A1IN (Some (A1OUT, 0)) (omega arith) (omega arith) A1OUT j ∙ cond-twice (eqb j A1OUT) _ _ _)
-      ]
-
-  a1in-leaves : 1 ≤ length (s A1IN) → Evicts z k record { first = leaving A1IN (Some (A1OUT, 0)); second = forgets z.kout r s } (leaver_of_a1in (keys_of (s A1IN))) s
+  a1in-leaves : 1 ≤ length (s A1IN) → Evicts z k (leavers_for_ghost A1IN A1OUT z.kout r s) (leaver_of_a1in (keys_of (s A1IN))) s
   a1in-leaves n =
       let first = first-of (s A1IN) n in
       let e : Entry = first.0 in
-      let keys : keys_of (s A1IN) ≡ e.item.key ∷ keys_of first.1.0 = ap keys_of first.1.1 in
-      let at = λ (j : ℕ). ap (keys_without k) (forgotten-keys j) in
-      let other : eqb k e.item.key ≡ false = apart-first k e.item.key (keys_of first.1.0) (ap (has_key k) (sym keys) ∙ no_a1in) in
-      let few : length (keys_of (s A1OUT)) ≤ z.kout = i.few in
-      let ghost = remembered k z.kout e.item.key (keys_of (s A1OUT)) r in_a1out other few in
-      subst (λ v. Evicts z k record { first = leaving A1IN (Some (A1OUT, 0)); second = forgets z.kout r s } v s) (sym (ap leaver_of_a1in keys)) record {
-        outcome = ap (λ z. evicted (oldest_of z)) first.1.1;
-        shows = record {
-          a1in = at A1IN ∙ without-drop k (keys_of (s A1IN)) no_a1in;
-          a1out = at A1OUT ∙ rw (keys, sym (length-keys (s A1OUT))) ghost;
-          am = at AM ∙ none-out k (keys_of (s AM)) no_am;
+      let l : List Entry = first.1.0 in
+      let h : s A1IN ≡ e ∷ l = first.1.1 in
+      let none : has_key k (keys_of (e ∷ l)) ≡ false = ap (λ x. has_key k (keys_of x)) (sym h) ∙ no_a1in in
+      subst (λ v. Evicts z k (leavers_for_ghost A1IN A1OUT z.kout r s) v s) (sym (ap (λ x. leaver_of_a1in (keys_of x)) h)) record {
+        outcome = ap (λ x. evicted (oldest_of x)) h;
+        shows = subst (λ u. Shows k u (two_q_after_eviction z (FromA1in e.item.key) (two_q_after_recall k (two_q_of s)))) (sym (leavers-gone s t A1IN A1OUT z.kout r e l h (omega arith) (omega arith))) record {
+          a1in = without-rest k e.item.key (keys_of l) none ∙ ap (λ x. drop 1 (keys_of x)) (sym h);
+          a1out = ghost-keys k z.kout e (s A1OUT) r in_a1out (apart-first k e.item.key (keys_of l) none) i.few;
+          am = none-out k (keys_of (s AM)) no_am;
         };
       }
 
@@ -179,7 +137,7 @@ module _ (z : TwoQSizes) (c k : ℕ) (r : Bool) (s : Queues) (some : 1 ≤ c) (t
       let l : Leavers = two_q_leavers z c r s in
       let u : Queues = after_leaving l.second (after_leaving l.first s) in
       let d : TwoQState = two_q_after_eviction z (two_q_leaver z c (two_q_of s)) (two_q_after_recall k (two_q_of s)) in
-      let low : AreLow l = leavers-low z c r s in
+      let low : AreLow l = low-leavers z c r s in
       rw (no_am, no_a1in) record {
         outcome = evicts.outcome;
         state = joined r k (keys_of (s A1OUT)) u d in_a1out (tabled-leavers l s low t).keys evicts.shows;

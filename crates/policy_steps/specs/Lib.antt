@@ -8,5 +8,4 @@ pub mod Misses
 pub mod Comers
 pub mod TwoQ
 pub mod Arc
-pub mod Rooms
 pub mod Theorems

@@ -8,11 +8,11 @@ use Rattle.std.specs.Prelude.{Option, Some, None, length}
 use Rattle.queue_table.specs.Queues.{Queues}
 use Rattle.queue_policies.specs.S3Fifo.{S3FifoState, s3_fifo_main_size, hit_count}
 use Rattle.queue_moves.specs.declared.records.Run.{Run}
-use Rattle.queue_moves.specs.Moves.{item_of, standing, run, no_run, turns_due, after_run, Leaving, leaving, counts, goes}
+use Rattle.queue_moves.specs.Moves.{item_of, standing, run, no_run, turns_due, after_run, leaving, counts, goes}
 use Rattle.queue_moves.specs.Moves.{Plan, own_plan}
 use Rattle.queue_moves.specs.Tabled.{keys_of}
 use Rattle.policy_steps.specs.Counted.{counted_keys}
-use Rattle.policy_steps.specs.Rooms.{RoomPlan, no_room_plan, miss_plan}
+use Rattle.policy_steps.specs.Misses.{one_leaver, leavers_for_ghost, run_plan}
 
 -- the queues' numbers
 abbrev pub SMALL : ℕ
@@ -44,50 +44,29 @@ gives_main m s = length (s SMALL) == 0 || nat_lt m (length (s MAIN))
 abbrev pub main_turns : Queues → Run
 main_turns s = run MAIN MAIN 1 (turns_due (3 * length (s MAIN)) MAIN MAIN 1 1 s)
 
--- The ghost, which one more key joins, forgets its oldest where it is over its size. A key that it remembers leaves it.
-abbrev pub forgets : ℕ → Bool → Queues → Option Leaving
-forgets m remembered s =
-    if remembered || nat_lt (length (s GHOST)) m then None else leaving GHOST None
-
--- once the promotions are made
-
-abbrev pub main_eviction_plan : Run → Queues → RoomPlan
-main_eviction_plan early s =
-    record { early = early; late = main_turns s; first = leaving MAIN None; second = None }
-
-abbrev pub small_eviction_plan : ℕ → Bool → Run → Queues → RoomPlan
-small_eviction_plan m remembered early s = record {
-  early = early;
-  late = no_run;
-  first = leaving SMALL (Some (GHOST, 0));
-  second = forgets m remembered s;
-}
-
-abbrev pub eviction_plan : ℕ → Bool → Run → Queues → RoomPlan
-eviction_plan m remembered early s =
-    if gives_main m s
-    then main_eviction_plan early s
-    else small_eviction_plan m remembered early s
-
--- a full cache: the promotions, and then a key leaves
-abbrev pub full_plan : ℕ → Bool → Queues → RoomPlan
-full_plan m remembered s = eviction_plan m remembered (promotions m s) (after_run (promotions m s) s)
-
--- the small queue is to have `part` of the c keys
-abbrev pub room_plan : ℕ → ℕ → Bool → Queues → RoomPlan
-room_plan part c remembered s =
-    if nat_lt (length (s SMALL) + length (s MAIN)) c
-    then no_room_plan
-    else full_plan (s3_fifo_main_size part c) remembered s
-
--- ---- an access
-
 -- the queue that a key joins
 abbrev pub joins : Bool → ℕ
 joins remembered = if remembered then MAIN else SMALL
 
+-- a miss of a full cache, once the promotions are made
+abbrev pub eviction_plan : ℕ → Run → Bool → ℕ → Queues → Plan
+eviction_plan m early remembered x s =
+    if gives_main m s
+    then run_plan early (main_turns s) (one_leaver (leaving MAIN None)) (goes (joins remembered) 0) x
+    else run_plan early no_run (leavers_for_ghost SMALL GHOST m remembered s) (goes (joins remembered) 0) x
+
+-- the promotions, and then a key leaves
+abbrev pub full_plan : ℕ → Bool → ℕ → Queues → Plan
+full_plan m remembered x s = eviction_plan m (promotions m s) remembered x (after_run (promotions m s) s)
+
+-- ---- an access
+
+-- a miss, where the small queue is to have `part` of the c keys
 abbrev pub s3_fifo_miss : ℕ → ℕ → Bool → ℕ → Queues → Plan
-s3_fifo_miss part c remembered x s = miss_plan (room_plan part c remembered s) (goes (joins remembered) 0) x
+s3_fifo_miss part c remembered x s =
+    if nat_lt (length (s SMALL) + length (s MAIN)) c
+    then own_plan false (goes (joins remembered) 0) x
+    else full_plan (s3_fifo_main_size part c) remembered x s
 
 -- a key of this queue is in the cache
 abbrev pub is_resident : ℕ → Bool

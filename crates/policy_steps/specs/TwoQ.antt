@@ -6,9 +6,9 @@ use Rattle.std.specs.Prelude.{length}
 use Rattle.queue_table.specs.Queues.{Queues}
 use Rattle.ghost_policies.specs.declared.two_q.TwoQSizes.{TwoQSizes}
 use Rattle.ghost_policies.specs.TwoQ.{TwoQState}
-use Rattle.queue_moves.specs.Moves.{item_of, standing, Leaving, leaving, stays, goes, Plan, own_plan}
+use Rattle.queue_moves.specs.Moves.{item_of, standing, leaving, stays, goes, Plan, own_plan}
 use Rattle.queue_moves.specs.Tabled.{keys_of}
-use Rattle.policy_steps.specs.Misses.{Leavers, no_leavers, miss_plan}
+use Rattle.policy_steps.specs.Misses.{Leavers, no_leavers, one_leaver, leavers_for_ghost, miss_plan}
 
 -- the queues' numbers
 abbrev pub A1IN : ℕ
@@ -30,19 +30,14 @@ two_q_of s = record { a1in = keys_of (s A1IN); a1out = keys_of (s A1OUT); am = k
 abbrev pub gives_a1in : ℕ → Queues → Bool
 gives_a1in kin s = nat_lt kin (length (s A1IN)) || length (s AM) == 0
 
--- a1out, which one more key joins, forgets its oldest where it is over its size. A key that it remembers leaves it.
-abbrev pub forgets : ℕ → Bool → Queues → Option Leaving
-forgets kout remembered s =
-    if remembered || nat_lt (length (s A1OUT)) kout then None else leaving A1OUT None
-
 -- In a full cache the oldest of a1in leaves for a1out, or the oldest of am for good.
 abbrev pub two_q_leavers : TwoQSizes → ℕ → Bool → Queues → Leavers
 two_q_leavers z c remembered s =
     if nat_lt (length (s A1IN) + length (s AM)) c
     then no_leavers
     else if gives_a1in z.kin s
-    then record { first = leaving A1IN (Some (A1OUT, 0)); second = forgets z.kout remembered s }
-    else record { first = leaving AM None; second = None }
+    then leavers_for_ghost A1IN A1OUT z.kout remembered s
+    else one_leaver (leaving AM None)
 
 -- the key joins am where a1out remembered it, else a1in
 abbrev pub joins : Bool → ℕ

@@ -7,6 +7,7 @@ ghost use Rattle.queue_moves.specs.Moves.{Leaving, Own, own_plan};
 ghost use Rattle.queue_moves.specs.Undoing.{IsRun, IsLeft, IsOwn, IsAccessed, outs};
 ghost use Rattle.policy_steps.specs.Planned.{leaver_plan};
 
+use crate::misses::{LeftKeys, missed_after};
 use queue_moves::{Accessed, KeyMove, Left, Moves, Run};
 use step_record::Outcome;
 
@@ -51,16 +52,5 @@ pub(crate) fn evicted(
         → IsRun early s a → IsRun late a b → IsLeft f b c first → outs first.by ≤ 1 → IsOwn o i c u own
         → IsAccessed (leaver_plan e l f o after) i before s u result }
 {
-    Accessed {
-        outcome: first.outcome(),
-        scalar: after,
-        moves: Moves {
-            early,
-            late,
-            first,
-            second: Left::NONE,
-            own,
-            scalar: before,
-        },
-    }
+    missed_after(early, late, LeftKeys::one(first), own, before, after)
 }

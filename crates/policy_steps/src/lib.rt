@@ -10,7 +10,6 @@ pub mod arc;
 pub mod clock;
 mod comers;
 mod misses;
-mod rooms;
 pub mod s3_fifo;
 pub mod sieve;
 pub mod theorems;

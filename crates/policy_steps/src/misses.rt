@@ -1,10 +1,11 @@
-//! A miss without runs, from the keys that left and what became of its own.
-ghost use Rattle.std.specs.Prelude.{◌≤◌, Option};
+//! A miss, from what made room for its key and what became of the key.
+ghost use Rattle.std.specs.Prelude.{◌≡◌, ◌≤◌, ℕ, Option};
 ghost use Rattle.step_record.specs.declared.item.Item.{Item};
 ghost use Rattle.queue_table.specs.Queues.{Queues};
+ghost use Rattle.queue_moves.specs.declared.records.Run.{Run};
 ghost use Rattle.queue_moves.specs.Moves.{Leaving, Own};
-ghost use Rattle.queue_moves.specs.Undoing.{IsLeft, IsOwn, IsAccessed, outs};
-ghost use Rattle.policy_steps.specs.Misses.{Leavers, one_leaver, miss_plan, AreLeft};
+ghost use Rattle.queue_moves.specs.Undoing.{IsRun, IsLeft, IsOwn, IsAccessed, outs};
+ghost use Rattle.policy_steps.specs.Misses.{Leavers, one_leaver, run_plan, miss_plan, AreLeft};
 
 use queue_moves::{Accessed, KeyMove, Left, Moves, Run};
 
@@ -37,22 +38,40 @@ impl LeftKeys {
     }
 }
 
-/// A miss, from the keys that left, what became of its own, and the policy's number before it and after it.
+/// A miss after two runs, from the keys that left then, what became of its own, and the policy's number before it and
+/// after it.
 #[inline(always)]
-pub(crate) fn missed(left: LeftKeys, own: KeyMove, before: u32, scalar: u32) -> Accessed
-    ensures { (l : Leavers) (o : Own) (i : Item) (s u v : Queues) → AreLeft l s u left → IsOwn o i u v own
-        → IsAccessed (miss_plan l o scalar) i before s v result }
+pub(crate) fn missed_after(
+    early: Run,
+    late: Run,
+    left: LeftKeys,
+    own: KeyMove,
+    before: u32,
+    scalar: u32,
+) -> Accessed
+    ensures { (e r : Run) (l : Leavers) (o : Own) (i : Item) (s a b u v : Queues) → early ≡ e → late ≡ r
+        → IsRun early s a → IsRun late a b → AreLeft l b u left → IsOwn o i u v own
+        → IsAccessed (run_plan e r l o scalar) i before s v result }
 {
     Accessed {
         outcome: left.first.outcome(),
         scalar,
         moves: Moves {
-            early: Run::NONE,
-            late: Run::NONE,
+            early,
+            late,
             first: left.first,
             second: left.second,
             own,
             scalar: before,
         },
     }
+}
+
+/// The same without runs.
+#[inline(always)]
+pub(crate) fn missed(left: LeftKeys, own: KeyMove, before: u32, scalar: u32) -> Accessed
+    ensures { (l : Leavers) (o : Own) (i : Item) (s u v : Queues) → AreLeft l s u left → IsOwn o i u v own
+        → IsAccessed (miss_plan l o scalar) i before s v result }
+{
+    missed_after(Run::NONE, Run::NONE, left, own, before, scalar)
 }

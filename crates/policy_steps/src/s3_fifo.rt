@@ -1,23 +1,19 @@
 //! An access by S3-FIFO.
-ghost use Rattle.std.specs.Prelude.{◌≡◌, ◌≤◌, ◌+◌, ℕ, ◌||◌, false, length, nat_lt, IfOk, OnErr};
+ghost use Rattle.std.specs.Prelude.{◌≡◌, ◌≤◌, false, length, IfOk, OnErr};
 ghost use Rattle.step_record.specs.declared.limits.TheConstants.{MAX_CAPACITY};
-ghost use Rattle.queue_table.specs.declared.records.Entry.{Entry};
-ghost use Rattle.queue_table.specs.Entries.{occurrences};
 ghost use Rattle.queue_table.specs.Queues.{Queues};
-ghost use Rattle.queue_table.specs.QueueTable.{queues, spare, HoldsAt};
+ghost use Rattle.queue_table.specs.QueueTable.{queues};
 ghost use Rattle.queue_policies.specs.S3Fifo.{s3_fifo_main_size, hit_count, IsS3Fifo};
-ghost use Rattle.queue_moves.specs.Moves.{item_of, goes};
+ghost use Rattle.queue_moves.specs.Moves.{item_of};
 ghost use Rattle.queue_moves.specs.Undoing.{IsRun, IsAccessed};
-ghost use Rattle.policy_steps.specs.S3Fifo.{SMALL as SmallQueue, MAIN as MainQueue, GHOST as GhostQueue, s3_fifo_of};
-ghost use Rattle.policy_steps.specs.S3Fifo.{promotions, main_eviction_plan, small_eviction_plan, eviction_plan};
-ghost use Rattle.policy_steps.specs.S3Fifo.{joins, is_resident, s3_fifo_miss, s3_fifo_plan};
-ghost use Rattle.policy_steps.specs.Rooms.{miss_plan};
+ghost use Rattle.policy_steps.specs.S3Fifo.{MAIN as MainQueue, s3_fifo_of};
+ghost use Rattle.policy_steps.specs.S3Fifo.{joins, gives_main, eviction_plan, is_resident, s3_fifo_miss, s3_fifo_plan};
 ghost use Rattle.policy_steps.specs.S3FifoStep.{IsOutside};
 
-use crate::accesses::hit;
-use crate::comers::{enter, enter_apart, enter_for_oldest};
-use crate::rooms::{RoomMoves, missed};
-use queue_moves::{Accessed, KeyQueues, Left, Run};
+use crate::accesses::{hit, kept};
+use crate::comers::{enter_apart, enter_for_oldest, enter_for_remembered};
+use crate::misses::{LeftKeys, missed_after};
+use queue_moves::{Accessed, KeyQueues, Run};
 use queue_table::Found;
 use std::alloc::AllocError;
 use step_record::Key;
@@ -90,18 +86,20 @@ fn miss<C>(
     remembered: bool,
 ) -> Accessed
     requires few { capacity ≤ MAX_CAPACITY }
-    requires fits { length (queues table.old SmallQueue) + length (queues table.old MainQueue) ≤ capacity }
+    requires state { IsS3Fifo part capacity (s3_fifo_of (queues table.old)) }
     requires outside { IsOutside remembered found (item_of key) table.old }
     ensures { IsAccessed (s3_fifo_miss part capacity remembered scalar (queues table.old)) (item_of key) scalar
         (queues table.old) (queues table.new) result }
 {
     if table.len(SMALL) + table.len(MAIN) < capacity as usize {
         let own = enter_apart(table, key, found, queue_of(remembered));
-        return missed(RoomMoves::NONE, own, scalar, scalar);
+        return kept(own, scalar);
     }
     table.tabled();
     let main = main_size(part, capacity);
-    let early = promote(table, main);
+    // Main takes the oldest keys of the small queue that were hit twice, until it is over its size.
+    let room = (main as usize + 1).saturating_sub(table.len(MAIN));
+    let early = table.run(SMALL, MAIN, 0, 2, room as u32);
     evict::<C>(table, main, scalar, key, found, remembered, early)
 }
 
@@ -119,20 +117,6 @@ fn main_size(part: u32, capacity: u32) -> u32
     capacity.saturating_sub(part)
 }
 
-// Main takes the oldest keys of the small queue that were hit twice, until it is over its size.
-#[inline(always)]
-fn promote(table: &mut KeyQueues, main: u32) -> Run
-    requires few { main ≤ MAX_CAPACITY }
-    ensures promoted { result ≡ promotions main (queues table.old) }
-    ensures made { IsRun result (queues table.old) (queues table.new) }
-    ensures spare { spare table.new ≡ spare table.old }
-    ensures others { (j : ℕ) (e : Entry) → HoldsAt j e table.old → occurrences e.item (queues table.old SmallQueue) ≡ 0
-        → HoldsAt j e table.new }
-{
-    let room = (main as usize + 1).saturating_sub(table.len(MAIN));
-    table.run(SMALL, MAIN, 0, 2, room as u32)
-}
-
 // A key leaves for the accessed one, once all are promoted that are to be.
 #[inline(always)]
 fn evict<C>(
@@ -147,87 +131,25 @@ fn evict<C>(
     requires few { length (queues table.old MainQueue) ≤ MAX_CAPACITY }
     requires outside { IsOutside remembered found (item_of key) table.old }
     ensures { (s : Queues) → IsRun early s (queues table.old)
-        → IsAccessed (miss_plan (eviction_plan main remembered early (queues table.old)) (goes (joins remembered) 0) scalar)
-        (item_of key) scalar s (queues table.new) result }
-{
-    if table.len(SMALL) == 0 || (main as usize) < table.len(MAIN) {
-        evict_main::<C>(table, scalar, key, found, remembered, early)
-    } else {
-        evict_small::<C>(table, main, scalar, key, found, remembered, early)
-    }
-}
-
-// The oldest keys of main turn while they have a count, and then the oldest leaves.
-#[inline(always)]
-fn evict_main<C>(
-    table: &mut KeyQueues,
-    scalar: u32,
-    key: Key,
-    found: Option<Found>,
-    remembered: bool,
-    early: Run,
-) -> Accessed
-    requires few { length (queues table.old MainQueue) ≤ MAX_CAPACITY }
-    requires outside { IsOutside remembered found (item_of key) table.old }
-    ensures { (s : Queues) → IsRun early s (queues table.old)
-        → IsAccessed (miss_plan (main_eviction_plan early (queues table.old)) (goes (joins remembered) 0) scalar)
-        (item_of key) scalar s (queues table.new) result }
+        → IsAccessed (eviction_plan main early remembered scalar (queues table.old)) (item_of key) scalar s
+        (queues table.new) result }
 {
     let queue = queue_of(remembered);
-    let most = 3 * table.len(MAIN) as u32;
-    let late = table.run(MAIN, MAIN, 1, 1, most);
-    let (first, own) = enter_for_oldest::<C>(table, MAIN, key, found, queue);
-    let room = RoomMoves {
-        early,
-        late,
-        first,
-        second: Left::NONE,
-    };
-    missed(room, own, scalar, scalar)
-}
-
-// The oldest key of the small queue leaves for the ghost, which forgets its oldest where it is over its size.
-#[inline(always)]
-fn evict_small<C>(
-    table: &mut KeyQueues,
-    main: u32,
-    scalar: u32,
-    key: Key,
-    found: Option<Found>,
-    remembered: bool,
-    early: Run,
-) -> Accessed
-    requires outside { IsOutside remembered found (item_of key) table.old }
-    ensures { (s : Queues) → IsRun early s (queues table.old)
-        → IsAccessed (miss_plan (small_eviction_plan main remembered early (queues table.old)) (goes (joins remembered) 0)
-        scalar) (item_of key) scalar s (queues table.new) result }
-{
-    let queue = queue_of(remembered);
-    let keeps = ghost_keeps(table, main, remembered);
-    let first = table.send_oldest(SMALL, GHOST, 0);
-    if keeps {
-        let own = enter::<C>(table, key, found, queue);
-        let room = RoomMoves {
-            early,
-            late: Run::NONE,
-            first,
-            second: Left::NONE,
-        };
-        return missed(room, own, scalar, scalar);
+    if main_gives(table, main) {
+        let most = 3 * table.len(MAIN) as u32;
+        let late = table.run(MAIN, MAIN, 1, 1, most);
+        let (first, own) = enter_for_oldest::<C>(table, MAIN, key, found, queue);
+        return missed_after(early, late, LeftKeys::one(first), own, scalar, scalar);
     }
-    let (second, own) = enter_for_oldest::<C>(table, GHOST, key, found, queue);
-    let room = RoomMoves {
-        early,
-        late: Run::NONE,
-        first,
-        second,
-    };
-    missed(room, own, scalar, scalar)
+    let (left, own) = enter_for_remembered::<(C, Run)>(
+        table, SMALL, GHOST, main, key, found, remembered, queue,
+    );
+    missed_after(early, Run::NONE, left, own, scalar, scalar)
 }
 
-// Whether the ghost keeps its keys where one more joins it: the accessed key leaves it, or there is room.
-fn ghost_keeps(table: &KeyQueues, size: u32, remembered: bool) -> bool
-    ensures { result ≡ (remembered || nat_lt (length (queues table.now GhostQueue)) size) }
+// Whether main gives up a key, and not the small queue.
+fn main_gives(table: &KeyQueues, main: u32) -> bool
+    ensures { result ≡ gives_main main (queues table.now) }
 {
-    remembered || table.len(GHOST) < size as usize
+    table.len(SMALL) == 0 || (main as usize) < table.len(MAIN)
 }

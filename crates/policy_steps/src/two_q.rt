@@ -8,7 +8,7 @@ ghost use Rattle.policy_steps.specs.Comers.{Comes};
 ghost use Rattle.policy_steps.specs.TwoQ.{A1IN, A1OUT, AM, joins, two_q_miss, two_q_plan};
 
 use crate::accesses::hit;
-use crate::comers::{enter, enter_apart, enter_for_oldest};
+use crate::comers::{enter_apart, enter_for_oldest, enter_for_remembered};
 use crate::misses::{LeftKeys, missed};
 use ghost_policies::TwoQSizes;
 use queue_moves::{Accessed, KeyMove, KeyQueues};
@@ -87,14 +87,11 @@ fn miss<C>(
         let (first, own) = enter_for_oldest::<C>(table, AM, key, found, queue);
         return missed(LeftKeys::one(first), own, scalar, scalar);
     }
-    let keeps = a1out_keeps(table, sizes.kout, remembered);
-    let first = table.send_oldest(A1IN, A1OUT, 0);
-    if keeps {
-        let own = enter::<C>(table, key, found, queue);
-        return missed(LeftKeys::one(first), own, scalar, scalar);
-    }
-    let (second, own) = enter_for_oldest::<C>(table, A1OUT, key, found, queue);
-    missed(LeftKeys { first, second }, own, scalar, scalar)
+    let size = sizes.kout;
+    let (left, own) = enter_for_remembered::<(C, TwoQSizes)>(
+        table, A1IN, A1OUT, size, key, found, remembered, queue,
+    );
+    missed(left, own, scalar, scalar)
 }
 
 // The queue that a key joins.
@@ -109,11 +106,4 @@ fn a1in_gives(a1in: usize, am: usize, kin: u32) -> bool
     ensures { result ≡ (nat_lt kin a1in || am == 0) }
 {
     (kin as usize) < a1in || am == 0
-}
-
-// Whether a1out keeps its keys where one more joins it: the accessed key leaves it, or there is room.
-fn a1out_keeps(table: &KeyQueues, kout: u32, remembered: bool) -> bool
-    ensures { result ≡ (remembered || nat_lt (length (queues table.now A1OUT)) kout) }
-{
-    remembered || table.len(A1OUT) < kout as usize
 }

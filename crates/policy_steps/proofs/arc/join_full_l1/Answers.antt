@@ -4,7 +4,7 @@ use Rattle.queue_table.specs.QueueTable.{queues}
 use Rattle.queue_moves.specs.Moves.{item_of, leaving, goes}
 use Rattle.policy_steps.specs.Arc.{T1, B1, replaced}
 use Rattle.policy_steps.proofs.ArcPlan.{leaver-low}
-use Rattle.policy_steps.proofs.Moving.{absent-left}
+use Rattle.policy_steps.proofs.Leaving.{absent-left}
 use Rattle.policy_steps.proofs.arc.join_full_l1.Goals as goal
 
 pub renew_oldest-requires-clause-absent : goal.renew_oldest-requires-clause-absent

@@ -7,7 +7,7 @@ use Rattle.queue_moves.proofs.Laws.{nothing-left}
 use Rattle.policy_steps.specs.Misses.{no_leavers}
 use Rattle.policy_steps.specs.Arc.{T1, B2, total, replaced}
 use Rattle.policy_steps.proofs.ArcPlan.{leaver-low}
-use Rattle.policy_steps.proofs.Moving.{absent-left}
+use Rattle.policy_steps.proofs.Leaving.{absent-left}
 use Rattle.policy_steps.proofs.arc.join_open_l1.Goals as goal
 
 pub renew_oldest-requires-clause-absent : goal.renew_oldest-requires-clause-absent

@@ -3,7 +3,7 @@ use Rattle.queue_table.specs.QueueTable.{queues}
 use Rattle.queue_moves.specs.Moves.{item_of, leaving, no_run, goes}
 use Rattle.queue_moves.proofs.Carried.{no-run}
 use Rattle.policy_steps.specs.Clock.{clock_eviction_plan}
-use Rattle.policy_steps.proofs.Steps.{absent-run}
+use Rattle.policy_steps.proofs.Leaving.{absent-run}
 use Rattle.policy_steps.proofs.clock.evict.Goals as goal
 
 pub renew_oldest-requires-clause-absent : goal.renew_oldest-requires-clause-absent

@@ -1,11 +1,11 @@
-use Rattle.std.proofs.Common.{◌+◌, ◌≤◌, false, length, ◌∙◌, sym, subst}
+use Rattle.std.proofs.Common.{false, ◌∙◌, sym, subst}
 use Rattle.queue_table.specs.Queues.{Queues}
 use Rattle.queue_table.specs.QueueTable.{queues}
-use Rattle.queue_policies.specs.S3Fifo.{hit_count}
+use Rattle.queue_policies.specs.S3Fifo.{hit_count, IsS3Fifo}
 use Rattle.queue_moves.specs.Moves.{item_of, counts}
 use Rattle.queue_moves.specs.Undoing.{IsOwn, IsAccessed}
-use Rattle.policy_steps.specs.S3Fifo.{SMALL, MAIN, plan_at, s3_fifo_plan}
-use Rattle.policy_steps.proofs.S3FifoStep.{queues-fit, new-outside, new-plan}
+use Rattle.policy_steps.specs.S3Fifo.{s3_fifo_of, plan_at, s3_fifo_plan}
+use Rattle.policy_steps.proofs.S3FifoStep.{new-outside, new-plan}
 use Rattle.policy_steps.proofs.Steps.{by-plan, still-none}
 use Rattle.policy_steps.proofs.s3_fifo.step.Goals as goal
 
@@ -17,12 +17,8 @@ returns-then-is_resident-clause-accessed g c =
     subst (λ at. IsAccessed (plan_at c.args.part c.args.capacity c.args.scalar at s) (item_of c.args.key) c.args.scalar s u c.hit.result) (sym c.in-Some.ensures.stands)
     (rw (sym c.is_resident.ensures ∙ c.if-is_resident.true) (c.hit.ensures (counts (hit_count c.in-Some.found.count)) (item_of c.args.key) s u own))
 
-pub miss-requires-clause-fits : goal.miss-requires-clause-fits
-miss-requires-clause-fits g c =
-    subst (λ (s : Queues). length (s SMALL) + length (s MAIN) ≤ c.args.capacity) (sym c.in_ok-reserve.ensures.queues) (queues-fit c.args.part c.args.capacity (queues c.args.table.now) c.requires.state)
-
-pub miss-requires-else-is_resident-clause-fits : goal.miss-requires-else-is_resident-clause-fits
-miss-requires-else-is_resident-clause-fits g c = queues-fit c.args.part c.args.capacity (queues c.args.table.now) c.requires.state
+pub miss-requires-clause-state : goal.miss-requires-clause-state
+miss-requires-clause-state g c = subst (λ s. IsS3Fifo c.args.part c.args.capacity (s3_fifo_of s)) (sym c.in_ok-reserve.ensures.queues) c.requires.state
 
 pub miss-requires-clause-outside : goal.miss-requires-clause-outside
 miss-requires-clause-outside g c = new-outside false (item_of c.args.key) c.reserve.new.self (still-none _ _ _ c.in_ok-reserve.ensures.queues c.in_default.ensures.absent) c.in_ok-reserve.ensures.room

@@ -1,8 +1,8 @@
 use Rattle.std.proofs.Common.{◌≤◌, length, arith}
 use Rattle.queue_table.specs.QueueTable.{queues}
 use Rattle.queue_moves.specs.Moves.{item_of}
-use Rattle.policy_steps.proofs.Steps.{absent-run}
 use Rattle.policy_steps.proofs.SieveStep.{stops}
+use Rattle.policy_steps.proofs.Leaving.{absent-run}
 use Rattle.policy_steps.proofs.sieve.evict.Goals as goal
 
 pub evict_late-requires-clause-stopped : goal.evict_late-requires-clause-stopped
