@@ -1,217 +1,287 @@
 -- ARC: what an access makes of the residents, and that it keeps the invariant.
-use Rattle.std.proofs.Common.{◌≡◌, ℕ, ◌+◌, ◌≤◌, true, false, eqb, nat_lt, [], ◌∷◌, ◌++◌, length, ap, ◌∙◌, refl, arith, inl, inr, length-append}
+use Rattle.std.proofs.Common.{◌≡◌, ℕ, ◌+◌, ◌*◌, ◌<◌, ◌≤◌, ◌⊎◌, Bool, true, false, cond, eqb, nat_lt, List, [], ◌∷◌, ◌++◌, length, drop, ap, ◌∙◌, sym, subst, refl, arith, inl, inr, length-append}
 use Rattle.std.proofs.lemmas.Bool.{cases_Bool, cases_lt, le-ltb, lt-ltb, eqb-true}
 use Rattle.step_record.specs.Keys.{has_key, keys_without}
 use Rattle.step_record.specs.Stats.{is_hit, is_eviction, is_rejection, one_if}
+use Rattle.step_record.specs.declared.outcome.Outcome.{Outcome}
+use Rattle.step_record.specs.declared.outcome.Outcome.TheVariants.{Hit}
 use Rattle.queue_policies.specs.Residents.{times, keys_evicted, IsAccess, AreResidents}
-use Rattle.ghost_policies.specs.Arc.{ArcState, empty_arc, arc_residents, arc_target, arc_plan, arc_after_miss, arc_outcome, arc_act, IsArc}
+use Rattle.ghost_policies.specs.Arc.{ArcState, arc_residents, arc_total, arc_target, arc_replace, arc_plan, plan_of_new_key, forgotten_of_b1, forgotten_of_b2, leaver_dropped, arc_after_recall, arc_after_forgetting, arc_after_eviction, arc_after_join, arc_after_miss, arc_outcome, arc_act, IsArc}
+use Rattle.ghost_policies.specs.declared.arc.ArcForgets.{ArcForgets}
 use Rattle.ghost_policies.specs.declared.arc.ArcGhost.{ArcGhost}
 use Rattle.ghost_policies.specs.declared.arc.ArcLeaver.{ArcLeaver}
 use Rattle.ghost_policies.specs.declared.arc.ArcPlan.{ArcPlan}
-use Rattle.ghost_policies.specs.declared.arc.ArcLeaver.TheVariants.{Dropped, NoLeaver, ToB1, ToB2}
+use Rattle.ghost_policies.specs.declared.arc.ArcLeaver.TheVariants.{NoLeaver}
 use Rattle.ghost_policies.specs.declared.arc.ArcGhost.TheVariants.{InB1, InB2, NoGhost}
-use Rattle.ghost_policies.specs.Theorems.{ArcKeeps, ArcCounts}
-use Rattle.queue_policies.proofs.Residents.{times-append, times-none, counts-residents, access-keeps}
-use Rattle.ghost_policies.proofs.Weights.{weight, length-weight, times-weight, weight-append, weight-push, weight-out, weight-renewed, hit-moves, miss-moves, has-append}
-use Rattle.ghost_policies.proofs.ArcPlans.{Remembers, Fits, plan-fits}
-use Rattle.ghost_policies.proofs.ArcMoves.{out_of_t1, into_b1, into_b2, out_of_b1, out_of_b2, if_new, if_in_b1, if_in_b2, Moves, missed-moves, p-missed}
-use Rattle.ghost_policies.proofs.ArcSizes.{Balances, residents-length, balances, target-fits}
+use Rattle.ghost_policies.specs.declared.arc.ArcForgets.TheVariants.{NoneForgotten}
+use Rattle.ghost_policies.specs.Theorems.{ArcKeeps}
+use Rattle.queue_policies.proofs.Residents.{times-append, times-none, access-keeps}
+use Rattle.queue_policies.proofs.CountedKeys.{by-oldest}
+use Rattle.ghost_policies.proofs.Weights.{weight, length-weight, times-weight, weight-append, weight-push, weight-first, weight-without, weight-out, weight-renewed, hit-moves, miss-moves, has-append}
+use Rattle.ghost_policies.proofs.ArcPlans.{none-out, new-cases, replace-cases}
 
-no-hit : (v : ArcLeaver) → is_hit (arc_outcome v) ≡ false
-no-hit NoLeaver = refl
-no-hit (ToB1 v) = refl
-no-hit (ToB2 v) = refl
-no-hit (Dropped v) = refl
+-- what the four queues weigh
+abbrev weighs : (ℕ → ℕ) → ArcState → ℕ
+weighs f s = weight f s.t1 + weight f s.t2 + weight f s.b1 + weight f s.b2
 
-no-rejection : (v : ArcLeaver) → is_rejection (arc_outcome v) ≡ false
-no-rejection NoLeaver = refl
-no-rejection (ToB1 v) = refl
-no-rejection (ToB2 v) = refl
-no-rejection (Dropped v) = refl
+abbrev if_new : ArcGhost → ℕ → ℕ
+if_new NoGhost n = n
+if_new InB1 n = 0
+if_new InB2 n = 0
 
-left-weight : (f : ℕ → ℕ) (v : ArcLeaver) → weight f (keys_evicted (arc_outcome v)) ≡ weight f (out_of_t1 v) + weight f (into_b2 v)
-left-weight f NoLeaver = refl
-left-weight f (ToB1 v) = omega arith
-left-weight f (ToB2 v) = omega arith
-left-weight f (Dropped v) = omega arith
+-- d has room for the key k of a miss, of the ghost g: it was made from s with the outcome o
+record HasRoom (c k : ℕ) (g : ArcGhost) (s : ArcState) (o : Outcome) (d : ArcState) : Type 0 where
+  misses : is_hit o ≡ false
+  keeps : is_rejection o ≡ false
+  evicts : is_eviction o ≡ cond (nat_lt (length (arc_residents s)) c) false true
+  moves : (f : ℕ → ℕ) → weight f d.t1 + weight f d.t2 + weight f (keys_evicted o) ≡ weight f s.t1 + weight f s.t2
+  grows : (f : ℕ → ℕ) → weighs f d + f k ≤ weighs f s + if_new g (f k)
+  l1_fits : length d.t1 + length d.b1 + if_new g 1 ≤ c
+  all_fit : arc_total d + 1 ≤ 2 * c
+  full : 1 ≤ length d.b1 + length d.b2 → length d.t1 + length d.t2 + 1 ≡ c
+  p_fits : d.p ≤ c
 
-one-of : (g : ArcGhost) (n : ℕ) → if_new g n + if_in_b1 g n + if_in_b2 g n ≡ n
-one-of NoGhost n = omega arith
-one-of InB1 n = omega arith
-one-of InB2 n = omega arith
+record IsJoined (f : ℕ → ℕ) (k : ℕ) (g : ArcGhost) (d t : ArcState) : Type 0 where
+  t1 : weight f t.t1 ≡ weight f d.t1 + if_new g (f k)
+  both : weight f t.t1 + weight f t.t2 ≡ weight f d.t1 + weight f d.t2 + f k
+  b1 : t.b1 ≡ d.b1
+  b2 : t.b2 ≡ d.b2
+  p : t.p ≡ d.p
 
-access : (c k : ℕ) (s : ArcState) → 1 ≤ c → IsArc c s → IsAccess c k (arc_residents s) (arc_act c k s).0 (arc_residents (arc_act c k s).1)
-access c k s h i =
-    let d = i.distinct k in
-    elim (cases_Bool (has_key k s.t1)) as (λ _. IsAccess c k (arc_residents s) (arc_act c k s).0 (arc_residents (arc_act c k s).1)) [
-      | inl e ↦
-          rw e (hit-moves c k (arc_residents s) (keys_without k s.t1 ++ (s.t2 ++ k ∷ [])) (has-append k s.t1 s.t2 ∙ rw e refl) (λ f.
-          omega (arith, weight-out f k s.t1 (omega (arith, d)) e, weight-append f, weight-push f s.t2 k)))
-      | inr e ↦ rw e (elim (cases_Bool (has_key k s.t2)) [
-        | inl g ↦
-            rw g (hit-moves c k (arc_residents s) (s.t1 ++ (keys_without k s.t2 ++ k ∷ [])) (has-append k s.t1 s.t2 ∙ rw (e, g) refl) (λ f.
-            omega (arith, weight-renewed f k s.t2 (omega (arith, d)) g, weight-append f)))
-        | inr g ↦
-            let m : ArcPlan = arc_plan c k s in
-            let t : ArcState = arc_after_miss c k m s in
-            rw g (miss-moves c k (arc_residents s) (arc_residents t) (arc_outcome m.leaver) (has-append k s.t1 s.t2 ∙ rw (e, g) refl) (no-hit m.leaver) (no-rejection m.leaver) (balances c k s h i).evicts (λ f.
-            let w = missed-moves f c k m s (omega (arith, d)) (omega (arith, d)) (plan-fits c k s i) in
-            omega (arith, w.t1, w.t2, left-weight f m.leaver, one-of m.recalls (f k), weight-append f)))
-      ])
-    ]
-
--- ---- what an access keeps
+joining : (f : ℕ → ℕ) (k : ℕ) (g : ArcGhost) (d : ArcState) → IsJoined f k g d (arc_after_join g k d)
+joining f k NoGhost d = record { t1 = weight-push f d.t1 k; both = omega (arith, weight-push f d.t1 k); b1 = refl; b2 = refl; p = refl }
+joining f k InB1 d = record { t1 = omega arith; both = omega (arith, weight-push f d.t2 k); b1 = refl; b2 = refl; p = refl }
+joining f k InB2 d = record { t1 = omega arith; both = omega (arith, weight-push f d.t2 k); b1 = refl; b2 = refl; p = refl }
 
 holds : (c : ℕ) (s : ArcState) → IsArc c s → AreResidents c (arc_residents s)
 holds c s i = record {
-  fits = let fits = i.fits in omega (arith, fits, residents-length s);
+  fits = let fits = i.fits in omega (arith, fits, length-append s.t1 s.t2);
   distinct = λ x. omega (arith, i.distinct x, times-append x s.t1 s.t2);
 }
 
-into-less : (f : ℕ → ℕ) (v : ArcLeaver) → weight f (into_b1 v) ≤ weight f (out_of_t1 v)
-into-less f NoLeaver = omega arith
-into-less f (ToB1 v) = omega arith
-into-less f (ToB2 v) = omega arith
-into-less f (Dropped v) = omega arith
+target-fits : (c : ℕ) (g : ArcGhost) (s : ArcState) → s.p ≤ c → arc_target c g s ≤ c
+target-fits c NoGhost s h = h
+target-fits c InB1 s h = omega arith
+target-fits c InB2 s h = omega (arith, h)
 
-into-shorter : (v : ArcLeaver) → length (into_b1 v) ≤ length (out_of_t1 v)
-into-shorter v = omega (arith, into-less (λ _. 1) v, length-weight)
+has-length : (k : ℕ) (l : List ℕ) → has_key k l ≡ true → 1 ≤ length l
+has-length k [] h = absurd (cc (h))
+has-length k (a ∷ l) h = omega arith
 
-evicted-one : (v : ArcLeaver) → length (out_of_t1 v) + length (into_b2 v) ≡ one_if (is_eviction (arc_outcome v))
-evicted-one NoLeaver = refl
-evicted-one (ToB1 v) = refl
-evicted-one (ToB2 v) = refl
-evicted-one (Dropped v) = refl
+-- ---- an access to k
 
--- the sizes after a miss
-record Sizes (m : ArcPlan) (old new : ArcState) : Type 0 where
-  t1 : length new.t1 + length (out_of_t1 m.leaver) ≡ length old.t1 + if_new m.recalls 1
-  t2 : length new.t2 + length (into_b2 m.leaver) ≡ length old.t2 + if_in_b1 m.recalls 1 + if_in_b2 m.recalls 1
-  b1 : length new.b1 + length (out_of_b1 m.forgets) + if_in_b1 m.recalls 1 ≡ length old.b1 + length (into_b1 m.leaver)
-  b2 : length new.b2 + length (out_of_b2 m.forgets) + if_in_b2 m.recalls 1 ≡ length old.b2 + length (into_b2 m.leaver)
+record IsNext (c k : ℕ) (s : ArcState) (r : Outcome × ArcState) : Type 0 where
+  access : IsAccess c k (arc_residents s) r.0 (arc_residents r.1)
+  state : IsArc c r.1
 
-sizes : (k : ℕ) (m : ArcPlan) (s t : ArcState) → Moves (λ _. 1) k m s t → Sizes m s t
-sizes k m s t w = record {
-  t1 = omega (arith, w.t1, length-weight);
-  t2 = omega (arith, w.t2, length-weight);
-  b1 = omega (arith, w.b1, length-weight);
-  b2 = omega (arith, w.b2, length-weight);
-}
+module _ (c k : ℕ) (h : 1 ≤ c) (s : ArcState) (i : IsArc c s) where
+  -- the residents change their places
+  hit : (t1 t2 : List ℕ) → has_key k (arc_residents s) ≡ true → length t1 ≤ length s.t1 → ((f : ℕ → ℕ) → weight f t1 + weight f t2 ≡ weight f s.t1 + weight f s.t2)
+      → IsNext c k s (Hit, record s { t1 = t1; t2 = t2 })
+  hit t1 t2 e less w =
+      let fits = i.fits in let l1_fits = i.l1_fits in let all_fit = i.all_fit in
+      let n : length t1 + length t2 ≡ length s.t1 + length s.t2 = omega (arith, w (λ _. 1), length-weight) in
+      record {
+        access = hit-moves c k (arc_residents s) (t1 ++ t2) e (λ f. omega (arith, w f, weight-append f));
+        state = record {
+          fits = omega (arith, fits, n);
+          l1_fits = omega (arith, l1_fits, less);
+          all_fit = omega (arith, all_fit, n);
+          full = λ some. n ∙ i.full some;
+          p_fits = i.p_fits;
+          distinct = λ x. omega (arith, i.distinct x, w (λ y. one_if (eqb x y)), times-weight x);
+        };
+      }
 
--- a key that is nowhere comes once, and one that is remembered comes for itself
-once : (x k : ℕ) (g : ArcGhost) (s : ArcState) → has_key k s.t1 ≡ false → has_key k s.t2 ≡ false → Remembers g k s → times x s.t1 + times x s.t2 + times x s.b1 + times x s.b2 ≤ 1
-    → times x s.t1 + times x s.t2 + times x s.b1 + times x s.b2 + if_new g (one_if (eqb x k)) ≤ 1
-once x k NoGhost s e f h d =
-    elim (cases_Bool (eqb x k)) as (λ _. times x s.t1 + times x s.t2 + times x s.b1 + times x s.b2 + one_if (eqb x k) ≤ 1) [
-      | inl g ↦ let same : x ≡ k = eqb-true x k g in rw (g, same) (omega (arith, times-none k s.t1 e, times-none k s.t2 f, times-none k s.b1 h.0, times-none k s.b2 h.1))
-      | inr g ↦ rw g (omega (arith, d))
-    ]
-once x k InB1 s e f h d = omega (arith, d)
-once x k InB2 s e f h d = omega (arith, d)
+  module _ (no_t1 : has_key k s.t1 ≡ false) (no_t2 : has_key k s.t2 ≡ false) where
+    joined : (g : ArcGhost) (o : Outcome) (d : ArcState) → ((x : ℕ) → times x s.t1 + times x s.t2 + times x s.b1 + times x s.b2 + if_new g (one_if (eqb x k)) ≤ 1)
+        → HasRoom c k g s o d → IsNext c k s (o, arc_after_join g k d)
+    joined g o d once r =
+        let t : ArcState = arc_after_join g k d in
+        let j = joining (λ _. 1) k g d in
+        let b1 = ap length j.b1 in let b2 = ap length j.b2 in
+        let l1_fits = r.l1_fits in let all_fit = r.all_fit in let p_fits = r.p_fits in let p = j.p in
+        let a = miss-moves c k (arc_residents s) (arc_residents t) o (has-append k s.t1 s.t2 ∙ rw (no_t1, no_t2) refl) r.misses r.keeps r.evicts
+        (λ f. omega (arith, r.moves f, (joining f k g d).both, weight-append f)) in
+        let fits = (access-keeps c k (arc_residents s) o (arc_residents t) a (holds c s i)).fits in
+        record {
+          access = a;
+          state = record {
+            fits = omega (arith, fits, length-append t.t1 t.t2);
+            l1_fits = omega (arith, l1_fits, j.t1, b1, length-weight);
+            all_fit = omega (arith, all_fit, j.both, b1, b2, length-weight);
+            full = λ some. let full = r.full (omega (arith, some, b1, b2)) in omega (arith, full, j.both, length-weight);
+            p_fits = omega (arith, p_fits, p);
+            distinct = λ x.
+                let f : ℕ → ℕ = λ y. one_if (eqb x y) in
+                let e = joining f k g d in
+                omega (arith, once x, r.grows f, e.both, ap (weight f) e.b1, ap (weight f) e.b2, times-weight x);
+          };
+        }
 
-missed-full : (c : ℕ) (m : ArcPlan) (s t : ArcState) → IsArc c s → Balances c m s → Sizes m s t → 1 ≤ length t.b1 + length t.b2 → length t.t1 + length t.t2 ≡ c
-missed-full c m s t i b z some =
-    let fits = i.fits in
-    elim (cases_lt (length s.t1 + length s.t2) c) [
-      | inl room ↦
-          let e : nat_lt (length (arc_residents s)) c ≡ true = lt-ltb (length (arc_residents s)) c (omega (arith, room, residents-length s)) in
-          let none : is_eviction (arc_outcome m.leaver) ≡ false = b.evicts ∙ rw e refl in
-          let zero : length (out_of_t1 m.leaver) + length (into_b2 m.leaver) ≡ 0 = evicted-one m.leaver ∙ ap one_if none in
-          let less : length (into_b1 m.leaver) ≤ length (out_of_t1 m.leaver) = into-shorter m.leaver in
-          elim (cases_lt 0 (length s.b1 + length s.b2)) [
-            | inl held ↦ let full = i.full (omega (arith, held)) in absurd (omega (arith, full, room))
-            | inr empty ↦ absurd (omega (arith, empty, zero, less, z.b1, z.b2, some))
+    full-evicts : c ≤ length s.t1 + length s.t2 → true ≡ cond (nat_lt (length (arc_residents s)) c) false true
+    full-evicts m = rw (le-ltb (length (arc_residents s)) c (omega (arith, m, length-append s.t1 s.t2))) refl
+
+    -- a key leaves for a ghost
+    replaced : (g : ArcGhost) (in_b2 : Bool) (p : ℕ) (b1 b2 : List ℕ) → length s.t1 + length s.t2 ≡ c → p ≤ c → (in_b2 ≡ true) ⊎ (length s.t1 < c)
+        → ((f : ℕ → ℕ) → weight f b1 + weight f b2 + f k ≤ weight f s.b1 + weight f s.b2 + if_new g (f k))
+        → length s.t1 + length b1 + if_new g 1 ≤ c → length b1 + length b2 + 1 ≤ c
+        → HasRoom c k g s (arc_outcome (arc_replace in_b2 p s)) (arc_after_eviction (arc_replace in_b2 p s) record { t1 = s.t1; t2 = s.t2; b1 = b1; b2 = b2; p = p })
+    replaced g in_b2 p b1 b2 full fits case grows l1 ghosts =
+        replace-cases in_b2 c p s (λ v. HasRoom c k g s (arc_outcome v) (arc_after_eviction v record { t1 = s.t1; t2 = s.t2; b1 = b1; b2 = b2; p = p })) h full fits case
+        (λ v l e.
+        let less : length (drop 1 s.t1) + 1 ≡ length s.t1 = omega (arith, weight-first (λ _. 1) s.t1 v l e, length-weight) in
+        let more : length (b1 ++ v ∷ []) ≡ length b1 + 1 = length-append b1 (v ∷ []) in
+        record {
+          misses = refl;
+          keeps = refl;
+          evicts = full-evicts (omega (arith, full));
+          moves = λ f. omega (arith, weight-first f s.t1 v l e);
+          grows = λ f. omega (arith, weight-first f s.t1 v l e, weight-push f b1 v, grows f);
+          l1_fits = omega (arith, l1, less, more);
+          all_fit = omega (arith, full, ghosts, less, more);
+          full = λ some. omega (arith, full, less);
+          p_fits = fits;
+        })
+        (λ v l e.
+        let less : length (drop 1 s.t2) + 1 ≡ length s.t2 = omega (arith, weight-first (λ _. 1) s.t2 v l e, length-weight) in
+        let more : length (b2 ++ v ∷ []) ≡ length b2 + 1 = length-append b2 (v ∷ []) in
+        record {
+          misses = refl;
+          keeps = refl;
+          evicts = full-evicts (omega (arith, full));
+          moves = λ f. omega (arith, weight-first f s.t2 v l e);
+          grows = λ f. omega (arith, weight-first f s.t2 v l e, weight-push f b2 v, grows f);
+          l1_fits = l1;
+          all_fit = omega (arith, full, ghosts, less, more);
+          full = λ some. omega (arith, full, less);
+          p_fits = fits;
+        })
+
+    -- a key that a ghost remembers
+    recalled : (g : ArcGhost) (in_b2 : Bool) → 1 ≤ length s.b1 + length s.b2 → (in_b2 ≡ true) ⊎ (length s.t1 < c) → ((n : ℕ) → if_new g n ≡ 0)
+        → ((f : ℕ → ℕ) → weight f (keys_without k s.b1) + weight f (keys_without k s.b2) + f k ≤ weight f s.b1 + weight f s.b2)
+        → IsNext c k s (arc_outcome (arc_replace in_b2 (arc_target c g s) s), arc_after_join g k (arc_after_eviction (arc_replace in_b2 (arc_target c g s) s) (arc_after_recall (arc_target c g s) k s)))
+    recalled g in_b2 some case known out =
+        let full : length s.t1 + length s.t2 ≡ c = i.full some in
+        let l1_fits = i.l1_fits in let all_fit = i.all_fit in
+        let few = out (λ _. 1) in
+        let less = weight-without (λ _. 1) k s.b1 (omega (arith, i.distinct k)) in
+        joined g _ _ (λ x. omega (arith, i.distinct x, known (one_if (eqb x k))))
+        (replaced g in_b2 (arc_target c g s) (keys_without k s.b1) (keys_without k s.b2) full (target-fits c g s i.p_fits) case (λ f. omega (arith, out f))
+        (omega (arith, l1_fits, less, known 1, length-weight)) (omega (arith, full, all_fit, few, length-weight)))
+
+    module _ (no_b1 : has_key k s.b1 ≡ false) (no_b2 : has_key k s.b2 ≡ false) where
+      once : (x : ℕ) → times x s.t1 + times x s.t2 + times x s.b1 + times x s.b2 + one_if (eqb x k) ≤ 1
+      once x =
+          elim (cases_Bool (eqb x k)) as (λ _. times x s.t1 + times x s.t2 + times x s.b1 + times x s.b2 + one_if (eqb x k) ≤ 1) [
+            | inl e ↦ let same : x ≡ k = eqb-true x k e in rw (e, same) (omega (arith, times-none k s.t1 no_t1, times-none k s.t2 no_t2, times-none k s.b1 no_b1, times-none k s.b2 no_b2))
+            | inr e ↦ rw e (omega (arith, i.distinct x))
           ]
-      | inr full ↦
-          let e : nat_lt (length (arc_residents s)) c ≡ false = le-ltb (length (arc_residents s)) c (omega (arith, full, residents-length s)) in
-          let one : is_eviction (arc_outcome m.leaver) ≡ true = b.evicts ∙ rw e refl in
-          let left : length (out_of_t1 m.leaver) + length (into_b2 m.leaver) ≡ 1 = evicted-one m.leaver ∙ ap one_if one in
-          omega (arith, full, fits, left, z.t1, z.t2, one-of m.recalls 1)
-    ]
 
-kept-missed : (c k : ℕ) (m : ArcPlan) (s : ArcState) → IsArc c s → has_key k s.t1 ≡ false → has_key k s.t2 ≡ false → Fits k m s → Balances c m s → length (arc_after_miss c k m s).t1 + length (arc_after_miss c k m s).t2 ≤ c → IsArc c (arc_after_miss c k m s)
-kept-missed c k m s i e f h b r =
-    let d = i.distinct k in
-    let t : ArcState = arc_after_miss c k m s in
-    let moves : (f : ℕ → ℕ) → Moves f k m s t = λ f. missed-moves f c k m s (omega (arith, d)) (omega (arith, d)) h in
-    let z : Sizes m s t = sizes k m s t (moves (λ _. 1)) in
-    record {
-      fits = r;
-      l1_fits = let o = b.l1_fits in omega (arith, o, z.t1, z.b1);
-      all_fit = let o = b.all_fit in omega (arith, o, z.t1, z.t2, z.b1, z.b2, one-of m.recalls 1);
-      full = missed-full c m s t i b z;
-      p_fits = let fit : arc_target c m.recalls s ≤ c = target-fits c m.recalls s i.p_fits in omega (arith, fit, p-missed c k m s h);
-      distinct = λ x.
-          let g : ℕ → ℕ = λ y. one_if (eqb x y) in
-          let w = moves g in
-          omega (
-            arith,
-            w.t1,
-            w.t2,
-            w.b1,
-            w.b2,
-            into-less g m.leaver,
-            once x k m.recalls s e f h.recalls (i.distinct x),
-            one-of m.recalls (one_if (eqb x k)),
-            times-weight x,
-          );
-    }
+      abbrev IsNew : ArcPlan → Type 0
+      IsNew m = IsNext c k s (arc_outcome m.leaver, arc_after_miss c k m s)
 
-kept-from_t1 : (c k : ℕ) (s : ArcState) → IsArc c s → has_key k s.t1 ≡ true → IsArc c (record s { t1 = keys_without k s.t1; t2 = s.t2 ++ k ∷ [] })
-kept-from_t1 c k s i e =
-    let d = i.distinct k in let fits = i.fits in let l1_fits = i.l1_fits in let all_fit = i.all_fit in
-    let out : length (keys_without k s.t1) + 1 ≡ length s.t1 = omega (arith, weight-out (λ _. 1) k s.t1 (omega (arith, d)) e, length-weight) in
-    let push = length-append s.t2 (k ∷ []) in
-    record {
-      fits = omega (arith, fits, out, push);
-      l1_fits = omega (arith, l1_fits, out);
-      all_fit = omega (arith, all_fit, out, push);
-      full = λ some. let full = i.full some in omega (arith, full, out, push);
-      p_fits = i.p_fits;
-      distinct = λ x.
-          let f : ℕ → ℕ = λ y. one_if (eqb x y) in
-          omega (arith, i.distinct x, weight-out f k s.t1 (omega (arith, d)) e, weight-push f s.t2 k, times-weight x);
-    }
+      new-key : (f : ArcForgets) (v : ArcLeaver) → HasRoom c k NoGhost s (arc_outcome v) (arc_after_eviction v (arc_after_forgetting f s))
+          → IsNew record { recalls = NoGhost; forgets = f; leaver = v }
+      new-key f v r =
+          let same : arc_after_recall s.p k s ≡ s = rw (none-out k s.b1 no_b1, none-out k s.b2 no_b2) refl in
+          subst (λ d. IsNext c k s (arc_outcome v, arc_after_join NoGhost k (arc_after_eviction v (arc_after_forgetting f d)))) (sym same)
+          (joined NoGhost (arc_outcome v) (arc_after_eviction v (arc_after_forgetting f s)) once r)
 
-kept-from_t2 : (c k : ℕ) (s : ArcState) → IsArc c s → has_key k s.t2 ≡ true → IsArc c (record s { t2 = keys_without k s.t2 ++ k ∷ [] })
-kept-from_t2 c k s i e =
-    let d = i.distinct k in let fits = i.fits in let all_fit = i.all_fit in
-    let out : length (keys_without k s.t2) + 1 ≡ length s.t2 = omega (arith, weight-out (λ _. 1) k s.t2 (omega (arith, d)) e, length-weight) in
-    let push = length-append (keys_without k s.t2) (k ∷ []) in
-    record {
-      fits = omega (arith, fits, out, push);
-      l1_fits = i.l1_fits;
-      all_fit = omega (arith, all_fit, out, push);
-      full = λ some. let full = i.full some in omega (arith, full, out, push);
-      p_fits = i.p_fits;
-      distinct = λ x.
-          let f : ℕ → ℕ = λ y. one_if (eqb x y) in
-          omega (arith, i.distinct x, weight-out f k s.t2 (omega (arith, d)) e, weight-push f (keys_without k s.t2) k, times-weight x);
-    }
+      -- where as many keys are known as fit, the cache is full
+      is-full : c ≤ arc_total s → length s.t1 + length s.t2 ≡ c
+      is-full many =
+          elim (cases_lt 0 (length s.b1 + length s.b2)) [
+            | inl some ↦ i.full (omega (arith, some))
+            | inr none ↦ let fits = i.fits in omega (arith, none, many, fits)
+          ]
 
-kept-by : (c k : ℕ) (s : ArcState) → 1 ≤ c → IsArc c s → length (arc_act c k s).1.t1 + length (arc_act c k s).1.t2 ≤ c → IsArc c (arc_act c k s).1
-kept-by c k s h i =
-    elim (cases_Bool (has_key k s.t1)) as (λ _. length (arc_act c k s).1.t1 + length (arc_act c k s).1.t2 ≤ c → IsArc c (arc_act c k s).1) [
-      | inl e ↦ rw e (λ r. kept-from_t1 c k s i e)
-      | inr e ↦ rw e (elim (cases_Bool (has_key k s.t2)) [
-        | inl g ↦ rw g (λ r. kept-from_t2 c k s i g)
-        | inr g ↦ rw g (λ r. kept-missed c k (arc_plan c k s) s i e g (plan-fits c k s i) (balances c k s h i) r)
-      ])
-    ]
+      new : IsNew (plan_of_new_key c s)
+      new =
+          let once_fits = i.l1_fits in let all = i.all_fit in let fits = i.fits in
+          new-cases c s IsNew
+          (λ same low.
+          let full : length s.t1 + length s.t2 ≡ c = i.full (omega (arith, same, low)) in
+          new-key (forgotten_of_b1 s.b1) (arc_replace false s.p s)
+          (by-oldest (λ l. HasRoom c k NoGhost s (arc_outcome (arc_replace false s.p s)) (arc_after_eviction (arc_replace false s.p s) (arc_after_forgetting (forgotten_of_b1 l) s))) s.b1 (omega (arith, same, low)) (λ v l e.
+          let less : length (drop 1 s.b1) + 1 ≡ length s.b1 = omega (arith, weight-first (λ _. 1) s.b1 v l e, length-weight) in
+          replaced NoGhost false s.p (drop 1 s.b1) s.b2 full i.p_fits (inr low) (λ f. omega (arith, weight-first f s.b1 v l e)) (omega (arith, same, less)) (omega (arith, all, full, less)))))
+          (λ same low.
+          new-key NoneForgotten (leaver_dropped s.t1)
+          (by-oldest (λ l. HasRoom c k NoGhost s (arc_outcome (leaver_dropped l)) (arc_after_eviction (leaver_dropped l) s)) s.t1 (omega (arith, low, h)) (λ v l e.
+          let less : length (drop 1 s.t1) + 1 ≡ length s.t1 = omega (arith, weight-first (λ _. 1) s.t1 v l e, length-weight) in
+          record {
+            misses = refl;
+            keeps = refl;
+            evicts = full-evicts (omega (arith, low));
+            moves = λ f. omega (arith, weight-first f s.t1 v l e);
+            grows = λ f. omega (arith, weight-first f s.t1 v l e);
+            l1_fits = omega (arith, less, same);
+            all_fit = omega (arith, less, all);
+            full = λ some. omega (arith, less, low, fits);
+            p_fits = i.p_fits;
+          })))
+          (λ other few.
+          new-key NoneForgotten NoLeaver record {
+            misses = refl;
+            keeps = refl;
+            evicts = rw (lt-ltb (length (arc_residents s)) c (omega (arith, few, length-append s.t1 s.t2))) refl;
+            moves = λ f. omega arith;
+            grows = λ f. omega arith;
+            l1_fits = omega (arith, few);
+            all_fit = omega (arith, few);
+            full = λ some. absurd (let full = i.full some in omega (arith, full, few, some));
+            p_fits = i.p_fits;
+          })
+          (λ other many same.
+          let full : length s.t1 + length s.t2 ≡ c = is-full many in
+          new-key (forgotten_of_b2 s.b2) (arc_replace false s.p s)
+          (by-oldest (λ l. HasRoom c k NoGhost s (arc_outcome (arc_replace false s.p s)) (arc_after_eviction (arc_replace false s.p s) (arc_after_forgetting (forgotten_of_b2 l) s))) s.b2 (omega (arith, same, fits, once_fits, other)) (λ v l e.
+          let less : length (drop 1 s.b2) + 1 ≡ length s.b2 = omega (arith, weight-first (λ _. 1) s.b2 v l e, length-weight) in
+          replaced NoGhost false s.p s.b1 (drop 1 s.b2) full i.p_fits (inr (omega (arith, other, once_fits))) (λ f. omega (arith, weight-first f s.b2 v l e)) (omega (arith, other, once_fits)) (omega (arith, same, full, less)))))
+          (λ other many less.
+          let full : length s.t1 + length s.t2 ≡ c = is-full many in
+          new-key NoneForgotten (arc_replace false s.p s)
+          (replaced NoGhost false s.p s.b1 s.b2 full i.p_fits (inr (omega (arith, other, once_fits))) (λ f. omega arith) (omega (arith, other, once_fits)) (omega (arith, full, all, less))))
 
-kept : (c k : ℕ) (s : ArcState) → 1 ≤ c → IsArc c s → IsArc c (arc_act c k s).1
-kept c k s h i =
-    let new : ArcState = (arc_act c k s).1 in
-    let room = access-keeps c k (arc_residents s) (arc_act c k s).0 (arc_residents new) (access c k s h i) (holds c s i) in
-    kept-by c k s h i (omega (arith, room.fits, residents-length new))
+    miss : IsNext c k s (arc_outcome (arc_plan c k s).leaver, arc_after_miss c k (arc_plan c k s) s)
+    miss =
+        let d = i.distinct k in let once = i.l1_fits in
+        let out = λ (f : ℕ → ℕ) (l : List ℕ) (n : times k l ≤ 1). weight-without f k l n in
+        elim (cases_Bool (has_key k s.b1)) as (λ _. IsNext c k s (arc_outcome (arc_plan c k s).leaver, arc_after_miss c k (arc_plan c k s) s)) [
+          | inl e ↦
+              let some : 1 ≤ length s.b1 = has-length k s.b1 e in
+              rw e (recalled InB1 false (omega (arith, some)) (inr (omega (arith, some, once))) (λ n. refl)
+              (λ f. omega (arith, weight-out f k s.b1 (omega (arith, d)) e, out f s.b2 (omega (arith, d)))))
+          | inr e ↦ rw e (elim (cases_Bool (has_key k s.b2)) [
+            | inl f ↦
+                let some : 1 ≤ length s.b2 = has-length k s.b2 f in
+                rw f (recalled InB2 true (omega (arith, some)) (inl refl) (λ n. refl)
+                (λ g. omega (arith, weight-out g k s.b2 (omega (arith, d)) f, out g s.b1 (omega (arith, d)))))
+            | inr f ↦ rw f (new e f)
+          ])
+        ]
+
+  next : IsNext c k s (arc_act c k s)
+  next =
+      let d = i.distinct k in
+      elim (cases_Bool (has_key k s.t1)) as (λ _. IsNext c k s (arc_act c k s)) [
+        | inl e ↦
+            rw e (hit (keys_without k s.t1) (s.t2 ++ k ∷ []) (has-append k s.t1 s.t2 ∙ rw e refl) (omega (arith, weight-out (λ _. 1) k s.t1 (omega (arith, d)) e, length-weight))
+            (λ f. omega (arith, weight-out f k s.t1 (omega (arith, d)) e, weight-push f s.t2 k)))
+        | inr e ↦ rw e (elim (cases_Bool (has_key k s.t2)) [
+          | inl g ↦
+              rw g (hit s.t1 (keys_without k s.t2 ++ k ∷ []) (has-append k s.t1 s.t2 ∙ rw (e, g) refl) (omega arith)
+              (λ f. omega (arith, weight-renewed f k s.t2 (omega (arith, d)) g)))
+          | inr g ↦ rw g (miss e g)
+        ])
+      ]
 
 pub keeps : ArcKeeps
 keeps c h = record {
   starts = (record { fits = omega arith; l1_fits = omega arith; all_fit = omega arith; full = λ some. absurd (omega (arith, some)); p_fits = omega arith; distinct = λ x. omega arith }, refl);
-  keeps = λ k s i. kept c k s h i;
-  accesses = λ k s i. access c k s h i;
+  keeps = λ k s i. (next c k h s i).state;
+  accesses = λ k s i. (next c k h s i).access;
   holds = λ s i. holds c s i;
 }
-
-pub counts : ArcCounts
-counts c h = counts-residents c empty_arc (arc_act c) arc_residents (IsArc c) (keeps c h)

@@ -9,12 +9,12 @@ use Rattle.queue_policies.specs.Residents.{times, keys_evicted, IsAccess, AreRes
 use Rattle.queue_policies.specs.Ghost.{ghost_place_of}
 use Rattle.queue_policies.specs.declared.ghost_place.GhostPlace.{GhostPlace}
 use Rattle.queue_policies.specs.declared.ghost_place.GhostPlace.TheVariants.{Known, Unknown}
-use Rattle.queue_policies.proofs.Residents.{times-append, counts-residents, access-keeps}
+use Rattle.queue_policies.proofs.Residents.{times-append, access-keeps}
 use Rattle.queue_policies.proofs.Ghost.{with-times, with-fits, without-length, still-apart}
-use Rattle.ghost_policies.specs.TwoQ.{TwoQState, empty_two_q, two_q_residents, leaver_of_a1in, leaver_of_am, two_q_leaver, two_q_after_recall, two_q_after_eviction, two_q_after_join, two_q_outcome, two_q_act, two_q_after_miss, two_q_after_renewal, IsTwoQ}
+use Rattle.ghost_policies.specs.TwoQ.{TwoQState, two_q_residents, leaver_of_a1in, leaver_of_am, two_q_leaver, two_q_after_recall, two_q_after_eviction, two_q_after_join, two_q_outcome, two_q_act, two_q_after_miss, two_q_after_renewal, IsTwoQ}
 use Rattle.ghost_policies.specs.declared.two_q.TwoQLeaver.{TwoQLeaver}
 use Rattle.ghost_policies.specs.declared.two_q.TwoQSizes.{TwoQSizes}
-use Rattle.ghost_policies.specs.Theorems.{TwoQKeeps, TwoQCounts}
+use Rattle.ghost_policies.specs.Theorems.{TwoQKeeps}
 use Rattle.ghost_policies.proofs.Weights.{weight, weight-append, weight-push, weight-renewed, hit-moves, miss-moves, has-append}
 
 -- ---- the key comes in
@@ -147,6 +147,3 @@ keeps z c h = record {
   accesses = λ k s state. (kept z c k s h state).access;
   holds = λ s state. holds z c s state;
 }
-
-pub counts : TwoQCounts
-counts z c h = counts-residents c empty_two_q (two_q_act z c) two_q_residents (IsTwoQ z c) (keeps z c h)

@@ -1,58 +1,28 @@
 -- CLOCK's plan is its definition.
-use Rattle.std.proofs.Common.{◌≡◌, ℕ, zero, suc, ◌-◌, ◌≤◌, false, eqb, nat_lt, None, List, [], ◌∷◌, ◌++◌, length, ap, ◌∙◌, sym, refl, arith, inl, inr}
-use Rattle.std.proofs.lemmas.Bool.{cases_Bool, cases_lt, lt-ltb, le-ltb, eq-eqb, ne_eqb}
+use Rattle.std.proofs.Common.{◌≡◌, ℕ, ◌≤◌, false, nat_lt, None, List, [], ◌∷◌, ◌++◌, length, ap, ◌∙◌, refl, arith}
 use Rattle.step_record.specs.Keys.{has_key}
 use Rattle.queue_table.specs.declared.records.Entry.{Entry}
 use Rattle.queue_table.specs.Entries.{entry, oldest_of, occurrences, entries_without}
 use Rattle.queue_table.specs.Queues.{Queues, after_send}
 use Rattle.queue_table.proofs.QueueLists.{IsAbsent, queue-few}
 use Rattle.queue_table.proofs.MoveBack.{without-none}
-use Rattle.queue_policies.specs.CountedKeys.{CountedKey, with_count, keys_of, total_count, oldest_count}
-use Rattle.queue_policies.specs.Turns.{after_turn as page_turn, after_turns as page_turns, turn_count_within, turn_count}
+use Rattle.queue_policies.specs.CountedKeys.{CountedKey, with_count, keys_of, total_count}
+use Rattle.queue_policies.specs.Turns.{after_turns as page_turns, turn_count}
 use Rattle.queue_policies.specs.Clock.{marked_key, clock_eviction, IsClock}
 use Rattle.queue_policies.proofs.CountedKeys.{length-keys}
-use Rattle.queue_policies.proofs.Turns.{turned-total, oldest-few}
 use Rattle.queue_policies.proofs.Clock.{counted-total}
-use Rattle.queue_moves.specs.Moves.{item_of, count_or, after_turn, after_turns, turns_due, evicted, departed, leaving, after_leaving}
+use Rattle.queue_moves.specs.Moves.{item_of, after_turns, turns_due, evicted, departed, leaving, after_leaving}
 use Rattle.queue_moves.specs.Tabled.{IsTabled}
 use Rattle.policy_steps.specs.Counted.{counted_keys}
 use Rattle.policy_steps.specs.Planned.{IsWithin, IsPlannedWithin}
 use Rattle.policy_steps.specs.Clock.{clock_of, clock_eviction_plan}
 use Rattle.policy_steps.proofs.Residents.{resident-planned}
 use Rattle.policy_steps.specs.Theorems.{ClockIsPlanned}
-use Rattle.policy_steps.proofs.Counted.{counted-append, length-counted, oldest-counted, key-counted, counted-with}
-use Rattle.policy_steps.proofs.Parts.{turn-is, turn-none, first-send, first-turns, first-out}
+use Rattle.policy_steps.proofs.Counted.{counted-append, length-counted, key-counted, counted-with}
+use Rattle.policy_steps.proofs.Parts.{first-send, first-turns, first-out}
 use Rattle.policy_steps.proofs.Leaving.{absent-turns}
-use Rattle.queue_moves.proofs.Tabled.{oldest-gone, tabled-turn, tabled-turns}
-
--- ---- turns
-
-turned : (l : List Entry) (s : Queues) → IsTabled s → s 0 ≡ l → clock_of (after_turn 0 0 1 s) ≡ page_turn (counted_keys l)
-turned [] s t h = ap clock_of (turn-none 0 0 1 s h) ∙ ap counted_keys h
-turned (e ∷ l) s t h = ap clock_of (turn-is 0 0 1 s e l t h) ∙ counted-append l (entry e.item (e.count - 1) ∷ [])
-
--- the bit of the oldest is clear, or it is set
-bit : (l : List Entry) → nat_lt (count_or 0 (oldest_of l)) 1 ≡ eqb (oldest_count (counted_keys l)) 0
-bit l = rw (oldest-counted l) (elim (cases_lt (count_or 0 (oldest_of l)) 1) [
-  | inl h ↦ lt-ltb _ 1 h ∙ sym (eq-eqb _ 0 (omega (arith, h)))
-  | inr h ↦ le-ltb _ 1 h ∙ sym (ne_eqb _ 0 (λ z. omega (arith, h, z)))
-])
-
--- n turns and m suffice
-turns : (n m : ℕ) (s : Queues) → IsTabled s → total_count (clock_of s) ≤ n → total_count (clock_of s) ≤ m → clock_of (after_turns (turns_due n 0 0 1 1 s) 0 0 1 s) ≡ page_turns (turn_count_within m (clock_of s)) (clock_of s)
-turns zero zero s t f g = refl
-turns zero (suc m) s t f g = let few = oldest-few (clock_of s) in let clear = eq-eqb (oldest_count (clock_of s)) 0 (omega (arith, few, f)) in rw clear refl
-turns (suc n) zero s t f g = let few = oldest-few (clock_of s) in let clear = bit (s 0) ∙ eq-eqb (oldest_count (clock_of s)) 0 (omega (arith, few, g)) in rw clear refl
-turns (suc n) (suc m) s t f g =
-    elim (cases_Bool (eqb (oldest_count (clock_of s)) 0)) [
-      | inl h ↦ let clear = bit (s 0) ∙ h in rw (clear, h) refl
-      | inr h ↦
-          let set = bit (s 0) ∙ h in
-          let less = turned-total (clock_of s) h in
-          let view : clock_of (after_turn 0 0 1 s) ≡ page_turn (clock_of s) = turned (s 0) s t refl in
-          let total = ap total_count view in
-          rw (set, h) (turns n m (after_turn 0 0 1 s) (tabled-turn s t 0 0 1 (omega arith)) (omega (arith, less, total, f)) (omega (arith, less, total, g)) ∙ ap (λ q. page_turns (turn_count_within m q) q) view)
-    ]
+use Rattle.policy_steps.proofs.Turns.{turns-are}
+use Rattle.queue_moves.proofs.Tabled.{oldest-gone, tabled-turns}
 
 -- ---- the oldest leaves, and the key joins
 
@@ -86,7 +56,7 @@ module _ (c k x : ℕ) (s : Queues) (t : IsTabled s) (first : IsWithin 1 s) (sta
       omega (arith, fits, length-keys (clock_of s), counted-total (clock_of s) state.bits)
 
   turned-full : counted_keys (full 0) ≡ page_turns (turn_count (clock_of s)) (clock_of s)
-  turned-full = turns c (total_count (clock_of s)) s t few (omega arith)
+  turned-full = turns-are 0 c (total_count (clock_of s)) s (omega arith) t few (omega arith)
 
   evict : IsAbsent (item_of k) s → IsPlannedWithin 1 (clock_eviction_plan c x s) k s (λ y. clock_of) (clock_eviction k (page_turns (turn_count (clock_of s)) (clock_of s))) false
   evict none = (

@@ -10,11 +10,10 @@ use Rattle.queue_policies.specs.Sieve.{SieveState, after_wrap, after_pass, pass_
 use Rattle.queue_policies.proofs.Sieve.{whole, past-total}
 use Rattle.queue_moves.specs.Moves.{count_or, after_turn, after_turns, turns_due}
 use Rattle.queue_moves.specs.Tabled.{IsTabled}
-use Rattle.queue_moves.proofs.Tabled.{tabled-turn}
+use Rattle.queue_moves.proofs.Tabled.{tabled-turn, turn-is}
 use Rattle.policy_steps.specs.Sieve.{passed_queue}
 use Rattle.policy_steps.specs.Counted.{counted_key, counted_keys}
 use Rattle.policy_steps.proofs.Counted.{counted-append}
-use Rattle.policy_steps.proofs.Parts.{turn-is}
 
 -- ---- the definition's passes, one by one
 
@@ -38,18 +37,14 @@ pass-first s h = pass-within (total_count (whole s)) s refl h
 
 -- ---- bits
 
+-- there is an oldest key, and its bit is clear
 abbrev pub IsClear : List Entry → Type 0
-IsClear [] = ⊥
-IsClear (e ∷ l) = e.count ≡ 0
+IsClear l = (1 ≤ length l) × (count_or 0 (oldest_of l) ≡ 0)
 
 -- some key's bit is clear
 abbrev pub HasClear : List Entry → Type 0
 HasClear [] = ⊥
 HasClear (e ∷ l) = (e.count ≡ 0) ⊎ HasClear l
-
-pub clear-first : (l : List Entry) → IsClear l → HasClear l
-clear-first [] h = absurd h
-clear-first (e ∷ l) h = inl h
 
 clear-last : (l : List Entry) (e : Entry) → e.count ≡ 0 → HasClear (l ++ e ∷ [])
 clear-last [] e h = inl h
@@ -80,7 +75,7 @@ module _ (x : ℕ) (low : x ≤ 1) where
 
   turn : (s : Queues) (e : Entry) (l : List Entry) → IsTabled s → s x ≡ e ∷ l → (turned s x ≡ l) × (turned s (passed_queue x) ≡ s (passed_queue x) ++ entry e.item (e.count - 1) ∷ [])
   turn s e l t h =
-      let is = turn-is x (passed_queue x) 1 s e l t h in (
+      let is = turn-is s t x (passed_queue x) 1 e l h in (
         ap (λ (u : Queues). u x) is ∙ with-queue-other (passed_queue x) x _ (with_queue x l s) (apart x low) ∙ with-queue-same x l s,
         ap (λ (u : Queues). u (passed_queue x)) is ∙ with-queue-same (passed_queue x) _ (with_queue x l s) ∙ ap (λ (q : List Entry). q ++ entry e.item (e.count - 1) ∷ []) (with-queue-other x (passed_queue x) l s (λ z. apart x low (sym z))),
       )
@@ -112,7 +107,7 @@ module _ (x : ℕ) (low : x ≤ 1) where
       let bit = ap (λ v. nat_lt (count_or 0 (oldest_of v)) 1) h in
       let few = w.1 in
       elim (cases_lt e.count 1) [
-        | inl g ↦ let clear = bit ∙ lt-ltb e.count 1 g in rw clear (subst IsClear (sym h) (omega (arith, g)))
+        | inl g ↦ let clear = bit ∙ lt-ltb e.count 1 g in rw clear (subst IsClear (sym h) (omega arith, omega (arith, g)))
         | inr g ↦
             let set = bit ∙ le-ltb e.count 1 g in
             let rest : HasClear l = elim w.0 [ inl z ↦ absurd (omega (arith, z, g)) | inr r ↦ r ] in

@@ -64,7 +64,7 @@ none-left i from to s j a z = at (oldest_of (s from)) refl
 pub absent-turns : (i : Item) (n from to less : ℕ) (s : Queues) → from < QUEUES → IsAbsent i s → IsAbsent i (after_turns n from to less s)
 absent-turns i n from to less s w h = λ q v. off-turns i n from to less q s (h from w) (h q v)
 
-still-absent : (i : Item) (l : Option Leaving) (s : Queues) → IsLowLeaving l → IsAbsent i s → IsAbsent i (after_leaving l s)
+pub still-absent : (i : Item) (l : Option Leaving) (s : Queues) → IsLowLeaving l → IsAbsent i s → IsAbsent i (after_leaving l s)
 still-absent i None s w h = h
 still-absent i (Some l) s w h = λ q v. none-left i l.from l.to s q (h l.from w.0) (h q v)
 

@@ -6,6 +6,7 @@ use Rattle.step_record.specs.Keys.{has_key, keys_without}
 use Rattle.queue_table.specs.declared.records.Entry.{Entry}
 use Rattle.queue_table.specs.Entries.{entry, oldest_of, entries_without}
 use Rattle.queue_table.specs.Queues.{QUEUES, Queues, with_queue, after_removal, after_send}
+use Rattle.queue_policies.proofs.Residents.{apart}
 use Rattle.ghost_policies.proofs.ArcPlans.{none-out}
 use Rattle.queue_moves.specs.Moves.{item_of, leaving, IsLowTarget, IsLowLeaving, departed, after_leaving, Own, IsLowOwn, own_plan, IsLowPlan}
 use Rattle.queue_moves.specs.Tabled.{HasKeys, IsTabled, keys_of}
@@ -96,11 +97,7 @@ left-twice s t from to low w q j =
 
 -- a key that is not there is taken out for nothing, also once the oldest key has left
 pub without-rest : (k v : ℕ) (l : List ℕ) → has_key k (v ∷ l) ≡ false → keys_without k l ≡ l
-without-rest k v l h =
-    elim (cases_Bool (eqb k v)) [
-      | inl f ↦ absurd (let no : true ≡ false = rw f at h in cc no)
-      | inr f ↦ none-out k l (rw f at h)
-    ]
+without-rest k v l h = none-out k l (apart k v l h).1
 
 pub without-drop : (k : ℕ) (l : List ℕ) → has_key k l ≡ false → keys_without k (drop 1 l) ≡ drop 1 l
 without-drop k [] h = refl
@@ -115,11 +112,7 @@ first-of [] n = absurd (omega (arith, n))
 first-of (e ∷ r) n = (e, (r, refl))
 
 pub apart-first : (k v : ℕ) (l : List ℕ) → has_key k (v ∷ l) ≡ false → eqb k v ≡ false
-apart-first k v l h =
-    elim (cases_Bool (eqb k v)) [
-      | inl f ↦ absurd (let no : true ≡ false = rw f at h in cc no)
-      | inr f ↦ f
-    ]
+apart-first k v l h = (apart k v l h).0
 
 pub without-push : (k v : ℕ) (l : List ℕ) → eqb k v ≡ false → keys_without k (l ++ v ∷ []) ≡ keys_without k l ++ v ∷ []
 without-push k v [] h = rw h refl

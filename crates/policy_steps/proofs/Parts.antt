@@ -1,23 +1,15 @@
 -- What the parts of a plan do to the queues.
-use Rattle.std.proofs.Common.{◌≡◌, sym, ℕ, zero, suc, ◌-◌, ◌<◌, ◌≤◌, Option, Some, None, List, [], ◌∷◌, ap, ◌∙◌, arith, inl, inr}
+use Rattle.std.proofs.Common.{◌≡◌, sym, ℕ, zero, suc, ◌-◌, ◌<◌, ◌≤◌, Option, Some, None, ap, ◌∙◌, arith, inl, inr}
 use Rattle.std.proofs.lemmas.Bool.{ltb-true, cases_lt}
 use Rattle.step_record.specs.declared.item.Item.{Item}
 use Rattle.queue_table.specs.declared.records.Entry.{Entry}
 use Rattle.queue_table.specs.Entries.{entry, oldest_of, occurrences, entries_without, entries_counted}
-use Rattle.queue_table.specs.Queues.{Queues, with_queue, after_removal, after_send, after_push, after_count}
+use Rattle.queue_table.specs.Queues.{Queues, after_removal, after_send, after_count}
 use Rattle.queue_table.proofs.QueueLists.{IsAbsent, absent, with-queue-other}
 use Rattle.queue_moves.specs.Moves.{item_of, standing, turned, after_turn, after_turns, departed, leaving, after_leaving}
 use Rattle.queue_moves.specs.Tabled.{IsTabled}
 use Rattle.policy_steps.specs.Planned.{IsWithin}
-use Rattle.queue_moves.proofs.Tabled.{oldest-gone, nowhere-standing, has-occurs, stands}
-
--- ---- one turn
-
-pub turn-is : (from to less : ℕ) (s : Queues) (e : Entry) (l : List Entry) → IsTabled s → s from ≡ e ∷ l → after_turn from to less s ≡ after_push to (entry e.item (e.count - less)) (with_queue from l s)
-turn-is from to less s e l t h = ap (λ x. turned to less (oldest_of x) s) h ∙ ap (after_push to (entry e.item (e.count - less))) (oldest-gone s t from e l h)
-
-pub turn-none : (from to less : ℕ) (s : Queues) → s from ≡ [] → after_turn from to less s ≡ s
-turn-none from to less s h = ap (λ x. turned to less (oldest_of x) s) h
+use Rattle.queue_moves.proofs.Tabled.{nowhere-standing, has-occurs, stands}
 
 -- ---- the queues from n on stay empty
 

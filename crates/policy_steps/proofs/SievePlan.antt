@@ -11,8 +11,8 @@ use Rattle.queue_table.proofs.MoveBack.{without-none}
 use Rattle.queue_table.proofs.QueueLists.{IsAbsent, still-absent, queue-few, with-queue-same, with-queue-other}
 use Rattle.queue_policies.specs.Queues.{is_empty}
 use Rattle.queue_policies.specs.Sieve.{SieveState, sieve_residents, after_wrap, sieve_with_key, sieve_eviction, HasAhead, IsSieve, sieve_with_count}
-use Rattle.queue_policies.proofs.CountedKeys.{length-keys, counted-second}
-use Rattle.queue_moves.specs.Moves.{item_of, after_run, count_or, standing, turns_due, evicted, departed, counts, goes}
+use Rattle.queue_policies.proofs.CountedKeys.{by-oldest, length-keys, counted-second}
+use Rattle.queue_moves.specs.Moves.{item_of, standing, evicted, departed, counts, goes}
 use Rattle.queue_moves.specs.Tabled.{IsTabled}
 use Rattle.queue_moves.proofs.Tabled.{oldest-gone, tabled-turns}
 use Rattle.policy_steps.specs.Counted.{counted_keys}
@@ -22,13 +22,10 @@ use Rattle.policy_steps.proofs.Residents.{resident-planned}
 use Rattle.policy_steps.specs.Theorems.{SieveIsPlanned}
 use Rattle.policy_steps.proofs.Counted.{counted-append, length-counted, oldest-counted, key-both, counted-with}
 use Rattle.policy_steps.proofs.Parts.{first-send, first-turns, first-out}
-use Rattle.policy_steps.proofs.Hand.{apart, stopped, no-pass, IsClear, HasClear, Waits, clear-first, passes, ends, stops}
 use Rattle.policy_steps.proofs.Leaving.{absent-turns}
+use Rattle.policy_steps.proofs.Hand.{apart, stopped, no-pass, IsClear, HasClear, Waits, passes, ends, stops}
 
 -- ---- the two roles
-
-twice : (x : ℕ) → x ≤ 1 → passed_queue (passed_queue x) ≡ x
-twice x h = omega (arith, h)
 
 wrapped-low : (x : ℕ) (l : List Entry) → x ≤ 1 → (if is_empty l then passed_queue x else x) ≤ 1
 wrapped-low x [] h = omega arith
@@ -36,7 +33,7 @@ wrapped-low x (e ∷ l) h = h
 
 -- the roles after the hand went back where nothing is ahead of it
 wrapped-at : (x : ℕ) (s : Queues) (l : List Entry) → x ≤ 1 → s x ≡ l → sieve_of (if is_empty l then passed_queue x else x) s ≡ after_wrap (counted_keys (s (passed_queue x))) (counted_keys l)
-wrapped-at x s [] low h = ap (λ v. record { passed = counted_keys v; ahead = counted_keys (s (passed_queue x)) }) (ap s (twice x low) ∙ h)
+wrapped-at x s [] low h = ap (λ v. record { passed = counted_keys v; ahead = counted_keys (s (passed_queue x)) }) (ap s (omega (arith, low)) ∙ h)
 wrapped-at x s (e ∷ l) low h = ap (λ v. record { passed = counted_keys (s (passed_queue x)); ahead = counted_keys v }) h
 
 sieve-wrapped : (x : ℕ) (s : Queues) → x ≤ 1 → sieve_of (queue_ahead x s) s ≡ after_wrap (counted_keys (s (passed_queue x))) (counted_keys (s x))
@@ -46,20 +43,14 @@ sieve-wrapped x s low = wrapped-at x s (s x) low refl
 abbrev IsAhead : List Entry → Type 0
 IsAhead l = 1 ≤ length l
 
-ahead-at : (x : ℕ) (s : Queues) (l : List Entry) → s x ≡ l → IsAhead l → after_wrap (counted_keys (s (passed_queue x))) (counted_keys l) ≡ sieve_of x s
-ahead-at x s [] h some = absurd (omega (arith, some))
-ahead-at x s (e ∷ l) h some = sym (ap (λ v. record { passed = counted_keys (s (passed_queue x)); ahead = counted_keys v }) h)
-
 not-wrapped : (x : ℕ) (s : Queues) → IsAhead (s x) → after_wrap (counted_keys (s (passed_queue x))) (counted_keys (s x)) ≡ sieve_of x s
-not-wrapped x s some = ahead-at x s (s x) refl some
+not-wrapped x s some =
+    let passed = counted_keys (s (passed_queue x)) in
+    by-oldest (λ l. after_wrap passed (counted_keys l) ≡ record { passed = passed; ahead = counted_keys l }) (s x) some (λ e l h. refl)
 
 clear-ahead : (l : List Entry) → HasClear l → IsAhead l
 clear-ahead [] h = absurd h
 clear-ahead (e ∷ l) h = omega arith
-
-clear-oldest : (l : List Entry) → IsClear l → count_or 0 (oldest_of l) ≡ 0
-clear-oldest [] h = absurd h
-clear-oldest (e ∷ l) h = h
 
 wrapped-clear : (n x : ℕ) (u : Queues) (l : List Entry) → u x ≡ l → Waits n (u x) ⊎ ((u x ≡ []) × Waits n (u (passed_queue x))) → Waits n (u (if is_empty l then passed_queue x else x))
 wrapped-clear n x u [] h (inl w) = absurd (subst HasClear h w.0)
@@ -67,28 +58,11 @@ wrapped-clear n x u [] h (inr r) = r.1
 wrapped-clear n x u (e ∷ l) h (inl w) = w
 wrapped-clear n x u (e ∷ l) h (inr r) = absurd (let no : e ∷ l ≡ [] = sym h ∙ r.0 in cc no)
 
-both-times : (i : Item) (x : ℕ) (s : Queues) → x ≤ 1 → occurrences i (s (passed_queue x)) + occurrences i (s x) ≡ times_below 2 i s
-both-times i zero s h = omega arith
-both-times i (suc zero) s h = omega arith
-both-times i (suc (suc x)) s h = absurd (omega (arith, h))
-
-both-length : (x : ℕ) (s : Queues) → x ≤ 1 → length (s x) + length (s (passed_queue x)) ≡ length (s 0) + length (s 1)
-both-length zero s h = refl
-both-length (suc zero) s h = omega arith
-both-length (suc (suc x)) s h = absurd (omega (arith, h))
-
--- what a pass of the hand keeps, where i is the item of a new key
-record IsKept (i : Item) (s : Queues) : Type 0 where
-  pub tabled : IsTabled s
-  pub first : IsWithin 2 s
-  pub absent : IsAbsent i s
-
-pass-kept : (i : Item) (c x : ℕ) (s : Queues) → x ≤ 1 → IsKept i s → IsKept i (after_run (pass_run c x s) s)
-pass-kept i c x s low h = record {
-  tabled = tabled-turns s h.tabled (turns_due c x (passed_queue x) 1 1 s) x (passed_queue x) 1 (omega arith);
-  first = first-turns 2 (turns_due c x (passed_queue x) 1 1 s) x (passed_queue x) 1 s (omega arith) h.first;
-  absent = absent-turns i (turns_due c x (passed_queue x) 1 1 s) x (passed_queue x) 1 s (omega (arith, low)) h.absent;
-}
+both : (i : Item) (x : ℕ) (s : Queues) → x ≤ 1
+    → (occurrences i (s (passed_queue x)) + occurrences i (s x) ≡ times_below 2 i s) × (length (s x) + length (s (passed_queue x)) ≡ length (s 0) + length (s 1))
+both i zero s h = (omega arith, refl)
+both i (suc zero) s h = (omega arith, omega arith)
+both i (suc (suc x)) s h = absurd (omega (arith, h))
 
 -- ---- the key joins, and one leaves
 
@@ -108,8 +82,8 @@ module _ (k : ℕ) where
       → (evicted (oldest_of l) ≡ (sieve_eviction k (counted_keys (v (passed_queue h))) (counted_keys l)).0)
       × (sieve_of (queue_ahead h (departed None (oldest_of l) v)) (after_send new (queue_ahead h (departed None (oldest_of l) v)) (departed None (oldest_of l) v))
       ≡ (sieve_eviction k (counted_keys (v (passed_queue h))) (counted_keys l)).1)
-  left h [] v low t none e zero_bit = absurd zero_bit
-  left h (x ∷ l) v low t none e zero_bit =
+  left h [] v low t none e clear = absurd (let some = clear.0 in omega (arith, some))
+  left h (x ∷ l) v low t none e clear =
       let w : Queues = after_removal x.item v in
       let is : w ≡ with_queue h l v = oldest-gone v t h x l e in
       let ahead : w h ≡ l = ap (λ (q : Queues). q h) is ∙ with-queue-same h l v in
@@ -130,11 +104,11 @@ full-ahead (e ∷ a) b c hand some full = omega arith
 module _ (c k x : ℕ) (s : Queues) (c_some : 1 ≤ c) (t : IsTabled s) (first : IsWithin 2 s) (low : x ≤ 1) (state : IsSieve c (sieve_of x s)) where
   size : length (sieve_residents (sieve_of x s)) ≡ length (s 0) + length (s 1)
   size =
-      let all = both-length x s low in
+      let all = (both (item_of k) x s low).1 in
       omega (arith, all, length-keys (counted_keys (s (passed_queue x)) ++ counted_keys (s x)), length-append (counted_keys (s (passed_queue x))) (counted_keys (s x)), length-counted (s (passed_queue x)), length-counted (s x))
 
   key : has_key k (sieve_residents (sieve_of x s)) ≡ nat_lt 0 (times_below 2 (item_of k) s)
-  key = key-both k (s (passed_queue x)) (s x) (t.keys (passed_queue x)) (t.keys x) ∙ ap (nat_lt 0) (both-times (item_of k) x s low)
+  key = key-both k (s (passed_queue x)) (s x) (t.keys (passed_queue x)) (t.keys x) ∙ ap (nat_lt 0) (both (item_of k) x s low).0
 
   hit : sieve_of x (after_count (item_of k) 1 s) ≡ sieve_with_count k 1 (sieve_of x s)
   hit =
@@ -157,40 +131,42 @@ module _ (c k x : ℕ) (s : Queues) (c_some : 1 ≤ c) (t : IsTabled s) (first :
     new_low : ahead_new c x s ≤ 1
     new_low = wrapped-low mid (after_leaver c x s mid) mid_low
 
-    kept-early : IsKept (item_of k) early
-    kept-early = pass-kept (item_of k) c x s low record { tabled = t; first = first; absent = none }
-
-    kept-late : IsKept (item_of k) late
-    kept-late = pass-kept (item_of k) c mid early mid_low kept-early
+    t-early : IsTabled early
+    t-early = tabled-turns s t (pass_run c x s).times x (passed_queue x) 1 (omega arith)
 
     some : IsAhead (s x)
-    some = full-ahead (s x) (s (passed_queue x)) c state.hand c_some (let full = ltb-false _ c f in let all = both-length x s low in omega (arith, all, full))
+    some = full-ahead (s x) (s (passed_queue x)) c state.hand c_some (let full = ltb-false _ c f in let all = (both (item_of k) x s low).1 in omega (arith, all, full))
 
     waits : Waits c (early mid)
     waits =
         let fits = state.residents.fits in
-        let all = both-length x s low in
+        let all = (both (item_of k) x s low).1 in
         wrapped-clear c x early (early x) refl (stops x low c c (s x) s t refl (counted-second 1 (counted_keys (s (passed_queue x))) (counted_keys (s x)) state.bits)
         (λ z. absurd (let empty = ap length z in let a = some in omega (arith, a, empty))) (omega (arith, size, fits, all)) (omega (arith, size, fits, all)))
 
     clear : IsClear (late mid)
-    clear = ends mid mid_low c (early mid) early kept-early.tabled refl waits
+    clear = ends mid mid_low c (early mid) early t-early refl waits
 
     stop : stopped (sieve_of x s) ≡ sieve_of mid late
     stop =
         ap stopped (sym (not-wrapped x s some))
         ∙ passes x low c s t
         ∙ ap stopped (sym (sieve-wrapped x early low) ∙ sym (not-wrapped mid early (clear-ahead (early mid) waits.0)))
-        ∙ passes mid mid_low c early kept-early.tabled
-        ∙ ap stopped (not-wrapped mid late (clear-ahead (late mid) (clear-first (late mid) clear)))
-        ∙ no-pass _ (sieve_of mid late) (oldest-counted (late mid) ∙ clear-oldest (late mid) clear)
+        ∙ passes mid mid_low c early t-early
+        ∙ ap stopped (not-wrapped mid late clear.0)
+        ∙ no-pass _ (sieve_of mid late) (oldest-counted (late mid) ∙ clear.1)
 
     abbrev leaves : SieveState → Outcome × SieveState
     leaves v = sieve_eviction k v.passed v.ahead
 
     evict : IsPlannedWithin 2 (sieve_eviction_plan c x s) k s sieve_of (leaves (stopped (sieve_of x s))) false
     evict =
-        let r = left k mid (late mid) late mid_low kept-late.tabled kept-late.absent refl clear in
+        let n1 : ℕ = (pass_run c x s).times in
+        let n2 : ℕ = (pass_run c mid early).times in
+        let t-late = tabled-turns early t-early n2 mid (passed_queue mid) 1 (omega arith) in
+        let absent = absent-turns (item_of k) n2 mid (passed_queue mid) 1 early (let m = mid_low in omega (arith, m)) (absent-turns (item_of k) n1 x (passed_queue x) 1 s (omega (arith, low)) none) in
+        let within = first-turns 2 n2 mid (passed_queue mid) 1 early (omega arith) (first-turns 2 n1 x (passed_queue x) 1 s (omega arith) first) in
+        let r = left k mid (late mid) late mid_low t-late absent refl clear in
         let m = mid_low in
         let n = new_low in (
           record {
@@ -199,7 +175,7 @@ module _ (c k x : ℕ) (s : Queues) (c_some : 1 ≤ c) (t : IsTabled s) (first :
             hits = refl;
             low = record { early = (omega (arith, low), omega arith); late = (omega (arith, m), omega arith); first = (omega (arith, m), tt); second = tt; own = omega (arith, n) };
           },
-          first-send 2 (new k) (ahead_new c x s) (after_leaver c x s) (omega (arith, n)) (first-out 2 mid late kept-late.first),
+          first-send 2 (new k) (ahead_new c x s) (after_leaver c x s) (omega (arith, n)) (first-out 2 mid late within),
         )
 
   number : (o : Option (ℕ × ℕ)) (room : Bool) → (resident_plan o room (counts 1) (goes x 0) x (sieve_eviction_plan c x s)).scalar ≤ 1

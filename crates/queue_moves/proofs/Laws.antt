@@ -1,5 +1,5 @@
 -- What each call owes that moves one key, from what the table under it ensures.
-use Rattle.std.proofs.Common.{◌≡◌, ◌≢◌, ℕ, ◌+◌, ◌<◌, ◌≤◌, ◌⊎◌, true, false, cond, Option, Some, None, List, [], ◌∷◌, ◌++◌, map, ap, ◌∙◌, sym, subst, refl, arith, inl, inr}
+use Rattle.std.proofs.Common.{◌≡◌, ◌≢◌, ℕ, ◌+◌, ◌<◌, ◌≤◌, ◌⊎◌, true, false, cond, Option, Some, None, List, [], ◌∷◌, map, ap, ◌∙◌, sym, subst, refl, arith, inl, inr}
 use Rattle.std.proofs.lemmas.Bool.{cases_Bool, cases_eq, cases_lt}
 use Rattle.std.proofs.Math.Path.{fun_ext}
 use Rattle.step_record.specs.declared.item.Item.{Item}
@@ -18,6 +18,7 @@ use Rattle.queue_moves.specs.declared.records.Departure.TheVariants as departure
 use Rattle.queue_moves.specs.Moves.{item_of, count_of, leaving, counts, goes, departed}
 use Rattle.queue_moves.specs.Undoing.{left_by, nothing_left, key_in, item_in, count_at, move_from, move_of, before_own, FitsPlace, IsLeft, IsOwn}
 use Rattle.queue_moves.specs.Tabled.{nodes_of, HasKeys, IsTabled, keys_of}
+use Rattle.queue_moves.proofs.Tabled.{nodes-append, nodes-without, counted-none}
 use Rattle.queue_moves.proofs.Standing.{Stands, cut, holding, own-count, elsewhere, oldest_stands}
 
 -- ---- keys
@@ -53,22 +54,16 @@ nodes-put (Some a) e (x ∷ l) =
       | inr g ↦ let h = nodes-put (Some a) e l in rw g (omega (arith, h))
     ]
 
-nodes-without : (i : Item) (l : List Entry) → nodes_of l ≡ 0 → nodes_of (entries_without i l) ≡ 0
-nodes-without i [] z = refl
-nodes-without i (x ∷ l) z =
-    let h = nodes-without i l (omega (arith, z)) in
-    elim (cases_Bool (is_same_item i x.item)) as (λ _. nodes_of (cond (is_same_item i x.item) (entries_without i l) (x ∷ entries_without i l)) ≡ 0) [
-      | inl g ↦ rw g h
-      | inr g ↦ rw g (omega (arith, z, h))
-    ]
+nodes-out : (i : Item) (l : List Entry) → nodes_of l ≡ 0 → nodes_of (entries_without i l) ≡ 0
+nodes-out i l z = omega (arith, nodes-without i l, z)
 
 -- an entry that comes back
 pub keys-back : (q : ℕ) (older : Option Item) (e : Entry) (s : Queues) → e.item.node ≡ 0 → HasKeys s → HasKeys (after_return q older e (after_removal e.item s))
 keys-back q older e s n k j =
-    let out = nodes-without e.item (s q) (k q) in
+    let out = nodes-out e.item (s q) (k q) in
     elim (cases_eq j q) [
       | inl z ↦ ap (λ x. nodes_of (after_return q older e (after_removal e.item s) x)) z ∙ ap nodes_of (with-queue-same q _ (after_removal e.item s)) ∙ nodes-put older e (entries_without e.item (s q)) ∙ omega (arith, n, out)
-      | inr z ↦ ap nodes_of (with-queue-other q j _ (after_removal e.item s) z) ∙ nodes-without e.item (s j) (k j)
+      | inr z ↦ ap nodes_of (with-queue-other q j _ (after_removal e.item s) z) ∙ nodes-out e.item (s j) (k j)
     ]
 
 pub keys-of-items : (l : List Entry) → map (λ (i : Item). i.key) (items_of l) ≡ keys_of l
@@ -147,8 +142,7 @@ counted-own i n (x ∷ l) h few =
     elim (cases_Bool (is_same_item i x.item)) as (λ _. cond (is_same_item i x.item) (entry x.item n ∷ entries_counted i n l) (x ∷ entries_counted i n l) ≡ x ∷ l) [
       | inl g ↦
           let one : 1 + occurrences i l ≤ 1 = rw g at few in
-          let none : occurrences i l ≡ 0 = omega (arith, one) in
-          let rest : entries_counted i n l ≡ l = counted-own i n l (inr none) (omega (arith, none)) in
+          let rest : entries_counted i n l ≡ l = counted-none i n l (omega (arith, one)) in
           elim h [
             | inl c ↦ let its : x.count ≡ n = rw g at c in rw g (ap (λ y. entry x.item y ∷ entries_counted i n l) (sym its) ∙ ap (λ t. x ∷ t) rest)
             | inr z ↦ absurd (let some : 1 + occurrences i l ≡ 0 = rw g at z in omega (arith, some))
@@ -162,9 +156,6 @@ counted-own i n (x ∷ l) h few =
           rw g (ap (λ t. x ∷ t) (counted-own i n l on (omega (arith, less))))
     ]
 
-counted-none : (i : Item) (n : ℕ) (l : List Entry) → occurrences i l ≡ 0 → entries_counted i n l ≡ l
-counted-none i n l z = counted-own i n l (inr z) (omega (arith, z))
-
 -- what stands nowhere has no count
 pub count-none : (i : Item) (n : ℕ) (slots : List Slot) → queue_holding i (lists slots) ≡ None → after_count i n (lists slots) ≡ lists slots
 count-none i n slots h =
@@ -174,10 +165,6 @@ count-none i n slots h =
     ])
 
 -- ---- the accessed key
-
-nodes-append : (a b : List Entry) → nodes_of (a ++ b) ≡ nodes_of a + nodes_of b
-nodes-append [] b = omega arith
-nodes-append (x ∷ a) b = let h = nodes-append a b in omega (arith, h)
 
 last-node : (x : Item) (l : List Entry) → x.node ≡ 0 → nodes_of l ≡ 0 → item_in (key_in (last_from (Some x) l)) ≡ last_from (Some x) l
 last-node x [] hx hl = ap Some (key-item x hx)

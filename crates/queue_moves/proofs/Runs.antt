@@ -1,5 +1,6 @@
 -- Runs: a turn, and any number of them.
-use Rattle.std.proofs.Common.{◌≡◌, ℕ, suc, zero, ◌+◌, ◌-◌, ◌<◌, ◌≤◌, true, false, nat_lt, Option, Some, None, List, [], ◌∷◌, ◌++◌, ap, ◌∙◌, sym, subst, refl, arith}
+use Rattle.std.proofs.Common.{◌≡◌, ℕ, suc, zero, ◌+◌, ◌-◌, ◌<◌, ◌≤◌, true, false, nat_lt, Option, Some, None, List, [], ◌∷◌, ◌++◌, ap, ◌∙◌, sym, subst, refl, arith, inl, inr}
+use Rattle.std.proofs.lemmas.Bool.{cases_Bool}
 use Rattle.queue_table.specs.declared.records.Entry.{Entry}
 use Rattle.queue_table.specs.declared.slot.Slot.{Slot}
 use Rattle.queue_table.specs.Ring.{lists}
@@ -55,6 +56,19 @@ due-next m from to less least u h = rw h refl
 pub no-due : (m from to less least : ℕ) (u : Queues) → nat_lt (count_or 0 (oldest_of (u from))) least ≡ true → turns_due m from to less least u ≡ 0
 no-due zero from to less least u h = refl
 no-due (suc m) from to less least u h = rw h refl
+
+-- a run that made fewer turns than it may has stopped at a key whose count is low
+pub turns-stop : (n from to less least : ℕ) (s : Queues) → turns_due n from to less least s < n
+    → nat_lt (count_or 0 (oldest_of (after_turns (turns_due n from to less least s) from to less s from))) least ≡ true
+turns-stop zero from to less least s w = absurd (omega (arith, w))
+turns-stop (suc n) from to less least s w =
+    elim (cases_Bool (nat_lt (count_or 0 (oldest_of (s from))) least)) [
+      | inl low ↦ rw low low
+      | inr high ↦
+          let less_due : turns_due n from to less least (after_turn from to less s) < n =
+          (let v : suc (turns_due n from to less least (after_turn from to less s)) < suc n = rw high at w in omega (arith, v)) in
+          rw high (turns-stop n from to less least (after_turn from to less s) less_due)
+    ]
 
 pub none-left-due : (from to less least n times : ℕ) (u : Queues) → n ≤ times → turns_due (n - times) from to less least u ≡ 0
 none-left-due from to less least n times u h =

@@ -21,11 +21,11 @@ use Rattle.queue_moves.specs.Tabled.{nodes_of, IsTabled, keys_of, StandsAs, lowe
 pub keys-append : (a b : List Entry) → keys_of (a ++ b) ≡ keys_of a ++ keys_of b
 keys-append a b = ListLemmas.map-append (λ (e : Entry). e.item.key) a b
 
-nodes-append : (a b : List Entry) → nodes_of (a ++ b) ≡ nodes_of a + nodes_of b
+pub nodes-append : (a b : List Entry) → nodes_of (a ++ b) ≡ nodes_of a + nodes_of b
 nodes-append [] b = omega arith
 nodes-append (e ∷ a) b = let r : nodes_of (a ++ b) ≡ nodes_of a + nodes_of b = nodes-append a b in omega (arith, r)
 
-nodes-without : (i : Item) (l : List Entry) → nodes_of (entries_without i l) ≤ nodes_of l
+pub nodes-without : (i : Item) (l : List Entry) → nodes_of (entries_without i l) ≤ nodes_of l
 nodes-without i [] = omega arith
 nodes-without i (e ∷ l) =
     let r : nodes_of (entries_without i l) ≤ nodes_of l = nodes-without i l in
@@ -91,7 +91,7 @@ has-occurs k (x ∷ l) h =
       | inr e ↦ rw (own, e) (let z : occurrences (item_of k) l ≡ 0 + occurrences (item_of k) l = omega arith in r ∙ ap (nat_lt 0) z)
     ]
 
-keys-taken : (k : ℕ) (l : List Entry) → nodes_of l ≡ 0 → keys_without k (keys_of l) ≡ keys_of (entries_without (item_of k) l)
+pub keys-taken : (k : ℕ) (l : List Entry) → nodes_of l ≡ 0 → keys_without k (keys_of l) ≡ keys_of (entries_without (item_of k) l)
 keys-taken k [] h = refl
 keys-taken k (x ∷ l) h =
     let own : is_same_item (item_of k) x.item ≡ eqb k x.item.key = same-key k x.item (omega (arith, h)) in
