@@ -18,9 +18,10 @@ use Rattle.queue_moves.proofs.Tabled.{tabled-all}
 use Rattle.demand_cache.specs.declared.demand_policy.DemandPolicy.{DemandPolicy}
 use Rattle.demand_cache.specs.DemandQueues.{DemandQueues, plan_by, residents_by, queues_residents, IsStateOf, IsQueues, QueuesFits, queues_act, queues_record_of, queues_undone}
 use Rattle.demand_cache.specs.DemandCache.{DemandState, state_with, demand_act}
-use Rattle.demand_cache.proofs.Keeping.{AllKeep, IsKept, kept, is-cache, cache_of}
+use Rattle.demand_cache.specs.Theorems.{PagesAreSound}
+use Rattle.demand_cache.proofs.Keeping.{IsKept, kept, is-cache, cache_of}
 
-module _ (all : AllKeep) (p : DemandPolicy) (c x : ℕ) (s : Queues) (t : IsTabled s) (h : 1 ≤ c) (i : IsQueues c (cache_of p c x s)) where
+module _ (all : PagesAreSound) (p : DemandPolicy) (c x : ℕ) (s : Queues) (t : IsTabled s) (h : 1 ≤ c) (i : IsQueues c (cache_of p c x s)) where
   pub state-shown : IsStateOf p c x s
   state-shown = subst (IsStateOf p c x) (lists-shown s t) i.state
 

@@ -1,4 +1,3 @@
 pub mod Keeping
 pub mod Engine
-pub mod Shown
 pub mod Asking

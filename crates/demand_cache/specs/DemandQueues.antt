@@ -1,25 +1,19 @@
 -- One access to the queues of any of these policies, by the policy's plan; its record, and how the record undoes it.
-use Rattle.std.specs.Prelude.{◌≡◌, ℕ, ◌≤◌, List, []}
+use Rattle.std.specs.Prelude.{◌≡◌, ℕ, ◌≤◌, List}
 use Rattle.step_record.specs.declared.outcome.Outcome.{Outcome}
 use Rattle.queue_table.specs.Queues.{Queues, empty_queues}
-use Rattle.queue_policies.specs.CountedKeys.{keys_of}
 use Rattle.queue_policies.specs.Residents.{outcomes_of_all}
-use Rattle.queue_policies.specs.Clock.{clock_act, IsClock}
-use Rattle.queue_policies.specs.Sieve.{empty_sieve, sieve_residents, sieve_act, IsSieve}
-use Rattle.queue_policies.specs.S3Fifo.{empty_s3_fifo, s3_fifo_residents, s3_fifo_act, IsS3Fifo}
-use Rattle.ghost_policies.specs.TwoQ.{empty_two_q, two_q_residents, two_q_act, IsTwoQ}
-use Rattle.ghost_policies.specs.Arc.{empty_arc, arc_residents, arc_act, IsArc}
 use Rattle.queue_moves.specs.declared.records.Moves.{Moves}
 use Rattle.queue_moves.specs.Moves.{item_of, Plan, after_all, outcome_of}
 use Rattle.queue_moves.specs.Undoing.{record_of, before_all, FitsMoves, MovesAsk}
 use Rattle.queue_moves.specs.Tabled.{IsTabled}
 use Rattle.queue_moves.specs.Lists.{QueueLists, lists_of, queues_in}
-use Rattle.policy_steps.specs.Planned.{IsWithin}
-use Rattle.policy_steps.specs.Clock.{clock_of, clock_plan}
-use Rattle.policy_steps.specs.Sieve.{sieve_of, sieve_plan}
-use Rattle.policy_steps.specs.S3Fifo.{s3_fifo_of, s3_fifo_plan}
-use Rattle.policy_steps.specs.TwoQ.{two_q_of, two_q_plan}
-use Rattle.policy_steps.specs.Arc.{arc_of, arc_plan}
+use Rattle.policy_steps.specs.PolicyPage.{PolicyPage}
+use Rattle.policy_steps.specs.Clock.{clock_page}
+use Rattle.policy_steps.specs.Sieve.{sieve_page}
+use Rattle.policy_steps.specs.S3Fifo.{s3_fifo_page}
+use Rattle.policy_steps.specs.TwoQ.{two_q_page}
+use Rattle.policy_steps.specs.Arc.{arc_page}
 use Rattle.demand_cache.specs.declared.demand_policy.DemandPolicy.{DemandPolicy}
 use Rattle.demand_cache.specs.declared.demand_policy.DemandPolicy.TheVariants.{Clock, Sieve, S3Fifo, TwoQ, Arc}
 
@@ -40,39 +34,31 @@ empty_cache p c = record { policy = p; capacity = c; scalar = 0; lists = lists_o
 
 -- ---- each policy
 
+-- the policy as one value
+abbrev pub page_of : DemandPolicy → PolicyPage
+page_of Clock = clock_page
+page_of Sieve = sieve_page
+page_of (S3Fifo part) = s3_fifo_page part
+page_of (TwoQ z) = two_q_page z
+page_of Arc = arc_page
+
+-- ---- all policies
+
 -- the plan of an access to k at capacity c, where x is the policy's number
 abbrev pub plan_by : DemandPolicy → ℕ → ℕ → ℕ → Queues → Plan
-plan_by Clock c k x s = clock_plan c k x s
-plan_by Sieve c k x s = sieve_plan c k x s
-plan_by (S3Fifo part) c k x s = s3_fifo_plan part c k x s
-plan_by (TwoQ z) c k x s = two_q_plan z c k x s
-plan_by Arc c k x s = arc_plan c k x s
+plan_by p = (page_of p).plan
 
 -- the keys that are cached, queue by queue, oldest first
 abbrev pub residents_by : DemandPolicy → ℕ → Queues → List ℕ
-residents_by Clock x s = keys_of (clock_of s)
-residents_by Sieve x s = sieve_residents (sieve_of x s)
-residents_by (S3Fifo part) x s = s3_fifo_residents (s3_fifo_of s)
-residents_by (TwoQ z) x s = two_q_residents (two_q_of s)
-residents_by Arc x s = arc_residents (arc_of x s)
+residents_by p x s = (page_of p).residents ((page_of p).view x s)
 
 -- a state of a cache of capacity c, by the policy's definition
 abbrev pub IsStateOf : DemandPolicy → ℕ → ℕ → Queues → Type 0
-IsStateOf Clock c x s = IsWithin 1 s × IsClock c (clock_of s)
-IsStateOf Sieve c x s = IsWithin 2 s × ((x ≤ 1) × IsSieve c (sieve_of x s))
-IsStateOf (S3Fifo part) c x s = IsS3Fifo part c (s3_fifo_of s)
-IsStateOf (TwoQ z) c x s = IsTwoQ z c (two_q_of s)
-IsStateOf Arc c x s = IsArc c (arc_of x s)
+IsStateOf p c x s = (page_of p).IsShown x s × (page_of p).IsState c ((page_of p).view x s)
 
 -- the outcomes of accesses to the keys from an empty cache on, by the policy's definition
 abbrev pub outcomes_of_page : DemandPolicy → ℕ → List ℕ → List Outcome
-outcomes_of_page Clock c keys = outcomes_of_all (clock_act c) [] keys
-outcomes_of_page Sieve c keys = outcomes_of_all (sieve_act c) empty_sieve keys
-outcomes_of_page (S3Fifo part) c keys = outcomes_of_all (s3_fifo_act part c) empty_s3_fifo keys
-outcomes_of_page (TwoQ z) c keys = outcomes_of_all (two_q_act z c) empty_two_q keys
-outcomes_of_page Arc c keys = outcomes_of_all (arc_act c) empty_arc keys
-
--- ---- all policies
+outcomes_of_page p c keys = outcomes_of_all ((page_of p).act c) (page_of p).start keys
 
 abbrev pub plan_of : ℕ → DemandQueues → Plan
 plan_of k d = plan_by d.policy d.capacity k d.scalar (queues_of d)

@@ -3,9 +3,15 @@ use Rattle.std.specs.Prelude.{◌≡◌, ℕ, ◌≤◌, true, List}
 use Rattle.step_record.specs.Stats.{is_eviction}
 use Rattle.step_record.specs.declared.outcome.Outcome.TheVariants.{Hit}
 use Rattle.queue_policies.specs.Residents.{KeepsResidents, outcomes_of_all}
+use Rattle.policy_steps.specs.PolicyPage.{IsSoundPage}
 use Rattle.demand_cache.specs.declared.demand_policy.DemandPolicy.{DemandPolicy}
 use Rattle.demand_cache.specs.DemandQueues.{DemandQueues, empty_cache, queues_act, queues_record_of, queues_asks, queues_residents}
-use Rattle.demand_cache.specs.DemandQueues.{IsQueues, outcomes_of_page}
+use Rattle.demand_cache.specs.DemandQueues.{page_of, IsQueues, outcomes_of_page}
+
+-- Of each policy, as one value: its definition keeps each missed key, and the plan of an access, which the code carries out,
+-- is the definition's access.
+abbrev pub PagesAreSound : Type 0
+PagesAreSound = (p : DemandPolicy) → IsSoundPage (page_of p)
 
 -- Of each policy: residents fit, each once; an access is a hit exactly where its key is resident; a miss brings its key
 -- in, and of a full cache one key leaves; none is rejected.

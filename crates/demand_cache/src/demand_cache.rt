@@ -1,11 +1,10 @@
 //! The engine: a cache whose accesses are counted and can be undone.
-ghost use Rattle.std.specs.Prelude.{◌≡◌, ◌+◌, ℕ, ◌≤◌, ◌<◌, ◌↔◌, ◌++◌, false, [], length, Err, Some, None, IfOk, OnOk, OnErr};
+ghost use Rattle.std.specs.Prelude.{◌≡◌, ◌+◌, ℕ, ◌≤◌, ◌<◌, ◌↔◌, ◌++◌, false, [], length, Err, Some, None, IfOk, OnOk, OnErr, IfSome};
 ghost use Rattle.step_record.specs.declared.limits.TheConstants.{MAX_CAPACITY};
 ghost use Rattle.step_record.specs.Stats.{stats_of};
 ghost use Rattle.queue_table.specs.QueueTable.{queues as queues_at};
-ghost use Rattle.queue_moves.specs.Tabled.{keys_of};
 ghost use Rattle.queue_moves.specs.Undoing.{IsAccessed};
-ghost use Rattle.demand_cache.specs.DemandQueues.{empty_cache, queues_residents, plan_by, residents_by, IsStateOf};
+ghost use Rattle.demand_cache.specs.DemandQueues.{page_of, empty_cache, queues_residents, plan_by, IsStateOf};
 ghost use Rattle.demand_cache.specs.DemandCache.{IsCountedBy};
 ghost use Rattle.step_record.specs.declared.item.Item.{Item};
 ghost use Rattle.queue_table.specs.Queues.{QUEUES, Queues};
@@ -135,33 +134,30 @@ impl DemandCache {
         ensures { OnOk result (keys.new.items ≡ keys.old.items ++ queues_residents self.now.queues) }
     {
         self.queues.tabled();
-        match self.policy {
-            DemandPolicy::Clock => self.queues.add_keys(0, keys),
-            DemandPolicy::Sieve => {
-                let ahead = self.scalar as u8;
-                add_both(&self.queues, 1 - ahead, ahead, keys)
-            }
-            DemandPolicy::S3Fifo(_) => add_both(&self.queues, 0, 1, keys),
-            DemandPolicy::TwoQ(_) => add_both(&self.queues, 0, 2, keys),
-            DemandPolicy::Arc => add_both(&self.queues, 0, 1, keys),
+        let (first, second) = self.resident_queues();
+        self.queues.add_keys(first, keys)?;
+        match second {
+            Some(second) => self.queues.add_keys(second, keys),
+            None => Ok(()),
         }
     }
-}
 
-// Appends the keys of two queues.
-fn add_both(
-    queues: &KeyQueues,
-    first: u8,
-    second: u8,
-    keys: &mut Vec<Key>,
-) -> Result<(), AllocError>
-    requires first { first < QUEUES }
-    requires second { second < QUEUES }
-    ensures { OnOk result (keys.new.items ≡ keys.old.items
-        ++ (keys_of (queues_at queues.now first) ++ keys_of (queues_at queues.now second))) }
-{
-    queues.add_keys(first, keys)?;
-    queues.add_keys(second, keys)
+    // The queues of the resident keys.
+    fn resident_queues(&self) -> (u8, Option<u8>)
+        ensures is { result ≡ (page_of self.now.queues.policy).resident_queues self.now.queues.scalar }
+        ensures first { result.0 < QUEUES }
+        ensures second { IfSome result.1 (λ q. q < QUEUES) }
+    {
+        match self.policy {
+            DemandPolicy::Clock => (0, None),
+            DemandPolicy::Sieve => {
+                let ahead = self.scalar as u8;
+                (1 - ahead, Some(ahead))
+            }
+            DemandPolicy::S3Fifo(_) | DemandPolicy::Arc => (0, Some(1)),
+            DemandPolicy::TwoQ(_) => (0, Some(2)),
+        }
+    }
 }
 
 impl Engine for DemandCache {

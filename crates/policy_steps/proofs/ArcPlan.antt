@@ -1,6 +1,6 @@
 -- ARC's plan is its definition.
-use Rattle.std.proofs.Common.{◌≡◌, ℕ, zero, suc, ◌+◌, ◌-◌, ◌*◌, ◌<◌, ◌≤◌, min, Bool, true, false, cond, eqb, ◌||◌, Option, Some, None, List, [], ◌∷◌, ◌++◌, length, take, drop, append-nil, ap, ◌∙◌, sym, subst, refl, arith}
-use Rattle.std.proofs.lemmas.Bool.{eq-eqb, ne_eqb, lt-ltb, le-ltb}
+use Rattle.std.proofs.Common.{◌≡◌, ℕ, zero, suc, ◌+◌, ◌-◌, ◌*◌, ◌<◌, ◌≤◌, min, Bool, true, false, cond, eqb, ◌||◌, Option, Some, None, List, [], ◌∷◌, ◌++◌, length, take, drop, append-nil, ap, ◌∙◌, sym, subst, refl, arith, inl, inr, nat_lt, ◌⊎◌, ◌==◌, length-append}
+use Rattle.std.proofs.lemmas.Bool.{eq-eqb, ne_eqb, lt-ltb, le-ltb, cond-false, cases_Bool, cases_lt, eqb-true, ltb-false, cases_eq}
 use Rattle.step_record.specs.Keys.{has_key, keys_without}
 use Rattle.step_record.specs.declared.outcome.Outcome.{Outcome}
 use Rattle.step_record.specs.declared.outcome.Outcome.TheVariants.{Hit, Kept, Evicted}
@@ -22,11 +22,13 @@ use Rattle.queue_moves.specs.Tabled.{IsTabled, keys_of, StandsAs}
 use Rattle.queue_moves.proofs.Tabled.{keys-append, absent-gone, stands, stands-nowhere, tabled-leaving}
 use Rattle.policy_steps.specs.Planned.{IsPlannedBy}
 use Rattle.policy_steps.specs.Misses.{Leavers, no_leavers, miss_plan}
-use Rattle.policy_steps.specs.Arc.{T1, T2, B1, B2, arc_of, total, step_size, gives_t1, replaced, new_key_leavers, new_key_plan, recall_plan, plan_in, plan_at, arc_plan}
-use Rattle.policy_steps.specs.Theorems.{ArcIsPlanned}
+use Rattle.policy_steps.specs.Arc.{T1, T2, B1, B2, arc_of, total, step_size, gives_t1, replaced, new_key_leavers, new_key_plan, recall_plan, plan_in, plan_at, arc_plan, arc_page}
 use Rattle.policy_steps.proofs.Parts.{nowhere}
-use Rattle.policy_steps.proofs.Moving.{length-keys, keys-sent, keys_left, left-keys, without-drop, without-push, apart-first, own-low, AreLow, miss-low, tabled-leavers}
+use Rattle.policy_steps.proofs.Moving.{length-keys, keys-sent, keys_left, left-keys, without-drop, without-push, apart-first, own-low, AreLow, miss-low, tabled-leavers, left-twice, without-rest, without-cond}
 use Rattle.policy_steps.proofs.Leaving.{still-absent}
+use Rattle.policy_steps.specs.PolicyPage.{LeavesNone, LeavesWhere, IsPlannedPage, IsSoundPage}
+use Rattle.policy_steps.proofs.Leavers.{own-alone, never, either, one-of, own-none, miss-full, keys-length, not-less}
+use Rattle.ghost_policies.proofs.ArcKeeping.{keeps}
 
 -- ---- the state, queue by queue
 
@@ -265,8 +267,8 @@ module _ (c k x : ℕ) (s : Queues) (some : 1 ≤ c) (t : IsTabled s) (i : IsArc
       rw (off T1, off T2, off B1, off B2) (new k s t x (off T1) (off T2) c some i h)
   planned-at (Some at) h = planned-in at.0 at.1 (stands s t k at.0 at.1 h)
 
-pub planned : ArcIsPlanned
-planned c k x s some t i = planned-at c k x s some t i (standing (item_of k) s) refl
+planned : IsPlannedPage arc_page
+planned c k x s some t shown i = (planned-at c k x s some t i (standing (item_of k) s) refl, tt)
 
 -- ---- the plan, by the queue where the key stands
 
@@ -288,3 +290,69 @@ module _ (c k p q n : ℕ) (s : Queues) (at : standing (item_of k) s ≡ Some (q
   pub ghost-plan : (y : ℕ) → q < QUEUES → (eqb q T1 || eqb q T2) ≡ false
       → y ≡ cond (eqb q B2) (p - step_size B1 B2 s) (min c (p + step_size B2 B1 s)) → arc_plan c k p s ≡ recall_plan (eqb q B2) y s
   ghost-plan y low out e = standing-plan ∙ ghost-plan-in c p q y s low out e
+
+-- ---- keys leave where the cache is full: a ghost has a key only there
+
+module _ (c x : ℕ) (s : Queues) (i : IsArc c (arc_of x s)) where
+  abbrev IsFull : Type 0
+  IsFull = nat_lt (length (arc_residents (arc_of x s))) c ≡ false
+
+  is-full : c ≤ length (s T1) + length (s T2) → IsFull
+  is-full h = not-less _ _ c (keys-length (s T1) (s T2)) (le-ltb _ c h)
+
+  ghost-full : 1 ≤ length (s B1) + length (s B2) → IsFull
+  ghost-full h =
+      is-full (
+      let all = i.full (omega (arith, h, length-keys (s B1), length-keys (s B2))) in
+      omega (arith, all, length-keys (s T1), length-keys (s T2)))
+
+  leaves-of-new : ((new_key_leavers c x s).first ≡ None) × ((new_key_leavers c x s).second ≡ None) ⊎ IsFull
+  leaves-of-new =
+      elim (cases_Bool (length (s T1) + length (s B1) == c)) [
+        | inl e ↦ inr (
+            let l1 = eqb-true (length (s T1) + length (s B1)) c e in
+            elim (cases_lt 0 (length (s B1))) [
+              | inl some ↦ ghost-full (omega (arith, some))
+              | inr none ↦ is-full (omega (arith, l1, none))
+            ])
+        | inr e ↦ elim (cases_Bool (nat_lt (total s) c)) [
+          | inl few ↦ inl (rw (e, few) (refl, refl))
+          | inr many ↦ inr (
+              let most : c ≤ total s = ltb-false (total s) c many in
+              elim (cases_lt 0 (length (s B1) + length (s B2))) [
+                | inl some ↦ ghost-full (omega (arith, some))
+                | inr none ↦ is-full (omega (arith, most, none))
+              ])
+        ]
+      ]
+
+  leaves-at : IsTabled s → (k : ℕ) (at : Option (ℕ × ℕ)) → standing (item_of k) s ≡ at → LeavesWhere IsFull (plan_at c x at s)
+  leaves-at t k None h = miss-full IsFull (new_key_leavers c x s) _ x leaves-of-new
+  leaves-at t k (Some p) h =
+      one-of IsFull (p.0 == T1 || p.0 == T2) _ _ (λ e. own-none IsFull true _ x)
+      (λ e. one-of IsFull (p.0 == B1) _ _ (λ f. inr (ghost-full (remembered B1 f (λ n. omega (arith, n)))))
+      (λ f. one-of IsFull (p.0 == B2) _ _ (λ g. inr (ghost-full (remembered B2 g (λ n. omega (arith, n))))) (λ g. miss-full IsFull (new_key_leavers c x s) _ x leaves-of-new)))
+    where
+      -- the key stands in that queue
+      remembered : (q : ℕ) → (p.0 == q) ≡ true → (1 ≤ length (s q) → 1 ≤ length (s B1) + length (s B2)) → 1 ≤ length (s B1) + length (s B2)
+      remembered q f within =
+          let a : StandsAs k p.0 p.1 s = stands s t k p.0 p.1 h in
+          let at_q = ap (λ y. length (s y)) (eqb-true p.0 q f) in
+          let whole = ap length a.whole ∙ length-append a.front _ in
+          within (omega (arith, at_q, whole))
+
+module _ (c x : ℕ) (s : Queues) where
+  alone-at : (at : Option (ℕ × ℕ)) → (plan_at c x at s).hits ≡ true → LeavesNone (plan_at c x at s)
+  alone-at None = never _ refl
+  alone-at (Some p) =
+      either (p.0 == T1 || p.0 == T2) _ _ (own-alone true _ x) (either (p.0 == B1) _ _ (never _ refl) (either (p.0 == B2) _ _ (never _ refl) (never _ refl)))
+
+pub arc-sound : IsSoundPage arc_page
+arc-sound = record {
+  keeps = keeps;
+  starts = (tt, refl);
+  planned = planned;
+  residents = λ x s. refl;
+  hits = λ c k x s. alone-at c x s (standing (item_of k) s);
+  leaves = λ c k x s t shown i. leaves-at c x s i t k (standing (item_of k) s) refl;
+}

@@ -10,15 +10,18 @@ use Rattle.queue_policies.specs.CountedKeys.{CountedKey, with_count, keys_of, to
 use Rattle.queue_policies.specs.Turns.{after_turns as page_turns, turn_count}
 use Rattle.queue_policies.specs.Clock.{marked_key, clock_eviction, IsClock}
 use Rattle.queue_policies.proofs.CountedKeys.{length-keys}
-use Rattle.queue_policies.proofs.Clock.{counted-total}
-use Rattle.queue_moves.specs.Moves.{item_of, after_turns, turns_due, evicted, departed, leaving, after_leaving}
+use Rattle.queue_policies.proofs.Clock.{counted-total, keeps}
+use Rattle.queue_moves.specs.Moves.{item_of, after_turns, turns_due, evicted, departed, leaving, after_leaving, standing, count_or, after_turn}
+use Rattle.queue_policies.proofs.Turns.{turned-total, oldest-few}
 use Rattle.queue_moves.specs.Tabled.{IsTabled}
 use Rattle.policy_steps.specs.Counted.{counted_keys}
 use Rattle.policy_steps.specs.Planned.{IsWithin, IsPlannedWithin}
-use Rattle.policy_steps.specs.Clock.{clock_of, clock_eviction_plan}
+use Rattle.policy_steps.specs.Clock.{clock_of, clock_eviction_plan, clock_page}
+use Rattle.policy_steps.specs.PolicyPage.{IsPlannedPage, IsSoundPage}
+use Rattle.policy_steps.proofs.Leavers.{resident-alone, resident-full, counted-length, not-less}
 use Rattle.policy_steps.proofs.Residents.{resident-planned}
 use Rattle.policy_steps.specs.Theorems.{ClockIsPlanned}
-use Rattle.policy_steps.proofs.Counted.{counted-append, length-counted, key-counted, counted-with}
+use Rattle.policy_steps.proofs.Counted.{keys-counted, counted-append, length-counted, key-counted, counted-with}
 use Rattle.policy_steps.proofs.Parts.{first-send, first-turns, first-out}
 use Rattle.policy_steps.proofs.Leaving.{absent-turns}
 use Rattle.policy_steps.proofs.Turns.{turns-are}
@@ -69,10 +72,20 @@ module _ (c k x : ℕ) (s : Queues) (t : IsTabled s) (first : IsWithin 1 s) (sta
     first-send 1 (new k) 0 (after_leaving (leaving 0 None) full) (omega arith) (first-out 1 0 full (first-turns 1 (turns_due c 0 0 1 1 s) 0 0 1 s (omega arith) first)),
   )
 
-pub planned : ClockIsPlanned
+planned : IsPlannedPage clock_page
 planned c k x s some t first state =
     resident-planned (List CountedKey) 1 k x 0 1 s (λ y. clock_of) (has_key k (keys_of (clock_of s))) (nat_lt (length (clock_of s)) c) (nat_lt (length (s 0)) c)
     (with_count k 1 (clock_of s)) (clock_of s ++ marked_key k ∷ []) (clock_eviction k (page_turns (turn_count (clock_of s)) (clock_of s))) (clock_eviction_plan c x s)
     t (omega arith) (omega arith) first (ap (λ n. nat_lt n c) (length-counted (s 0))) (key-counted k (s 0) (t.keys 0) ∙ ap (nat_lt 0) (omega arith))
     (counted-with k 1 (s 0) (t.keys 0) (queue-few 0 s (omega arith) t.distinct (item_of k)))
     (λ none. joined k (s 0) (none 0 (omega arith))) (λ none f. evict c k x s t first state none)
+
+pub clock-sound : IsSoundPage clock_page
+clock-sound = record {
+  keeps = keeps;
+  starts = (λ q w. refl, refl);
+  planned = planned;
+  residents = λ x s. keys-counted (s 0);
+  hits = λ c k x s. resident-alone (standing (item_of k) s) _ _ _ x _ refl;
+  leaves = λ c k x s t first state. resident-full _ (standing (item_of k) s) _ _ _ x _ (λ e. not-less _ _ c (counted-length (s 0)) e);
+}

@@ -26,6 +26,10 @@ pub keys-counted : (l : List Entry) → keys_of (counted_keys l) ≡ entry_keys 
 keys-counted [] = refl
 keys-counted (e ∷ l) = ap (λ t. e.item.key ∷ t) (keys-counted l)
 
+pub both-counted : (l m : List Entry) → keys_of (counted_keys l ++ counted_keys m) ≡ entry_keys l ++ entry_keys m
+both-counted [] m = keys-counted m
+both-counted (e ∷ l) m = ap (λ t. e.item.key ∷ t) (both-counted l m)
+
 pub key-counted : (k : ℕ) (l : List Entry) → nodes_of l ≡ 0 → has_key k (keys_of (counted_keys l)) ≡ nat_lt 0 (occurrences (item_of k) l)
 key-counted k l h = ap (has_key k) (keys-counted l) ∙ has-occurs k l h
 

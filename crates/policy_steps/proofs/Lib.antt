@@ -1,6 +1,7 @@
 pub mod Counted
 pub mod Parts
 pub mod Residents
+pub mod Leavers
 pub mod ClockPlan
 pub mod Hand
 pub mod SievePlan

@@ -12,15 +12,17 @@ use Rattle.queue_table.proofs.QueueLists.{IsAbsent, still-absent, queue-few, wit
 use Rattle.queue_policies.specs.Queues.{is_empty}
 use Rattle.queue_policies.specs.Sieve.{SieveState, sieve_residents, after_wrap, sieve_with_key, sieve_eviction, HasAhead, IsSieve, sieve_with_count}
 use Rattle.queue_policies.proofs.CountedKeys.{by-oldest, length-keys, counted-second}
-use Rattle.queue_moves.specs.Moves.{item_of, standing, evicted, departed, counts, goes}
+use Rattle.queue_moves.specs.Moves.{item_of, standing, evicted, departed, counts, goes, after_run, count_or, turns_due}
+use Rattle.queue_policies.proofs.Sieve.{keeps}
 use Rattle.queue_moves.specs.Tabled.{IsTabled}
 use Rattle.queue_moves.proofs.Tabled.{oldest-gone, tabled-turns}
 use Rattle.policy_steps.specs.Counted.{counted_keys}
 use Rattle.policy_steps.specs.Planned.{IsWithin, resident_plan, IsPlannedWithin}
-use Rattle.policy_steps.specs.Sieve.{passed_queue, sieve_of, queue_ahead, pass_run, after_early, ahead_late, after_late, after_leaver, ahead_new, sieve_eviction_plan}
+use Rattle.policy_steps.specs.Sieve.{passed_queue, sieve_of, queue_ahead, pass_run, after_early, ahead_late, after_late, after_leaver, ahead_new, sieve_eviction_plan, sieve_page}
+use Rattle.policy_steps.specs.PolicyPage.{IsPlannedPage, IsSoundPage}
+use Rattle.policy_steps.proofs.Leavers.{resident-alone, resident-full, both-length as shown-length, not-less}
 use Rattle.policy_steps.proofs.Residents.{resident-planned}
-use Rattle.policy_steps.specs.Theorems.{SieveIsPlanned}
-use Rattle.policy_steps.proofs.Counted.{counted-append, length-counted, oldest-counted, key-both, counted-with}
+use Rattle.policy_steps.proofs.Counted.{counted-append, length-counted, oldest-counted, key-both, counted-with, both-counted}
 use Rattle.policy_steps.proofs.Parts.{first-send, first-turns, first-out}
 use Rattle.policy_steps.proofs.Leaving.{absent-turns}
 use Rattle.policy_steps.proofs.Hand.{apart, stopped, no-pass, IsClear, HasClear, Waits, passes, ends, stops}
@@ -183,11 +185,22 @@ module _ (c k x : ℕ) (s : Queues) (c_some : 1 ≤ c) (t : IsTabled s) (first :
   number None true = low
   number None false = wrapped-low (ahead_late c x s) (after_leaver c x s (ahead_late c x s)) (wrapped-low x (after_early c x s x) low)
 
-pub planned : SieveIsPlanned
-planned c k x s some t first low state = (
-  resident-planned SieveState 2 k x x 0 s sieve_of (has_key k (sieve_residents (sieve_of x s))) (nat_lt (length (sieve_residents (sieve_of x s))) c) (nat_lt (length (s 0) + length (s 1)) c)
-      (sieve_with_count k 1 (sieve_of x s)) (sieve_with_key k (sieve_of x s)) (sieve_eviction k (stopped (sieve_of x s)).passed (stopped (sieve_of x s)).ahead) (sieve_eviction_plan c x s)
-      t (omega arith) (omega (arith, low)) first (ap (λ n. nat_lt n c) (size c k x s some t first low state)) (key c k x s some t first low state) (hit c k x s some t first low state)
-      (joined k x s low) (evict c k x s some t first low state),
-  number c k x s some t first low state (standing (item_of k) s) (nat_lt (length (s 0) + length (s 1)) c),
-)
+planned : IsPlannedPage sieve_page
+planned c k x s some t shown state =
+    let first = shown.0 in
+    let low = shown.1 in
+    let plan = resident-planned SieveState 2 k x x 0 s sieve_of (has_key k (sieve_residents (sieve_of x s))) (nat_lt (length (sieve_residents (sieve_of x s))) c) (nat_lt (length (s 0) + length (s 1)) c)
+    (sieve_with_count k 1 (sieve_of x s)) (sieve_with_key k (sieve_of x s)) (sieve_eviction k (stopped (sieve_of x s)).passed (stopped (sieve_of x s)).ahead) (sieve_eviction_plan c x s)
+    t (omega arith) (omega (arith, low)) first (ap (λ n. nat_lt n c) (size c k x s some t first low state)) (key c k x s some t first low state) (hit c k x s some t first low state)
+    (joined k x s low) (evict c k x s some t first low state) in
+    (plan.0, (plan.1, number c k x s some t first low state (standing (item_of k) s) (nat_lt (length (s 0) + length (s 1)) c)))
+
+pub sieve-sound : IsSoundPage sieve_page
+sieve-sound = record {
+  keeps = keeps;
+  starts = ((λ q w. refl, omega arith), refl);
+  planned = planned;
+  residents = λ x s. both-counted (s (passed_queue x)) (s x);
+  hits = λ c k x s. resident-alone (standing (item_of k) s) _ _ _ x _ refl;
+  leaves = λ c k x s t shown state. resident-full _ (standing (item_of k) s) _ _ _ x _ (λ e. not-less _ _ c (shown-length (s (passed_queue x)) (s x) ∙ (let both = both-length x s shown.1 in omega (arith, both))) e);
+}

@@ -4,10 +4,11 @@
 use Rattle.std.specs.Prelude.{ℕ, ◌+◌, ◌-◌, ◌*◌, ◌/◌, min, max, nat_lt, ◌==◌, ◌&&◌, ◌||◌, Bool, true, false}
 use Rattle.std.specs.Prelude.{if◌then◌else◌, Option, Some, None, length}
 use Rattle.queue_table.specs.Queues.{Queues}
-use Rattle.ghost_policies.specs.Arc.{ArcState}
+use Rattle.ghost_policies.specs.Arc.{ArcState, empty_arc, arc_residents, arc_act, IsArc}
 use Rattle.queue_moves.specs.Moves.{item_of, standing, Leaving, leaving, goes, Plan, own_plan}
 use Rattle.queue_moves.specs.Tabled.{keys_of}
 use Rattle.policy_steps.specs.Misses.{Leavers, no_leavers, miss_plan}
+use Rattle.policy_steps.specs.PolicyPage.{PolicyPage}
 
 -- the queues' numbers
 abbrev pub T1 : ℕ
@@ -92,3 +93,17 @@ plan_at c p (Some at) s = plan_in c p at.0 s
 -- an access to k at capacity c, where t1 is to have p keys
 abbrev pub arc_plan : ℕ → ℕ → ℕ → Queues → Plan
 arc_plan c k p s = plan_at c p (standing (item_of k) s) s
+
+-- the policy, whose number is its target
+abbrev pub arc_page : PolicyPage
+arc_page = record {
+  State = ArcState;
+  start = empty_arc;
+  act = arc_act;
+  residents = arc_residents;
+  IsState = IsArc;
+  view = arc_of;
+  IsShown = λ x s. Unit {0};
+  plan = arc_plan;
+  resident_queues = λ x. (T1, Some T2);
+}

@@ -1,12 +1,14 @@
 -- CLOCK, or second chance (Corbató 1969), as a plan of moves: an access sets its key's reference bit, also the access
 -- that brings the key in. In a full cache the oldest key, while its bit is set, goes to the recent end with the bit
 -- cleared; then the oldest leaves. A bit is a count of 0 or 1.
-use Rattle.std.specs.Prelude.{ℕ, nat_lt, None, List, length}
+use Rattle.std.specs.Prelude.{ℕ, nat_lt, None, List, [], length}
 use Rattle.queue_table.specs.Queues.{Queues}
-use Rattle.queue_policies.specs.CountedKeys.{CountedKey}
+use Rattle.queue_policies.specs.CountedKeys.{CountedKey, keys_of}
+use Rattle.queue_policies.specs.Clock.{clock_act, IsClock}
 use Rattle.queue_moves.specs.Moves.{item_of, standing, run, no_run, turns_due, leaving, counts, goes, Plan}
 use Rattle.policy_steps.specs.Counted.{counted_keys}
-use Rattle.policy_steps.specs.Planned.{leaver_plan, resident_plan}
+use Rattle.policy_steps.specs.Planned.{IsWithin, leaver_plan, resident_plan}
+use Rattle.policy_steps.specs.PolicyPage.{PolicyPage}
 
 -- the one queue
 abbrev pub QUEUE : ℕ
@@ -25,3 +27,17 @@ abbrev pub clock_plan : ℕ → ℕ → ℕ → Queues → Plan
 clock_plan c k x s =
     resident_plan (standing (item_of k) s) (nat_lt (length (s QUEUE)) c) (counts 1) (goes QUEUE 1) x
     (clock_eviction_plan c x s)
+
+-- the policy, which uses one queue
+abbrev pub clock_page : PolicyPage
+clock_page = record {
+  State = List CountedKey;
+  start = [];
+  act = clock_act;
+  residents = keys_of;
+  IsState = IsClock;
+  view = λ x. clock_of;
+  IsShown = λ x. IsWithin 1;
+  plan = clock_plan;
+  resident_queues = λ x. (QUEUE, None);
+}

@@ -1,5 +1,6 @@
 pub mod Planned
 pub mod Counted
+pub mod PolicyPage
 pub mod Clock
 pub mod Sieve
 pub mod S3Fifo
@@ -9,3 +10,4 @@ pub mod Comers
 pub mod TwoQ
 pub mod Arc
 pub mod Theorems
+pub mod Rooms

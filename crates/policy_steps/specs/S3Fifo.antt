@@ -7,12 +7,14 @@ use Rattle.std.specs.Prelude.{ℕ, ◌+◌, ◌-◌, ◌*◌, nat_lt, ◌==◌, 
 use Rattle.std.specs.Prelude.{Option, Some, None, length}
 use Rattle.queue_table.specs.Queues.{Queues}
 use Rattle.queue_policies.specs.S3Fifo.{S3FifoState, s3_fifo_main_size, hit_count}
+use Rattle.queue_policies.specs.S3Fifo.{empty_s3_fifo, s3_fifo_residents, s3_fifo_act, IsS3Fifo}
 use Rattle.queue_moves.specs.declared.records.Run.{Run}
 use Rattle.queue_moves.specs.Moves.{item_of, standing, run, no_run, turns_due, after_run, leaving, counts, goes}
 use Rattle.queue_moves.specs.Moves.{Plan, own_plan}
 use Rattle.queue_moves.specs.Tabled.{keys_of}
 use Rattle.policy_steps.specs.Counted.{counted_keys}
 use Rattle.policy_steps.specs.Misses.{one_leaver, leavers_for_ghost, run_plan}
+use Rattle.policy_steps.specs.PolicyPage.{PolicyPage}
 
 -- the queues' numbers
 abbrev pub SMALL : ℕ
@@ -83,3 +85,17 @@ plan_at part c x (Some p) s =
 -- an access to k at capacity c, of which the small queue is to have `part`; S3-FIFO has no number of its own
 abbrev pub s3_fifo_plan : ℕ → ℕ → ℕ → ℕ → Queues → Plan
 s3_fifo_plan part c k x s = plan_at part c x (standing (item_of k) s) s
+
+-- the policy, whatever its small queue is to have
+abbrev pub s3_fifo_page : ℕ → PolicyPage
+s3_fifo_page part = record {
+  State = S3FifoState;
+  start = empty_s3_fifo;
+  act = s3_fifo_act part;
+  residents = s3_fifo_residents;
+  IsState = IsS3Fifo part;
+  view = λ x. s3_fifo_of;
+  IsShown = λ x s. Unit {0};
+  plan = s3_fifo_plan part;
+  resident_queues = λ x. (SMALL, Some MAIN);
+}

@@ -2,15 +2,16 @@
 -- from old to new. In a full cache it passes the keys whose bits are set, and clears these, until it is at a key whose
 -- bit is clear, and that key leaves. The queue is cut at the hand: the policy's number, 0 or 1, is that of the queue of
 -- the keys ahead of the hand; those that it has passed stand in the other one.
-use Rattle.std.specs.Prelude.{ℕ, ◌+◌, ◌-◌, nat_lt, if◌then◌else◌, None, length}
+use Rattle.std.specs.Prelude.{ℕ, ◌+◌, ◌-◌, ◌≤◌, nat_lt, if◌then◌else◌, Some, None, length}
 use Rattle.queue_table.specs.Queues.{Queues}
 use Rattle.queue_policies.specs.Queues.{is_empty}
-use Rattle.queue_policies.specs.Sieve.{SieveState}
+use Rattle.queue_policies.specs.Sieve.{SieveState, empty_sieve, sieve_residents, sieve_act, IsSieve}
 use Rattle.queue_moves.specs.declared.records.Run.{Run}
 use Rattle.queue_moves.specs.Moves.{item_of, standing, run, turns_due, after_run, leaving, after_leaving, counts, goes}
 use Rattle.queue_moves.specs.Moves.{Plan}
 use Rattle.policy_steps.specs.Counted.{counted_keys}
-use Rattle.policy_steps.specs.Planned.{leaver_plan, resident_plan}
+use Rattle.policy_steps.specs.Planned.{IsWithin, leaver_plan, resident_plan}
+use Rattle.policy_steps.specs.PolicyPage.{PolicyPage}
 
 -- the number of the queue of the passed keys, where those ahead stand in x
 abbrev pub passed_queue : ℕ → ℕ
@@ -57,3 +58,17 @@ abbrev pub sieve_plan : ℕ → ℕ → ℕ → Queues → Plan
 sieve_plan c k x s =
     resident_plan (standing (item_of k) s) (nat_lt (length (s 0) + length (s 1)) c) (counts 1) (goes x 0) x
     (sieve_eviction_plan c x s)
+
+-- the policy, which uses two queues, and whose number is that of one of them
+abbrev pub sieve_page : PolicyPage
+sieve_page = record {
+  State = SieveState;
+  start = empty_sieve;
+  act = sieve_act;
+  residents = sieve_residents;
+  IsState = IsSieve;
+  view = sieve_of;
+  IsShown = λ x s. IsWithin 2 s × (x ≤ 1);
+  plan = sieve_plan;
+  resident_queues = λ x. (passed_queue x, Some x);
+}

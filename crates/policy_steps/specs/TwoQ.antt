@@ -5,10 +5,11 @@ use Rattle.std.specs.Prelude.{ℕ, ◌+◌, nat_lt, ◌==◌, ◌||◌, Bool, tr
 use Rattle.std.specs.Prelude.{length}
 use Rattle.queue_table.specs.Queues.{Queues}
 use Rattle.ghost_policies.specs.declared.two_q.TwoQSizes.{TwoQSizes}
-use Rattle.ghost_policies.specs.TwoQ.{TwoQState}
-use Rattle.queue_moves.specs.Moves.{item_of, standing, leaving, stays, goes, Plan, own_plan}
+use Rattle.ghost_policies.specs.TwoQ.{TwoQState, empty_two_q, two_q_residents, two_q_act, IsTwoQ}
+use Rattle.queue_moves.specs.Moves.{item_of, standing, leaving, stays, goes, Plan, own_plan, Leaving}
 use Rattle.queue_moves.specs.Tabled.{keys_of}
 use Rattle.policy_steps.specs.Misses.{Leavers, no_leavers, one_leaver, leavers_for_ghost, miss_plan}
+use Rattle.policy_steps.specs.PolicyPage.{PolicyPage}
 
 -- the queues' numbers
 abbrev pub A1IN : ℕ
@@ -59,3 +60,17 @@ plan_at z c x (Some p) s =
 -- an access to k at capacity c with the sizes z; 2Q has no number of its own
 abbrev pub two_q_plan : TwoQSizes → ℕ → ℕ → ℕ → Queues → Plan
 two_q_plan z c k x s = plan_at z c x (standing (item_of k) s) s
+
+-- the policy, whatever the sizes of its parts
+abbrev pub two_q_page : TwoQSizes → PolicyPage
+two_q_page z = record {
+  State = TwoQState;
+  start = empty_two_q;
+  act = two_q_act z;
+  residents = two_q_residents;
+  IsState = IsTwoQ z;
+  view = λ x. two_q_of;
+  IsShown = λ x s. Unit {0};
+  plan = two_q_plan z;
+  resident_queues = λ x. (A1IN, Some AM);
+}

@@ -12,5 +12,4 @@ mod comers;
 mod misses;
 pub mod s3_fifo;
 pub mod sieve;
-pub mod theorems;
 pub mod two_q;

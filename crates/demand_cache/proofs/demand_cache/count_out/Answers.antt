@@ -1,9 +1,15 @@
 use Rattle.std.proofs.Common.{sym, subst}
 use Rattle.queue_table.specs.QueueTable.{queues}
 use Rattle.queue_moves.specs.Moves.{item_of}
-use Rattle.demand_cache.specs.DemandQueues.{plan_by}
+use Rattle.demand_cache.specs.DemandQueues.{plan_by, IsStateOf}
 use Rattle.demand_cache.specs.DemandCache.{IsCountedBy}
 use Rattle.demand_cache.proofs.demand_cache.count_out.Goals as goal
+
+pub step-requires-in-S3Fifo-clause-state : goal.step-requires-in-S3Fifo-clause-state
+step-requires-in-S3Fifo-clause-state g c = (subst (λ p. IsStateOf p c.args.capacity c.args.scalar (queues c.args.queues.now)) c.in-S3Fifo.is c.requires.state).1
+
+pub step-requires-in-Arc-clause-state : goal.step-requires-in-Arc-clause-state
+step-requires-in-Arc-clause-state g c = (subst (λ p. IsStateOf p c.args.capacity c.args.scalar (queues c.args.queues.now)) c.in-Arc.is c.requires.state).1
 
 pub returns-in-Ok-clause-counted : goal.returns-in-Ok-clause-counted
 returns-in-Ok-clause-counted g c =

@@ -1,6 +1,6 @@
-use Rattle.demand_cache.proofs.Keeping.{all-keep}
+use Rattle.demand_cache.proofs.Keeping.{pages-sound}
 use Rattle.demand_cache.proofs.Asking.{asks-where-one-left}
 use Rattle.demand_cache.proofs.theorems.asks_where_one_left.Goals as goal
 
 pub returns : goal.returns
-returns c = asks-where-one-left all-keep
+returns c = asks-where-one-left pages-sound

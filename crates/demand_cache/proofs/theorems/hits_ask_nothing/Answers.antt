@@ -1,5 +1,6 @@
+use Rattle.demand_cache.proofs.Keeping.{pages-sound}
 use Rattle.demand_cache.proofs.Asking.{hits-ask-nothing}
 use Rattle.demand_cache.proofs.theorems.hits_ask_nothing.Goals as goal
 
 pub returns : goal.returns
-returns c = hits-ask-nothing
+returns c = hits-ask-nothing pages-sound

@@ -7,7 +7,7 @@ use Rattle.queue_moves.specs.Lists.{lists_of}
 use Rattle.demand_cache.specs.declared.demand_cache.Counted.{Counted}
 use Rattle.demand_cache.specs.DemandQueues.{queues_residents}
 use Rattle.demand_cache.specs.DemandCache.{DemandState, IsDemand, state_of, demand_act}
-use Rattle.demand_cache.proofs.Keeping.{all-keep}
+use Rattle.demand_cache.proofs.Keeping.{pages-sound}
 use Rattle.demand_cache.proofs.Engine.{state-shown, no-resident, next-queues, act-is, accepts}
 use Rattle.demand_cache.proofs.demand_cache.DemandCache.access.Goals as goal
 
@@ -15,7 +15,7 @@ abbrev made : Counted → Moves → Accessed
 made done moves = record { outcome = done.outcome; scalar = done.scalar; moves = moves }
 
 pub count_out-requires-clause-state : goal.count_out-requires-clause-state
-count_out-requires-clause-state g c = state-shown all-keep c.self.inside.policy c.self.inside.capacity c.self.inside.scalar (queues c.self.inside.queues) c.tabled.ensures c.self.invariant.least c.self.invariant.queues
+count_out-requires-clause-state g c = state-shown pages-sound c.self.inside.policy c.self.inside.capacity c.self.inside.scalar (queues c.self.inside.queues) c.tabled.ensures c.self.invariant.least c.self.invariant.queues
 
 pub invariant_of-self : goal.invariant_of-self
 invariant_of-self g c =
@@ -25,14 +25,14 @@ pub invariant_of-self-in-Ok : goal.invariant_of-self-in-Ok
 invariant_of-self-in-Ok g c = record {
   least = c.self.invariant.least;
   most = c.self.invariant.most;
-  queues = next-queues all-keep c.self.inside.policy c.self.inside.capacity c.self.inside.scalar (queues c.self.inside.queues) c.tabled.ensures c.self.invariant.least c.self.invariant.queues c.args.key (queues c.count_out.new.queues) (made c.in-Ok.done c.in-Ok.ensures.counted.moves) c.in-Ok.ensures.counted.accessed;
+  queues = next-queues pages-sound c.self.inside.policy c.self.inside.capacity c.self.inside.scalar (queues c.self.inside.queues) c.tabled.ensures c.self.invariant.least c.self.invariant.queues c.args.key (queues c.count_out.new.queues) (made c.in-Ok.done c.in-Ok.ensures.counted.moves) c.in-Ok.ensures.counted.accessed;
   counts = (let t = c.self.invariant.counts in search rules);
 }
 
 pub returns-in-Err-clause-memory : goal.returns-in-Err-clause-memory
 returns-in-Err-clause-memory g c m =
     subst (λ (d : DemandState). has_key c.args.key (queues_residents d.queues) ≡ false) c.self.view_is
-    (no-resident all-keep c.self.inside.policy c.self.inside.capacity c.self.inside.scalar (queues c.self.inside.queues) c.tabled.ensures c.self.invariant.least c.self.invariant.queues c.args.key c.in-Err.ensures.memory)
+    (no-resident pages-sound c.self.inside.policy c.self.inside.capacity c.self.inside.scalar (queues c.self.inside.queues) c.tabled.ensures c.self.invariant.least c.self.invariant.queues c.args.key c.in-Err.ensures.memory)
 
 pub returns-in-Err-clause-err : goal.returns-in-Err-clause-err
 returns-in-Err-clause-err g c =
@@ -43,5 +43,5 @@ returns-in-Ok-clause-accepted g c =
     ap (λ d. demand_act d c.args.key) (sym c.self.view_is)
     ∙ accepts (state_of c.self.inside.policy c.self.inside.capacity c.self.inside.scalar (lists_of (queues c.self.inside.queues)) c.self.inside.stats) c.args.key
     c.in-Ok.done.outcome _ c.count.new.self c.if-self-eq-MAX_STEPS.false
-    (act-is all-keep c.self.inside.policy c.self.inside.capacity c.self.inside.scalar (queues c.self.inside.queues) c.tabled.ensures c.self.invariant.least c.self.invariant.queues c.args.key (queues c.count_out.new.queues) (made c.in-Ok.done c.in-Ok.ensures.counted.moves) c.in-Ok.ensures.counted.accessed)
+    (act-is pages-sound c.self.inside.policy c.self.inside.capacity c.self.inside.scalar (queues c.self.inside.queues) c.tabled.ensures c.self.invariant.least c.self.invariant.queues c.args.key (queues c.count_out.new.queues) (made c.in-Ok.done c.in-Ok.ensures.counted.moves) c.in-Ok.ensures.counted.accessed)
     c.count.ensures

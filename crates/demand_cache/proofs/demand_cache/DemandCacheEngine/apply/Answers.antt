@@ -4,12 +4,12 @@ use Rattle.queue_table.specs.QueueTable.{queues}
 use Rattle.queue_moves.specs.Lists.{lists_of}
 use Rattle.demand_cache.specs.DemandQueues.{queues_residents, queues_record_of}
 use Rattle.demand_cache.specs.DemandCache.{DemandState, IsDemand, state_of, demand_act, demand_record_of}
-use Rattle.demand_cache.proofs.Keeping.{all-keep}
+use Rattle.demand_cache.proofs.Keeping.{pages-sound}
 use Rattle.demand_cache.proofs.Engine.{state-shown, no-resident, next-queues, act-is, record-is, undone-is, record-fits, accepts}
 use Rattle.demand_cache.proofs.demand_cache.DemandCacheEngine.apply.Goals as goal
 
 pub carry_out-requires-clause-state : goal.carry_out-requires-clause-state
-carry_out-requires-clause-state c = state-shown all-keep c.self.inside.policy c.self.inside.capacity c.self.inside.scalar (queues c.self.inside.queues) c.tabled.ensures c.self.invariant.least c.self.invariant.queues
+carry_out-requires-clause-state c = state-shown pages-sound c.self.inside.policy c.self.inside.capacity c.self.inside.scalar (queues c.self.inside.queues) c.tabled.ensures c.self.invariant.least c.self.invariant.queues
 
 pub invariant_of-self : goal.invariant_of-self
 invariant_of-self c =
@@ -19,14 +19,14 @@ pub invariant_of-self-in-Ok : goal.invariant_of-self-in-Ok
 invariant_of-self-in-Ok c = record {
   least = c.self.invariant.least;
   most = c.self.invariant.most;
-  queues = next-queues all-keep c.self.inside.policy c.self.inside.capacity c.self.inside.scalar (queues c.self.inside.queues) c.tabled.ensures c.self.invariant.least c.self.invariant.queues c.args.step.now (queues c.carry_out.new.queues) c.in-Ok.done c.in-Ok.ensures.accessed;
+  queues = next-queues pages-sound c.self.inside.policy c.self.inside.capacity c.self.inside.scalar (queues c.self.inside.queues) c.tabled.ensures c.self.invariant.least c.self.invariant.queues c.args.step.now (queues c.carry_out.new.queues) c.in-Ok.done c.in-Ok.ensures.accessed;
   counts = (let t = c.self.invariant.counts in search rules);
 }
 
 pub returns-in-Err-clause-memory : goal.returns-in-Err-clause-memory
 returns-in-Err-clause-memory c m =
     subst (λ (d : DemandState). has_key c.args.step.now (queues_residents d.queues) ≡ false) c.self.view_is
-    (no-resident all-keep c.self.inside.policy c.self.inside.capacity c.self.inside.scalar (queues c.self.inside.queues) c.tabled.ensures c.self.invariant.least c.self.invariant.queues c.args.step.now c.in-Err.ensures.memory)
+    (no-resident pages-sound c.self.inside.policy c.self.inside.capacity c.self.inside.scalar (queues c.self.inside.queues) c.tabled.ensures c.self.invariant.least c.self.invariant.queues c.args.step.now c.in-Err.ensures.memory)
 
 pub returns-in-Err-clause-err : goal.returns-in-Err-clause-err
 returns-in-Err-clause-err c =
@@ -37,25 +37,25 @@ returns-in-Ok-clause-accepted c =
     ap (λ d. demand_act d c.args.step.now) (sym c.self.view_is)
     ∙ accepts (state_of c.self.inside.policy c.self.inside.capacity c.self.inside.scalar (lists_of (queues c.self.inside.queues)) c.self.inside.stats) c.args.step.now
     c.in-Ok.done.outcome _ c.count.new.self c.if-self-eq-MAX_STEPS.false
-    (act-is all-keep c.self.inside.policy c.self.inside.capacity c.self.inside.scalar (queues c.self.inside.queues) c.tabled.ensures c.self.invariant.least c.self.invariant.queues c.args.step.now (queues c.carry_out.new.queues) c.in-Ok.done c.in-Ok.ensures.accessed)
+    (act-is pages-sound c.self.inside.policy c.self.inside.capacity c.self.inside.scalar (queues c.self.inside.queues) c.tabled.ensures c.self.invariant.least c.self.invariant.queues c.args.step.now (queues c.carry_out.new.queues) c.in-Ok.done c.in-Ok.ensures.accessed)
     c.count.ensures
 
 pub returns-in-Ok-clause-record_is : goal.returns-in-Ok-clause-record_is
 returns-in-Ok-clause-record_is c =
-    let a = act-is all-keep c.self.inside.policy c.self.inside.capacity c.self.inside.scalar (queues c.self.inside.queues) c.tabled.ensures c.self.invariant.least c.self.invariant.queues c.args.step.now (queues c.carry_out.new.queues) c.in-Ok.done c.in-Ok.ensures.accessed in
-    let m = record-is all-keep c.self.inside.policy c.self.inside.capacity c.self.inside.scalar (queues c.self.inside.queues) c.tabled.ensures c.self.invariant.least c.self.invariant.queues c.args.step.now (queues c.carry_out.new.queues) c.in-Ok.done c.in-Ok.ensures.accessed in
+    let a = act-is pages-sound c.self.inside.policy c.self.inside.capacity c.self.inside.scalar (queues c.self.inside.queues) c.tabled.ensures c.self.invariant.least c.self.invariant.queues c.args.step.now (queues c.carry_out.new.queues) c.in-Ok.done c.in-Ok.ensures.accessed in
+    let m = record-is pages-sound c.self.inside.policy c.self.inside.capacity c.self.inside.scalar (queues c.self.inside.queues) c.tabled.ensures c.self.invariant.least c.self.invariant.queues c.args.step.now (queues c.carry_out.new.queues) c.in-Ok.done c.in-Ok.ensures.accessed in
     ap (λ y. record { moves = y; outcome = c.in-Ok.done.outcome }) m
     ∙ ap (λ v. record { moves = queues_record_of c.args.step.now (state_of c.self.inside.policy c.self.inside.capacity c.self.inside.scalar (lists_of (queues c.self.inside.queues)) c.self.inside.stats).queues; outcome = v.0 }) (sym a)
     ∙ ap (demand_record_of c.args.step.now) c.self.view_is
 
 pub returns-in-Ok-clause-fits : goal.returns-in-Ok-clause-fits
 returns-in-Ok-clause-fits c = record {
-  queues = record-fits all-keep c.self.inside.policy c.self.inside.capacity c.self.inside.scalar (queues c.self.inside.queues) c.tabled.ensures c.self.invariant.least c.self.invariant.queues c.args.step.now (queues c.carry_out.new.queues) c.in-Ok.done c.in-Ok.ensures.accessed;
+  queues = record-fits pages-sound c.self.inside.policy c.self.inside.capacity c.self.inside.scalar (queues c.self.inside.queues) c.tabled.ensures c.self.invariant.least c.self.invariant.queues c.args.step.now (queues c.carry_out.new.queues) c.in-Ok.done c.in-Ok.ensures.accessed;
   counted = (let t = c.self.invariant.counts in search rules);
   counts = (let t = c.self.invariant.counts in search rules);
 }
 
 pub returns-in-Ok-clause-undone : goal.returns-in-Ok-clause-undone
 returns-in-Ok-clause-undone c =
-    let u = undone-is all-keep c.self.inside.policy c.self.inside.capacity c.self.inside.scalar (queues c.self.inside.queues) c.tabled.ensures c.self.invariant.least c.self.invariant.queues c.args.step.now (queues c.carry_out.new.queues) c.in-Ok.done c.in-Ok.ensures.accessed in
+    let u = undone-is pages-sound c.self.inside.policy c.self.inside.capacity c.self.inside.scalar (queues c.self.inside.queues) c.tabled.ensures c.self.invariant.least c.self.invariant.queues c.args.step.now (queues c.carry_out.new.queues) c.in-Ok.done c.in-Ok.ensures.accessed in
     search (rules, u)
