@@ -17,7 +17,7 @@ use Rattle.queue_moves.proofs.Lists.{lists-shown}
 use Rattle.queue_moves.proofs.Tabled.{tabled-all}
 use Rattle.demand_cache.specs.declared.demand_policy.DemandPolicy.{DemandPolicy}
 use Rattle.demand_cache.specs.DemandQueues.{DemandQueues, plan_by, residents_by, queues_residents, IsStateOf, IsQueues, QueuesFits, queues_act, queues_record_of, queues_undone}
-use Rattle.demand_cache.specs.DemandCache.{DemandState, state_with, demand_act}
+use Rattle.demand_cache.specs.DemandCache.{DemandState, state_with, demand_act, IsCountedBy}
 use Rattle.demand_cache.specs.Theorems.{PagesAreSound}
 use Rattle.demand_cache.proofs.Keeping.{IsKept, kept, is-cache, cache_of}
 
@@ -33,23 +33,36 @@ module _ (all : PagesAreSound) (p : DemandPolicy) (c x : ℕ) (s : Queues) (t : 
     pub no-resident : (plan_by p c k x s).hits ≡ false → has_key k (queues_residents (cache_of p c x s)) ≡ false
     no-resident m = ap (λ v. has_key k (residents_by p x v)) (lists-shown s t) ∙ sym what.hits ∙ m
 
-    module _ (u : Queues) (r : Accessed) (a : IsAccessed (plan_by p c k x s) (item_of k) x s u r) where
-      next-tabled : IsTabled u
-      next-tabled = subst IsTabled (sym a.carried.after) (tabled-all s t (plan_by p c k x s) what.low k)
+    module _ (u : Queues) (o : Outcome) (y : ℕ) (a : IsCountedBy (plan_by p c k x s) (item_of k) s u o y) where
+      after-tabled : IsTabled u
+      after-tabled = subst IsTabled (sym a.after) (tabled-all s t (plan_by p c k x s) what.low k)
 
-      pub next-queues : IsQueues c (cache_of p c r.scalar u)
-      next-queues = is-cache p c r.scalar u h next-tabled
-          (subst (λ y. IsStateOf p c y u) (sym a.scalar) (subst (IsStateOf p c (plan_by p c k x s).scalar) (sym a.carried.after) what.state))
+      pub next-queues : IsQueues c (cache_of p c y u)
+      next-queues = is-cache p c y u h after-tabled
+          (subst (λ y. IsStateOf p c y u) (sym a.scalar) (subst (IsStateOf p c (plan_by p c k x s).scalar) (sym a.after) what.state))
 
       abbrev act_on : Queues → Outcome × DemandQueues
       act_on v = (outcome_of (plan_by p c k x v) v, cache_of p c (plan_by p c k x v).scalar (after_all (plan_by p c k x v) (item_of k) v))
 
-      pub act-is : queues_act k (cache_of p c x s) ≡ (r.outcome, cache_of p c r.scalar u)
+      pub act-is : queues_act k (cache_of p c x s) ≡ (o, cache_of p c y u)
       act-is =
           ap act_on (lists-shown s t)
           ∙ ap (λ o. (o, cache_of p c (plan_by p c k x s).scalar (after_all (plan_by p c k x s) (item_of k) s))) (sym a.outcome)
-          ∙ ap (λ y. (r.outcome, cache_of p c y (after_all (plan_by p c k x s) (item_of k) s))) (sym a.scalar)
-          ∙ ap (λ v. (r.outcome, cache_of p c r.scalar v)) (sym a.carried.after)
+          ∙ ap (λ y. (o, cache_of p c y (after_all (plan_by p c k x s) (item_of k) s))) (sym a.scalar)
+          ∙ ap (λ v. (o, cache_of p c y v)) (sym a.after)
+
+    module _ (u : Queues) (r : Accessed) (a : IsAccessed (plan_by p c k x s) (item_of k) x s u r) where
+      counted : IsCountedBy (plan_by p c k x s) (item_of k) s u r.outcome r.scalar
+      counted = record { outcome = a.outcome; scalar = a.scalar; after = a.carried.after }
+
+      pub queues-recorded : IsQueues c (cache_of p c r.scalar u)
+      queues-recorded = next-queues u r.outcome r.scalar counted
+
+      pub act-recorded : queues_act k (cache_of p c x s) ≡ (r.outcome, cache_of p c r.scalar u)
+      act-recorded = act-is u r.outcome r.scalar counted
+
+      next-tabled : IsTabled u
+      next-tabled = after-tabled u r.outcome r.scalar counted
 
       pub record-is : r.moves ≡ queues_record_of k (cache_of p c x s)
       record-is = a.carried.is ∙ sym (ap (λ v. record_of (plan_by p c k x v) (item_of k) x v) (lists-shown s t))

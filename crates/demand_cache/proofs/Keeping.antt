@@ -100,10 +100,10 @@ demand-keeps all p c h = record {
 
 -- ---- the residents, by the queues in which they stand
 
-pub residents-shown : (d : DemandQueues) (s : Queues) (r : ℕ × Option ℕ) → queues_of d ≡ s → r ≡ (page_of d.policy).resident_queues d.scalar
-    → queues_residents d ≡ keys_with (keys_of (s r.0)) r.1 s
-residents-shown d s r e h =
-    ap (residents_by d.policy d.scalar) e ∙ (pages-sound d.policy).residents d.scalar s ∙ ap (λ q. keys_with (keys_of (s q.0)) q.1 s) (sym h)
+pub residents-shown : (p : DemandPolicy) (c x : ℕ) (s : Queues) → IsTabled s → (r : ℕ × Option ℕ) → r ≡ (page_of p).resident_queues x
+    → queues_residents (cache_of p c x s) ≡ keys_with (keys_of (s r.0)) r.1 s
+residents-shown p c x s t r h =
+    ap (residents_by p x) (lists-shown s t) ∙ (pages-sound p).residents x s ∙ ap (λ q. keys_with (keys_of (s q.0)) q.1 s) (sym h)
 
 -- ---- the outcomes are those of the definition
 

@@ -8,9 +8,7 @@ use Rattle.step_record.specs.Stats.{stats_with, stats_without, IsCounted, IsTall
 use Rattle.step_record.specs.declared.item.Item.{Item}
 use Rattle.step_record.specs.Limited.{limited}
 use Rattle.queue_table.specs.Queues.{Queues}
-use Rattle.queue_moves.specs.declared.records.Moves.{Moves}
-use Rattle.queue_moves.specs.Moves.{Plan}
-use Rattle.queue_moves.specs.Undoing.{IsAccessed}
+use Rattle.queue_moves.specs.Moves.{Plan, outcome_of, after_all}
 use Rattle.queue_moves.specs.Lists.{QueueLists}
 use Rattle.demand_cache.specs.declared.demand_cache.DemandRecord.{DemandRecord}
 use Rattle.demand_cache.specs.declared.demand_policy.DemandPolicy.{DemandPolicy}
@@ -62,10 +60,11 @@ pub record IsDemand (d : DemandState) : Type 0 where
   pub queues : IsQueues d.queues.capacity d.queues
   pub counts : IsTally d.stats
 
--- an access by the plan, of which the outcome o and the policy's number y are read, and not its record
-pub record IsCountedBy (p : Plan) (i : Item) (x : ℕ) (s u : Queues) (o : Outcome) (y : ℕ) : Type 0 where
-  pub moves : Moves
-  pub accessed : IsAccessed p i x s u (record { outcome = o; scalar = y; moves = moves })
+-- an access to i by the plan, of which the outcome o and the policy's number y are read, and not its record
+pub record IsCountedBy (p : Plan) (i : Item) (s u : Queues) (o : Outcome) (y : ℕ) : Type 0 where
+  pub outcome : o ≡ outcome_of p s
+  pub scalar : y ≡ p.scalar
+  pub after : u ≡ after_all p i s
 
 -- the record is that of the last access: its outcome was counted last
 pub record DemandFits (r : DemandRecord) (d : DemandState) : Type 0 where

@@ -1,18 +1,12 @@
 //! The engine: a cache whose accesses are counted and can be undone.
-ghost use Rattle.std.specs.Prelude.{◌≡◌, ◌+◌, ℕ, ◌≤◌, ◌<◌, ◌↔◌, ◌++◌, false, [], length, Err, Some, None, IfOk, OnOk, OnErr, IfSome};
+ghost use Rattle.std.specs.Prelude.{◌≡◌, ◌+◌, ◌≤◌, ◌↔◌, ◌++◌, [], length, Err, Some, None, IfOk, OnOk, OnErr};
 ghost use Rattle.step_record.specs.declared.limits.TheConstants.{MAX_CAPACITY};
 ghost use Rattle.step_record.specs.Stats.{stats_of};
 ghost use Rattle.queue_table.specs.QueueTable.{queues as queues_at};
-ghost use Rattle.queue_moves.specs.Undoing.{IsAccessed};
-ghost use Rattle.demand_cache.specs.DemandQueues.{page_of, empty_cache, queues_residents, plan_by, IsStateOf};
-ghost use Rattle.demand_cache.specs.DemandCache.{IsCountedBy};
-ghost use Rattle.step_record.specs.declared.item.Item.{Item};
-ghost use Rattle.queue_table.specs.Queues.{QUEUES, Queues};
-ghost use Rattle.queue_moves.specs.Moves.{Plan, item_of};
+ghost use Rattle.demand_cache.specs.DemandQueues.{empty_cache, queues_residents};
 
 use crate::demand_policy::DemandPolicy;
-use policy_steps::{arc, clock, s3_fifo, sieve, two_q};
-use queue_moves::{Accessed, KeyQueues, Moves};
+use queue_moves::{KeyQueues, Moves};
 use std::alloc::{AllocError, Global};
 use std::marker::Model;
 use step_record::{Engine, Key, MAX_STEPS, Outcome, Stats, StepFault};
@@ -63,7 +57,7 @@ impl DemandCache {
             policy,
             capacity,
             scalar: 0,
-            queues: KeyQueues::for_items(alloc, keys_in(policy, capacity)),
+            queues: KeyQueues::for_items(alloc, policy.keys_in(capacity)),
             stats: Stats::NONE,
         }
     }
@@ -97,13 +91,10 @@ impl DemandCache {
             return Err(StepFault::NotNow);
         }
         self.queues.tabled();
-        match count_out::<C>(
-            self.policy,
-            &mut self.queues,
-            self.capacity,
-            self.scalar,
-            key,
-        ) {
+        match self
+            .policy
+            .count_out::<C>(&mut self.queues, self.capacity, self.scalar, key)
+        {
             Err(_) => Err(StepFault::OutOfMemory),
             Ok(done) => {
                 self.scalar = done.scalar;
@@ -134,28 +125,11 @@ impl DemandCache {
         ensures { OnOk result (keys.new.items ≡ keys.old.items ++ queues_residents self.now.queues) }
     {
         self.queues.tabled();
-        let (first, second) = self.resident_queues();
+        let (first, second) = self.policy.resident_queues(self.scalar);
         self.queues.add_keys(first, keys)?;
         match second {
             Some(second) => self.queues.add_keys(second, keys),
             None => Ok(()),
-        }
-    }
-
-    // The queues of the resident keys.
-    fn resident_queues(&self) -> (u8, Option<u8>)
-        ensures is { result ≡ (page_of self.now.queues.policy).resident_queues self.now.queues.scalar }
-        ensures first { result.0 < QUEUES }
-        ensures second { IfSome result.1 (λ q. q < QUEUES) }
-    {
-        match self.policy {
-            DemandPolicy::Clock => (0, None),
-            DemandPolicy::Sieve => {
-                let ahead = self.scalar as u8;
-                (1 - ahead, Some(ahead))
-            }
-            DemandPolicy::S3Fifo(_) | DemandPolicy::Arc => (0, Some(1)),
-            DemandPolicy::TwoQ(_) => (0, Some(2)),
         }
     }
 }
@@ -200,13 +174,10 @@ impl Engine for DemandCache {
             return Err(StepFault::NotNow);
         }
         self.queues.tabled();
-        match carry_out(
-            self.policy,
-            &mut self.queues,
-            self.capacity,
-            self.scalar,
-            *step,
-        ) {
+        match self
+            .policy
+            .step(&mut self.queues, self.capacity, self.scalar, *step)
+        {
             Err(_) => Err(StepFault::OutOfMemory),
             Ok(done) => {
                 self.scalar = done.scalar;
@@ -246,108 +217,4 @@ impl Engine for DemandCache {
     ghost counted_out = { ended demand_count demand_access };
 
     ghost paced = { λ d s r e h. still-paced };
-}
-
-// What is read of an access that is not to be undone.
-#[derive(Clone, Copy)]
-struct Counted {
-    outcome: Outcome,
-    scalar: u32,
-}
-
-#[inline(always)]
-fn without_record(done: Accessed) -> Counted
-    ensures { (p : Plan) (i : Item) (x : ℕ) (s u : Queues) → IsAccessed p i x s u done
-        → IsCountedBy p i x s u result.outcome result.scalar }
-{
-    Counted {
-        outcome: done.outcome,
-        scalar: done.scalar,
-    }
-}
-
-// How many keys a full cache has in its queues at most, those that a ghost remembers among them: the index is made for so
-// many, so that it is not rebuilt while the queues fill.
-fn keys_in(policy: DemandPolicy, capacity: u32) -> u32
-    requires { capacity ≤ MAX_CAPACITY }
-    ensures { capacity ≤ result }
-{
-    match policy {
-        DemandPolicy::Clock | DemandPolicy::Sieve => capacity,
-        DemandPolicy::S3Fifo(_) | DemandPolicy::TwoQ(_) | DemandPolicy::Arc => 2 * capacity,
-    }
-}
-
-// The step of the policy, without its record. Each policy's is read where it was made: read after the `match`, they would
-// all be made.
-#[inline(always)]
-fn count_out<C>(
-    policy: DemandPolicy,
-    queues: &mut KeyQueues,
-    capacity: u32,
-    scalar: u32,
-    key: Key,
-) -> Result<Counted, AllocError>
-    requires least { 1 ≤ capacity }
-    requires most { capacity ≤ MAX_CAPACITY }
-    requires state { IsStateOf policy capacity scalar (queues_at queues.old) }
-    ensures counted { IfOk result (λ c. IsCountedBy (plan_by policy capacity key scalar (queues_at queues.old)) (item_of key)
-        scalar (queues_at queues.old) (queues_at queues.new) c.outcome c.scalar) }
-    ensures memory { OnErr result ((plan_by policy capacity key scalar (queues_at queues.old)).hits ≡ false) }
-    ensures err { OnErr result (queues_at queues.new ≡ queues_at queues.old) }
-{
-    match policy {
-        DemandPolicy::Clock => match clock::step::<C>(queues, capacity, scalar, key) {
-            Ok(done) => Ok(without_record(done)),
-            Err(fault) => Err(fault),
-        },
-        DemandPolicy::Sieve => match sieve::step::<C>(queues, capacity, scalar, key) {
-            Ok(done) => Ok(without_record(done)),
-            Err(fault) => Err(fault),
-        },
-        DemandPolicy::S3Fifo(part) => match s3_fifo::step::<C>(
-            queues, part, capacity, scalar, key,
-        ) {
-            Ok(done) => Ok(without_record(done)),
-            Err(fault) => Err(fault),
-        },
-        DemandPolicy::TwoQ(sizes) => match two_q::step::<C>(queues, sizes, capacity, scalar, key) {
-            Ok(done) => Ok(without_record(done)),
-            Err(fault) => Err(fault),
-        },
-        DemandPolicy::Arc => match arc::step::<C>(queues, capacity, scalar, key) {
-            Ok(done) => Ok(without_record(done)),
-            Err(fault) => Err(fault),
-        },
-    }
-}
-
-// The step of the policy.
-#[inline(always)]
-fn carry_out(
-    policy: DemandPolicy,
-    queues: &mut KeyQueues,
-    capacity: u32,
-    scalar: u32,
-    key: Key,
-) -> Result<Accessed, AllocError>
-    requires least { 1 ≤ capacity }
-    requires most { capacity ≤ MAX_CAPACITY }
-    requires state { IsStateOf policy capacity scalar (queues_at queues.old) }
-    ensures accessed { IfOk result (λ a. IsAccessed (plan_by policy capacity key scalar (queues_at queues.old)) (item_of key)
-        scalar (queues_at queues.old) (queues_at queues.new) a) }
-    ensures memory { OnErr result ((plan_by policy capacity key scalar (queues_at queues.old)).hits ≡ false) }
-    ensures err { OnErr result (queues_at queues.new ≡ queues_at queues.old) }
-{
-    match policy {
-        DemandPolicy::Clock => clock::step::<DemandRecord>(queues, capacity, scalar, key),
-        DemandPolicy::Sieve => sieve::step::<DemandRecord>(queues, capacity, scalar, key),
-        DemandPolicy::S3Fifo(part) => s3_fifo::step::<DemandRecord>(
-            queues, part, capacity, scalar, key,
-        ),
-        DemandPolicy::TwoQ(sizes) => two_q::step::<DemandRecord>(
-            queues, sizes, capacity, scalar, key,
-        ),
-        DemandPolicy::Arc => arc::step::<DemandRecord>(queues, capacity, scalar, key),
-    }
 }

@@ -1,5 +1,18 @@
-//! The policies that keep each missed key.
+//! The policies that keep each missed key: all that names one of them in code.
+ghost use Rattle.std.specs.Prelude.{◌≡◌, ◌≤◌, ◌<◌, false, IfOk, OnErr, IfSome};
+ghost use Rattle.step_record.specs.declared.limits.TheConstants.{MAX_CAPACITY};
+ghost use Rattle.queue_table.specs.QueueTable.{queues as queues_at};
+ghost use Rattle.queue_table.specs.Queues.{QUEUES, Queues};
+ghost use Rattle.queue_moves.specs.Moves.{item_of};
+ghost use Rattle.queue_moves.specs.Undoing.{IsAccessed};
+ghost use Rattle.demand_cache.specs.DemandQueues.{page_of, plan_by};
+ghost use Rattle.demand_cache.specs.DemandCache.{IsCountedBy};
+
 use ghost_policies::TwoQSizes;
+use policy_steps::{arc, clock, s3_fifo, sieve, two_q};
+use queue_moves::{Accessed, KeyQueues};
+use std::alloc::AllocError;
+use step_record::{Key, Outcome};
 
 /// A policy that keeps each missed key, with the sizes of its parts where they are a choice. Any sizes will do.
 #[derive(Clone, Copy, Debug, PartialEq, Eq)]
@@ -14,4 +27,136 @@ pub enum DemandPolicy {
     TwoQ(TwoQSizes),
     /// Recency beside frequency, each with a ghost, and a target that adapts (FAST 2003).
     Arc,
+}
+
+/// What is read of an access that is not to be undone.
+#[derive(Clone, Copy)]
+pub(crate) struct Counted {
+    pub outcome: Outcome,
+    /// The policy's own number after it.
+    pub scalar: u32,
+}
+
+impl DemandPolicy {
+    /// The queues in which the resident keys stand, where this is the policy's own number, with which some queues show a
+    /// state.
+    pub(crate) fn resident_queues(self, scalar: u32) -> (u8, Option<u8>)
+        requires { (s : Queues) × (page_of self).IsShown scalar s }
+        ensures is { result ≡ (page_of self).resident_queues scalar }
+        ensures first { result.0 < QUEUES }
+        ensures second { IfSome result.1 (λ q. q < QUEUES) }
+    {
+        match self {
+            DemandPolicy::Clock => (0, None),
+            DemandPolicy::Sieve => {
+                let ahead = scalar as u8;
+                (1 - ahead, Some(ahead))
+            }
+            DemandPolicy::S3Fifo(_) | DemandPolicy::Arc => (0, Some(1)),
+            DemandPolicy::TwoQ(_) => (0, Some(2)),
+        }
+    }
+
+    /// How many keys a full cache has in its queues at most, those that a ghost remembers among them: the index is made
+    /// for so many, so that it is not rebuilt while the queues fill.
+    pub(crate) fn keys_in(self, capacity: u32) -> u32
+        requires { capacity ≤ MAX_CAPACITY }
+        ensures { capacity ≤ result }
+    {
+        match self {
+            DemandPolicy::Clock | DemandPolicy::Sieve => capacity,
+            DemandPolicy::S3Fifo(_) | DemandPolicy::TwoQ(_) | DemandPolicy::Arc => 2 * capacity,
+        }
+    }
+
+    /// The step of the policy, without its record. Each policy's is read where it was made: read after the `match`, they
+    /// would all be made.
+    ///
+    /// `C` selects an instance: one that is called at a single place becomes part of its caller.
+    #[inline(always)]
+    pub(crate) fn count_out<C>(
+        self,
+        queues: &mut KeyQueues,
+        capacity: u32,
+        scalar: u32,
+        key: Key,
+    ) -> Result<Counted, AllocError>
+        requires least { 1 ≤ capacity }
+        requires most { capacity ≤ MAX_CAPACITY }
+        requires shown { (page_of self).IsShown scalar (queues_at queues.old) }
+        requires state { (page_of self).IsState capacity ((page_of self).view scalar (queues_at queues.old)) }
+        ensures counted { IfOk result (λ c. IsCountedBy (plan_by self capacity key scalar (queues_at queues.old))
+            (item_of key) (queues_at queues.old) (queues_at queues.new) c.outcome c.scalar) }
+        ensures memory { OnErr result ((plan_by self capacity key scalar (queues_at queues.old)).hits ≡ false) }
+        ensures err { OnErr result (queues_at queues.new ≡ queues_at queues.old) }
+    {
+        match self {
+            DemandPolicy::Clock => match clock::step::<C>(queues, capacity, scalar, key) {
+                Ok(done) => Ok(without_record(done)),
+                Err(fault) => Err(fault),
+            },
+            DemandPolicy::Sieve => match sieve::step::<C>(queues, capacity, scalar, key) {
+                Ok(done) => Ok(without_record(done)),
+                Err(fault) => Err(fault),
+            },
+            DemandPolicy::S3Fifo(part) => match s3_fifo::step::<C>(
+                queues, part, capacity, scalar, key,
+            ) {
+                Ok(done) => Ok(without_record(done)),
+                Err(fault) => Err(fault),
+            },
+            DemandPolicy::TwoQ(sizes) => match two_q::step::<C>(
+                queues, sizes, capacity, scalar, key,
+            ) {
+                Ok(done) => Ok(without_record(done)),
+                Err(fault) => Err(fault),
+            },
+            DemandPolicy::Arc => match arc::step::<C>(queues, capacity, scalar, key) {
+                Ok(done) => Ok(without_record(done)),
+                Err(fault) => Err(fault),
+            },
+        }
+    }
+
+    /// The step of the policy.
+    #[inline(always)]
+    pub(crate) fn step(
+        self,
+        queues: &mut KeyQueues,
+        capacity: u32,
+        scalar: u32,
+        key: Key,
+    ) -> Result<Accessed, AllocError>
+        requires least { 1 ≤ capacity }
+        requires most { capacity ≤ MAX_CAPACITY }
+        requires shown { (page_of self).IsShown scalar (queues_at queues.old) }
+        requires state { (page_of self).IsState capacity ((page_of self).view scalar (queues_at queues.old)) }
+        ensures accessed { IfOk result (λ a. IsAccessed (plan_by self capacity key scalar (queues_at queues.old))
+            (item_of key) scalar (queues_at queues.old) (queues_at queues.new) a) }
+        ensures memory { OnErr result ((plan_by self capacity key scalar (queues_at queues.old)).hits ≡ false) }
+        ensures err { OnErr result (queues_at queues.new ≡ queues_at queues.old) }
+    {
+        match self {
+            DemandPolicy::Clock => clock::step::<Accessed>(queues, capacity, scalar, key),
+            DemandPolicy::Sieve => sieve::step::<Accessed>(queues, capacity, scalar, key),
+            DemandPolicy::S3Fifo(part) => s3_fifo::step::<Accessed>(
+                queues, part, capacity, scalar, key,
+            ),
+            DemandPolicy::TwoQ(sizes) => two_q::step::<Accessed>(
+                queues, sizes, capacity, scalar, key,
+            ),
+            DemandPolicy::Arc => arc::step::<Accessed>(queues, capacity, scalar, key),
+        }
+    }
+}
+
+#[inline(always)]
+fn without_record(done: Accessed) -> Counted
+    ensures outcome { result.outcome ≡ done.outcome }
+    ensures scalar { result.scalar ≡ done.scalar }
+{
+    Counted {
+        outcome: done.outcome,
+        scalar: done.scalar,
+    }
 }

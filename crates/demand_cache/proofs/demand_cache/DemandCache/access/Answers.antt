@@ -1,21 +1,18 @@
 use Rattle.std.proofs.Common.{◌≡◌, ◌∙◌, false, rules, ap, sym, subst}
 use Rattle.step_record.specs.Keys.{has_key}
 use Rattle.queue_table.specs.QueueTable.{queues}
-use Rattle.queue_moves.specs.declared.records.Moves.{Moves}
-use Rattle.queue_moves.specs.declared.records.Accessed.{Accessed}
 use Rattle.queue_moves.specs.Lists.{lists_of}
-use Rattle.demand_cache.specs.declared.demand_cache.Counted.{Counted}
 use Rattle.demand_cache.specs.DemandQueues.{queues_residents}
 use Rattle.demand_cache.specs.DemandCache.{DemandState, IsDemand, state_of, demand_act}
 use Rattle.demand_cache.proofs.Keeping.{pages-sound}
 use Rattle.demand_cache.proofs.Engine.{state-shown, no-resident, next-queues, act-is, accepts}
 use Rattle.demand_cache.proofs.demand_cache.DemandCache.access.Goals as goal
 
-abbrev made : Counted → Moves → Accessed
-made done moves = record { outcome = done.outcome; scalar = done.scalar; moves = moves }
+pub count_out-requires-clause-shown : goal.count_out-requires-clause-shown
+count_out-requires-clause-shown g c = (state-shown pages-sound c.self.inside.policy c.self.inside.capacity c.self.inside.scalar (queues c.self.inside.queues) c.tabled.ensures c.self.invariant.least c.self.invariant.queues).0
 
 pub count_out-requires-clause-state : goal.count_out-requires-clause-state
-count_out-requires-clause-state g c = state-shown pages-sound c.self.inside.policy c.self.inside.capacity c.self.inside.scalar (queues c.self.inside.queues) c.tabled.ensures c.self.invariant.least c.self.invariant.queues
+count_out-requires-clause-state g c = (state-shown pages-sound c.self.inside.policy c.self.inside.capacity c.self.inside.scalar (queues c.self.inside.queues) c.tabled.ensures c.self.invariant.least c.self.invariant.queues).1
 
 pub invariant_of-self : goal.invariant_of-self
 invariant_of-self g c =
@@ -25,7 +22,7 @@ pub invariant_of-self-in-Ok : goal.invariant_of-self-in-Ok
 invariant_of-self-in-Ok g c = record {
   least = c.self.invariant.least;
   most = c.self.invariant.most;
-  queues = next-queues pages-sound c.self.inside.policy c.self.inside.capacity c.self.inside.scalar (queues c.self.inside.queues) c.tabled.ensures c.self.invariant.least c.self.invariant.queues c.args.key (queues c.count_out.new.queues) (made c.in-Ok.done c.in-Ok.ensures.counted.moves) c.in-Ok.ensures.counted.accessed;
+  queues = next-queues pages-sound c.self.inside.policy c.self.inside.capacity c.self.inside.scalar (queues c.self.inside.queues) c.tabled.ensures c.self.invariant.least c.self.invariant.queues c.args.key (queues c.count_out.new.queues) c.in-Ok.done.outcome c.in-Ok.done.scalar c.in-Ok.ensures.counted;
   counts = (let t = c.self.invariant.counts in search rules);
 }
 
@@ -43,5 +40,5 @@ returns-in-Ok-clause-accepted g c =
     ap (λ d. demand_act d c.args.key) (sym c.self.view_is)
     ∙ accepts (state_of c.self.inside.policy c.self.inside.capacity c.self.inside.scalar (lists_of (queues c.self.inside.queues)) c.self.inside.stats) c.args.key
     c.in-Ok.done.outcome _ c.count.new.self c.if-self-eq-MAX_STEPS.false
-    (act-is pages-sound c.self.inside.policy c.self.inside.capacity c.self.inside.scalar (queues c.self.inside.queues) c.tabled.ensures c.self.invariant.least c.self.invariant.queues c.args.key (queues c.count_out.new.queues) (made c.in-Ok.done c.in-Ok.ensures.counted.moves) c.in-Ok.ensures.counted.accessed)
+    (act-is pages-sound c.self.inside.policy c.self.inside.capacity c.self.inside.scalar (queues c.self.inside.queues) c.tabled.ensures c.self.invariant.least c.self.invariant.queues c.args.key (queues c.count_out.new.queues) c.in-Ok.done.outcome c.in-Ok.done.scalar c.in-Ok.ensures.counted)
     c.count.ensures
