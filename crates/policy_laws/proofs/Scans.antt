@@ -21,7 +21,6 @@ use Rattle.replacement.specs.Table.{Response, response_with_victim, response_wit
 use Rattle.replacement.proofs.Planned.{access-at}
 use Rattle.replacement.proofs.Balance.{stands-once}
 use Rattle.replacement.proofs.Residents.{resident-queued}
-use Rattle.replacement.proofs.Residents.{resident-queued}
 use Rattle.queue_cache.specs.Design.{design_of, rules_in, rules_of}
 use Rattle.queue_cache.specs.QueueCache.{QueueState, frequency_after, state_after}
 use Rattle.queue_cache.proofs.Reached.{after-job, after-snoc}

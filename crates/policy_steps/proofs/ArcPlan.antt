@@ -1,6 +1,6 @@
 -- ARC's plan is its definition.
 use Rattle.std.proofs.Common.{◌≡◌, ℕ, zero, suc, ◌+◌, ◌-◌, ◌*◌, ◌<◌, ◌≤◌, min, Bool, true, false, cond, eqb, ◌||◌, Option, Some, None, List, [], ◌∷◌, ◌++◌, length, take, drop, append-nil, ap, ◌∙◌, sym, subst, refl, arith, inl, inr, nat_lt, ◌⊎◌, ◌==◌, length-append}
-use Rattle.std.proofs.lemmas.Bool.{eq-eqb, ne_eqb, lt-ltb, le-ltb, cond-false, cases_Bool, cases_lt, eqb-true, ltb-false, cases_eq}
+use Rattle.std.proofs.lemmas.Bool.{eq-eqb, ne_eqb, lt-ltb, le-ltb, cases_Bool, cases_lt, eqb-true, ltb-false}
 use Rattle.step_record.specs.Keys.{has_key, keys_without}
 use Rattle.step_record.specs.declared.outcome.Outcome.{Outcome}
 use Rattle.step_record.specs.declared.outcome.Outcome.TheVariants.{Hit, Kept, Evicted}
@@ -24,10 +24,10 @@ use Rattle.policy_steps.specs.Planned.{IsPlannedBy}
 use Rattle.policy_steps.specs.Misses.{Leavers, no_leavers, miss_plan}
 use Rattle.policy_steps.specs.Arc.{T1, T2, B1, B2, arc_of, total, step_size, gives_t1, replaced, new_key_leavers, new_key_plan, recall_plan, plan_in, plan_at, arc_plan, arc_page}
 use Rattle.policy_steps.proofs.Parts.{nowhere}
-use Rattle.policy_steps.proofs.Moving.{length-keys, keys-sent, keys_left, left-keys, without-drop, without-push, apart-first, own-low, AreLow, miss-low, tabled-leavers, left-twice, without-rest, without-cond}
+use Rattle.policy_steps.proofs.Moving.{length-keys, keys-sent, keys_left, left-keys, without-drop, without-push, apart-first, own-low, AreLow, miss-low, tabled-leavers}
 use Rattle.policy_steps.proofs.Leaving.{still-absent}
-use Rattle.policy_steps.specs.PolicyPage.{LeavesNone, LeavesWhere, IsPlannedPage, IsSoundPage}
-use Rattle.policy_steps.proofs.Leavers.{own-alone, never, either, one-of, own-none, miss-full, keys-length, not-less}
+use Rattle.policy_steps.specs.PolicyPage.{LeavesWhere, IsPlannedPage, IsSoundPage}
+use Rattle.policy_steps.proofs.Leavers.{HitsAlone, own-alone, never, either, one-of, own-none, miss-full, keys-length, not-less}
 use Rattle.ghost_policies.proofs.ArcKeeping.{keeps}
 
 -- ---- the state, queue by queue
@@ -342,7 +342,7 @@ module _ (c x : ℕ) (s : Queues) (i : IsArc c (arc_of x s)) where
           within (omega (arith, at_q, whole))
 
 module _ (c x : ℕ) (s : Queues) where
-  alone-at : (at : Option (ℕ × ℕ)) → (plan_at c x at s).hits ≡ true → LeavesNone (plan_at c x at s)
+  alone-at : (at : Option (ℕ × ℕ)) → HitsAlone (plan_at c x at s)
   alone-at None = never _ refl
   alone-at (Some p) =
       either (p.0 == T1 || p.0 == T2) _ _ (own-alone true _ x) (either (p.0 == B1) _ _ (never _ refl) (either (p.0 == B2) _ _ (never _ refl) (never _ refl)))

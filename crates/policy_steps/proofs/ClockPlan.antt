@@ -11,8 +11,7 @@ use Rattle.queue_policies.specs.Turns.{after_turns as page_turns, turn_count}
 use Rattle.queue_policies.specs.Clock.{marked_key, clock_eviction, IsClock}
 use Rattle.queue_policies.proofs.CountedKeys.{length-keys}
 use Rattle.queue_policies.proofs.Clock.{counted-total, keeps}
-use Rattle.queue_moves.specs.Moves.{item_of, after_turns, turns_due, evicted, departed, leaving, after_leaving, standing, count_or, after_turn}
-use Rattle.queue_policies.proofs.Turns.{turned-total, oldest-few}
+use Rattle.queue_moves.specs.Moves.{item_of, after_turns, turns_due, evicted, departed, leaving, after_leaving, standing}
 use Rattle.queue_moves.specs.Tabled.{IsTabled}
 use Rattle.policy_steps.specs.Counted.{counted_keys}
 use Rattle.policy_steps.specs.Planned.{IsWithin, IsPlannedWithin}
@@ -20,7 +19,6 @@ use Rattle.policy_steps.specs.Clock.{clock_of, clock_eviction_plan, clock_page}
 use Rattle.policy_steps.specs.PolicyPage.{IsPlannedPage, IsSoundPage}
 use Rattle.policy_steps.proofs.Leavers.{resident-alone, resident-full, counted-length, not-less}
 use Rattle.policy_steps.proofs.Residents.{resident-planned}
-use Rattle.policy_steps.specs.Theorems.{ClockIsPlanned}
 use Rattle.policy_steps.proofs.Counted.{keys-counted, counted-append, length-counted, key-counted, counted-with}
 use Rattle.policy_steps.proofs.Parts.{first-send, first-turns, first-out}
 use Rattle.policy_steps.proofs.Leaving.{absent-turns}

@@ -15,25 +15,24 @@ use Rattle.queue_policies.specs.CountedKeys as counted
 use Rattle.queue_policies.specs.Ghost.{ghost_place_of}
 use Rattle.queue_policies.specs.S3Fifo.{S3FifoState, s3_fifo_residents, s3_fifo_main_size, main_eviction, small_eviction, most_moves, s3_fifo_room, s3_fifo_with_key, s3_fifo_with_count, hit_count, s3_fifo_act, IsS3Fifo}
 use Rattle.queue_policies.proofs.Residents.{times-none, no-times, brought-few}
-use Rattle.queue_policies.proofs.CountedKeys.{keys-times, count-append, keys-with, length-keys, counted-first, counted-second}
+use Rattle.queue_policies.proofs.CountedKeys.{keys-times, count-append, keys-with}
 use Rattle.queue_policies.proofs.S3Fifo.{unmoved, join-times, room-made, keeps}
 use Rattle.queue_moves.specs.declared.records.Run.{Run}
-use Rattle.queue_moves.specs.Moves.{item_of, standing, no_run, counts, goes, Plan, own_plan, after_run, after_runs, leaving, outcome_after, IsLowRun, IsLowOwn, IsLowPlan, after_first, after_second, outcome_of, IsLowLeaving}
+use Rattle.queue_moves.specs.Moves.{item_of, standing, no_run, counts, goes, Plan, own_plan, after_run, after_runs, leaving, outcome_after, IsLowRun, IsLowOwn, IsLowPlan}
 use Rattle.queue_moves.specs.Tabled.{IsTabled, StandsAs, keys_of, HasKeys}
 use Rattle.queue_moves.proofs.Tabled.{stands, stands-nowhere, tabled-turns, tabled-runs}
 use Rattle.policy_steps.specs.Counted.{counted_keys}
 use Rattle.policy_steps.specs.Misses.{Leavers, no_leavers, one_leaver, after_leavers, leavers_for_ghost, run_plan}
 use Rattle.policy_steps.specs.Planned.{IsPlannedBy}
 use Rattle.policy_steps.specs.S3Fifo.{SMALL, MAIN, GHOST, s3_fifo_of, promotions, gives_main, main_turns, joins, s3_fifo_miss, plan_at, is_resident, s3_fifo_page}
-use Rattle.policy_steps.proofs.Counted.{counted-append, keys-counted, counted-with, both-counted, length-counted}
+use Rattle.policy_steps.proofs.Counted.{counted-append, keys-counted, counted-with, both-counted}
 use Rattle.policy_steps.proofs.Ghosts.{leavers-low}
-use Rattle.policy_steps.proofs.Keys.{without-keys, without-counted, has-both, its-count, keys-counted}
+use Rattle.policy_steps.proofs.Keys.{without-keys, without-counted, has-both, its-count}
 use Rattle.policy_steps.proofs.Moving.{first-of, apart-first, AreLow, tabled-leavers}
-use Rattle.policy_steps.proofs.S3FifoMoves.{state_without, resident-count, IsPromoted, promotes, last_eviction, IsLeft, main-left, small-left, made, promoted, total-few, gives-is}
-use Rattle.policy_steps.proofs.Turns.{turns-keep, turns-are}
-use Rattle.policy_steps.specs.PolicyPage.{LeavesNone, LeavesWhere, IsPlannedPage, IsSoundPage}
-use Rattle.policy_steps.proofs.Leavers.{own-alone, never, either, one-of, own-none, both-length, not-less}
-use Rattle.queue_moves.proofs.Tabled.{stands, stands-nowhere, tabled-turns, tabled-runs, tabled-leaving}
+use Rattle.policy_steps.proofs.S3FifoMoves.{state_without, resident-count, IsPromoted, promotes, last_eviction, IsLeft, main-left, small-left}
+use Rattle.policy_steps.proofs.Turns.{turns-keep}
+use Rattle.policy_steps.specs.PolicyPage.{LeavesWhere, IsPlannedPage, IsSoundPage}
+use Rattle.policy_steps.proofs.Leavers.{HitsAlone, own-alone, never, either, one-of, own-none, both-length, not-less}
 
 -- ---- the key comes in
 
@@ -140,7 +139,7 @@ module _ (part c k x : ℕ) (r : Bool) (s : Queues) (t : IsTabled s) (some : 1 �
 
   missed : IsPlannedBy (s3_fifo_miss part c r x s) k s (λ x. s3_fifo_of) (s3_fifo_act part c k v) (has_key k (s3_fifo_residents v))
   missed = rw absent (
-    cond_both (nat_lt (length (s SMALL) + length (s MAIN)) c) _ _ IsMiss fits (λ f. cond_both (gives_main size a) _ _ IsMiss (main-evicts f) (small-evicts f)))
+      cond_both (nat_lt (length (s SMALL) + length (s MAIN)) c) _ _ IsMiss fits (λ f. cond_both (gives_main size a) _ _ IsMiss (main-evicts f) (small-evicts f)))
 
 -- ---- an access
 
@@ -209,18 +208,21 @@ module _ (part c x : ℕ) (s : Queues) where
 
   leaves-of-miss : (r : Bool) → LeavesWhere IsFull (s3_fifo_miss part c r x s)
   leaves-of-miss r =
-      elim (cases_Bool (nat_lt (length (s SMALL) + length (s MAIN)) c)) [
-        | inl e ↦ inl (rw e (record { first = refl; second = refl }))
-        | inr e ↦ inr (not-less _ _ c (both-length (s SMALL) (s MAIN)) e)
-      ]
+      one-of IsFull (nat_lt (length (s SMALL) + length (s MAIN)) c) _ _ (λ e. own-none IsFull false _ x) (λ e. inr (not-less _ _ c (both-length (s SMALL) (s MAIN)) e))
 
   leaves-at : (at : Option (ℕ × ℕ)) → LeavesWhere IsFull (plan_at part c x at s)
   leaves-at None = leaves-of-miss false
   leaves-at (Some p) = one-of IsFull (is_resident p.0) _ _ (λ e. own-none IsFull true _ x) (λ e. leaves-of-miss _)
 
-alone-at : (at : Option (ℕ × ℕ)) (part c x : ℕ) (s : Queues) → (plan_at part c x at s).hits ≡ true → LeavesNone (plan_at part c x at s)
-alone-at None part c x s = never _ refl
-alone-at (Some p) part c x s = either (is_resident p.0) _ _ (own-alone true _ x) (never _ refl)
+  alone-of-miss : (r : Bool) → HitsAlone (s3_fifo_miss part c r x s)
+  alone-of-miss r =
+      let m : ℕ = s3_fifo_main_size part c in
+      either (nat_lt (length (s SMALL) + length (s MAIN)) c) _ _ (own-alone false _ x)
+      (either (gives_main m (after_run (promotions m s) s)) _ _ (never _ refl) (never _ refl))
+
+  alone-at : (at : Option (ℕ × ℕ)) → HitsAlone (plan_at part c x at s)
+  alone-at None = alone-of-miss false
+  alone-at (Some p) = either (is_resident p.0) _ _ (own-alone true _ x) (alone-of-miss _)
 
 pub s3-fifo-sound : (part : ℕ) → IsSoundPage (s3_fifo_page part)
 s3-fifo-sound part = record {
@@ -228,6 +230,6 @@ s3-fifo-sound part = record {
   starts = (tt, refl);
   planned = planned part;
   residents = λ x s. both-counted (s SMALL) (s MAIN);
-  hits = λ c k x s. alone-at (standing (item_of k) s) part c x s;
+  hits = λ c k x s. alone-at part c x s (standing (item_of k) s);
   leaves = λ c k x s t shown state. leaves-at part c x s (standing (item_of k) s);
 }

@@ -12,7 +12,7 @@ use Rattle.queue_table.proofs.QueueLists.{IsAbsent, still-absent, queue-few, wit
 use Rattle.queue_policies.specs.Queues.{is_empty}
 use Rattle.queue_policies.specs.Sieve.{SieveState, sieve_residents, after_wrap, sieve_with_key, sieve_eviction, HasAhead, IsSieve, sieve_with_count}
 use Rattle.queue_policies.proofs.CountedKeys.{by-oldest, length-keys, counted-second}
-use Rattle.queue_moves.specs.Moves.{item_of, standing, evicted, departed, counts, goes, after_run, count_or, turns_due}
+use Rattle.queue_moves.specs.Moves.{item_of, standing, evicted, departed, counts, goes}
 use Rattle.queue_policies.proofs.Sieve.{keeps}
 use Rattle.queue_moves.specs.Tabled.{IsTabled}
 use Rattle.queue_moves.proofs.Tabled.{oldest-gone, tabled-turns}
@@ -202,5 +202,5 @@ sieve-sound = record {
   planned = planned;
   residents = λ x s. both-counted (s (passed_queue x)) (s x);
   hits = λ c k x s. resident-alone (standing (item_of k) s) _ _ _ x _ refl;
-  leaves = λ c k x s t shown state. resident-full _ (standing (item_of k) s) _ _ _ x _ (λ e. not-less _ _ c (shown-length (s (passed_queue x)) (s x) ∙ (let both = both-length x s shown.1 in omega (arith, both))) e);
+  leaves = λ c k x s t shown state. resident-full _ (standing (item_of k) s) _ _ _ x _ (λ e. not-less _ _ c (shown-length (s (passed_queue x)) (s x) ∙ (let all = (both (item_of k) x s shown.1).1 in omega (arith, all))) e);
 }

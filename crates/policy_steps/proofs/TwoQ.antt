@@ -1,6 +1,6 @@
 -- 2Q's plan is its definition.
-use Rattle.std.proofs.Common.{◌≡◌, ℕ, ◌+◌, ◌<◌, ◌≤◌, Bool, true, false, eqb, nat_lt, ◌||◌, ◌==◌, Option, Some, None, List, [], ◌∷◌, ◌++◌, length, drop, ap, ◌∙◌, sym, subst, refl, arith, inl, inr, length-append, cond, take}
-use Rattle.std.proofs.lemmas.Bool.{cases_Bool, cases_eq, eq-eqb, ne_eqb, ltb-true, ltb-false, eqb-true, or_cases, eqb-false, or_parts, cond_both, lt-ltb}
+use Rattle.std.proofs.Common.{◌≡◌, ℕ, ◌+◌, ◌<◌, ◌≤◌, Bool, true, false, eqb, nat_lt, ◌||◌, ◌==◌, Option, Some, None, List, [], ◌∷◌, ◌++◌, length, drop, ap, ◌∙◌, sym, subst, refl, arith, inl, inr, length-append}
+use Rattle.std.proofs.lemmas.Bool.{cases_Bool, cases_eq, eq-eqb, ne_eqb, ltb-true, ltb-false, eqb-true, or_cases, eqb-false, or_parts}
 use Rattle.step_record.specs.Keys.{has_key, keys_without}
 use Rattle.queue_table.specs.declared.records.Entry.{Entry}
 use Rattle.queue_table.specs.Entries.{entry, oldest_of}
@@ -17,12 +17,12 @@ use Rattle.queue_moves.specs.Tabled.{HasKeys, IsTabled, keys_of, StandsAs}
 use Rattle.queue_moves.proofs.Tabled.{stands, stands-nowhere}
 use Rattle.policy_steps.specs.Planned.{IsPlannedBy}
 use Rattle.policy_steps.specs.Misses.{Leavers, no_leavers, one_leaver, leavers_for_ghost, after_leavers, miss_plan}
-use Rattle.policy_steps.specs.TwoQ.{A1IN, A1OUT, AM, two_q_of, gives_a1in, joins, two_q_miss, plan_at, two_q_leavers, two_q_plan, two_q_page}
+use Rattle.policy_steps.specs.TwoQ.{A1IN, A1OUT, AM, two_q_of, gives_a1in, joins, two_q_miss, plan_at, two_q_leavers, two_q_page}
 use Rattle.policy_steps.proofs.Ghosts.{leavers-low, sent, kept, leavers-gone, ghost-keys}
 use Rattle.policy_steps.proofs.Leaving.{oldest-out}
-use Rattle.policy_steps.proofs.Moving.{length-keys, keys-sent, without-rest, first-of, apart-first, own-low, AreLow, miss-low, tabled-leavers, left-keys, left-twice, without-drop, without-push, without-cond}
-use Rattle.policy_steps.specs.PolicyPage.{LeavesNone, LeavesWhere, IsPlannedPage, IsSoundPage}
-use Rattle.policy_steps.proofs.Leavers.{own-alone, never, either, one-of, own-none, miss-full, keys-length, not-less}
+use Rattle.policy_steps.proofs.Moving.{length-keys, keys-sent, without-rest, first-of, apart-first, own-low, AreLow, miss-low, tabled-leavers}
+use Rattle.policy_steps.specs.PolicyPage.{LeavesWhere, IsPlannedPage, IsSoundPage}
+use Rattle.policy_steps.proofs.Leavers.{HitsAlone, own-alone, never, either, one-of, own-none, miss-full, keys-length, not-less}
 use Rattle.ghost_policies.proofs.TwoQKeeping.{keeps}
 
 -- ---- the state, queue by queue
@@ -184,7 +184,7 @@ module _ (z : TwoQSizes) (c x : ℕ) (s : Queues) where
   leaves-at (Some p) =
       one-of IsFull (p.0 == AM) _ _ (λ e. own-none IsFull true _ x) (λ e. one-of IsFull (p.0 == A1IN) _ _ (λ f. own-none IsFull true _ x) (λ f. leaves-of-miss _))
 
-  alone-at : (at : Option (ℕ × ℕ)) → (plan_at z c x at s).hits ≡ true → LeavesNone (plan_at z c x at s)
+  alone-at : (at : Option (ℕ × ℕ)) → HitsAlone (plan_at z c x at s)
   alone-at None = never _ refl
   alone-at (Some p) = either (p.0 == AM) _ _ (own-alone true _ x) (either (p.0 == A1IN) _ _ (own-alone true _ x) (never _ refl))
 

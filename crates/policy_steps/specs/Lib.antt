@@ -9,5 +9,3 @@ pub mod Misses
 pub mod Comers
 pub mod TwoQ
 pub mod Arc
-pub mod Theorems
-pub mod Rooms

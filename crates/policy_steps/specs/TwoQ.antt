@@ -6,7 +6,7 @@ use Rattle.std.specs.Prelude.{length}
 use Rattle.queue_table.specs.Queues.{Queues}
 use Rattle.ghost_policies.specs.declared.two_q.TwoQSizes.{TwoQSizes}
 use Rattle.ghost_policies.specs.TwoQ.{TwoQState, empty_two_q, two_q_residents, two_q_act, IsTwoQ}
-use Rattle.queue_moves.specs.Moves.{item_of, standing, leaving, stays, goes, Plan, own_plan, Leaving}
+use Rattle.queue_moves.specs.Moves.{item_of, standing, leaving, stays, goes, Plan, own_plan}
 use Rattle.queue_moves.specs.Tabled.{keys_of}
 use Rattle.policy_steps.specs.Misses.{Leavers, no_leavers, one_leaver, leavers_for_ghost, miss_plan}
 use Rattle.policy_steps.specs.PolicyPage.{PolicyPage}
