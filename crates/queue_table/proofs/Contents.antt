@@ -4,22 +4,19 @@ use Rattle.std.proofs.Common.{append-nil, append_assoc}
 use Rattle.std.specs.List.{Contains}
 use Rattle.std.proofs.Math.Path.{fun_ext}
 use Rattle.std.proofs.lemmas.Bool.{cases_Bool, cases_eq, cases_lt, lt-ltb, le-ltb, ne_eqb, eq-eqb, eqb-true}
+use Rattle.std.proofs.lemmas.List.{map-append}
 use Rattle.step_record.specs.declared.item.Item.{Item}
 use Rattle.queue_table.specs.declared.records.Entry.{Entry}
 use Rattle.queue_table.specs.Entries.{is_same_item, occurrences, last_from, last_item, before, put_behind, entries_without}
 use Rattle.queue_table.specs.Queues.{QUEUES, Queues, with_queue, queue_holding, times_below, after_push, after_removal, after_return, IsDistinct}
 use Rattle.queue_table.proofs.EntryLists.{same-true, same-refl, times-append, put_behind-at}
-use Rattle.queue_table.proofs.QueueLists.{IsAbsent, is_absent, placed, queue-few, times-with}
+use Rattle.queue_table.proofs.QueueLists.{IsAbsent, is_absent, placed, queue-few, times-none, times-with}
 use Rattle.queue_table.specs.Ring.{slot_entry, slot_item, count, put_before, FIRST, Order, used, used_below, with_section, order_without, sent, lists_of, item_or, IsShort}
 use Rattle.queue_table.specs.QueueTable.{IsBehind}
 use Rattle.step_record.specs.Keys.{keys_without}
 use Rattle.queue_table.proofs.Splices.{count-append, count-here, end_of}
 use Rattle.queue_table.proofs.Sections.{map-without, put-sentinel, without-none}
 use Rattle.queue_table.proofs.Orders.{put-end, section-in, section-used, short-without, with-other}
-
-pub map-append : (f : ℕ → Entry) (xs ys : List ℕ) → map f (xs ++ ys) ≡ map f xs ++ map f ys
-map-append f [] ys = refl
-map-append f (x ∷ xs) ys = ap (λ t. f x ∷ t) (map-append f xs ys)
 
 -- how often an item stands among the entries of slots
 
@@ -133,15 +130,15 @@ lists-recent q k b o es h =
     lists-with q (put_before k b l) (order_without k o) es
     ∙ ap (λ (m : List Entry). with_queue q m (lists_of (order_without k o) es)) (ap (map f) (put-end k b l h) ∙ map-append f l (k ∷ []))
 
--- a cut of the entries is a cut of the slots
-pub record IsCutAt (f : ℕ → Entry) (l : List ℕ) (xs ys : List Entry) : Type 0 where
-  pub front : List ℕ
-  pub back : List ℕ
+-- a list cut where what a function makes of it is
+pub record IsCutAt {X Y : Type 0} (f : X → Y) (l : List X) (xs ys : List Y) : Type 0 where
+  pub front : List X
+  pub back : List X
   pub whole : l ≡ front ++ back
   pub fronts : map f front ≡ xs
   pub backs : map f back ≡ ys
 
-pub cut_at : (f : ℕ → Entry) (l : List ℕ) (xs ys : List Entry) → map f l ≡ xs ++ ys → IsCutAt f l xs ys
+pub cut_at : {X Y : Type 0} (f : X → Y) (l : List X) (xs ys : List Y) → map f l ≡ xs ++ ys → IsCutAt f l xs ys
 cut_at f l [] ys h = record { front = []; back = l; whole = refl; fronts = refl; backs = h }
 cut_at f [] (x ∷ xs) ys h = absurd (cc (h))
 cut_at f (k ∷ l) (x ∷ xs) ys h =
@@ -195,10 +192,6 @@ times-put f i k b (x ∷ l) =
       | inl e ↦ rw e refl
       | inr e ↦ rw e (omega (arith, r))
     ]
-
-times-none : (n : ℕ) (i : Item) (s : Queues) → ((q : ℕ) → q < n → occurrences i (s q) ≡ 0) → times_below n i s ≡ 0
-times-none zero i s h = refl
-times-none (suc n) i s h = let a = h n (omega arith) in let r = times-none n i s (λ q w. h q (omega (arith, w))) in omega (arith, a, r)
 
 pub distinct-sent : (q k b : ℕ) (o : Order) (es : List Entry) → q < QUEUES → IsDistinct (lists_of (order_without k o) es) → IsAbsent (slot_item es k) (lists_of (order_without k o) es) → IsDistinct (lists_of (sent k (suc q) b o) es)
 distinct-sent q k b o es w d a i =

@@ -1,6 +1,7 @@
 -- The slot after a place of a queue, from the links.
 use Rattle.std.proofs.Common.{◌≡◌, ℕ, suc, ◌+◌, ◌<◌, ◌≤◌, true, false, eqb, Option, Some, None, List, [], ◌∷◌, ◌++◌, get_or, map, ap, ◌∙◌, sym, refl, subst, arith, inl, inr, append_assoc}
 use Rattle.std.proofs.lemmas.Bool.{cases_Bool, cases_eq, eqb-true, ne_eqb, eq-eqb}
+use Rattle.std.proofs.lemmas.List.{map-append}
 use Rattle.step_record.specs.declared.item.Item.{Item}
 use Rattle.queue_table.specs.declared.records.Entry.{Entry}
 use Rattle.queue_table.specs.declared.slot.Slot.{Slot}
@@ -14,7 +15,7 @@ use Rattle.queue_table.proofs.Splices.{count-append, count-here, linked-split, n
 use Rattle.queue_table.proofs.Turning.{IsSplit, split_at}
 use Rattle.queue_table.proofs.Sections.{gone, count-without, without-append, without-none}
 use Rattle.queue_table.proofs.Orders.{section-few, section-used, used-real}
-use Rattle.queue_table.proofs.Contents.{IsCutAt, cut_at, alone, placed-at, map-append}
+use Rattle.queue_table.proofs.Contents.{IsCutAt, cut_at, alone, placed-at}
 use Rattle.queue_table.proofs.Holding.{linked-section}
 
 start-is : (ws : List ℕ) (c : ℕ) → get_or ws 0 c ≡ start_of ws c

@@ -76,8 +76,3 @@ newer-in slots o x (suc k) w =
 pub walk-on : (ns : List ℕ) (es : List Entry) (at n m : ℕ) (xs ys : List Item) → n ≡ suc m → ys ≡ xs ++ slot_item es (get_or ns at 0) ∷ [] →
     ys ++ map (λ k. slot_item es k) (walk ns (get_or ns at 0) m) ≡ xs ++ map (λ k. slot_item es k) (walk ns at n)
 walk-on ns es at n m xs ys e p = rw (p, e) (append_assoc xs (slot_item es (get_or ns at 0) ∷ []) (map (λ k. slot_item es k) (walk ns (get_or ns at 0) m)))
-
-pub read_slot : (slots : List Slot) (i : ℕ) (d e : Slot) → i < length slots → get_or slots i d ≡ get_or slots i e
-read_slot [] i d e w = absurd (omega (arith, w))
-read_slot (x ∷ l) zero d e w = refl
-read_slot (x ∷ l) (suc i) d e w = read_slot l i d e (omega (arith, w))

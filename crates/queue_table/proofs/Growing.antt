@@ -91,10 +91,6 @@ same-first slots q =
       lengths = λ s. ap (λ (p : Order). length (p s)) (o ∙ sym n);
     }
 
-pub no-list : {X : Type 0} (l : List X) → length l ≡ 0 → l ≡ []
-no-list [] e = refl
-no-list (x ∷ l) e = absurd (omega (arith, e))
-
 -- the load of an index, of as many slots as before
 pub still_loaded : (n m bits : ℕ) → m ≡ n → IsLoaded n bits → IsLoaded m bits
 still_loaded n m bits e l = subst (λ k. IsLoaded k bits) (sym e) l

@@ -1,6 +1,7 @@
 -- What holds of a table while one of its calls works on the slots.
 use Rattle.std.proofs.Common.{◌≡◌, ℕ, suc, zero, ◌<◌, ◌≤◌, ◌+◌, ◌^◌, List, [], ◌∷◌, ◌++◌, get_or, take, length, length-append, map, ap, ◌∙◌, sym, subst, arith, refl}
-use Rattle.std.proofs.lemmas.List.{length-map}
+use Rattle.std.proofs.lemmas.List.{length-map, take_at}
+use Rattle.std.proofs.lemmas.Simd.{map-map}
 use Rattle.step_record.specs.declared.item.Item.{Item}
 use Rattle.queue_table.specs.declared.records.Entry.{Entry}
 use Rattle.queue_table.specs.declared.slot_index.SlotIndex.{SlotIndex}
@@ -19,7 +20,6 @@ use Rattle.queue_table.proofs.Holding.{linked-section}
 use Rattle.queue_table.proofs.SlotWrites.{no_slot}
 use Rattle.queue_table.proofs.Calls.{slot-within}
 use Rattle.queue_table.proofs.Renewing.{item_at, entries-length}
-use Rattle.queue_table.proofs.Tables.{take-front}
 
 pub some-slots : (slots : List Slot) (s : ℕ) → 1 ≤ length (order_of slots s) → 0 < length slots
 some-slots [] s n = absurd (let e = ap (λ (o : Order). length (o s)) no-order in omega (arith, n, e))
@@ -144,14 +144,10 @@ known slots index k h u = record {
 
 -- the items of a queue, slot by slot
 
-items-map : (es : List Entry) (l : List ℕ) → items_of (map (λ k. slot_entry es k) l) ≡ map (λ k. slot_item es k) l
-items-map es [] = refl
-items-map es (x ∷ l) = ap (λ t. slot_item es x ∷ t) (items-map es l)
-
 pub listed : (slots : List Slot) (index : SlotIndex) (lengths : Lengths) (q : ℕ) → q < QUEUES → IsKept slots index lengths → map (λ k. slot_item (entries slots) k) (walk (newers slots) (suc q) (get_or lengths.at (suc q) 0)) ≡ items_of (lists slots q)
 listed slots index lengths q w k =
     let n : get_or lengths.at (suc q) 0 ≡ length (order_of slots (suc q)) = k.counted (suc q) (omega (arith, w)) in
-    ap (λ m. map (λ j. slot_item (entries slots) j) (walk (newers slots) (suc q) m)) n ∙ (ap (map (λ j. slot_item (entries slots) j)) (there slots k.held) ∙ sym (items-map (entries slots) (order_of slots (suc q))))
+    ap (λ m. map (λ j. slot_item (entries slots) j) (walk (newers slots) (suc q) m)) n ∙ (ap (map (λ j. slot_item (entries slots) j)) (there slots k.held) ∙ sym (map-map (λ (e : Entry). e.item) (λ k. slot_entry (entries slots) k) (order_of slots (suc q))))
   where
     there : (s : List Slot) → (0 < length s → IsInSlots s index (order_of s)) → walk (newers s) (suc q) (length (order_of s (suc q))) ≡ order_of s (suc q)
     there [] h = let e = ap (λ (o : Order). o (suc q)) no-order in rw e refl
@@ -161,4 +157,4 @@ listed slots index lengths q w k =
 
 -- a fact of the slots as a call borrows and leaves them is one of the table before and after
 pub on_view : (F : List Slot → List Slot → Type 0) (n : ℕ) (left rest lent old : List Slot) → n ≡ length left → lent ≡ old → F lent left → F old (take n (left ++ rest))
-on_view F n left rest lent old a b x = subst (λ (s : List Slot). F old s) (sym (take-front n left rest a)) (subst (λ (s : List Slot). F s left) b x)
+on_view F n left rest lent old a b x = subst (λ (s : List Slot). F old s) (sym (take_at left rest n (sym a))) (subst (λ (s : List Slot). F s left) b x)

@@ -1,10 +1,11 @@
 -- One step down a tree, and the way back.
 use Rattle.std.proofs.Common.{◌≡◌, ℕ, ◌+◌, ◌<◌, ◌≤◌, Bool, true, false, cond, eqb, List, length, get_or, set, ap, ◌∙◌, sym, subst, arith, get_or-set_same, get_or-set_other, length-set}
 use Rattle.std.proofs.lemmas.Bool.{eq-eqb, ne_eqb}
+use Rattle.std.proofs.lemmas.List.{get_or_default}
 use Rattle.step_record.specs.declared.item.Item.{Item}
 use Rattle.queue_table.specs.Trees.{Tree, leaf, fork, tally, branch, turn, IsTree, grafted, lowest, plucked, lifted, detached}
 use Rattle.queue_table.specs.Places.{IsOutside, IsWhole, IsFree, IsThere, Replaces}
-use Rattle.queue_table.proofs.Trees.{tally-here, on_side, side-tally, same-slot, same-tree, any_default}
+use Rattle.queue_table.proofs.Trees.{tally-here, on_side, side-tally, same-slot, same-tree}
 use Rattle.queue_table.proofs.Sorting.{side-sorted, its-side}
 
 module _ (roots : ℕ) (links : List ℕ) (place i : ℕ) (l r : Tree) (w : IsWhole links roots place (fork i l r)) where
@@ -119,7 +120,7 @@ zero_read : (links : List ℕ) (q p x : ℕ) → x ≡ get_or links q x → x �
 zero_read links q p x s z e = let f = rw z at s in ap (λ (n : ℕ). get_or links n 0) (sym e) ∙ sym f
 
 some_read : (links : List ℕ) (q p x : ℕ) → x ≡ get_or links q x → (x ≡ 0 → ⊥) → q ≡ p → p < length links → get_or links p 0 ≡ 0 → ⊥
-some_read links q p x s z e w f = z (s ∙ (any_default links q x 0 (omega (arith, e, w)) ∙ (ap (λ (n : ℕ). get_or links n 0) e ∙ f)))
+some_read links q p x s z e w f = z (s ∙ (get_or_default links q x 0 (omega (arith, e, w)) ∙ (ap (λ (n : ℕ). get_or links n 0) e ∙ f)))
 
 module _ (roots : ℕ) (links : List ℕ) (place at left : ℕ) (e : at ≡ get_or links place 0) (s : 1 ≤ at) (b : left ≡ branch roots at false) where
   pub pluck-end : (x y : ℕ) (t : Tree) → IsWhole links roots place t → x ≡ get_or links left x → x ≡ 0 → y ≡ get_or links (left + 1) y → y ≡ 0 →

@@ -38,6 +38,10 @@ is-absent-below (suc n) i s h =
 pub is_absent : (i : Item) (s : Queues) → IsAbsent i s → queue_holding i s ≡ None
 is_absent i s h = is-absent-below QUEUES i s h
 
+pub times-none : (n : ℕ) (i : Item) (s : Queues) → ((q : ℕ) → q < n → occurrences i (s q) ≡ 0) → times_below n i s ≡ 0
+times-none zero i s h = refl
+times-none (suc n) i s h = let a = h n (omega arith) in let r = times-none n i s (λ q w. h q (omega (arith, w))) in omega (arith, a, r)
+
 times-in : (n q : ℕ) (i : Item) (s : Queues) → q < n → occurrences i (s q) ≤ times_below n i s
 times-in zero q i s h = absurd (omega (arith, h))
 times-in (suc n) q i s h =

@@ -1,6 +1,7 @@
 -- What the fields of a slot in use say of its item.
 use Rattle.std.proofs.Common.{◌≡◌, ℕ, suc, ◌<◌, Some, List, length, get_or, ap, ◌∙◌, sym, subst, arith}
 use Rattle.std.specs.List.{Contains}
+use Rattle.std.proofs.lemmas.List.{get_or_default}
 use Rattle.step_record.specs.declared.item.Item.{Item}
 use Rattle.queue_table.specs.declared.records.Entry.{Entry}
 use Rattle.queue_table.specs.declared.slot.Slot.{Slot}
@@ -12,12 +13,11 @@ use Rattle.queue_table.proofs.SlotWrites.{no_slot, field_at}
 use Rattle.queue_table.proofs.Contents.{placed-at, has-entry}
 use Rattle.queue_table.proofs.Holding.{tag-stands, tag-low}
 use Rattle.queue_table.proofs.Calls.{slot-within}
-use Rattle.queue_table.proofs.Ends.{read_slot}
 
 -- the slot as it is read
 module _ (slots inside : List Slot) (k : ℕ) (r : Slot) (same : inside ≡ slots) (within : k < length slots) (read : r ≡ get_or inside k r) where
   slot-read : r ≡ get_or slots k no_slot
-  slot-read = read ∙ (ap (λ l. get_or l k r) same ∙ read_slot slots k r no_slot within)
+  slot-read = read ∙ (ap (λ l. get_or l k r) same ∙ get_or_default slots k r no_slot within)
 
   pub entry-read : slot_entry (entries slots) k ≡ entry r.item r.count
   entry-read = field_at (λ (s : Slot). entry s.item s.count) slots k no_slot ∙ ap (λ (s : Slot). entry s.item s.count) (sym slot-read)

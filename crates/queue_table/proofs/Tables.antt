@@ -2,7 +2,7 @@
 use Rattle.std.proofs.Common.{◌≡◌, ℕ, suc, zero, ◌+◌, ◌-◌, ◌<◌, ◌≤◌, true, false, cond, eqb, List, [], ◌∷◌, ◌++◌, length, get_or, set, take, map, ap, ◌∙◌, sym, refl, subst, arith, ◌⊎◌, inl, inr, length-set, length-append, append_assoc}
 use Rattle.std.proofs.Math.Path.{fun_ext}
 use Rattle.std.proofs.lemmas.Bool.{cases_eq, cases_lt, eq-eqb, ne_eqb}
-use Rattle.std.proofs.lemmas.List.{length-map}
+use Rattle.std.proofs.lemmas.List.{length-map, map-append}
 use Rattle.queue_table.specs.declared.records.Entry.{Entry}
 use Rattle.queue_table.specs.declared.slot_index.SlotIndex.{SlotIndex}
 use Rattle.queue_table.specs.Entries.{entry}
@@ -40,9 +40,6 @@ module _ (slots : List Slot) (o : Order) (h : IsQueued slots o) (k : ℕ) (n : 1
 
 -- all slots from the first on are in use
 
-below : (k n : ℕ) → (k < n) ⊎ (n ≤ k)
-below k n = elim (cases_lt k n) [ inl e ↦ inl e | inr e ↦ inr (omega arith) ]
-
 few-from_first : (n k : ℕ) → k < FIRST → count k (from_first n) ≡ 0
 few-from_first zero k h = refl
 few-from_first (suc n) k h =
@@ -62,11 +59,11 @@ all-used : (slots : List Slot) (o : Order) → IsQueued slots o → o 0 ≡ [] �
 all-used slots o h f j =
     let z : count j (o 0) ≡ 0 = ap (count j) f in
     let l = slots-length slots in
-    elim (below j FIRST) [
+    elim (cases_lt j FIRST) [
       | inl a ↦
           let u : count j (used o) ≡ 0 = elim (some_or_none (count j (used o))) [ inl m ↦ absurd (let r = used-real o j h.linked.once m in omega (arith, r, a)) | inr m ↦ m ] in
           u ∙ sym (few-from_first (length slots - FIRST) j a)
-      | inr a ↦ elim (below j (length slots)) [
+      | inr a ↦ elim (cases_lt j (length slots)) [
         | inl b ↦
             let all = h.linked.all j (omega (arith, b, l)) in
             let r = count-ring j o a in
@@ -86,15 +83,15 @@ held-spread slots index o h f x room = record { queued = h; indexed = same-map _
 
 -- one more free slot
 
-get-zero : (ns : List ℕ) (k : ℕ) → get_or (ns ++ 0 ∷ []) k 0 ≡ get_or ns k 0
-get-zero [] zero = refl
-get-zero [] (suc k) = refl
-get-zero (x ∷ ns) zero = refl
-get-zero (x ∷ ns) (suc k) = get-zero ns k
+get-more : {X : Type 0} (d : X) (xs : List X) (k : ℕ) → get_or (xs ++ d ∷ []) k d ≡ get_or xs k d
+get-more d [] zero = refl
+get-more d [] (suc k) = refl
+get-more d (x ∷ xs) zero = refl
+get-more d (x ∷ xs) (suc k) = get-more d xs k
 
 linked-more : (ns os : List ℕ) (a : ℕ) (l : List ℕ) (b : ℕ) → IsLinked ns os a l b → IsLinked (ns ++ 0 ∷ []) (os ++ 0 ∷ []) a l b
-linked-more ns os a [] b k = (get-zero ns a ∙ k.0, get-zero os b ∙ k.1)
-linked-more ns os a (i ∷ l) b k = (get-zero ns a ∙ k.0, get-zero os i ∙ k.1, linked-more ns os i l b k.2)
+linked-more ns os a [] b k = (get-more 0 ns a ∙ k.0, get-more 0 os b ∙ k.1)
+linked-more ns os a (i ∷ l) b k = (get-more 0 ns a ∙ k.0, get-more 0 os i ∙ k.1, linked-more ns os i l b k.2)
 
 -- the ring behind the free slots
 abbrev queues-ring : Order → List ℕ
@@ -104,7 +101,7 @@ ring-more : (n : ℕ) (o : Order) → o 0 ++ n ∷ queues-ring o ≡ ring (more_
 ring-more n o = sym (append_assoc (o 0) (n ∷ []) (queues-ring o))
 
 last-older : (ns os : List ℕ) (o : Order) → IsRing ns os (ring o) → get_or (os ++ 0 ∷ []) 1 0 ≡ end_of 0 (o 0)
-last-older ns os o x = get-zero os 1 ∙ older-end ns os 0 (o 0) 1 (linked-section 0 ns os o (omega arith) x.linked)
+last-older ns os o x = get-more 0 os 1 ∙ older-end ns os 0 (o 0) 1 (linked-section 0 ns os o (omega arith) x.linked)
 
 end-within : (ns os : List ℕ) (o : Order) → IsRing ns os (ring o) → end_of 0 (o 0) < length ns
 end-within ns os o x = x.within (end_of 0 (o 0)) (let s = end-stands 0 (o 0) in let c = count-append (end_of 0 (o 0)) (o 0) (queues-ring o) in omega (arith, s, c))
@@ -166,25 +163,11 @@ older-first ns os o x =
     let w = end-within ns os o x in
     omega (arith, e, w)
 
-pub take-front : (n : ℕ) (xs ys : List Slot) → n ≡ length xs → take n (xs ++ ys) ≡ xs
-take-front zero [] ys e = refl
-take-front zero (x ∷ xs) ys e = absurd (omega (arith, e))
-take-front (suc n) [] ys e = absurd (omega (arith, e))
-take-front (suc n) (x ∷ xs) ys e = ap (λ t. x ∷ t) (take-front n xs ys (omega (arith, e)))
-
 newers-more : (slots slots2 : List Slot) → slots2 ≡ slots ++ no_slot ∷ [] → newers slots2 ≡ newers slots ++ 0 ∷ []
-newers-more slots slots2 e = ap newers e ∙ more slots
-  where
-    more : (s : List Slot) → newers (s ++ no_slot ∷ []) ≡ newers s ++ 0 ∷ []
-    more [] = refl
-    more (x ∷ s) = ap (λ t. x.newer ∷ t) (more s)
+newers-more slots slots2 e = ap newers e ∙ map-append (λ (s : Slot). s.newer) slots (no_slot ∷ [])
 
 pub olders-more : (slots slots2 : List Slot) → slots2 ≡ slots ++ no_slot ∷ [] → olders slots2 ≡ olders slots ++ 0 ∷ []
-olders-more slots slots2 e = ap olders e ∙ more slots
-  where
-    more : (s : List Slot) → olders (s ++ no_slot ∷ []) ≡ olders s ++ 0 ∷ []
-    more [] = refl
-    more (x ∷ s) = ap (λ t. x.older ∷ t) (more s)
+olders-more slots slots2 e = ap olders e ∙ map-append (λ (s : Slot). s.older) slots (no_slot ∷ [])
 
 pub ring-linked : (slots mid slots2 : List Slot) (at : ℕ) → mid ≡ slots ++ no_slot ∷ [] → IsRing (newers slots) (olders slots) (ring (order_of slots)) → at ≡ length slots →
     newers slots2 ≡ set (set (newers mid) (get_or (olders mid) 1 0) at) at 1 → olders slots2 ≡ set (set (olders mid) at (get_or (olders mid) 1 0)) 1 at →
@@ -195,12 +178,6 @@ ring-linked slots mid slots2 at e x is n2 o2 =
     rw (n2, o2, n, o, is) (ring-grown (newers slots) (olders slots) (order_of slots) (length slots) x (sym (slots-length slots)))
 
 -- a slot more changes nothing of what is held
-
-get-more : {X : Type 0} (d : X) (xs : List X) (k : ℕ) → get_or (xs ++ d ∷ []) k d ≡ get_or xs k d
-get-more d [] zero = refl
-get-more d [] (suc k) = refl
-get-more d (x ∷ xs) zero = refl
-get-more d (x ∷ xs) (suc k) = get-more d xs k
 
 abbrev nothing : Entry
 nothing = entry record { key = 0; node = 0 } 0

@@ -132,8 +132,3 @@ same-tree links links2 roots place place2 (fork i l r) s h f x =
       same-tree links links2 roots (branch roots i false) (branch roots i false) l s (f i false (omega (arith, here))) (λ k side m. f k side (omega (arith, m))) x.3,
       same-tree links links2 roots (branch roots i true) (branch roots i true) r s (f i true (omega (arith, here))) (λ k side m. f k side (omega (arith, m))) x.4,
     )
-
-pub any_default : (l : List ℕ) (i d e : ℕ) → i < length l → get_or l i d ≡ get_or l i e
-any_default [] i d e w = absurd (omega (arith, w))
-any_default (x ∷ l) zero d e w = refl
-any_default (x ∷ l) (suc i) d e w = any_default l i d e (omega (arith, w))

@@ -1,9 +1,10 @@
 use Rattle.std.proofs.lemmas.Grind.{common_steps}
 use Rattle.std.proofs.Common.{◌≡◌, ◌≤◌, ◌*◌, ◌^◌, List, length, sym, ap, ◌∙◌, subst, arith}
+use Rattle.std.proofs.lemmas.List.{nil_from_length}
 use Rattle.queue_table.specs.declared.slot.Slot.{Slot}
 use Rattle.queue_table.specs.Ring.{order_of}
 use Rattle.queue_table.specs.QueueTable.{IsInSlots, IsSame}
-use Rattle.queue_table.proofs.Growing.{IsGrown, grown, room_for, no-list}
+use Rattle.queue_table.proofs.Growing.{IsGrown, grown, room_for}
 use Rattle.queue_table.proofs.growth.grow.Goals as goal
 use Rattle.queue_table.proofs.growth.grow.Goals.{After-add_slot}
 
@@ -26,7 +27,7 @@ pub returns-clause-ok : goal.returns-clause-ok
 returns-clause-ok c = (grown-here (goal.at.returns-clause-ok c).After-add_slot).ok
 
 pub widen-requires-clause-free : goal.widen-requires-clause-free
-widen-requires-clause-free c = no-list _ (ap (λ (s : List Slot). length (order_of s 0)) (c.deref.ensures.value ∙ c.reserve.ensures.items) ∙ (c.begin.ensures.same.lengths 0 ∙ ap length c.requires.none))
+widen-requires-clause-free c = nil_from_length _ (ap (λ (s : List Slot). length (order_of s 0)) (c.deref.ensures.value ∙ c.reserve.ensures.items) ∙ (c.begin.ensures.same.lengths 0 ∙ ap length c.requires.none))
 
 pub returns-clause-few : goal.returns-clause-few
 returns-clause-few c = grind (arith, common_steps)

@@ -1,6 +1,6 @@
 use Rattle.std.proofs.Common.{◌+◌, ◌^◌, ◌∙◌, ◌<◌, length, set, length-set, ap, arith, false}
+use Rattle.std.proofs.lemmas.List.{get_or_default}
 use Rattle.queue_table.specs.Trees.{branch}
-use Rattle.queue_table.proofs.Trees.{any_default}
 use Rattle.queue_table.proofs.Walking.{top-room}
 use Rattle.queue_table.proofs.Lifting.{lowest-real, lift-one, lift-more, moved, first-gone, cleared-replaces}
 use Rattle.queue_table.proofs.slot_index.SlotIndex.lift.Goals as goal
@@ -51,8 +51,8 @@ returns-clause-lifted c u w =
     let from = c.branch_of-from.result in
     let within = from-room (goal.at.returns-clause-lifted c).After-branch_of-from in
     let s = length-set links to c.index.result.now in
-    let x = c.index.ensures ∙ any_default links from c.index.result.now 0 (omega (arith, within)) in
-    let y = c.index-2.ensures ∙ any_default (set links to c.index.result.now) (from + 1) c.index-2.result.now 0 (omega (arith, within, s)) in
+    let x = c.index.ensures ∙ get_or_default links from c.index.result.now 0 (omega (arith, within)) in
+    let y = c.index-2.ensures ∙ get_or_default (set links to c.index.result.now) (from + 1) c.index-2.result.now 0 (omega (arith, within, s)) in
     let m = moved c.args.place links to from c.pluck-lowest.result _ _ _ _ (c.branch_of-to.ensures ∙ ap (λ n. branch (2 ^ n) c.pluck-lowest.result false) p.bits) (c.branch_of-from.ensures ∙ ap (λ n. branch (2 ^ n) c.args.at false) p.bits) x y in
     let f = first-gone _ _ c.args.place c.args.at u w c.requires.first c.requires.some in
     let e = c.branch_of-from.ensures ∙ ap (λ n. branch (2 ^ n) c.args.at false) p.bits in

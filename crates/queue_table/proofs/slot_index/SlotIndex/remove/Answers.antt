@@ -1,5 +1,6 @@
 use Rattle.std.proofs.Common.{eqb, cond, refl, sym, ◌∙◌, rules}
-use Rattle.queue_table.proofs.Trees.{any_default, members}
+use Rattle.std.proofs.lemmas.List.{get_or_default}
+use Rattle.queue_table.proofs.Trees.{members}
 use Rattle.queue_table.proofs.Walking.{has-top, top-room}
 use Rattle.queue_table.proofs.Lifting.{lift-bare}
 use Rattle.queue_table.proofs.Placing.{detach-end}
@@ -29,7 +30,7 @@ is_bare-requires-clause-within c =
     let b = c.bucket_of-bucket in
     let h = root-has c.args.self.now q.item_of q.used q.indexed b.result b.ensures.within in
     let there = stands _ _ q.item_of q.used q.indexed c.args.at c.args.item (λ k. cond (eqb k c.args.at) 0 (q.used k)) record { there = q.there; its = q.its; counted = λ k. refl } b.result b.ensures.bucket b.ensures.within in
-    let n = c.index.ensures ∙ any_default _ _ _ 0 h.whole.within in
+    let n = c.index.ensures ∙ get_or_default _ _ _ 0 h.whole.within in
     top-room c.args.self.now b.result c.args.at (has-top _ _ _ h) (sym n ∙ c.if-index-at.true) (members _ _ b.result h.shown c.args.at h.whole.tree there.stands).0
 
 pub returns-then-is_bare-clause-indexed : goal.returns-then-is_bare-clause-indexed
@@ -37,7 +38,7 @@ returns-then-is_bare-clause-indexed c item_of used used2 x j =
     let b = c.bucket_of-bucket in
     let w = root-whole _ _ item_of used x b.result b.ensures.within in
     let there = stands _ _ item_of used x c.args.at c.args.item used2 j b.result b.ensures.bucket b.ensures.within in
-    let n = c.index.ensures ∙ any_default _ _ _ 0 w.within in
+    let n = c.index.ensures ∙ get_or_default _ _ _ 0 w.within in
     let first = sym n ∙ c.if-index-at.true in
     let bare = c.is_bare.ensures c.if-is_bare.true in
     removed _ _ item_of used x c.args.at c.args.item used2 j b.result b.ensures.bucket b.ensures.within _
