@@ -1,5 +1,5 @@
 -- What each call owes that moves one key, from what the table under it ensures.
-use Rattle.std.proofs.Common.{◌≡◌, ◌≢◌, ℕ, ◌+◌, ◌<◌, ◌≤◌, ◌⊎◌, true, false, cond, Option, Some, None, List, [], ◌∷◌, map, ap, ◌∙◌, sym, subst, refl, arith, inl, inr}
+use Rattle.std.proofs.Common.{◌≡◌, ◌≢◌, ℕ, ◌+◌, ◌<◌, ◌≤◌, ◌⊎◌, true, false, cond, Option, Some, None, List, [], ◌∷◌, map, ap, ◌∙◌, sym, subst, refl, arith, inl, inr, ◌++◌}
 use Rattle.std.proofs.lemmas.Bool.{cases_Bool, cases_eq, cases_lt}
 use Rattle.std.proofs.Math.Path.{fun_ext}
 use Rattle.step_record.specs.declared.item.Item.{Item}
@@ -7,18 +7,18 @@ use Rattle.queue_table.specs.declared.records.Entry.{Entry}
 use Rattle.queue_table.specs.declared.records.Place.{Place}
 use Rattle.queue_table.specs.declared.slot.Slot.{Slot}
 use Rattle.queue_table.specs.Ring.{lists}
-use Rattle.queue_table.specs.Entries.{items_of, is_same_item, entry, occurrences, entries_without, entries_counted, last_from, last_item, oldest_of, newest_of, newest_from, before, put_behind, IsGap}
+use Rattle.queue_table.specs.Entries.{is_same_item, entry, occurrences, entries_without, entries_counted, last_from, last_item, oldest_of, newest_of, newest_from, before, put_behind, IsGap}
 use Rattle.queue_table.specs.Queues.{QUEUES, Queues, queue_holding, place_at, place_in, IsDistinct, after_push, after_removal, after_send, after_count, after_return}
 use Rattle.queue_table.proofs.EntryLists.{same-refl, times-append, times-without}
-use Rattle.queue_table.proofs.QueueLists.{absent, is_absent, queue-few, with-queue-same, with-queue-other}
-use Rattle.queue_table.proofs.MoveBack.{gap, move-back, taken-sent, out-back, pushed-back, without-none, high-empty}
+use Rattle.queue_table.proofs.QueueLists.{absent, is_absent, still-absent, with-queue-same, with-queue-other}
+use Rattle.queue_table.proofs.MoveBack.{gap, move-back, taken-sent, out-back, pushed-back, high-empty}
 use Rattle.queue_moves.specs.declared.records.KeyMove.{KeyMove}
 use Rattle.queue_moves.specs.declared.records.Change.TheVariants as change
 use Rattle.queue_moves.specs.declared.records.Departure.TheVariants as departure
 use Rattle.queue_moves.specs.Moves.{item_of, count_of, leaving, counts, goes, departed}
 use Rattle.queue_moves.specs.Undoing.{left_by, nothing_left, key_in, item_in, count_at, move_from, move_of, before_own, FitsPlace, IsLeft, IsOwn}
 use Rattle.queue_moves.specs.Tabled.{nodes_of, HasKeys, IsTabled, keys_of}
-use Rattle.queue_moves.proofs.Tabled.{nodes-append, nodes-without, counted-none}
+use Rattle.queue_moves.proofs.Tabled.{nodes-append, nodes-without, counted-none, oldest-node, counted-own, few, nowhere, absent-gone, tabled-removal}
 use Rattle.queue_moves.proofs.Standing.{Stands, cut, holding, own-count, elsewhere, oldest_stands}
 
 -- ---- keys
@@ -29,13 +29,6 @@ tabled-in slots k d = record { keys = k; distinct = d; high = high-empty slots }
 -- what stands in a list of keys is the item of its key
 pub key-item : (i : Item) → i.node ≡ 0 → item_of i.key ≡ i
 key-item i h = ap (λ (x : ℕ). let r : Item = record { key = i.key; node = x } in r) (sym h)
-
-pub oldest-node : (e : Entry) (l : List Entry) → nodes_of l ≡ 0 → oldest_of l ≡ Some e → e.item.node ≡ 0
-oldest-node e [] z h = absurd (cc h)
-oldest-node e (x ∷ l) z h =
-    let same : x ≡ e = cc h in
-    let n = ap (λ (y : Entry). y.item.node) same in
-    omega (arith, z, n)
 
 newest-in : (e y : Entry) (l : List Entry) → y.item.node ≡ 0 → nodes_of l ≡ 0 → newest_from (Some y) l ≡ Some e → e.item.node ≡ 0
 newest-in e y [] hy hl h = let same : y ≡ e = cc h in let n = ap (λ (x : Entry). x.item.node) same in omega (arith, hy, n)
@@ -66,10 +59,6 @@ keys-back q older e s n k j =
       | inr z ↦ ap nodes_of (with-queue-other q j _ (after_removal e.item s) z) ∙ nodes-out e.item (s j) (k j)
     ]
 
-pub keys-of-items : (l : List Entry) → map (λ (i : Item). i.key) (items_of l) ≡ keys_of l
-keys-of-items [] = refl
-keys-of-items (e ∷ l) = ap (λ t. e.item.key ∷ t) (keys-of-items l)
-
 -- ---- what stands elsewhere
 
 pub first-other : (e o : Entry) (l : List Entry) → oldest_of l ≡ Some o → occurrences e.item l ≡ 0 → is_same_item e.item o.item ≡ false
@@ -99,32 +88,30 @@ off-after-send i e to q s h z =
 
 -- ---- one move of a table's entry
 
-module _ (e : Entry) (slots : List Slot) (d : IsDistinct (lists slots)) (at : Stands e (lists slots)) where
-  abbrev s : Queues
-  s = lists slots
+-- an entry that was put into a queue stands there
+there-pushed : (i : Item) (to n : ℕ) (s : Queues) → to < QUEUES → queue_holding i (after_push to (entry i n) s) ≢ None
+there-pushed i to n s w none =
+    let own : is_same_item i i ≡ true = same-refl i in
+    let zero_of = absent i (after_push to (entry i n) s) none to w in
+    let sum = ap (occurrences i) (with-queue-same to _ s) ∙ times-append i (s to) (entry i n ∷ []) in
+    let sum2 = rw own at sum in
+    omega (arith, zero_of, sum2)
 
+module _ (e : Entry) (s : Queues) (t : IsTabled s) (at : Stands e s) where
   abbrev pub front : List Entry
-  front = (cut e slots d at).front
+  front = (cut e s t at).front
 
   place-is : place_in e.item s ≡ Some record { queue = at.queue; older = last_item front }
-  place-is = ap (λ h. place_at e.item h s) (holding e slots d at)
-
-  there-sent : (to n : ℕ) → to < QUEUES → queue_holding e.item (after_send (entry e.item n) to s) ≢ None
-  there-sent to n w none =
-      let own : is_same_item e.item e.item ≡ true = same-refl e.item in
-      let zero_of = absent e.item (after_send (entry e.item n) to s) none to w in
-      let sum = ap (occurrences e.item) (with-queue-same to _ (after_removal e.item s)) ∙ times-append e.item (entries_without e.item (s to)) (entry e.item n ∷ []) in
-      let sum2 = rw own at sum in
-      omega (arith, zero_of, sum2)
+  place-is = ap (λ h. place_at e.item h s) (holding e s t at)
 
   pub sent-back : (to n : ℕ) → after_return at.queue (last_item front) e (after_removal e.item (after_send (entry e.item n) to s)) ≡ s
-  sent-back to n = fun_ext (move-back at.queue to n e s d (cut e slots d at) (elsewhere e slots d at))
+  sent-back to n = fun_ext (move-back at.queue to n e s t.distinct (cut e s t at) (elsewhere e s t at))
 
   taken-back : after_return at.queue (last_item front) e (after_removal e.item (after_removal e.item s)) ≡ s
-  taken-back = fun_ext (out-back at.queue e s d (cut e slots d at) (elsewhere e slots d at))
+  taken-back = fun_ext (out-back at.queue e s t.distinct (cut e s t at) (elsewhere e s t at))
 
   sent-gap : (to n : ℕ) → IsGap (last_item front) (after_removal e.item (after_send (entry e.item n) to s) at.queue)
-  sent-gap to n = subst (IsGap (last_item front)) (sym (taken-sent e n to s at.queue)) (gap at.queue e s d (cut e slots d at))
+  sent-gap to n = subst (IsGap (last_item front)) (sym (taken-sent e n to s at.queue)) (gap at.queue e s t.distinct (cut e s t at))
 
 -- ---- counts
 
@@ -136,34 +123,6 @@ counted-twice i m n (x ∷ l) =
       | inr g ↦ rw (g, g, counted-twice i m n l) refl
     ]
 
-counted-own : (i : Item) (n : ℕ) (l : List Entry) → (count_of i l ≡ n) ⊎ (occurrences i l ≡ 0) → occurrences i l ≤ 1 → entries_counted i n l ≡ l
-counted-own i n [] h few = refl
-counted-own i n (x ∷ l) h few =
-    elim (cases_Bool (is_same_item i x.item)) as (λ _. cond (is_same_item i x.item) (entry x.item n ∷ entries_counted i n l) (x ∷ entries_counted i n l) ≡ x ∷ l) [
-      | inl g ↦
-          let one : 1 + occurrences i l ≤ 1 = rw g at few in
-          let rest : entries_counted i n l ≡ l = counted-none i n l (omega (arith, one)) in
-          elim h [
-            | inl c ↦ let its : x.count ≡ n = rw g at c in rw g (ap (λ y. entry x.item y ∷ entries_counted i n l) (sym its) ∙ ap (λ t. x ∷ t) rest)
-            | inr z ↦ absurd (let some : 1 + occurrences i l ≡ 0 = rw g at z in omega (arith, some))
-          ]
-      | inr g ↦
-          let less : 0 + occurrences i l ≤ 1 = rw g at few in
-          let on : (count_of i l ≡ n) ⊎ (occurrences i l ≡ 0) = elim h [
-            | inl c ↦ inl (rw g at c)
-            | inr z ↦ inr (let y : 0 + occurrences i l ≡ 0 = rw g at z in omega (arith, y))
-          ] in
-          rw g (ap (λ t. x ∷ t) (counted-own i n l on (omega (arith, less))))
-    ]
-
--- what stands nowhere has no count
-pub count-none : (i : Item) (n : ℕ) (slots : List Slot) → queue_holding i (lists slots) ≡ None → after_count i n (lists slots) ≡ lists slots
-count-none i n slots h =
-    fun_ext (λ j. elim (cases_lt j QUEUES) [
-      | inl w ↦ counted-none i n (lists slots j) (absent i (lists slots) h j w)
-      | inr w ↦ let e = high-empty slots j (omega (arith, w)) in ap (entries_counted i n) e ∙ sym e
-    ])
-
 -- ---- the accessed key
 
 last-node : (x : Item) (l : List Entry) → x.node ≡ 0 → nodes_of l ≡ 0 → item_in (key_in (last_from (Some x) l)) ≡ last_from (Some x) l
@@ -174,117 +133,79 @@ pub last-key : (l : List Entry) → nodes_of l ≡ 0 → item_in (key_in (last_i
 last-key [] h = refl
 last-key (y ∷ l) h = last-node y.item l (omega (arith, h)) (omega (arith, h))
 
-module _ (k n : ℕ) (slots : List Slot) (d : IsDistinct (lists slots)) (keys : HasKeys (lists slots)) (at : Stands (entry (item_of k) n) (lists slots)) where
-  abbrev s2 : Queues
-  s2 = lists slots
-
+module _ (k n : ℕ) (s : Queues) (t : IsTabled s) (at : Stands (entry (item_of k) n) s) where
   abbrev own : Entry
   own = entry (item_of k) n
 
   abbrev older : Option Item
-  older = last_item (front own slots d at)
+  older = last_item (front own s t at)
 
-  front-nodes : nodes_of (front own slots d at) ≡ 0
+  front-nodes : nodes_of (front own s t at) ≡ 0
   front-nodes =
-      let all = keys at.queue in
-      let cut_in = ap nodes_of (cut own slots d at).whole ∙ nodes-append (front own slots d at) (own ∷ (cut own slots d at).back) in
+      let all = t.keys at.queue in
+      let cut_in = ap nodes_of (cut own s t at).whole ∙ nodes-append (front own s t at) (own ∷ (cut own s t at).back) in
       omega (arith, all, cut_in)
 
   older-key : item_in (key_in older) ≡ older
-  older-key = last-key (front own slots d at) front-nodes
+  older-key = last-key (front own s t at) front-nodes
 
   abbrev record_at : Option ℕ → ℕ → ℕ → KeyMove
   record_at o m q = record { key = k; older = o; count = m; queue = q; by = change.Moved }
 
-  is-moved : (to m : ℕ) (p : Place) → Some p ≡ place_in (item_of k) s2 → record_at (key_in p.older) n p.queue ≡ move_of (goes to m) (item_of k) s2
-  is-moved to m p h =
-      let there : p ≡ record { queue = at.queue; older = older } = let both : Some p ≡ Some record { queue = at.queue; older = older } = h ∙ place-is own slots d at in cc both in
-      let counted : count_of (item_of k) (s2 at.queue) ≡ n = own-count own slots d at in
-      ap (λ (x : Place). record_at (key_in x.older) n x.queue) there
-      ∙ ap (λ x. record_at (key_in older) x at.queue) (sym counted)
-      ∙ sym (ap (λ x. move_from (item_of k) x s2) (place-is own slots d at))
-
-  pub own-moved : (to m : ℕ) → to < QUEUES → (p : Place) → Some p ≡ place_in (item_of k) s2 → (u : Queues) → u ≡ after_send (entry (item_of k) m) to s2
-      → IsOwn (goes to m) (item_of k) s2 u (record_at (key_in p.older) n p.queue)
+  pub own-moved : (to m : ℕ) → to < QUEUES → (p : Place) → Some p ≡ place_in (item_of k) s → (u : Queues) → u ≡ after_send (entry (item_of k) m) to s
+      → IsOwn (goes to m) (item_of k) s u (record_at (key_in p.older) n p.queue)
   own-moved to m w p h u hu =
-      let there : p ≡ record { queue = at.queue; older = older } = let both : Some p ≡ Some record { queue = at.queue; older = older } = h ∙ place-is own slots d at in cc both in
-      record {
+      let both : Some p ≡ Some record { queue = at.queue; older = older } = h ∙ place-is own s t at in
+      let there : record { queue = at.queue; older = older } ≡ p = cc both in
+      subst (λ (x : Place). IsOwn (goes to m) (item_of k) s u (record_at (key_in x.older) n x.queue)) there record {
         after = hu;
-        is = is-moved to m p h;
-        fits = subst (λ (x : Place). FitsPlace (record_at (key_in x.older) n x.queue) u) (sym there) record {
+        is = ap (λ x. record_at (key_in older) x at.queue) (sym (own-count own s t at)) ∙ sym (ap (λ x. move_from (item_of k) x s) (place-is own s t at));
+        fits = record {
           low = at.low;
-          there = subst (λ x. queue_holding (item_of k) x ≢ None) (sym hu) (there-sent own slots d at to m w);
+          there = subst (λ x. queue_holding (item_of k) x ≢ None) (sym hu) (there-pushed (item_of k) to m (after_removal (item_of k) s) w);
           gap = subst (λ x. IsGap x (after_removal (item_of k) u at.queue)) (sym older-key)
-              (subst (λ x. IsGap older (after_removal (item_of k) x at.queue)) (sym hu) (sent-gap own slots d at to m));
+              (subst (λ x. IsGap older (after_removal (item_of k) x at.queue)) (sym hu) (sent-gap own s t at to m));
         };
-        undone = ap (λ (x : Place). before_own (record_at (key_in x.older) n x.queue) u) there
-            ∙ ap (λ x. after_return at.queue x own (after_removal (item_of k) u)) older-key
+        undone = ap (λ x. after_return at.queue x own (after_removal (item_of k) u)) older-key
             ∙ ap (λ x. after_return at.queue older own (after_removal (item_of k) x)) hu
-            ∙ sent-back own slots d at to m;
+            ∙ sent-back own s t at to m;
       }
 
   abbrev recounted : KeyMove
   recounted = record { key = k; older = None; count = n; queue = 0; by = change.Counted }
 
-  pub own-counted : (m : ℕ) (u : Queues) → u ≡ after_count (item_of k) m s2 → IsOwn (counts m) (item_of k) s2 u recounted
+  pub own-counted : (m : ℕ) (u : Queues) → u ≡ after_count (item_of k) m s → IsOwn (counts m) (item_of k) s u recounted
   own-counted m u hu = record {
     after = hu;
     is = ap (λ x. record { key = k; older = None; count = x; queue = 0; by = change.Counted })
-        (sym (ap (λ h. count_at (item_of k) h s2) (holding own slots d at) ∙ own-count own slots d at));
+        (sym (ap (λ h. count_at (item_of k) h s) (holding own s t at) ∙ own-count own s t at));
     fits = tt;
-    undone = ap (after_count (item_of k) n) hu ∙ fun_ext (λ j. counted-twice (item_of k) m n (s2 j) ∙ same j);
+    undone = ap (after_count (item_of k) n) hu ∙ fun_ext (λ j. counted-twice (item_of k) m n (s j) ∙ same j);
   }
     where
-      same : (j : ℕ) → entries_counted (item_of k) n (s2 j) ≡ s2 j
+      same : (j : ℕ) → entries_counted (item_of k) n (s j) ≡ s j
       same j =
           elim (cases_eq j at.queue) [
-            | inl z ↦ counted-own (item_of k) n (s2 j) (inl (ap (λ x. count_of (item_of k) (s2 x)) z ∙ own-count own slots d at))
-                (let few : occurrences (item_of k) (s2 at.queue) ≤ 1 = queue-few at.queue s2 at.low d (item_of k) in let e = ap (λ x. occurrences (item_of k) (s2 x)) z in omega (arith, few, e))
-            | inr z ↦ counted-own (item_of k) n (s2 j) (inr (elsewhere own slots d at j z)) (let none = elsewhere own slots d at j z in omega (arith, none))
+            | inl z ↦ counted-own (item_of k) n (s j) (inl (ap (λ x. count_of (item_of k) (s x)) z ∙ own-count own s t at)) (few s t j (item_of k))
+            | inr z ↦ counted-none (item_of k) n (s j) (elsewhere own s t at j z)
           ]
 
 -- a key that joins
-module _ (k : ℕ) (s : Queues) (nowhere : (j : ℕ) → occurrences (item_of k) (s j) ≡ 0) where
-  none : queue_holding (item_of k) s ≡ None
-  none = is_absent (item_of k) s (λ q w. nowhere q)
-
-  untouched : after_removal (item_of k) s ≡ s
-  untouched = fun_ext (λ j. without-none (item_of k) (s j) (nowhere j))
-
-  there-joined : (to m : ℕ) → to < QUEUES → queue_holding (item_of k) (after_push to (entry (item_of k) m) s) ≢ None
-  there-joined to m w h =
-      let same : is_same_item (item_of k) (item_of k) ≡ true = same-refl (item_of k) in
-      let zero_of = absent (item_of k) (after_push to (entry (item_of k) m) s) h to w in
-      let sum = ap (occurrences (item_of k)) (with-queue-same to _ s) ∙ times-append (item_of k) (s to) (entry (item_of k) m ∷ []) in
-      let sum2 = rw same at sum in
-      omega (arith, zero_of, sum2)
-
-  joined : (to m : ℕ) → to < QUEUES → (u : Queues) → u ≡ after_push to (entry (item_of k) m) s
+module _ (k : ℕ) (s : Queues) (t : IsTabled s) (none : queue_holding (item_of k) s ≡ None) where
+  pub own-joined : (to m : ℕ) → to < QUEUES → (u : Queues) → u ≡ after_push to (entry (item_of k) m) s
       → IsOwn (goes to m) (item_of k) s u record { key = k; older = None; count = 0; queue = 0; by = change.Joined }
-  joined to m w u hu = record {
-    after = hu ∙ ap (after_push to (entry (item_of k) m)) (sym untouched);
+  own-joined to m w u hu = record {
+    after = hu ∙ ap (after_push to (entry (item_of k) m)) (sym (absent-gone s t (item_of k) none));
     is = sym (ap (λ h. move_from (item_of k) (place_at (item_of k) h s) s) none);
-    fits = subst (λ x. queue_holding (item_of k) x ≢ None) (sym hu) (there-joined to m w);
-    undone = ap (after_removal (item_of k)) hu ∙ fun_ext (pushed-back to (entry (item_of k) m) s nowhere);
+    fits = subst (λ x. queue_holding (item_of k) x ≢ None) (sym hu) (there-pushed (item_of k) to m s w);
+    undone = ap (after_removal (item_of k)) hu ∙ fun_ext (pushed-back to (entry (item_of k) m) s (nowhere s t (item_of k) none));
   }
 
-module _ (k : ℕ) (slots : List Slot) (none : queue_holding (item_of k) (lists slots) ≡ None) where
-  nowhere : (j : ℕ) → occurrences (item_of k) (lists slots j) ≡ 0
-  nowhere j =
-      elim (cases_lt j QUEUES) [
-        | inl w ↦ absent (item_of k) (lists slots) none j w
-        | inr w ↦ ap (occurrences (item_of k)) (high-empty slots j (omega (arith, w)))
-      ]
-
-  pub own-joined : (to m : ℕ) → to < QUEUES → (u : Queues) → u ≡ after_push to (entry (item_of k) m) (lists slots)
-      → IsOwn (goes to m) (item_of k) (lists slots) u record { key = k; older = None; count = 0; queue = 0; by = change.Joined }
-  own-joined = joined k (lists slots) nowhere
-
-  -- once another has gone
-  pub own-renewed : (i : Item) (to m : ℕ) → to < QUEUES → (u : Queues) → u ≡ after_push to (entry (item_of k) m) (after_removal i (lists slots))
-      → IsOwn (goes to m) (item_of k) (after_removal i (lists slots)) u record { key = k; older = None; count = 0; queue = 0; by = change.Joined }
-  own-renewed i = joined k (after_removal i (lists slots))
-      (λ j. (let z = nowhere j in let l = times-without i (item_of k) (lists slots j) in omega (arith, z, l)))
+-- once another has gone
+pub own-renewed : (k : ℕ) (s : Queues) → IsTabled s → queue_holding (item_of k) s ≡ None → (i : Item) (to m : ℕ) → to < QUEUES → (u : Queues) → u ≡ after_push to (entry (item_of k) m) (after_removal i s)
+    → IsOwn (goes to m) (item_of k) (after_removal i s) u record { key = k; older = None; count = 0; queue = 0; by = change.Joined }
+own-renewed k s t none i =
+    own-joined k (after_removal i s) (tabled-removal s t i) (is_absent (item_of k) _ (still-absent (item_of k) i s (absent (item_of k) s none)))
 
 -- ---- the oldest key of a queue
 
@@ -295,38 +216,35 @@ no-front e (x ∷ l) h =
     let own_item : is_same_item e.item x.item ≡ true = rw same (same-refl e.item) in
     rw own_item refl
 
-module _ (e : Entry) (q : ℕ) (slots : List Slot) (d : IsDistinct (lists slots)) (keys : HasKeys (lists slots)) (w : q < QUEUES) (first : oldest_of (lists slots q) ≡ Some e) where
-  abbrev s3 : Queues
-  s3 = lists slots
-
-  abbrev at_end : Stands e s3
-  at_end = oldest_stands e q s3 w first
+module _ (e : Entry) (q : ℕ) (s : Queues) (t : IsTabled s) (w : q < QUEUES) (first : oldest_of (s q) ≡ Some e) where
+  abbrev at_end : Stands e s
+  at_end = oldest_stands e q s w first
 
   own-key : item_of e.item.key ≡ e.item
-  own-key = key-item e.item (oldest-node e (s3 q) (keys q) first)
+  own-key = key-item e.item (oldest-node e (s q) (t.keys q) first)
 
-  pub left-sent : (to m : ℕ) → to < QUEUES → (u : Queues) → u ≡ after_send (entry e.item m) to s3
-      → IsLeft (leaving q (Some (to, m))) s3 u record { key = e.item.key; count = e.count; queue = q; by = departure.Sent }
+  pub left-sent : (to m : ℕ) → to < QUEUES → (u : Queues) → u ≡ after_send (entry e.item m) to s
+      → IsLeft (leaving q (Some (to, m))) s u record { key = e.item.key; count = e.count; queue = q; by = departure.Sent }
   left-sent to m low u hu = record {
-    after = hu ∙ sym (ap (λ x. departed (Some (to, m)) x s3) first);
+    after = hu ∙ sym (ap (λ x. departed (Some (to, m)) x s) first);
     is = sym (ap (left_by (Some (to, m)) q) first);
-    fits = (w, subst (λ i. queue_holding i u ≢ None) (sym own-key) (subst (λ x. queue_holding e.item x ≢ None) (sym hu) (there-sent e slots d at_end to m low)));
+    fits = (w, subst (λ i. queue_holding i u ≢ None) (sym own-key) (subst (λ x. queue_holding e.item x ≢ None) (sym hu) (there-pushed e.item to m (after_removal e.item s) low)));
     undone = ap (λ i. after_return q None (entry i e.count) (after_removal i u)) own-key
         ∙ ap (λ x. after_return q None e (after_removal e.item x)) hu
-        ∙ ap (λ o. after_return q o e (after_removal e.item (after_send (entry e.item m) to s3))) (sym (no-front e (s3 q) first))
-        ∙ sent-back e slots d at_end to m;
+        ∙ ap (λ o. after_return q o e (after_removal e.item (after_send (entry e.item m) to s))) (sym (no-front e (s q) first))
+        ∙ sent-back e s t at_end to m;
   }
 
-  pub left-out : (u : Queues) → u ≡ after_removal e.item s3
-      → IsLeft (leaving q None) s3 u record { key = e.item.key; count = e.count; queue = q; by = departure.Out }
+  pub left-out : (u : Queues) → u ≡ after_removal e.item s
+      → IsLeft (leaving q None) s u record { key = e.item.key; count = e.count; queue = q; by = departure.Out }
   left-out u hu = record {
-    after = hu ∙ sym (ap (λ x. departed None x s3) first);
+    after = hu ∙ sym (ap (λ x. departed None x s) first);
     is = sym (ap (left_by None q) first);
     fits = w;
     undone = ap (λ i. after_return q None (entry i e.count) (after_removal i u)) own-key
         ∙ ap (λ x. after_return q None e (after_removal e.item x)) hu
-        ∙ ap (λ o. after_return q o e (after_removal e.item (after_removal e.item s3))) (sym (no-front e (s3 q) first))
-        ∙ taken-back e slots d at_end;
+        ∙ ap (λ o. after_return q o e (after_removal e.item (after_removal e.item s))) (sym (no-front e (s q) first))
+        ∙ taken-back e s t at_end;
   }
 
 pub nothing-left : (s : Queues) → IsLeft None s s nothing_left

@@ -2,13 +2,12 @@
 use Rattle.std.proofs.Common.{◌≡◌, ℕ, suc, zero, ◌+◌, ◌-◌, ◌<◌, ◌≤◌, true, false, nat_lt, Option, Some, None, List, [], ◌∷◌, ◌++◌, ap, ◌∙◌, sym, subst, refl, arith, inl, inr}
 use Rattle.std.proofs.lemmas.Bool.{cases_Bool}
 use Rattle.queue_table.specs.declared.records.Entry.{Entry}
-use Rattle.queue_table.specs.declared.slot.Slot.{Slot}
-use Rattle.queue_table.specs.Ring.{lists}
 use Rattle.queue_table.specs.Entries.{entry, entries_without, oldest_of, newest_of, newest_from}
-use Rattle.queue_table.specs.Queues.{QUEUES, Queues, IsDistinct, after_removal, after_send, after_return}
+use Rattle.queue_table.specs.Queues.{QUEUES, Queues, after_removal, after_send, after_return}
 use Rattle.queue_table.proofs.QueueLists.{with-queue-same}
 use Rattle.queue_moves.specs.Moves.{run, turned, after_turn, after_turns, turns_due, count_or}
 use Rattle.queue_moves.specs.Undoing.{HasCountLeft, FitTurns, turned_back, before_turn, before_turns, IsTurn, IsRun}
+use Rattle.queue_moves.specs.Tabled.{IsTabled}
 use Rattle.queue_moves.proofs.Standing.{oldest_stands}
 use Rattle.queue_moves.proofs.Laws.{sent-back, no-front}
 
@@ -18,25 +17,25 @@ newest-append : (found : Option Entry) (l : List Entry) (e : Entry) → newest_f
 newest-append found [] e = refl
 newest-append found (x ∷ l) e = newest-append (Some x) l e
 
-module _ (e : Entry) (from to less m : ℕ) (slots : List Slot) (d : IsDistinct (lists slots)) (w : from < QUEUES) (first : oldest_of (lists slots from) ≡ Some e)
-    (lower : m + less ≡ e.count) (bound : e.count < 256) (u : Queues) (hu : u ≡ after_send (entry e.item m) to (lists slots)) where
+module _ (e : Entry) (from to less m : ℕ) (s : Queues) (t : IsTabled s) (w : from < QUEUES) (first : oldest_of (s from) ≡ Some e)
+    (lower : m + less ≡ e.count) (bound : e.count < 256) (u : Queues) (hu : u ≡ after_send (entry e.item m) to s) where
   newest-is : newest_of (u to) ≡ Some (entry e.item m)
   newest-is =
       ap (λ (x : Queues). newest_of (x to)) hu
-      ∙ ap newest_of (with-queue-same to _ (after_removal e.item (lists slots)))
-      ∙ newest-append None (entries_without e.item (lists slots to)) (entry e.item m)
+      ∙ ap newest_of (with-queue-same to _ (after_removal e.item s))
+      ∙ newest-append None (entries_without e.item (s to)) (entry e.item m)
 
-  pub turn-made : IsTurn from to less (lists slots) u
+  pub turn-made : IsTurn from to less s u
   turn-made =
       let count_is : m ≡ e.count - less = omega (arith, lower) in
       record {
-        after = hu ∙ ap (λ x. after_send (entry e.item x) to (lists slots)) count_is ∙ sym (ap (λ x. turned to less x (lists slots)) first);
+        after = hu ∙ ap (λ x. after_send (entry e.item x) to s) count_is ∙ sym (ap (λ x. turned to less x s) first);
         fits = subst (HasCountLeft less) (sym newest-is) (let low : m + less < 256 = omega (arith, lower, bound) in low);
         undone = ap (λ x. turned_back from less x u) newest-is
             ∙ ap (λ x. after_return from None (entry e.item x) (after_removal e.item u)) lower
             ∙ ap (λ x. after_return from None e (after_removal e.item x)) hu
-            ∙ ap (λ o. after_return from o e (after_removal e.item (after_send (entry e.item m) to (lists slots)))) (sym (no-front e (lists slots from) first))
-            ∙ sent-back e slots d (oldest_stands e from (lists slots) w first) to m;
+            ∙ ap (λ o. after_return from o e (after_removal e.item (after_send (entry e.item m) to s))) (sym (no-front e (s from) first))
+            ∙ sent-back e s t (oldest_stands e from s w first) to m;
       }
 
 -- ---- any number of turns

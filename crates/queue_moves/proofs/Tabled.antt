@@ -1,5 +1,5 @@
 -- What the calls make of the queues of a table of keys.
-use Rattle.std.proofs.Common.{◌≡◌, ℕ, suc, zero, ◌+◌, ◌-◌, ◌<◌, ◌≤◌, true, false, cond, ◌&&◌, eqb, nat_lt, Option, Some, None, List, [], ◌∷◌, ◌++◌, ap, ◌∙◌, sym, refl, arith, inl, inr}
+use Rattle.std.proofs.Common.{◌≡◌, ℕ, suc, zero, ◌+◌, ◌-◌, ◌<◌, ◌≤◌, true, false, cond, ◌&&◌, eqb, nat_lt, Option, Some, None, List, [], ◌∷◌, ◌++◌, ap, ◌∙◌, sym, refl, arith, ◌⊎◌, inl, inr}
 use Rattle.std.proofs.Math.Path.{fun_ext}
 use Rattle.std.proofs.lemmas.Bool.{cases_Bool, cases_eq, cases_lt, eq-eqb, lt-ltb, le-ltb}
 use Rattle.std.proofs.lemmas.List as ListLemmas
@@ -9,7 +9,7 @@ use Rattle.queue_table.specs.declared.records.Entry.{Entry}
 use Rattle.queue_table.specs.Entries.{is_same_item, entry, occurrences, entries_without, entries_counted, oldest_of, before}
 use Rattle.queue_table.specs.Queues.{QUEUES, Queues, with_queue, queue_below, queue_holding, times_below, after_push, after_removal, after_send, after_count}
 use Rattle.queue_table.proofs.EntryLists.{same-true, same-refl, times-append}
-use Rattle.queue_table.proofs.QueueLists.{IsAbsent, absent, absent-taken, placed, queue-few, distinct-taken, with-queue-same, with-queue-other, times-with}
+use Rattle.queue_table.proofs.QueueLists.{IsAbsent, absent, absent-taken, placed, queue-few, distinct-taken, with-queue-same, with-queue-other, times-with, times-none}
 use Rattle.queue_table.proofs.MoveBack.{StandsIn, front-none, back-none, rest, without-none}
 use Rattle.queue_table.proofs.Counting.{distinct-counted}
 use Rattle.queue_moves.specs.Moves.{item_of, count_of, standing, standing_at, Leaving, Own, stays, counts, goes, Plan, IsLowTarget, IsLowLeaving, IsLowOwn, IsLowPlan}
@@ -43,13 +43,30 @@ nodes-counted i n (e ∷ l) =
       | inr h ↦ rw h (ap (λ x. e.item.node + x) r)
     ]
 
-pub counted-none : (i : Item) (n : ℕ) (l : List Entry) → occurrences i l ≡ 0 → entries_counted i n l ≡ l
-counted-none i n [] h = refl
-counted-none i n (x ∷ l) h =
+-- the item has the count already, or stands nowhere
+pub counted-own : (i : Item) (n : ℕ) (l : List Entry) → (count_of i l ≡ n) ⊎ (occurrences i l ≡ 0) → occurrences i l ≤ 1 → entries_counted i n l ≡ l
+counted-own i n [] h few = refl
+counted-own i n (x ∷ l) h few =
     elim (cases_Bool (is_same_item i x.item)) as (λ _. cond (is_same_item i x.item) (entry x.item n ∷ entries_counted i n l) (x ∷ entries_counted i n l) ≡ x ∷ l) [
-      | inl e ↦ absurd (let few : 1 + occurrences i l ≡ 0 = rw e at h in omega (arith, few))
-      | inr e ↦ let rest : 0 + occurrences i l ≡ 0 = rw e at h in rw e (ap (λ t. x ∷ t) (counted-none i n l (omega (arith, rest))))
+      | inl g ↦
+          let one : 1 + occurrences i l ≤ 1 = rw g at few in
+          let none : occurrences i l ≡ 0 = omega (arith, one) in
+          let rest : entries_counted i n l ≡ l = counted-own i n l (inr none) (omega (arith, none)) in
+          elim h [
+            | inl c ↦ let its : x.count ≡ n = rw g at c in rw g (ap (λ y. entry x.item y ∷ entries_counted i n l) (sym its) ∙ ap (λ t. x ∷ t) rest)
+            | inr z ↦ absurd (let some : 1 + occurrences i l ≡ 0 = rw g at z in omega (arith, some))
+          ]
+      | inr g ↦
+          let less : 0 + occurrences i l ≤ 1 = rw g at few in
+          let on : (count_of i l ≡ n) ⊎ (occurrences i l ≡ 0) = elim h [
+            | inl c ↦ inl (rw g at c)
+            | inr z ↦ inr (let y : 0 + occurrences i l ≡ 0 = rw g at z in omega (arith, y))
+          ] in
+          rw g (ap (λ t. x ∷ t) (counted-own i n l on (omega (arith, less))))
     ]
+
+pub counted-none : (i : Item) (n : ℕ) (l : List Entry) → occurrences i l ≡ 0 → entries_counted i n l ≡ l
+counted-none i n l z = counted-own i n l (inr z) (omega (arith, z))
 
 counted-append : (i : Item) (n : ℕ) (xs ys : List Entry) → entries_counted i n (xs ++ ys) ≡ entries_counted i n xs ++ entries_counted i n ys
 counted-append i n [] ys = refl
@@ -60,11 +77,11 @@ counted-append i n (x ∷ xs) ys =
     ]
 
 -- what follows an item that stands in the list
-abbrev behind : Item → List Entry → List Entry
+abbrev pub behind : Item → List Entry → List Entry
 behind i [] = []
 behind i (e ∷ l) = cond (is_same_item i e.item) l (behind i l)
 
-found-split : (i : Item) (l : List Entry) → 1 ≤ occurrences i l → l ≡ before i l ++ entry i (count_of i l) ∷ behind i l
+pub found-split : (i : Item) (l : List Entry) → 1 ≤ occurrences i l → l ≡ before i l ++ entry i (count_of i l) ∷ behind i l
 found-split i [] h = absurd (omega (arith, h))
 found-split i (x ∷ l) h =
     elim (cases_Bool (is_same_item i x.item)) as (λ _. x ∷ l ≡ cond (is_same_item i x.item) [] (x ∷ before i l) ++ entry i (cond (is_same_item i x.item) x.count (count_of i l)) ∷ cond (is_same_item i x.item) l (behind i l)) [
@@ -106,6 +123,13 @@ has-key-some k l h m = has-occurs k l h ∙ lt-ltb 0 (occurrences (item_of k) l)
 
 has-key-none : (k : ℕ) (l : List Entry) → nodes_of l ≡ 0 → occurrences (item_of k) l ≡ 0 → has_key k (keys_of l) ≡ false
 has-key-none k l h m = has-occurs k l h ∙ le-ltb 0 (occurrences (item_of k) l) (omega (arith, m))
+
+pub oldest-node : (e : Entry) (l : List Entry) → nodes_of l ≡ 0 → oldest_of l ≡ Some e → e.item.node ≡ 0
+oldest-node e [] z h = absurd (cc h)
+oldest-node e (x ∷ l) z h =
+    let same : x ≡ e = cc h in
+    let n = ap (λ (y : Entry). y.item.node) same in
+    omega (arith, z, n)
 
 -- ---- queues by number
 
@@ -158,7 +182,7 @@ oldest-at s q e h = first (s q) h
 -- ---- tabled queues
 
 module _ (s : Queues) (t : IsTabled s) where
-  few : (q : ℕ) (i : Item) → occurrences i (s q) ≤ 1
+  pub few : (q : ℕ) (i : Item) → occurrences i (s q) ≤ 1
   few q i = elim (cases_lt q QUEUES) [
     | inl w ↦ queue-few q s w t.distinct i
     | inr w ↦ let z = ap (occurrences i) (t.high q w) in omega (arith, z)
@@ -171,7 +195,7 @@ module _ (s : Queues) (t : IsTabled s) where
   ]
 
   -- an item that stands in one queue stands in no other one
-  elsewhere : (q : ℕ) (i : Item) → 1 ≤ occurrences i (s q) → (j : ℕ) → (j ≡ q → ⊥) → occurrences i (s j) ≡ 0
+  pub elsewhere : (q : ℕ) (i : Item) → 1 ≤ occurrences i (s q) → (j : ℕ) → (j ≡ q → ⊥) → occurrences i (s j) ≡ 0
   elsewhere q i h j d = elim (cases_lt 0 (occurrences i (s j))) [
     | inl m ↦ absurd (d (
         let two : Some j ≡ Some q = sym (placed j i s (low j i m) t.distinct m) ∙ placed q i s (low q i h) t.distinct h in
@@ -179,11 +203,14 @@ module _ (s : Queues) (t : IsTabled s) where
     | inr m ↦ omega (arith, m)
   ]
 
-  nowhere : (i : Item) → queue_holding i s ≡ None → (j : ℕ) → occurrences i (s j) ≡ 0
+  pub nowhere : (i : Item) → queue_holding i s ≡ None → (j : ℕ) → occurrences i (s j) ≡ 0
   nowhere i h j = elim (cases_lt j QUEUES) [
     | inl w ↦ absent i s h j w
     | inr w ↦ ap (occurrences i) (t.high j w)
   ]
+
+  pub counts-absent : (i : Item) (n : ℕ) → queue_holding i s ≡ None → after_count i n s ≡ s
+  counts-absent i n h = fun_ext (λ j. counted-none i n (s j) (nowhere i h j))
 
   at-once : (q : ℕ) (e : Entry) (a b : List Entry) → s q ≡ a ++ e ∷ b → 1 ≤ occurrences e.item (s q)
   at-once q e a b h =
@@ -265,13 +292,6 @@ module _ (s : Queues) (t : IsTabled s) where
 
 -- ---- they stay tabled
 
-times-absent : (n : ℕ) (i : Item) (s : Queues) → ((q : ℕ) → q < n → occurrences i (s q) ≡ 0) → times_below n i s ≡ 0
-times-absent zero i s h = refl
-times-absent (suc n) i s h =
-    let a = h n (omega arith) in
-    let r = times-absent n i s (λ q w. h q (omega (arith, w))) in
-    omega (arith, a, r)
-
 pub tabled-push : (s : Queues) → IsTabled s → (q : ℕ) (e : Entry) → q < QUEUES → e.item.node ≡ 0 → IsAbsent e.item s → IsTabled (after_push q e s)
 tabled-push s t q e w node none = record {
   keys = λ j. elim (cases_eq j q) [
@@ -288,7 +308,7 @@ tabled-push s t q e w node none = record {
       elim (cases_Bool (is_same_item i e.item)) as (λ _. times_below QUEUES i (after_push q e s) ≤ 1) [
         | inl g ↦
             let z : i ≡ e.item = same-true i e.item g in
-            let none2 : times_below QUEUES i s ≡ 0 = ap (λ x. times_below QUEUES x s) z ∙ times-absent QUEUES e.item s none in
+            let none2 : times_below QUEUES i s ≡ 0 = ap (λ x. times_below QUEUES x s) z ∙ times-none QUEUES e.item s none in
             let b2 : occurrences i (s q ++ e ∷ []) ≡ occurrences i (s q) + (1 + 0) = rw g at b in
             omega (arith, a, b2, none2)
         | inr g ↦
@@ -316,15 +336,12 @@ module _ (s : Queues) (t : IsTabled s) where
   pub tabled-send : (e : Entry) (to : ℕ) → to < QUEUES → e.item.node ≡ 0 → IsTabled (after_send e to s)
   tabled-send e to w node = tabled-push (after_removal e.item s) (tabled-removal e.item) to e w node (absent-taken e.item s)
 
-  oldest-node : (q : ℕ) (e : Entry) → oldest_of (s q) ≡ Some e → e.item.node ≡ 0
-  oldest-node q e h = let p = oldest-at s q e h in node-none s t q e [] p.0 p.1
-
   tabled-turned : (to less : ℕ) (o : Option Entry) → to < QUEUES → ((e : Entry) → o ≡ Some e → e.item.node ≡ 0) → IsTabled (turned to less o s)
   tabled-turned to less None w node = t
   tabled-turned to less (Some e) w node = tabled-send (entry e.item (e.count - less)) to w (node e refl)
 
   pub tabled-turn : (from to less : ℕ) → to < QUEUES → IsTabled (after_turn from to less s)
-  tabled-turn from to less w = tabled-turned to less (oldest_of (s from)) w (λ e. oldest-node from e)
+  tabled-turn from to less w = tabled-turned to less (oldest_of (s from)) w (λ e. oldest-node e (s from) (t.keys from))
 
   tabled-departed : (to : Option (ℕ × ℕ)) (o : Option Entry) → IsLowTarget to → ((e : Entry) → o ≡ Some e → e.item.node ≡ 0) → IsTabled (departed to o s)
   tabled-departed to None w node = t
@@ -333,7 +350,7 @@ module _ (s : Queues) (t : IsTabled s) where
 
   pub tabled-leaving : (l : Option Leaving) → IsLowLeaving l → IsTabled (after_leaving l s)
   tabled-leaving None w = t
-  tabled-leaving (Some l) w = tabled-departed l.to (oldest_of (s l.from)) w.1 (λ e. oldest-node l.from e)
+  tabled-leaving (Some l) w = tabled-departed l.to (oldest_of (s l.from)) w.1 (λ e. oldest-node e (s l.from) (t.keys l.from))
 
   pub tabled-own : (o : Own) → IsLowOwn o → (k : ℕ) → IsTabled (after_own o (item_of k) s)
   tabled-own stays w k = t

@@ -5,8 +5,8 @@ use Rattle.queue_table.specs.Queues.{after_count}
 use Rattle.queue_table.specs.QueueTable.{queues}
 use Rattle.queue_moves.specs.Moves.{item_of}
 use Rattle.queue_moves.specs.Tabled.{HasKeys}
-use Rattle.queue_moves.proofs.Laws.{tabled-in, count-none}
-use Rattle.queue_moves.proofs.Tabled.{tabled-count}
+use Rattle.queue_moves.proofs.Laws.{tabled-in}
+use Rattle.queue_moves.proofs.Tabled.{counts-absent, tabled-count}
 use Rattle.queue_moves.proofs.key_queues.KeyQueues.count_back.Goals as goal
 
 pub invariant_of-self : goal.invariant_of-self
@@ -22,5 +22,5 @@ returns-in-Some-clause-queues c =
 pub returns-in-None-clause-queues : goal.returns-in-None-clause-queues
 returns-in-None-clause-queues c =
     sym (ap (λ (x : List Slot). after_count (item_of c.args.key) c.args.count (queues x)) (sym c.self.view_is)
-    ∙ count-none (item_of c.args.key) c.args.count c.self.inside.table c.in-None.ensures.missing
+    ∙ counts-absent _ (tabled-in c.self.inside.table c.self.invariant c.find.ensures.distinct) (item_of c.args.key) c.args.count c.in-None.ensures.missing
     ∙ ap queues c.self.view_is)

@@ -20,7 +20,7 @@ invariant_of-self c =
 pub returns-clause-left : goal.returns-clause-left
 returns-clause-left c =
     subst (λ (x : List Slot). IsLeft (leaving c.args.from None) (queues x) (queues c.remove.new.self) (record { key = c.in-Some.oldest.item.key; count = c.in-Some.oldest.count; queue = c.args.from; by = departure.Out })) c.self.view_is
-    (left-out c.in-Some.oldest c.args.from c.self.inside.table c.distinct.ensures c.self.invariant c.requires.from c.in-Some.ensures.first _
+    (left-out c.in-Some.oldest c.args.from _ (tabled-in c.self.inside.table c.self.invariant c.distinct.ensures) c.requires.from c.in-Some.ensures.first _
     (c.remove.ensures.queues ∙ ap (λ (e : Entry). after_removal e.item (queues c.self.inside.table)) c.in-Some.ensures.entry))
 
 pub returns-clause-others : goal.returns-clause-others

@@ -21,4 +21,4 @@ invariant_of-self c =
 pub returns-clause-own : goal.returns-clause-own
 returns-clause-own c =
     subst (λ (x : List Slot). IsOwn (goes c.args.queue c.args.count) (item_of c.args.key) (queues x) (queues c.push.new.self) (record { key = c.args.key; older = None; count = 0; queue = 0; by = change.Joined })) c.self.view_is
-    (own-joined c.args.key c.self.inside.table (subst (λ (x : List Slot). queue_holding (item_of c.args.key) (queues x) ≡ None) (sym c.self.view_is) c.requires.absent) c.args.queue c.args.count c.requires.queue _ c.push.ensures.queues)
+    (own-joined c.args.key _ (tabled-in c.self.inside.table c.self.invariant c.push.ensures.distinct) (subst (λ (x : List Slot). queue_holding (item_of c.args.key) (queues x) ≡ None) (sym c.self.view_is) c.requires.absent) c.args.queue c.args.count c.requires.queue _ c.push.ensures.queues)

@@ -21,5 +21,5 @@ pub returns-clause-own : goal.returns-clause-own
 returns-clause-own c =
     let h : HoldsAt c.args.found.at (entry (item_of c.args.key) c.args.found.count) c.self.inside.table = subst (HoldsAt c.args.found.at (entry (item_of c.args.key) c.args.found.count)) (sym c.self.view_is) c.requires.at in
     subst (λ (x : List Slot). IsOwn (counts c.args.count) (item_of c.args.key) (queues x) (queues c.set_count.new.self) (record { key = c.args.key; older = None; count = c.args.found.count; queue = 0; by = change.Counted })) c.self.view_is
-    (own-counted c.args.key c.args.found.count c.self.inside.table c.distinct.ensures c.self.invariant (held-stands _ _ _ h) c.args.count _
+    (own-counted c.args.key c.args.found.count _ (tabled-in c.self.inside.table c.self.invariant c.distinct.ensures) (held-stands _ _ _ h) c.args.count _
     (c.set_count.ensures.queues ∙ ap (λ (e : Entry). after_count e.item c.args.count (queues c.self.inside.table)) h.entry))

@@ -41,7 +41,7 @@ returns-clause-left c =
     let s = queues c.self.inside.table in
     let u = after_removal c.in-Some.oldest.item s in
     subst (λ (x : List Slot). IsLeft (leaving c.args.from None) (queues x) (departed None (oldest_of (queues x c.args.from)) (queues x)) (record { key = c.in-Some.oldest.item.key; count = c.in-Some.oldest.count; queue = c.args.from; by = departure.Out })) c.self.view_is
-    (left-out c.in-Some.oldest c.args.from c.self.inside.table c.distinct.ensures c.self.invariant c.requires.from c.in-Some.ensures.first _
+    (left-out c.in-Some.oldest c.args.from _ (tabled-in c.self.inside.table c.self.invariant c.distinct.ensures) c.requires.from c.in-Some.ensures.first _
     (ap (λ (o : Option Entry). departed None o s) c.in-Some.ensures.first))
 
 pub returns-clause-own : goal.returns-clause-own
@@ -51,4 +51,4 @@ returns-clause-own c =
     let own : Queues → Type 0 = λ m. IsOwn (goes c.args.queue c.args.count) (item_of c.args.key) m (queues c.renew.new.self) (record { key = c.args.key; older = None; count = 0; queue = 0; by = change.Joined }) in
     subst (λ (x : List Slot). own (departed None (oldest_of (queues x c.args.from)) (queues x))) c.self.view_is
     (subst (λ (o : Option Entry). own (departed None o s)) (sym c.in-Some.ensures.first)
-    (own-renewed c.args.key c.self.inside.table (none-there at) c.in-Some.oldest.item c.args.queue c.args.count c.requires.queue _ (renewed at)))
+    (own-renewed c.args.key _ (tabled-in c.self.inside.table c.self.invariant c.distinct.ensures) (none-there at) c.in-Some.oldest.item c.args.queue c.args.count c.requires.queue _ (renewed at)))

@@ -24,6 +24,6 @@ returns-clause-own c =
     let h : HoldsAt c.args.found.at (entry (item_of c.args.key) c.args.found.count) c.self.inside.table = subst (HoldsAt c.args.found.at (entry (item_of c.args.key) c.args.found.count)) (sym c.self.view_is) c.requires.at in
     rw c.key_in.ensures
     (subst (λ (x : List Slot). IsOwn (goes c.args.queue c.args.count) (item_of c.args.key) (queues x) (queues c.send-place.new.self) (record { key = c.args.key; older = key_in c.send-place.result.older; count = c.args.found.count; queue = c.send-place.result.queue; by = change.Moved })) c.self.view_is
-    (own-moved c.args.key c.args.found.count c.self.inside.table c.distinct.ensures c.self.invariant (held-stands _ _ _ h) c.args.queue c.args.count c.requires.queue
+    (own-moved c.args.key c.args.found.count _ (tabled-in c.self.inside.table c.self.invariant c.distinct.ensures) (held-stands _ _ _ h) c.args.queue c.args.count c.requires.queue
     c.send-place.result (c.send-place.ensures.place ∙ ap (λ (e : Entry). place_in e.item (queues c.self.inside.table)) h.entry) _
     (c.send-place.ensures.queues ∙ ap (λ (e : Entry). after_send (entry e.item c.args.count) c.args.queue (queues c.self.inside.table)) h.entry)))

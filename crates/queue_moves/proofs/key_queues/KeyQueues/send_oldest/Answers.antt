@@ -8,8 +8,8 @@ use Rattle.queue_moves.specs.declared.records.Departure.TheVariants as departure
 use Rattle.queue_moves.specs.Moves.{leaving}
 use Rattle.queue_moves.specs.Undoing.{IsLeft}
 use Rattle.queue_moves.specs.Tabled.{HasKeys}
-use Rattle.queue_moves.proofs.Laws.{tabled-in, left-sent, oldest-node, first-other}
-use Rattle.queue_moves.proofs.Tabled.{tabled-send}
+use Rattle.queue_moves.proofs.Laws.{tabled-in, left-sent, first-other}
+use Rattle.queue_moves.proofs.Tabled.{oldest-node, tabled-send}
 use Rattle.queue_moves.proofs.key_queues.KeyQueues.send_oldest.Goals as goal
 
 pub invariant_of-self : goal.invariant_of-self
@@ -20,7 +20,7 @@ invariant_of-self c =
 pub returns-clause-left : goal.returns-clause-left
 returns-clause-left c =
     subst (λ (x : List Slot). IsLeft (leaving c.args.from (Some (c.args.queue, c.args.count))) (queues x) (queues c.send.new.self) (record { key = c.in-Some.oldest.item.key; count = c.in-Some.oldest.count; queue = c.args.from; by = departure.Sent })) c.self.view_is
-    (left-sent c.in-Some.oldest c.args.from c.self.inside.table c.distinct.ensures c.self.invariant c.requires.from c.in-Some.ensures.first c.args.queue c.args.count c.requires.queue _
+    (left-sent c.in-Some.oldest c.args.from _ (tabled-in c.self.inside.table c.self.invariant c.distinct.ensures) c.requires.from c.in-Some.ensures.first c.args.queue c.args.count c.requires.queue _
     (c.send.ensures.queues ∙ ap (λ (e : Entry). after_send (entry e.item c.args.count) c.args.queue (queues c.self.inside.table)) c.in-Some.ensures.entry))
 
 pub returns-clause-others : goal.returns-clause-others

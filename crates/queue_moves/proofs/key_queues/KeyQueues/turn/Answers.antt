@@ -6,9 +6,9 @@ use Rattle.queue_table.specs.Queues.{Queues, after_send}
 use Rattle.queue_table.specs.QueueTable.{queues, HoldsAt}
 use Rattle.queue_moves.specs.Undoing.{IsTurn}
 use Rattle.queue_moves.specs.Tabled.{HasKeys}
-use Rattle.queue_moves.proofs.Laws.{tabled-in, oldest-node, first-other, off-after-send}
+use Rattle.queue_moves.proofs.Laws.{tabled-in, first-other, off-after-send}
 use Rattle.queue_moves.proofs.Runs.{turn-made}
-use Rattle.queue_moves.proofs.Tabled.{tabled-send}
+use Rattle.queue_moves.proofs.Tabled.{oldest-node, tabled-send}
 use Rattle.queue_moves.proofs.key_queues.KeyQueues.turn.Goals as goal
 
 pub invariant_of-self : goal.invariant_of-self
@@ -19,7 +19,7 @@ invariant_of-self c =
 pub returns-clause-turned : goal.returns-clause-turned
 returns-clause-turned c some =
     subst (λ (x : List Slot). IsTurn c.args.from c.args.to c.args.less (queues x) (queues c.send.new.self)) c.self.view_is
-    (turn-made c.in-Some.oldest c.args.from c.args.to c.args.less (c.in-Some.oldest.count - c.args.less) c.self.inside.table c.distinct.ensures c.requires.from c.in-Some.ensures.first
+    (turn-made c.in-Some.oldest c.args.from c.args.to c.args.less (c.in-Some.oldest.count - c.args.less) _ (tabled-in c.self.inside.table c.self.invariant c.distinct.ensures) c.requires.from c.in-Some.ensures.first
     (let low = c.if-oldest-least.false in let l = c.requires.less in omega (arith, low, l)) (let fit : Fits w8 c.in-Some.oldest.count = search rules in fit.fits) _
     (c.send.ensures.queues ∙ ap (λ (e : Entry). after_send (entry e.item (c.in-Some.oldest.count - c.args.less)) c.args.to (queues c.self.inside.table)) c.in-Some.ensures.entry))
 
