@@ -1,6 +1,7 @@
 -- How long the sections are once a slot moved, and the lists without it.
-use Rattle.std.proofs.Common.{◌≡◌, ℕ, suc, ◌+◌, ◌<◌, ◌≤◌, Bool, true, false, cond, eqb, get_or, List, [], ◌∷◌, length, ap, ◌∙◌, refl, arith, inl, inr}
-use Rattle.std.proofs.lemmas.Bool.{cases_eq, ne_eqb, eq-eqb}
+use Rattle.std.proofs.Common.{◌≡◌, ℕ, suc, ◌+◌, ◌<◌, ◌≤◌, cond, eqb, get_or, List, [], ◌∷◌, length, ap, refl, arith}
+use Rattle.std.proofs.lemmas.Bool.{cases_eq}
+use Rattle.std.proofs.lemmas.Bool.Decides.{nat_tests}
 use Rattle.queue_table.specs.declared.slot.Slot.{Slot}
 use Rattle.queue_table.specs.declared.lengths.Lengths.{Lengths}
 use Rattle.queue_table.specs.Queues.{after_removal}
@@ -18,44 +19,20 @@ use Rattle.queue_table.proofs.Tables.{free-unused}
 
 length-put : (k b : ℕ) (l : List ℕ) → length (put_before k b l) ≡ length l + 1
 length-put k b [] = refl
-length-put k b (x ∷ l) = put (eqb b x) (length-put k b l)
-  where
-    put : (t : Bool) → length (put_before k b l) ≡ length l + 1 → length (cond t (k ∷ x ∷ l) (x ∷ put_before k b l)) ≡ suc (length l) + 1
-    put true r = omega arith
-    put false r = omega (arith, r)
+length-put k b (x ∷ l) = let r = length-put k b l in grind (arith, nat_tests)
 
 length-sent : (k s b t : ℕ) (o : Order) → length (sent k s b o t) ≡ length (keys_without k (o t)) + cond (eqb t s) 1 0
-length-sent k s b t o =
-    let l : List ℕ = put_before k b (keys_without k (o s)) in
-    elim (cases_eq t s) as (λ _. length (sent k s b o t) ≡ length (keys_without k (o t)) + cond (eqb t s) 1 0) [
-      | inl e ↦
-          let f : eqb t s ≡ true = eq-eqb t s e in
-          let a = ap (λ x. length (sent k s b o x)) e ∙ ap length (with-same s l (order_without k o)) in
-          let c = length-put k b (keys_without k (o s)) in
-          let d = ap (λ x. length (keys_without k (o x))) e in
-          rw f (omega (arith, a, c, d))
-      | inr d ↦
-          let f : eqb t s ≡ false = ne_eqb t s d in
-          let a = ap length (with-other s t l (order_without k o) d) in
-          rw f (omega (arith, a))
-    ]
+length-sent k s b t o = let c = length-put k b (keys_without k (o s)) in let e = cases_eq t s in grind (arith, nat_tests)
 
 -- one slot fewer where it stood, one more where it goes
 pub lengths-sent : (k s b from t : ℕ) (o : Order) → from < SECTIONS → t < SECTIONS → IsOnce o → 1 ≤ count k (o from) → length (sent k s b o t) + cond (eqb t from) 1 0 ≡ length (o t) + cond (eqb t s) 1 0
 lengths-sent k s b from t o w v u n =
     let a = length-sent k s b t o in
     let c = length-without k (o t) in
-    elim (cases_eq t from) as (λ _. length (sent k s b o t) + cond (eqb t from) 1 0 ≡ length (o t) + cond (eqb t s) 1 0) [
-      | inl e ↦
-          let f : eqb t from ≡ true = eq-eqb t from e in
-          let d = ap (λ x. count k (o x)) e in
-          let few = section-few from o k w u in
-          rw f (omega (arith, a, c, d, few, n))
-      | inr d ↦
-          let f : eqb t from ≡ false = ne_eqb t from d in
-          let none = section-alone from t k o w v d u n in
-          rw f (omega (arith, a, c, none))
-    ]
+    let few = section-few t o k v u in
+    let alone = section-alone from t k o w v in
+    let e = cases_eq t from in
+    grind (arith, nat_tests)
 
 pub counted-sent : (lengths lengths2 : Lengths) (k s b from here to : ℕ) (o : Order) → IsCounted lengths o → from < SECTIONS → IsOnce o → 1 ≤ count k (o from) → here ≡ from → to ≡ s →
     ((t : ℕ) → t < SECTIONS → get_or lengths2.at t 0 + cond (eqb t here) 1 0 ≡ get_or lengths.at t 0 + cond (eqb t to) 1 0) → IsCounted lengths2 (sent k s b o)
@@ -63,9 +40,7 @@ counted-sent lengths lengths2 k s b from here to o c w u n eh et h t v =
     let d = lengths-sent k s b from t o w v u n in
     let f = c t v in
     let g = h t v in
-    let x : ◌≡◌ {A = ℕ} (cond (eqb t here) 1 0) (cond (eqb t from) 1 0) = ap (λ y. cond (eqb t y) 1 0) eh in
-    let z : ◌≡◌ {A = ℕ} (cond (eqb t to) 1 0) (cond (eqb t s) 1 0) = ap (λ y. cond (eqb t y) 1 0) et in
-    omega (arith, d, f, g, x, z)
+    grind (arith, nat_tests)
 
 pub count-length : (k : ℕ) (l : List ℕ) → count k l ≤ length l
 count-length k l = let a = length-without k l in omega (arith, a)

@@ -1,10 +1,11 @@
 -- The entries of slots.
-use Rattle.std.proofs.Common.{◌≡◌, ℕ, suc, zero, ◌+◌, ◌<◌, ◌≤◌, true, false, cond, eqb, nat_lt, Option, Some, None, List, [], ◌∷◌, ◌++◌, get_or, set, map, ap, ◌∙◌, sym, refl, subst, arith, inl, inr, get_or-set_other}
+use Rattle.std.proofs.Common.{◌≡◌, ℕ, suc, zero, ◌+◌, ◌<◌, ◌≤◌, true, false, cond, eqb, Option, Some, None, List, [], ◌∷◌, ◌++◌, get_or, set, map, ap, ◌∙◌, sym, refl, subst, arith, inl, inr, get_or-set_other}
 use Rattle.std.proofs.Common.{append-nil, append_assoc}
 use Rattle.std.specs.List.{Contains}
 use Rattle.std.proofs.Math.Path.{fun_ext}
-use Rattle.std.proofs.lemmas.Bool.{cases_Bool, cases_eq, cases_lt, lt-ltb, le-ltb, ne_eqb, eq-eqb, eqb-true}
+use Rattle.std.proofs.lemmas.Bool.{cases_Bool, cases_eq, cases_lt, ne_eqb, eq-eqb, eqb-true}
 use Rattle.std.proofs.lemmas.List.{map-append}
+use Rattle.std.proofs.lemmas.Bool.Decides.{nat_tests}
 use Rattle.step_record.specs.declared.item.Item.{Item}
 use Rattle.queue_table.specs.declared.records.Entry.{Entry}
 use Rattle.queue_table.specs.Entries.{is_same_item, occurrences, last_from, last_item, before, put_behind, entries_without}
@@ -22,27 +23,11 @@ use Rattle.queue_table.proofs.Orders.{put-end, section-in, section-used, short-w
 
 pub times-map : (f : ℕ → Entry) (i : Item) (k : ℕ) (l : List ℕ) → is_same_item i (f k).item ≡ true → count k l ≤ occurrences i (map f l)
 times-map f i k [] h = omega arith
-times-map f i k (x ∷ l) h =
-    let r = times-map f i k l h in
-    elim (cases_Bool (eqb k x)) as (λ _. cond (eqb k x) 1 0 + count k l ≤ cond (is_same_item i (f x).item) 1 0 + occurrences i (map f l)) [
-      | inl e ↦ let s : is_same_item i (f x).item ≡ true = rw (← eqb-true k x e) h in rw (e, s) (omega (arith, r))
-      | inr e ↦ rw e (omega (arith, r))
-    ]
+times-map f i k (x ∷ l) h = let r = times-map f i k l h in let e = cases_eq k x in grind (arith, nat_tests)
 
 pub times-two : (f : ℕ → Entry) (i : Item) (j k : ℕ) (l : List ℕ) → (j ≡ k → ⊥) → is_same_item i (f j).item ≡ true → is_same_item i (f k).item ≡ true → count j l + count k l ≤ occurrences i (map f l)
 times-two f i j k [] d g h = omega arith
-times-two f i j k (x ∷ l) d g h =
-    let r = times-two f i j k l d g h in
-    elim (cases_Bool (eqb j x)) as (λ _. cond (eqb j x) 1 0 + count j l + (cond (eqb k x) 1 0 + count k l) ≤ cond (is_same_item i (f x).item) 1 0 + occurrences i (map f l)) [
-      | inl e ↦
-          let s : is_same_item i (f x).item ≡ true = rw (← eqb-true j x e) g in
-          let n : eqb k x ≡ false = ne_eqb k x (λ z. d (eqb-true j x e ∙ sym z)) in
-          rw (e, s, n) (omega (arith, r))
-      | inr e ↦ elim (cases_Bool (eqb k x)) as (λ _. cond (eqb j x) 1 0 + count j l + (cond (eqb k x) 1 0 + count k l) ≤ cond (is_same_item i (f x).item) 1 0 + occurrences i (map f l)) [
-        | inl e2 ↦ let s : is_same_item i (f x).item ≡ true = rw (← eqb-true k x e2) h in rw (e, e2, s) (omega (arith, r))
-        | inr e2 ↦ rw (e, e2) (omega (arith, r))
-      ]
-    ]
+times-two f i j k (x ∷ l) d g h = let r = times-two f i j k l d g h in let e = cases_eq j x in let e2 = cases_eq k x in grind (arith, nat_tests)
 
 pub times-map-none : (f : ℕ → Entry) (i : Item) (l : List ℕ) → ((k : ℕ) → 1 ≤ count k l → is_same_item i (f k).item ≡ false) → occurrences i (map f l) ≡ 0
 times-map-none f i [] h = refl
@@ -118,10 +103,7 @@ lists-freed k b o es = fun_ext (λ q. ap (map (λ j. slot_entry es j)) (with-oth
 -- put in place
 
 pub lists-with : (q : ℕ) (l : List ℕ) (o : Order) (es : List Entry) → lists_of (with_section (suc q) l o) es ≡ with_queue q (map (λ k. slot_entry es k) l) (lists_of o es)
-lists-with q l o es = fun_ext (λ j. elim (cases_eq j q) as (λ _. map (λ k. slot_entry es k) (cond (eqb (suc j) (suc q)) l (o (suc j))) ≡ cond (eqb j q) (map (λ k. slot_entry es k) l) (map (λ k. slot_entry es k) (o (suc j)))) [
-  | inl e ↦ let a : eqb (suc j) (suc q) ≡ true = eq-eqb _ _ (ap suc e) in let b : eqb j q ≡ true = eq-eqb j q e in rw (a, b) refl
-  | inr d ↦ let a : eqb (suc j) (suc q) ≡ false = ne_eqb _ _ (λ e. omega (arith, e, d)) in let b : eqb j q ≡ false = ne_eqb j q d in rw (a, b) refl
-])
+lists-with q l o es = fun_ext (λ j. grind (arith, nat_tests))
 
 pub lists-recent : (q k b : ℕ) (o : Order) (es : List Entry) → count b (order_without k o (suc q)) ≡ 0 → lists_of (sent k (suc q) b o) es ≡ after_push q (slot_entry es k) (lists_of (order_without k o) es)
 lists-recent q k b o es h =
@@ -186,12 +168,7 @@ lists-back q k b o es older w d n c =
 
 times-put : (f : ℕ → Entry) (i : Item) (k b : ℕ) (l : List ℕ) → occurrences i (map f (put_before k b l)) ≡ cond (is_same_item i (f k).item) 1 0 + occurrences i (map f l)
 times-put f i k b [] = refl
-times-put f i k b (x ∷ l) =
-    let r = times-put f i k b l in
-    elim (cases_Bool (eqb b x)) as (λ _. occurrences i (map f (cond (eqb b x) (k ∷ x ∷ l) (x ∷ put_before k b l))) ≡ cond (is_same_item i (f k).item) 1 0 + (cond (is_same_item i (f x).item) 1 0 + occurrences i (map f l))) [
-      | inl e ↦ rw e refl
-      | inr e ↦ rw e (omega (arith, r))
-    ]
+times-put f i k b (x ∷ l) = let r = times-put f i k b l in grind (arith, nat_tests)
 
 pub distinct-sent : (q k b : ℕ) (o : Order) (es : List Entry) → q < QUEUES → IsDistinct (lists_of (order_without k o) es) → IsAbsent (slot_item es k) (lists_of (order_without k o) es) → IsDistinct (lists_of (sent k (suc q) b o) es)
 distinct-sent q k b o es w d a i =
@@ -220,10 +197,10 @@ before-map f k (x ∷ us) vs h =
     rw e (ap (λ t. f x ∷ t) (before-map f k us vs (λ j n. h j (omega arith))))
 
 item-real : (es : List Entry) (k : ℕ) → FIRST ≤ k → item_or es k ≡ Some (slot_item es k)
-item-real es k h = let e : nat_lt k FIRST ≡ false = le-ltb k FIRST h in rw e refl
+item-real es k h = grind (arith, nat_tests)
 
 item-first : (es : List Entry) (k : ℕ) → k < FIRST → item_or es k ≡ None
-item-first es k h = let e : nat_lt k FIRST ≡ true = lt-ltb k FIRST h in rw e refl
+item-first es k h = grind (arith, nat_tests)
 
 item-last : (es : List Entry) (x : ℕ) (us : List ℕ) → FIRST ≤ x → ((j : ℕ) → 1 ≤ count j us → FIRST ≤ j) → item_or es (end_of x us) ≡ last_from (Some (slot_item es x)) (map (λ k. slot_entry es k) us)
 item-last es x [] r h = item-real es x r

@@ -1,7 +1,8 @@
 -- What a search of the index says of the slots.
-use Rattle.std.proofs.Common.{◌≡◌, ℕ, suc, zero, ◌+◌, ◌-◌, ◌≤◌, false, cond, eqb, None, List, length, ap, sym, refl, arith, inl, inr}
-use Rattle.std.proofs.lemmas.Bool.{cases_Bool, ne_eqb}
+use Rattle.std.proofs.Common.{◌≡◌, ℕ, suc, zero, ◌+◌, ◌-◌, ◌≤◌, cond, eqb, None, List, length, ap, sym, refl, arith, inl, inr}
+use Rattle.std.proofs.lemmas.Bool.{cases_Bool}
 use Rattle.std.proofs.lemmas.List.{length-map}
+use Rattle.std.proofs.lemmas.Bool.Decides.{nat_tests}
 use Rattle.step_record.specs.declared.item.Item.{Item}
 use Rattle.queue_table.specs.Index.{IsFound}
 use Rattle.queue_table.specs.Entries.{is_same_item}
@@ -29,10 +30,7 @@ module _ (slots : List Slot) (i : Item) (r : ℕ) (f : IsFound i (slot_item (ent
 
 pub count-from_first : (n k : ℕ) → n + FIRST ≤ k → count k (from_first n) ≡ 0
 count-from_first zero k h = refl
-count-from_first (suc n) k h =
-    let e : eqb k (n + FIRST) ≡ false = ne_eqb k (n + FIRST) (λ z. omega (arith, h, z)) in
-    let r = count-from_first n k (omega (arith, h)) in
-    rw e (omega (arith, r))
+count-from_first (suc n) k h = let r = count-from_first n k (omega arith) in grind (arith, nat_tests)
 
 pub from_first-next : (at n m : ℕ) → FIRST ≤ at → n ≡ at - FIRST → m ≡ at + 1 - FIRST → (j : ℕ) → count j (from_first m) ≡ cond (eqb j at) 1 0 + count j (from_first n)
 from_first-next at n m r e f j =

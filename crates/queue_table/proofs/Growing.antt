@@ -1,17 +1,17 @@
 -- What growth leaves.
-use Rattle.std.proofs.Common.{◌≡◌, ℕ, ◌+◌, ◌-◌, ◌*◌, ◌^◌, ◌<◌, ◌≤◌, suc, true, false, cond, eqb, nat_lt, Result, Ok, Err, List, [], ◌∷◌, ◌++◌, length, ap, ◌∙◌, sym, refl, subst, arith, length-append, inl, inr}
+use Rattle.std.proofs.Common.{◌≡◌, ℕ, ◌+◌, ◌-◌, ◌*◌, ◌^◌, ◌<◌, ◌≤◌, suc, cond, eqb, Result, Ok, Err, List, [], ◌∷◌, ◌++◌, length, ap, ◌∙◌, sym, subst, arith, length-append}
 use Rattle.std.specs.Result.{OnOk, OnErr}
 use Rattle.std.specs.declared.alloc.AllocError.{AllocError}
 use Rattle.std.proofs.Math.Path.{fun_ext}
-use Rattle.std.proofs.lemmas.Bool.{cases_Bool, cases_eq, cases_lt, eq-eqb, ne_eqb, lt-ltb, le-ltb}
+use Rattle.std.proofs.lemmas.Bool.{cases_eq}
 use Rattle.queue_table.specs.declared.slot_index.SlotIndex.{SlotIndex}
 use Rattle.queue_table.specs.declared.slot.Slot.{Slot}
 use Rattle.queue_table.specs.Entries.{entry}
-use Rattle.queue_table.specs.Ring.{entries, olders, newers, tags, SECTIONS, FIRST, until, past, IsRing, Order, ring, order_of, more_free, no_slots, lists_of, lists, IsQueued}
+use Rattle.queue_table.specs.Ring.{entries, olders, newers, tags, FIRST, until, past, IsRing, Order, ring, order_of, more_free, no_slots, lists_of, lists, IsQueued}
 use Rattle.queue_table.specs.Index.{capacity}
 use Rattle.queue_table.specs.QueueTable.{IsIndexOf, IsLoaded, IsInSlots, IsSound, IsSame}
 use Rattle.std.proofs.lemmas.Nat.{pow-add, pow_pos}
-use Rattle.queue_table.proofs.Orders.{with-same, with-other}
+use Rattle.std.proofs.lemmas.Bool.Decides.{nat_tests}
 use Rattle.queue_table.proofs.Holding.{queued-order}
 use Rattle.queue_table.proofs.Tables.{held-grown, lists-grown}
 
@@ -26,19 +26,7 @@ pub record IsGrown (r : Result (Unit {0}) AllocError) (before slots : List Slot)
   pub err : OnErr r ((s : ℕ) → length (order_of slots s) ≡ length (order_of before s))
 
 more : (n s : ℕ) (p : Order) → length (more_free n p s) ≡ length (p s) + cond (eqb s 0) 1 0
-more n s p =
-    elim (cases_eq s 0) as (λ _. length (more_free n p s) ≡ length (p s) + cond (eqb s 0) 1 0) [
-      | inl e ↦
-          let f : eqb s 0 ≡ true = eq-eqb s 0 e in
-          let a = ap (λ x. length (more_free n p x)) e ∙ ap length (with-same 0 (p 0 ++ n ∷ []) p) in
-          let l = length-append (p 0) (n ∷ []) in
-          let b = ap (λ x. length (p x)) e in
-          rw f (omega (arith, a, l, b))
-      | inr d ↦
-          let f : eqb s 0 ≡ false = ne_eqb s 0 d in
-          let a = ap length (with-other 0 s (p 0 ++ n ∷ []) p d) in
-          rw f (omega (arith, a))
-    ]
+more n s p = let l = length-append (p 0) (n ∷ []) in let e = cases_eq s 0 in grind (arith, nat_tests)
 
 pub grown : (r : Result (Unit {0}) AllocError) (s0 s3 s4 : List Slot) (index : SlotIndex) → IsSettled s0 s3 index → length s3 + 1 ≤ capacity index.bits →
     OnOk r (IsRing (newers s4) (olders s4) (ring (more_free (length s3) (order_of s3)))) → OnOk r (entries s4 ≡ entries s3 ++ entry record { key = 0; node = 0 } 0 ∷ []) → OnOk r (tags s4 ≡ tags s3 ++ 0 ∷ []) →
@@ -67,16 +55,10 @@ held-first slots index q x room =
 -- no slots have no sections
 
 empty : (s : ℕ) → until (suc s) (past s (0 ∷ [])) ≡ []
-empty s = elim (cases_Bool (eqb s 0)) as (λ _. until (suc s) (cond (eqb s 0) [] []) ≡ []) [
-  | inl e ↦ rw e refl
-  | inr e ↦ rw e refl
-]
+empty s = grind (arith, nat_tests)
 
 none : (s : ℕ) → order_of [] s ≡ []
-none s = elim (cases_lt s SECTIONS) as (λ _. cond (nat_lt s SECTIONS) (until (suc s) (past s (0 ∷ []))) [] ≡ []) [
-  | inl w ↦ rw (lt-ltb s SECTIONS w) (empty s)
-  | inr w ↦ let f : nat_lt s SECTIONS ≡ false = le-ltb s SECTIONS (omega (arith, w)) in rw f refl
-]
+none s = let e = empty s in grind (arith, nat_tests)
 
 pub no-order : order_of [] ≡ no_slots
 no-order = fun_ext none

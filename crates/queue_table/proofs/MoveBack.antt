@@ -1,7 +1,8 @@
 -- The way back of one entry, from where it stood: whatever queue and count it was sent with, or out.
-use Rattle.std.proofs.Common.{◌≡◌, ℕ, suc, ◌+◌, ◌<◌, ◌≤◌, true, cond, Option, None, List, [], ◌∷◌, ◌++◌, map, ap, ◌∙◌, sym, refl, arith, inl, inr, append-nil}
-use Rattle.std.proofs.lemmas.Bool.{cases_Bool, cases_eq, cases_lt}
+use Rattle.std.proofs.Common.{◌≡◌, ℕ, suc, ◌+◌, ◌<◌, ◌≤◌, true, Option, None, List, [], ◌∷◌, ◌++◌, map, ap, ◌∙◌, sym, refl, arith, inl, inr, append-nil}
+use Rattle.std.proofs.lemmas.Bool.{cases_eq, cases_lt}
 use Rattle.std.proofs.Math.Path.{fun_ext}
+use Rattle.std.proofs.lemmas.Bool.Decides.{nat_tests}
 use Rattle.step_record.specs.declared.item.Item.{Item}
 use Rattle.queue_table.specs.declared.records.Entry.{Entry}
 use Rattle.queue_table.specs.Entries.{is_same_item, entry, occurrences, entries_without, last_item, put_behind, IsGap}
@@ -14,22 +15,14 @@ use Rattle.queue_table.proofs.QueueLists.{absent, queue-few, with-queue-same, wi
 
 pub without-none : (i : Item) (l : List Entry) → occurrences i l ≡ 0 → entries_without i l ≡ l
 without-none i [] h = refl
-without-none i (x ∷ l) h =
-    elim (cases_Bool (is_same_item i x.item)) as (λ _. cond (is_same_item i x.item) (entries_without i l) (x ∷ entries_without i l) ≡ x ∷ l) [
-      | inl e ↦ absurd (let few : 1 + occurrences i l ≡ 0 = rw e at h in omega (arith, few))
-      | inr e ↦ let rest : 0 + occurrences i l ≡ 0 = rw e at h in rw e (ap (λ t. x ∷ t) (without-none i l (omega (arith, rest))))
-    ]
+without-none i (x ∷ l) h = let r = without-none i l in grind (arith, nat_tests)
 
 without-append : (i : Item) (xs ys : List Entry) → entries_without i (xs ++ ys) ≡ entries_without i xs ++ entries_without i ys
 without-append i [] ys = refl
-without-append i (x ∷ xs) ys =
-    elim (cases_Bool (is_same_item i x.item)) as (λ _. cond (is_same_item i x.item) (entries_without i (xs ++ ys)) (x ∷ entries_without i (xs ++ ys)) ≡ cond (is_same_item i x.item) (entries_without i xs) (x ∷ entries_without i xs) ++ entries_without i ys) [
-      | inl e ↦ rw e (without-append i xs ys)
-      | inr e ↦ rw e (ap (λ t. x ∷ t) (without-append i xs ys))
-    ]
+without-append i (x ∷ xs) ys = let r = without-append i xs ys in grind (arith, nat_tests)
 
 without-own : (e : Entry) (l : List Entry) → entries_without e.item (e ∷ l) ≡ entries_without e.item l
-without-own e l = let s : is_same_item e.item e.item ≡ true = same-refl e.item in rw s refl
+without-own e l = grind (arith, nat_tests)
 
 -- where an entry stands: queue p is cut around it
 pub record StandsIn (p : ℕ) (e : Entry) (s : Queues) : Type 0 where

@@ -1,27 +1,22 @@
 -- The ring and the order of the sections in it.
 use Rattle.std.proofs.Common.{◌≡◌, ℕ, suc, zero, ◌+◌, ◌<◌, ◌≤◌, true, false, cond, eqb, nat_lt, List, [], ◌∷◌, ◌++◌, ap, ◌∙◌, sym, refl, arith, append_assoc, ◌⊎◌, inl, inr}
 use Rattle.std.proofs.Math.Path.{fun_ext}
-use Rattle.std.proofs.lemmas.Bool.{cases_Bool, cases_eq, cases_lt, ne_eqb, eq-eqb, lt-ltb, le-ltb}
+use Rattle.std.proofs.lemmas.Bool.{cases_eq, cases_lt, ne_eqb, eq-eqb, lt-ltb, le-ltb}
+use Rattle.std.proofs.lemmas.Bool.Decides.{nat_tests}
 use Rattle.queue_table.specs.Queues.{QUEUES}
 use Rattle.queue_table.specs.Ring.{count, IsRing, ring_of, put_before, moved_before, SECTIONS, FIRST, Order, ring, ring_from, used, used_below, with_section, until, past, order_in, order_without, sent, IsShort, IsPlace}
 use Rattle.step_record.specs.Keys.{keys_without}
-use Rattle.queue_table.proofs.Splices.{count-append, count-here, apart}
+use Rattle.queue_table.proofs.Splices.{count-append, count-here}
 use Rattle.queue_table.proofs.Turning.{ring-is}
 use Rattle.queue_table.proofs.Sections.{without-append, put-sentinel, put-past, put-there, gone, count-left, count-without}
 
 until-at : (b : ℕ) (xs ys : List ℕ) → count b xs ≡ 0 → until b (xs ++ b ∷ ys) ≡ xs
-until-at b [] ys h = let e : eqb b b ≡ true = eq-eqb b b refl in rw e refl
-until-at b (x ∷ xs) ys h =
-    let e : eqb b x ≡ false = ne_eqb b x (apart b x xs h) in
-    let r : count b xs ≡ 0 = omega arith in
-    rw e (ap (λ t. x ∷ t) (until-at b xs ys r))
+until-at b [] ys h = grind (arith, nat_tests)
+until-at b (x ∷ xs) ys h = let r = until-at b xs ys in grind (arith, nat_tests)
 
 past-none : (b : ℕ) (xs ys : List ℕ) → count b xs ≡ 0 → past b (xs ++ ys) ≡ past b ys
 past-none b [] ys h = refl
-past-none b (x ∷ xs) ys h =
-    let e : eqb b x ≡ false = ne_eqb b x (apart b x xs h) in
-    let r : count b xs ≡ 0 = omega arith in
-    rw e (past-none b xs ys r)
+past-none b (x ∷ xs) ys h = let r = past-none b xs ys in grind (arith, nat_tests)
 
 -- sections by number
 
@@ -63,17 +58,13 @@ cut (suc n) k s o a b =
     ]
 
 pub with-same : (s : ℕ) (l : List ℕ) (o : Order) → with_section s l o s ≡ l
-with-same s l o = let f : eqb s s ≡ true = eq-eqb s s refl in rw f refl
+with-same s l o = grind (arith, nat_tests)
 
 pub with-other : (s j : ℕ) (l : List ℕ) (o : Order) → (j ≡ s → ⊥) → with_section s l o j ≡ o j
-with-other s j l o d = let f : eqb j s ≡ false = ne_eqb j s d in rw f refl
+with-other s j l o d = grind (arith, nat_tests)
 
 with-itself : (s : ℕ) (o : Order) (j : ℕ) → with_section s (o s) o j ≡ o j
-with-itself s o j =
-    elim (cases_eq j s) as (λ _. cond (eqb j s) (o s) (o j) ≡ o j) [
-      | inl e ↦ let f : eqb j s ≡ true = eq-eqb j s e in rw f (ap o (sym e))
-      | inr d ↦ let f : eqb j s ≡ false = ne_eqb j s d in rw f refl
-    ]
+with-itself s o j = grind (arith, nat_tests)
 
 ring-cut : (n k s : ℕ) (o : Order) (c : IsCut n k s o) → ring_from n k o ≡ c.pre ++ (o s ++ suc s ∷ c.post)
 ring-cut n k s o c = sym (ring-same n k (with_section s (o s) o) o (λ j m. with-itself s o j)) ∙ c.whole (o s)
@@ -139,19 +130,17 @@ section-at (suc n) k s o a b u =
     between s zero k o a b d = absurd (omega (arith, a, b))
     between s (suc n) k o a b d =
         let c = count-append s (o k) (suc k ∷ ring_from n (suc k) o) in
-        elim (cases_eq s (suc k)) [
-          | inl e ↦ let f : eqb s (suc k) ≡ true = eq-eqb s (suc k) e in let c2 = rw f at c in omega (arith, c2)
-          | inr g ↦ let r = between s n (suc k) o (omega (arith, a, d)) (omega (arith, b)) g in omega (arith, c, r)
-        ]
+        let r = between s n (suc k) o in
+        let e = cases_eq s (suc k) in
+        grind (arith, nat_tests)
 
     sentinel-free : (s n k : ℕ) (o : Order) → k ≤ s → s < k + suc n → (s ≡ k → ⊥) → ((j : ℕ) → count j (k ∷ ring_from (suc n) k o) ≤ 1) → count s (o k) ≡ 0
     sentinel-free s n k o a b d u =
         let w = u s in
         let c = count-append s (o k) (suc k ∷ ring_from n (suc k) o) in
-        elim (cases_eq s (suc k)) [
-          | inl e ↦ let f : eqb s (suc k) ≡ true = eq-eqb s (suc k) e in let c2 = rw f at c in omega (arith, c2, w)
-          | inr g ↦ let r = between s n (suc k) o (omega (arith, a, d)) (omega (arith, b)) g in omega (arith, c, w, r)
-        ]
+        let r = between s n (suc k) o in
+        let e = cases_eq s (suc k) in
+        grind (arith, nat_tests)
 
 pub order-ring : (o : Order) → IsShort o → IsOnce o → order_in (ring o) ≡ o
 order-ring o h u = fun_ext (λ s. elim (cases_lt s SECTIONS) as (λ _. cond (nat_lt s SECTIONS) (until (suc s) (past s (0 ∷ ring o))) [] ≡ o s) [
@@ -165,7 +154,7 @@ order-is ns os o h r = ap order_in (ring-is ns os (ring o) r) ∙ order-ring o h
 -- no more sections
 
 pub order-short : (l : List ℕ) → IsShort (order_in l)
-order-short l s h = let f : nat_lt s SECTIONS ≡ false = le-ltb s SECTIONS (omega (arith, h)) in rw f refl
+order-short l s h = grind (arith, nat_tests)
 
 pub short-without : (k : ℕ) (o : Order) → IsShort o → IsShort (order_without k o)
 short-without k o h s w = ap (keys_without k) (h s w)
@@ -196,18 +185,11 @@ count-from j (suc n) k o =
 
 marks-some : (n k j : ℕ) → k < j → j ≤ k + n → 1 ≤ marks n k j
 marks-some zero k j a b = absurd (omega (arith, a, b))
-marks-some (suc n) k j a b =
-    elim (cases_eq j (suc k)) [
-      | inl e ↦ let f : eqb j (suc k) ≡ true = eq-eqb j (suc k) e in rw f (omega arith)
-      | inr d ↦ let r = marks-some n (suc k) j (omega (arith, a, d)) (omega (arith, b)) in omega (arith, r)
-    ]
+marks-some (suc n) k j a b = let r = marks-some n (suc k) j in let e = cases_eq j (suc k) in grind (arith, nat_tests)
 
 marks-none : (n k j : ℕ) → k + n < j → marks n k j ≡ 0
 marks-none zero k j a = refl
-marks-none (suc n) k j a =
-    let f : eqb j (suc k) ≡ false = ne_eqb j (suc k) (λ e. omega (arith, a, e)) in
-    let r = marks-none n (suc k) j (omega (arith, a)) in
-    rw f (omega (arith, r))
+marks-none (suc n) k j a = let r = marks-none n (suc k) j (omega arith) in grind (arith, nat_tests)
 
 in-used : (j : ℕ) (o : Order) → in_sections j SECTIONS 0 o ≡ count j (o 0) + count j (used o)
 in-used j o =
@@ -252,12 +234,7 @@ used-real o k u h = real k o u (omega (arith, h))
 
 section-below : (n q k : ℕ) (o : Order) → q < n → count k (o (suc q)) ≤ count k (used_below n o)
 section-below zero q k o h = absurd (omega (arith, h))
-section-below (suc n) q k o h =
-    let a = count-append k (o (suc n)) (used_below n o) in
-    elim (cases_eq q n) [
-      | inl e ↦ let b = ap (λ x. count k (o (suc x))) e in omega (arith, a, b)
-      | inr d ↦ let r = section-below n q k o (omega (arith, h, d)) in omega (arith, a, r)
-    ]
+section-below (suc n) q k o h = let a = count-append k (o (suc n)) (used_below n o) in let r = section-below n q k o in let e = cases_eq q n in grind (arith, nat_tests)
 
 pub section-in : (q k : ℕ) (o : Order) → q < QUEUES → count k (o (suc q)) ≤ count k (used o)
 section-in q k o h = section-below QUEUES q k o h
@@ -285,10 +262,9 @@ closing-none s t o h g u =
 pub ring-without : (x n k : ℕ) (o : Order) → k + n < x → keys_without x (ring_from n k o) ≡ ring_from n k (order_without x o)
 ring-without x zero k o h = refl
 ring-without x (suc n) k o h =
-    let f : eqb x (suc k) ≡ false = ne_eqb x (suc k) (λ z. omega (arith, z, h)) in
     let a = without-append x (o k) (suc k ∷ ring_from n (suc k) o) in
-    let r = ring-without x n (suc k) o (omega (arith, h)) in
-    a ∙ rw (f, r) refl
+    let r = ring-without x n (suc k) o (omega arith) in
+    grind (arith, nat_tests)
 
 pub once-without : (k : ℕ) (o : Order) → IsOnce o → IsOnce (order_without k o)
 once-without k o u j = let a = less SECTIONS 0 in let n = u j in omega (arith, a, n)
@@ -306,10 +282,7 @@ once-without k o u j = let a = less SECTIONS 0 in let n = u j in omega (arith, a
 
 pub put-end : (k b : ℕ) (l : List ℕ) → count b l ≡ 0 → put_before k b l ≡ l ++ k ∷ []
 put-end k b [] h = refl
-put-end k b (x ∷ l) h =
-    let e : eqb b x ≡ false = ne_eqb b x (apart b x l h) in
-    let r : count b l ≡ 0 = omega arith in
-    rw e (ap (λ t. x ∷ t) (put-end k b l r))
+put-end k b (x ∷ l) h = let r = put-end k b l in grind (arith, nat_tests)
 
 put-in : (k b e : ℕ) (l m : List ℕ) → (1 ≤ count b l) ⊎ ((b ≡ e) × (count b l ≡ 0)) → put_before k b (l ++ e ∷ m) ≡ put_before k b l ++ e ∷ m
 put-in k b e l m (inl h) = put-there k b l (e ∷ m) h
@@ -326,9 +299,7 @@ place-parts b s o c u (inl h) =
 place-parts b s o c u (inr h) =
     let a = count-cut b s o c in
     let n = u b in
-    let f : eqb b (suc s) ≡ true = eq-eqb b (suc s) h in
-    let a2 = rw f at a in
-    (omega (arith, a2, n), inr (h, omega (arith, a2, n)))
+    (grind (arith, nat_tests), inr (h, grind (arith, nat_tests)))
 
 put-ring : (k b s : ℕ) (o : Order) → s < SECTIONS → IsOnce o → IsPlace b s o → put_before k b (ring o) ≡ ring (with_section s (put_before k b (o s)) o)
 put-ring k b s o w u h =
@@ -346,12 +317,7 @@ ring-sent k b s o w u r h = ap (put_before k b) (ring-without k SECTIONS 0 o (om
 
 pub count-put : (j k b : ℕ) (l : List ℕ) → count j (put_before k b l) ≡ cond (eqb j k) 1 0 + count j l
 count-put j k b [] = refl
-count-put j k b (x ∷ l) =
-    let r = count-put j k b l in
-    elim (cases_Bool (eqb b x)) as (λ _. count j (cond (eqb b x) (k ∷ x ∷ l) (x ∷ put_before k b l)) ≡ cond (eqb j k) 1 0 + (cond (eqb j x) 1 0 + count j l)) [
-      | inl e ↦ rw e refl
-      | inr e ↦ rw e (omega (arith, r))
-    ]
+count-put j k b (x ∷ l) = let r = count-put j k b l in grind (arith, nat_tests)
 
 pub used-same : (n : ℕ) (o p : Order) → ((q : ℕ) → q < n → o (suc q) ≡ p (suc q)) → used_below n o ≡ used_below n p
 used-same zero o p h = refl
@@ -412,21 +378,11 @@ used-freed k b o = used-same QUEUES (sent k 0 b o) (order_without k o) (λ q w. 
 
 -- without a slot the others are in use that were
 pub used-without : (j k : ℕ) (o : Order) → count j (used (order_without k o)) ≡ cond (eqb j k) 0 (count j (used o))
-used-without j k o =
-    elim (cases_eq j k) as (λ _. count j (used (order_without k o)) ≡ cond (eqb j k) 0 (count j (used o))) [
-      | inl e ↦ let f : eqb j k ≡ true = eq-eqb j k e in rw f (ap (λ i. count i (used (order_without k o))) e ∙ used-gone k o)
-      | inr d ↦ let f : eqb j k ≡ false = ne_eqb j k d in rw f (used-other j k o d)
-    ]
+used-without j k o = let a = used-gone k o in let b = used-other j k o in let e = cases_eq j k in grind (arith, nat_tests)
 
 -- a slot in use that is sent elsewhere stays in use
 pub used-kept : (j k b q : ℕ) (o : Order) → q < QUEUES → count k (used o) ≡ 1 → count j (used (sent k (suc q) b o)) ≡ count j (used o)
-used-kept j k b q o w h =
-    let s = used-sent j k b q o w in
-    let r = used-without j k o in
-    elim (cases_eq j k) [
-      | inl e ↦ let f : eqb j k ≡ true = eq-eqb j k e in let s2 = rw f at s in let r2 = rw f at r in let g = ap (λ i. count i (used o)) e in omega (arith, s2, r2, g, h)
-      | inr d ↦ let f : eqb j k ≡ false = ne_eqb j k d in let s2 = rw f at s in let g = used-other j k o d in omega (arith, s2, g)
-    ]
+used-kept j k b q o w h = let s = used-sent j k b q o w in let r = used-without j k o in let e = cases_eq j k in grind (arith, nat_tests)
 
 -- one free slot more
 pub used-free : (k : ℕ) (l : List ℕ) (o : Order) → used (with_section 0 l o) ≡ used o

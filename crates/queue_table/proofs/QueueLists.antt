@@ -1,6 +1,7 @@
 -- Queues of distinct items, by number.
-use Rattle.std.proofs.Common.{◌≡◌, ℕ, suc, zero, ◌+◌, ◌<◌, ◌≤◌, true, false, eqb, nat_lt, Some, None, List, ap, ◌∙◌, sym, refl, arith, inl, inr}
-use Rattle.std.proofs.lemmas.Bool.{cases_eq, cases_lt, lt-ltb, le-ltb, ne_eqb, eq-eqb}
+use Rattle.std.proofs.Common.{◌≡◌, ℕ, suc, zero, ◌+◌, ◌<◌, ◌≤◌, Some, None, List, refl, arith}
+use Rattle.std.proofs.lemmas.Bool.{cases_eq}
+use Rattle.std.proofs.lemmas.Bool.Decides.{nat_tests}
 use Rattle.step_record.specs.declared.item.Item.{Item}
 use Rattle.queue_table.specs.declared.records.Entry.{Entry}
 use Rattle.queue_table.specs.Entries.{occurrences}
@@ -13,17 +14,7 @@ IsAbsent i s = (q : ℕ) → q < QUEUES → occurrences i (s q) ≡ 0
 
 absent-below : (n : ℕ) (i : Item) (s : Queues) → queue_below n i s ≡ None → (q : ℕ) → q < n → occurrences i (s q) ≡ 0
 absent-below zero i s h q w = absurd (omega (arith, w))
-absent-below (suc n) i s h q w =
-    elim (cases_lt 0 (occurrences i (s n))) [
-      | inl a ↦ absurd (let e = lt-ltb 0 (occurrences i (s n)) a in let no : Some n ≡ None = rw e at h in cc (no))
-      | inr a ↦
-          let e = le-ltb 0 (occurrences i (s n)) (omega (arith, a)) in
-          let h2 : queue_below n i s ≡ None = rw e at h in
-          elim (cases_eq q n) [
-            | inl z ↦ let b = ap (λ x. occurrences i (s x)) z in omega (arith, a, b)
-            | inr z ↦ absent-below n i s h2 q (omega (arith, w, z))
-          ]
-    ]
+absent-below (suc n) i s h q w = let r = absent-below n i s in let e = cases_eq q n in grind (arith, nat_tests)
 
 pub absent : (i : Item) (s : Queues) → queue_holding i s ≡ None → IsAbsent i s
 absent i s h = absent-below QUEUES i s h
@@ -32,8 +23,8 @@ is-absent-below : (n : ℕ) (i : Item) (s : Queues) → ((q : ℕ) → q < n →
 is-absent-below zero i s h = refl
 is-absent-below (suc n) i s h =
     let a = h n (omega arith) in
-    let e : nat_lt 0 (occurrences i (s n)) ≡ false = le-ltb 0 (occurrences i (s n)) (omega (arith, a)) in
-    rw e (is-absent-below n i s (λ q w. h q (omega (arith, w))))
+    let r = is-absent-below n i s (λ q w. h q (omega (arith, w))) in
+    grind (arith, nat_tests)
 
 pub is_absent : (i : Item) (s : Queues) → IsAbsent i s → queue_holding i s ≡ None
 is_absent i s h = is-absent-below QUEUES i s h
@@ -44,25 +35,15 @@ times-none (suc n) i s h = let a = h n (omega arith) in let r = times-none n i s
 
 times-in : (n q : ℕ) (i : Item) (s : Queues) → q < n → occurrences i (s q) ≤ times_below n i s
 times-in zero q i s h = absurd (omega (arith, h))
-times-in (suc n) q i s h =
-    elim (cases_eq q n) [
-      | inl e ↦ let b = ap (λ x. occurrences i (s x)) e in omega (arith, b)
-      | inr d ↦ let r = times-in n q i s (omega (arith, h, d)) in omega (arith, r)
-    ]
+times-in (suc n) q i s h = let r = times-in n q i s in let e = cases_eq q n in grind (arith, nat_tests)
 
 placed-below : (n q : ℕ) (i : Item) (s : Queues) → times_below n i s ≤ 1 → q < n → 1 ≤ occurrences i (s q) → queue_below n i s ≡ Some q
 placed-below zero q i s u w h = absurd (omega (arith, w))
 placed-below (suc n) q i s u w h =
-    elim (cases_eq q n) [
-      | inl e ↦
-          let b = ap (λ x. occurrences i (s x)) e in
-          let f : nat_lt 0 (occurrences i (s n)) ≡ true = lt-ltb 0 (occurrences i (s n)) (omega (arith, b, h)) in
-          rw f (ap Some (sym e))
-      | inr d ↦
-          let t = times-in n q i s (omega (arith, w, d)) in
-          let f : nat_lt 0 (occurrences i (s n)) ≡ false = le-ltb 0 (occurrences i (s n)) (omega (arith, t, h, u)) in
-          rw f (placed-below n q i s (omega (arith, u)) (omega (arith, w, d)) h)
-    ]
+    let t = times-in n q i s in
+    let r = placed-below n q i s in
+    let e = cases_eq q n in
+    grind (arith, nat_tests)
 
 pub placed : (q : ℕ) (i : Item) (s : Queues) → q < QUEUES → IsDistinct s → 1 ≤ occurrences i (s q) → queue_holding i s ≡ Some q
 placed q i s w u h = placed-below QUEUES q i s (u i) w h
@@ -89,29 +70,15 @@ still-absent i v s h q w = let a = h q w in let l = times-without v i (s q) in o
 -- one queue replaced
 
 pub with-queue-same : (q : ℕ) (l : List Entry) (s : Queues) → with_queue q l s q ≡ l
-with-queue-same q l s = let f : eqb q q ≡ true = eq-eqb q q refl in rw f refl
+with-queue-same q l s = grind (arith, nat_tests)
 
 pub with-queue-other : (q j : ℕ) (l : List Entry) (s : Queues) → (j ≡ q → ⊥) → with_queue q l s j ≡ s j
-with-queue-other q j l s d = let f : eqb j q ≡ false = ne_eqb j q d in rw f refl
+with-queue-other q j l s d = grind (arith, nat_tests)
 
 times-past : (n q : ℕ) (i : Item) (l : List Entry) (s : Queues) → n ≤ q → times_below n i (with_queue q l s) ≡ times_below n i s
 times-past zero q i l s h = refl
-times-past (suc n) q i l s h =
-    let a = ap (occurrences i) (with-queue-other q n l s (λ e. omega (arith, e, h))) in
-    let r = times-past n q i l s (omega (arith, h)) in
-    omega (arith, a, r)
+times-past (suc n) q i l s h = let r = times-past n q i l s (omega arith) in grind (arith, nat_tests)
 
 pub times-with : (n q : ℕ) (i : Item) (l : List Entry) (s : Queues) → q < n → times_below n i (with_queue q l s) + occurrences i (s q) ≡ times_below n i s + occurrences i l
 times-with zero q i l s h = absurd (omega (arith, h))
-times-with (suc n) q i l s h =
-    elim (cases_eq q n) [
-      | inl e ↦
-          let a = times-past n q i l s (omega (arith, e)) in
-          let b = ap (λ x. occurrences i (with_queue q l s x)) (sym e) ∙ ap (occurrences i) (with-queue-same q l s) in
-          let c = ap (λ x. occurrences i (s x)) e in
-          omega (arith, a, b, c)
-      | inr d ↦
-          let r = times-with n q i l s (omega (arith, h, d)) in
-          let b = ap (occurrences i) (with-queue-other q n l s (λ z. omega (arith, z, d))) in
-          omega (arith, r, b)
-    ]
+times-with (suc n) q i l s h = let r = times-with n q i l s in let p = times-past n q i l s in let e = cases_eq q n in grind (arith, nat_tests)

@@ -1,12 +1,13 @@
 -- Search trees by the ways of their items.
 use Rattle.std.proofs.Common.{◌≡◌, ℕ, ◌+◌, ◌≤◌, true, false, Bool, cond, eqb, ap, ◌∙◌, sym, refl, subst, arith, inl, inr}
 use Rattle.std.proofs.lemmas.Bool.{eq-eqb, ne_eqb, cases_Bool, cases_eq}
+use Rattle.std.proofs.lemmas.Bool.Decides.{nat_tests}
 use Rattle.step_record.specs.declared.item.Item.{Item}
 use Rattle.queue_table.specs.Trees.{Tree, leaf, fork, tally, turn, IsSorted, grafted, lowest, pruned, plucked, renamed, lifted, detached}
 use Rattle.queue_table.proofs.Trees.{some_or_none, tally-past, on_side}
 
 pub clash : (b : Bool) → b ≡ true → b ≡ false → ⊥
-clash b t f = let n : ◌≡◌ {A = ℕ} 1 0 = ap (λ (c : Bool). cond c 1 0) (sym t ∙ f) in omega (arith, n)
+clash b t f = cc
 
 -- items that stay leave the ways as they are
 pub sorted-same : (its its2 : ℕ → Item) (d : ℕ) (t : Tree) → ((k : ℕ) → 1 ≤ tally k t → its2 k ≡ its k) → IsSorted its d t → IsSorted its2 d t
@@ -23,10 +24,9 @@ sorted-same its its2 d (fork i l r) e s = (
 pub grafted-tally : (d : ℕ) (x : Item) (at k : ℕ) (t : Tree) → tally k (grafted d x at t) ≡ cond (eqb k at) 1 0 + tally k t
 grafted-tally d x at k leaf = omega arith
 grafted-tally d x at k (fork i l r) =
-    elim (cases_Bool (turn d x)) as (λ _. tally k (cond (turn d x) (fork i l (grafted (d + 1) x at r)) (fork i (grafted (d + 1) x at l) r)) ≡ cond (eqb k at) 1 0 + tally k (fork i l r)) [
-      | inl e ↦ rw e (let h = grafted-tally (d + 1) x at k r in omega (arith, h))
-      | inr e ↦ rw e (let h = grafted-tally (d + 1) x at k l in omega (arith, h))
-    ]
+    let right = grafted-tally (d + 1) x at k r in
+    let left = grafted-tally (d + 1) x at k l in
+    grind (arith, nat_tests)
 
 pub grafted-sorted : (its : ℕ → Item) (d : ℕ) (x : Item) (at : ℕ) (t : Tree) → its at ≡ x → IsSorted its d t → IsSorted its d (grafted d x at t)
 grafted-sorted its d x at leaf e s = (tt, tt, (λ k m. absurd (omega (arith, m))), (λ k m. absurd (omega (arith, m))))

@@ -1,8 +1,9 @@
 -- A free slot that comes into use, and one more free slot.
-use Rattle.std.proofs.Common.{◌≡◌, ℕ, suc, zero, ◌+◌, ◌-◌, ◌<◌, ◌≤◌, true, false, cond, eqb, List, [], ◌∷◌, ◌++◌, length, get_or, set, take, map, ap, ◌∙◌, sym, refl, subst, arith, ◌⊎◌, inl, inr, length-set, length-append, append_assoc}
+use Rattle.std.proofs.Common.{◌≡◌, ℕ, suc, zero, ◌+◌, ◌-◌, ◌<◌, ◌≤◌, true, false, cond, eqb, List, [], ◌∷◌, ◌++◌, length, get_or, set, map, ap, ◌∙◌, sym, refl, subst, arith, inl, inr, length-set, length-append, append_assoc}
 use Rattle.std.proofs.Math.Path.{fun_ext}
 use Rattle.std.proofs.lemmas.Bool.{cases_eq, cases_lt, eq-eqb, ne_eqb}
 use Rattle.std.proofs.lemmas.List.{length-map, map-append}
+use Rattle.std.proofs.lemmas.Bool.Decides.{nat_tests}
 use Rattle.queue_table.specs.declared.records.Entry.{Entry}
 use Rattle.queue_table.specs.declared.slot_index.SlotIndex.{SlotIndex}
 use Rattle.queue_table.specs.Entries.{entry}
@@ -42,18 +43,11 @@ module _ (slots : List Slot) (o : Order) (h : IsQueued slots o) (k : ℕ) (n : 1
 
 few-from_first : (n k : ℕ) → k < FIRST → count k (from_first n) ≡ 0
 few-from_first zero k h = refl
-few-from_first (suc n) k h =
-    let e : eqb k (n + FIRST) ≡ false = ne_eqb k (n + FIRST) (λ z. omega (arith, h, z)) in
-    let r = few-from_first n k h in
-    rw e (omega (arith, r))
+few-from_first (suc n) k h = let r = few-from_first n k h in grind (arith, nat_tests)
 
 some-from_first : (n k : ℕ) → FIRST ≤ k → k < n + FIRST → count k (from_first n) ≡ 1
 some-from_first zero k a b = absurd (omega (arith, a, b))
-some-from_first (suc n) k a b =
-    elim (cases_eq k (n + FIRST)) as (λ _. cond (eqb k (n + FIRST)) 1 0 + count k (from_first n) ≡ 1) [
-      | inl e ↦ let f : eqb k (n + FIRST) ≡ true = eq-eqb k (n + FIRST) e in rw f (let z = count-from_first n k (omega (arith, e)) in omega (arith, z))
-      | inr d ↦ let f : eqb k (n + FIRST) ≡ false = ne_eqb k (n + FIRST) d in rw f (let z = some-from_first n k a (omega (arith, b, d)) in omega (arith, z))
-    ]
+some-from_first (suc n) k a b = let r = some-from_first n k a in let z = count-from_first n k in grind (arith, nat_tests)
 
 all-used : (slots : List Slot) (o : Order) → IsQueued slots o → o 0 ≡ [] → (j : ℕ) → count j (used o) ≡ count j (from_first (length slots - FIRST))
 all-used slots o h f j =

@@ -1,6 +1,7 @@
 -- Trees as the links show them.
-use Rattle.std.proofs.Common.{◌≡◌, ℕ, suc, zero, ◌+◌, ◌<◌, ◌≤◌, Bool, true, false, cond, eqb, List, [], ◌∷◌, length, get_or, ap, ◌∙◌, sym, refl, arith, ◌⊎◌, inl, inr}
-use Rattle.std.proofs.lemmas.Bool.{eq-eqb, ne_eqb, cases_eq}
+use Rattle.std.proofs.Common.{◌≡◌, ℕ, suc, zero, ◌+◌, ◌<◌, ◌≤◌, Bool, true, false, cond, eqb, List, length, get_or, ap, ◌∙◌, sym, refl, arith, ◌⊎◌, inl, inr}
+use Rattle.std.proofs.lemmas.Bool.{ne_eqb, cases_eq}
+use Rattle.std.proofs.lemmas.Bool.Decides.{nat_tests}
 use Rattle.queue_table.specs.Trees.{Tree, leaf, fork, tally, size, branch, IsTree}
 
 pub some_or_none : (n : ℕ) → (1 ≤ n) ⊎ (n ≡ 0)
@@ -10,10 +11,10 @@ some_or_none (suc n) = inl (omega arith)
 -- what a tree holds
 
 pub tally-here : (i : ℕ) (l r : Tree) → tally i (fork i l r) ≡ 1 + (tally i l + tally i r)
-tally-here i l r = let e : eqb i i ≡ true = eq-eqb i i refl in rw e refl
+tally-here i l r = grind (arith, nat_tests)
 
 pub tally-past : (k i : ℕ) (l r : Tree) → (k ≡ i → ⊥) → tally k (fork i l r) ≡ tally k l + tally k r
-tally-past k i l r d = let e : eqb k i ≡ false = ne_eqb k i d in rw e (omega arith)
+tally-past k i l r d = grind (arith, nat_tests)
 
 -- the branch on a side, the right one if true
 abbrev pub on_side : Bool → Tree → Tree → Tree
@@ -65,18 +66,11 @@ sum-zero (suc n) = let h = sum-zero n in omega (arith, h)
 
 sum-none : (i n : ℕ) → n ≤ i → ◌≡◌ {A = ℕ} (sum (λ k. cond (eqb k i) 1 0) n) 0
 sum-none i zero h = refl
-sum-none i (suc n) h =
-    let e : eqb n i ≡ false = ne_eqb n i (λ z. omega (arith, h, z)) in
-    let r = sum-none i n (omega (arith, h)) in
-    rw e (omega (arith, r))
+sum-none i (suc n) h = let r = sum-none i n (omega arith) in grind (arith, nat_tests)
 
 sum-one : (i n : ℕ) → i < n → ◌≡◌ {A = ℕ} (sum (λ k. cond (eqb k i) 1 0) n) 1
 sum-one i zero h = absurd (omega (arith, h))
-sum-one i (suc n) h =
-    elim (cases_eq n i) as (λ _. ◌≡◌ {A = ℕ} (cond (eqb n i) 1 0 + sum (λ k. cond (eqb k i) 1 0) n) 1) [
-      | inl z ↦ let e : eqb n i ≡ true = eq-eqb n i z in let r = sum-none i n (omega (arith, z)) in rw e (omega (arith, r))
-      | inr d ↦ let e : eqb n i ≡ false = ne_eqb n i d in let r = sum-one i n (omega (arith, h, d)) in rw e (omega (arith, r))
-    ]
+sum-one i (suc n) h = let r = sum-one i n in let z = sum-none i n in let e = cases_eq n i in grind (arith, nat_tests)
 
 size-sum : (n : ℕ) (t : Tree) → ((k : ℕ) → 1 ≤ tally k t → k < n) → size t ≡ sum (λ k. tally k t) n
 size-sum n leaf h = sym (sum-zero n)
@@ -103,7 +97,7 @@ tree_at links roots place (suc n) =
 
 pub tree-is : (links : List ℕ) (roots place : ℕ) (t : Tree) (n : ℕ) → IsTree links roots place t → size t ≤ n → tree_at links roots place n ≡ t
 tree-is links roots place leaf zero x w = refl
-tree-is links roots place leaf (suc n) x w = let e : eqb (get_or links place 0) 0 ≡ true = eq-eqb _ 0 x in rw e refl
+tree-is links roots place leaf (suc n) x w = grind (arith, nat_tests)
 tree-is links roots place (fork i l r) zero x w = absurd (omega (arith, w))
 tree-is links roots place (fork i l r) (suc n) x w =
     let e : eqb i 0 ≡ false = ne_eqb i 0 (λ z. let b = x.1 in omega (arith, b, z)) in

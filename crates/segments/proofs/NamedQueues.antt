@@ -1,6 +1,7 @@
 -- The queues by name, over the queues by number.
-use Rattle.std.proofs.Common.{◌≡◌, ℕ, ◌+◌, ◌≤◌, nat_lt, true, false, cond, Option, Some, None, List, [], ◌∷◌, ◌++◌, ap, ◌∙◌, sym, refl, arith, inl, inr}
-use Rattle.std.proofs.lemmas.Bool.{cases_Bool, cases_lt, lt-ltb, le-ltb}
+use Rattle.std.proofs.Common.{◌≡◌, ℕ, ◌+◌, ◌<◌, ◌≤◌, nat_lt, false, cond, Option, Some, None, List, [], ◌∷◌, ◌++◌, ap, ◌∙◌, sym, refl, subst, arith, inl, inr}
+use Rattle.std.proofs.lemmas.Bool.{cases_Bool, le-ltb}
+use Rattle.std.proofs.lemmas.List.{map-append}
 use Rattle.step_record.specs.declared.item.Item.{Item}
 use Rattle.queue_table.specs.declared.records.Entry.{Entry}
 use Rattle.queue_table.specs.declared.records.Place.{Place}
@@ -12,14 +13,13 @@ use Rattle.segments.specs.declared.records.Queue.TheVariants.{Window, Probation,
 use Rattle.segments.specs.Items.{is_same_item, occurrences, items_without, oldest_of, last_from, last_item, before, IsGap, put_behind}
 use Rattle.segments.specs.Queues.{queue_of, with_queue, queue_holding, IsDistinct, queues_after_push, queues_without}
 use Rattle.segments.specs.Moves.{item_place}
-use Rattle.segments.proofs.QueueLists.{absent}
+use Rattle.queue_table.proofs.Contents.{cut_at}
+use Rattle.queue_table.proofs.QueueLists.{placed}
+use Rattle.segments.proofs.QueueLists.{absent, is_absent}
+use Rattle.segments.proofs.MoveLaws.{Stands, in_window, in_probation, in_protected, nowhere, stands}
 use Rattle.segments.specs.Names.{number_of, name_of, named, IsNamed, named_place}
 
 -- one list: what is done to the entries is done to their items
-
-items-append : (l m : List Entry) → items_of (l ++ m) ≡ items_of l ++ items_of m
-items-append [] m = refl
-items-append (e ∷ l) m = ap (λ t. e.item ∷ t) (items-append l m)
 
 items-without : (i : Item) (l : List Entry) → items_of (Entries.entries_without i l) ≡ items_without i (items_of l)
 items-without i [] = refl
@@ -58,28 +58,6 @@ oldest-is : (l : List Entry) (e : Entry) → Entries.oldest_of l ≡ Some e → 
 oldest-is [] e h = absurd (cc h)
 oldest-is (x ∷ l) e h = let same : x ≡ e = cc in rw same refl
 
--- a list of entries cut where its items are
-record IsCut (l : List Entry) (xs ys : List Item) : Type 0 where
-  before : List Entry
-  behind : List Entry
-  whole : l ≡ before ++ behind
-  items_before : items_of before ≡ xs
-  items_behind : items_of behind ≡ ys
-
-cut : (l : List Entry) (xs ys : List Item) → items_of l ≡ xs ++ ys → IsCut l xs ys
-cut l [] ys h = record { before = []; behind = l; whole = refl; items_before = refl; items_behind = h }
-cut [] (x ∷ xs) ys h = absurd (cc h)
-cut (e ∷ l) (x ∷ xs) ys h =
-    let c : IsCut l xs ys = cut l xs ys cc in
-    let first : e.item ≡ x = cc in
-    record {
-      before = e ∷ c.before;
-      behind = c.behind;
-      whole = ap (λ t. e ∷ t) c.whole;
-      items_before = ap (λ (t : List Item). e.item ∷ t) c.items_before ∙ ap (λ (a : Item). a ∷ xs) first;
-      items_behind = c.items_behind;
-    }
-
 -- one queue
 
 pub queue-named : (q : Queue) (s : ByNumber.Queues) → items_of (s (number_of q)) ≡ queue_of q (named s)
@@ -97,20 +75,15 @@ first-named q e s h = ap oldest_of (sym (queue-named q s)) ∙ oldest-is (s (num
 
 pub gap-numbered : (q : Queue) (older : Option Item) (s : ByNumber.Queues) → IsGap older (queue_of q (named s)) → Entries.IsGap older (s (number_of q))
 gap-numbered q older s g =
-    let c : IsCut (s (number_of q)) g.before g.behind = cut (s (number_of q)) g.before g.behind (queue-named q s ∙ g.whole) in
-    record {
-      before = c.before;
-      behind = c.behind;
-      whole = c.whole;
-      older_last = last-is None c.before ∙ (ap last_item c.items_before ∙ g.older_last);
-    }
+    let c = cut_at (λ (e : Entry). e.item) (s (number_of q)) g.before g.behind (queue-named q s ∙ g.whole) in
+    record { before = c.front; behind = c.back; whole = c.whole; older_last = last-is None c.front ∙ (ap last_item c.fronts ∙ g.older_last) }
 
 -- the queues
 
 pub push-named : (q : Queue) (e : Entry) (s : ByNumber.Queues) → named (ByNumber.after_push (number_of q) e s) ≡ queues_after_push q e.item (named s)
 push-named q e s =
     with-named q (s (number_of q) ++ e ∷ []) s
-    ∙ ap (λ (l : List Item). with_queue q l (named s)) (items-append (s (number_of q)) (e ∷ []) ∙ ap (λ (l : List Item). l ++ e.item ∷ []) (queue-named q s))
+    ∙ ap (λ (l : List Item). with_queue q l (named s)) (map-append (λ (x : Entry). x.item) (s (number_of q)) (e ∷ []) ∙ ap (λ (l : List Item). l ++ e.item ∷ []) (queue-named q s))
 
 pub without-named : (i : Item) (s : ByNumber.Queues) → named (ByNumber.after_removal i s) ≡ queues_without i (named s)
 without-named i s = rw (items-without i (s 0), items-without i (s 1), items-without i (s 2)) refl
@@ -140,56 +113,11 @@ distinct-named s d i = let few = d i in let w = times-is i (s 0) in let p = time
 -- where an item stands
 
 pub data IsShown : Option ℕ → Option Queue → Type 0 where
-  nowhere : IsShown None None
+  in_none : IsShown None None
   in_queue : (q : Queue) → IsShown (Some (number_of q)) (Some q)
 
 has-none : (n : ℕ) → n ≡ 0 → nat_lt 0 n ≡ false
 has-none n h = le-ltb 0 n (omega (arith, h))
-
-has-one : (n : ℕ) → 1 ≤ n → nat_lt 0 n ≡ true
-has-one n h = lt-ltb 0 n (omega (arith, h))
-
-pub holding-shown : (i : Item) (s : ByNumber.Queues) → ByNumber.IsDistinct s → IsNamed s → IsShown (ByNumber.queue_holding i s) (queue_holding i (named s))
-holding-shown i s d h =
-    let few = d i in
-    let w = times-is i (s 0) in
-    let p = times-is i (s 1) in
-    let r = times-is i (s 2) in
-    let z : nat_lt 0 (Entries.occurrences i (s 3)) ≡ false = has-none (Entries.occurrences i (s 3)) (ap (Entries.occurrences i) h.fourth) in
-    elim (cases_lt 0 (Entries.occurrences i (s 0))) [
-      | inl a ↦
-          let x = has-one (Entries.occurrences i (s 0)) (omega (arith, a)) in
-          let y = has-none (Entries.occurrences i (s 1)) (omega (arith, few, a)) in
-          let v = has-none (Entries.occurrences i (s 2)) (omega (arith, few, a)) in
-          rw (w, z, x, v, y) (in_queue Window)
-      | inr a ↦
-          let x = has-none (Entries.occurrences i (s 0)) (omega (arith, a)) in
-          elim (cases_lt 0 (Entries.occurrences i (s 1))) [
-            | inl b ↦
-                let y = has-one (Entries.occurrences i (s 1)) (omega (arith, b)) in
-                let v = has-none (Entries.occurrences i (s 2)) (omega (arith, few, b)) in
-                rw (w, p, z, x, v, y) (in_queue Probation)
-            | inr b ↦
-                let y = has-none (Entries.occurrences i (s 1)) (omega (arith, b)) in
-                elim (cases_lt 0 (Entries.occurrences i (s 2))) [
-                  | inl c ↦ let v = has-one (Entries.occurrences i (s 2)) (omega (arith, c)) in rw (w, p, r, z, x, y, v) (in_queue Protected)
-                  | inr c ↦ let v = has-none (Entries.occurrences i (s 2)) (omega (arith, c)) in rw (w, p, r, z, x, y, v) nowhere
-                ]
-          ]
-    ]
-
-name-number : (q : Queue) → name_of (number_of q) ≡ q
-name-number Window = refl
-name-number Probation = refl
-name-number Protected = refl
-
-shown-some : (n : ℕ) (o : Option ℕ) (q : Option Queue) → IsShown o q → o ≡ Some n → q ≡ Some (name_of n)
-shown-some n o q nowhere h = absurd (cc h)
-shown-some n o q (in_queue x) h = let e : number_of x ≡ n = cc in ap (λ (y : Queue). Some y) (sym (name-number x)) ∙ ap (λ (k : ℕ). Some (name_of k)) e
-
-shown-none : (o : Option ℕ) (q : Option Queue) → IsShown o q → o ≡ None → q ≡ None
-shown-none o q nowhere h = refl
-shown-none o q (in_queue x) h = absurd (cc h)
 
 pub missing-numbered : (i : Item) (s : ByNumber.Queues) → IsNamed s → queue_holding i (named s) ≡ None → ByNumber.queue_holding i s ≡ None
 missing-numbered i s h e =
@@ -200,8 +128,35 @@ missing-numbered i s h e =
     let z : nat_lt 0 (Entries.occurrences i (s 3)) ≡ false = has-none (Entries.occurrences i (s 3)) (ap (Entries.occurrences i) h.fourth) in
     rw (z, r, p, w) refl
 
+pub holding-shown : (i : Item) (s : ByNumber.Queues) → ByNumber.IsDistinct s → IsNamed s → IsShown (ByNumber.queue_holding i s) (queue_holding i (named s))
+holding-shown i s d h = at _ (stands i (named s) (distinct-named s d))
+  where
+    here : (q : Queue) → number_of q < ByNumber.QUEUES → 1 ≤ occurrences i (items_of (s (number_of q))) → IsShown (ByNumber.queue_holding i s) (Some q)
+    here q w n =
+        let same = times-is i (s (number_of q)) in
+        subst (λ o. IsShown o (Some q)) (sym (placed (number_of q) i s w d (omega arith))) (in_queue q)
+
+    at : (o : Option Queue) → Stands i (named s) o → IsShown (ByNumber.queue_holding i s) o
+    at _ (in_window a b c) = here Window (omega arith) (omega arith)
+    at _ (in_probation a b c) = here Probation (omega arith) (omega arith)
+    at _ (in_protected a b c) = here Protected (omega arith) (omega arith)
+    at _ (nowhere a b c) = subst (λ o. IsShown o None) (sym (missing-numbered i s h (is_absent i (named s) record { window = a; probation = b; protected = c }))) in_none
+
+name-number : (q : Queue) → name_of (number_of q) ≡ q
+name-number Window = refl
+name-number Probation = refl
+name-number Protected = refl
+
+shown-some : (n : ℕ) (o : Option ℕ) (q : Option Queue) → IsShown o q → o ≡ Some n → q ≡ Some (name_of n)
+shown-some n o q in_none h = absurd (cc h)
+shown-some n o q (in_queue x) h = let e : number_of x ≡ n = cc in ap (λ (y : Queue). Some y) (sym (name-number x)) ∙ ap (λ (k : ℕ). Some (name_of k)) e
+
+shown-none : (o : Option ℕ) (q : Option Queue) → IsShown o q → o ≡ None → q ≡ None
+shown-none o q in_none h = refl
+shown-none o q (in_queue x) h = absurd (cc h)
+
 place-at : (i : Item) (p : Place) (o : Option ℕ) (q : Option Queue) (s : ByNumber.Queues) → IsShown o q → Some p ≡ ByNumber.place_at i o s → Some (named_place p) ≡ item_place i q (named s)
-place-at i p o q s nowhere h = absurd (cc h)
+place-at i p o q s in_none h = absurd (cc h)
 place-at i p o q s (in_queue x) h =
     let here : Place = record { queue = number_of x; older = Entries.last_item (Entries.before i (s (number_of x))) } in
     let same : p ≡ here = cc in
