@@ -2,6 +2,7 @@
 use Rattle.std.proofs.Common.{◌≡◌, ◌≢◌, ℕ, ◌+◌, ◌<◌, ◌≤◌, ◌⊎◌, true, false, cond, Option, Some, None, List, [], ◌∷◌, map, ap, ◌∙◌, sym, subst, refl, arith, inl, inr, ◌++◌}
 use Rattle.std.proofs.lemmas.Bool.{cases_Bool, cases_eq, cases_lt}
 use Rattle.std.proofs.Math.Path.{fun_ext}
+use Rattle.std.proofs.lemmas.Bool.Decides.{nat_tests}
 use Rattle.step_record.specs.declared.item.Item.{Item}
 use Rattle.queue_table.specs.declared.records.Entry.{Entry}
 use Rattle.queue_table.specs.declared.records.Place.{Place}
@@ -41,11 +42,7 @@ newest-node e (x ∷ l) z h = newest-in e x l (omega (arith, z)) (omega (arith, 
 nodes-put : (older : Option Item) (e : Entry) (l : List Entry) → nodes_of (put_behind older e l) ≡ e.item.node + nodes_of l
 nodes-put None e l = refl
 nodes-put (Some a) e [] = refl
-nodes-put (Some a) e (x ∷ l) =
-    elim (cases_Bool (is_same_item a x.item)) as (λ _. nodes_of (cond (is_same_item a x.item) (x ∷ e ∷ l) (x ∷ put_behind (Some a) e l)) ≡ e.item.node + (x.item.node + nodes_of l)) [
-      | inl g ↦ rw g (omega arith)
-      | inr g ↦ let h = nodes-put (Some a) e l in rw g (omega (arith, h))
-    ]
+nodes-put (Some a) e (x ∷ l) = let r = nodes-put (Some a) e l in grind (arith, nat_tests)
 
 nodes-out : (i : Item) (l : List Entry) → nodes_of l ≡ 0 → nodes_of (entries_without i l) ≡ 0
 nodes-out i l z = omega (arith, nodes-without i l, z)
@@ -63,15 +60,7 @@ keys-back q older e s n k j =
 
 pub first-other : (e o : Entry) (l : List Entry) → oldest_of l ≡ Some o → occurrences e.item l ≡ 0 → is_same_item e.item o.item ≡ false
 first-other e o [] h z = absurd (cc h)
-first-other e o (x ∷ l) h z =
-    elim (cases_Bool (is_same_item e.item o.item)) [
-      | inl g ↦ absurd (
-          let same : x ≡ o = cc h in
-          let own : is_same_item e.item x.item ≡ true = ap (λ (y : Entry). is_same_item e.item y.item) same ∙ g in
-          let some : 1 + occurrences e.item l ≡ 0 = rw own at z in
-          omega (arith, some))
-      | inr g ↦ g
-    ]
+first-other e o (x ∷ l) h z = grind (arith, nat_tests)
 
 pub off-after-send : (i : Item) (e : Entry) (to q : ℕ) (s : Queues) → is_same_item i e.item ≡ false → occurrences i (s q) ≡ 0 → occurrences i (after_send e to s q) ≡ 0
 off-after-send i e to q s h z =
@@ -117,11 +106,7 @@ module _ (e : Entry) (s : Queues) (t : IsTabled s) (at : Stands e s) where
 
 counted-twice : (i : Item) (m n : ℕ) (l : List Entry) → entries_counted i n (entries_counted i m l) ≡ entries_counted i n l
 counted-twice i m n [] = refl
-counted-twice i m n (x ∷ l) =
-    elim (cases_Bool (is_same_item i x.item)) as (λ _. entries_counted i n (cond (is_same_item i x.item) (entry x.item m ∷ entries_counted i m l) (x ∷ entries_counted i m l)) ≡ cond (is_same_item i x.item) (entry x.item n ∷ entries_counted i n l) (x ∷ entries_counted i n l)) [
-      | inl g ↦ rw (g, g, counted-twice i m n l) refl
-      | inr g ↦ rw (g, g, counted-twice i m n l) refl
-    ]
+counted-twice i m n (x ∷ l) = let r = counted-twice i m n l in grind (arith, nat_tests)
 
 -- ---- the accessed key
 

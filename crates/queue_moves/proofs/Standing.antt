@@ -1,13 +1,13 @@
 -- Where the entry of a slot stands.
-use Rattle.std.proofs.Common.{◌≡◌, ℕ, suc, zero, ◌+◌, ◌<◌, ◌≤◌, Bool, true, false, cond, eqb, Some, List, [], ◌∷◌, ◌++◌, length, map, ap, ◌∙◌, sym, subst, refl, arith, inl, inr}
+use Rattle.std.proofs.Common.{◌≡◌, ℕ, suc, zero, ◌+◌, ◌<◌, ◌≤◌, Some, List, [], ◌∷◌, ◌++◌, length, ap, ◌∙◌, sym, subst, arith}
 use Rattle.std.specs.List.{Contains, slice_index_or}
-use Rattle.std.proofs.lemmas.Bool.{cases_Bool, cases_lt, eqb-true}
+use Rattle.std.proofs.lemmas.Bool.Decides.{nat_tests}
 use Rattle.step_record.specs.declared.item.Item.{Item}
 use Rattle.queue_table.specs.declared.records.Entry.{Entry}
 use Rattle.queue_table.specs.declared.slot.Slot.{Slot}
 use Rattle.queue_table.specs.Ring.{lists, order_of, entries, slot_entry, count}
-use Rattle.queue_table.specs.Entries.{is_same_item, entry, occurrences, oldest_of, before}
-use Rattle.queue_table.specs.Queues.{QUEUES, Queues, queue_holding, IsDistinct}
+use Rattle.queue_table.specs.Entries.{entry, occurrences, oldest_of, before}
+use Rattle.queue_table.specs.Queues.{QUEUES, Queues, queue_holding}
 use Rattle.queue_table.specs.QueueTable.{HoldsAt}
 use Rattle.queue_table.proofs.EntryLists.{same-refl}
 use Rattle.queue_table.proofs.QueueLists.{placed}
@@ -38,25 +38,20 @@ held-stands at e slots h = in_queue (stands_in at (order_of slots) h.used)
 
 pub at-times : (e : Entry) (k : ℕ) (l : List Entry) → k < length l → slice_index_or l k e ≡ e → 1 ≤ occurrences e.item l
 at-times e k [] w h = absurd (omega (arith, w))
-at-times e zero (x ∷ l) w h = let own : is_same_item e.item x.item ≡ true = rw h (same-refl e.item) in rw own (omega arith)
+at-times e zero (x ∷ l) w h =
+    let own = same-refl e.item in
+    grind (arith, nat_tests)
 at-times e (suc k) (x ∷ l) w h = let r : 1 ≤ occurrences e.item l = at-times e k l (omega (arith, w)) h in omega (arith, r)
 
 count-at : (e : Entry) (k : ℕ) (l : List Entry) → k < length l → slice_index_or l k e ≡ e → occurrences e.item l ≤ 1 → count_of e.item l ≡ e.count
 count-at e k [] w h few = absurd (omega (arith, w))
 count-at e zero (x ∷ l) w h few =
-    let own : is_same_item e.item x.item ≡ true = rw h (same-refl e.item) in
-    rw own (ap (λ (v : Entry). v.count) h)
+    let own = same-refl e.item in
+    grind (arith, nat_tests)
 count-at e (suc k) (x ∷ l) w h few =
-    let low : k < length l = omega (arith, w) in
-    elim (cases_Bool (is_same_item e.item x.item)) as (λ _. cond (is_same_item e.item x.item) x.count (count_of e.item l) ≡ e.count) [
-      | inl g ↦ absurd (
-          let one : 1 + occurrences e.item l ≤ 1 = rw g at few in
-          let more = at-times e k l low h in
-          omega (arith, one, more))
-      | inr g ↦
-          let less : 0 + occurrences e.item l ≤ 1 = rw g at few in
-          rw g (count-at e k l low h (omega (arith, less)))
-    ]
+    let more = at-times e k l (omega arith) h in
+    let r = count-at e k l (omega arith) h in
+    grind (arith, nat_tests)
 
 pub first-in : (e : Entry) (l : List Entry) → oldest_of l ≡ Some e → Contains l e
 first-in e [] h = absurd (cc h)

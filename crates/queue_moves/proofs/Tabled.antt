@@ -1,8 +1,9 @@
 -- What the calls make of the queues of a table of keys.
-use Rattle.std.proofs.Common.{◌≡◌, ℕ, suc, zero, ◌+◌, ◌-◌, ◌<◌, ◌≤◌, true, false, cond, ◌&&◌, eqb, nat_lt, Option, Some, None, List, [], ◌∷◌, ◌++◌, ap, ◌∙◌, sym, refl, arith, ◌⊎◌, inl, inr}
+use Rattle.std.proofs.Common.{◌≡◌, ℕ, suc, zero, ◌+◌, ◌-◌, ◌<◌, ◌≤◌, true, false, cond, eqb, nat_lt, Option, Some, None, List, [], ◌∷◌, ◌++◌, ap, ◌∙◌, sym, refl, arith, ◌⊎◌, inl, inr}
 use Rattle.std.proofs.Math.Path.{fun_ext}
-use Rattle.std.proofs.lemmas.Bool.{cases_Bool, cases_eq, cases_lt, eq-eqb, lt-ltb, le-ltb}
+use Rattle.std.proofs.lemmas.Bool.{cases_Bool, cases_eq, cases_lt, lt-ltb, le-ltb}
 use Rattle.std.proofs.lemmas.List as ListLemmas
+use Rattle.std.proofs.lemmas.Bool.Decides.{nat_tests}
 use Rattle.step_record.specs.declared.item.Item.{Item}
 use Rattle.step_record.specs.Keys.{has_key, keys_without}
 use Rattle.queue_table.specs.declared.records.Entry.{Entry}
@@ -27,54 +28,25 @@ nodes-append (e ∷ a) b = let r : nodes_of (a ++ b) ≡ nodes_of a + nodes_of b
 
 pub nodes-without : (i : Item) (l : List Entry) → nodes_of (entries_without i l) ≤ nodes_of l
 nodes-without i [] = omega arith
-nodes-without i (e ∷ l) =
-    let r : nodes_of (entries_without i l) ≤ nodes_of l = nodes-without i l in
-    elim (cases_Bool (is_same_item i e.item)) as (λ _. nodes_of (cond (is_same_item i e.item) (entries_without i l) (e ∷ entries_without i l)) ≤ e.item.node + nodes_of l) [
-      | inl h ↦ rw h (omega (arith, r))
-      | inr h ↦ rw h (omega (arith, r))
-    ]
+nodes-without i (e ∷ l) = let r = nodes-without i l in grind (arith, nat_tests)
 
 nodes-counted : (i : Item) (n : ℕ) (l : List Entry) → nodes_of (entries_counted i n l) ≡ nodes_of l
 nodes-counted i n [] = refl
-nodes-counted i n (e ∷ l) =
-    let r : nodes_of (entries_counted i n l) ≡ nodes_of l = nodes-counted i n l in
-    elim (cases_Bool (is_same_item i e.item)) as (λ _. nodes_of (cond (is_same_item i e.item) (entry e.item n ∷ entries_counted i n l) (e ∷ entries_counted i n l)) ≡ e.item.node + nodes_of l) [
-      | inl h ↦ rw h (ap (λ x. e.item.node + x) r)
-      | inr h ↦ rw h (ap (λ x. e.item.node + x) r)
-    ]
+nodes-counted i n (e ∷ l) = let r = nodes-counted i n l in grind (arith, nat_tests)
 
 -- the item has the count already, or stands nowhere
 pub counted-own : (i : Item) (n : ℕ) (l : List Entry) → (count_of i l ≡ n) ⊎ (occurrences i l ≡ 0) → occurrences i l ≤ 1 → entries_counted i n l ≡ l
 counted-own i n [] h few = refl
 counted-own i n (x ∷ l) h few =
-    elim (cases_Bool (is_same_item i x.item)) as (λ _. cond (is_same_item i x.item) (entry x.item n ∷ entries_counted i n l) (x ∷ entries_counted i n l) ≡ x ∷ l) [
-      | inl g ↦
-          let one : 1 + occurrences i l ≤ 1 = rw g at few in
-          let none : occurrences i l ≡ 0 = omega (arith, one) in
-          let rest : entries_counted i n l ≡ l = counted-own i n l (inr none) (omega (arith, none)) in
-          elim h [
-            | inl c ↦ let its : x.count ≡ n = rw g at c in rw g (ap (λ y. entry x.item y ∷ entries_counted i n l) (sym its) ∙ ap (λ t. x ∷ t) rest)
-            | inr z ↦ absurd (let some : 1 + occurrences i l ≡ 0 = rw g at z in omega (arith, some))
-          ]
-      | inr g ↦
-          let less : 0 + occurrences i l ≤ 1 = rw g at few in
-          let on : (count_of i l ≡ n) ⊎ (occurrences i l ≡ 0) = elim h [
-            | inl c ↦ inl (rw g at c)
-            | inr z ↦ inr (let y : 0 + occurrences i l ≡ 0 = rw g at z in omega (arith, y))
-          ] in
-          rw g (ap (λ t. x ∷ t) (counted-own i n l on (omega (arith, less))))
-    ]
+    let rest = counted-own i n l in
+    grind (arith, nat_tests)
 
 pub counted-none : (i : Item) (n : ℕ) (l : List Entry) → occurrences i l ≡ 0 → entries_counted i n l ≡ l
 counted-none i n l z = counted-own i n l (inr z) (omega (arith, z))
 
 counted-append : (i : Item) (n : ℕ) (xs ys : List Entry) → entries_counted i n (xs ++ ys) ≡ entries_counted i n xs ++ entries_counted i n ys
 counted-append i n [] ys = refl
-counted-append i n (x ∷ xs) ys =
-    elim (cases_Bool (is_same_item i x.item)) as (λ _. cond (is_same_item i x.item) (entry x.item n ∷ entries_counted i n (xs ++ ys)) (x ∷ entries_counted i n (xs ++ ys)) ≡ cond (is_same_item i x.item) (entry x.item n ∷ entries_counted i n xs) (x ∷ entries_counted i n xs) ++ entries_counted i n ys) [
-      | inl e ↦ rw e (ap (λ t. entry x.item n ∷ t) (counted-append i n xs ys))
-      | inr e ↦ rw e (ap (λ t. x ∷ t) (counted-append i n xs ys))
-    ]
+counted-append i n (x ∷ xs) ys = let r = counted-append i n xs ys in grind (arith, nat_tests)
 
 -- what follows an item that stands in the list
 abbrev pub behind : Item → List Entry → List Entry
@@ -84,39 +56,28 @@ behind i (e ∷ l) = cond (is_same_item i e.item) l (behind i l)
 pub found-split : (i : Item) (l : List Entry) → 1 ≤ occurrences i l → l ≡ before i l ++ entry i (count_of i l) ∷ behind i l
 found-split i [] h = absurd (omega (arith, h))
 found-split i (x ∷ l) h =
-    elim (cases_Bool (is_same_item i x.item)) as (λ _. x ∷ l ≡ cond (is_same_item i x.item) [] (x ∷ before i l) ++ entry i (cond (is_same_item i x.item) x.count (count_of i l)) ∷ cond (is_same_item i x.item) l (behind i l)) [
-      | inl e ↦ rw e (ap (λ (j : Item). entry j x.count ∷ l) (sym (same-true i x.item e)))
-      | inr e ↦ let more : 1 ≤ 0 + occurrences i l = rw e at h in rw e (ap (λ t. x ∷ t) (found-split i l (omega (arith, more))))
-    ]
+    let r = found-split i l in
+    let same = same-true i x.item in
+    grind (arith, nat_tests)
 
 -- ---- keys and items
 
 pub same-key : (k : ℕ) (i : Item) → i.node ≡ 0 → is_same_item (item_of k) i ≡ eqb k i.key
-same-key k i h =
-    elim (cases_Bool (eqb k i.key)) as (λ _. eqb k i.key && eqb 0 i.node ≡ eqb k i.key) [
-      | inl e ↦ rw e (eq-eqb 0 i.node (sym h))
-      | inr e ↦ rw e refl
-    ]
+same-key k i h = grind (arith, nat_tests)
 
 pub has-occurs : (k : ℕ) (l : List Entry) → nodes_of l ≡ 0 → has_key k (keys_of l) ≡ nat_lt 0 (occurrences (item_of k) l)
 has-occurs k [] h = refl
 has-occurs k (x ∷ l) h =
-    let own : is_same_item (item_of k) x.item ≡ eqb k x.item.key = same-key k x.item (omega (arith, h)) in
-    let r : has_key k (keys_of l) ≡ nat_lt 0 (occurrences (item_of k) l) = has-occurs k l (omega (arith, h)) in
-    elim (cases_Bool (eqb k x.item.key)) as (λ _. cond (eqb k x.item.key) true (has_key k (keys_of l)) ≡ nat_lt 0 (cond (is_same_item (item_of k) x.item) 1 0 + occurrences (item_of k) l)) [
-      | inl e ↦ rw (own, e) (sym (lt-ltb 0 (1 + occurrences (item_of k) l) (omega arith)))
-      | inr e ↦ rw (own, e) (let z : occurrences (item_of k) l ≡ 0 + occurrences (item_of k) l = omega arith in r ∙ ap (nat_lt 0) z)
-    ]
+    let own = same-key k x.item (omega arith) in
+    let r = has-occurs k l (omega arith) in
+    grind (arith, nat_tests)
 
 pub keys-taken : (k : ℕ) (l : List Entry) → nodes_of l ≡ 0 → keys_without k (keys_of l) ≡ keys_of (entries_without (item_of k) l)
 keys-taken k [] h = refl
 keys-taken k (x ∷ l) h =
-    let own : is_same_item (item_of k) x.item ≡ eqb k x.item.key = same-key k x.item (omega (arith, h)) in
-    let r : keys_without k (keys_of l) ≡ keys_of (entries_without (item_of k) l) = keys-taken k l (omega (arith, h)) in
-    elim (cases_Bool (eqb k x.item.key)) as (λ _. cond (eqb k x.item.key) (keys_without k (keys_of l)) (x.item.key ∷ keys_without k (keys_of l)) ≡ keys_of (cond (is_same_item (item_of k) x.item) (entries_without (item_of k) l) (x ∷ entries_without (item_of k) l))) [
-      | inl e ↦ rw (own, e) r
-      | inr e ↦ rw (own, e) (ap (λ t. x.item.key ∷ t) r)
-    ]
+    let own = same-key k x.item (omega arith) in
+    let r = keys-taken k l (omega arith) in
+    grind (arith, nat_tests)
 
 has-key-some : (k : ℕ) (l : List Entry) → nodes_of l ≡ 0 → 1 ≤ occurrences (item_of k) l → has_key k (keys_of l) ≡ true
 has-key-some k l h m = has-occurs k l h ∙ lt-ltb 0 (occurrences (item_of k) l) m
@@ -141,21 +102,7 @@ with-queue-is q l s t h off = fun_ext (λ j. elim (cases_eq j q) [
 
 held-below : (n : ℕ) (i : Item) (s : Queues) (q : ℕ) → queue_below n i s ≡ Some q → (q < n) × (1 ≤ occurrences i (s q))
 held-below zero i s q h = absurd (cc h)
-held-below (suc n) i s q h =
-    elim (cases_lt 0 (occurrences i (s n))) [
-      | inl a ↦
-          let e = lt-ltb 0 (occurrences i (s n)) a in
-          let h2 : Some n ≡ Some q = rw e at h in
-          let z : n ≡ q = cc h2 in
-          let b = ap (λ x. occurrences i (s x)) z in
-          (omega (arith, z), omega (arith, a, b))
-      | inr a ↦
-          let e = le-ltb 0 (occurrences i (s n)) a in
-          let h2 : queue_below n i s ≡ Some q = rw e at h in
-          let r = held-below n i s q h2 in
-          let w = r.0 in
-          (omega (arith, w), r.1)
-    ]
+held-below (suc n) i s q h = let r = held-below n i s q in grind (arith, nat_tests)
 
 standing-parts : (i : Item) (h : Option ℕ) (s : Queues) (q n : ℕ) → standing_at i h s ≡ Some (q, n) → (h ≡ Some q) × (count_of i (s q) ≡ n)
 standing-parts i None s q n e = absurd (cc e)
