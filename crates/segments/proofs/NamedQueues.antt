@@ -1,7 +1,8 @@
 -- The queues by name, over the queues by number.
-use Rattle.std.proofs.Common.{◌≡◌, ℕ, ◌+◌, ◌<◌, ◌≤◌, nat_lt, false, cond, Option, Some, None, List, [], ◌∷◌, ◌++◌, ap, ◌∙◌, sym, refl, subst, arith, inl, inr}
-use Rattle.std.proofs.lemmas.Bool.{cases_Bool, le-ltb}
+use Rattle.std.proofs.Common.{◌≡◌, ℕ, ◌+◌, ◌<◌, ◌≤◌, nat_lt, false, cond, Option, Some, None, List, [], ◌∷◌, ◌++◌, ap, ◌∙◌, sym, refl, subst, arith}
+use Rattle.std.proofs.lemmas.Bool.{le-ltb}
 use Rattle.std.proofs.lemmas.List.{map-append}
+use Rattle.std.proofs.lemmas.Bool.Decides.{nat_tests}
 use Rattle.step_record.specs.declared.item.Item.{Item}
 use Rattle.queue_table.specs.declared.records.Entry.{Entry}
 use Rattle.queue_table.specs.declared.records.Place.{Place}
@@ -23,28 +24,16 @@ use Rattle.segments.specs.Names.{number_of, name_of, named, IsNamed, named_place
 
 items-without : (i : Item) (l : List Entry) → items_of (Entries.entries_without i l) ≡ items_without i (items_of l)
 items-without i [] = refl
-items-without i (e ∷ l) =
-    elim (cases_Bool (is_same_item i e.item)) as (λ _. items_of (cond (is_same_item i e.item) (Entries.entries_without i l) (e ∷ Entries.entries_without i l)) ≡ cond (is_same_item i e.item) (items_without i (items_of l)) (e.item ∷ items_without i (items_of l))) [
-      | inl h ↦ rw h (items-without i l)
-      | inr h ↦ rw h (ap (λ t. e.item ∷ t) (items-without i l))
-    ]
+items-without i (e ∷ l) = let r = items-without i l in grind (arith, nat_tests)
 
 items-put : (o : Option Item) (x : Entry) (l : List Entry) → items_of (Entries.put_behind o x l) ≡ put_behind o x.item (items_of l)
 items-put None x l = refl
 items-put (Some a) x [] = refl
-items-put (Some a) x (e ∷ l) =
-    elim (cases_Bool (is_same_item a e.item)) as (λ _. items_of (cond (is_same_item a e.item) (e ∷ x ∷ l) (e ∷ Entries.put_behind (Some a) x l)) ≡ cond (is_same_item a e.item) (e.item ∷ x.item ∷ items_of l) (e.item ∷ put_behind (Some a) x.item (items_of l))) [
-      | inl h ↦ rw h refl
-      | inr h ↦ rw h (ap (λ t. e.item ∷ t) (items-put (Some a) x l))
-    ]
+items-put (Some a) x (e ∷ l) = let r = items-put (Some a) x l in grind (arith, nat_tests)
 
 items-before : (i : Item) (l : List Entry) → items_of (Entries.before i l) ≡ before i (items_of l)
 items-before i [] = refl
-items-before i (e ∷ l) =
-    elim (cases_Bool (is_same_item i e.item)) as (λ _. items_of (cond (is_same_item i e.item) [] (e ∷ Entries.before i l)) ≡ cond (is_same_item i e.item) [] (e.item ∷ before i (items_of l))) [
-      | inl h ↦ rw h refl
-      | inr h ↦ rw h (ap (λ t. e.item ∷ t) (items-before i l))
-    ]
+items-before i (e ∷ l) = let r = items-before i l in grind (arith, nat_tests)
 
 last-is : (found : Option Item) (l : List Entry) → Entries.last_from found l ≡ last_from found (items_of l)
 last-is found [] = refl
