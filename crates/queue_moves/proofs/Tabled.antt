@@ -89,8 +89,7 @@ pub oldest-node : (e : Entry) (l : List Entry) → nodes_of l ≡ 0 → oldest_o
 oldest-node e [] z h = absurd (cc h)
 oldest-node e (x ∷ l) z h =
     let same : x ≡ e = cc h in
-    let n = ap (λ (y : Entry). y.item.node) same in
-    omega (arith, z, n)
+    omega (arith, z, ap (λ (y : Entry). y.item.node) same)
 
 -- ---- queues by number
 

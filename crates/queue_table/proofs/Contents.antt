@@ -3,7 +3,7 @@ use Rattle.std.proofs.Common.{◌≡◌, ℕ, suc, zero, ◌+◌, ◌<◌, ◌�
 use Rattle.std.proofs.Common.{append-nil, append_assoc}
 use Rattle.std.specs.List.{Contains}
 use Rattle.std.proofs.Math.Path.{fun_ext}
-use Rattle.std.proofs.lemmas.Bool.{cases_Bool, cases_eq, cases_lt, ne_eqb, eq-eqb, eqb-true}
+use Rattle.std.proofs.lemmas.Bool.{cases_Bool, cases_eq, cases_lt, eqb-true}
 use Rattle.std.proofs.lemmas.List.{map-append}
 use Rattle.std.proofs.lemmas.Bool.Decides.{nat_tests}
 use Rattle.step_record.specs.declared.item.Item.{Item}
@@ -57,15 +57,12 @@ times-used i o es = below QUEUES
 -- two slots in use hold different items
 pub alone : (o : Order) (es : List Entry) (k j : ℕ) → IsDistinct (lists_of o es) → 1 ≤ count k (used o) → 1 ≤ count j (used o) → is_same_item (slot_item es k) (slot_item es j) ≡ eqb k j
 alone o es k j d a b =
-    elim (cases_eq k j) [
-      | inl e ↦ subst (λ x. is_same_item (slot_item es k) (slot_item es x) ≡ eqb k x) e (same-refl (slot_item es k) ∙ sym (eq-eqb k k refl))
-      | inr e ↦
-          let n : eqb k j ≡ false = ne_eqb k j e in
-          elim (cases_Bool (is_same_item (slot_item es k) (slot_item es j))) [
-            | inl s ↦ absurd (let t = times-two (λ x. slot_entry es x) (slot_item es k) k j (used o) e (same-refl (slot_item es k)) s in let u = times-used (slot_item es k) o es in let w = d (slot_item es k) in omega (arith, t, u, w, a, b))
-            | inr s ↦ s ∙ sym n
-          ]
-    ]
+    let own = same-refl (slot_item es k) in
+    let two = times-two (λ x. slot_entry es x) (slot_item es k) k j (used o) in
+    let u = times-used (slot_item es k) o es in
+    let w = d (slot_item es k) in
+    let e = cases_eq k j in
+    grind (arith, nat_tests)
 
 -- two orders with the same entries in each queue
 pub by-queue : (o p : Order) (es fs : List Entry) → IsShort o → IsShort p → ((q : ℕ) → q < QUEUES → lists_of o es q ≡ lists_of p fs q) → lists_of o es ≡ lists_of p fs

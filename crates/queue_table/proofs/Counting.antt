@@ -1,7 +1,8 @@
 -- Another count beside an item.
-use Rattle.std.proofs.Common.{◌≡◌, ℕ, suc, zero, ◌+◌, ◌≤◌, true, false, cond, eqb, List, [], ◌∷◌, length, map, ap, ◌∙◌, sym, refl, subst, arith, inl, inr, length-set}
+use Rattle.std.proofs.Common.{◌≡◌, ℕ, suc, zero, ◌≤◌, eqb, List, [], ◌∷◌, length, map, ap, ◌∙◌, sym, refl, subst, arith, inl, inr, length-set}
 use Rattle.std.proofs.Math.Path.{fun_ext}
-use Rattle.std.proofs.lemmas.Bool.{cases_Bool, cases_lt, eqb-true, eq-eqb}
+use Rattle.std.proofs.lemmas.Bool.{cases_eq, cases_lt}
+use Rattle.std.proofs.lemmas.Bool.Decides.{nat_tests}
 use Rattle.step_record.specs.declared.item.Item.{Item}
 use Rattle.queue_table.specs.declared.records.Entry.{Entry}
 use Rattle.queue_table.specs.declared.slot_index.SlotIndex.{SlotIndex}
@@ -26,25 +27,13 @@ map-counted f g n k [] h a b = refl
 map-counted f g n k (x ∷ l) h a b =
     let here : is_same_item (f k).item (f x).item ≡ eqb k x = h x (let c = count-here x l in omega (arith, c)) in
     let rest : map g l ≡ entries_counted (f k).item n (map f l) = map-counted f g n k l (λ j m. h j (omega arith)) a b in
-    elim (cases_Bool (eqb k x)) as (λ _. g x ∷ map g l ≡ cond (is_same_item (f k).item (f x).item) (entry (f x).item n ∷ entries_counted (f k).item n (map f l)) (f x ∷ entries_counted (f k).item n (map f l))) [
-      | inl e ↦
-          let s : is_same_item (f k).item (f x).item ≡ true = here ∙ e in
-          let gx : g x ≡ entry (f x).item n = subst (λ y. g y ≡ entry (f y).item n) (eqb-true k x e) b in
-          rw (s, gx, rest) refl
-      | inr e ↦
-          let s : is_same_item (f k).item (f x).item ≡ false = here ∙ e in
-          let gx : g x ≡ f x = a x (λ z. let t = eq-eqb k x (sym z) in absurd (cc (t, e))) in
-          rw (s, gx, rest) refl
-    ]
+    let other = a x in
+    let e = cases_eq k x in
+    grind (arith, nat_tests)
 
 times-counted : (i j : Item) (n : ℕ) (l : List Entry) → occurrences j (entries_counted i n l) ≡ occurrences j l
 times-counted i j n [] = refl
-times-counted i j n (x ∷ l) =
-    let h = times-counted i j n l in
-    elim (cases_Bool (is_same_item i x.item)) as (λ _. occurrences j (cond (is_same_item i x.item) (entry x.item n ∷ entries_counted i n l) (x ∷ entries_counted i n l)) ≡ cond (is_same_item j x.item) 1 0 + occurrences j l) [
-      | inl e ↦ rw e (omega (arith, h))
-      | inr e ↦ rw e (omega (arith, h))
-    ]
+times-counted i j n (x ∷ l) = let r = times-counted i j n l in grind (arith, nat_tests)
 
 pub distinct-counted : (i : Item) (n : ℕ) (s : Queues) → IsDistinct s → IsDistinct (after_count i n s)
 distinct-counted i n s u j = let a = same QUEUES in let b = u j in omega (arith, a, b)

@@ -1,7 +1,8 @@
 -- The slot after a place of a queue, from the links.
 use Rattle.std.proofs.Common.{◌≡◌, ℕ, suc, ◌+◌, ◌<◌, ◌≤◌, true, false, eqb, Option, Some, None, List, [], ◌∷◌, ◌++◌, get_or, map, ap, ◌∙◌, sym, refl, subst, arith, inl, inr, append_assoc}
-use Rattle.std.proofs.lemmas.Bool.{cases_Bool, cases_eq, eqb-true, ne_eqb, eq-eqb}
+use Rattle.std.proofs.lemmas.Bool.{cases_Bool, cases_eq, eqb-true, ne_eqb}
 use Rattle.std.proofs.lemmas.List.{map-append}
+use Rattle.std.proofs.lemmas.Bool.Decides.{nat_tests}
 use Rattle.step_record.specs.declared.item.Item.{Item}
 use Rattle.queue_table.specs.declared.records.Entry.{Entry}
 use Rattle.queue_table.specs.declared.slot.Slot.{Slot}
@@ -28,21 +29,11 @@ next-linked ns os j but c [] k d few =
     let e : eqb (get_or ns j 0) but ≡ false = ne_eqb _ _ (λ z. d (sym z ∙ k.0)) in
     rw e (sym k.0)
 next-linked ns os j but c (x ∷ ws) k d few =
-    elim (cases_eq (get_or ns j 0) but) as (λ _. get_or (keys_without but (x ∷ ws)) 0 c ≡ next_but ns j but) [
-      | inl e ↦
-          let f : eqb (get_or ns j 0) but ≡ true = eq-eqb _ _ e in
-          let g : eqb but x ≡ true = eq-eqb _ _ (sym e ∙ k.0) in
-          let one : 1 + count but ws ≤ 1 = rw g at few in
-          let none : count but ws ≡ 0 = omega (arith, one) in
-          let r : get_or (keys_without but ws) 0 c ≡ get_or ns (get_or ns j 0) 0 =
-          ap (λ (l : List ℕ). get_or l 0 c) (without-none but ws none)
-          ∙ (start-is ws c ∙ (sym (newer-start ns os x ws c k.2) ∙ ap (λ y. get_or ns y 0) (sym k.0))) in
-          rw (f, g) r
-      | inr n ↦
-          let f : eqb (get_or ns j 0) but ≡ false = ne_eqb _ _ n in
-          let g : eqb but x ≡ false = ne_eqb but x (λ z. n (k.0 ∙ sym z)) in
-          rw (f, g) (sym k.0)
-    ]
+    let none = without-none but ws in
+    let first = start-is ws c in
+    let next = newer-start ns os x ws c k.2 in
+    let e = cases_eq (get_or ns j 0) but in
+    grind (arith, nat_tests)
 
 -- the slot of the last item
 record HasLast (f : ℕ → Entry) (l : List ℕ) (n : Item) : Type 0 where

@@ -1,18 +1,19 @@
 -- Slots and index hold together, whatever moves.
 use Rattle.std.proofs.Common.{◌≡◌, ℕ, suc, zero, ◌+◌, ◌<◌, ◌≤◌, false, cond, eqb, Some, List, ◌∷◌, ◌++◌, length, get_or, map, ap, ◌∙◌, sym, refl, subst, arith, ◌⊎◌, inl, inr}
 use Rattle.std.proofs.lemmas.Bool.{cases_eq, ne_eqb, eq-eqb}
+use Rattle.std.proofs.lemmas.Bool.Decides.{nat_tests}
 use Rattle.step_record.specs.declared.item.Item.{Item}
 use Rattle.queue_table.specs.declared.records.Entry.{Entry}
 use Rattle.queue_table.specs.Entries.{is_same_item, last_item, before}
 use Rattle.queue_table.specs.Queues.{QUEUES, queue_holding, place_in}
 use Rattle.queue_table.specs.declared.slot.Slot.{Slot}
-use Rattle.queue_table.specs.Ring.{entries, olders, newers, tags, slot_entry, slot_item, count, IsLinked, put_before, SECTIONS, FIRST, Order, ring, ring_from, used, used_below, order_of, order_without, sent, lists_of, tag_at, item_or, IsQueued}
+use Rattle.queue_table.specs.Ring.{entries, olders, newers, tags, slot_entry, slot_item, count, IsLinked, SECTIONS, FIRST, Order, ring, ring_from, used, used_below, order_of, sent, lists_of, tag_at, item_or, IsQueued}
 use Rattle.step_record.specs.Keys.{keys_without}
 use Rattle.queue_table.proofs.Trees.{some_or_none}
 use Rattle.queue_table.proofs.Splices.{count-append, linked-split, older-end, end_of}
 use Rattle.queue_table.proofs.Turning.{IsSplit, split_at, turned}
 use Rattle.queue_table.proofs.Sections.{gone, count-without}
-use Rattle.queue_table.proofs.Orders.{IsOnce, section-few, used-real, count-parts-ring, section-used, order-is, count-put, with-same, with-other}
+use Rattle.queue_table.proofs.Orders.{IsOnce, section-few, used-real, count-parts-ring, section-used, order-is, count-put}
 use Rattle.queue_table.proofs.Contents.{alone, before-map, item-end, placed-at}
 
 linked-from : (n k s : ℕ) (ns os : List ℕ) (o : Order) (b : ℕ) → IsLinked ns os k (ring_from n k o) b → k ≤ s → s < k + n → IsLinked ns os s (o s) (suc s)
@@ -103,19 +104,11 @@ module _ (slots : List Slot) (o : Order) (h : IsQueued slots o) (k : ℕ) (n : 1
 
 -- which slots stand in a section once one was sent
 
-left-in : (k j : ℕ) (l : List ℕ) → 1 ≤ count j (keys_without k l) → (j ≡ k → ⊥) × (1 ≤ count j l)
-left-in k j l n = ((λ e. (let g = gone k l in let c = ap (λ x. count x (keys_without k l)) e in omega (arith, g, c, n))), (let c = count-without k j l in omega (arith, c, n)))
-
-put-in : (k b j s : ℕ) (l : List ℕ) → 1 ≤ count j (put_before k b (keys_without k l)) → ((j ≡ k) × (s ≡ s)) ⊎ ((j ≡ k → ⊥) × (1 ≤ count j l))
-put-in k b j s l n =
-    elim (cases_eq j k) [
-      | inl e ↦ inl (e, refl)
-      | inr d ↦ inr (d, (let c = count-put j k b (keys_without k l) in let f : eqb j k ≡ false = ne_eqb j k d in let c2 = rw f at c in let w = count-without k j l in omega (arith, c2, w, n)))
-    ]
-
 pub sent-in : (k b s r j : ℕ) (o : Order) → 1 ≤ count j (sent k s b o r) → ((j ≡ k) × (r ≡ s)) ⊎ ((j ≡ k → ⊥) × (1 ≤ count j (o r)))
 sent-in k b s r j o n =
-    elim (cases_eq r s) [
-      | inl e ↦ subst (λ x. ((j ≡ k) × (x ≡ s)) ⊎ ((j ≡ k → ⊥) × (1 ≤ count j (o x)))) (sym e) (put-in k b j s (o s) (let m = ap (count j) (with-same s (put_before k b (keys_without k (o s))) (order_without k o)) in let m2 = ap (λ x. count j (sent k s b o x)) e in omega (arith, m, m2, n)))
-      | inr d ↦ inr (left-in k j (o r) (let m = ap (count j) (with-other s r (put_before k b (keys_without k (o s))) (order_without k o) d) in omega (arith, m, n)))
-    ]
+    let put = count-put j k b (keys_without k (o s)) in
+    let out = gone k (o r) in
+    let less = count-without k j (o r) in
+    let e = cases_eq j k in
+    let f = cases_eq r s in
+    grind (arith, nat_tests)

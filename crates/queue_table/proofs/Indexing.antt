@@ -2,6 +2,7 @@
 use Rattle.std.proofs.Common.{◌≡◌, ℕ, suc, zero, ◌+◌, ◌*◌, ◌^◌, ◌<◌, ◌≤◌, true, false, cond, eqb, List, replicate, get_or, ap, ◌∙◌, sym, refl, arith, inl, inr}
 use Rattle.std.proofs.Math.ListN.{length-replicate}
 use Rattle.std.proofs.lemmas.Bool.{eq-eqb, ne_eqb, cases_Bool, cases_eq}
+use Rattle.std.proofs.lemmas.Bool.Decides.{nat_tests}
 use Rattle.step_record.specs.declared.item.Item.{Item}
 use Rattle.queue_table.specs.declared.slot_index.SlotIndex.{SlotIndex}
 use Rattle.queue_table.specs.Trees.{Tree, leaf, tally, branch, IsTree, IsSorted, grafted, detached}
@@ -15,23 +16,18 @@ use Rattle.queue_table.proofs.Sorting.{sorted-same, grafted-tally, grafted-sorte
 module _ (links : List ℕ) (bits : ℕ) (item_of : ℕ → Item) (used : ℕ → ℕ) (x : IsMapped links bits item_of used) where
   -- a tree has slots in use alone
   pub placed-used : (b k : ℕ) → b < 2 ^ bits → tally k (x.trees b) ≤ used k
-  placed-used b k w =
-      let p = x.placed b k w in
-      elim (cases_Bool (eqb (bucket bits (item_of k)) b)) [
-        | inl e ↦ let p2 = rw e at p in omega (arith, p2)
-        | inr e ↦ let p2 = rw e at p in omega (arith, p2)
-      ]
+  placed-used b k w = let p = x.placed b k w in grind (arith, nat_tests)
 
   placed-once : (b k : ℕ) → b < 2 ^ bits → tally k (x.trees b) ≤ 1
   placed-once b k w = let p = placed-used b k w in let o = x.once k in omega (arith, p, o)
 
   -- a slot stands in the tree of its bucket
   pub placed-here : (b k : ℕ) → b < 2 ^ bits → bucket bits (item_of k) ≡ b → tally k (x.trees b) ≡ used k
-  placed-here b k w e = let f : eqb (bucket bits (item_of k)) b ≡ true = eq-eqb _ b e in let p = x.placed b k w in rw f at p
+  placed-here b k w e = let p = x.placed b k w in grind (arith, nat_tests)
 
   -- and in no other
   placed-past : (b k : ℕ) → b < 2 ^ bits → (bucket bits (item_of k) ≡ b → ⊥) → tally k (x.trees b) ≡ 0
-  placed-past b k w e = let f : eqb (bucket bits (item_of k)) b ≡ false = ne_eqb _ b e in let p = x.placed b k w in rw f at p
+  placed-past b k w e = let p = x.placed b k w in grind (arith, nat_tests)
 
   -- a slot stands in one tree at most
   placed-apart : (b c k : ℕ) → b < 2 ^ bits → c < 2 ^ bits → (c ≡ b → ⊥) → 1 ≤ tally k (x.trees c) → tally k (x.trees b) ≡ 0

@@ -67,22 +67,13 @@ ring-length o =
 
 -- the slot that stands before a queue is there
 pub before-within : (slots : List Slot) → IsQueued slots (order_of slots) → (q : ℕ) → q < QUEUES → suc q < length slots
-before-within slots h q w =
-    let long = h.linked.long in
-    let size = slots-length slots in
-    let parts = ring-length (order_of slots) in
-    omega (arith, long, size, parts, w)
+before-within slots h q w = omega (arith, h.linked.long, slots-length slots, ring-length (order_of slots), w)
 
 -- all slots in sections are fewer than the slots
 sections-few : (slots : List Slot) (index : SlotIndex) (n : Lengths) → IsKept slots index n → (let o = order_of slots in length (o 0) + (length (o 1) + (length (o 2) + (length (o 3) + length (o 4)))) < 2 ^ 32)
 sections-few [] index n k =
     let z : (s : ℕ) → length (order_of [] s) ≡ 0 = λ s. ap (λ (o : Order). length (o s)) no-order in
-    let a = z 0 in
-    let b = z 1 in
-    let c = z 2 in
-    let d = z 3 in
-    let e = z 4 in
-    omega (arith, a, b, c, d, e)
+    omega (arith, z 0, z 1, z 2, z 3, z 4)
 sections-few (x ∷ slots) index n k =
     let all : List Slot = x ∷ slots in
     let long = (k.held (omega arith)).queued.linked.long in
@@ -101,10 +92,7 @@ items-few slots index n k =
     omega (arith, f, a, b, c, d)
 
 pub section-few : (slots : List Slot) (index : SlotIndex) (n : Lengths) → IsKept slots index n → (s : ℕ) → s < SECTIONS → get_or n.at s 0 + 1 < 2 ^ 64
-section-few slots index n k s w =
-    let c = k.counted s w in
-    let b = one s w in
-    omega (arith, c, b)
+section-few slots index n k s w = omega (arith, k.counted s w, one s w)
   where
     one : (s : ℕ) → s < SECTIONS → length (order_of slots s) < 2 ^ 32
     one zero w = let f = sections-few slots index n k in omega (arith, f)

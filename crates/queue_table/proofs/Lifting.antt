@@ -1,6 +1,7 @@
 -- The first slot of a tree taken out: the lowest one comes in its place.
 use Rattle.std.proofs.Common.{◌≡◌, ℕ, ◌+◌, ◌<◌, ◌≤◌, Bool, true, false, cond, eqb, List, length, get_or, set, ap, ◌∙◌, sym, refl, subst, arith, get_or-set_same, get_or-set_other, length-set}
 use Rattle.std.proofs.lemmas.Bool.{eq-eqb}
+use Rattle.std.proofs.lemmas.Bool.Decides.{nat_tests}
 use Rattle.queue_table.specs.Trees.{Tree, leaf, fork, tally, branch, lowest, plucked, lifted}
 use Rattle.queue_table.specs.Places.{IsWhole, IsBare, Replaces}
 use Rattle.queue_table.proofs.Trees.{tally-here, members, same-slot, same-tree}
@@ -47,10 +48,10 @@ module _ (roots : ℕ) (links links1 : List ℕ) (place i last : ℕ) (l r a b :
   links2 = links_moved place links1 (branch roots last false) (branch roots i false) last
 
   here : 1 ≤ tally last (fork i l r)
-  here = let g : eqb last last ≡ true = eq-eqb last last refl in let c = counted last in let c2 = rw g at c in omega (arith, c2)
+  here = let c = counted last in grind (arith, nat_tests)
 
   gone : tally last (fork i a b) ≡ 0
-  gone = let g : eqb last last ≡ true = eq-eqb last last refl in let c = counted last in let c2 = rw g at c in let o = w.once last in omega (arith, c2, o)
+  gone = let c = counted last in let o = w.once last in grind (arith, nat_tests)
 
   room : branch roots last true < length links1
   room = let m = (members links roots place (fork i l r) last w.tree here).1 in let s = p.size in omega (arith, m, s)

@@ -11,7 +11,7 @@ use Rattle.queue_table.specs.declared.slot.Slot.{Slot}
 use Rattle.queue_table.specs.Ring.{newers, ring_of, entries, slot_entry, lists}
 use Rattle.queue_table.proofs.Orders.{order-short}
 use Rattle.queue_table.proofs.EntryLists.{same-refl, times-append, times-gone, put_behind-at}
-use Rattle.queue_table.proofs.QueueLists.{absent, queue-few, with-queue-same, with-queue-other}
+use Rattle.queue_table.proofs.QueueLists.{absent, queue-few}
 
 pub without-none : (i : Item) (l : List Entry) → occurrences i l ≡ 0 → entries_without i l ≡ l
 without-none i [] h = refl
@@ -68,12 +68,11 @@ module _ (p : ℕ) (e : Entry) (s : Queues) (d : IsDistinct s) (at : StandsIn p 
 pub restored : (p : ℕ) (e : Entry) (s : Queues) (d : IsDistinct s) (at : StandsIn p e s) (none : (j : ℕ) → (j ≡ p → ⊥) → occurrences e.item (s j) ≡ 0)
     → (j : ℕ) → after_return p (last_item at.front) e (after_removal e.item s) j ≡ s j
 restored p e s d at none j =
-    elim (cases_eq j p) [
-      | inl z ↦
-          ap (after_return p (last_item at.front) e (after_removal e.item s)) z
-          ∙ with-queue-same p _ (after_removal e.item s) ∙ back-here p e s d at ∙ ap s (sym z)
-      | inr z ↦ with-queue-other p j _ (after_removal e.item s) z ∙ without-none e.item (s j) (none j z)
-    ]
+    let back = back-here p e s d at in
+    let off = none j in
+    let w = without-none e.item (s j) in
+    let c = cases_eq j p in
+    grind (arith, nat_tests)
 
 pub twice : (i : Item) (l : List Entry) → entries_without i (entries_without i l) ≡ entries_without i l
 twice i l = without-none i (entries_without i l) (times-gone i l)
@@ -81,30 +80,20 @@ twice i l = without-none i (entries_without i l) (times-gone i l)
 -- a move with another count is taken out as the entry itself is
 pub taken-sent : (e : Entry) (n q : ℕ) (s : Queues) (j : ℕ) → after_removal e.item (after_send (entry e.item n) q s) j ≡ after_removal e.item s j
 taken-sent e n q s j =
-    elim (cases_eq j q) [
-      | inl z ↦
-          let own : is_same_item e.item e.item ≡ true = same-refl e.item in
-          let one : entries_without e.item (entry e.item n ∷ []) ≡ [] = rw own refl in
-          ap (λ x. entries_without e.item (after_send (entry e.item n) q s x)) z
-          ∙ ap (entries_without e.item) (with-queue-same q _ (after_removal e.item s))
-          ∙ without-append e.item (entries_without e.item (s q)) (entry e.item n ∷ [])
-          ∙ rw (one, twice e.item (s q)) (append-nil (entries_without e.item (s q)))
-          ∙ ap (λ x. entries_without e.item (s x)) (sym z)
-      | inr z ↦ ap (entries_without e.item) (with-queue-other q j _ (after_removal e.item s) z) ∙ twice e.item (s j)
-    ]
+    let own = same-refl e.item in
+    let a = without-append e.item (entries_without e.item (s q)) (entry e.item n ∷ []) in
+    let z = append-nil (entries_without e.item (s q)) in
+    let t = twice e.item (s q) in
+    let u = twice e.item (s j) in
+    let c = cases_eq j q in
+    grind (arith, nat_tests)
 
 -- queues that are the same one by one
 abbrev pub AreSame : Queues → Queues → Type 0
 AreSame s t = (j : ℕ) → s j ≡ t j
 
 pub return-same : (p : ℕ) (older : Option Item) (e : Entry) (s t : Queues) → AreSame s t → AreSame (after_return p older e s) (after_return p older e t)
-return-same p older e s t h j =
-    elim (cases_eq j p) [
-      | inl z ↦
-          ap (after_return p older e s) z ∙ with-queue-same p _ s ∙ ap (put_behind older e) (h p)
-          ∙ sym (with-queue-same p _ t) ∙ ap (after_return p older e t) (sym z)
-      | inr z ↦ with-queue-other p j _ s z ∙ h j ∙ sym (with-queue-other p j _ t z)
-    ]
+return-same p older e s t h j = let a = h p in let b = h j in grind (arith, nat_tests)
 
 -- whatever queue and count the entry was sent with, its queue and its older neighbour lead back
 pub move-back : (p q n : ℕ) (e : Entry) (s : Queues) (d : IsDistinct s) (at : StandsIn p e s) (none : (j : ℕ) → (j ≡ p → ⊥) → occurrences e.item (s j) ≡ 0)
@@ -115,17 +104,13 @@ move-back p q n e s d at none j =
 -- what joined is out again
 pub pushed-back : (q : ℕ) (e : Entry) (s : Queues) → ((j : ℕ) → occurrences e.item (s j) ≡ 0) → AreSame (after_removal e.item (after_push q e s)) s
 pushed-back q e s h j =
-    elim (cases_eq j q) [
-      | inl z ↦
-          let own : is_same_item e.item e.item ≡ true = same-refl e.item in
-          let one : entries_without e.item (e ∷ []) ≡ [] = rw own refl in
-          ap (λ x. entries_without e.item (after_push q e s x)) z
-          ∙ ap (entries_without e.item) (with-queue-same q _ s)
-          ∙ without-append e.item (s q) (e ∷ [])
-          ∙ rw (one, without-none e.item (s q) (h q)) (append-nil (s q))
-          ∙ ap s (sym z)
-      | inr z ↦ ap (entries_without e.item) (with-queue-other q j _ s z) ∙ without-none e.item (s j) (h j)
-    ]
+    let own = same-refl e.item in
+    let a = without-append e.item (s q) (e ∷ []) in
+    let z = append-nil (s q) in
+    let t = without-none e.item (s q) (h q) in
+    let u = without-none e.item (s j) (h j) in
+    let c = cases_eq j q in
+    grind (arith, nat_tests)
 
 pub out-back : (p : ℕ) (e : Entry) (s : Queues) (d : IsDistinct s) (at : StandsIn p e s) (h : (j : ℕ) → (j ≡ p → ⊥) → occurrences e.item (s j) ≡ 0)
     → AreSame (after_return p (last_item at.front) e (after_removal e.item (after_removal e.item s))) s

@@ -70,10 +70,7 @@ ring-cut : (n k s : ℕ) (o : Order) (c : IsCut n k s o) → ring_from n k o ≡
 ring-cut n k s o c = sym (ring-same n k (with_section s (o s) o) o (λ j m. with-itself s o j)) ∙ c.whole (o s)
 
 count-parts : (j s : ℕ) (xs l ys : List ℕ) → count j (xs ++ (l ++ suc s ∷ ys)) ≡ count j xs + (count j l + (cond (eqb j (suc s)) 1 0 + count j ys))
-count-parts j s xs l ys =
-    let b = count-append j xs (l ++ suc s ∷ ys) in
-    let d = count-append j l (suc s ∷ ys) in
-    omega (arith, b, d)
+count-parts j s xs l ys = omega (arith, count-append j xs (l ++ suc s ∷ ys), count-append j l (suc s ∷ ys))
 
 -- around a section of the whole ring
 pub cut_at_section : (s : ℕ) (o : Order) → s < SECTIONS → IsCut SECTIONS 0 s o
@@ -179,9 +176,7 @@ in_sections j (suc n) k o = count j (o k) + in_sections j n (suc k) o
 count-from : (j n k : ℕ) (o : Order) → count j (ring_from n k o) ≡ in_sections j n k o + marks n k j
 count-from j zero k o = refl
 count-from j (suc n) k o =
-    let a = count-append j (o k) (suc k ∷ ring_from n (suc k) o) in
-    let b = count-from j n (suc k) o in
-    omega (arith, a, b)
+    omega (arith, count-append j (o k) (suc k ∷ ring_from n (suc k) o), count-from j n (suc k) o)
 
 marks-some : (n k j : ℕ) → k < j → j ≤ k + n → 1 ≤ marks n k j
 marks-some zero k j a b = absurd (omega (arith, a, b))
@@ -201,16 +196,10 @@ in-used j o =
 
 pub count-ring : (j : ℕ) (o : Order) → FIRST ≤ j → count j (ring o) ≡ count j (o 0) + count j (used o)
 count-ring j o h =
-    let a = count-from j SECTIONS 0 o in
-    let b = in-used j o in
-    let c = marks-none SECTIONS 0 j (omega (arith, h)) in
-    omega (arith, a, b, c)
+    omega (arith, count-from j SECTIONS 0 o, in-used j o, marks-none SECTIONS 0 j (omega (arith, h)))
 
 pub count-parts-ring : (j : ℕ) (o : Order) → count j (o 0) + count j (used o) ≤ count j (ring o)
-count-parts-ring j o =
-    let a = count-from j SECTIONS 0 o in
-    let b = in-used j o in
-    omega (arith, a, b)
+count-parts-ring j o = omega (arith, count-from j SECTIONS 0 o, in-used j o)
 
 -- the slots in use and the free ones are none of those between the sections
 pub real : (k : ℕ) (o : Order) → IsOnce o → 1 ≤ count k (used o) + count k (o 0) → FIRST ≤ k
@@ -218,13 +207,9 @@ real k o u h =
     let a = count-from k SECTIONS 0 o in
     let b = in-used k o in
     let n = u k in
-    elim (cases_lt k FIRST) [
-      | inl w ↦ elim (cases_eq k 0) [
-        | inl e ↦ absurd (let f : eqb k 0 ≡ true = eq-eqb k 0 e in let n2 : 1 + count k (ring o) ≤ 1 = rw f at n in omega (arith, n2, a, b, h))
-        | inr d ↦ absurd (let m = marks-some SECTIONS 0 k (omega (arith, d)) (omega (arith, w)) in omega (arith, n, a, b, m, h))
-      ]
-      | inr w ↦ omega (arith, w)
-    ]
+    let m = marks-some SECTIONS 0 k in
+    let e = cases_eq k 0 in
+    grind (arith, nat_tests)
 
 pub used-few : (o : Order) (k : ℕ) → IsOnce o → count k (used o) ≤ 1
 used-few o k u = let c = count-parts-ring k o in let n = u k in omega (arith, c, n)
@@ -332,40 +317,31 @@ count-with (suc n) j q l o h =
     let p : Order = with_section (suc q) l o in
     let a = count-append j (o (suc n)) (used_below n o) in
     let b = count-append j (p (suc n)) (used_below n p) in
-    elim (cases_eq q n) [
-      | inl e ↦
-          let c = ap (count j) (used-same n p o (λ r w. with-other (suc q) (suc r) l o (λ z. omega (arith, z, w, e)))) in
-          let d = ap (λ x. count j (with_section (suc q) l o (suc x))) (sym e) ∙ ap (count j) (with-same (suc q) l o) in
-          let f = ap (λ x. count j (o (suc x))) e in
-          omega (arith, a, b, c, d, f)
-      | inr d ↦
-          let r = count-with n j q l o (omega (arith, h, d)) in
-          let c = ap (count j) (with-other (suc q) (suc n) l o (λ z. omega (arith, z, d))) in
-          omega (arith, a, b, r, c)
-    ]
+    let past : n ≤ q → count j (used_below n p) ≡ count j (used_below n o) = λ m. ap (count j) (used-same n p o (λ r w. with-other (suc q) (suc r) l o (λ z. omega arith))) in
+    let r = count-with n j q l o in
+    let e = cases_eq q n in
+    grind (arith, nat_tests)
 
-pub used-other : (j k : ℕ) (o : Order) → (j ≡ k → ⊥) → count j (used (order_without k o)) ≡ count j (used o)
-used-other j k o d = below QUEUES
+-- without a slot the others are in use that were
+pub used-without : (j k : ℕ) (o : Order) → count j (used (order_without k o)) ≡ cond (eqb j k) 0 (count j (used o))
+used-without j k o = below QUEUES
   where
-    below : (n : ℕ) → count j (used_below n (order_without k o)) ≡ count j (used_below n o)
-    below zero = refl
+    below : (n : ℕ) → count j (used_below n (order_without k o)) ≡ cond (eqb j k) 0 (count j (used_below n o))
+    below zero = grind (arith, nat_tests)
     below (suc n) =
         let a = count-append j (o (suc n)) (used_below n o) in
         let b = count-append j (keys_without k (o (suc n))) (used_below n (order_without k o)) in
-        let c = count-left k j (o (suc n)) d in
+        let c = gone k (o (suc n)) in
+        let d = count-left k j (o (suc n)) in
         let r = below n in
-        omega (arith, a, b, c, r)
+        let e = cases_eq j k in
+        grind (arith, nat_tests)
 
 pub used-gone : (k : ℕ) (o : Order) → count k (used (order_without k o)) ≡ 0
-used-gone k o = below QUEUES
-  where
-    below : (n : ℕ) → count k (used_below n (order_without k o)) ≡ 0
-    below zero = refl
-    below (suc n) =
-        let b = count-append k (keys_without k (o (suc n))) (used_below n (order_without k o)) in
-        let c = gone k (o (suc n)) in
-        let r = below n in
-        omega (arith, b, c, r)
+used-gone k o = let a = used-without k k o in grind (arith, nat_tests)
+
+pub used-other : (j k : ℕ) (o : Order) → (j ≡ k → ⊥) → count j (used (order_without k o)) ≡ count j (used o)
+used-other j k o d = let a = used-without j k o in grind (arith, nat_tests)
 
 pub used-sent : (j k b q : ℕ) (o : Order) → q < QUEUES → count j (used (sent k (suc q) b o)) ≡ cond (eqb j k) 1 0 + count j (used (order_without k o))
 used-sent j k b q o w =
@@ -375,10 +351,6 @@ used-sent j k b q o w =
 
 pub used-freed : (k b : ℕ) (o : Order) → used (sent k 0 b o) ≡ used (order_without k o)
 used-freed k b o = used-same QUEUES (sent k 0 b o) (order_without k o) (λ q w. with-other 0 (suc q) (put_before k b (keys_without k (o 0))) (order_without k o) (λ z. omega (arith, z)))
-
--- without a slot the others are in use that were
-pub used-without : (j k : ℕ) (o : Order) → count j (used (order_without k o)) ≡ cond (eqb j k) 0 (count j (used o))
-used-without j k o = let a = used-gone k o in let b = used-other j k o in let e = cases_eq j k in grind (arith, nat_tests)
 
 -- a slot in use that is sent elsewhere stays in use
 pub used-kept : (j k b q : ℕ) (o : Order) → q < QUEUES → count k (used o) ≡ 1 → count j (used (sent k (suc q) b o)) ≡ count j (used o)

@@ -1,5 +1,5 @@
 -- Search trees by the ways of their items.
-use Rattle.std.proofs.Common.{◌≡◌, ℕ, ◌+◌, ◌≤◌, true, false, Bool, cond, eqb, ap, ◌∙◌, sym, refl, subst, arith, inl, inr}
+use Rattle.std.proofs.Common.{◌≡◌, ℕ, ◌+◌, ◌≤◌, true, false, Bool, cond, eqb, ap, ◌∙◌, sym, subst, arith, inl, inr}
 use Rattle.std.proofs.lemmas.Bool.{eq-eqb, ne_eqb, cases_Bool, cases_eq}
 use Rattle.std.proofs.lemmas.Bool.Decides.{nat_tests}
 use Rattle.step_record.specs.declared.item.Item.{Item}
@@ -108,15 +108,12 @@ its-side its d x at i l r s e n m =
 pub detached-tally : (its : ℕ → Item) (d : ℕ) (x : Item) (at k : ℕ) (t : Tree) → IsSorted its d t → its at ≡ x → 1 ≤ tally at t → tally k t ≡ cond (eqb k at) 1 0 + tally k (detached d x at t)
 detached-tally its d x at k leaf s e m = absurd (omega (arith, m))
 detached-tally its d x at k (fork i l r) s e m =
-    elim (cases_eq at i) as (λ _. tally k (fork i l r) ≡ cond (eqb k at) 1 0 + tally k (cond (eqb i at) (lifted (fork i l r)) (cond (turn d x) (fork i l (detached (d + 1) x at r)) (fork i (detached (d + 1) x at l) r)))) [
-      | inl q ↦ let g : eqb i i ≡ true = eq-eqb i i refl in rw (q, g) (lifted-tally k i l r)
-      | inr q ↦ (
-          let g : eqb i at ≡ false = ne_eqb i at (λ z. q (sym z)) in
-          rw g (elim (cases_Bool (turn d x)) as (λ _. tally k (fork i l r) ≡ cond (eqb k at) 1 0 + tally k (cond (turn d x) (fork i l (detached (d + 1) x at r)) (fork i (detached (d + 1) x at l) r))) [
-            | inl b ↦ rw b (let h = detached-tally its (d + 1) x at k r s.1 e (subst (λ c. 1 ≤ tally at (on_side c l r)) b (its-side its d x at i l r s e q m)) in omega (arith, h))
-            | inr b ↦ rw b (let h = detached-tally its (d + 1) x at k l s.0 e (subst (λ c. 1 ≤ tally at (on_side c l r)) b (its-side its d x at i l r s e q m)) in omega (arith, h))
-          ]))
-    ]
+    let side = its-side its d x at i l r s e in
+    let lift = lifted-tally k i l r in
+    let right = detached-tally its (d + 1) x at k r s.1 e in
+    let left = detached-tally its (d + 1) x at k l s.0 e in
+    let c = cases_eq at i in
+    grind (arith, nat_tests)
 
 pub detached-sorted : (its : ℕ → Item) (d : ℕ) (x : Item) (at : ℕ) (t : Tree) → IsSorted its d t → its at ≡ x → 1 ≤ tally at t → IsSorted its d (detached d x at t)
 detached-sorted its d x at leaf s e m = tt

@@ -1,7 +1,7 @@
 -- A free slot that comes into use, and one more free slot.
 use Rattle.std.proofs.Common.{◌≡◌, ℕ, suc, zero, ◌+◌, ◌-◌, ◌<◌, ◌≤◌, true, false, cond, eqb, List, [], ◌∷◌, ◌++◌, length, get_or, set, map, ap, ◌∙◌, sym, refl, subst, arith, inl, inr, length-set, length-append, append_assoc}
 use Rattle.std.proofs.Math.Path.{fun_ext}
-use Rattle.std.proofs.lemmas.Bool.{cases_eq, cases_lt, eq-eqb, ne_eqb}
+use Rattle.std.proofs.lemmas.Bool.{cases_eq, eq-eqb, ne_eqb}
 use Rattle.std.proofs.lemmas.List.{length-map, map-append}
 use Rattle.std.proofs.lemmas.Bool.Decides.{nat_tests}
 use Rattle.queue_table.specs.declared.records.Entry.{Entry}
@@ -51,26 +51,17 @@ some-from_first (suc n) k a b = let r = some-from_first n k a in let z = count-f
 
 all-used : (slots : List Slot) (o : Order) → IsQueued slots o → o 0 ≡ [] → (j : ℕ) → count j (used o) ≡ count j (from_first (length slots - FIRST))
 all-used slots o h f j =
-    let z : count j (o 0) ≡ 0 = ap (count j) f in
+    let free = ap (count j) f in
     let l = slots-length slots in
-    elim (cases_lt j FIRST) [
-      | inl a ↦
-          let u : count j (used o) ≡ 0 = elim (some_or_none (count j (used o))) [ inl m ↦ absurd (let r = used-real o j h.linked.once m in omega (arith, r, a)) | inr m ↦ m ] in
-          u ∙ sym (few-from_first (length slots - FIRST) j a)
-      | inr a ↦ elim (cases_lt j (length slots)) [
-        | inl b ↦
-            let all = h.linked.all j (omega (arith, b, l)) in
-            let r = count-ring j o a in
-            let e0 : eqb j 0 ≡ false = ne_eqb j 0 (λ e. omega (arith, a, e)) in
-            let all2 : 1 ≤ 0 + count j (ring o) = rw e0 at all in
-            let one = used-few o j h.linked.once in
-            let s = some-from_first (length slots - FIRST) j a (omega (arith, a, b)) in
-            omega (arith, all2, r, one, s, z)
-        | inr b ↦
-            let u : count j (used o) ≡ 0 = elim (some_or_none (count j (used o))) [ inl m ↦ absurd (let w = used-within slots o h j m in omega (arith, w, l, b)) | inr m ↦ m ] in
-            u ∙ sym (count-from_first (length slots - FIRST) j (omega (arith, a, b)))
-      ]
-    ]
+    let real = used-real o j h.linked.once in
+    let low = few-from_first (length slots - FIRST) j in
+    let all = h.linked.all j in
+    let ring = count-ring j o in
+    let one = used-few o j h.linked.once in
+    let some = some-from_first (length slots - FIRST) j in
+    let within = used-within slots o h j in
+    let high = count-from_first (length slots - FIRST) j in
+    grind (arith, nat_tests)
 
 pub held-spread : (slots : List Slot) (index : SlotIndex) (o : Order) → IsQueued slots o → o 0 ≡ [] → IsIndexOf index (entries slots) (from_first (length slots - FIRST)) → length slots ≤ capacity index.bits → IsInSlots slots index o
 held-spread slots index o h f x room = record { queued = h; indexed = same-map _ _ _ _ _ _ (λ j. refl) (all-used slots o h f) x; room = room }
@@ -152,10 +143,7 @@ ring-grown ns os o n x is =
     }
 
 pub older-first : (ns os : List ℕ) (o : Order) → IsRing ns os (ring o) → get_or (os ++ 0 ∷ []) 1 0 < length ns
-older-first ns os o x =
-    let e = last-older ns os o x in
-    let w = end-within ns os o x in
-    omega (arith, e, w)
+older-first ns os o x = omega (arith, last-older ns os o x, end-within ns os o x)
 
 newers-more : (slots slots2 : List Slot) → slots2 ≡ slots ++ no_slot ∷ [] → newers slots2 ≡ newers slots ++ 0 ∷ []
 newers-more slots slots2 e = ap newers e ∙ map-append (λ (s : Slot). s.newer) slots (no_slot ∷ [])

@@ -21,25 +21,18 @@ abbrev pub on_side : Bool → Tree → Tree → Tree
 on_side right l r = cond right r l
 
 pub side-tally : (right : Bool) (k : ℕ) (l r : Tree) → tally k (on_side right l r) ≤ tally k l + tally k r
-side-tally true k l r = omega arith
-side-tally false k l r = omega arith
+side-tally right k l r = grind (arith, nat_tests)
 
 pub side-size : (right : Bool) (l r : Tree) → size (on_side right l r) ≤ size l + size r
-side-size true l r = omega arith
-side-size false l r = omega arith
+side-size right l r = grind (arith, nat_tests)
 
 pub members : (links : List ℕ) (roots place : ℕ) (t : Tree) (k : ℕ) → IsTree links roots place t → 1 ≤ tally k t → (1 ≤ k) × (branch roots k true < length links)
 members links roots place leaf k x m = absurd (omega (arith, m))
 members links roots place (fork i l r) k x m =
-    elim (cases_eq k i) [
-      | inl e ↦ let a = x.1 in let b = x.2 in (omega (arith, e, a), omega (arith, e, b))
-      | inr d ↦ (
-          let p = tally-past k i l r d in
-          elim (some_or_none (tally k l)) [
-            | inl a ↦ members links roots (branch roots i false) l k x.3 a
-            | inr z ↦ members links roots (branch roots i true) r k x.4 (omega (arith, p, m, z))
-          ])
-    ]
+    let left = members links roots (branch roots i false) l k x.3 in
+    let right = members links roots (branch roots i true) r k x.4 in
+    let e = cases_eq k i in
+    grind (arith, nat_tests)
 
 -- where the link is none, so is the tree
 pub no-slots : (links : List ℕ) (roots place : ℕ) (t : Tree) (k : ℕ) → get_or links place 0 ≡ 0 → IsTree links roots place t → 1 ≤ tally k t → ⊥
@@ -108,10 +101,7 @@ tree-is links roots place (fork i l r) (suc n) x w =
 -- places
 
 pub same-slot : (roots i k : ℕ) (a b : Bool) → branch roots i a ≡ branch roots k b → i ≡ k
-same-slot roots i k true true e = omega (arith, e)
-same-slot roots i k true false e = absurd (omega (arith, e))
-same-slot roots i k false true e = absurd (omega (arith, e))
-same-slot roots i k false false e = omega (arith, e)
+same-slot roots i k a b e = grind (arith, nat_tests)
 
 -- a tree whose links stay is shown as before, also at another place
 pub same-tree : (links links2 : List ℕ) (roots place place2 : ℕ) (t : Tree) → length links2 ≡ length links → get_or links2 place2 0 ≡ get_or links place 0 →
