@@ -176,14 +176,9 @@ distinct-sent q k b o es w d a i =
     let m = times-with QUEUES q i (map f (put_before k b l)) s w in
     let p = times-put f i k b l in
     let n = d i in
-    elim (cases_Bool (is_same_item i (f k).item)) [
-      | inl h ↦
-          let z : i ≡ (f k).item = same-true i (f k).item h in
-          let p2 = rw h at p in
-          let none : times_below QUEUES i s ≡ 0 = rw z (times-none QUEUES (f k).item s a) in
-          omega (arith, e, m, p2, none)
-      | inr h ↦ let p2 = rw h at p in omega (arith, e, m, p2, n)
-    ]
+    let same = same-true i (f k).item in
+    let none = times-none QUEUES (f k).item s a in
+    grind (arith, nat_tests)
 
 -- neighbours
 

@@ -25,9 +25,7 @@ start-is (x ∷ ws) c = refl
 
 -- one link further than a slot that is left out
 next-linked : (ns os : List ℕ) (j but c : ℕ) (ws : List ℕ) → IsLinked ns os j ws c → (but ≡ c → ⊥) → count but ws ≤ 1 → get_or (keys_without but ws) 0 c ≡ next_but ns j but
-next-linked ns os j but c [] k d few =
-    let e : eqb (get_or ns j 0) but ≡ false = ne_eqb _ _ (λ z. d (sym z ∙ k.0)) in
-    rw e (sym k.0)
+next-linked ns os j but c [] k d few = grind (arith, nat_tests)
 next-linked ns os j but c (x ∷ ws) k d few =
     let none = without-none but ws in
     let first = start-is ws c in

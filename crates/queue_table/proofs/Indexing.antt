@@ -79,25 +79,7 @@ module _ (links : List ℕ) (bits : ℕ) (item_of : ℕ → Item) (used : ℕ �
       some = x.some;
       trees = λ c. cond (eqb c b) t2 (x.trees c);
       rooted = rooted2;
-      placed = λ c j u. elim (cases_eq j k) [
-        | inl s ↦ rw s (elim (cases_eq c b) as (λ _. tally k (cond (eqb c b) t2 (x.trees c)) ≡ cond (eqb (bucket bits (item_of2 k)) c) (used2 k) 0) [
-          | inl q ↦
-              let e : eqb c b ≡ true = eq-eqb c b q in
-              let f : eqb (bucket bits (item_of2 k)) c ≡ true = eq-eqb (bucket bits (item_of2 k)) c (bk ∙ sym q) in
-              rw (e, f) here
-          | inr d ↦
-              let e : eqb c b ≡ false = ne_eqb c b d in
-              let f : eqb (bucket bits (item_of2 k)) c ≡ false = ne_eqb (bucket bits (item_of2 k)) c (λ z. d (sym z ∙ bk)) in
-              rw (e, f) (past c u d)
-        ])
-        | inr d ↦ (
-            let it : bucket bits (item_of2 j) ≡ bucket bits (item_of j) = ap (bucket bits) (others j d) in
-            let side : tally j (cond (eqb c b) t2 (x.trees c)) ≡ tally j (x.trees c) = elim (cases_eq c b) as (λ _. tally j (cond (eqb c b) t2 (x.trees c)) ≡ tally j (x.trees c)) [
-              | inl q ↦ let e : eqb c b ≡ true = eq-eqb c b q in rw e (tallies j d ∙ ap (λ (i : ℕ). tally j (x.trees i)) (sym q))
-              | inr q ↦ let e : eqb c b ≡ false = ne_eqb c b q in rw e refl
-            ] in
-            side ∙ (x.placed c j u ∙ (ap (λ q. cond (eqb q c) (used j) 0) (sym it) ∙ ap (λ q. cond (eqb (bucket bits (item_of2 j)) c) q 0) (sym (uses j d)))))
-      ];
+      placed = λ c j u. placed2 c j u;
       sorted = λ c u. elim (cases_eq c b) as (λ _. IsSorted item_of2 0 (cond (eqb c b) t2 (x.trees c))) [
         | inl q ↦ let e : eqb c b ≡ true = eq-eqb c b q in rw e st
         | inr q ↦
@@ -105,31 +87,36 @@ module _ (links : List ℕ) (bits : ℕ) (item_of : ℕ → Item) (used : ℕ �
             let none = past c u q in
             rw e (sorted-same item_of item_of2 0 (x.trees c) (λ j m. others j (λ s. let a = ap (λ i. tally i (x.trees c)) s in omega (arith, a, m, none))) (x.sorted c u))
       ];
-      once = λ j. elim (cases_eq j k) [
-        | inl s ↦ rw s few
-        | inr d ↦ let m = uses j d in let o = x.once j in omega (arith, m, o)
-      ];
+      once = λ j. (let m = uses j in let o = x.once j in let e = cases_eq j k in grind (arith, nat_tests));
       bare = λ j z. elim (cases_eq j k) [
         | inl s ↦ rw s (own (ap used2 (sym s) ∙ z))
         | inr d ↦ bared j (sym (uses j d) ∙ z)
       ];
     }
+      where
+        placed2 : (c j : ℕ) → c < 2 ^ bits → tally j (cond (eqb c b) t2 (x.trees c)) ≡ cond (eqb (bucket bits (item_of2 j)) c) (used2 j) 0
+        placed2 c j u =
+            let p = x.placed c j u in
+            let i = λ (d : j ≡ k → ⊥). ap (bucket bits) (others j d) in
+            let n = uses j in
+            let t = tallies j in
+            let m = past c u in
+            let e = cases_eq j k in
+            let d = cases_eq c b in
+            grind (arith, nat_tests)
 
   -- a slot comes
   module _ (at : ℕ) (item : Item) (item_of2 : ℕ → Item) (used2 : ℕ → ℕ) (j : IsAdded at item item_of item_of2 used used2) (b : ℕ) (bk : b ≡ bucket bits item) (v : b < 2 ^ bits) where
     pub added : (links2 : List ℕ) → Replaces (2 ^ bits) links links2 b (x.trees b) (grafted 0 item at (x.trees b)) → IsMapped links2 bits item_of2 used2
     added links2 p =
-        let aa : eqb at at ≡ true = eq-eqb at at refl in
-        let more : used2 at ≡ 1 + used at = j.counted at ∙ (rw aa refl) in
-        let gt = grafted-tally 0 item at at (x.trees b) in
-        let one : tally at (grafted 0 item at (x.trees b)) ≡ 1 + tally at (x.trees b) = rw aa at gt in
         let absent = j.absent in
-        let pb = placed-used b at v in
-        let none : tally at (x.trees b) ≡ 0 = omega (arith, pb, absent) in
+        let more : used2 at ≡ 1 + used at = (let c = j.counted at in grind (arith, nat_tests)) in
+        let one : tally at (grafted 0 item at (x.trees b)) ≡ 1 + tally at (x.trees b) = (let g = grafted-tally 0 item at at (x.trees b) in grind (arith, nat_tests)) in
+        let none : tally at (x.trees b) ≡ 0 = omega (arith, placed-used b at v) in
         let st : IsSorted item_of2 0 (x.trees b) = sorted-same item_of item_of2 0 (x.trees b) (λ k m. j.others k (λ e. let q = ap (λ i. tally i (x.trees b)) e in omega (arith, q, m, none))) (x.sorted b v) in
         changed links2 b (grafted 0 item at (x.trees b)) v p item_of2 used2 at (ap (bucket bits) j.its ∙ sym bk) j.others
-        (λ k d. let e : eqb k at ≡ false = ne_eqb k at d in let n : used2 k ≡ 0 + used k = j.counted k ∙ (rw e refl) in omega (arith, n))
-        (λ k d. let e : eqb k at ≡ false = ne_eqb k at d in let g = grafted-tally 0 item at k (x.trees b) in let n = rw e at g in omega (arith, n))
+        (λ k d. let n = j.counted k in grind (arith, nat_tests))
+        (λ k d. let g = grafted-tally 0 item at k (x.trees b) in grind (arith, nat_tests))
         (omega (arith, one, more, none, absent))
         (omega (arith, more, absent))
         (λ c u d. let pc = placed-used c at u in omega (arith, pc, absent))
@@ -150,15 +137,12 @@ module _ (links : List ℕ) (bits : ℕ) (item_of : ℕ → Item) (used : ℕ �
 
     pub removed : (links2 : List ℕ) → Replaces (2 ^ bits) links links2 b (x.trees b) (detached 0 item at (x.trees b)) → IsBare links2 (2 ^ bits) at → IsMapped links2 bits item_of used2
     removed links2 p bare =
-        let aa : eqb at at ≡ true = eq-eqb at at refl in
-        let m : used2 at ≡ 0 = j.counted at ∙ (rw aa refl) in
-        let dt = detached-tally item_of 0 item at at (x.trees b) (x.sorted b v) j.its stands.stands in
-        let one : tally at (x.trees b) ≡ 1 + tally at (detached 0 item at (x.trees b)) = rw aa at dt in
-        let pb = placed-once b at v in
+        let left : (k : ℕ) → tally k (x.trees b) ≡ cond (eqb k at) 1 0 + tally k (detached 0 item at (x.trees b)) = λ k. detached-tally item_of 0 item at k (x.trees b) (x.sorted b v) j.its stands.stands in
+        let m : used2 at ≡ 0 = (let c = j.counted at in grind (arith, nat_tests)) in
         changed links2 b (detached 0 item at (x.trees b)) v p item_of used2 at here (λ k d. refl)
-        (λ k d. let e : eqb k at ≡ false = ne_eqb k at d in j.counted k ∙ (rw e refl))
-        (λ k d. let e : eqb k at ≡ false = ne_eqb k at d in let q = detached-tally item_of 0 item at k (x.trees b) (x.sorted b v) j.its stands.stands in let n = rw e at q in omega (arith, n))
-        (omega (arith, one, m, pb))
+        (λ k d. let n = j.counted k in grind (arith, nat_tests))
+        (λ k d. let n = left k in grind (arith, nat_tests))
+        (let one = left at in let few = placed-once b at v in grind (arith, nat_tests))
         (omega (arith, m))
         (λ c u d. placed-past c at u (λ z. d (sym z ∙ here)))
         (detached-sorted item_of 0 item at (x.trees b) (x.sorted b v) j.its stands.stands)

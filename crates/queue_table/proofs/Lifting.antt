@@ -1,6 +1,5 @@
 -- The first slot of a tree taken out: the lowest one comes in its place.
 use Rattle.std.proofs.Common.{◌≡◌, ℕ, ◌+◌, ◌<◌, ◌≤◌, Bool, true, false, cond, eqb, List, length, get_or, set, ap, ◌∙◌, sym, refl, subst, arith, get_or-set_same, get_or-set_other, length-set}
-use Rattle.std.proofs.lemmas.Bool.{eq-eqb}
 use Rattle.std.proofs.lemmas.Bool.Decides.{nat_tests}
 use Rattle.queue_table.specs.Trees.{Tree, leaf, fork, tally, branch, lowest, plucked, lifted}
 use Rattle.queue_table.specs.Places.{IsWhole, IsBare, Replaces}
@@ -11,10 +10,12 @@ use Rattle.queue_table.proofs.Sorting.{plucked-tally, lifted-tally}
 pub lowest-real : (links : List ℕ) (roots place at last : ℕ) (t : Tree) → IsWhole links roots place t → get_or links place 0 ≡ at → 1 ≤ at → last ≡ lowest 0 t → (1 ≤ last) × (branch roots last true < length links)
 lowest-real links roots place at last leaf w e s z = absurd (let x = w.tree in omega (arith, x, e, s))
 lowest-real links roots place at last (fork i l r) w e s z =
-    let p = plucked-tally (lowest 0 (fork i l r)) i l r in
-    let same : eqb (lowest 0 (fork i l r)) (lowest 0 (fork i l r)) ≡ true = eq-eqb _ _ refl in
-    let p2 = rw same at p in
-    subst (λ k. (1 ≤ k) × (branch roots k true < length links)) (sym z) (members links roots place (fork i l r) (lowest 0 (fork i l r)) w.tree (omega (arith, p2)))
+    let there : 1 ≤ tally last (fork i l r) = (let p = plucked-tally last i l r in grind (arith, nat_tests)) in
+    members links roots place (fork i l r) last w.tree there
+
+-- the slot above branches is not the lowest one
+above : (i k : ℕ) (l r l2 r2 : Tree) → k ≡ i → tally i (fork i l r) ≡ cond (eqb i k) 1 0 + tally i (fork i l2 r2) → tally i (fork i l r) ≤ 1 → ⊥
+above i k l r l2 r2 s p o = let h = tally-here i l2 r2 in grind (arith, nat_tests)
 
 -- a tree of one slot
 pub lift-one : (roots : ℕ) (links links2 : List ℕ) (place at last : ℕ) (t : Tree) → IsWhole links roots place t → get_or links place 0 ≡ at → 1 ≤ at → last ≡ at → last ≡ lowest 0 t →
@@ -22,15 +23,9 @@ pub lift-one : (roots : ℕ) (links links2 : List ℕ) (place at last : ℕ) (t 
 lift-one roots links links2 place at last leaf w e s n z p = p
 lift-one roots links links2 place at last (fork i leaf leaf) w e s n z p = p
 lift-one roots links links2 place at last (fork i (fork j a b) r) w e s n z p =
-    absurd (twice i (lowest 0 (fork i (fork j a b) r)) (fork j a b) r (sym z ∙ (n ∙ (sym e ∙ w.tree.0))) (plucked-tally i i (fork j a b) r) (w.once i))
-  where
-    twice : (i k : ℕ) (l r : Tree) → k ≡ i → tally i (fork i l r) ≡ cond (eqb i k) 1 0 + tally i (fork i (plucked l) r) → tally i (fork i l r) ≤ 1 → ⊥
-    twice i k l r s p o = let g : eqb i k ≡ true = eq-eqb i k (sym s) in let p2 = rw g at p in let h = tally-here i (plucked l) r in omega (arith, p2, h, o)
+    absurd (above i _ (fork j a b) r (plucked (fork j a b)) r (sym z ∙ (n ∙ (sym e ∙ w.tree.0))) (plucked-tally i i (fork j a b) r) (w.once i))
 lift-one roots links links2 place at last (fork i leaf (fork j a b)) w e s n z p =
-    absurd (twice i (lowest 0 (fork i leaf (fork j a b))) (fork j a b) (sym z ∙ (n ∙ (sym e ∙ w.tree.0))) (plucked-tally i i leaf (fork j a b)) (w.once i))
-  where
-    twice : (i k : ℕ) (r : Tree) → k ≡ i → tally i (fork i leaf r) ≡ cond (eqb i k) 1 0 + tally i (fork i leaf (plucked r)) → tally i (fork i leaf r) ≤ 1 → ⊥
-    twice i k r s p o = let g : eqb i k ≡ true = eq-eqb i k (sym s) in let p2 = rw g at p in let h = tally-here i leaf (plucked r) in omega (arith, p2, h, o)
+    absurd (above i _ leaf (fork j a b) leaf (plucked (fork j a b)) (sym z ∙ (n ∙ (sym e ∙ w.tree.0))) (plucked-tally i i leaf (fork j a b)) (w.once i))
 
 -- the links after the slot `last` took the place of another one
 abbrev pub links_moved : ℕ → List ℕ → ℕ → ℕ → ℕ → List ℕ
@@ -171,8 +166,6 @@ pub first-gone : (links : List ℕ) (roots place at : ℕ) (t : Tree) → IsWhol
 first-gone links roots place at leaf w e s = absurd (let x = w.tree in omega (arith, x, e, s))
 first-gone links roots place at (fork i l r) w e s =
     let is : at ≡ i = sym e ∙ w.tree.0 in
-    let one : ◌≡◌ {A = ℕ} (cond (eqb i i) 1 0) 1 = ap (λ b. cond b 1 0) (eq-eqb i i refl) in
-    let here = tally-here i l r in
     let less = lifted-tally i i l r in
     let o = w.once i in
-    subst (λ k. (1 ≤ tally k (fork i l r)) × (tally k (lifted (fork i l r)) ≡ 0)) (sym is) (omega (arith, here), omega (arith, one, less, o))
+    subst (λ k. (1 ≤ tally k (fork i l r)) × (tally k (lifted (fork i l r)) ≡ 0)) (sym is) (grind (arith, nat_tests), grind (arith, nat_tests))

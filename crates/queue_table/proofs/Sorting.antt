@@ -41,7 +41,7 @@ grafted-sorted its d x at (fork i l r) e s =
         let h = grafted-tally (d + 1) x at k u in
         elim (cases_eq k at) [
           | inl q ↦ ap (λ j. turn d (its j)) q ∙ (ap (turn d) e ∙ w)
-          | inr q ↦ let g : eqb k at ≡ false = ne_eqb k at q in let h2 = rw g at h in f k (omega (arith, h2, m))
+          | inr q ↦ f k (grind (arith, nat_tests))
         ]
 
 -- the lowest slot taken out

@@ -1,6 +1,6 @@
 -- Splices of one slot out of linked slots and into them.
-use Rattle.std.proofs.Common.{◌≡◌, ℕ, suc, zero, ◌+◌, ◌<◌, ◌≤◌, true, cond, eqb, List, [], ◌∷◌, ◌++◌, length, get_or, set, ap, ◌∙◌, sym, refl, arith, get_or-set_same, get_or-set_other, length-set, append-nil, map}
-use Rattle.std.proofs.lemmas.Bool.{eq-eqb}
+use Rattle.std.proofs.Common.{◌≡◌, ℕ, suc, zero, ◌+◌, ◌<◌, ◌≤◌, cond, eqb, List, [], ◌∷◌, ◌++◌, length, get_or, set, ap, ◌∙◌, sym, refl, arith, get_or-set_same, get_or-set_other, length-set, append-nil, map}
+use Rattle.std.proofs.lemmas.Bool.Decides.{nat_tests}
 use Rattle.queue_table.specs.Ring.{count, IsLinked, walk}
 
 pub count-append : (k : ℕ) (xs ys : List ℕ) → count k (xs ++ ys) ≡ count k xs + count k ys
@@ -8,10 +8,10 @@ count-append k [] ys = omega arith
 count-append k (x ∷ xs) ys = let h : count k (xs ++ ys) ≡ count k xs + count k ys = count-append k xs ys in omega (arith, h)
 
 pub count-here : (k : ℕ) (l : List ℕ) → count k (k ∷ l) ≡ 1 + count k l
-count-here k l = let e : eqb k k ≡ true = eq-eqb k k refl in rw e refl
+count-here k l = grind (arith, nat_tests)
 
 pub apart : (k x : ℕ) (l : List ℕ) → count k (x ∷ l) ≡ 0 → k ≡ x → ⊥
-apart k x l h e = let n : count k (x ∷ l) ≡ 1 + count k l = rw (← e) (count-here k l) in omega arith
+apart k x l h e = grind (arith, nat_tests)
 
 -- a link of a slot that does not stand there
 pub linked-newer : (ns os : List ℕ) (a : ℕ) (l : List ℕ) (b u v : ℕ) → count u (a ∷ l) ≡ 0 → IsLinked ns os a l b → IsLinked (set ns u v) os a l b
@@ -75,7 +75,7 @@ linked-to ns os a (x ∷ xs) i b u v few none k =
     )
 
 count-self : (k : ℕ) → ◌≡◌ {A = ℕ} (cond (eqb k k) 1 0) 1
-count-self k = let e : eqb k k ≡ true = eq-eqb k k refl in rw e refl
+count-self k = grind (arith, nat_tests)
 
 -- a slot leaves
 module _ (ns os : List ℕ) (a : ℕ) (xs : List ℕ) (i b : ℕ) where

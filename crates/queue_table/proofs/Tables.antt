@@ -1,7 +1,7 @@
 -- A free slot that comes into use, and one more free slot.
-use Rattle.std.proofs.Common.{◌≡◌, ℕ, suc, zero, ◌+◌, ◌-◌, ◌<◌, ◌≤◌, true, false, cond, eqb, List, [], ◌∷◌, ◌++◌, length, get_or, set, map, ap, ◌∙◌, sym, refl, subst, arith, inl, inr, length-set, length-append, append_assoc}
+use Rattle.std.proofs.Common.{◌≡◌, ℕ, suc, zero, ◌+◌, ◌-◌, ◌<◌, ◌≤◌, cond, eqb, List, [], ◌∷◌, ◌++◌, length, get_or, set, map, ap, ◌∙◌, sym, refl, subst, arith, inl, inr, length-set, length-append, append_assoc}
 use Rattle.std.proofs.Math.Path.{fun_ext}
-use Rattle.std.proofs.lemmas.Bool.{cases_eq, eq-eqb, ne_eqb}
+use Rattle.std.proofs.lemmas.Bool.{cases_eq}
 use Rattle.std.proofs.lemmas.List.{length-map, map-append}
 use Rattle.std.proofs.lemmas.Bool.Decides.{nat_tests}
 use Rattle.queue_table.specs.declared.records.Entry.{Entry}
@@ -11,7 +11,6 @@ use Rattle.queue_table.specs.Queues.{QUEUES, IsDistinct}
 use Rattle.queue_table.specs.declared.slot.Slot.{Slot}
 use Rattle.queue_table.specs.Ring.{entries, olders, newers, tags, slot_entry, count, IsLinked, IsRing, FIRST, Order, ring, ring_from, used, order_of, order_without, more_free, lists_of, lists, IsPlace, IsQueued}
 use Rattle.queue_table.specs.Index.{capacity}
-use Rattle.queue_table.proofs.Trees.{some_or_none}
 use Rattle.queue_table.proofs.Indexing.{same-map}
 use Rattle.queue_table.specs.QueueTable.{from_first, IsIndexOf, IsInSlots}
 use Rattle.queue_table.proofs.Splices.{count-append, count-here, older-end, end_of, end-stands, linked}
@@ -96,11 +95,8 @@ ring-grown : (ns os : List ℕ) (o : Order) (n : ℕ) → IsRing ns os (ring o) 
 ring-grown ns os o n x is =
     let e : ℕ = get_or (os ++ 0 ∷ []) 1 0 in
     let ee : e ≡ end_of 0 (o 0) = last-older ns os o x in
-    let new : count n (0 ∷ ring o) ≡ 0 = elim (some_or_none (count n (0 ∷ ring o))) [ inl m ↦ absurd (let w = x.within n m in omega (arith, w, is)) | inr m ↦ m ] in
-    let one : (k : ℕ) → count k (0 ∷ ring o) + cond (eqb k n) 1 0 ≤ 1 = λ k. elim (cases_eq k n) as (λ _. count k (0 ∷ ring o) + cond (eqb k n) 1 0 ≤ 1) [
-      | inl s ↦ let f : eqb k n ≡ true = eq-eqb k n s in let c = ap (λ y. count y (0 ∷ ring o)) s in rw f (omega (arith, c, new))
-      | inr d ↦ let f : eqb k n ≡ false = ne_eqb k n d in let u = x.once k in rw f (omega (arith, u))
-    ] in
+    let new : count n (0 ∷ ring o) ≡ 0 = (let w = x.within n in grind (arith, nat_tests)) in
+    let one : (k : ℕ) → count k (0 ∷ ring o) + cond (eqb k n) 1 0 ≤ 1 = λ k. (let u = x.once k in let e = cases_eq k n in grind (arith, nat_tests)) in
     let parts : (k : ℕ) → count k (ring o) ≡ count k (o 0) + count k (queues-ring o) = λ k. count-append k (o 0) (queues-ring o) in
     let n1 = length-append ns (0 ∷ []) in
     let o1 = length-append os (0 ∷ []) in
@@ -130,14 +126,8 @@ ring-grown ns os o n x is =
     record {
       linked = l1;
       once = λ k. (let c = cr k in let u = one k in omega (arith, c, u));
-      within = λ k m. (let c = cr k in elim (cases_eq k n) [
-        | inl s ↦ omega (arith, s, s1, s2, n1, is)
-        | inr d ↦ let f : eqb k n ≡ false = ne_eqb k n d in let c2 = rw f at c in let w = x.within k (omega (arith, c2, m)) in omega (arith, w, s1, s2, n1)
-      ]);
-      all = λ k w. (let c = cr k in elim (cases_eq k n) [
-        | inl s ↦ let f : eqb k n ≡ true = eq-eqb k n s in let c2 = rw f at c in omega (arith, c2)
-        | inr d ↦ let a = x.all k (omega (arith, w, s1, s2, n1, is, d)) in omega (arith, a, c)
-      ]);
+      within = λ k m. (let c = cr k in let w = x.within k in let e = cases_eq k n in grind (arith, nat_tests));
+      all = λ k w. (let c = cr k in let a = x.all k in let e = cases_eq k n in grind (arith, nat_tests));
       same = omega (arith, s1, s2, t1, t2, n1, o1, same);
       long = omega (arith, lr, s1, s2, n1, long);
     }
