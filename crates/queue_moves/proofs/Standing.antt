@@ -2,11 +2,10 @@
 use Rattle.std.proofs.Common.{◌≡◌, ℕ, suc, zero, ◌+◌, ◌<◌, ◌≤◌, Some, List, [], ◌∷◌, ◌++◌, length, ap, ◌∙◌, sym, subst, arith}
 use Rattle.std.specs.List.{Contains, slice_index_or}
 use Rattle.std.proofs.lemmas.Bool.Decides.{nat_tests}
-use Rattle.step_record.specs.declared.item.Item.{Item}
-use Rattle.queue_table.specs.declared.records.Entry.{Entry}
 use Rattle.queue_table.specs.declared.slot.Slot.{Slot}
 use Rattle.queue_table.specs.Ring.{lists, order_of, entries, slot_entry, count}
-use Rattle.queue_table.specs.Entries.{entry, occurrences, oldest_of, before}
+use Rattle.queue_table.specs.declared.records.Entry.{Entry}
+use Rattle.queue_table.specs.Entries.{Item, entry, occurrences, oldest_of, before}
 use Rattle.queue_table.specs.Queues.{QUEUES, Queues, queue_holding}
 use Rattle.queue_table.specs.QueueTable.{HoldsAt}
 use Rattle.queue_table.proofs.EntryLists.{same-refl}

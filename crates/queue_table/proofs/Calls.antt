@@ -2,12 +2,10 @@
 use Rattle.std.proofs.Common.{◌≡◌, ℕ, suc, ◌+◌, ◌<◌, ◌≤◌, cond, eqb, get_or, List, [], ◌∷◌, length, ap, refl, arith}
 use Rattle.std.proofs.lemmas.Bool.{cases_eq}
 use Rattle.std.proofs.lemmas.Bool.Decides.{nat_tests}
-use Rattle.queue_table.specs.declared.slot.Slot.{Slot}
-use Rattle.queue_table.specs.declared.lengths.Lengths.{Lengths}
 use Rattle.queue_table.specs.Queues.{after_removal}
-use Rattle.queue_table.specs.Ring.{entries, slot_item, count, put_before, SECTIONS, Order, used, order_without, sent, lists_of, IsQueued}
+use Rattle.queue_table.specs.Ring.{Slot, entries, slot_item, count, put_before, SECTIONS, Order, used, order_without, sent, lists_of, IsQueued}
 use Rattle.step_record.specs.Keys.{keys_without}
-use Rattle.queue_table.specs.QueueTable.{IsCounted}
+use Rattle.queue_table.specs.QueueTable.{Lengths, IsCounted}
 use Rattle.queue_table.proofs.Sections.{length-without}
 use Rattle.queue_table.proofs.Orders.{IsOnce, section-few, section-alone, count-parts-ring, with-same, with-other}
 use Rattle.queue_table.proofs.Contents.{taken-order, lists-unused}

@@ -6,9 +6,7 @@ use Rattle.std.proofs.Math.Path.{fun_ext}
 use Rattle.std.proofs.lemmas.Bool.{cases_Bool, cases_eq, cases_lt, eqb-true}
 use Rattle.std.proofs.lemmas.List.{map-append}
 use Rattle.std.proofs.lemmas.Bool.Decides.{nat_tests}
-use Rattle.step_record.specs.declared.item.Item.{Item}
-use Rattle.queue_table.specs.declared.records.Entry.{Entry}
-use Rattle.queue_table.specs.Entries.{is_same_item, occurrences, last_from, last_item, before, put_behind, entries_without}
+use Rattle.queue_table.specs.Entries.{Entry, Item, is_same_item, occurrences, last_from, last_item, before, put_behind, entries_without}
 use Rattle.queue_table.specs.Queues.{QUEUES, Queues, with_queue, queue_holding, times_below, after_push, after_removal, after_return, IsDistinct}
 use Rattle.queue_table.proofs.EntryLists.{same-true, same-refl, times-append, put_behind-at}
 use Rattle.queue_table.proofs.QueueLists.{IsAbsent, is_absent, placed, queue-few, times-none, times-with}

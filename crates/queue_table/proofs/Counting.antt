@@ -3,15 +3,10 @@ use Rattle.std.proofs.Common.{◌≡◌, ℕ, suc, zero, ◌≤◌, eqb, List, [
 use Rattle.std.proofs.Math.Path.{fun_ext}
 use Rattle.std.proofs.lemmas.Bool.{cases_eq, cases_lt}
 use Rattle.std.proofs.lemmas.Bool.Decides.{nat_tests}
-use Rattle.step_record.specs.declared.item.Item.{Item}
-use Rattle.queue_table.specs.declared.records.Entry.{Entry}
-use Rattle.queue_table.specs.declared.slot_index.SlotIndex.{SlotIndex}
-use Rattle.queue_table.specs.declared.lengths.Lengths.{Lengths}
-use Rattle.queue_table.specs.declared.slot.Slot.{Slot}
-use Rattle.queue_table.specs.Entries.{is_same_item, entry, occurrences, entries_counted}
+use Rattle.queue_table.specs.Entries.{Entry, Item, is_same_item, entry, occurrences, entries_counted}
 use Rattle.queue_table.specs.Queues.{QUEUES, Queues, times_below, after_count, IsDistinct}
-use Rattle.queue_table.specs.Ring.{entries, newers, olders, slot_entry, slot_item, count, Order, used, IsRing, ring, ring_of, order_in, order_of, lists, lists_of, IsQueued, ChangesOnlyEntry}
-use Rattle.queue_table.specs.QueueTable.{entry_at, IsUsed, IsCounted, IsKept, KeepsOthers}
+use Rattle.queue_table.specs.Ring.{Slot, entries, newers, olders, slot_entry, slot_item, count, Order, used, IsRing, ring, ring_of, order_in, order_of, lists, lists_of, IsQueued, ChangesOnlyEntry}
+use Rattle.queue_table.specs.QueueTable.{Lengths, SlotIndex, entry_at, IsUsed, IsCounted, IsKept, KeepsOthers}
 use Rattle.queue_table.proofs.Splices.{count-here}
 use Rattle.queue_table.proofs.Orders.{section-used, order-short}
 use Rattle.queue_table.proofs.Contents.{alone}

@@ -3,12 +3,9 @@ use Rattle.std.proofs.Common.{◌≡◌, ℕ, suc, ◌+◌, ◌<◌, ◌≤◌, 
 use Rattle.std.proofs.lemmas.Bool.{cases_Bool, cases_eq, eqb-true, ne_eqb}
 use Rattle.std.proofs.lemmas.List.{map-append}
 use Rattle.std.proofs.lemmas.Bool.Decides.{nat_tests}
-use Rattle.step_record.specs.declared.item.Item.{Item}
-use Rattle.queue_table.specs.declared.records.Entry.{Entry}
-use Rattle.queue_table.specs.declared.slot.Slot.{Slot}
-use Rattle.queue_table.specs.Entries.{is_same_item, last_from, last_item, IsGap}
+use Rattle.queue_table.specs.Entries.{Entry, Item, is_same_item, last_from, last_item, IsGap}
 use Rattle.queue_table.specs.Queues.{QUEUES, queue_holding}
-use Rattle.queue_table.specs.Ring.{entries, olders, newers, slot_entry, slot_item, count, next_but, IsLinked, Order, used, order_without, lists_of, IsPlace, IsQueued}
+use Rattle.queue_table.specs.Ring.{Slot, entries, olders, newers, slot_entry, slot_item, count, next_but, IsLinked, Order, used, order_without, lists_of, IsPlace, IsQueued}
 use Rattle.step_record.specs.Keys.{keys_without}
 use Rattle.queue_table.specs.QueueTable.{IsBehind}
 use Rattle.queue_table.proofs.EntryLists.{same-refl}

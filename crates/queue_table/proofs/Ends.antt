@@ -1,10 +1,7 @@
 -- The ends of the sections, and the slots between them.
 use Rattle.std.proofs.Common.{◌≡◌, ℕ, suc, zero, ◌<◌, ◌≤◌, Some, List, [], ◌∷◌, ◌++◌, length, get_or, map, ap, ◌∙◌, sym, refl, subst, arith, append_assoc}
-use Rattle.step_record.specs.declared.item.Item.{Item}
-use Rattle.queue_table.specs.declared.records.Entry.{Entry}
-use Rattle.queue_table.specs.Entries.{oldest_of, newest_from, newest_of}
-use Rattle.queue_table.specs.declared.slot.Slot.{Slot}
-use Rattle.queue_table.specs.Ring.{newers, olders, slot_entry, slot_item, count, walk, IsRing, SECTIONS, Order, ring, first_of, last_after, last_of, IsQueued}
+use Rattle.queue_table.specs.Entries.{Entry, Item, oldest_of, newest_from, newest_of}
+use Rattle.queue_table.specs.Ring.{Slot, newers, olders, slot_entry, slot_item, count, walk, IsRing, SECTIONS, Order, ring, first_of, last_after, last_of, IsQueued}
 use Rattle.queue_table.proofs.Splices.{older-end, newer-start, end_of, start_of, start-stands, count-append, count-here}
 use Rattle.queue_table.proofs.Turning.{turned}
 use Rattle.queue_table.proofs.Holding.{linked-section}

@@ -3,13 +3,11 @@ use Rattle.std.proofs.Common.{◌≡◌, ℕ, suc, zero, ◌+◌, ◌-◌, ◌�
 use Rattle.std.proofs.lemmas.Bool.{cases_Bool}
 use Rattle.std.proofs.lemmas.List.{length-map}
 use Rattle.std.proofs.lemmas.Bool.Decides.{nat_tests}
-use Rattle.step_record.specs.declared.item.Item.{Item}
 use Rattle.queue_table.specs.Index.{IsFound}
-use Rattle.queue_table.specs.Entries.{is_same_item}
+use Rattle.queue_table.specs.Entries.{Item, is_same_item}
 use Rattle.queue_table.specs.Queues.{queue_holding}
 use Rattle.queue_table.proofs.EntryLists.{same-true}
-use Rattle.queue_table.specs.declared.slot.Slot.{Slot}
-use Rattle.queue_table.specs.Ring.{FIRST, entries, newers, slot_item, count, order_of, used, lists, IsQueued}
+use Rattle.queue_table.specs.Ring.{Slot, FIRST, entries, newers, slot_item, count, order_of, used, lists, IsQueued}
 use Rattle.queue_table.specs.QueueTable.{from_first, IsSlotOf}
 use Rattle.queue_table.proofs.Contents.{unplaced-at}
 

@@ -4,11 +4,9 @@ use Rattle.std.specs.Result.{OnOk, OnErr}
 use Rattle.std.specs.declared.alloc.AllocError.{AllocError}
 use Rattle.std.proofs.Math.Path.{fun_ext}
 use Rattle.std.proofs.lemmas.Bool.{cases_eq}
-use Rattle.queue_table.specs.declared.slot_index.SlotIndex.{SlotIndex}
-use Rattle.queue_table.specs.declared.slot.Slot.{Slot}
 use Rattle.queue_table.specs.Entries.{entry}
-use Rattle.queue_table.specs.Ring.{entries, olders, newers, tags, FIRST, until, past, IsRing, Order, ring, order_of, more_free, no_slots, lists_of, lists, IsQueued}
-use Rattle.queue_table.specs.Index.{capacity}
+use Rattle.queue_table.specs.Ring.{Slot, entries, olders, newers, tags, FIRST, until, past, IsRing, Order, ring, order_of, more_free, no_slots, lists_of, lists, IsQueued}
+use Rattle.queue_table.specs.Index.{SlotIndex, capacity}
 use Rattle.queue_table.specs.QueueTable.{IsIndexOf, IsLoaded, IsInSlots, IsSound, IsSame}
 use Rattle.std.proofs.lemmas.Nat.{pow-add, pow_pos}
 use Rattle.std.proofs.lemmas.Bool.Decides.{nat_tests}

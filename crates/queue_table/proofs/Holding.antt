@@ -2,12 +2,9 @@
 use Rattle.std.proofs.Common.{◌≡◌, ℕ, suc, zero, ◌+◌, ◌<◌, ◌≤◌, false, cond, eqb, Some, List, ◌∷◌, ◌++◌, length, get_or, map, ap, ◌∙◌, sym, refl, subst, arith, ◌⊎◌, inl, inr}
 use Rattle.std.proofs.lemmas.Bool.{cases_eq, ne_eqb, eq-eqb}
 use Rattle.std.proofs.lemmas.Bool.Decides.{nat_tests}
-use Rattle.step_record.specs.declared.item.Item.{Item}
-use Rattle.queue_table.specs.declared.records.Entry.{Entry}
-use Rattle.queue_table.specs.Entries.{is_same_item, last_item, before}
+use Rattle.queue_table.specs.Entries.{Entry, Item, is_same_item, last_item, before}
 use Rattle.queue_table.specs.Queues.{QUEUES, queue_holding, place_in}
-use Rattle.queue_table.specs.declared.slot.Slot.{Slot}
-use Rattle.queue_table.specs.Ring.{entries, olders, newers, tags, slot_entry, slot_item, count, IsLinked, SECTIONS, FIRST, Order, ring, ring_from, used, used_below, order_of, sent, lists_of, tag_at, item_or, IsQueued}
+use Rattle.queue_table.specs.Ring.{Slot, entries, olders, newers, tags, slot_entry, slot_item, count, IsLinked, SECTIONS, FIRST, Order, ring, ring_from, used, used_below, order_of, sent, lists_of, tag_at, item_or, IsQueued}
 use Rattle.step_record.specs.Keys.{keys_without}
 use Rattle.queue_table.proofs.Trees.{some_or_none}
 use Rattle.queue_table.proofs.Splices.{count-append, linked-split, older-end, end_of}

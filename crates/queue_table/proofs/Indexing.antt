@@ -4,10 +4,9 @@ use Rattle.std.proofs.Math.ListN.{length-replicate}
 use Rattle.std.proofs.lemmas.Bool.{eq-eqb, ne_eqb, cases_Bool, cases_eq}
 use Rattle.std.proofs.lemmas.Bool.Decides.{nat_tests}
 use Rattle.step_record.specs.declared.item.Item.{Item}
-use Rattle.queue_table.specs.declared.slot_index.SlotIndex.{SlotIndex}
 use Rattle.queue_table.specs.Trees.{Tree, leaf, tally, branch, IsTree, IsSorted, grafted, detached}
 use Rattle.queue_table.specs.Places.{IsWhole, IsBare, IsFree, IsThere, Replaces}
-use Rattle.queue_table.specs.Index.{IsMapped, IsIndexed, IsAdded, IsRemoved, IsFound, IsInBucket, CanFind, bucket, capacity}
+use Rattle.queue_table.specs.Index.{SlotIndex, IsMapped, IsIndexed, IsAdded, IsRemoved, IsFound, IsInBucket, CanFind, bucket, capacity}
 use Rattle.queue_table.specs.Walks.{HasTree, HasTreeWithin}
 use Rattle.queue_table.proofs.Trees.{same-slot, same-tree, size-few, no-slots}
 use Rattle.queue_table.proofs.Walking.{step}
@@ -79,7 +78,7 @@ module _ (links : List ℕ) (bits : ℕ) (item_of : ℕ → Item) (used : ℕ �
       some = x.some;
       trees = λ c. cond (eqb c b) t2 (x.trees c);
       rooted = rooted2;
-      placed = λ c j u. placed2 c j u;
+      placed = placed2;
       sorted = λ c u. elim (cases_eq c b) as (λ _. IsSorted item_of2 0 (cond (eqb c b) t2 (x.trees c))) [
         | inl q ↦ let e : eqb c b ≡ true = eq-eqb c b q in rw e st
         | inr q ↦

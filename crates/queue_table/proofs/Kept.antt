@@ -2,16 +2,11 @@
 use Rattle.std.proofs.Common.{◌≡◌, ℕ, suc, zero, ◌<◌, ◌≤◌, ◌+◌, ◌^◌, List, [], ◌∷◌, ◌++◌, get_or, take, length, length-append, map, ap, ◌∙◌, sym, subst, arith, refl}
 use Rattle.std.proofs.lemmas.List.{length-map, take_at}
 use Rattle.std.proofs.lemmas.Simd.{map-map}
-use Rattle.step_record.specs.declared.item.Item.{Item}
-use Rattle.queue_table.specs.declared.records.Entry.{Entry}
-use Rattle.queue_table.specs.declared.slot_index.SlotIndex.{SlotIndex}
-use Rattle.queue_table.specs.declared.lengths.Lengths.{Lengths}
-use Rattle.queue_table.specs.declared.slot.Slot.{Slot}
-use Rattle.queue_table.specs.Entries.{items_of}
+use Rattle.queue_table.specs.Entries.{Entry, Item, items_of}
 use Rattle.queue_table.specs.Queues.{QUEUES, items_below, IsDistinct}
-use Rattle.queue_table.specs.Ring.{entries, newers, olders, slot_entry, slot_item, count, walk, used, SECTIONS, FIRST, Order, ring, ring_from, order_of, lists_of, lists, IsQueued, HasItems}
-use Rattle.queue_table.specs.Index.{HasSlot}
-use Rattle.queue_table.specs.QueueTable.{IsLoaded, IsCounted, IsIndexOf, IsInSlots, IsKept}
+use Rattle.queue_table.specs.Ring.{Slot, entries, newers, olders, slot_entry, slot_item, count, walk, used, SECTIONS, FIRST, Order, ring, ring_from, order_of, lists_of, lists, IsQueued, HasItems}
+use Rattle.queue_table.specs.Index.{SlotIndex, HasSlot}
+use Rattle.queue_table.specs.QueueTable.{Lengths, IsLoaded, IsCounted, IsIndexOf, IsInSlots, IsKept}
 use Rattle.queue_table.proofs.Splices.{walked}
 use Rattle.queue_table.proofs.Orders.{used-real}
 use Rattle.queue_table.proofs.Growing.{still_loaded, no-order}

@@ -7,8 +7,7 @@ use Rattle.step_record.specs.declared.item.Item.{Item}
 use Rattle.queue_table.specs.declared.records.Entry.{Entry}
 use Rattle.queue_table.specs.Entries.{is_same_item, entry, occurrences, entries_without, last_item, put_behind, IsGap}
 use Rattle.queue_table.specs.Queues.{QUEUES, Queues, queue_holding, IsDistinct, after_push, after_removal, after_send, after_return}
-use Rattle.queue_table.specs.declared.slot.Slot.{Slot}
-use Rattle.queue_table.specs.Ring.{newers, ring_of, entries, slot_entry, lists}
+use Rattle.queue_table.specs.Ring.{Slot, newers, ring_of, entries, slot_entry, lists}
 use Rattle.queue_table.proofs.Orders.{order-short}
 use Rattle.queue_table.proofs.EntryLists.{same-refl, times-append, times-gone, put_behind-at}
 use Rattle.queue_table.proofs.QueueLists.{absent, queue-few}

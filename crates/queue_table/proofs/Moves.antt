@@ -2,16 +2,11 @@
 use Rattle.std.proofs.Common.{◌≡◌, ℕ, suc, ◌+◌, ◌<◌, ◌≤◌, false, eqb, Option, List, length, set, map, ap, ◌∙◌, sym, subst, arith, inl, inr, length-set, get_or-set_same, get_or-set_other}
 use Rattle.std.proofs.lemmas.Bool.{ne_eqb}
 use Rattle.std.proofs.lemmas.List.{length-map}
-use Rattle.step_record.specs.declared.item.Item.{Item}
-use Rattle.queue_table.specs.declared.records.Entry.{Entry}
-use Rattle.queue_table.specs.declared.slot.Slot.{Slot}
-use Rattle.queue_table.specs.declared.slot_index.SlotIndex.{SlotIndex}
-use Rattle.queue_table.specs.declared.lengths.Lengths.{Lengths}
-use Rattle.queue_table.specs.Entries.{last_item}
+use Rattle.queue_table.specs.Entries.{Entry, Item, last_item}
 use Rattle.queue_table.specs.Queues.{QUEUES, Queues, after_push, after_removal, after_return, IsDistinct}
-use Rattle.queue_table.specs.Ring.{entries, newers, tags, tag_at, slot_entry, slot_item, count, ring_of, FIRST, Order, used, order_of, order_without, sent, lists, lists_of, IsPlace, IsQueued, CanGo, IsSent, IsFreed}
-use Rattle.queue_table.specs.Index.{capacity, IsAdded}
-use Rattle.queue_table.specs.QueueTable.{entry_at, IsUsed, IsBehind, IsCounted, IsIndexOf, IsInSlots, IsKept, CanLeave, KeepsSlots, KeepsOthers}
+use Rattle.queue_table.specs.Ring.{Slot, entries, newers, tags, tag_at, slot_entry, slot_item, count, ring_of, FIRST, Order, used, order_of, order_without, sent, lists, lists_of, IsPlace, IsQueued, CanGo, IsSent, IsFreed}
+use Rattle.queue_table.specs.Index.{SlotIndex, capacity, IsAdded}
+use Rattle.queue_table.specs.QueueTable.{Lengths, entry_at, IsUsed, IsBehind, IsCounted, IsIndexOf, IsInSlots, IsKept, CanLeave, KeepsSlots, KeepsOthers}
 use Rattle.queue_table.proofs.QueueLists.{IsAbsent, distinct-taken}
 use Rattle.queue_table.proofs.Splices.{count-append}
 use Rattle.queue_table.proofs.Sections.{count-without}

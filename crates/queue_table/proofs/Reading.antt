@@ -2,12 +2,9 @@
 use Rattle.std.proofs.Common.{◌≡◌, ℕ, suc, ◌<◌, Some, List, length, get_or, ap, ◌∙◌, sym, subst, arith}
 use Rattle.std.specs.List.{Contains}
 use Rattle.std.proofs.lemmas.List.{get_or_default}
-use Rattle.step_record.specs.declared.item.Item.{Item}
-use Rattle.queue_table.specs.declared.records.Entry.{Entry}
-use Rattle.queue_table.specs.declared.slot.Slot.{Slot}
-use Rattle.queue_table.specs.Entries.{entry}
+use Rattle.queue_table.specs.Entries.{Entry, Item, entry}
 use Rattle.queue_table.specs.Queues.{QUEUES, queue_holding}
-use Rattle.queue_table.specs.Ring.{entries, tags, slot_entry, order_of, lists, tag_at}
+use Rattle.queue_table.specs.Ring.{Slot, entries, tags, slot_entry, order_of, lists, tag_at}
 use Rattle.queue_table.specs.QueueTable.{IsSlotOf}
 use Rattle.queue_table.proofs.SlotWrites.{no_slot, field_at}
 use Rattle.queue_table.proofs.Contents.{placed-at, has-entry}

@@ -2,12 +2,9 @@
 use Rattle.std.proofs.Common.{◌≡◌, ℕ, ◌<◌, ◌≤◌, List, length, set, ap, ◌∙◌, sym, get_or, arith, inl, inr, get_or-set_same, get_or-set_other}
 use Rattle.std.proofs.lemmas.Bool.{cases_eq}
 use Rattle.std.proofs.lemmas.List.{length-map}
-use Rattle.queue_table.specs.declared.records.Entry.{Entry}
-use Rattle.queue_table.specs.declared.slot_index.SlotIndex.{SlotIndex}
-use Rattle.queue_table.specs.declared.slot.Slot.{Slot}
-use Rattle.queue_table.specs.Entries.{entry}
-use Rattle.queue_table.specs.Ring.{entries, slot_entry, slot_item, count, Order, used, order_without}
-use Rattle.queue_table.specs.Index.{IsRemoved, LacksSlot}
+use Rattle.queue_table.specs.Entries.{Entry, entry}
+use Rattle.queue_table.specs.Ring.{Slot, entries, slot_entry, slot_item, count, Order, used, order_without}
+use Rattle.queue_table.specs.Index.{SlotIndex, IsRemoved, LacksSlot}
 use Rattle.queue_table.specs.QueueTable.{IsIndexOf}
 use Rattle.queue_table.proofs.Orders.{used-gone, used-without}
 use Rattle.queue_table.proofs.SlotWrites.{no_slot, field_at}

@@ -1,7 +1,6 @@
 -- A slot sent to a place in a section.
 use Rattle.std.proofs.Common.{◌≡◌, ℕ, ◌<◌, List, length, ap, ◌∙◌, sym, subst, arith, inl, inr}
-use Rattle.queue_table.specs.declared.slot.Slot.{Slot}
-use Rattle.queue_table.specs.Ring.{newers, olders, count, IsRing, ring_of, moved_before, SECTIONS, Order, ring, order_of, order_without, sent, CanGo}
+use Rattle.queue_table.specs.Ring.{Slot, newers, olders, count, IsRing, ring_of, moved_before, SECTIONS, Order, ring, order_of, order_without, sent, CanGo}
 use Rattle.queue_table.proofs.Turning.{ring-is}
 use Rattle.queue_table.proofs.Sections.{gone, count-without}
 use Rattle.queue_table.proofs.Orders.{section-ring, ring-sent, order-is, order-short, short-sent}

@@ -1,9 +1,7 @@
 -- The slots of other items, which stay in use.
 use Rattle.std.proofs.Common.{◌≡◌, ℕ, true, List, ap, ◌∙◌, sym, arith}
-use Rattle.queue_table.specs.declared.records.Entry.{Entry}
-use Rattle.queue_table.specs.declared.slot.Slot.{Slot}
-use Rattle.queue_table.specs.Entries.{is_same_item}
-use Rattle.queue_table.specs.Ring.{count, used, order_of}
+use Rattle.queue_table.specs.Entries.{Entry, is_same_item}
+use Rattle.queue_table.specs.Ring.{Slot, count, used, order_of}
 use Rattle.queue_table.specs.QueueTable.{HoldsAt, entry_at, KeepsSlots, KeepsOthers}
 use Rattle.queue_table.proofs.EntryLists.{same-refl}
 

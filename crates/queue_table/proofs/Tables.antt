@@ -4,13 +4,10 @@ use Rattle.std.proofs.Math.Path.{fun_ext}
 use Rattle.std.proofs.lemmas.Bool.{cases_eq}
 use Rattle.std.proofs.lemmas.List.{length-map, map-append}
 use Rattle.std.proofs.lemmas.Bool.Decides.{nat_tests}
-use Rattle.queue_table.specs.declared.records.Entry.{Entry}
-use Rattle.queue_table.specs.declared.slot_index.SlotIndex.{SlotIndex}
-use Rattle.queue_table.specs.Entries.{entry}
+use Rattle.queue_table.specs.Entries.{Entry, entry}
 use Rattle.queue_table.specs.Queues.{QUEUES, IsDistinct}
-use Rattle.queue_table.specs.declared.slot.Slot.{Slot}
-use Rattle.queue_table.specs.Ring.{entries, olders, newers, tags, slot_entry, count, IsLinked, IsRing, FIRST, Order, ring, ring_from, used, order_of, order_without, more_free, lists_of, lists, IsPlace, IsQueued}
-use Rattle.queue_table.specs.Index.{capacity}
+use Rattle.queue_table.specs.Ring.{Slot, entries, olders, newers, tags, slot_entry, count, IsLinked, IsRing, FIRST, Order, ring, ring_from, used, order_of, order_without, more_free, lists_of, lists, IsPlace, IsQueued}
+use Rattle.queue_table.specs.Index.{SlotIndex, capacity}
 use Rattle.queue_table.proofs.Indexing.{same-map}
 use Rattle.queue_table.specs.QueueTable.{from_first, IsIndexOf, IsInSlots}
 use Rattle.queue_table.proofs.Splices.{count-append, count-here, older-end, end_of, end-stands, linked}

@@ -2,10 +2,9 @@
 use Rattle.std.proofs.Common.{◌≡◌, ℕ, ◌+◌, ◌^◌, ◌<◌, ◌≤◌, Bool, true, false, List, length, get_or, ap, ◌∙◌, sym, refl, arith, inl, inr}
 use Rattle.std.proofs.lemmas.Bool.{cases_eq}
 use Rattle.step_record.specs.declared.item.Item.{Item}
-use Rattle.queue_table.specs.declared.slot_index.SlotIndex.{SlotIndex}
 use Rattle.queue_table.specs.Trees.{Tree, leaf, fork, tally, size, branch, turn, IsSorted}
 use Rattle.queue_table.specs.Places.{IsWhole, IsThere}
-use Rattle.queue_table.specs.Index.{IsFound}
+use Rattle.queue_table.specs.Index.{SlotIndex, IsFound}
 use Rattle.queue_table.specs.Walks.{HasTree, HasTreeWithin, IsOnWay}
 use Rattle.queue_table.proofs.Trees.{tally-here, on_side, side-tally, side-size, tree_at, tree-is, size-few}
 use Rattle.queue_table.proofs.Sorting.{side-sorted, its-side}

@@ -1,7 +1,7 @@
 -- Lists of entries, oldest first: an item with a small count beside it.
 use Rattle.std.specs.Prelude.{◌≡◌, ℕ, ◌+◌, Bool, cond, ◌&&◌, eqb, Option, Some, None, List, [], ◌∷◌, ◌++◌, map}
-use Rattle.step_record.specs.declared.item.Item.{Item}
-use Rattle.queue_table.specs.declared.records.Entry.{Entry}
+pub use Rattle.step_record.specs.declared.item.Item.{Item}
+pub use Rattle.queue_table.specs.declared.records.Entry.{Entry}
 
 -- one key with one node: two stays of a key are different items
 abbrev pub is_same_item : Item → Item → Bool

@@ -1,16 +1,14 @@
 -- Slots, index and lengths together, and what the calls of the table see of them.
 use Rattle.std.specs.Prelude.{◌≡◌, ℕ, suc, zero, ◌+◌, ◌*◌, ◌^◌, ◌<◌, ◌≤◌, Option, List, [], ◌∷◌, ◌++◌, map, length}
 use Rattle.std.specs.Prelude.{slice_index, slice_index_or, false, if◌then◌else◌, ◌||◌, ◌==◌, ◌/◌, nat_lt, nat_le}
-use Rattle.step_record.specs.declared.item.Item.{Item}
-use Rattle.queue_table.specs.declared.records.Entry.{Entry}
-use Rattle.queue_table.specs.declared.lengths.Lengths.{Lengths}
-use Rattle.queue_table.specs.declared.slot.Slot.{Slot}
-use Rattle.queue_table.specs.Entries.{is_same_item, last_item}
+pub use Rattle.queue_table.specs.declared.lengths.Lengths.{Lengths}
+pub use Rattle.queue_table.specs.declared.slot.Slot.{Slot}
+use Rattle.queue_table.specs.Entries.{Entry, Item, is_same_item, last_item}
 use Rattle.queue_table.specs.Queues.{Queues}
 use Rattle.queue_table.specs.Ring.{entries, count, SECTIONS, FIRST, Order, used, order_of, lists}
 use Rattle.queue_table.specs.Ring.{slot_entry, slot_item}
 use Rattle.queue_table.specs.Ring.{IsQueued}
-use Rattle.queue_table.specs.declared.slot_index.SlotIndex.{SlotIndex}
+pub use Rattle.queue_table.specs.declared.slot_index.SlotIndex.{SlotIndex}
 use Rattle.queue_table.specs.declared.growth.TheConstants.{MIN_FIRST_BITS, MAX_FIRST_BITS}
 use Rattle.queue_table.specs.Index.{capacity, IsIndexed}
 

@@ -3,7 +3,7 @@ use Rattle.std.specs.Prelude.{ℕ, suc, zero, ◌+◌, ◌≤◌, nat_lt, cond, 
 use Rattle.std.specs.Prelude.{length}
 use Rattle.step_record.specs.declared.item.Item.{Item}
 use Rattle.queue_table.specs.declared.records.Entry.{Entry}
-use Rattle.queue_table.specs.declared.records.Place.{Place}
+pub use Rattle.queue_table.specs.declared.records.Place.{Place}
 use Rattle.queue_table.specs.Entries.{occurrences, entries_without, entries_counted, last_item, before, put_behind}
 
 -- how many queues there are; those from QUEUES on are empty

@@ -2,10 +2,8 @@
 use Rattle.std.specs.Prelude.{◌≡◌, ℕ, suc, zero, nat_lt, ◌⊎◌, Option, Some, None, ◌+◌, ◌-◌, ◌<◌, ◌≤◌, eqb, cond}
 use Rattle.step_record.specs.Keys.{keys_without}
 use Rattle.std.specs.Prelude.{List, [], ◌∷◌, ◌++◌, length, map, slice_index, slice_index_or, slice_set}
-use Rattle.step_record.specs.declared.item.Item.{Item}
-use Rattle.queue_table.specs.declared.records.Entry.{Entry}
-use Rattle.queue_table.specs.declared.slot.Slot.{Slot}
-use Rattle.queue_table.specs.Entries.{entry}
+pub use Rattle.queue_table.specs.declared.slot.Slot.{Slot}
+use Rattle.queue_table.specs.Entries.{Entry, Item, entry}
 use Rattle.queue_table.specs.Queues.{QUEUES, Queues, IsDistinct}
 
 -- the fields of the slots, as lists by slot number

@@ -1,9 +1,8 @@
 use Rattle.std.proofs.lemmas.Grind.{common_steps}
 use Rattle.std.proofs.Common.{◌≤◌, List, length, subst, sym, arith, ◌≡◌}
 use Rattle.std.proofs.lemmas.List.{nil_from_length}
-use Rattle.queue_table.specs.declared.slot.Slot.{Slot}
 use Rattle.queue_table.specs.Index.{capacity}
-use Rattle.queue_table.specs.QueueTable.{IsSame}
+use Rattle.queue_table.specs.QueueTable.{Slot, IsSame}
 use Rattle.queue_table.proofs.Growing.{held-first, same-first, first_loaded, sixteen}
 use Rattle.queue_table.proofs.growth.begin.Goals as goal
 

@@ -1,8 +1,6 @@
 use Rattle.std.proofs.Common.{◌∙◌, ◌+◌, ◌-◌, refl, ap, arith}
-use Rattle.queue_table.specs.declared.records.Entry.{Entry}
-use Rattle.queue_table.specs.Entries.{entry}
-use Rattle.queue_table.specs.declared.slot.Slot.{Slot}
-use Rattle.queue_table.specs.Ring.{FIRST, entries, slot_item, count}
+use Rattle.queue_table.specs.Entries.{Entry, entry}
+use Rattle.queue_table.specs.Ring.{Slot, FIRST, entries, slot_item, count}
 use Rattle.queue_table.specs.QueueTable.{from_first}
 use Rattle.queue_table.proofs.SlotWrites.{no_slot, field_at}
 use Rattle.queue_table.proofs.Finding.{count-from_first, from_first-next}

@@ -1,6 +1,5 @@
 use Rattle.std.proofs.Common.{◌≤◌, subst, ℕ}
-use Rattle.queue_table.specs.Ring.{order_of, count}
-use Rattle.queue_table.specs.declared.slot.Slot.{Slot}
+use Rattle.queue_table.specs.Ring.{Slot, order_of, count}
 use Rattle.queue_table.proofs.SlotWrites.{no_slot, field_at}
 use Rattle.queue_table.proofs.Ends.{last-free}
 use Rattle.queue_table.proofs.links.newest_free.Goals as goal

@@ -1,6 +1,5 @@
 use Rattle.std.proofs.Common.{arith}
-use Rattle.queue_table.specs.Ring.{order_of}
-use Rattle.queue_table.specs.declared.slot.Slot.{Slot}
+use Rattle.queue_table.specs.Ring.{Slot, order_of}
 use Rattle.queue_table.proofs.SlotWrites.{no_slot, field_at}
 use Rattle.queue_table.proofs.Ends.{newer-in}
 use Rattle.queue_table.proofs.links.next_slot.Goals as goal

@@ -1,7 +1,6 @@
 use Rattle.std.proofs.Common.{◌≤◌, suc, subst, arith}
 use Rattle.std.proofs.lemmas.List.{length-map}
-use Rattle.queue_table.specs.Ring.{order_of, count}
-use Rattle.queue_table.specs.declared.slot.Slot.{Slot}
+use Rattle.queue_table.specs.Ring.{Slot, order_of, count}
 use Rattle.queue_table.proofs.SlotWrites.{no_slot, field_at}
 use Rattle.queue_table.proofs.Holding.{used-within, older-within, place-read, tag-stands, tag-low}
 use Rattle.queue_table.proofs.links.place_of_slot.Goals as goal

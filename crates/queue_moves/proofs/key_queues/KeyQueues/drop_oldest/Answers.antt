@@ -1,8 +1,8 @@
 use Rattle.std.proofs.Common.{◌∙◌, List, None, ap, sym, subst}
 use Rattle.queue_table.specs.declared.records.Entry.{Entry}
-use Rattle.queue_table.specs.declared.slot.Slot.{Slot}
 use Rattle.queue_table.specs.Entries.{is_same_item, occurrences}
 use Rattle.queue_table.specs.Queues.{after_removal}
+use Rattle.queue_table.specs.declared.slot.Slot.{Slot}
 use Rattle.queue_table.specs.QueueTable.{queues, HoldsAt}
 use Rattle.queue_moves.specs.declared.records.Departure.TheVariants as departure
 use Rattle.queue_moves.specs.Moves.{leaving}

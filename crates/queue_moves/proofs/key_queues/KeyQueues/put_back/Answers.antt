@@ -1,8 +1,7 @@
 use Rattle.std.proofs.Common.{◌∙◌, List, Option, refl, ap, sym, subst}
-use Rattle.step_record.specs.declared.item.Item.{Item}
-use Rattle.queue_table.specs.declared.slot.Slot.{Slot}
-use Rattle.queue_table.specs.Entries.{entry}
+use Rattle.queue_table.specs.Entries.{Item, entry}
 use Rattle.queue_table.specs.Queues.{after_removal, after_return}
+use Rattle.queue_table.specs.declared.slot.Slot.{Slot}
 use Rattle.queue_table.specs.QueueTable.{queues}
 use Rattle.queue_moves.specs.Moves.{item_of}
 use Rattle.queue_moves.specs.Undoing.{item_in}

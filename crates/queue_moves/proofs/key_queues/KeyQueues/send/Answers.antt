@@ -1,8 +1,8 @@
 use Rattle.std.proofs.Common.{◌∙◌, List, refl, ap, sym, subst}
 use Rattle.queue_table.specs.declared.records.Entry.{Entry}
-use Rattle.queue_table.specs.declared.slot.Slot.{Slot}
 use Rattle.queue_table.specs.Entries.{entry}
 use Rattle.queue_table.specs.Queues.{after_send, place_in}
+use Rattle.queue_table.specs.declared.slot.Slot.{Slot}
 use Rattle.queue_table.specs.QueueTable.{queues, HoldsAt}
 use Rattle.queue_moves.specs.declared.records.Change.TheVariants as change
 use Rattle.queue_moves.specs.Moves.{item_of, goes}

@@ -1,7 +1,6 @@
 use Rattle.std.proofs.Common.{◌∙◌, ap, List}
-use Rattle.queue_table.specs.declared.slot.Slot.{Slot}
 use Rattle.queue_table.specs.Queues.{QUEUES, items_below}
-use Rattle.queue_table.specs.Ring.{lists}
+use Rattle.queue_table.specs.Ring.{Slot, lists}
 use Rattle.queue_table.proofs.Kept.{items-few, all-items}
 use Rattle.queue_table.proofs.queue_table.QueueTable.count.Goals as goal
 

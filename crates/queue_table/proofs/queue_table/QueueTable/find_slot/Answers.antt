@@ -1,7 +1,6 @@
 use Rattle.std.proofs.Common.{◌≡◌, List, None, length, ap, subst, arith, rules}
 use Rattle.queue_table.specs.Index.{IsFound}
-use Rattle.queue_table.specs.declared.slot.Slot.{Slot}
-use Rattle.queue_table.specs.Ring.{entries, slot_item, count, used, order_of, lists}
+use Rattle.queue_table.specs.Ring.{Slot, entries, slot_item, count, used, order_of, lists}
 use Rattle.queue_table.specs.Queues.{queue_holding, IsDistinct}
 use Rattle.queue_table.specs.QueueTable.{IsInSlots, IsSlotOf}
 use Rattle.queue_table.proofs.Finding.{slot-found, slot-missing}

@@ -1,6 +1,5 @@
 use Rattle.std.proofs.Common.{◌∙◌, ap, List, length}
-use Rattle.queue_table.specs.declared.slot.Slot.{Slot}
-use Rattle.queue_table.specs.Ring.{lists}
+use Rattle.queue_table.specs.Ring.{Slot, lists}
 use Rattle.queue_table.proofs.Kept.{length-queue}
 use Rattle.queue_table.proofs.queue_table.QueueTable.len.Goals as goal
 

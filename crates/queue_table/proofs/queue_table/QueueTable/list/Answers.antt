@@ -1,7 +1,6 @@
 use Rattle.std.proofs.Common.{◌≡◌, ◌∙◌, ap, List, map, suc, sym, subst, arith}
-use Rattle.queue_table.specs.declared.slot.Slot.{Slot}
 use Rattle.queue_table.specs.Entries.{items_of}
-use Rattle.queue_table.specs.Ring.{entries, newers, slot_item, walk, lists, IsRing, olders, ring, order_of}
+use Rattle.queue_table.specs.Ring.{Slot, entries, newers, slot_item, walk, lists, IsRing, olders, ring, order_of}
 use Rattle.queue_table.proofs.Kept.{listed, some-slots}
 use Rattle.queue_table.proofs.queue_table.QueueTable.list.Goals as goal
 

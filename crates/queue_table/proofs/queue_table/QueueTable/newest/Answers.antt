@@ -1,6 +1,5 @@
 use Rattle.std.proofs.Common.{◌≡◌, ◌∙◌, List, Some, suc, sym, ap, subst}
-use Rattle.queue_table.specs.declared.slot.Slot.{Slot}
-use Rattle.queue_table.specs.Ring.{entries, slot_entry, order_of, last_of, HasItems}
+use Rattle.queue_table.specs.Ring.{Slot, entries, slot_entry, order_of, last_of, HasItems}
 use Rattle.queue_table.specs.QueueTable.{entry_at, IsKept, IsUsed}
 use Rattle.queue_table.proofs.Orders.{section-used}
 use Rattle.queue_table.proofs.Calls.{slot-within}

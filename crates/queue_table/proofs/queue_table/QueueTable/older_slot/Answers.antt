@@ -2,8 +2,7 @@ use Rattle.std.proofs.Common.{◌<◌, ℕ, List, Option, Some, None, length, sy
 use Rattle.std.specs.Prelude.{IfSome}
 use Rattle.std.specs.Option.{unwrap_or}
 use Rattle.step_record.specs.declared.item.Item.{Item}
-use Rattle.queue_table.specs.declared.slot.Slot.{Slot}
-use Rattle.queue_table.specs.Ring.{order_of, IsQueued}
+use Rattle.queue_table.specs.Ring.{Slot, order_of, IsQueued}
 use Rattle.queue_table.specs.QueueTable.{IsSlotOf}
 use Rattle.queue_table.proofs.Calls.{slot-within}
 use Rattle.queue_table.proofs.Kept.{before-within}

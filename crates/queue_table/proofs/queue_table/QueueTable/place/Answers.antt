@@ -1,6 +1,5 @@
 use Rattle.std.proofs.Common.{◌≡◌, ◌∙◌, List, Some, sym, subst}
-use Rattle.queue_table.specs.declared.slot.Slot.{Slot}
-use Rattle.queue_table.specs.Ring.{entries, slot_item, lists}
+use Rattle.queue_table.specs.Ring.{Slot, entries, slot_item, lists}
 use Rattle.queue_table.specs.Queues.{place_in}
 use Rattle.queue_table.specs.QueueTable.{IsKept, CanLeave}
 use Rattle.queue_table.proofs.Moves.{can-leave}

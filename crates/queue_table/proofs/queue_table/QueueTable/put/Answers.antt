@@ -1,7 +1,6 @@
 use Rattle.std.proofs.Common.{◌≡◌, ◌∙◌, ◌≤◌, ◌++◌, sym, refl, subst, arith, List, suc, length, take, drop}
-use Rattle.queue_table.specs.declared.slot.Slot.{Slot}
 use Rattle.queue_table.specs.Queues.{IsDistinct}
-use Rattle.queue_table.specs.Ring.{entries, slot_item, count, order_of, lists, IsSent}
+use Rattle.queue_table.specs.Ring.{Slot, entries, slot_item, count, order_of, lists, IsSent}
 use Rattle.queue_table.specs.QueueTable.{IsBehind, IsKept}
 use Rattle.queue_table.proofs.QueueLists.{absent}
 use Rattle.queue_table.proofs.Calls.{counted-sent, some-counted}

@@ -1,6 +1,5 @@
 use Rattle.std.proofs.Common.{◌∙◌, sym, ap, subst}
-use Rattle.queue_table.specs.declared.records.Entry.{Entry}
-use Rattle.queue_table.specs.Entries.{entry, is_same_item, IsGap}
+use Rattle.queue_table.specs.Entries.{Entry, entry, is_same_item, IsGap}
 use Rattle.queue_table.specs.Queues.{Queues, after_removal, after_return}
 use Rattle.queue_table.specs.QueueTable.{queues}
 use Rattle.queue_table.proofs.MoveBack.{out-none}

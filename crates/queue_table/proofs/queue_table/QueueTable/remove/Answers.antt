@@ -1,7 +1,6 @@
 use Rattle.std.proofs.Common.{◌≡◌, ◌∙◌, ◌++◌, subst, arith, refl, List, Some, length, take, drop, inr}
-use Rattle.queue_table.specs.declared.slot.Slot.{Slot}
 use Rattle.queue_table.specs.Queues.{after_removal, place_in}
-use Rattle.queue_table.specs.Ring.{entries, slot_item, count, used, order_of, sent, lists, IsFreed}
+use Rattle.queue_table.specs.Ring.{Slot, entries, slot_item, count, used, order_of, sent, lists, IsFreed}
 use Rattle.queue_table.specs.QueueTable.{IsCounted, IsKept}
 use Rattle.queue_table.proofs.Kept.{known, on_view}
 use Rattle.queue_table.proofs.Renewing.{leaves}

@@ -1,7 +1,6 @@
 use Rattle.std.proofs.Common.{◌≡◌, ◌∙◌, ◌++◌, subst, arith, List, suc, length, take, drop, inr, refl, Some}
-use Rattle.queue_table.specs.declared.slot.Slot.{Slot}
 use Rattle.queue_table.specs.Queues.{after_removal, place_in}
-use Rattle.queue_table.specs.Ring.{entries, slot_item, count, used, order_of, order_without, sent, lists, IsSent}
+use Rattle.queue_table.specs.Ring.{Slot, entries, slot_item, count, used, order_of, order_without, sent, lists, IsSent}
 use Rattle.queue_table.specs.QueueTable.{IsCounted, IsIndexOf, IsKept}
 use Rattle.queue_table.proofs.QueueLists.{absent, still-absent}
 use Rattle.queue_table.proofs.Kept.{known, on_view}

@@ -1,9 +1,7 @@
 use Rattle.std.proofs.Common.{◌≡◌, ◌∙◌, ◌++◌, sym, ap, subst, arith, List, length, take, drop}
-use Rattle.step_record.specs.declared.item.Item.{Item}
-use Rattle.queue_table.specs.declared.slot.Slot.{Slot}
-use Rattle.queue_table.specs.Entries.{entry}
+use Rattle.queue_table.specs.Entries.{Item, entry}
 use Rattle.queue_table.specs.Queues.{after_removal}
-use Rattle.queue_table.specs.Ring.{entries, slot_item, lists, Order, ChangesOnlyEntry}
+use Rattle.queue_table.specs.Ring.{Slot, entries, slot_item, lists, Order, ChangesOnlyEntry}
 use Rattle.queue_table.specs.QueueTable.{IsKept}
 use Rattle.queue_table.proofs.Counting.{order-counted, lists-counted, others-counted, kept-counted}
 use Rattle.queue_table.proofs.Kept.{on_view}

@@ -1,9 +1,7 @@
 use Rattle.std.proofs.Common.{◌≡◌, ◌∙◌, ◌++◌, sym, subst, arith, List, suc, length, take, drop, refl, Some}
-use Rattle.step_record.specs.declared.item.Item.{Item}
-use Rattle.queue_table.specs.declared.slot.Slot.{Slot}
-use Rattle.queue_table.specs.Entries.{entry}
+use Rattle.queue_table.specs.Entries.{Item, entry}
 use Rattle.queue_table.specs.Queues.{after_removal, place_in}
-use Rattle.queue_table.specs.Ring.{entries, slot_item, order_of, sent, lists, IsSent}
+use Rattle.queue_table.specs.Ring.{Slot, entries, slot_item, order_of, sent, lists, IsSent}
 use Rattle.queue_table.specs.QueueTable.{IsCounted, IsKept}
 use Rattle.queue_table.proofs.QueueLists.{absent-taken}
 use Rattle.queue_table.proofs.Kept.{on_view}

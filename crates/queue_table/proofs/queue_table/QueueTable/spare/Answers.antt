@@ -1,6 +1,5 @@
 use Rattle.std.proofs.Common.{◌∙◌, ap, arith, List, length}
-use Rattle.queue_table.specs.declared.slot.Slot.{Slot}
-use Rattle.queue_table.specs.Ring.{order_of}
+use Rattle.queue_table.specs.Ring.{Slot, order_of}
 use Rattle.queue_table.proofs.queue_table.QueueTable.spare.Goals as goal
 
 pub returns : goal.returns

@@ -1,7 +1,6 @@
 use Rattle.std.proofs.Common.{rules, Some, ◌∙◌, ap, sym}
 use Rattle.queue_table.specs.QueueTable.{queues}
-use Rattle.segments.specs.declared.records.Queue.{Queue}
-use Rattle.segments.specs.Queues.{queues_after_move}
+use Rattle.segments.specs.Queues.{Queue, queues_after_move}
 use Rattle.segments.specs.Moves.{move_record}
 use Rattle.segments.proofs.Calls.{IsMade, distinct-shown, holding-is, missing-is, sent}
 use Rattle.segments.proofs.segments.Segments.refresh.Goals as goal
