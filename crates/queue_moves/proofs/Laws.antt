@@ -10,7 +10,7 @@ use Rattle.queue_table.specs.Entries.{Item, is_same_item, entry, occurrences, en
 use Rattle.queue_table.specs.declared.records.Place.{Place}
 use Rattle.queue_table.specs.Queues.{QUEUES, Queues, queue_holding, place_at, place_in, IsDistinct, after_push, after_removal, after_send, after_count, after_return}
 use Rattle.queue_table.proofs.EntryLists.{same-refl, times-append, times-without}
-use Rattle.queue_table.proofs.QueueLists.{absent, is_absent, still-absent, with-queue-same, with-queue-other}
+use Rattle.queue_table.proofs.QueueLists.{absent, is_absent, still-absent}
 use Rattle.queue_table.proofs.MoveBack.{gap, move-back, taken-sent, out-back, pushed-back, high-empty}
 use Rattle.queue_moves.specs.declared.records.KeyMove.{KeyMove}
 use Rattle.queue_moves.specs.declared.records.Change.TheVariants as change
@@ -31,7 +31,7 @@ pub key-item : (i : Item) → i.node ≡ 0 → item_of i.key ≡ i
 key-item i h = ap (λ (x : ℕ). let r : Item = record { key = i.key; node = x } in r) (sym h)
 
 newest-in : (e y : Entry) (l : List Entry) → y.item.node ≡ 0 → nodes_of l ≡ 0 → newest_from (Some y) l ≡ Some e → e.item.node ≡ 0
-newest-in e y [] hy hl h = let same : y ≡ e = cc h in let n = ap (λ (x : Entry). x.item.node) same in omega (arith, hy, n)
+newest-in e y [] hy hl h = grind arith
 newest-in e y (x ∷ l) hy hl h = newest-in e x l (omega (arith, hl)) (omega (arith, hl)) h
 
 pub newest-node : (e : Entry) (l : List Entry) → nodes_of l ≡ 0 → newest_of l ≡ Some e → e.item.node ≡ 0
@@ -43,17 +43,13 @@ nodes-put None e l = refl
 nodes-put (Some a) e [] = refl
 nodes-put (Some a) e (x ∷ l) = let r = nodes-put (Some a) e l in grind (arith, nat_tests)
 
-nodes-out : (i : Item) (l : List Entry) → nodes_of l ≡ 0 → nodes_of (entries_without i l) ≡ 0
-nodes-out i l z = omega (arith, nodes-without i l, z)
-
 -- an entry that comes back
 pub keys-back : (q : ℕ) (older : Option Item) (e : Entry) (s : Queues) → e.item.node ≡ 0 → HasKeys s → HasKeys (after_return q older e (after_removal e.item s))
 keys-back q older e s n k j =
-    let out = nodes-out e.item (s q) (k q) in
-    elim (cases_eq j q) [
-      | inl z ↦ ap (λ x. nodes_of (after_return q older e (after_removal e.item s) x)) z ∙ ap nodes_of (with-queue-same q _ (after_removal e.item s)) ∙ nodes-put older e (entries_without e.item (s q)) ∙ omega (arith, n, out)
-      | inr z ↦ ap nodes_of (with-queue-other q j _ (after_removal e.item s) z) ∙ nodes-out e.item (s j) (k j)
-    ]
+    let put = nodes-put older e (entries_without e.item (s q)) in
+    let less = λ (x : ℕ). nodes-without e.item (s x) in
+    let e = cases_eq j q in
+    grind (arith, nat_tests)
 
 -- ---- what stands elsewhere
 
@@ -64,26 +60,20 @@ first-other e o (x ∷ l) h z = grind (arith, nat_tests)
 pub off-after-send : (i : Item) (e : Entry) (to q : ℕ) (s : Queues) → is_same_item i e.item ≡ false → occurrences i (s q) ≡ 0 → occurrences i (after_send e to s q) ≡ 0
 off-after-send i e to q s h z =
     let less = times-without e.item i (s q) in
-    elim (cases_eq q to) [
-      | inl g ↦
-          let one : occurrences i (e ∷ []) ≡ 0 = rw h refl in
-          let at_to = ap (λ x. occurrences i (s x)) g in
-          let less_to = times-without e.item i (s to) in
-          ap (λ x. occurrences i (after_send e to s x)) g ∙ ap (occurrences i) (with-queue-same to _ (after_removal e.item s))
-          ∙ times-append i (entries_without e.item (s to)) (e ∷ []) ∙ omega (arith, one, at_to, less_to, z)
-      | inr g ↦ ap (occurrences i) (with-queue-other to q _ (after_removal e.item s) g) ∙ omega (arith, less, z)
-    ]
+    let less_to = times-without e.item i (s to) in
+    let put = times-append i (entries_without e.item (s to)) (e ∷ []) in
+    let c = cases_eq q to in
+    grind (arith, nat_tests)
 
 -- ---- one move of a table's entry
 
 -- an entry that was put into a queue stands there
 there-pushed : (i : Item) (to n : ℕ) (s : Queues) → to < QUEUES → queue_holding i (after_push to (entry i n) s) ≢ None
 there-pushed i to n s w none =
-    let own : is_same_item i i ≡ true = same-refl i in
+    let own = same-refl i in
     let zero_of = absent i (after_push to (entry i n) s) none to w in
-    let sum = ap (occurrences i) (with-queue-same to _ s) ∙ times-append i (s to) (entry i n ∷ []) in
-    let sum2 = rw own at sum in
-    omega (arith, zero_of, sum2)
+    let put = times-append i (s to) (entry i n ∷ []) in
+    grind (arith, nat_tests)
 
 module _ (e : Entry) (s : Queues) (t : IsTabled s) (at : Stands e s) where
   abbrev pub front : List Entry
@@ -195,10 +185,7 @@ own-renewed k s t none i =
 
 pub no-front : (e : Entry) (l : List Entry) → oldest_of l ≡ Some e → last_item (before e.item l) ≡ None
 no-front e [] h = absurd (cc h)
-no-front e (x ∷ l) h =
-    let same : x ≡ e = cc h in
-    let own_item : is_same_item e.item x.item ≡ true = rw same (same-refl e.item) in
-    rw own_item refl
+no-front e (x ∷ l) h = let own = same-refl e.item in grind (arith, nat_tests)
 
 module _ (e : Entry) (q : ℕ) (s : Queues) (t : IsTabled s) (w : q < QUEUES) (first : oldest_of (s q) ≡ Some e) where
   abbrev at_end : Stands e s

@@ -1,13 +1,13 @@
 -- What the calls make of the queues of a table of keys.
 use Rattle.std.proofs.Common.{◌≡◌, ℕ, suc, zero, ◌+◌, ◌-◌, ◌<◌, ◌≤◌, true, false, cond, eqb, nat_lt, Option, Some, None, List, [], ◌∷◌, ◌++◌, ap, ◌∙◌, sym, refl, arith, ◌⊎◌, inl, inr}
 use Rattle.std.proofs.Math.Path.{fun_ext}
-use Rattle.std.proofs.lemmas.Bool.{cases_Bool, cases_eq, cases_lt, lt-ltb, le-ltb}
+use Rattle.std.proofs.lemmas.Bool.{cases_eq, cases_lt, lt-ltb, le-ltb}
 use Rattle.std.proofs.lemmas.List as ListLemmas
 use Rattle.std.proofs.lemmas.Bool.Decides.{nat_tests}
 use Rattle.step_record.specs.Keys.{has_key, keys_without}
 use Rattle.queue_table.specs.declared.records.Entry.{Entry}
 use Rattle.queue_table.specs.Entries.{Item, is_same_item, entry, occurrences, entries_without, entries_counted, oldest_of, before}
-use Rattle.queue_table.specs.Queues.{QUEUES, Queues, with_queue, queue_below, queue_holding, times_below, after_push, after_removal, after_send, after_count}
+use Rattle.queue_table.specs.Queues.{QUEUES, Queues, with_queue, queue_below, queue_holding, after_push, after_removal, after_send, after_count}
 use Rattle.queue_table.proofs.EntryLists.{same-true, same-refl, times-append}
 use Rattle.queue_table.proofs.QueueLists.{IsAbsent, absent, absent-taken, placed, queue-few, distinct-taken, with-queue-same, with-queue-other, times-with, times-none}
 use Rattle.queue_table.proofs.MoveBack.{StandsIn, front-none, back-none, rest, without-none}
@@ -42,10 +42,6 @@ counted-own i n (x ∷ l) h few =
 
 pub counted-none : (i : Item) (n : ℕ) (l : List Entry) → occurrences i l ≡ 0 → entries_counted i n l ≡ l
 counted-none i n l z = counted-own i n l (inr z) (omega (arith, z))
-
-counted-append : (i : Item) (n : ℕ) (xs ys : List Entry) → entries_counted i n (xs ++ ys) ≡ entries_counted i n xs ++ entries_counted i n ys
-counted-append i n [] ys = refl
-counted-append i n (x ∷ xs) ys = let r = counted-append i n xs ys in grind (arith, nat_tests)
 
 -- what follows an item that stands in the list
 abbrev pub behind : Item → List Entry → List Entry
@@ -86,17 +82,12 @@ has-key-none k l h m = has-occurs k l h ∙ le-ltb 0 (occurrences (item_of k) l)
 
 pub oldest-node : (e : Entry) (l : List Entry) → nodes_of l ≡ 0 → oldest_of l ≡ Some e → e.item.node ≡ 0
 oldest-node e [] z h = absurd (cc h)
-oldest-node e (x ∷ l) z h =
-    let same : x ≡ e = cc h in
-    omega (arith, z, ap (λ (y : Entry). y.item.node) same)
+oldest-node e (x ∷ l) z h = grind arith
 
 -- ---- queues by number
 
 with-queue-is : (q : ℕ) (l : List Entry) (s t : Queues) → t q ≡ l → ((j : ℕ) → (j ≡ q → ⊥) → t j ≡ s j) → t ≡ with_queue q l s
-with-queue-is q l s t h off = fun_ext (λ j. elim (cases_eq j q) [
-  | inl z ↦ ap t z ∙ h ∙ sym (with-queue-same q l s) ∙ ap (with_queue q l s) (sym z)
-  | inr d ↦ off j d ∙ sym (with-queue-other q j l s d)
-])
+with-queue-is q l s t h off = fun_ext (λ j. let o = off j in let e = cases_eq j q in grind (arith, nat_tests))
 
 held-below : (n : ℕ) (i : Item) (s : Queues) (q : ℕ) → queue_below n i s ≡ Some q → (q < n) × (1 ≤ occurrences i (s q))
 held-below zero i s q h = absurd (cc h)
@@ -117,27 +108,17 @@ nowhere-at i (Some p) s e = absurd (cc e)
 pub nowhere-standing : (i : Item) (s : Queues) → standing i s ≡ None → queue_holding i s ≡ None
 nowhere-standing i s h = nowhere-at i (queue_holding i s) s h
 
-pub oldest-at : (s : Queues) (q : ℕ) (e : Entry) → oldest_of (s q) ≡ Some e → (l : List Entry) × (s q ≡ e ∷ l)
-oldest-at s q e h = first (s q) h
-  where
-    first : (v : List Entry) → oldest_of v ≡ Some e → (l : List Entry) × (v ≡ e ∷ l)
-    first [] h = absurd (cc h)
-    first (x ∷ l) h = let z : x ≡ e = cc h in (l, ap (λ y. y ∷ l) z)
-
 -- ---- tabled queues
 
 module _ (s : Queues) (t : IsTabled s) where
   pub few : (q : ℕ) (i : Item) → occurrences i (s q) ≤ 1
-  few q i = elim (cases_lt q QUEUES) [
-    | inl w ↦ queue-few q s w t.distinct i
-    | inr w ↦ let z = ap (occurrences i) (t.high q w) in omega (arith, z)
-  ]
+  few q i =
+      let low = λ (w : q < QUEUES). queue-few q s w t.distinct i in
+      let high = λ (w : QUEUES ≤ q). ap (occurrences i) (t.high q w) in
+      grind arith
 
   low : (q : ℕ) (i : Item) → 1 ≤ occurrences i (s q) → q < QUEUES
-  low q i h = elim (cases_lt q QUEUES) [
-    | inl w ↦ w
-    | inr w ↦ absurd (let z = ap (occurrences i) (t.high q w) in omega (arith, z, h))
-  ]
+  low q i h = let high = λ (w : QUEUES ≤ q). ap (occurrences i) (t.high q w) in grind arith
 
   -- an item that stands in one queue stands in no other one
   pub elsewhere : (q : ℕ) (i : Item) → 1 ≤ occurrences i (s q) → (j : ℕ) → (j ≡ q → ⊥) → occurrences i (s j) ≡ 0
@@ -149,10 +130,7 @@ module _ (s : Queues) (t : IsTabled s) where
   ]
 
   pub nowhere : (i : Item) → queue_holding i s ≡ None → (j : ℕ) → occurrences i (s j) ≡ 0
-  nowhere i h j = elim (cases_lt j QUEUES) [
-    | inl w ↦ absent i s h j w
-    | inr w ↦ ap (occurrences i) (t.high j w)
-  ]
+  nowhere i h j = let low = absent i s h j in let high = λ (w : QUEUES ≤ j). ap (occurrences i) (t.high j w) in grind arith
 
   pub counts-absent : (i : Item) (n : ℕ) → queue_holding i s ≡ None → after_count i n s ≡ s
   counts-absent i n h = fun_ext (λ j. counted-none i n (s j) (nowhere i h j))
@@ -180,18 +158,8 @@ module _ (s : Queues) (t : IsTabled s) where
   pub absent-gone : (i : Item) → queue_holding i s ≡ None → after_removal i s ≡ s
   absent-gone i h = fun_ext (λ j. without-none i (s j) (nowhere i h j))
 
-  standing-counted : (q : ℕ) (e : Entry) (a b : List Entry) (m : ℕ) → s q ≡ a ++ e ∷ b → after_count e.item m s ≡ with_queue q (a ++ entry e.item m ∷ b) s
-  standing-counted q e a b m h = with-queue-is q (a ++ entry e.item m ∷ b) s (after_count e.item m s)
-      (let own : is_same_item e.item e.item ≡ true = same-refl e.item in
-      ap (entries_counted e.item m) h ∙ counted-append e.item m a (e ∷ b)
-      ∙ rw (own, counted-none e.item m a (front-none q e s t.distinct (cut q e a b h)), counted-none e.item m b (back-none q e s t.distinct (cut q e a b h))) refl)
-      (λ j d. counted-none e.item m (s j) (elsewhere q e.item (at-once q e a b h) j d))
-
   nodes-at : (q : ℕ) (e : Entry) (a b : List Entry) → s q ≡ a ++ e ∷ b → nodes_of a + (e.item.node + nodes_of b) ≡ 0
   nodes-at q e a b h = sym (ap nodes_of h ∙ nodes-append a (e ∷ b)) ∙ t.keys q
-
-  node-none : (q : ℕ) (e : Entry) (a b : List Entry) → s q ≡ a ++ e ∷ b → e.item.node ≡ 0
-  node-none q e a b h = let z = nodes-at q e a b h in omega (arith, z)
 
   module _ (k : ℕ) where
     stands-in : (q n : ℕ) → 1 ≤ occurrences (item_of k) (s q) → count_of (item_of k) (s q) ≡ n → StandsAs k q n s
@@ -226,40 +194,18 @@ module _ (s : Queues) (t : IsTabled s) where
           keys-taken k (s j) (t.keys j) ∙ ap keys_of (without-none (item_of k) (s j) none),
         )
 
-    pub recounted : (q n m : ℕ) (at : StandsAs k q n s) → after_count (item_of k) m s ≡ with_queue q (at.front ++ entry (item_of k) m ∷ at.back) s
-    recounted q n m at = standing-counted q (entry (item_of k) n) at.front at.back m at.whole
-
-    pub sent : (q n to m : ℕ) (at : StandsAs k q n s) → after_send (entry (item_of k) m) to s ≡ after_push to (entry (item_of k) m) (with_queue q (at.front ++ at.back) s)
-    sent q n to m at = ap (after_push to (entry (item_of k) m)) (standing-gone q (entry (item_of k) n) at.front at.back at.whole)
-
-    pub joined : (to m : ℕ) → standing (item_of k) s ≡ None → after_send (entry (item_of k) m) to s ≡ after_push to (entry (item_of k) m) s
-    joined to m h = ap (after_push to (entry (item_of k) m)) (absent-gone (item_of k) (nowhere-standing (item_of k) s h))
-
 -- ---- they stay tabled
 
 pub tabled-push : (s : Queues) → IsTabled s → (q : ℕ) (e : Entry) → q < QUEUES → e.item.node ≡ 0 → IsAbsent e.item s → IsTabled (after_push q e s)
 tabled-push s t q e w node none = record {
-  keys = λ j. elim (cases_eq j q) [
-    | inl z ↦
-        ap (λ x. nodes_of (after_push q e s x)) z
-        ∙ ap nodes_of (with-queue-same q (s q ++ e ∷ []) s)
-        ∙ (let a = nodes-append (s q) (e ∷ []) in let b = t.keys q in omega (arith, a, b, node))
-    | inr d ↦ ap nodes_of (with-queue-other q j (s q ++ e ∷ []) s d) ∙ t.keys j
-  ];
+  keys = λ j. (let a = nodes-append (s q) (e ∷ []) in let b = t.keys j in let c = cases_eq j q in grind (arith, nat_tests));
   distinct = λ i. (
       let a = times-with QUEUES q i (s q ++ e ∷ []) s w in
       let b = times-append i (s q) (e ∷ []) in
       let c = t.distinct i in
-      elim (cases_Bool (is_same_item i e.item)) as (λ _. times_below QUEUES i (after_push q e s) ≤ 1) [
-        | inl g ↦
-            let z : i ≡ e.item = same-true i e.item g in
-            let none2 : times_below QUEUES i s ≡ 0 = ap (λ x. times_below QUEUES x s) z ∙ times-none QUEUES e.item s none in
-            let b2 : occurrences i (s q ++ e ∷ []) ≡ occurrences i (s q) + (1 + 0) = rw g at b in
-            omega (arith, a, b2, none2)
-        | inr g ↦
-            let b2 : occurrences i (s q ++ e ∷ []) ≡ occurrences i (s q) + (0 + 0) = rw g at b in
-            omega (arith, a, b2, c)
-      ]);
+      let z = times-none QUEUES e.item s none in
+      let same = same-true i e.item in
+      grind (arith, nat_tests));
   high = λ j h. with-queue-other q j (s q ++ e ∷ []) s (λ z. omega (arith, z, h, w)) ∙ t.high j h;
 }
 
@@ -331,10 +277,7 @@ turn-none s from to less h = ap (λ (v : List Entry). turned to less (oldest_of 
 
 pub due-none : (s : Queues) (n from to less least : ℕ) → s from ≡ [] → 1 ≤ least → turns_due n from to less least s ≡ 0
 due-none s zero from to less least h w = refl
-due-none s (suc n) from to less least h w =
-    let few : nat_lt (count_or 0 (oldest_of (s from))) least ≡ true =
-    ap (λ (v : List Entry). nat_lt (count_or 0 (oldest_of v)) least) h ∙ lt-ltb 0 least w in
-    rw few refl
+due-none s (suc n) from to less least h w = grind (arith, nat_tests)
 
 module _ (s : Queues) (n from to less least : ℕ) (e : Entry) (l : List Entry) (h : s from ≡ e ∷ l) where
   count-is : nat_lt (count_or 0 (oldest_of (s from))) least ≡ nat_lt e.count least
@@ -348,8 +291,7 @@ module _ (s : Queues) (n from to less least : ℕ) (e : Entry) (l : List Entry) 
   due-more f = rw (count-is ∙ f) refl
 
 twice-with : (q : ℕ) (l m : List Entry) (s : Queues) → with_queue q l (with_queue q m s) ≡ with_queue q l s
-twice-with q l m s = with-queue-is q l s (with_queue q l (with_queue q m s)) (with-queue-same q l (with_queue q m s))
-    (λ j d. with-queue-other q j l (with_queue q m s) d ∙ with-queue-other q j m s d)
+twice-with q l m s = fun_ext (λ j. grind (arith, nat_tests))
 
 turned-none : (n less : ℕ) → turned_list n less [] ≡ []
 turned-none zero less = refl
