@@ -50,15 +50,13 @@ some-counted lengths o s k c w n = let a = c s w in let b = count-length k (o s)
 pub spare-sent : (k q b : ℕ) (o : Order) → length (sent k (suc q) b o 0) + count k (o 0) ≡ length (o 0)
 spare-sent k q b o =
     let a = ap length (with-other (suc q) 0 (put_before k b (keys_without k (o (suc q)))) (order_without k o) (λ e. omega (arith, e))) in
-    let c = length-without k (o 0) in
-    omega (arith, a, c)
+    omega (arith, a, length-without)
 
 pub spare-freed : (k b : ℕ) (o : Order) → count k (o 0) ≡ 0 → length (sent k 0 b o 0) ≡ length (o 0) + 1
 spare-freed k b o n =
     let a = ap length (with-same 0 (put_before k b (keys_without k (o 0))) (order_without k o)) in
     let d = length-put k b (keys_without k (o 0)) in
-    let c = length-without k (o 0) in
-    omega (arith, a, c, d, n)
+    omega (arith, a, length-without, d, n)
 
 pub used-not-free : (k : ℕ) (o : Order) → IsOnce o → 1 ≤ count k (used o) → count k (o 0) ≡ 0
 used-not-free k o u n = let a = count-parts-ring k o in let b = u k in omega (arith, a, b, n)

@@ -47,10 +47,7 @@ times-used i o es = below QUEUES
     below zero = refl
     below (suc n) =
         let f : ℕ → Entry = λ k. slot_entry es k in
-        let a = ap (occurrences i) (map-append f (o (suc n)) (used_below n o)) in
-        let b = times-append i (map f (o (suc n))) (map f (used_below n o)) in
-        let r = below n in
-        omega (arith, a, b, r)
+        omega (arith, ap (occurrences i) (map-append f (o (suc n)) (used_below n o)), times-append, below n)
 
 -- two slots in use hold different items
 pub alone : (o : Order) (es : List Entry) (k j : ℕ) → IsDistinct (lists_of o es) → 1 ≤ count k (used o) → 1 ≤ count j (used o) → is_same_item (slot_item es k) (slot_item es j) ≡ eqb k j
@@ -131,10 +128,8 @@ put-cut f k b c us [] u n e = ap (λ x. put_before k x (us ++ [])) (sym e) ∙ (
 put-cut f k b c us (v ∷ vs) u n e =
     let none : count v us ≡ 0 = (
     let t = times-map f (f v).item v (us ++ v ∷ vs) (same-refl (f v).item) in
-    let a = count-append v us (v ∷ vs) in
-    let h = count-here v vs in
     let w = u (f v).item in
-    omega (arith, t, a, h, w)) in
+    omega (arith, t, count-append, count-here v vs, w)) in
     ap (λ x. put_before k x (us ++ v ∷ vs)) (sym e) ∙ (put-sentinel k v us vs none ∙ append_assoc us (k ∷ []) (v ∷ vs))
 
 pub map-put : (q k b : ℕ) (older : Option Item) (es : List Entry) (l : List ℕ) → ((j : Item) → occurrences j (map (λ x. slot_entry es x) l) ≤ 1) → count (suc (suc q)) l ≡ 0 → IsBehind b q older es l →

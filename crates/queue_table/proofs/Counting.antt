@@ -11,8 +11,7 @@ use Rattle.queue_table.proofs.Splices.{count-here}
 use Rattle.queue_table.proofs.Orders.{section-used, order-short}
 use Rattle.queue_table.proofs.Contents.{alone}
 use Rattle.queue_table.proofs.Indexing.{same-map}
-use Rattle.queue_table.proofs.Renewing.{written-entry, other-entry, same-items}
-use Rattle.queue_table.proofs.Staying.{keeps-others}
+use Rattle.queue_table.proofs.Renewing.{written-entry, other-entry, same-items, keeps-others}
 use Rattle.queue_table.proofs.Kept.{kept-on}
 use Rattle.queue_table.proofs.Moves.{IsLoose}
 

@@ -62,8 +62,7 @@ module _ (slots : List Slot) (o : Order) (h : IsQueued slots o) (q but j : ℕ) 
   cut-after : 1 ≤ count j (order_without but o (suc q)) → IsBehind (next_but (newers slots) j but) q (Some (slot_item (entries slots) j)) (entries slots) (order_without but o (suc q))
   cut-after n =
       let f : ℕ → Entry = λ k. slot_entry (entries slots) k in
-      let c = count-without but j (o (suc q)) in
-      let s : IsSplit j (o (suc q)) = split_at j (o (suc q)) (few j) (omega (arith, c, n)) in
+      let s : IsSplit j (o (suc q)) = split_at j (o (suc q)) (few j) (omega (arith, count-without, n)) in
       let split_links : IsLinked (newers slots) (olders slots) (suc q) (s.front ++ j ∷ s.back) (suc (suc q)) = subst (λ (l : List ℕ). IsLinked (newers slots) (olders slots) (suc q) l (suc (suc q))) s.whole links in
       let parts = linked-split (newers slots) (olders slots) (suc q) s.front j s.back (suc (suc q)) split_links in
       let apart : eqb but j ≡ false = ne_eqb but j (λ z. (let g = gone but (o (suc q)) in let m = ap (λ y. count y (keys_without but (o (suc q)))) z in omega (arith, g, m, n))) in

@@ -60,8 +60,7 @@ pub newer-in : (slots : List Slot) (o : Order) → IsRing (newers slots) (olders
 newer-in slots o x zero w =
     let e = newer-start (newers slots) (olders slots) 0 (ring o) 0 x.linked in
     let s = start-stands (ring o) 0 in
-    let c = count-append (start_of (ring o) 0) (ring o) (0 ∷ []) in
-    let n = x.within (start_of (ring o) 0) (omega (arith, s, c)) in
+    let n = x.within (start_of (ring o) 0) (omega (arith, s, count-append)) in
     let l = slots-length slots in
     omega (arith, e, n, l)
 newer-in slots o x (suc k) w =

@@ -63,10 +63,9 @@ pub data StandsIn (k n : ℕ) (o : Order) : Type 0 where
 stands-below : (n k : ℕ) (o : Order) → 1 ≤ count k (used_below n o) → StandsIn k n o
 stands-below zero k o h = absurd (omega (arith, h))
 stands-below (suc n) k o h =
-    let c = count-append k (o (suc n)) (used_below n o) in
     elim (some_or_none (count k (o (suc n)))) [
       | inl a ↦ stands n (omega arith) a
-      | inr a ↦ more (stands-below n k o (omega (arith, c, a, h)))
+      | inr a ↦ more (stands-below n k o (omega (arith, count-append, a, h)))
     ]
   where
     more : StandsIn k n o → StandsIn k (suc n) o

@@ -4,7 +4,7 @@ use Rattle.std.proofs.lemmas.List.{length-map, take_at}
 use Rattle.std.proofs.lemmas.Simd.{map-map}
 use Rattle.queue_table.specs.Entries.{Entry, Item, items_of}
 use Rattle.queue_table.specs.Queues.{QUEUES, items_below, IsDistinct}
-use Rattle.queue_table.specs.Ring.{Slot, entries, newers, olders, slot_entry, slot_item, count, walk, used, SECTIONS, FIRST, Order, ring, ring_from, order_of, lists_of, lists, IsQueued, HasItems}
+use Rattle.queue_table.specs.Ring.{Slot, entries, newers, olders, slot_entry, slot_item, count, walk, used, SECTIONS, FIRST, Order, ring, order_of, lists_of, lists, IsQueued, HasItems}
 use Rattle.queue_table.specs.Index.{SlotIndex, HasSlot}
 use Rattle.queue_table.specs.QueueTable.{Lengths, IsLoaded, IsCounted, IsIndexOf, IsInSlots, IsKept}
 use Rattle.queue_table.proofs.Splices.{walked}
@@ -52,13 +52,7 @@ distinct-in [] index n k = none-distinct
 distinct-in (x ∷ slots) index n k = (k.held (omega arith)).queued.distinct
 
 ring-length : (o : Order) → length (ring o) ≡ length (o 0) + (length (o 1) + (length (o 2) + (length (o 3) + (length (o 4) + 5))))
-ring-length o =
-    let a = length-append (o 0) (1 ∷ ring_from 4 1 o) in
-    let b = length-append (o 1) (2 ∷ ring_from 3 2 o) in
-    let c = length-append (o 2) (3 ∷ ring_from 2 3 o) in
-    let d = length-append (o 3) (4 ∷ ring_from 1 4 o) in
-    let e = length-append (o 4) (5 ∷ ring_from 0 5 o) in
-    omega (arith, a, b, c, d, e)
+ring-length o = simp length-append (omega arith)
 
 -- the slot that stands before a queue is there
 pub before-within : (slots : List Slot) → IsQueued slots (order_of slots) → (q : ℕ) → q < QUEUES → suc q < length slots

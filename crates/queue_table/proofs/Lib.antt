@@ -7,7 +7,6 @@ pub mod Indexing
 pub mod SlotWrites
 pub mod Splices
 pub mod Turning
-pub mod Frames
 pub mod Sections
 pub mod Orders
 pub mod EntryLists
@@ -26,5 +25,4 @@ pub mod Moves
 pub mod Counting
 pub mod Reading
 pub mod Cutting
-pub mod Staying
 pub mod MoveBack

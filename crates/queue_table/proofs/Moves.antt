@@ -1,7 +1,7 @@
 -- A slot that goes to a queue, or to the free ones: what the table is then.
-use Rattle.std.proofs.Common.{◌≡◌, ℕ, suc, ◌+◌, ◌<◌, ◌≤◌, false, eqb, Option, List, length, set, map, ap, ◌∙◌, sym, subst, arith, inl, inr, length-set, get_or-set_same, get_or-set_other}
-use Rattle.std.proofs.lemmas.Bool.{ne_eqb}
+use Rattle.std.proofs.Common.{◌≡◌, ℕ, suc, ◌+◌, ◌<◌, ◌≤◌, Option, List, length, set, map, ap, ◌∙◌, sym, subst, arith, inl, inr, length-set, get_or-set_same, get_or-set_other}
 use Rattle.std.proofs.lemmas.List.{length-map}
+use Rattle.std.proofs.lemmas.Bool.Decides.{nat_tests}
 use Rattle.queue_table.specs.Entries.{Entry, Item, last_item}
 use Rattle.queue_table.specs.Queues.{QUEUES, Queues, after_push, after_removal, after_return, IsDistinct}
 use Rattle.queue_table.specs.Ring.{Slot, entries, newers, tags, tag_at, slot_entry, slot_item, count, ring_of, FIRST, Order, used, order_of, order_without, sent, lists, lists_of, IsPlace, IsQueued, CanGo, IsSent, IsFreed}
@@ -18,8 +18,7 @@ use Rattle.queue_table.proofs.Tables.{free-real, free-unused, free-within, secti
 use Rattle.queue_table.proofs.Calls.{count-length, spare-sent, spare-freed, free-lists, used-lists, used-not-free}
 use Rattle.queue_table.proofs.Kept.{some-slots, some-used, used-slot, kept-on}
 use Rattle.queue_table.proofs.Kept.{section-few as lengths-few}
-use Rattle.queue_table.proofs.Renewing.{written-entry, other-entry, same-items}
-use Rattle.queue_table.proofs.Staying.{keeps-slots, keeps-others}
+use Rattle.queue_table.proofs.Renewing.{written-entry, other-entry, same-items, keeps-slots, keeps-others}
 
 -- a slot that may go elsewhere: s are the queues without it
 pub record IsLoose (slots : List Slot) (index : SlotIndex) (lengths : Lengths) (k : ℕ) (s : Queues) : Type 0 where
@@ -115,11 +114,9 @@ module _ (slots slots2 : List Slot) (index : SlotIndex) (lengths : Lengths) (k q
       apart : (j : ℕ) → 1 ≤ count j c.front → j ≡ k → ⊥
       apart j n z =
           let a = ap (count j) c.whole in
-          let p = count-append j c.front c.back in
-          let t = section-in q j (order_without k (order_of slots)) m.low in
           let u = used-gone k (order_of slots) in
           let y = ap (λ y. count y (used (order_without k (order_of slots)))) z in
-          omega (arith, a, p, t, u, y, n)
+          omega (arith, a, count-append, section-in q j (order_without k (order_of slots)) m.low, u, y, n)
 
       same : map (λ j. slot_entry (entries slots2) j) c.front ≡ map (λ j. slot_entry (entries slots) j) c.front
       same = map-same _ _ c.front (λ j n. other j (apart j n))
@@ -144,10 +141,8 @@ module _ (slots slots2 : List Slot) (index : SlotIndex) (lengths : Lengths) (k q
   elsewhere j d =
       let a = ap (λ (o : Order). count j (used o)) m.order in
       let c = used-sent j k b q (order_of slots) m.low in
-      let f : eqb j k ≡ false = ne_eqb j k d in
-      let c2 = rw f at c in
-      let g = used-other j k (order_of slots) d in
-      omega (arith, a, c2, g)
+      let g = used-other j k (order_of slots) in
+      grind (arith, nat_tests)
 
   pub slots-stay : 1 ≤ count k (order_of slots 0) → KeepsSlots slots slots2
   slots-stay n = keeps-slots slots slots2 k other elsewhere (free-unused slots (order_of slots) l.held.queued k n)

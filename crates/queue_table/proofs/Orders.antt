@@ -104,50 +104,6 @@ section-alone s t k o h g d u n =
     let w = u k in
     omega (arith, a, b, e, f, w, n)
 
--- the sections that the ring shows
-
-section-at : (n k s : ℕ) (o : Order) → k ≤ s → s < k + n → ((j : ℕ) → count j (k ∷ ring_from n k o) ≤ 1) → until (suc s) (past s (k ∷ ring_from n k o)) ≡ o s
-section-at zero k s o a b u = absurd (omega (arith, a, b))
-section-at (suc n) k s o a b u =
-    elim (cases_eq s k) as (λ _. until (suc s) (cond (eqb s k) (o k ++ suc k ∷ ring_from n (suc k) o) (past s (o k ++ suc k ∷ ring_from n (suc k) o))) ≡ o s) [
-      | inl e ↦
-          let f : eqb s k ≡ true = eq-eqb s k e in
-          let w = u (suc k) in
-          let c = count-append (suc k) (o k) (suc k ∷ ring_from n (suc k) o) in
-          let h = count-here (suc k) (ring_from n (suc k) o) in
-          rw (f, e) (until-at (suc k) (o k) (ring_from n (suc k) o) (omega (arith, w, c, h)))
-      | inr d ↦
-          let f : eqb s k ≡ false = ne_eqb s k d in
-          let none : count s (o k) ≡ 0 = sentinel-free s n k o a b d u in
-          let less : (j : ℕ) → count j (suc k ∷ ring_from n (suc k) o) ≤ 1 = λ j. (let w = u j in let c = count-append j (o k) (suc k ∷ ring_from n (suc k) o) in omega (arith, w, c)) in
-          rw f (ap (until (suc s)) (past-none s (o k) (suc k ∷ ring_from n (suc k) o) none) ∙ section-at n (suc k) s o (omega (arith, a, d)) (omega (arith, b)) less)
-    ]
-  where
-    between : (s n k : ℕ) (o : Order) → k ≤ s → s < k + n → (s ≡ k → ⊥) → 1 ≤ count s (ring_from n k o)
-    between s zero k o a b d = absurd (omega (arith, a, b))
-    between s (suc n) k o a b d =
-        let c = count-append s (o k) (suc k ∷ ring_from n (suc k) o) in
-        let r = between s n (suc k) o in
-        let e = cases_eq s (suc k) in
-        grind (arith, nat_tests)
-
-    sentinel-free : (s n k : ℕ) (o : Order) → k ≤ s → s < k + suc n → (s ≡ k → ⊥) → ((j : ℕ) → count j (k ∷ ring_from (suc n) k o) ≤ 1) → count s (o k) ≡ 0
-    sentinel-free s n k o a b d u =
-        let w = u s in
-        let c = count-append s (o k) (suc k ∷ ring_from n (suc k) o) in
-        let r = between s n (suc k) o in
-        let e = cases_eq s (suc k) in
-        grind (arith, nat_tests)
-
-pub order-ring : (o : Order) → IsShort o → IsOnce o → order_in (ring o) ≡ o
-order-ring o h u = fun_ext (λ s. elim (cases_lt s SECTIONS) as (λ _. cond (nat_lt s SECTIONS) (until (suc s) (past s (0 ∷ ring o))) [] ≡ o s) [
-  | inl w ↦ let f : nat_lt s SECTIONS ≡ true = lt-ltb s SECTIONS w in rw f (section-at SECTIONS 0 s o (omega arith) (omega (arith, w)) u)
-  | inr w ↦ let f : nat_lt s SECTIONS ≡ false = le-ltb s SECTIONS (omega (arith, w)) in rw f (sym (h s (omega (arith, w))))
-])
-
-pub order-is : (ns os : List ℕ) (o : Order) → IsShort o → IsRing ns os (ring o) → order_in (ring_of ns) ≡ o
-order-is ns os o h r = ap order_in (ring-is ns os (ring o) r) ∙ order-ring o h r.once
-
 -- no more sections
 
 pub order-short : (l : List ℕ) → IsShort (order_in l)
@@ -188,11 +144,35 @@ marks-none (suc n) k j a = let r = marks-none n (suc k) j (omega arith) in grind
 
 in-used : (j : ℕ) (o : Order) → in_sections j SECTIONS 0 o ≡ count j (o 0) + count j (used o)
 in-used j o =
-    let a = count-append j (o 4) (used_below 3 o) in
-    let b = count-append j (o 3) (used_below 2 o) in
-    let c = count-append j (o 2) (used_below 1 o) in
-    let d = count-append j (o 1) (used_below 0 o) in
-    omega (arith, a, b, c, d)
+    omega (arith, count-append)
+
+-- the sections that the ring shows
+
+section-at : (n k s : ℕ) (o : Order) → k ≤ s → s < k + n → ((j : ℕ) → count j (k ∷ ring_from n k o) ≤ 1) → until (suc s) (past s (k ∷ ring_from n k o)) ≡ o s
+section-at zero k s o a b u = absurd (omega (arith, a, b))
+section-at (suc n) k s o a b u =
+    elim (cases_eq s k) as (λ _. until (suc s) (cond (eqb s k) (o k ++ suc k ∷ ring_from n (suc k) o) (past s (o k ++ suc k ∷ ring_from n (suc k) o))) ≡ o s) [
+      | inl e ↦
+          let f : eqb s k ≡ true = eq-eqb s k e in
+          let w = u (suc k) in
+          rw (f, e) (until-at (suc k) (o k) (ring_from n (suc k) o) (omega (arith, w, count-append (suc k) (o k) (suc k ∷ ring_from n (suc k) o), count-here (suc k) (ring_from n (suc k) o))))
+      | inr d ↦
+          let f : eqb s k ≡ false = ne_eqb s k d in
+          let none : count s (o k) ≡ 0 = omega (arith, u s, count-from s (suc n) k o, marks-some (suc n) k s (omega arith) (omega arith)) in
+          let less : (j : ℕ) → count j (suc k ∷ ring_from n (suc k) o) ≤ 1 = λ j. (let w = u j in let c = count-append j (o k) (suc k ∷ ring_from n (suc k) o) in omega (arith, w, c)) in
+          rw f (ap (until (suc s)) (past-none s (o k) (suc k ∷ ring_from n (suc k) o) none) ∙ section-at n (suc k) s o (omega (arith, a, d)) (omega (arith, b)) less)
+    ]
+
+pub order-ring : (o : Order) → IsShort o → IsOnce o → order_in (ring o) ≡ o
+order-ring o h u = fun_ext (λ s. elim (cases_lt s SECTIONS) as (λ _. cond (nat_lt s SECTIONS) (until (suc s) (past s (0 ∷ ring o))) [] ≡ o s) [
+  | inl w ↦ let f : nat_lt s SECTIONS ≡ true = lt-ltb s SECTIONS w in rw f (section-at SECTIONS 0 s o (omega arith) (omega (arith, w)) u)
+  | inr w ↦ let f : nat_lt s SECTIONS ≡ false = le-ltb s SECTIONS (omega (arith, w)) in rw f (sym (h s (omega (arith, w))))
+])
+
+pub order-is : (ns os : List ℕ) (o : Order) → IsShort o → IsRing ns os (ring o) → order_in (ring_of ns) ≡ o
+order-is ns os o h r = ap order_in (ring-is ns os (ring o) r) ∙ order-ring o h r.once
+
+-- how often a slot stands in it
 
 pub count-ring : (j : ℕ) (o : Order) → FIRST ≤ j → count j (ring o) ≡ count j (o 0) + count j (used o)
 count-ring j o h =
@@ -256,12 +236,7 @@ once-without k o u j = let a = less SECTIONS 0 in let n = u j in omega (arith, a
   where
     less : (n m : ℕ) → count j (ring_from n m (order_without k o)) ≤ count j (ring_from n m o)
     less zero m = omega arith
-    less (suc n) m =
-        let a = count-append j (o m) (suc m ∷ ring_from n (suc m) o) in
-        let b = count-append j (keys_without k (o m)) (suc m ∷ ring_from n (suc m) (order_without k o)) in
-        let c = count-without k j (o m) in
-        let r = less n (suc m) in
-        omega (arith, a, b, c, r)
+    less (suc n) m = omega (arith, count-append, count-without, less n (suc m))
 
 -- put in place
 

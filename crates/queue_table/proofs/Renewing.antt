@@ -1,13 +1,14 @@
 -- What the index owes when a slot gets an entry, and when it loses one.
-use Rattle.std.proofs.Common.{◌≡◌, ℕ, ◌<◌, ◌≤◌, List, length, set, ap, ◌∙◌, sym, get_or, arith, inl, inr, get_or-set_same, get_or-set_other}
+use Rattle.std.proofs.Common.{◌≡◌, ℕ, ◌<◌, ◌≤◌, List, length, set, ap, ◌∙◌, sym, get_or, arith, inl, inr, get_or-set_same, get_or-set_other, true}
 use Rattle.std.proofs.lemmas.Bool.{cases_eq}
 use Rattle.std.proofs.lemmas.List.{length-map}
-use Rattle.queue_table.specs.Entries.{Entry, entry}
-use Rattle.queue_table.specs.Ring.{Slot, entries, slot_entry, slot_item, count, Order, used, order_without}
+use Rattle.queue_table.specs.Entries.{Entry, entry, is_same_item}
+use Rattle.queue_table.specs.Ring.{Slot, entries, slot_entry, slot_item, count, Order, used, order_without, order_of}
 use Rattle.queue_table.specs.Index.{SlotIndex, IsRemoved, LacksSlot}
-use Rattle.queue_table.specs.QueueTable.{IsIndexOf}
+use Rattle.queue_table.specs.QueueTable.{IsIndexOf, HoldsAt, entry_at, KeepsSlots, KeepsOthers}
 use Rattle.queue_table.proofs.Orders.{used-gone, used-without}
 use Rattle.queue_table.proofs.SlotWrites.{no_slot, field_at}
+use Rattle.queue_table.proofs.EntryLists.{same-refl}
 
 pub entries-length : (slots : List Slot) → length (entries slots) ≡ length slots
 entries-length slots = length-map slots (λ (s : Slot). entry s.item s.count)
@@ -37,3 +38,16 @@ module _ (slots slots2 : List Slot) (k : ℕ) (e : Entry) (within : k < length s
     | inl z ↦ ap (slot_item (entries slots2)) z ∙ (ap (λ (x : Entry). x.item) written-entry ∙ (i ∙ ap (slot_item (entries slots)) (sym z)))
     | inr d ↦ ap (λ (x : Entry). x.item) (other-entry j d)
   ]
+
+-- all slots but one keep their entries, and whether they are in use
+module _ (old new : List Slot) (k : ℕ) (others : (j : ℕ) → (j ≡ k → ⊥) → entry_at j new ≡ entry_at j old) (uses : (j : ℕ) → (j ≡ k → ⊥) → count j (used (order_of new)) ≡ count j (used (order_of old))) where
+  holds : (j : ℕ) (e : Entry) → (j ≡ k → ⊥) → HoldsAt j e old → HoldsAt j e new
+  holds j e d h = record { used = (let a = h.used in let u = uses j d in omega (arith, a, u)); entry = others j d ∙ h.entry }
+
+  pub keeps-slots : count k (used (order_of old)) ≡ 0 → KeepsSlots old new
+  keeps-slots z j e h = holds j e (λ y. let a = h.used in let m = ap (λ i. count i (used (order_of old))) y in omega (arith, m, a, z)) h
+
+  pub keeps-others : KeepsOthers (entry_at k old).item old new
+  keeps-others j e h n = holds j e (λ y. let s : is_same_item e.item (entry_at k old).item ≡ true =
+      ap (λ (x : Entry). is_same_item x.item (entry_at k old).item) (sym h.entry ∙ ap (λ i. entry_at i old) y) ∙ same-refl (entry_at k old).item in
+      cc (s, n)) h

@@ -1,6 +1,6 @@
 -- What a write to one slot leaves.
-use Rattle.std.proofs.Common.{◌≡◌, ℕ, suc, zero, List, [], ◌∷◌, map, set, get_or, refl}
-use Rattle.queue_table.specs.declared.slot.Slot.{Slot}
+use Rattle.std.proofs.Common.{◌≡◌, ℕ, suc, zero, List, [], ◌∷◌, map, set, get_or, refl, ◌∙◌}
+use Rattle.queue_table.specs.Ring.{Slot, ChangesOnlyLinks}
 use Rattle.queue_table.proofs.Splices.{field_kept}
 
 -- the slot that stands for one past the last
@@ -15,3 +15,7 @@ pub field_at : {X Y : Type 0} (f : X → Y) (s : List X) (i : ℕ) (d : X) → g
 field_at f [] i d = refl
 field_at f (y ∷ s) zero d = refl
 field_at f (y ∷ s) (suc i) d = field_at f s i d
+
+-- changes of the same fields, one after the other
+pub links-then : (a b c : List Slot) → ChangesOnlyLinks a b → ChangesOnlyLinks b c → ChangesOnlyLinks a c
+links-then a b c x y = record { entries = y.entries ∙ x.entries; tags = y.tags ∙ x.tags }

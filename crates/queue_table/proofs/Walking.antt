@@ -74,9 +74,8 @@ way-below index place at next below item depth h n other b = on h.has.shown h.ha
     on (fork i l r) w few there =
         let is : next ≡ i = n ∙ w.tree.0 in
         let apart : at ≡ i → ⊥ = λ e. other (is ∙ sym e) in
-        let less = side-size (turn depth item) l r in
         record {
-          has = record { shown = on_side (turn depth item) l r; whole = rw (b, is) (branch-whole (2 ^ index.bits) index.links.items place i l r w (turn depth item)); few = omega (arith, few, less); bits = h.has.bits };
+          has = record { shown = on_side (turn depth item) l r; whole = rw (b, is) (branch-whole (2 ^ index.bits) index.links.items place i l r w (turn depth item)); few = omega (arith, few, side-size); bits = h.has.bits };
           item_of = h.item_of;
           there = record { stands = its-side h.item_of depth item at i l r there.sorted there.its apart there.stands; its = there.its; sorted = side-sorted h.item_of depth (turn depth item) i l r there.sorted };
         }

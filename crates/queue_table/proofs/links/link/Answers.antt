@@ -1,6 +1,6 @@
 use Rattle.std.proofs.Common.{arith}
 use Rattle.std.proofs.lemmas.Grind.{common_steps}
-use Rattle.queue_table.proofs.Frames.{links-then}
+use Rattle.queue_table.proofs.SlotWrites.{links-then}
 use Rattle.queue_table.proofs.links.link.Goals as goal
 
 pub returns-clause-only : goal.returns-clause-only

@@ -2,7 +2,7 @@ use Rattle.std.proofs.Common.{get_or, ap, arith}
 use Rattle.queue_table.specs.Ring.{newers, olders, ring_of}
 use Rattle.queue_table.proofs.Turning.{IsTurned, IsMoved, turned, moved}
 use Rattle.queue_table.proofs.Finding.{slots-length}
-use Rattle.queue_table.proofs.Frames.{links-then}
+use Rattle.queue_table.proofs.SlotWrites.{links-then}
 use Rattle.queue_table.proofs.links.move_before.Goals as goal
 use Rattle.queue_table.proofs.links.move_before.Goals.{Start, After-link}
 

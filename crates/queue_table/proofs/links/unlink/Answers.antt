@@ -1,4 +1,4 @@
-use Rattle.queue_table.proofs.Frames.{links-then}
+use Rattle.queue_table.proofs.SlotWrites.{links-then}
 use Rattle.queue_table.proofs.links.unlink.Goals as goal
 
 pub returns-clause-only : goal.returns-clause-only
