@@ -1,7 +1,8 @@
 -- One step down a tree, and the way back.
 use Rattle.std.proofs.Common.{◌≡◌, ℕ, ◌+◌, ◌<◌, ◌≤◌, Bool, true, false, cond, eqb, List, length, get_or, set, ap, ◌∙◌, sym, subst, arith, get_or-set_same, get_or-set_other, length-set}
-use Rattle.std.proofs.lemmas.Bool.{eq-eqb, ne_eqb}
+use Rattle.std.proofs.lemmas.Bool.{eq-eqb, ne_eqb, cond_both}
 use Rattle.std.proofs.lemmas.List.{get_or_default}
+use Rattle.std.proofs.lemmas.Bool.Decides.{nat_tests}
 use Rattle.step_record.specs.declared.item.Item.{Item}
 use Rattle.queue_table.specs.Trees.{Tree, leaf, fork, tally, branch, turn, IsTree, grafted, lowest, plucked, lifted, detached}
 use Rattle.queue_table.specs.Places.{IsOutside, IsWhole, IsFree, IsThere, Replaces}
@@ -17,17 +18,11 @@ module _ (roots : ℕ) (links : List ℕ) (place i : ℕ) (l r : Tree) (w : IsWh
   not-here k m e = let a = ap (λ j. tally j l + tally j r) e in let z = lone in omega (arith, a, z, m)
 
   pub branch-whole : (right : Bool) → IsWhole links roots (branch roots i right) (on_side right l r)
-  branch-whole true = record {
-    tree = w.tree.4;
-    once = λ k. (let o = w.once k in omega (arith, o));
-    outside = λ k side m e. not-here k (omega (arith, m)) (same-slot roots i k true side e);
-    within = w.tree.2;
-  }
-  branch-whole false = record {
-    tree = w.tree.3;
-    once = λ k. (let o = w.once k in omega (arith, o));
-    outside = λ k side m e. not-here k (omega (arith, m)) (same-slot roots i k false side e);
-    within = (let p = w.tree.2 in omega (arith, p));
+  branch-whole right = record {
+    tree = cond_both right r l (IsTree links roots (branch roots i right)) (λ e. rw e w.tree.4) (λ e. rw e w.tree.3);
+    once = λ k. (let o = w.once k in let m = side-tally right k l r in omega (arith, o, m));
+    outside = λ k side m e. not-here k (let n = side-tally right k l r in omega (arith, m, n)) (same-slot roots i k right side e);
+    within = (let p = w.tree.2 in grind (arith, nat_tests));
   }
 
   -- another tree on a side leaves the links outside, and the tree on the other side

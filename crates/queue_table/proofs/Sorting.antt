@@ -1,10 +1,10 @@
 -- Search trees by the ways of their items.
-use Rattle.std.proofs.Common.{◌≡◌, ℕ, ◌+◌, ◌≤◌, true, false, Bool, cond, eqb, ap, ◌∙◌, sym, subst, arith, inl, inr}
-use Rattle.std.proofs.lemmas.Bool.{eq-eqb, ne_eqb, cases_Bool, cases_eq}
+use Rattle.std.proofs.Common.{◌≡◌, ℕ, ◌+◌, ◌≤◌, true, false, Bool, cond, eqb, ap, ◌∙◌, arith}
+use Rattle.std.proofs.lemmas.Bool.{cases_eq, cond_both}
 use Rattle.std.proofs.lemmas.Bool.Decides.{nat_tests}
 use Rattle.step_record.specs.declared.item.Item.{Item}
 use Rattle.queue_table.specs.Trees.{Tree, leaf, fork, tally, turn, IsSorted, grafted, lowest, pruned, plucked, renamed, lifted, detached}
-use Rattle.queue_table.proofs.Trees.{some_or_none, tally-past, on_side}
+use Rattle.queue_table.proofs.Trees.{on_side}
 
 pub clash : (b : Bool) → b ≡ true → b ≡ false → ⊥
 clash b t f = cc
@@ -31,18 +31,17 @@ grafted-tally d x at k (fork i l r) =
 pub grafted-sorted : (its : ℕ → Item) (d : ℕ) (x : Item) (at : ℕ) (t : Tree) → its at ≡ x → IsSorted its d t → IsSorted its d (grafted d x at t)
 grafted-sorted its d x at leaf e s = (tt, tt, (λ k m. absurd (omega (arith, m))), (λ k m. absurd (omega (arith, m))))
 grafted-sorted its d x at (fork i l r) e s =
-    elim (cases_Bool (turn d x)) as (λ _. IsSorted its d (cond (turn d x) (fork i l (grafted (d + 1) x at r)) (fork i (grafted (d + 1) x at l) r))) [
-      | inl b ↦ rw b (s.0, grafted-sorted its (d + 1) x at r e s.1, s.2, (λ k m. side k r true b s.3 m))
-      | inr b ↦ rw b (grafted-sorted its (d + 1) x at l e s.0, s.1, (λ k m. side k l false b s.2 m), s.3)
-    ]
+    cond_both (turn d x) _ _ (IsSorted its d)
+    (λ b. (s.0, grafted-sorted its (d + 1) x at r e s.1, s.2, (λ k m. side k r true b s.3 m)))
+    (λ b. (grafted-sorted its (d + 1) x at l e s.0, s.1, (λ k m. side k l false b s.2 m), s.3))
   where
     side : (k : ℕ) (u : Tree) (b : Bool) → turn d x ≡ b → ((j : ℕ) → 1 ≤ tally j u → turn d (its j) ≡ b) → 1 ≤ tally k (grafted (d + 1) x at u) → turn d (its k) ≡ b
     side k u b w f m =
         let h = grafted-tally (d + 1) x at k u in
-        elim (cases_eq k at) [
-          | inl q ↦ ap (λ j. turn d (its j)) q ∙ (ap (turn d) e ∙ w)
-          | inr q ↦ f k (grind (arith, nat_tests))
-        ]
+        let there = f k in
+        let own = ap (turn d) e in
+        let c = cases_eq k at in
+        grind (arith, nat_tests)
 
 -- the lowest slot taken out
 
@@ -93,17 +92,10 @@ side-sorted its d false i l r s = s.0
 -- on which side the slot stands
 pub its-side : (its : ℕ → Item) (d : ℕ) (x : Item) (at i : ℕ) (l r : Tree) → IsSorted its d (fork i l r) → its at ≡ x → (at ≡ i → ⊥) → 1 ≤ tally at (fork i l r) → 1 ≤ tally at (on_side (turn d x) l r)
 its-side its d x at i l r s e n m =
-    let p = tally-past at i l r n in
-    elim (cases_Bool (turn d x)) as (λ _. 1 ≤ tally at (on_side (turn d x) l r)) [
-      | inl b ↦ rw b (elim (some_or_none (tally at l)) [
-        | inl y ↦ absurd (clash (turn d x) b (ap (turn d) (sym e) ∙ s.2 at y))
-        | inr z ↦ omega (arith, p, m, z)
-      ])
-      | inr b ↦ rw b (elim (some_or_none (tally at r)) [
-        | inl y ↦ absurd (clash (turn d x) (ap (turn d) (sym e) ∙ s.3 at y) b)
-        | inr z ↦ omega (arith, p, m, z)
-      ])
-    ]
+    let its = ap (turn d) e in
+    let left = s.2 at in
+    let right = s.3 at in
+    grind (arith, nat_tests)
 
 pub detached-tally : (its : ℕ → Item) (d : ℕ) (x : Item) (at k : ℕ) (t : Tree) → IsSorted its d t → its at ≡ x → 1 ≤ tally at t → tally k t ≡ cond (eqb k at) 1 0 + tally k (detached d x at t)
 detached-tally its d x at k leaf s e m = absurd (omega (arith, m))
@@ -118,16 +110,14 @@ detached-tally its d x at k (fork i l r) s e m =
 pub detached-sorted : (its : ℕ → Item) (d : ℕ) (x : Item) (at : ℕ) (t : Tree) → IsSorted its d t → its at ≡ x → 1 ≤ tally at t → IsSorted its d (detached d x at t)
 detached-sorted its d x at leaf s e m = tt
 detached-sorted its d x at (fork i l r) s e m =
-    elim (cases_eq at i) as (λ _. IsSorted its d (cond (eqb i at) (lifted (fork i l r)) (cond (turn d x) (fork i l (detached (d + 1) x at r)) (fork i (detached (d + 1) x at l) r)))) [
-      | inl q ↦ let g : eqb i at ≡ true = eq-eqb i at (sym q) in rw g (lifted-sorted its d (fork i l r) s)
-      | inr q ↦ (
-          let g : eqb i at ≡ false = ne_eqb i at (λ z. q (sym z)) in
-          rw g (elim (cases_Bool (turn d x)) as (λ _. IsSorted its d (cond (turn d x) (fork i l (detached (d + 1) x at r)) (fork i (detached (d + 1) x at l) r))) [
-            | inl b ↦ (
-                let there = subst (λ c. 1 ≤ tally at (on_side c l r)) b (its-side its d x at i l r s e q m) in
-                rw b (s.0, detached-sorted its (d + 1) x at r s.1 e there, s.2, (λ k n. s.3 k (let h = detached-tally its (d + 1) x at k r s.1 e there in omega (arith, h, n)))))
-            | inr b ↦ (
-                let there = subst (λ c. 1 ≤ tally at (on_side c l r)) b (its-side its d x at i l r s e q m) in
-                rw b (detached-sorted its (d + 1) x at l s.0 e there, s.1, (λ k n. s.2 k (let h = detached-tally its (d + 1) x at k l s.0 e there in omega (arith, h, n))), s.3))
-          ]))
-    ]
+    cond_both (eqb i at) _ _ (IsSorted its d) (λ g. lifted-sorted its d (fork i l r) s) (λ g.
+    let side = its-side its d x at i l r s e (λ q. grind (arith, nat_tests)) m in
+    cond_both (turn d x) _ _ (IsSorted its d)
+    (λ b.
+    let there : 1 ≤ tally at r = rw b at side in
+    let left = λ (k : ℕ). detached-tally its (d + 1) x at k r s.1 e there in
+    (s.0, detached-sorted its (d + 1) x at r s.1 e there, s.2, (λ k n. s.3 k (let h = left k in omega (arith, h, n)))))
+    (λ b.
+    let there : 1 ≤ tally at l = rw b at side in
+    let left = λ (k : ℕ). detached-tally its (d + 1) x at k l s.0 e there in
+    (detached-sorted its (d + 1) x at l s.0 e there, s.1, (λ k n. s.2 k (let h = left k in omega (arith, h, n))), s.3)))

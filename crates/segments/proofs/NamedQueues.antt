@@ -1,6 +1,5 @@
 -- The queues by name, over the queues by number.
-use Rattle.std.proofs.Common.{◌≡◌, ℕ, ◌+◌, ◌<◌, ◌≤◌, nat_lt, false, cond, Option, Some, None, List, [], ◌∷◌, ◌++◌, ap, ◌∙◌, sym, refl, subst, arith}
-use Rattle.std.proofs.lemmas.Bool.{le-ltb}
+use Rattle.std.proofs.Common.{◌≡◌, ℕ, ◌+◌, ◌<◌, ◌≤◌, cond, Option, Some, None, List, [], ◌∷◌, ◌++◌, ap, ◌∙◌, sym, refl, subst, arith}
 use Rattle.std.proofs.lemmas.List.{map-append}
 use Rattle.std.proofs.lemmas.Bool.Decides.{nat_tests}
 use Rattle.queue_table.specs.declared.records.Place.{Place}
@@ -81,19 +80,13 @@ return-named q o e s =
     with-named q (Entries.put_behind o e (s (number_of q))) s
     ∙ ap (λ (l : List Item). with_queue q l (named s)) (items-put o e (s (number_of q)) ∙ ap (put_behind o e.item) (queue-named q s))
 
-with-kept : (q : Queue) (l : List Entry) (s : ByNumber.Queues) → IsNamed s → IsNamed (ByNumber.with_queue (number_of q) l s)
+pub with-kept : (q : Queue) (l : List Entry) (s : ByNumber.Queues) → IsNamed s → IsNamed (ByNumber.with_queue (number_of q) l s)
 with-kept Window l s h = record { fourth = h.fourth }
 with-kept Probation l s h = record { fourth = h.fourth }
 with-kept Protected l s h = record { fourth = h.fourth }
 
-pub push-kept : (q : Queue) (e : Entry) (s : ByNumber.Queues) → IsNamed s → IsNamed (ByNumber.after_push (number_of q) e s)
-push-kept q e s h = with-kept q (s (number_of q) ++ e ∷ []) s h
-
 pub without-kept : (i : Item) (s : ByNumber.Queues) → IsNamed s → IsNamed (ByNumber.after_removal i s)
 without-kept i s h = record { fourth = ap (Entries.entries_without i) h.fourth }
-
-pub return-kept : (q : Queue) (o : Option Item) (e : Entry) (s : ByNumber.Queues) → IsNamed s → IsNamed (ByNumber.after_return (number_of q) o e s)
-return-kept q o e s h = with-kept q (Entries.put_behind o e (s (number_of q))) s h
 
 pub distinct-named : (s : ByNumber.Queues) → ByNumber.IsDistinct s → IsDistinct (named s)
 distinct-named s d i = let few = d i in let w = times-is i (s 0) in let p = times-is i (s 1) in let r = times-is i (s 2) in omega (arith, few, w, p, r)
@@ -104,17 +97,14 @@ pub data IsShown : Option ℕ → Option Queue → Type 0 where
   in_none : IsShown None None
   in_queue : (q : Queue) → IsShown (Some (number_of q)) (Some q)
 
-has-none : (n : ℕ) → n ≡ 0 → nat_lt 0 n ≡ false
-has-none n h = le-ltb 0 n (omega (arith, h))
-
 pub missing-numbered : (i : Item) (s : ByNumber.Queues) → IsNamed s → queue_holding i (named s) ≡ None → ByNumber.queue_holding i s ≡ None
 missing-numbered i s h e =
     let a = absent i (named s) e in
-    let w = has-none (Entries.occurrences i (s 0)) (sym (times-is i (s 0)) ∙ a.window) in
-    let p = has-none (Entries.occurrences i (s 1)) (sym (times-is i (s 1)) ∙ a.probation) in
-    let r = has-none (Entries.occurrences i (s 2)) (sym (times-is i (s 2)) ∙ a.protected) in
-    let z : nat_lt 0 (Entries.occurrences i (s 3)) ≡ false = has-none (Entries.occurrences i (s 3)) (ap (Entries.occurrences i) h.fourth) in
-    rw (z, r, p, w) refl
+    let w = times-is i (s 0) in
+    let p = times-is i (s 1) in
+    let r = times-is i (s 2) in
+    let z = ap (Entries.occurrences i) h.fourth in
+    grind (arith, nat_tests)
 
 pub holding-shown : (i : Item) (s : ByNumber.Queues) → ByNumber.IsDistinct s → IsNamed s → IsShown (ByNumber.queue_holding i s) (queue_holding i (named s))
 holding-shown i s d h = at _ (stands i (named s) (distinct-named s d))
