@@ -215,6 +215,5 @@ has-entry f k (x ∷ l) n =
       | inr e ↦
           let n2 : 1 ≤ 0 + count k l = rw e at n in
           let r = has-entry f k l (omega (arith, n2)) in
-          let w = r.1 in
-          (suc r.0, omega (arith, w), r.2)
+          (suc r.0, omega (arith, r.1), r.2)
     ]

@@ -40,8 +40,7 @@ has-last-from : (f : ℕ → Entry) (a : ℕ) (l : List ℕ) (n : Item) → last
 has-last-from f a [] n e = record { at = a; stands = (let c = count-here a [] in omega (arith, c)); holds = cc (e) }
 has-last-from f a (x ∷ l) n e =
     let r = has-last-from f x l n e in
-    let s = r.stands in
-    record { at = r.at; stands = omega (arith, s); holds = r.holds }
+    record { at = r.at; stands = omega (arith, r.stands); holds = r.holds }
 
 has-last : (f : ℕ → Entry) (l : List ℕ) (n : Item) → last_item (map f l) ≡ Some n → HasLast f l n
 has-last f [] n e = absurd (cc (e))

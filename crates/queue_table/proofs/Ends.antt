@@ -66,8 +66,7 @@ newer-in slots o x zero w =
 newer-in slots o x (suc k) w =
     let l = slots-length slots in
     let t = turned (newers slots) (olders slots) (ring o) (suc k) 0 x (omega arith) (omega (arith, w, l)) (omega (arith, w, l)) (λ e. omega (arith, e)) in
-    let n = t.newer_in in
-    omega (arith, n, l)
+    omega (arith, t.newer_in, l)
 
 pub walk-on : (ns : List ℕ) (es : List Entry) (at n m : ℕ) (xs ys : List Item) → n ≡ suc m → ys ≡ xs ++ slot_item es (get_or ns at 0) ∷ [] →
     ys ++ map (λ k. slot_item es k) (walk ns (get_or ns at 0) m) ≡ xs ++ map (λ k. slot_item es k) (walk ns at n)

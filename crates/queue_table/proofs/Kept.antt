@@ -68,8 +68,7 @@ sections-few (x ∷ slots) index n k =
     let long = (k.held (omega arith)).queued.linked.long in
     let size = slots-length all in
     let ring = ring-length (order_of all) in
-    let few = k.few in
-    omega (arith, long, size, ring, few)
+    omega (arith, long, size, ring, k.few)
 
 pub items-few : (slots : List Slot) (index : SlotIndex) (n : Lengths) → IsKept slots index n → get_or n.at 1 0 + get_or n.at 2 0 + get_or n.at 3 0 + get_or n.at 4 0 < 2 ^ 64
 items-few slots index n k =

@@ -99,13 +99,12 @@ module _ (roots : ℕ) (links links1 : List ℕ) (place i last : ℕ) (l r a b :
   lift-put =
       let real = (members links roots place (fork i l r) last w.tree here).0 in
       let size = p.size in
-      let within = w.within in
       let s2 = long2 in
       let s3 = long3 in
       let m = room in
       record {
         tree = (
-          get_or-set_same second place last 0 (omega (arith, within, size, s2)),
+          get_or-set_same second place last 0 (omega (arith, w.within, size, s2)),
           real,
           omega (arith, m, s3),
           same-tree links1 links2 roots (branch roots i false) (branch roots last false) a long3 left (λ k side n. below k side (omega (arith, n))) p.tree.3,

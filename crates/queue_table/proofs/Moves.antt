@@ -88,12 +88,11 @@ module _ (slots slots2 : List Slot) (index : SlotIndex) (lengths : Lengths) (k q
   queued-after : IsAbsent e.item s → IsQueued slots2 (order_of slots2)
   queued-after a =
       let n = length-map slots (λ (x : Slot). x.queue) in
-      let w = l.within in
       record {
         linked = m.linked;
         short = order-short (ring_of (newers slots2));
         tagged = λ p j c. elim (sent-in k b (suc q) (suc p) j (order_of slots) (subst (λ (o : Order). 1 ≤ count j (o (suc p))) m.order c)) [
-          | inl z ↦ rw m.tags (ap (λ y. tag_at (set (tags slots) k q) y) z.0 ∙ (get_or-set_same (tags slots) k q 0 (omega (arith, w, n)) ∙ (let t = z.1 in omega (arith, t))))
+          | inl z ↦ rw m.tags (ap (λ y. tag_at (set (tags slots) k q) y) z.0 ∙ (get_or-set_same (tags slots) k q 0 (omega (arith, l.within, n)) ∙ (let t = z.1 in omega (arith, t))))
           | inr z ↦ rw m.tags (get_or-set_other (tags slots) k j q 0 z.0 ∙ l.held.queued.tagged p j z.1)
         ];
         distinct = subst (λ (o : Order). IsDistinct (lists_of o (entries slots2))) (sym m.order) (distinct-sent q k b (order_of slots) (entries slots2) m.low (subst IsDistinct (sym left) l.distinct)

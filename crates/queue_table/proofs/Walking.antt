@@ -41,9 +41,8 @@ module _ (index : SlotIndex) (place depth next below : ℕ) (side : Bool) (n : n
   abbrev pub has-below : HasTree index place depth → (next ≡ 0 → ⊥) → HasTree index below (depth + 1)
   has-below h z =
       let s = step index.links.items (2 ^ index.bits) place next below side h.shown h.whole n z b in
-      let f = s.fewer in
       let few = h.few in
-      record { shown = s.branch_shown; whole = s.whole; few = omega (arith, f, few); bits = h.bits }
+      record { shown = s.branch_shown; whole = s.whole; few = omega (arith, s.fewer, few); bits = h.bits }
 
   pub within-below : (slots : ℕ) → HasTreeWithin index place depth slots → (next ≡ 0 → ⊥) → HasTreeWithin index below (depth + 1) slots
   within-below slots h z =
@@ -61,8 +60,7 @@ smaller links roots place next below side t w n z b =
     let u = s.whole in
     let x = tree-is links roots place t (length links) w.tree (size-few links roots place t w.tree w.once) in
     let y = tree-is links roots below s.branch_shown (length links) u.tree (size-few links roots below s.branch_shown u.tree u.once) in
-    let f = s.fewer in
-    rw (x, y) (omega (arith, f))
+    rw (x, y) (omega (arith, s.fewer))
 
 -- the slot at a place with a slot on its way below
 pub way-below : (index : SlotIndex) (place at next below : ℕ) (item : Item) (depth : ℕ) → IsOnWay index place at item depth → next ≡ get_or index.links.items place 0 → (next ≡ at → ⊥) →

@@ -8,9 +8,8 @@ use Rattle.queue_table.proofs.growth.begin.Goals as goal
 
 pub returns-clause-held : goal.returns-clause-held
 returns-clause-held c =
-    let four = c.in_ok-first.ensures.len in
     let some = sixteen c.first_bits-bits.result c.first_bits-bits.ensures.range.0 in
-    let room : length c.in_ok-first.first.items ≤ capacity c.in_ok-index.field-0.bits = rw c.in_ok-index.ensures.bits (omega (arith, four, some)) in
+    let room : length c.in_ok-first.first.items ≤ capacity c.in_ok-index.field-0.bits = rw c.in_ok-index.ensures.bits (omega (arith, c.in_ok-first.ensures.len, some)) in
     held-first c.in_ok-first.first.items c.in_ok-index.field-0 c.in_ok-first.ensures.queued (c.in_ok-index.ensures.empty _) room
 
 pub returns-clause-load : goal.returns-clause-load

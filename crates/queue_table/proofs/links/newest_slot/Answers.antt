@@ -7,5 +7,4 @@ use Rattle.queue_table.proofs.links.newest_slot.Goals as goal
 pub returns : goal.returns
 returns c =
     let f = field_at (λ (s : Slot). s.older) c.args.slots.now (suc (suc c.args.queue)) no_slot in
-    let low = c.requires.low in
-    rw (c.slot_behind.ensures, ← f) (last-slot c.args.slots.now (suc c.args.queue) (order_of c.args.slots.now) (omega (arith, low)) c.requires.queued c.requires.some)
+    rw (c.slot_behind.ensures, ← f) (last-slot c.args.slots.now (suc c.args.queue) (order_of c.args.slots.now) (omega (arith, c.requires.low)) c.requires.queued c.requires.some)

@@ -6,10 +6,9 @@ use Rattle.queue_table.proofs.links.release.Goals as goal
 pub move_before-requires : goal.move_before-requires
 move_before-requires c =
     let s : 0 < SECTIONS = omega arith in
-    let r = c.requires.real in
     record {
       ring = whole-ring c.args.slots.now c.args.at 0 1 s c.requires;
-      at = (omega (arith, r), c.requires.within);
+      at = (omega (arith, c.requires.real), c.requires.within);
       before = place-within c.args.slots.now c.args.at 0 1 s c.requires;
       apart = place-apart c.args.slots.now c.args.at 0 1 s c.requires;
     }

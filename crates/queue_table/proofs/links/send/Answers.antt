@@ -8,15 +8,12 @@ set_entry-requires c = c.requires.place.within
 
 pub move_before-requires : goal.move_before-requires
 move_before-requires c =
-    let low = c.requires.queue in
-    let s : suc c.args.queue < SECTIONS = omega (arith, low) in
+    let s : suc c.args.queue < SECTIONS = omega (arith, c.requires.queue) in
     let can = c.requires.place in
-    let r = can.real in
-    let w = can.within in
     let b = place-within c.args.slots.now c.args.at (suc c.args.queue) c.args.before s can in
     record {
       ring = rw (c.set_entry.ensures.newers, c.set_entry.ensures.olders) (whole-ring c.args.slots.now c.args.at (suc c.args.queue) c.args.before s can);
-      at = (omega (arith, r), omega (arith, w));
+      at = (omega (arith, can.real), omega (arith, can.within));
       before = omega (arith, b);
       apart = place-apart c.args.slots.now c.args.at (suc c.args.queue) c.args.before s can;
     }

@@ -11,13 +11,11 @@ pass-requires-clause-sections c = let from = c.place_of_slot-from.ensures.low in
 
 pub pass-requires-clause-some : goal.pass-requires-clause-some
 pass-requires-clause-some c =
-    let from = c.place_of_slot-from.ensures.low in
-    rw c.section.ensures (some-counted c.args.lengths.now (order_of c.args.slots.now) (suc c.place_of_slot-from.result.queue) c.args.at c.requires.slot.counted (omega (arith, from)) c.place_of_slot-from.ensures.queue)
+    rw c.section.ensures (some-counted c.args.lengths.now (order_of c.args.slots.now) (suc c.place_of_slot-from.result.queue) c.args.at c.requires.slot.counted (omega (arith, c.place_of_slot-from.ensures.low)) c.place_of_slot-from.ensures.queue)
 
 pub pass-requires-clause-few : goal.pass-requires-clause-few
 pass-requires-clause-few c = let to = c.requires.to in c.requires.slot.few c.args.to (omega (arith, to))
 
 pub returns-clause-counted : goal.returns-clause-counted
 returns-clause-counted c s b e =
-    let from = c.place_of_slot-from.ensures.low in
-    counted-sent c.args.lengths.now c.pass.new.self c.args.at s b (suc c.place_of_slot-from.result.queue) c.section.result c.args.to (order_of c.args.slots.now) c.requires.slot.counted (omega (arith, from)) c.requires.slot.queued.linked.once c.place_of_slot-from.ensures.queue c.section.ensures e c.pass.ensures
+    counted-sent c.args.lengths.now c.pass.new.self c.args.at s b (suc c.place_of_slot-from.result.queue) c.section.result c.args.to (order_of c.args.slots.now) c.requires.slot.counted (omega (arith, c.place_of_slot-from.ensures.low)) c.requires.slot.queued.linked.once c.place_of_slot-from.ensures.queue c.section.ensures e c.pass.ensures

@@ -12,8 +12,6 @@ returns c =
 
 pub items_in-requires-clause-ring : goal.items_in-requires-clause-ring
 items_in-requires-clause-ring c some =
-    let low = c.requires in
-    let n = c.self.invariant.counted (suc c.args.queue) (omega (arith, low)) in
-    let e = c.of.ensures in
-    let h = c.self.invariant.held (some-slots c.self.inside.slots.items (suc c.args.queue) (omega (arith, n, e, some))) in
+    let n = c.self.invariant.counted (suc c.args.queue) (omega (arith, c.requires)) in
+    let h = c.self.invariant.held (some-slots c.self.inside.slots.items (suc c.args.queue) (omega (arith, n, c.of.ensures, some))) in
     subst (λ (s : List Slot). IsRing (newers s) (olders s) (ring (order_of s))) (sym c.deref.ensures.value) h.queued.linked

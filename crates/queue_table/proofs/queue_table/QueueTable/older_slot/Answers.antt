@@ -21,13 +21,11 @@ found-within slots i (Some at) d h w = slot-within slots (order_of slots) h.queu
 pub returns-in_default-clause-within : goal.returns-in_default-clause-within
 returns-in_default-clause-within c =
     let w = before-within c.args.self.now (queued-there (goal.at.returns-in_default-clause-within c).After-self) c.args.place.queue c.requires.queue in
-    let e = c.slot_before.ensures in
-    omega (arith, w, e)
+    omega (arith, w, c.slot_before.ensures)
 
 pub returns-clause-within : goal.returns-clause-within
 returns-clause-within c =
     let w = before-within c.args.self.now (queued-there (goal.at.returns-clause-within c).After-self) c.args.place.queue c.requires.queue in
     let d : c.slot_before-2.result < length c.args.self.now = (let e = c.slot_before-2.ensures in omega (arith, w, e)) in
     let r = found-within c.args.self.now c.in-Some.older c.find_slot.result c.slot_before-2.result c.find_slot.ensures.there d in
-    let e = c.unwrap_or.ensures in
-    omega (arith, r, e)
+    omega (arith, r, c.unwrap_or.ensures)

@@ -17,9 +17,8 @@ behind : (c : goal.After-slot_at_place-before) → IsBehind c.slot_at_place-befo
 behind c =
     let h = c.slot_at_place-before.ensures.queued in
     let r = (used-slot c.args.self.now c.args.at h c.requires.used).0 in
-    let low = c.requires.queue in
     let out = used-lists c.args.self.now (order_of c.args.self.now) h c.args.at c.requires.used in
-    c.slot_at_place-before.ensures.behind (λ z. omega (arith, z, r, low)) (subst (λ (s : Queues). IsGap c.args.place.older (s c.args.place.queue)) out c.requires.gap)
+    c.slot_at_place-before.ensures.behind (λ z. omega (arith, z, r, c.requires.queue)) (subst (λ (s : Queues). IsGap c.args.place.older (s c.args.place.queue)) out c.requires.gap)
 
 pub shift-requires-clause-place : goal.shift-requires-clause-place
 shift-requires-clause-place c = behind-place c.slot_at_place-before.result c.args.place.queue c.args.place.older (entries c.args.self.now) (order_without c.args.at (order_of c.args.self.now)) (behind (goal.at.shift-requires-clause-place c).After-slot_at_place-before)

@@ -40,8 +40,7 @@ detach-requires t c =
     let n = c.index-next.ensures ∙ get_or_default _ _ _ 0 c.requires.has.whole.within in
     let b = c.branch_of-below.ensures ∙ ap (branch _ _) c.turns_right.ensures in
     let h = way-below c.args.self.now c.args.place c.args.at _ _ c.args.item c.args.depth c.requires n c.if-next-at.false b in
-    let few = h.has.few in
-    (omega (arith, few, c.decreases), h)
+    (omega (arith, h.has.few, c.decreases), h)
 
 pub returns-clause-detached : goal.returns-clause-detached
 returns-clause-detached t c u item_of w there =

@@ -25,8 +25,7 @@ find_below-requires g t c κs within =
     let n = c.index-at.ensures ∙ get_or_default _ _ _ 0 c.requires.has.whole.within in
     let b = c.branch_of-below.ensures ∙ ap (branch _ _) c.turns_right.ensures in
     let h = within-below _ c.args.place c.args.depth _ _ _ n b _ c.requires c.if-at-eq0.false in
-    let few = h.has.few in
-    (omega (arith, few, c.decreases), (within, h))
+    (omega (arith, h.has.few, c.decreases), (within, h))
 
 pub returns : goal.returns
 returns g t c u w s =

@@ -15,8 +15,7 @@ graft-requires t c =
     let n = c.index-next.ensures ∙ get_or_default _ _ _ 0 c.requires.tree.whole.within in
     let b = c.branch_of-below.ensures ∙ ap (branch _ _) c.turns_right.ensures in
     let h = has-below c.args.self.now c.args.place c.args.depth _ _ _ n b c.requires.tree c.if-next-eq0.false in
-    let few = h.few in
-    (omega (arith, few, c.decreases), (c.requires.at, (c.requires.room, h)))
+    (omega (arith, h.few, c.decreases), (c.requires.at, (c.requires.room, h)))
 
 pub returns-clause-grafted : goal.returns-clause-grafted
 returns-clause-grafted t c u w f =

@@ -32,14 +32,12 @@ pluck-requires t c =
 pub returns-then-index-ne0-clause-plucked : goal.returns-then-index-ne0-clause-plucked
 returns-then-index-ne0-clause-plucked t c u w =
     let n = c.index-at.ensures ∙ get_or_default _ _ _ 0 w.within in
-    let s = c.requires.some in
-    (pluck-left _ _ c.args.place _ _ n (omega (arith, n, s)) c.branch_of-left.ensures _ c.pluck.result _ u w c.index.ensures c.if-index-ne0.true c.pluck.ensures.plucked c.pluck.ensures.lowest).0
+    (pluck-left _ _ c.args.place _ _ n (omega (arith, n, c.requires.some)) c.branch_of-left.ensures _ c.pluck.result _ u w c.index.ensures c.if-index-ne0.true c.pluck.ensures.plucked c.pluck.ensures.lowest).0
 
 pub returns-then-index-ne0-clause-lowest : goal.returns-then-index-ne0-clause-lowest
 returns-then-index-ne0-clause-lowest t c u w =
     let n = c.index-at.ensures ∙ get_or_default _ _ _ 0 w.within in
-    let s = c.requires.some in
-    (pluck-left _ _ c.args.place _ _ n (omega (arith, n, s)) c.branch_of-left.ensures _ c.pluck.result _ u w c.index.ensures c.if-index-ne0.true c.pluck.ensures.plucked c.pluck.ensures.lowest).1
+    (pluck-left _ _ c.args.place _ _ n (omega (arith, n, c.requires.some)) c.branch_of-left.ensures _ c.pluck.result _ u w c.index.ensures c.if-index-ne0.true c.pluck.ensures.plucked c.pluck.ensures.lowest).1
 
 pub index-requires-2 : goal.index-requires-2
 index-requires-2 t c = let r = left-room t (goal.at.index-requires-2 t c).After-branch_of-left in omega (arith, r)
@@ -49,8 +47,7 @@ pluck-requires-then-index-ne0-2 t c =
     let h = c.requires.tree in
     let n = c.index-at.ensures ∙ get_or_default _ _ _ 0 h.whole.within in
     let z : c.index-at.result.now ≡ 0 → ⊥ = (λ q. let s = c.requires.some in omega (arith, n, q, s)) in
-    let e = c.branch_of-left.ensures in
-    let b : c.branch_of-left.result + 1 ≡ branch (2 ^ c.args.self.now.bits) c.index-at.result.now true = omega (arith, e) in
+    let b : c.branch_of-left.result + 1 ≡ branch (2 ^ c.args.self.now.bits) c.index-at.result.now true = omega (arith, c.branch_of-left.ensures) in
     let m = smaller _ _ c.args.place _ _ true h.shown h.whole n z b in
     let below = has-below c.args.self.now c.args.place 0 _ _ true n b h z in
     let v = c.index-2.ensures ∙ get_or_default _ _ _ 0 below.whole.within in
@@ -59,25 +56,21 @@ pluck-requires-then-index-ne0-2 t c =
 pub returns-then-index-ne0-2-clause-plucked : goal.returns-then-index-ne0-2-clause-plucked
 returns-then-index-ne0-2-clause-plucked t c u w =
     let n = c.index-at.ensures ∙ get_or_default _ _ _ 0 w.within in
-    let s = c.requires.some in
     let p = c.pluck-then-index-ne0-2 in
-    (pluck-right _ _ c.args.place _ _ n (omega (arith, n, s)) c.branch_of-left.ensures _ p.result _ _ u w c.index.ensures c.if-index-ne0.false c.index-2.ensures c.if-index-ne0-2.true p.ensures.plucked p.ensures.lowest).0
+    (pluck-right _ _ c.args.place _ _ n (omega (arith, n, c.requires.some)) c.branch_of-left.ensures _ p.result _ _ u w c.index.ensures c.if-index-ne0.false c.index-2.ensures c.if-index-ne0-2.true p.ensures.plucked p.ensures.lowest).0
 
 pub returns-then-index-ne0-2-clause-lowest : goal.returns-then-index-ne0-2-clause-lowest
 returns-then-index-ne0-2-clause-lowest t c u w =
     let n = c.index-at.ensures ∙ get_or_default _ _ _ 0 w.within in
-    let s = c.requires.some in
     let p = c.pluck-then-index-ne0-2 in
-    (pluck-right _ _ c.args.place _ _ n (omega (arith, n, s)) c.branch_of-left.ensures _ p.result _ _ u w c.index.ensures c.if-index-ne0.false c.index-2.ensures c.if-index-ne0-2.true p.ensures.plucked p.ensures.lowest).1
+    (pluck-right _ _ c.args.place _ _ n (omega (arith, n, c.requires.some)) c.branch_of-left.ensures _ p.result _ _ u w c.index.ensures c.if-index-ne0.false c.index-2.ensures c.if-index-ne0-2.true p.ensures.plucked p.ensures.lowest).1
 
 pub returns-clause-plucked : goal.returns-clause-plucked
 returns-clause-plucked t c u w =
     let n = c.index-at.ensures ∙ get_or_default _ _ _ 0 w.within in
-    let s = c.requires.some in
-    (pluck-end _ _ c.args.place _ _ n (omega (arith, n, s)) c.branch_of-left.ensures _ _ u w c.index.ensures c.if-index-ne0.false c.index-2.ensures c.if-index-ne0-2.false).0
+    (pluck-end _ _ c.args.place _ _ n (omega (arith, n, c.requires.some)) c.branch_of-left.ensures _ _ u w c.index.ensures c.if-index-ne0.false c.index-2.ensures c.if-index-ne0-2.false).0
 
 pub returns-clause-lowest : goal.returns-clause-lowest
 returns-clause-lowest t c u w =
     let n = c.index-at.ensures ∙ get_or_default _ _ _ 0 w.within in
-    let s = c.requires.some in
-    (pluck-end _ _ c.args.place _ _ n (omega (arith, n, s)) c.branch_of-left.ensures _ _ u w c.index.ensures c.if-index-ne0.false c.index-2.ensures c.if-index-ne0-2.false).1
+    (pluck-end _ _ c.args.place _ _ n (omega (arith, n, c.requires.some)) c.branch_of-left.ensures _ _ u w c.index.ensures c.if-index-ne0.false c.index-2.ensures c.if-index-ne0-2.false).1

@@ -12,9 +12,7 @@ from-room c =
     let h = c.requires.tree in
     let r = top-room c.args.self.now c.args.place c.args.at h c.requires.first c.requires.some in
     let s = (c.pluck-lowest.ensures.plucked h.shown h.whole).size in
-    let b = c.branch_of-from.ensures in
-    let e = c.pluck-lowest.ensures.bits in
-    rw (b, e) (omega (arith, r, s))
+    rw (c.branch_of-from.ensures, c.pluck-lowest.ensures.bits) (omega (arith, r, s))
 
 to-room : (c : goal.After-branch_of-to) → c.branch_of-to.result + 1 < length c.pluck-lowest.new.self.links.items
 to-room c =
@@ -22,9 +20,7 @@ to-room c =
     let p = c.pluck-lowest.ensures in
     let r = (lowest-real _ _ c.args.place c.args.at c.pluck-lowest.result h.shown h.whole c.requires.first c.requires.some (p.lowest h.shown h.whole)).1 in
     let s = (p.plucked h.shown h.whole).size in
-    let b = c.branch_of-to.ensures in
-    let e = p.bits in
-    rw (b, e) (omega (arith, r, s))
+    rw (c.branch_of-to.ensures, p.bits) (omega (arith, r, s))
 
 pub returns-then-lowest-at-clause-lifted : goal.returns-then-lowest-at-clause-lifted
 returns-then-lowest-at-clause-lifted c u w =

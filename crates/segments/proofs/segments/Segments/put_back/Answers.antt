@@ -25,8 +25,7 @@ pub put_back-requires-clause-room : goal.put_back-requires-clause-room
 put_back-requires-clause-room c none =
     let needed = one (goal.at.put_back-requires-clause-room c).After-entry_for none in
     let spare = ap (λ (x : Shown). x.spare) c.self.view_is in
-    let room = c.requires.room in
-    omega (arith, needed, spare, room)
+    omega (arith, needed, spare, c.requires.room)
 
 pub put_back-requires-clause-gap : goal.put_back-requires-clause-gap
 put_back-requires-clause-gap c =
