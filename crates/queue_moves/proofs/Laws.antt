@@ -3,9 +3,7 @@ use Rattle.std.proofs.Common.{◌≡◌, ◌≢◌, ℕ, ◌+◌, ◌<◌, ◌�
 use Rattle.std.proofs.lemmas.Bool.{cases_Bool, cases_eq, cases_lt}
 use Rattle.std.proofs.Math.Path.{fun_ext}
 use Rattle.std.proofs.lemmas.Bool.Decides.{nat_tests}
-use Rattle.queue_table.specs.declared.slot.Slot.{Slot}
 use Rattle.queue_table.specs.Ring.{lists}
-use Rattle.queue_table.specs.declared.records.Entry.{Entry}
 use Rattle.queue_table.specs.Entries.{Item, is_same_item, entry, occurrences, entries_without, entries_counted, last_from, last_item, oldest_of, newest_of, newest_from, before, put_behind, IsGap}
 use Rattle.queue_table.specs.declared.records.Place.{Place}
 use Rattle.queue_table.specs.Queues.{QUEUES, Queues, queue_holding, place_at, place_in, IsDistinct, after_push, after_removal, after_send, after_count, after_return}
@@ -15,9 +13,9 @@ use Rattle.queue_table.proofs.MoveBack.{gap, move-back, taken-sent, out-back, pu
 use Rattle.queue_moves.specs.declared.records.KeyMove.{KeyMove}
 use Rattle.queue_moves.specs.declared.records.Change.TheVariants as change
 use Rattle.queue_moves.specs.declared.records.Departure.TheVariants as departure
-use Rattle.queue_moves.specs.Moves.{item_of, count_of, leaving, counts, goes, departed}
+use Rattle.queue_moves.specs.Moves.{item_of, count_of, leaving, counts, goes, departed, Entry}
 use Rattle.queue_moves.specs.Undoing.{left_by, nothing_left, key_in, item_in, count_at, move_from, move_of, before_own, FitsPlace, IsLeft, IsOwn}
-use Rattle.queue_moves.specs.Tabled.{nodes_of, HasKeys, IsTabled, keys_of}
+use Rattle.queue_moves.specs.Tabled.{nodes_of, HasKeys, IsTabled, keys_of, Slot}
 use Rattle.queue_moves.proofs.Tabled.{nodes-append, nodes-without, counted-none, oldest-node, counted-own, few, nowhere, absent-gone, tabled-removal}
 use Rattle.queue_moves.proofs.Standing.{Stands, cut, holding, own-count, elsewhere, oldest_stands}
 

@@ -5,7 +5,7 @@ use Rattle.queue_table.specs.declared.records.Entry.{Entry}
 use Rattle.queue_table.specs.Entries.{entry, entries_without, oldest_of, newest_of, newest_from}
 use Rattle.queue_table.specs.Queues.{QUEUES, Queues, after_removal, after_send, after_return}
 use Rattle.queue_table.proofs.QueueLists.{with-queue-same}
-use Rattle.queue_moves.specs.Moves.{run, turned, after_turn, after_turns, turns_due, count_or}
+use Rattle.queue_moves.specs.Moves.{Entry, run, turned, after_turn, after_turns, turns_due, count_or}
 use Rattle.queue_moves.specs.Undoing.{HasCountLeft, FitTurns, turned_back, before_turn, before_turns, IsTurn, IsRun}
 use Rattle.queue_moves.specs.Tabled.{IsTabled}
 use Rattle.queue_moves.proofs.Standing.{oldest_stands}

@@ -2,9 +2,7 @@
 use Rattle.std.proofs.Common.{◌≡◌, ℕ, suc, zero, ◌+◌, ◌<◌, ◌≤◌, Some, List, [], ◌∷◌, ◌++◌, length, ap, ◌∙◌, sym, subst, arith}
 use Rattle.std.specs.List.{Contains, slice_index_or}
 use Rattle.std.proofs.lemmas.Bool.Decides.{nat_tests}
-use Rattle.queue_table.specs.declared.slot.Slot.{Slot}
 use Rattle.queue_table.specs.Ring.{lists, order_of, entries, slot_entry, count}
-use Rattle.queue_table.specs.declared.records.Entry.{Entry}
 use Rattle.queue_table.specs.Entries.{Item, entry, occurrences, oldest_of, before}
 use Rattle.queue_table.specs.Queues.{QUEUES, Queues, queue_holding}
 use Rattle.queue_table.specs.QueueTable.{HoldsAt}
@@ -13,8 +11,8 @@ use Rattle.queue_table.proofs.QueueLists.{placed}
 use Rattle.queue_table.proofs.Contents.{has-entry}
 use Rattle.queue_table.proofs.Holding.{StandsIn as SlotIn, stands, stands_in}
 use Rattle.queue_table.proofs.MoveBack.{StandsIn}
-use Rattle.queue_moves.specs.Moves.{count_of, standing, standing_at}
-use Rattle.queue_moves.specs.Tabled.{IsTabled}
+use Rattle.queue_moves.specs.Moves.{Entry, count_of, standing, standing_at}
+use Rattle.queue_moves.specs.Tabled.{Slot, IsTabled}
 use Rattle.queue_moves.proofs.Tabled.{behind, found-split, few}
 use Rattle.queue_moves.proofs.Tabled.{elsewhere as other}
 

@@ -5,14 +5,13 @@ use Rattle.std.proofs.lemmas.Bool.{cases_eq, cases_lt, lt-ltb, le-ltb}
 use Rattle.std.proofs.lemmas.List as ListLemmas
 use Rattle.std.proofs.lemmas.Bool.Decides.{nat_tests}
 use Rattle.step_record.specs.Keys.{has_key, keys_without}
-use Rattle.queue_table.specs.declared.records.Entry.{Entry}
 use Rattle.queue_table.specs.Entries.{Item, is_same_item, entry, occurrences, entries_without, entries_counted, oldest_of, before}
 use Rattle.queue_table.specs.Queues.{QUEUES, Queues, with_queue, queue_below, queue_holding, after_push, after_removal, after_send, after_count}
 use Rattle.queue_table.proofs.EntryLists.{same-true, same-refl, times-append}
 use Rattle.queue_table.proofs.QueueLists.{IsAbsent, absent, absent-taken, placed, queue-few, distinct-taken, with-queue-same, with-queue-other, times-with, times-none}
 use Rattle.queue_table.proofs.MoveBack.{StandsIn, front-none, back-none, rest, without-none}
 use Rattle.queue_table.proofs.Counting.{distinct-counted}
-use Rattle.queue_moves.specs.Moves.{item_of, count_of, standing, standing_at, Leaving, Own, stays, counts, goes, Plan, IsLowTarget, IsLowLeaving, IsLowOwn, IsLowPlan}
+use Rattle.queue_moves.specs.Moves.{Entry, item_of, count_of, standing, standing_at, Leaving, Own, stays, counts, goes, Plan, IsLowTarget, IsLowLeaving, IsLowOwn, IsLowPlan}
 use Rattle.queue_moves.specs.Moves.{turned, after_turn, after_turns, departed, after_leaving, count_or, turns_due, after_own, after_runs, after_first, after_second, after_all}
 use Rattle.queue_moves.specs.Tabled.{nodes_of, IsTabled, keys_of, StandsAs, lowered_entry, turned_list}
 

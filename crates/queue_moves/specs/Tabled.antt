@@ -1,7 +1,8 @@
 -- What holds of the queues of every table of keys.
 use Rattle.std.specs.Prelude.{◌≡◌, ℕ, zero, suc, ◌+◌, ◌-◌, ◌<◌, ◌≤◌, true, false, List, [], ◌∷◌, ◌++◌, map}
 use Rattle.step_record.specs.Keys.{has_key, keys_without}
-use Rattle.queue_table.specs.declared.records.Entry.{Entry}
+pub use Rattle.queue_table.specs.declared.records.Entry.{Entry}
+pub use Rattle.queue_table.specs.declared.slot.Slot.{Slot}
 use Rattle.queue_table.specs.Entries.{entry}
 use Rattle.queue_table.specs.Queues.{QUEUES, Queues, IsDistinct}
 use Rattle.queue_moves.specs.Moves.{item_of}

@@ -1,7 +1,7 @@
 -- The undo record of an access, from its plan and the queues before it, and how it undoes the access.
 use Rattle.std.specs.Prelude.{◌≡◌, ◌≢◌, ℕ, zero, suc, ◌+◌, ◌<◌, ◌≤◌, Option, Some, None}
 use Rattle.queue_table.specs.declared.records.Place.{Place}
-use Rattle.queue_table.specs.declared.records.Entry.{Entry}
+pub use Rattle.queue_table.specs.declared.records.Entry.{Entry}
 use Rattle.queue_table.specs.Entries.{Item, entry, oldest_of, newest_of, IsGap}
 use Rattle.queue_table.specs.Queues.{QUEUES, Queues, queue_holding, place_in, after_removal, after_count, after_return}
 use Rattle.queue_moves.specs.declared.records.Run.{Run}

@@ -1,10 +1,8 @@
 use Rattle.std.proofs.Common.{◌≡◌, List, map, ap, ◌∙◌}
 use Rattle.std.proofs.lemmas.Simd.{map-map}
 use Rattle.step_record.specs.declared.item.Item.{Item}
-use Rattle.queue_table.specs.declared.records.Entry.{Entry}
-use Rattle.queue_table.specs.declared.slot.Slot.{Slot}
 use Rattle.queue_table.specs.QueueTable.{queues}
-use Rattle.queue_moves.specs.Tabled.{keys_of}
+use Rattle.queue_moves.specs.Tabled.{Slot, Entry, keys_of}
 use Rattle.queue_moves.proofs.key_queues.KeyQueues.add_keys.Goals as goal
 
 pub returns : goal.returns

@@ -1,10 +1,8 @@
 use Rattle.std.proofs.Common.{◌∙◌, List, ap, sym, subst}
-use Rattle.queue_table.specs.declared.records.Entry.{Entry}
 use Rattle.queue_table.specs.Queues.{after_count}
-use Rattle.queue_table.specs.declared.slot.Slot.{Slot}
 use Rattle.queue_table.specs.QueueTable.{queues}
-use Rattle.queue_moves.specs.Moves.{item_of}
-use Rattle.queue_moves.specs.Tabled.{HasKeys}
+use Rattle.queue_moves.specs.Moves.{Entry, item_of}
+use Rattle.queue_moves.specs.Tabled.{Slot, HasKeys}
 use Rattle.queue_moves.proofs.Laws.{tabled-in}
 use Rattle.queue_moves.proofs.Tabled.{counts-absent, tabled-count}
 use Rattle.queue_moves.proofs.key_queues.KeyQueues.count_back.Goals as goal

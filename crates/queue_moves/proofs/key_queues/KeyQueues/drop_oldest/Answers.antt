@@ -1,13 +1,11 @@
 use Rattle.std.proofs.Common.{◌∙◌, List, None, ap, sym, subst}
-use Rattle.queue_table.specs.declared.records.Entry.{Entry}
 use Rattle.queue_table.specs.Entries.{is_same_item, occurrences}
 use Rattle.queue_table.specs.Queues.{after_removal}
-use Rattle.queue_table.specs.declared.slot.Slot.{Slot}
 use Rattle.queue_table.specs.QueueTable.{queues, HoldsAt}
 use Rattle.queue_moves.specs.declared.records.Departure.TheVariants as departure
-use Rattle.queue_moves.specs.Moves.{leaving}
+use Rattle.queue_moves.specs.Moves.{Entry, leaving}
 use Rattle.queue_moves.specs.Undoing.{IsLeft}
-use Rattle.queue_moves.specs.Tabled.{HasKeys}
+use Rattle.queue_moves.specs.Tabled.{Slot, HasKeys}
 use Rattle.queue_moves.proofs.Laws.{tabled-in, left-out, first-other}
 use Rattle.queue_moves.proofs.Tabled.{tabled-removal}
 use Rattle.queue_moves.proofs.key_queues.KeyQueues.drop_oldest.Goals as goal

@@ -1,12 +1,11 @@
 use Rattle.std.proofs.Common.{◌≡◌, List, None, refl, sym, subst}
 use Rattle.queue_table.specs.Entries.{entry}
 use Rattle.queue_table.specs.Queues.{queue_holding}
-use Rattle.queue_table.specs.declared.slot.Slot.{Slot}
 use Rattle.queue_table.specs.QueueTable.{queues}
 use Rattle.queue_moves.specs.declared.records.Change.TheVariants as change
 use Rattle.queue_moves.specs.Moves.{item_of, goes}
 use Rattle.queue_moves.specs.Undoing.{IsOwn}
-use Rattle.queue_moves.specs.Tabled.{HasKeys}
+use Rattle.queue_moves.specs.Tabled.{Slot, HasKeys}
 use Rattle.queue_moves.proofs.Laws.{tabled-in, own-joined}
 use Rattle.queue_table.proofs.QueueLists.{absent}
 use Rattle.queue_moves.proofs.Tabled.{tabled-push}

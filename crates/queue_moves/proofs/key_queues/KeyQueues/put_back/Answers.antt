@@ -1,11 +1,10 @@
 use Rattle.std.proofs.Common.{◌∙◌, List, Option, refl, ap, sym, subst}
 use Rattle.queue_table.specs.Entries.{Item, entry}
 use Rattle.queue_table.specs.Queues.{after_removal, after_return}
-use Rattle.queue_table.specs.declared.slot.Slot.{Slot}
 use Rattle.queue_table.specs.QueueTable.{queues}
 use Rattle.queue_moves.specs.Moves.{item_of}
 use Rattle.queue_moves.specs.Undoing.{item_in}
-use Rattle.queue_moves.specs.Tabled.{HasKeys}
+use Rattle.queue_moves.specs.Tabled.{Slot, HasKeys}
 use Rattle.queue_moves.proofs.Laws.{keys-back}
 use Rattle.queue_moves.proofs.key_queues.KeyQueues.put_back.Goals as goal
 

@@ -1,13 +1,11 @@
 use Rattle.std.proofs.Common.{◌∙◌, List, None, ap, sym, subst}
-use Rattle.queue_table.specs.declared.records.Entry.{Entry}
 use Rattle.queue_table.specs.Entries.{entry}
 use Rattle.queue_table.specs.Queues.{after_count}
-use Rattle.queue_table.specs.declared.slot.Slot.{Slot}
 use Rattle.queue_table.specs.QueueTable.{queues, HoldsAt}
 use Rattle.queue_moves.specs.declared.records.Change.TheVariants as change
-use Rattle.queue_moves.specs.Moves.{item_of, counts}
+use Rattle.queue_moves.specs.Moves.{Entry, item_of, counts}
 use Rattle.queue_moves.specs.Undoing.{IsOwn}
-use Rattle.queue_moves.specs.Tabled.{HasKeys}
+use Rattle.queue_moves.specs.Tabled.{Slot, HasKeys}
 use Rattle.queue_moves.proofs.Laws.{tabled-in, own-counted}
 use Rattle.queue_moves.proofs.Standing.{held-stands}
 use Rattle.queue_moves.proofs.Tabled.{tabled-count}

@@ -1,15 +1,13 @@
 use Rattle.std.proofs.Common.{◌≡◌, ◌∙◌, List, Option, None, ap, refl, sym, subst}
-use Rattle.queue_table.specs.declared.records.Entry.{Entry}
 use Rattle.queue_table.specs.Entries.{entry, oldest_of}
 use Rattle.queue_table.specs.Queues.{Queues, queue_holding, after_push, after_removal}
-use Rattle.queue_table.specs.declared.slot.Slot.{Slot}
 use Rattle.queue_table.specs.QueueTable.{queues}
 use Rattle.queue_table.proofs.QueueLists.{absent, still-absent}
 use Rattle.queue_moves.specs.declared.records.Departure.TheVariants as departure
 use Rattle.queue_moves.specs.declared.records.Change.TheVariants as change
-use Rattle.queue_moves.specs.Moves.{item_of, leaving, goes, departed}
+use Rattle.queue_moves.specs.Moves.{Entry, item_of, leaving, goes, departed}
 use Rattle.queue_moves.specs.Undoing.{IsLeft, IsOwn}
-use Rattle.queue_moves.specs.Tabled.{HasKeys}
+use Rattle.queue_moves.specs.Tabled.{Slot, HasKeys}
 use Rattle.queue_moves.proofs.Laws.{tabled-in, left-out, own-renewed}
 use Rattle.queue_moves.proofs.Tabled.{tabled-removal, tabled-push}
 use Rattle.queue_moves.proofs.key_queues.KeyQueues.renew_oldest.Goals as goal

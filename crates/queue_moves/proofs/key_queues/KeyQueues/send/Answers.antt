@@ -1,13 +1,11 @@
 use Rattle.std.proofs.Common.{◌∙◌, List, refl, ap, sym, subst}
-use Rattle.queue_table.specs.declared.records.Entry.{Entry}
 use Rattle.queue_table.specs.Entries.{entry}
 use Rattle.queue_table.specs.Queues.{after_send, place_in}
-use Rattle.queue_table.specs.declared.slot.Slot.{Slot}
 use Rattle.queue_table.specs.QueueTable.{queues, HoldsAt}
 use Rattle.queue_moves.specs.declared.records.Change.TheVariants as change
-use Rattle.queue_moves.specs.Moves.{item_of, goes}
+use Rattle.queue_moves.specs.Moves.{Entry, item_of, goes}
 use Rattle.queue_moves.specs.Undoing.{key_in, IsOwn}
-use Rattle.queue_moves.specs.Tabled.{HasKeys}
+use Rattle.queue_moves.specs.Tabled.{Slot, HasKeys}
 use Rattle.queue_moves.proofs.Laws.{tabled-in, own-moved}
 use Rattle.queue_moves.proofs.Standing.{held-stands}
 use Rattle.queue_moves.proofs.Tabled.{tabled-send}

@@ -1,7 +1,6 @@
 use Rattle.std.proofs.Common.{List, subst}
-use Rattle.queue_table.specs.declared.slot.Slot.{Slot}
 use Rattle.queue_table.specs.QueueTable.{queues}
-use Rattle.queue_moves.specs.Tabled.{IsTabled}
+use Rattle.queue_moves.specs.Tabled.{Slot, IsTabled}
 use Rattle.queue_moves.proofs.Laws.{tabled-in}
 use Rattle.queue_moves.proofs.key_queues.KeyQueues.tabled.Goals as goal
 

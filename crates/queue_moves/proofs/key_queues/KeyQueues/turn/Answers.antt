@@ -1,11 +1,9 @@
 use Rattle.std.proofs.Common.{◌∙◌, ◌-◌, Fits, w8, List, ap, sym, subst, arith, rules}
-use Rattle.queue_table.specs.declared.records.Entry.{Entry}
 use Rattle.queue_table.specs.Entries.{entry, is_same_item, occurrences}
 use Rattle.queue_table.specs.Queues.{Queues, after_send}
-use Rattle.queue_table.specs.declared.slot.Slot.{Slot}
 use Rattle.queue_table.specs.QueueTable.{queues, HoldsAt}
 use Rattle.queue_moves.specs.Undoing.{IsTurn}
-use Rattle.queue_moves.specs.Tabled.{HasKeys}
+use Rattle.queue_moves.specs.Tabled.{Slot, Entry, HasKeys}
 use Rattle.queue_moves.proofs.Laws.{tabled-in, first-other, off-after-send}
 use Rattle.queue_moves.proofs.Runs.{turn-made}
 use Rattle.queue_moves.proofs.Tabled.{oldest-node, tabled-send}

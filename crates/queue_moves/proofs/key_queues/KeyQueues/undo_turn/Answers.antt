@@ -1,11 +1,9 @@
 use Rattle.std.proofs.Common.{◌∙◌, ◌+◌, List, None, ap, sym, subst}
-use Rattle.queue_table.specs.declared.records.Entry.{Entry}
 use Rattle.queue_table.specs.Entries.{entry}
 use Rattle.queue_table.specs.Queues.{after_removal, after_return}
-use Rattle.queue_table.specs.declared.slot.Slot.{Slot}
 use Rattle.queue_table.specs.QueueTable.{queues}
 use Rattle.queue_moves.specs.Undoing.{turned_back, before_turn}
-use Rattle.queue_moves.specs.Tabled.{HasKeys}
+use Rattle.queue_moves.specs.Tabled.{Slot, Entry, HasKeys}
 use Rattle.queue_moves.proofs.Laws.{keys-back, newest-node}
 use Rattle.queue_moves.proofs.key_queues.KeyQueues.undo_turn.Goals as goal
 
