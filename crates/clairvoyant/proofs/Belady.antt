@@ -1,27 +1,26 @@
 -- The residents and what leaves.
-use Rattle.std.proofs.Common.{◌≡◌, ℕ, suc, zero, ◌<◌, ◌≤◌, true, false, cond, eqb, nat_lt, ◌⊎◌, inl, inr, List, [], ◌∷◌, length, get_or, ap, ◌∙◌, sym, refl, arith}
-use Rattle.std.proofs.lemmas.Bool.{cases_Bool, eqb-true, eq-eqb, ltb-true, ltb-false}
+use Rattle.std.proofs.Common.{◌≡◌, ℕ, suc, zero, ◌+◌, ◌<◌, ◌≤◌, true, false, cond, eqb, nat_lt, ◌⊎◌, inl, inr, List, [], ◌∷◌, length, get_or, ap, ◌∙◌, sym, refl, arith}
+use Rattle.std.proofs.lemmas.Bool.{cases_Bool, eqb-true, eq-eqb, ne_eqb, ltb-true, ltb-false}
+use Rattle.step_record.specs.declared.outcome.Outcome.{Outcome}
+use Rattle.step_record.specs.declared.outcome.Outcome.TheVariants as outcome
 use Rattle.step_record.specs.Keys.{has_key, keys_without}
-use Rattle.step_record.specs.Stats.{is_hit}
+use Rattle.step_record.specs.Stats.{is_hit, is_miss, is_eviction, one_if}
+use Rattle.clairvoyant.specs.declared.optimal_record.OptimalRecord.{OptimalRecord}
+use Rattle.clairvoyant.specs.declared.optimal_record.OptimalRecord.TheVariants.{Hit, Kept, Evicted, Rejected}
 use Rattle.clairvoyant.specs.Keys.{residents_with, IsAscendingKeys}
 use Rattle.clairvoyant.specs.Ranks.{rank, key_at}
 use Rattle.clairvoyant.specs.Belady.{leaves_first, farthest, belady_residents_after, belady_answer, belady_residents}
-use Rattle.clairvoyant.proofs.Keys.{has-put, has-without, ascending-put, ascending-without, length-put, length-without}
+use Rattle.clairvoyant.specs.OptimalRecord.{use_record_of}
+use Rattle.clairvoyant.proofs.Keys.{has-put, has-without, ascending-put, ascending-without, length-put, length-without, without-put}
 use Rattle.clairvoyant.proofs.Ranking.{IsSeen, seen-own, seen-more, named, leaves-rank}
 
-served-ascending : (c : ℕ) (t : List ℕ) (i k : ℕ) (r : List ℕ) → IsAscendingKeys r → IsAscendingKeys (belady_residents_after c t i k r)
-served-ascending c t i k r s =
-    elim (cases_Bool (has_key k r)) as (λ _. IsAscendingKeys (belady_residents_after c t i k r)) [
-      | inl e ↦ rw e s
-      | inr e ↦ elim (cases_Bool (nat_lt (length r) c)) as (λ _. IsAscendingKeys (belady_residents_after c t i k r)) [
-        | inl f ↦ rw (e, f) (ascending-put k r s e)
-        | inr f ↦ rw (e, f) (ascending-without (farthest t i k r) (residents_with k r) (ascending-put k r s e))
-      ]
-    ]
+-- ---- the key that leaves is a resident or the accessed one
 
-pub residents-ascending : (c : ℕ) (t : List ℕ) (i : ℕ) → IsAscendingKeys (belady_residents c t i)
-residents-ascending c t zero = tt
-residents-ascending c t (suc i) = served-ascending c t i (get_or t i 0) (belady_residents c t i) (residents-ascending c t i)
+pub later : (x a : ℕ) (l : List ℕ) → has_key x l ≡ true → has_key x (a ∷ l) ≡ true
+later x a l h = rw h (elim (cases_Bool (eqb x a)) as (λ _. cond (eqb x a) true true ≡ true) [ inl e ↦ rw e refl | inr e ↦ rw e refl ])
+
+pub soon : (x a : ℕ) (l : List ℕ) → (x ≡ a) ⊎ (has_key x l ≡ true) → has_key x (a ∷ l) ≡ true
+soon x a l h = elim h [ inl f ↦ let s : eqb x a ≡ true = eq-eqb x a f in rw s refl | inr f ↦ later x a l f ]
 
 pub put-has : (x k : ℕ) (r : List ℕ) → has_key x (residents_with k r) ≡ true → (x ≡ k) ⊎ (has_key x r ≡ true)
 put-has x k r h =
@@ -36,32 +35,6 @@ without-has x v r h =
       | inl e ↦ absurd (let no : false ≡ true = rw (has-without x v r, e) at h in cc (no))
       | inr e ↦ rw (has-without x v r, e) at h
     ]
-
-pub served-has : (c : ℕ) (t : List ℕ) (i k x : ℕ) (r : List ℕ) → has_key x (belady_residents_after c t i k r) ≡ true → (x ≡ k) ⊎ (has_key x r ≡ true)
-served-has c t i k x r h =
-    elim (cases_Bool (has_key k r)) [
-      | inl e ↦ inr (rw e at h)
-      | inr e ↦ elim (cases_Bool (nat_lt (length r) c)) [
-        | inl f ↦ put-has x k r (rw (e, f) at h)
-        | inr f ↦ put-has x k r (without-has x (farthest t i k r) (residents_with k r) (rw (e, f) at h))
-      ]
-    ]
-
-pub residents-seen : (c : ℕ) (t : List ℕ) (i x : ℕ) → has_key x (belady_residents c t i) ≡ true → IsSeen t i x
-residents-seen c t zero x h = absurd (cc (h))
-residents-seen c t (suc i) x h =
-    elim (served-has c t i (get_or t i 0) x (belady_residents c t i) h) [
-      | inl e ↦ rw e (seen-own t i)
-      | inr g ↦ seen-more t i x (residents-seen c t i x g)
-    ]
-
--- ---- what leaves
-
-pub later : (x a : ℕ) (l : List ℕ) → has_key x l ≡ true → has_key x (a ∷ l) ≡ true
-later x a l h = rw h (elim (cases_Bool (eqb x a)) as (λ _. cond (eqb x a) true true ≡ true) [ inl e ↦ rw e refl | inr e ↦ rw e refl ])
-
-pub soon : (x a : ℕ) (l : List ℕ) → (x ≡ a) ⊎ (has_key x l ≡ true) → has_key x (a ∷ l) ≡ true
-soon x a l h = elim h [ inl f ↦ let s : eqb x a ≡ true = eq-eqb x a f in rw s refl | inr f ↦ later x a l f ]
 
 pub farthest-among : (t : List ℕ) (i b : ℕ) (l : List ℕ) → (farthest t i b l ≡ b) ⊎ (has_key (farthest t i b l) l ≡ true)
 farthest-among t i b [] = inl refl
@@ -81,37 +54,95 @@ farthest-among t i b (a ∷ l) =
 pub farthest-in : (t : List ℕ) (i k : ℕ) (r : List ℕ) → has_key (farthest t i k r) (residents_with k r) ≡ true
 farthest-in t i k r = has-put (farthest t i k r) k r ∙ soon (farthest t i k r) k r (farthest-among t i k r)
 
-pub full-length : (t : List ℕ) (i k : ℕ) (r : List ℕ) → IsAscendingKeys r → has_key k r ≡ false → length (keys_without (farthest t i k r) (residents_with k r)) ≡ length r
-full-length t i k r s e =
-    let out : suc (length (keys_without (farthest t i k r) (residents_with k r))) ≡ length (residents_with k r) = length-without (farthest t i k r) (residents_with k r) (ascending-put k r s e) (farthest-in t i k r) in
-    let in_ : length (residents_with k r) ≡ suc (length r) = length-put k r in
-    omega (arith, out, in_)
+-- ---- the ways of an access
 
--- ---- the capacity, and hits
+-- An access to k at place i of a cache of capacity c with residents r: its record, its outcome and the residents after it.
+pub data Accesses (c : ℕ) (t : List ℕ) (i k : ℕ) (r : List ℕ) : OptimalRecord → Outcome → List ℕ → Type 0 where
+  hit : has_key k r ≡ true → Accesses c t i k r Hit outcome.Hit r
+  kept : has_key k r ≡ false → length r < c → Accesses c t i k r Kept outcome.Kept (residents_with k r)
+  rejected : has_key k r ≡ false → Accesses c t i k r (Rejected k) (outcome.Rejected k) r
+  evicted : (v : ℕ) → has_key k r ≡ false → has_key v r ≡ true
+      → Accesses c t i k r (Evicted record { key = v; rank = rank t (suc i) v }) (outcome.Evicted v) (keys_without v (residents_with k r))
 
-stays-within : (c : ℕ) (t : List ℕ) (i k : ℕ) (r : List ℕ) → IsAscendingKeys r → length r ≤ c → length (belady_residents_after c t i k r) ≤ c
-stays-within c t i k r s h =
-    elim (cases_Bool (has_key k r)) as (λ _. length (belady_residents_after c t i k r) ≤ c) [
-      | inl e ↦ rw e h
-      | inr e ↦ elim (cases_Bool (nat_lt (length r) c)) as (λ _. length (belady_residents_after c t i k r) ≤ c) [
-        | inl f ↦ rw (e, f) (let room : length r < c = ltb-true (length r) c f in omega (arith, room, length-put k r))
-        | inr f ↦ rw (e, f) (omega (arith, h, full-length t i k r s e))
+pub accesses : (c : ℕ) (t : List ℕ) (i k : ℕ) (r : List ℕ) → Accesses c t i k r (use_record_of c t i k r) (belady_answer c t i k r) (belady_residents_after c t i k r)
+accesses c t i k r =
+    elim (cases_Bool (has_key k r)) as (λ _. Accesses c t i k r (use_record_of c t i k r) (belady_answer c t i k r) (belady_residents_after c t i k r)) [
+      | inl e ↦ rw e (hit e)
+      | inr e ↦ elim (cases_Bool (nat_lt (length r) c)) as (λ _. Accesses c t i k r (use_record_of c t i k r) (belady_answer c t i k r) (belady_residents_after c t i k r)) [
+        | inl f ↦ rw (e, f) (kept e (ltb-true (length r) c f))
+        | inr f ↦ elim (farthest-among t i k r) as (λ _. Accesses c t i k r (use_record_of c t i k r) (belady_answer c t i k r) (belady_residents_after c t i k r)) [
+          | inl g ↦ rw (e, f, g, eq-eqb k k refl, without-put k r e) (rejected e)
+          | inr g ↦
+              let apart : eqb k (farthest t i k r) ≡ false = ne_eqb k (farthest t i k r) (λ s. absurd (cc (e, g, ap (λ x. has_key x r) s))) in
+              rw (e, f, apart) (evicted (farthest t i k r) e g)
+        ]
       ]
     ]
 
-pub residents-fit : (c : ℕ) (t : List ℕ) (i : ℕ) → length (belady_residents c t i) ≤ c
-residents-fit c t zero = omega arith
-residents-fit c t (suc i) = stays-within c t i (get_or t i 0) (belady_residents c t i) (residents-ascending c t i) (residents-fit c t i)
+evicted-length : (k v : ℕ) (r : List ℕ) → IsAscendingKeys r → has_key k r ≡ false → has_key v (residents_with k r) ≡ true → length (keys_without v (residents_with k r)) ≡ length r
+evicted-length k v r s e there = omega (arith, length-without v (residents_with k r) (ascending-put k r s e) there, length-put k r)
+
+pub full-length : (t : List ℕ) (i k : ℕ) (r : List ℕ) → IsAscendingKeys r → has_key k r ≡ false → length (keys_without (farthest t i k r) (residents_with k r)) ≡ length r
+full-length t i k r s e = evicted-length k (farthest t i k r) r s e (farthest-in t i k r)
+
+in-full : (k v : ℕ) (r : List ℕ) → has_key v r ≡ true → has_key v (residents_with k r) ≡ true
+in-full k v r g = has-put v k r ∙ later v k r g
+
+module _ {c : ℕ} {t : List ℕ} {i k : ℕ} {r : List ℕ} where
+  stays-ascending : {d : OptimalRecord} {o : Outcome} {l : List ℕ} → Accesses c t i k r d o l → IsAscendingKeys r → IsAscendingKeys l
+  stays-ascending (hit e) s = s
+  stays-ascending (kept e f) s = ascending-put k r s e
+  stays-ascending (rejected e) s = s
+  stays-ascending (evicted v e g) s = ascending-without v (residents_with k r) (ascending-put k r s e)
+
+  came-by : {d : OptimalRecord} {o : Outcome} {l : List ℕ} → Accesses c t i k r d o l → (x : ℕ) → has_key x l ≡ true → (x ≡ k) ⊎ (has_key x r ≡ true)
+  came-by (hit e) x h = inr h
+  came-by (kept e f) x h = put-has x k r h
+  came-by (rejected e) x h = inr h
+  came-by (evicted v e g) x h = put-has x k r (without-has x v (residents_with k r) h)
+
+  pub access-counts : {d : OptimalRecord} {o : Outcome} {l : List ℕ} → Accesses c t i k r d o l → IsAscendingKeys r → length l + one_if (is_eviction o) ≡ length r + one_if (is_miss o)
+  access-counts (hit e) s = refl
+  access-counts (kept e f) s = omega (arith, length-put k r)
+  access-counts (rejected e) s = refl
+  access-counts (evicted v e g) s = omega (arith, evicted-length k v r s e (in-full k v r g))
+
+  stays-within : {d : OptimalRecord} {o : Outcome} {l : List ℕ} → Accesses c t i k r d o l → IsAscendingKeys r → length r ≤ c → length l ≤ c
+  stays-within (hit e) s h = h
+  stays-within (kept e f) s h = omega (arith, f, length-put k r)
+  stays-within (rejected e) s h = h
+  stays-within (evicted v e g) s h = omega (arith, h, evicted-length k v r s e (in-full k v r g))
+
+  hits-by : {d : OptimalRecord} {o : Outcome} {l : List ℕ} → Accesses c t i k r d o l → is_hit o ≡ has_key k r
+  hits-by (hit e) = sym e
+  hits-by (kept e f) = sym e
+  hits-by (rejected e) = sym e
+  hits-by (evicted v e g) = sym e
+
+pub served-has : (c : ℕ) (t : List ℕ) (i k x : ℕ) (r : List ℕ) → has_key x (belady_residents_after c t i k r) ≡ true → (x ≡ k) ⊎ (has_key x r ≡ true)
+served-has c t i k x r h = came-by (accesses c t i k r) x h
 
 pub hit-resident : (c : ℕ) (t : List ℕ) (i k : ℕ) (r : List ℕ) → is_hit (belady_answer c t i k r) ≡ has_key k r
-hit-resident c t i k r =
-    elim (cases_Bool (has_key k r)) [
-      | inl e ↦ rw e refl
-      | inr e ↦ elim (cases_Bool (nat_lt (length r) c)) [
-        | inl f ↦ rw (e, f) refl
-        | inr f ↦ elim (cases_Bool (eqb k (farthest t i k r))) [ inl g ↦ rw (e, f, g) refl | inr g ↦ rw (e, f, g) refl ]
+hit-resident c t i k r = hits-by (accesses c t i k r)
+
+module _ (c : ℕ) (t : List ℕ) where
+  pub residents-ascending : (i : ℕ) → IsAscendingKeys (belady_residents c t i)
+  residents-ascending zero = tt
+  residents-ascending (suc i) = stays-ascending (accesses c t i (get_or t i 0) (belady_residents c t i)) (residents-ascending i)
+
+  pub residents-seen : (i x : ℕ) → has_key x (belady_residents c t i) ≡ true → IsSeen t i x
+  residents-seen zero x h = absurd (cc (h))
+  residents-seen (suc i) x h =
+      elim (served-has c t i (get_or t i 0) x (belady_residents c t i) h) [
+        | inl e ↦ rw e (seen-own t i)
+        | inr g ↦ seen-more t i x (residents-seen i x g)
       ]
-    ]
+
+  pub residents-fit : (i : ℕ) → length (belady_residents c t i) ≤ c
+  residents-fit zero = omega arith
+  residents-fit (suc i) = stays-within (accesses c t i (get_or t i 0) (belady_residents c t i)) (residents-ascending i) (residents-fit i)
+
+-- ---- what leaves ranks least
 
 -- v ranks least of b and the keys l, after the access at place i
 pub record IsLeast (t : List ℕ) (i b : ℕ) (l : List ℕ) (v : ℕ) : Type 0 where

@@ -16,6 +16,12 @@ rank-none t i k h = rw h refl
 pub rank-own : (t : List ℕ) (i : ℕ) → i < length t → rank t i (get_or t i 0) ≡ 2 * length t - 1 - i
 rank-own t i h = rank-some t i (get_or t i 0) i (next-own t i h)
 
+pub key-own : (t : List ℕ) (i : ℕ) → i < length t → key_at t (2 * length t - 1 - i) ≡ get_or t i 0
+key-own t i lt =
+    let high : nat_lt (2 * length t - 1 - i) (length t) ≡ false = le-ltb (2 * length t - 1 - i) (length t) (omega arith) in
+    let back : 2 * length t - 1 - (2 * length t - 1 - i) ≡ i = omega arith in
+    rw (high, back) refl
+
 pub rank-other : (t : List ℕ) (i x : ℕ) → i < length t → eqb x (get_or t i 0) ≡ false → rank t (suc i) x ≡ rank t i x
 rank-other t i x h e = rw (e, next-other t i x h e) refl
 

@@ -1,18 +1,15 @@
 -- What the first accesses of a trace give, one access further.
-use Rattle.std.proofs.Common.{◌≡◌, ℕ, suc, zero, ◌+◌, ◌-◌, ◌<◌, ◌≤◌, Bool, true, false, cond, ◌&&◌, eqb, nat_lt, inl, inr, Some, None, List, length, count_by, get_or, ap, ◌∙◌, sym, refl, subst, arith, add-one}
-use Rattle.std.proofs.lemmas.Bool.{cases_Bool, eq-eqb, lt-ltb}
+use Rattle.std.proofs.Common.{◌≡◌, ℕ, suc, zero, ◌+◌, ◌-◌, ◌<◌, ◌≤◌, true, cond, eqb, nat_lt, Some, None, List, length, get_or, ap, ◌∙◌, sym, refl, subst, arith, add-one}
+use Rattle.std.proofs.lemmas.Bool.{eq-eqb, lt-ltb}
 use Rattle.step_record.specs.declared.limits.TheConstants.{MAX_STEPS}
 use Rattle.step_record.specs.declared.outcome.Outcome.{Outcome}
 use Rattle.step_record.specs.declared.stats.Stats.{Stats}
-use Rattle.step_record.specs.Keys.{has_key, keys_without}
-use Rattle.clairvoyant.specs.Keys.{residents_with, IsAscendingKeys}
-use Rattle.clairvoyant.specs.Belady.{farthest, belady_residents_after, belady_answer, belady_departure, belady_residents, belady_outcome, belady_outcomes}
 use Rattle.step_record.specs.Stats.{is_hit, is_miss, is_eviction, is_rejection, one_if, stats_with, stats_without, IsCounted, stats_of}
+use Rattle.step_record.proofs.Counting.{stats-snoc}
+use Rattle.clairvoyant.specs.Belady.{belady_answer, belady_residents, belady_outcome, belady_outcomes}
 use Rattle.clairvoyant.specs.Clairvoyant.{IsBeladyReached, clairvoyant_act, is_next, clairvoyant_after}
 use Rattle.clairvoyant.specs.Representation.{shown}
-use Rattle.step_record.proofs.Counting.{stats-snoc}
-use Rattle.clairvoyant.proofs.Keys.{has-put, length-put, length-without, ascending-put}
-use Rattle.clairvoyant.proofs.Belady.{residents-ascending, farthest-among, soon}
+use Rattle.clairvoyant.proofs.Belady.{accesses, access-counts, residents-ascending}
 
 -- the counts after one access more
 pub stats-next : (c : ℕ) (t : List ℕ) (s : Stats) → s ≡ stats_of (belady_outcomes c t s.accesses) → stats_with (belady_outcome c t s.accesses) s ≡ stats_of (belady_outcomes c t (s.accesses + 1))
@@ -29,34 +26,12 @@ reached-next c t s lt r = record {
 
 -- ---- residents are the misses minus the evictions
 
-gone-both : (k v : ℕ) → (is_miss (belady_departure k v) ≡ true) × (is_eviction (belady_departure k v) ≡ true)
-gone-both k v = elim (cases_Bool (eqb k v)) as (λ _. (is_miss (belady_departure k v) ≡ true) × (is_eviction (belady_departure k v) ≡ true)) [ inl e ↦ rw e (refl, refl) | inr e ↦ rw e (refl, refl) ]
-
-served-count : (c : ℕ) (t : List ℕ) (i k : ℕ) (r : List ℕ) → IsAscendingKeys r → length (belady_residents_after c t i k r) + one_if (is_eviction (belady_answer c t i k r)) ≡ length r + one_if (is_miss (belady_answer c t i k r))
-served-count c t i k r s =
-    elim (cases_Bool (has_key k r)) as (λ _. length (belady_residents_after c t i k r) + one_if (is_eviction (belady_answer c t i k r)) ≡ length r + one_if (is_miss (belady_answer c t i k r))) [
-      | inl e ↦ rw e refl
-      | inr e ↦ elim (cases_Bool (nat_lt (length r) c)) as (λ _. length (belady_residents_after c t i k r) + one_if (is_eviction (belady_answer c t i k r)) ≡ length r + one_if (is_miss (belady_answer c t i k r))) [
-        | inl f ↦ rw (e, f) (let n : length (residents_with k r) ≡ suc (length r) = length-put k r in omega arith)
-        | inr f ↦
-            let v : ℕ = farthest t i k r in
-            let in_it : has_key v (residents_with k r) ≡ true = has-put v k r ∙ soon v k r (farthest-among t i k r) in
-            let fewer : suc (length (keys_without v (residents_with k r))) ≡ length (residents_with k r) = length-without v (residents_with k r) (ascending-put k r s e) in_it in
-            let n : length (residents_with k r) ≡ suc (length r) = length-put k r in
-            let both = gone-both k v in
-            rw (e, f, both.0, both.1) (omega arith)
-      ]
-    ]
-
-pub held-count : (c : ℕ) (t : List ℕ) (i : ℕ) → length (belady_residents c t i) + count_by is_eviction (belady_outcomes c t i) ≡ count_by is_miss (belady_outcomes c t i)
+pub held-count : (c : ℕ) (t : List ℕ) (i : ℕ) → length (belady_residents c t i) + (stats_of (belady_outcomes c t i)).evictions ≡ (stats_of (belady_outcomes c t i)).misses
 held-count c t zero = refl
 held-count c t (suc i) =
-    let past : length (belady_residents c t i) + count_by is_eviction (belady_outcomes c t i) ≡ count_by is_miss (belady_outcomes c t i) = held-count c t i in
-    let now : length (belady_residents c t (suc i)) + one_if (is_eviction (belady_outcome c t i)) ≡ length (belady_residents c t i) + one_if (is_miss (belady_outcome c t i)) = served-count c t i (get_or t i 0) (belady_residents c t i) (residents-ascending c t i) in
-    let counts : stats_of (belady_outcomes c t (suc i)) ≡ stats_with (belady_outcome c t i) (stats_of (belady_outcomes c t i)) = stats-snoc (belady_outcomes c t i) (belady_outcome c t i) in
-    let evictions : count_by is_eviction (belady_outcomes c t (suc i)) ≡ count_by is_eviction (belady_outcomes c t i) + one_if (is_eviction (belady_outcome c t i)) = ap (λ x. x.evictions) counts in
-    let misses : count_by is_miss (belady_outcomes c t (suc i)) ≡ count_by is_miss (belady_outcomes c t i) + one_if (is_miss (belady_outcome c t i)) = ap (λ x. x.misses) counts in
-    omega (arith, past, now, evictions, misses)
+    let one = access-counts (accesses c t i (get_or t i 0) (belady_residents c t i)) (residents-ascending c t i) in
+    let counts = stats-snoc (belady_outcomes c t i) (belady_outcome c t i) in
+    omega (arith, held-count c t i, one, ap (λ x. x.evictions) counts, ap (λ x. x.misses) counts)
 
 pub reached-held : (c : ℕ) (t : List ℕ) (s : Stats) → IsBeladyReached (shown c t s) → length (belady_residents c t s.accesses) + s.evictions ≡ s.misses
 reached-held c t s r =
@@ -79,10 +54,6 @@ act-next c t s k o lt few e f =
     ∙ ap (λ x. Some (belady_answer c t s.accesses x (belady_residents c t s.accesses), clairvoyant_after (shown c t s) x)) e
     ∙ ap (λ n. Some (belady_outcome c t s.accesses, record { trace = t; capacity = c; residents = belady_residents c t n; stats = stats_with (belady_outcome c t s.accesses) s })) (sym (add-one s.accesses))
     ∙ ap (λ x. Some (x, shown c t (stats_with x s))) (sym f)
-
-past : (a b d : Bool) → b ≡ false → (a && (b && d)) ≡ false
-past true b d e = rw e refl
-past false b d e = refl
 
 uncount : (o : Outcome) (s : Stats) → stats_without o (stats_with o s) ≡ s
 uncount o s =

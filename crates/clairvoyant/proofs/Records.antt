@@ -1,182 +1,81 @@
 -- What the record of an access says of it, and how it leads back.
-use Rattle.std.proofs.Common.{◌≡◌, ℕ, suc, ◌<◌, ◌≤◌, ◌⊎◌, inl, inr, true, false, eqb, nat_lt, List, length, get_or, ap, ◌∙◌, sym, subst, refl}
-use Rattle.std.proofs.lemmas.Bool.{cases_Bool, eqb-true, eqb-false, ltb-true, ltb-false, lt-ltb, le-ltb, eq-eqb}
+use Rattle.std.proofs.Common.{◌≡◌, ℕ, suc, ◌<◌, ◌≤◌, true, false, eqb, nat_lt, List, length, get_or, ap, ◌∙◌, sym, subst, refl}
+use Rattle.std.proofs.lemmas.Bool.{lt-ltb, le-ltb, eq-eqb, ne_eqb}
+use Rattle.step_record.specs.declared.outcome.Outcome.{Outcome}
 use Rattle.step_record.specs.Keys.{has_key, keys_without}
 use Rattle.clairvoyant.specs.declared.optimal_record.EvictedKey.{EvictedKey}
 use Rattle.clairvoyant.specs.declared.optimal_record.OptimalRecord.{OptimalRecord}
 use Rattle.clairvoyant.specs.declared.optimal_record.OptimalRecord.TheVariants.{Hit, Kept, Evicted, Rejected}
-use Rattle.clairvoyant.specs.Keys.{residents_with}
+use Rattle.clairvoyant.specs.Keys.{residents_with, IsAscendingKeys}
 use Rattle.clairvoyant.specs.Ranks.{rank}
-use Rattle.clairvoyant.specs.Belady.{farthest, belady_residents, belady_outcome, belady_departure}
-use Rattle.step_record.specs.declared.outcome.Outcome.TheVariants as o
+use Rattle.clairvoyant.specs.Belady.{farthest, belady_residents, belady_outcome}
 use Rattle.clairvoyant.specs.OptimalRecord.{record_at, outcome_of, undone_keys}
-use Rattle.clairvoyant.proofs.Keys.{without-put}
-use Rattle.clairvoyant.proofs.Belady.{residents-ascending, farthest-among}
-use Rattle.clairvoyant.proofs.Serving.{served-hit, answer-hit, served-kept, answer-kept, served-full, answer-full, evicted-back}
+use Rattle.clairvoyant.proofs.Keys.{without-put, without-swap, put-without}
+use Rattle.clairvoyant.proofs.Belady.{Accesses, hit, kept, rejected, evicted, accesses, residents-ascending}
+use Rattle.clairvoyant.proofs.Ranked.{IsMore, with-more, without-more, swap-more}
 
--- the four ways of the access at a place
-pub record IsHit (c : ℕ) (t : List ℕ) (i : ℕ) : Type 0 where
-  pub hit : has_key (get_or t i 0) (belady_residents c t i) ≡ true
-  pub is : record_at c t i ≡ Hit
-
-pub record IsKept (c : ℕ) (t : List ℕ) (i : ℕ) : Type 0 where
-  pub miss : has_key (get_or t i 0) (belady_residents c t i) ≡ false
-  pub room : length (belady_residents c t i) < c
-  pub is : record_at c t i ≡ Kept
-
-pub record IsRejected (c : ℕ) (t : List ℕ) (i : ℕ) : Type 0 where
-  pub miss : has_key (get_or t i 0) (belady_residents c t i) ≡ false
-  pub full : c ≤ length (belady_residents c t i)
-  pub goes : farthest t i (get_or t i 0) (belady_residents c t i) ≡ get_or t i 0
-  pub is : record_at c t i ≡ Rejected (get_or t i 0)
-
-pub record IsEvicted (c : ℕ) (t : List ℕ) (i v : ℕ) : Type 0 where
-  pub miss : has_key (get_or t i 0) (belady_residents c t i) ≡ false
-  pub full : c ≤ length (belady_residents c t i)
-  pub goes : farthest t i (get_or t i 0) (belady_residents c t i) ≡ v
-  pub differs : eqb (get_or t i 0) v ≡ false
-  pub is : record_at c t i ≡ Evicted record { key = v; rank = rank t (suc i) v }
+-- the access at a place of the trace, by its record
+abbrev pub Stands : ℕ → List ℕ → ℕ → OptimalRecord → Type 0
+Stands c t i d = Accesses c t i (get_or t i 0) (belady_residents c t i) d (belady_outcome c t i) (belady_residents c t (suc i))
 
 module _ (c : ℕ) (t : List ℕ) (i : ℕ) where
-  pub record-hit : has_key (get_or t i 0) (belady_residents c t i) ≡ true → record_at c t i ≡ Hit
+  pub stands : (d : OptimalRecord) → d ≡ record_at c t i → Stands c t i d
+  stands d e = subst (λ x. Stands c t i x) (sym e) (accesses c t i (get_or t i 0) (belady_residents c t i))
+
+  -- the record, by what the residents are
+  pub record-hit : has_key (get_or t i 0) (belady_residents c t i) ≡ true → Hit ≡ record_at c t i
   record-hit h = rw h refl
 
-  pub record-kept : has_key (get_or t i 0) (belady_residents c t i) ≡ false → length (belady_residents c t i) < c → record_at c t i ≡ Kept
-  record-kept h l = let f : nat_lt (length (belady_residents c t i)) c ≡ true = lt-ltb (length (belady_residents c t i)) c l in rw (h, f) refl
+  module _ (h : has_key (get_or t i 0) (belady_residents c t i) ≡ false) where
+    pub record-kept : length (belady_residents c t i) < c → Kept ≡ record_at c t i
+    record-kept l = rw (h, lt-ltb (length (belady_residents c t i)) c l) refl
 
-  pub record-rejected : has_key (get_or t i 0) (belady_residents c t i) ≡ false → c ≤ length (belady_residents c t i) → farthest t i (get_or t i 0) (belady_residents c t i) ≡ get_or t i 0 → record_at c t i ≡ Rejected (get_or t i 0)
-  record-rejected h l e =
-      let f : nat_lt (length (belady_residents c t i)) c ≡ false = le-ltb (length (belady_residents c t i)) c l in
-      let g : eqb (get_or t i 0) (farthest t i (get_or t i 0) (belady_residents c t i)) ≡ true = eq-eqb (get_or t i 0) (farthest t i (get_or t i 0) (belady_residents c t i)) (sym e) in
-      rw (h, f, g) refl
+    module _ (full : c ≤ length (belady_residents c t i)) where
+      pub record-rejected : farthest t i (get_or t i 0) (belady_residents c t i) ≡ get_or t i 0 → Rejected (get_or t i 0) ≡ record_at c t i
+      record-rejected e = rw (h, le-ltb (length (belady_residents c t i)) c full, e, eq-eqb (get_or t i 0) (get_or t i 0) refl) refl
 
-  pub record-evicted : (v : ℕ) → has_key (get_or t i 0) (belady_residents c t i) ≡ false → c ≤ length (belady_residents c t i) → farthest t i (get_or t i 0) (belady_residents c t i) ≡ v → eqb (get_or t i 0) v ≡ false → record_at c t i ≡ Evicted record { key = v; rank = rank t (suc i) v }
-  record-evicted v h l e d =
-      let f : nat_lt (length (belady_residents c t i)) c ≡ false = le-ltb (length (belady_residents c t i)) c l in
-      rw (h, f, e, d) refl
+      pub record-evicted : (v n : ℕ) → farthest t i (get_or t i 0) (belady_residents c t i) ≡ v → has_key v (belady_residents c t i) ≡ true
+          → rank t (suc i) v ≡ n → Evicted record { key = v; rank = n } ≡ record_at c t i
+      record-evicted v n e there r =
+          let apart : eqb (get_or t i 0) v ≡ false = ne_eqb (get_or t i 0) v (λ s. absurd (cc (h, there, ap (λ x. has_key x (belady_residents c t i)) s))) in
+          rw (h, le-ltb (length (belady_residents c t i)) c full, e, apart, r) refl
 
-  ways : IsHit c t i ⊎ (IsKept c t i ⊎ (IsRejected c t i ⊎ IsEvicted c t i (farthest t i (get_or t i 0) (belady_residents c t i))))
-  ways =
-      elim (cases_Bool (has_key (get_or t i 0) (belady_residents c t i))) [
-        | inl h ↦ inl record { hit = h; is = record-hit h }
-        | inr h ↦ elim (cases_Bool (nat_lt (length (belady_residents c t i)) c)) [
-          | inl f ↦ let l = ltb-true (length (belady_residents c t i)) c f in inr (inl record { miss = h; room = l; is = record-kept h l })
-          | inr f ↦
-              let l = ltb-false (length (belady_residents c t i)) c f in
-              let v : ℕ = farthest t i (get_or t i 0) (belady_residents c t i) in
-              elim (cases_Bool (eqb (get_or t i 0) v)) [
-                | inl g ↦ let e = sym (eqb-true (get_or t i 0) v g) in inr (inr (inl record { miss = h; full = l; goes = e; is = record-rejected h l e }))
-                | inr g ↦ inr (inr (inr record { miss = h; full = l; goes = refl; differs = g; is = record-evicted v h l refl g }))
-              ]
-        ]
-      ]
+-- ---- by the ways of an access
 
-  -- which way it was, from the record
-  pub known-hit : Hit ≡ record_at c t i → has_key (get_or t i 0) (belady_residents c t i) ≡ true
-  known-hit h =
-      elim ways [
-        | inl w ↦ w.hit
-        | inr w1 ↦ elim w1 [
-          | inl w ↦ absurd (let no : Hit ≡ Kept = h ∙ w.is in cc (no))
-          | inr w2 ↦ elim w2 [
-            | inl w ↦ absurd (let no : Hit ≡ Rejected (get_or t i 0) = h ∙ w.is in cc (no))
-            | inr w ↦ absurd (let no = h ∙ w.is in cc (no))
-          ]
-        ]
-      ]
+-- what left goes back, and what came goes out
+evicted-back : (k v : ℕ) (r : List ℕ) → IsAscendingKeys r → has_key k r ≡ false → has_key v r ≡ true → residents_with v (keys_without k (keys_without v (residents_with k r))) ≡ r
+evicted-back k v r s none there = ap (residents_with v) (without-swap k v (residents_with k r) ∙ ap (keys_without v) (without-put k r none)) ∙ put-without v r s there
 
-  pub known-kept : Kept ≡ record_at c t i → (has_key (get_or t i 0) (belady_residents c t i) ≡ false) × (length (belady_residents c t i) < c)
-  known-kept h =
-      elim ways [
-        | inl w ↦ absurd (let no : Kept ≡ Hit = h ∙ w.is in cc (no))
-        | inr w1 ↦ elim w1 [
-          | inl w ↦ (w.miss, w.room)
-          | inr w2 ↦ elim w2 [
-            | inl w ↦ absurd (let no : Kept ≡ Rejected (get_or t i 0) = h ∙ w.is in cc (no))
-            | inr w ↦ absurd (let no = h ∙ w.is in cc (no))
-          ]
-        ]
-      ]
+module _ {c : ℕ} {t : List ℕ} {i k : ℕ} {r : List ℕ} where
+  outcome-by : {d : OptimalRecord} {o : Outcome} {l : List ℕ} → Accesses c t i k r d o l → outcome_of d ≡ o
+  outcome-by (hit e) = refl
+  outcome-by (kept e f) = refl
+  outcome-by (rejected e) = refl
+  outcome-by (evicted v e g) = refl
 
-  pub known-rejected : (j : ℕ) → Rejected j ≡ record_at c t i → (has_key (get_or t i 0) (belady_residents c t i) ≡ false) × (c ≤ length (belady_residents c t i)) × (farthest t i (get_or t i 0) (belady_residents c t i) ≡ get_or t i 0)
-  known-rejected j h =
-      elim ways [
-        | inl w ↦ absurd (let no : Rejected j ≡ Hit = h ∙ w.is in cc (no))
-        | inr w1 ↦ elim w1 [
-          | inl w ↦ absurd (let no : Rejected j ≡ Kept = h ∙ w.is in cc (no))
-          | inr w2 ↦ elim w2 [
-            | inl w ↦ (w.miss, w.full, w.goes)
-            | inr w ↦ absurd (let no = h ∙ w.is in cc (no))
-          ]
-        ]
-      ]
+  keys-by : {d : OptimalRecord} {o : Outcome} {l : List ℕ} → Accesses c t i k r d o l → IsAscendingKeys r → undone_keys d k l ≡ r
+  keys-by (hit e) s = refl
+  keys-by (kept e f) s = without-put k r e
+  keys-by (rejected e) s = refl
+  keys-by (evicted v e g) s = evicted-back k v r s e g
 
-  pub known-evicted : (g : EvictedKey) → Evicted g ≡ record_at c t i → IsEvicted c t i g.key × (g.rank ≡ rank t (suc i) g.key)
-  known-evicted g h =
-      elim ways [
-        | inl w ↦ absurd (let no : Evicted g ≡ Hit = h ∙ w.is in cc (no))
-        | inr w1 ↦ elim w1 [
-          | inl w ↦ absurd (let no : Evicted g ≡ Kept = h ∙ w.is in cc (no))
-          | inr w2 ↦ elim w2 [
-            | inl w ↦ absurd (let no : Evicted g ≡ Rejected (get_or t i 0) = h ∙ w.is in cc (no))
-            | inr w ↦
-                let v : ℕ = farthest t i (get_or t i 0) (belady_residents c t i) in
-                let same : g ≡ record { key = v; rank = rank t (suc i) v } = ap (gone_in g) (h ∙ w.is) in
-                let key : g.key ≡ v = ap (λ x. x.key) same in
-                let P : ℕ → Type 0 = λ x. IsEvicted c t i x × (g.rank ≡ rank t (suc i) x) in
-                subst P (sym key) (w, ap (λ x. x.rank) same)
-          ]
-        ]
-      ]
-    where
-      gone_in : EvictedKey → OptimalRecord → EvictedKey
-      gone_in d Hit = d
-      gone_in d Kept = d
-      gone_in d (Evicted x) = x
-      gone_in d (Rejected j) = d
+  pub hit-mores : {o : Outcome} {l : List ℕ} → Accesses c t i k r Hit o l → IsMore (keys_without k r) k r × IsMore (keys_without k r) k l
+  hit-mores (hit e) = (without-more k r e, without-more k r e)
 
-  -- its outcome is the definition's
-  pub outcome-is : outcome_of (record_at c t i) ≡ belady_outcome c t i
-  outcome-is =
-      elim ways [
-        | inl w ↦ rw w.is (sym (answer-hit c t i (get_or t i 0) (belady_residents c t i) w.hit))
-        | inr w1 ↦ elim w1 [
-          | inl w ↦ rw w.is (sym (answer-kept c t i (get_or t i 0) (belady_residents c t i) w.miss w.room))
-          | inr w2 ↦ elim w2 [
-            | inl w ↦ ap outcome_of w.is ∙ sym (answer-full c t i (get_or t i 0) (belady_residents c t i) (get_or t i 0) w.miss w.full w.goes ∙ gone-own)
-            | inr w ↦ ap outcome_of w.is ∙ sym (answer-full c t i (get_or t i 0) (belady_residents c t i) (farthest t i (get_or t i 0) (belady_residents c t i)) w.miss w.full refl ∙ gone-other w.differs)
-          ]
-        ]
-      ]
-    where
-      gone-own : belady_departure (get_or t i 0) (get_or t i 0) ≡ o.Rejected (get_or t i 0)
-      gone-own = let e : eqb (get_or t i 0) (get_or t i 0) ≡ true = eq-eqb (get_or t i 0) (get_or t i 0) refl in rw e refl
+  pub kept-more : {o : Outcome} {l : List ℕ} → Accesses c t i k r Kept o l → IsMore r k l
+  kept-more (kept e f) = with-more k r e
 
-      gone-other : eqb (get_or t i 0) (farthest t i (get_or t i 0) (belady_residents c t i)) ≡ false → belady_departure (get_or t i 0) (farthest t i (get_or t i 0) (belady_residents c t i)) ≡ o.Evicted (farthest t i (get_or t i 0) (belady_residents c t i))
-      gone-other e = rw e refl
+  pub rejected-same : {j : ℕ} {o : Outcome} {l : List ℕ} → Accesses c t i k r (Rejected j) o l → (has_key k r ≡ false) × (l ≡ r)
+  rejected-same (rejected e) = (e, refl)
 
-  -- the one that left was a resident
-  pub was-in : (v : ℕ) → farthest t i (get_or t i 0) (belady_residents c t i) ≡ v → eqb (get_or t i 0) v ≡ false → has_key v (belady_residents c t i) ≡ true
-  was-in v e d =
-      elim (farthest-among t i (get_or t i 0) (belady_residents c t i)) [
-        | inl f ↦ absurd (eqb-false (get_or t i 0) v d (sym f ∙ e))
-        | inr f ↦ sym (ap (λ x. has_key x (belady_residents c t i)) e) ∙ f
-      ]
+  pub evicted-mores : {g : EvictedKey} {o : Outcome} {l : List ℕ} → Accesses c t i k r (Evicted g) o l
+      → IsMore (keys_without g.key r) g.key r × IsMore (keys_without g.key r) k l × (g.rank ≡ rank t (suc i) g.key) × (eqb g.key k ≡ false)
+  evicted-mores (evicted v e g) = (without-more v r g, swap-more k v r e g, refl, ne_eqb v k (λ s. absurd (cc (e, g, ap (λ x. has_key x r) s))))
 
-  -- the residents before it, from those after it
-  pub keys-back : undone_keys (record_at c t i) (get_or t i 0) (belady_residents c t (suc i)) ≡ belady_residents c t i
-  keys-back =
-      elim ways [
-        | inl w ↦ ap (λ x. undone_keys x (get_or t i 0) (belady_residents c t (suc i))) w.is ∙ served-hit c t i (get_or t i 0) (belady_residents c t i) w.hit
-        | inr w1 ↦ elim w1 [
-          | inl w ↦ ap (λ x. undone_keys x (get_or t i 0) (belady_residents c t (suc i))) w.is
-              ∙ ap (keys_without (get_or t i 0)) (served-kept c t i (get_or t i 0) (belady_residents c t i) w.miss w.room) ∙ without-put (get_or t i 0) (belady_residents c t i) w.miss
-          | inr w2 ↦ elim w2 [
-            | inl w ↦ ap (λ x. undone_keys x (get_or t i 0) (belady_residents c t (suc i))) w.is
-                ∙ served-full c t i (get_or t i 0) (belady_residents c t i) (get_or t i 0) w.miss w.full w.goes ∙ without-put (get_or t i 0) (belady_residents c t i) w.miss
-            | inr w ↦ ap (λ x. undone_keys x (get_or t i 0) (belady_residents c t (suc i))) w.is
-                ∙ ap (λ l. residents_with (farthest t i (get_or t i 0) (belady_residents c t i)) (keys_without (get_or t i 0) l)) (served-full c t i (get_or t i 0) (belady_residents c t i) (farthest t i (get_or t i 0) (belady_residents c t i)) w.miss w.full refl)
-                ∙ evicted-back (get_or t i 0) (farthest t i (get_or t i 0) (belady_residents c t i)) (belady_residents c t i) (residents-ascending c t i) w.miss (was-in (farthest t i (get_or t i 0) (belady_residents c t i)) refl w.differs)
-          ]
-        ]
-      ]
+-- its outcome is the definition's
+pub outcome-is : (c : ℕ) (t : List ℕ) (i : ℕ) → outcome_of (record_at c t i) ≡ belady_outcome c t i
+outcome-is c t i = outcome-by (accesses c t i (get_or t i 0) (belady_residents c t i))
+
+-- the residents before it, from those after it
+pub keys-back : (c : ℕ) (t : List ℕ) (i : ℕ) → undone_keys (record_at c t i) (get_or t i 0) (belady_residents c t (suc i)) ≡ belady_residents c t i
+keys-back c t i = keys-by (accesses c t i (get_or t i 0) (belady_residents c t i)) (residents-ascending c t i)

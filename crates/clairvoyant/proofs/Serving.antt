@@ -1,128 +1,132 @@
--- What serving an access changes.
-use Rattle.std.proofs.Common.{◌≡◌, ℕ, suc, ◌-◌, ◌*◌, ◌<◌, ◌≤◌, Bool, true, false, cond, ◌&&◌, eqb, nat_lt, inl, inr, List, length, get_or, ap, ◌∙◌, sym, refl, arith}
-use Rattle.std.proofs.lemmas.Bool.{cases_lt, and_parts, eqb-true, ne_eqb, le-ltb, lt-ltb}
-use Rattle.step_record.specs.declared.outcome.Outcome.TheVariants.{Hit, Kept}
+-- What serving an access changes of the ranks that are held, and undoing it changes back.
+use Rattle.std.proofs.Common.{◌≡◌, ℕ, suc, ◌-◌, ◌*◌, ◌<◌, ◌≤◌, Bool, true, false, ◌&&◌, eqb, inl, inr, List, length, get_or, ap, ◌∙◌, sym, subst, refl, arith}
+use Rattle.std.proofs.lemmas.Bool.{cases_lt, and_parts, eqb-true, eq-eqb, ne_eqb}
 use Rattle.step_record.specs.Keys.{has_key, keys_without}
-use Rattle.clairvoyant.specs.Keys.{residents_with, IsAscendingKeys}
+use Rattle.clairvoyant.specs.declared.optimal_record.EvictedKey.{EvictedKey}
+use Rattle.clairvoyant.specs.declared.optimal_record.OptimalRecord.TheVariants.{Hit, Kept, Evicted, Rejected}
 use Rattle.clairvoyant.specs.Ranks.{rank, key_at}
-use Rattle.clairvoyant.specs.Belady.{farthest, belady_residents_after, belady_answer, belady_departure}
+use Rattle.clairvoyant.specs.Belady.{farthest, belady_residents}
 use Rattle.clairvoyant.specs.Bits.{is_in_set}
 use Rattle.clairvoyant.specs.RankSet.{IsTied}
-use Rattle.clairvoyant.proofs.Keys.{without-put, without-swap, put-without}
-use Rattle.clairvoyant.proofs.Ranking.{IsSeen, seen-own, seen-more, IsNamed, named, rank-other}
-use Rattle.clairvoyant.proofs.Belady.{farthest-is}
-use Rattle.clairvoyant.proofs.Steps.{same, in-own, step-hit, step-kept, step-rejected, step-evicted, key-own, is-at}
+use Rattle.clairvoyant.proofs.Ranking.{IsSeen, seen-own, seen-more, IsNamed, named, key-own, rank-own, rank-other}
+use Rattle.clairvoyant.proofs.Belady.{residents-seen, farthest-is}
+use Rattle.clairvoyant.proofs.Records.{Stands, hit-mores, kept-more, evicted-mores, rejected-same}
+use Rattle.clairvoyant.proofs.Ranked.{IsMore, IsEdited, more-there, tied-put, tied-taken, tied-on, tied-back}
 
-module _ (c : ℕ) (t : List ℕ) (i k : ℕ) (r : List ℕ) where
-  pub served-hit : has_key k r ≡ true → belady_residents_after c t i k r ≡ r
-  served-hit h = rw h refl
+module _ (c : ℕ) (t : List ℕ) (i : ℕ) (lt : i < length t) where
+  abbrev key : ℕ
+  key = get_or t i 0
 
-  pub answer-hit : has_key k r ≡ true → belady_answer c t i k r ≡ Hit
-  answer-hit h = rw h refl
+  abbrev before : List ℕ
+  before = belady_residents c t i
 
-  pub served-kept : has_key k r ≡ false → length r < c → belady_residents_after c t i k r ≡ residents_with k r
-  served-kept h l = let f : nat_lt (length r) c ≡ true = lt-ltb (length r) c l in rw (h, f) refl
+  abbrev after : List ℕ
+  after = belady_residents c t (suc i)
 
-  pub answer-kept : has_key k r ≡ false → length r < c → belady_answer c t i k r ≡ Kept
-  answer-kept h l = let f : nat_lt (length r) c ≡ true = lt-ltb (length r) c l in rw (h, f) refl
+  named-new : key_at t (rank t (suc i) key) ≡ key
+  named-new = (named t (suc i) key (omega arith) (seen-own t i)).key
 
-  pub served-full : (v : ℕ) → has_key k r ≡ false → c ≤ length r → farthest t i k r ≡ v → belady_residents_after c t i k r ≡ keys_without v (residents_with k r)
-  served-full v h l e = let f : nat_lt (length r) c ≡ false = le-ltb (length r) c l in rw (h, f) (ap (λ x. keys_without x (residents_with k r)) e)
+  named-before : (v : ℕ) → has_key v before ≡ true → IsNamed t i v
+  named-before v there = named t i v (omega arith) (residents-seen c t i v there)
 
-  pub answer-full : (v : ℕ) → has_key k r ≡ false → c ≤ length r → farthest t i k r ≡ v → belady_answer c t i k r ≡ belady_departure k v
-  answer-full v h l e = let f : nat_lt (length r) c ≡ false = le-ltb (length r) c l in rw (h, f) (ap (belady_departure k) e)
+  -- ---- a key leaves and the accessed one comes
 
-and-same : (b : Bool) (n : ℕ) → (b && eqb n n) ≡ b
-and-same true n = same n
-and-same false n = refl
+  module _ (m : List ℕ) (v : ℕ) (old : IsMore m v before) (new : IsMore m key after) (h h1 h2 : List Bool) where
+    named-old : key_at t (rank t i v) ≡ v
+    named-old = (named-before v (more-there m v before old)).key
 
--- two edits of a set
-pub edited : (h0 h1 h2 : List Bool) (a b p n q : ℕ) → a ≡ p → b ≡ n → is_in_set h1 q ≡ cond (eqb q a) false (is_in_set h0 q) → is_in_set h2 q ≡ cond (eqb q b) true (is_in_set h1 q) → is_in_set h2 q ≡ cond (eqb q n) true (cond (eqb q p) false (is_in_set h0 q))
-edited h0 h1 h2 a b p n q e f g h = h ∙ ap (λ x. cond (eqb q x) true (is_in_set h1 q)) f ∙ ap (cond (eqb q n) true) (g ∙ ap (λ x. cond (eqb q x) false (is_in_set h0 q)) e)
+    swapped : (out own : ℕ) → out ≡ rank t i v → own ≡ rank t (suc i) key → IsEdited h out false h1 → IsEdited h1 own true h2
+        → IsTied t i before h → IsTied t (suc i) after h2
+    swapped out own o w taken put tied =
+        tied-put t (suc i) key named-new m after new h1 h2 own w put (tied-on t i lt m new.new h1 (tied-taken t i v named-old m before old h h1 out o taken tied))
 
-module _ (t : List ℕ) (i : ℕ) (lt : i < length t) (r : List ℕ) (seen : (a : ℕ) → has_key a r ≡ true → IsSeen t i a) (h : List Bool) (tied : IsTied t i r h) where
-  -- the key is a resident where the rank that it has now is held
-  pub own-held : (own : ℕ) → own ≡ 2 * length t - 1 - i → is_in_set h own ≡ has_key (get_or t i 0) r
-  own-held own e =
-      ap (is_in_set h) e ∙ tied.ranks (2 * length t - 1 - i) (omega arith) ∙ in-own t i r (2 * length t - 1 - i) lt (key-own t i lt) ∙ and-same (has_key (get_or t i 0) r) (2 * length t - 1 - i)
+    swapped-back : (out own : ℕ) → out ≡ rank t i v → own ≡ rank t (suc i) key → IsEdited h own false h1 → IsEdited h1 out true h2
+        → IsTied t (suc i) after h → IsTied t i before h2
+    swapped-back out own o w taken put tied =
+        tied-put t i v named-old m before old h1 h2 out o put (tied-back t i lt m new.new h1 (tied-taken t (suc i) key named-new m after new h h1 own w taken tied))
 
-  pub tied-hit : (h1 h2 : List Bool) (own new : ℕ) → own ≡ 2 * length t - 1 - i → new ≡ rank t (suc i) (get_or t i 0) → has_key (get_or t i 0) r ≡ true → length h1 ≡ length h → ((q : ℕ) → is_in_set h1 q ≡ cond (eqb q own) false (is_in_set h q)) → length h2 ≡ length h1 → ((q : ℕ) → is_in_set h2 q ≡ cond (eqb q new) true (is_in_set h1 q)) → IsTied t (suc i) r h2
-  tied-hit h1 h2 own new e f there l1 takes l2 puts = record {
-    size = l2 ∙ l1 ∙ tied.size;
-    ranks = λ q w. edited h h1 h2 own new (2 * length t - 1 - i) (rank t (suc i) (get_or t i 0)) q e f (takes q) (puts q)
-        ∙ ap (λ z. cond (eqb q (rank t (suc i) (get_or t i 0))) true (cond (eqb q (2 * length t - 1 - i)) false z)) (tied.ranks q w)
-        ∙ sym (step-hit t i lt r there q);
-  }
+  module _ (h : List Bool) (own : ℕ) (w : own ≡ rank t (suc i) key) where
+    pub hit-tied : Stands c t i Hit → (h1 h2 : List Bool) (out : ℕ) → out ≡ 2 * length t - 1 - i → IsEdited h out false h1 → IsEdited h1 own true h2
+        → IsTied t i before h → IsTied t (suc i) after h2
+    hit-tied s h1 h2 out o = let mores = hit-mores s in swapped _ key mores.0 mores.1 h h1 h2 out own (o ∙ sym (rank-own t i lt)) w
 
-  module _ (none : has_key (get_or t i 0) r ≡ false) where
-    pub tied-kept : (h1 : List Bool) (new : ℕ) → new ≡ rank t (suc i) (get_or t i 0) → length h1 ≡ length h → ((q : ℕ) → is_in_set h1 q ≡ cond (eqb q new) true (is_in_set h q)) → IsTied t (suc i) (residents_with (get_or t i 0) r) h1
-    tied-kept h1 new f l1 puts = record {
-      size = l1 ∙ tied.size;
-      ranks = λ q w. puts q ∙ ap (λ x. cond (eqb q x) true (is_in_set h q)) f ∙ ap (cond (eqb q (rank t (suc i) (get_or t i 0))) true) (tied.ranks q w) ∙ sym (step-kept t i lt r none q);
-    }
+    pub hit-back : Stands c t i Hit → (h1 h2 : List Bool) (out : ℕ) → out ≡ 2 * length t - 1 - i → IsEdited h own false h1 → IsEdited h1 out true h2
+        → IsTied t (suc i) after h → IsTied t i before h2
+    hit-back s h1 h2 out o = let mores = hit-mores s in swapped-back _ key mores.0 mores.1 h h1 h2 out own (o ∙ sym (rank-own t i lt)) w
 
-    pub tied-rejected : IsTied t (suc i) r h
-    tied-rejected = record { size = tied.size; ranks = λ q w. tied.ranks q w ∙ sym (step-rejected t i lt r none q) }
+    pub kept-tied : Stands c t i Kept → (h1 : List Bool) → IsEdited h own true h1 → IsTied t i before h → IsTied t (suc i) after h1
+    kept-tied s h1 put tied = let more = kept-more s in tied-put t (suc i) key named-new before after more h h1 own w put (tied-on t i lt before more.new h tied)
 
-    other : (a : ℕ) → has_key a r ≡ true → eqb a (get_or t i 0) ≡ false
-    other a g = ne_eqb a (get_or t i 0) (λ e. let no : true ≡ false = sym g ∙ ap (λ x. has_key x r) e ∙ none in cc (no))
+    pub kept-back : Stands c t i Kept → (h1 : List Bool) → IsEdited h own false h1 → IsTied t (suc i) after h → IsTied t i before h1
+    kept-back s h1 taken tied = let more = kept-more s in tied-back t i lt before more.new h1 (tied-taken t (suc i) key named-new before after more h h1 own w taken tied)
 
-    held-rank : (a : ℕ) → has_key a r ≡ true → is_in_set h (rank t i a) ≡ true
-    held-rank a g =
-        let n : IsNamed t i a = named t i a (omega arith) (seen a g) in
-        tied.ranks (rank t i a) n.within ∙ is-at t i r (rank t i a) a n.key ∙ and-same (has_key a r) (rank t i a) ∙ g
+    pub rejected-tied : (j : ℕ) → Stands c t i (Rejected j) → IsTied t i before h → IsTied t (suc i) after h
+    rejected-tied j s tied = let same = rejected-same s in subst (λ l. IsTied t (suc i) l h) (sym same.1) (tied-on t i lt before same.0 h tied)
 
-    -- no resident ranks below m where nothing below m is held
-    above : (m : ℕ) → ((q : ℕ) → q < m → is_in_set h q ≡ false) → (a : ℕ) → has_key a r ≡ true → m ≤ rank t (suc i) a
-    above m empty a g =
-        let e : rank t (suc i) a ≡ rank t i a = rank-other t i a lt (other a g) in
-        elim (cases_lt (rank t i a) m) [
-          | inl w ↦ absurd (let no : true ≡ false = sym (held-rank a g) ∙ empty (rank t i a) w in cc (no))
-          | inr w ↦ omega arith
-        ]
+    pub rejected-back : (j : ℕ) → Stands c t i (Rejected j) → IsTied t (suc i) after h → IsTied t i before h
+    rejected-back j s tied = let same = rejected-same s in tied-back t i lt before same.0 h (subst (λ l. IsTied t (suc i) l h) same.1 tied)
 
-    soon-seen : (a : ℕ) → has_key a r ≡ true → IsSeen t (suc i) a
-    soon-seen a g = seen-more t i a (seen a g)
+    module _ (g : EvictedKey) (s : Stands c t i (Evicted g)) where
+      left : g.rank ≡ rank t i g.key
+      left = (evicted-mores s).2 ∙ rank-other t i g.key lt (evicted-mores s).3
 
-    pub rejects : (new : ℕ) → new ≡ rank t (suc i) (get_or t i 0) → ((q : ℕ) → q < new → is_in_set h q ≡ false) → farthest t i (get_or t i 0) r ≡ get_or t i 0
-    rejects new e empty =
-        farthest-is t i (get_or t i 0) r (get_or t i 0) lt (seen-own t i) soon-seen (inl refl) record {
-          first = omega arith;
-          all = λ a g. let u : new ≤ rank t (suc i) a = above new empty a g in omega arith;
-        }
+      pub evicted-tied : (h1 h2 : List Bool) → IsEdited h g.rank false h1 → IsEdited h1 own true h2 → IsTied t i before h → IsTied t (suc i) after h2
+      evicted-tied h1 h2 = swapped _ g.key (evicted-mores s).0 (evicted-mores s).1 h h1 h2 g.rank own left w
 
-    module _ (m : ℕ) (in_it : m < 2 * length t) (held : is_in_set h m ≡ true) where
-      parts : (has_key (key_at t m) r ≡ true) × (eqb (rank t i (key_at t m)) m ≡ true)
-      parts = and_parts (has_key (key_at t m) r) (eqb (rank t i (key_at t m)) m) (sym (tied.ranks m in_it) ∙ held)
+      pub evicted-back : (h1 h2 : List Bool) → IsEdited h own false h1 → IsEdited h1 g.rank true h2 → IsTied t (suc i) after h → IsTied t i before h2
+      evicted-back h1 h2 = swapped-back _ g.key (evicted-mores s).0 (evicted-mores s).1 h h1 h2 g.rank own left w
 
-      pub there : has_key (key_at t m) r ≡ true
-      there = parts.0
+      pub evicted-within : g.rank < 2 * length t
+      evicted-within = rw left (named-before g.key (more-there _ g.key before (evicted-mores s).0)).within
 
-      ranked : rank t i (key_at t m) ≡ m
-      ranked = eqb-true (rank t i (key_at t m)) m parts.1
+  -- ---- what the ranks that are held say
 
-      pub ranked-next : rank t (suc i) (key_at t m) ≡ m
-      ranked-next = rank-other t i (key_at t m) lt (other (key_at t m) there) ∙ ranked
+  module _ (h : List Bool) (tied : IsTied t i before h) where
+    held-at : (x n : ℕ) → n < 2 * length t → key_at t n ≡ x → rank t i x ≡ n → is_in_set h n ≡ has_key x before
+    held-at x n lt key_is ranked =
+        tied.ranks n lt ∙ ap (λ y. has_key y before && eqb (rank t i y) n) key_is ∙ and-same (has_key x before) (rank t i x) n ranked
+      where
+        and-same : (b : Bool) (m n : ℕ) → m ≡ n → (b && eqb m n) ≡ b
+        and-same true m n e = eq-eqb m n e
+        and-same false m n e = refl
 
-      pub differs : eqb (get_or t i 0) (key_at t m) ≡ false
-      differs = ne_eqb (get_or t i 0) (key_at t m) (λ e. let no : true ≡ false = sym there ∙ ap (λ x. has_key x r) (sym e) ∙ none in cc (no))
+    -- the key is a resident where the rank that it has now is held
+    pub tested : (b : Bool) (own : ℕ) → own ≡ 2 * length t - 1 - i → b ≡ is_in_set h own → has_key key before ≡ b
+    tested b own e f =
+        sym (f ∙ ap (is_in_set h) e ∙ held-at key (2 * length t - 1 - i) (omega arith) (key-own t i lt) (rank-own t i lt))
 
-      pub evicts : (new : ℕ) → new ≡ rank t (suc i) (get_or t i 0) → m < new → ((q : ℕ) → q < m → is_in_set h q ≡ false) → farthest t i (get_or t i 0) r ≡ key_at t m
-      evicts new e less empty =
-          let rn : rank t (suc i) (key_at t m) ≡ m = ranked-next in
-          farthest-is t i (get_or t i 0) r (key_at t m) lt (seen-own t i) soon-seen (inr there) record {
+    module _ (none : has_key key before ≡ false) (new : ℕ) (is : new ≡ rank t (suc i) key) where
+      other : (a : ℕ) → has_key a before ≡ true → eqb a key ≡ false
+      other a g = ne_eqb a key (λ e. absurd (cc (g, none, ap (λ x. has_key x before) e)))
+
+      -- no resident ranks below m where nothing below m is held
+      above : (m : ℕ) → ((q : ℕ) → q < m → is_in_set h q ≡ false) → (a : ℕ) → has_key a before ≡ true → m ≤ rank t (suc i) a
+      above m empty a g =
+          let e : rank t (suc i) a ≡ rank t i a = rank-other t i a lt (other a g) in
+          let n = named-before a g in
+          elim (cases_lt (rank t i a) m) [
+            | inl w ↦ absurd (cc (held-at a (rank t i a) n.within n.key refl, g, empty (rank t i a) w))
+            | inr w ↦ omega arith
+          ]
+
+      soon-seen : (a : ℕ) → has_key a before ≡ true → IsSeen t (suc i) a
+      soon-seen a g = seen-more t i a (residents-seen c t i a g)
+
+      -- the key itself leaves, or the one that the least rank is of
+      pub none-out : ((q : ℕ) → q < new → is_in_set h q ≡ false) → farthest t i key before ≡ key
+      none-out empty =
+          farthest-is t i key before key lt (seen-own t i) soon-seen (inl refl) record {
             first = omega arith;
-            all = λ a g. let u : m ≤ rank t (suc i) a = above m empty a g in omega arith;
+            all = λ a g. let u : new ≤ rank t (suc i) a = above new empty a g in omega arith;
           }
 
-      pub tied-evicted : (h1 h2 : List Bool) (new : ℕ) → new ≡ rank t (suc i) (get_or t i 0) → length h1 ≡ length h → ((q : ℕ) → is_in_set h1 q ≡ cond (eqb q m) false (is_in_set h q)) → length h2 ≡ length h1 → ((q : ℕ) → is_in_set h2 q ≡ cond (eqb q new) true (is_in_set h1 q)) → IsTied t (suc i) (keys_without (key_at t m) (residents_with (get_or t i 0) r)) h2
-      tied-evicted h1 h2 new f l1 takes l2 puts = record {
-        size = l2 ∙ l1 ∙ tied.size;
-        ranks = λ q w. edited h h1 h2 m new m (rank t (suc i) (get_or t i 0)) q refl f (takes q) (puts q)
-            ∙ ap (λ z. cond (eqb q (rank t (suc i) (get_or t i 0))) true (cond (eqb q m) false z)) (tied.ranks q w)
-            ∙ sym (step-evicted t i lt r none (key_at t m) m there refl ranked q);
-      }
-
--- what left goes back, and what came goes out
-pub evicted-back : (k v : ℕ) (r : List ℕ) → IsAscendingKeys r → has_key k r ≡ false → has_key v r ≡ true → residents_with v (keys_without k (keys_without v (residents_with k r))) ≡ r
-evicted-back k v r s none there = ap (residents_with v) (without-swap k v (residents_with k r) ∙ ap (keys_without v) (without-put k r none)) ∙ put-without v r s there
+      pub least-out : (m : ℕ) → m < new → is_in_set h m ≡ true → m < 2 * length t → ((q : ℕ) → q < m → is_in_set h q ≡ false)
+          → (farthest t i key before ≡ key_at t m) × (has_key (key_at t m) before ≡ true) × (rank t (suc i) (key_at t m) ≡ m)
+      least-out m less held within empty =
+          let parts = and_parts (has_key (key_at t m) before) (eqb (rank t i (key_at t m)) m) (sym (tied.ranks m within) ∙ held) in
+          let ranked : rank t (suc i) (key_at t m) ≡ m = rank-other t i (key_at t m) lt (other (key_at t m) parts.0) ∙ eqb-true (rank t i (key_at t m)) m parts.1 in
+          let out = farthest-is t i key before (key_at t m) lt (seen-own t i) soon-seen (inr parts.0) record {
+            first = omega (arith, ranked);
+            all = λ a g. let u : m ≤ rank t (suc i) a = above m empty a g in omega (arith, ranked);
+          } in
+          (out, parts.0, ranked)
