@@ -1,6 +1,6 @@
 -- Belady's policy beside another strategy.
 use Rattle.std.proofs.Common.{◌≡◌, ◌⊎◌, ℕ, zero, suc, ◌+◌, ◌<◌, ◌≤◌, true, false, cond, nat_lt, List, ◌∷◌, length, get_or, ap, ◌∙◌, refl, arith, inl, inr}
-use Rattle.std.proofs.lemmas.Bool.{cases_Bool, cases_lt, ltb-false}
+use Rattle.std.proofs.lemmas.Bool.{cond_both, cases_Bool, cases_lt, ltb-false}
 use Rattle.step_record.specs.Stats.{one_if}
 use Rattle.step_record.specs.Keys.{has_key, keys_without}
 use Rattle.step_record.specs.declared.stats.Stats.{Stats}
@@ -44,21 +44,13 @@ belady-keeps : (c : ℕ) (t : List ℕ) (i n k : ℕ) (r : List ℕ) → IsAscen
     (count_keys (is_due t (suc i) n) (k ∷ r) ≤ count_keys (is_due t (suc i) n) (belady_residents_after c t i k r))
     ⊎ (c ≤ count_keys (is_due t (suc i) n) (belady_residents_after c t i k r))
 belady-keeps c t i n k r s =
-    elim (cases_Bool (has_key k r)) as (λ _. (count_keys (is_due t (suc i) n) (k ∷ r) ≤ count_keys (is_due t (suc i) n) (belady_residents_after c t i k r)) ⊎ (c ≤ count_keys (is_due t (suc i) n) (belady_residents_after c t i k r))) [
-      | inl e ↦ rw e (inl (omega arith))
-      | inr e ↦ elim (cases_Bool (nat_lt (length r) c)) as (λ _. (count_keys (is_due t (suc i) n) (k ∷ r) ≤ count_keys (is_due t (suc i) n) (belady_residents_after c t i k r)) ⊎ (c ≤ count_keys (is_due t (suc i) n) (belady_residents_after c t i k r))) [
-        | inl f ↦
-            let all : count_keys (is_due t (suc i) n) (k ∷ r) ≤ count_keys (is_due t (suc i) n) (residents_with k r) = count-subset (is_due t (suc i) n) (k ∷ r) (residents_with k r) (λ x h. has-put x k r ∙ h) in
-            let kept = rw e at all in
-            rw (e, f) (inl kept)
-        | inr f ↦
-            let full : c ≤ length r = ltb-false (length r) c f in
-            rw (e, f) (elim (full-keeps t i n k r s e) [
-              | inl g ↦ inl (rw e at g)
-              | inr g ↦ inr (omega (arith, g, full))
-            ])
-      ]
-    ]
+    cond_both (has_key k r) _ _ Keeps (λ e. inl (rw e (omega arith))) (λ e.
+    cond_both (nat_lt (length r) c) _ _ Keeps
+    (λ f. inl (count-subset (is_due t (suc i) n) (k ∷ r) (residents_with k r) (λ x h. has-put x k r ∙ h)))
+    (λ f. elim (full-keeps t i n k r s e) [ inl g ↦ inl g | inr g ↦ inr (omega (arith, g, ltb-false (length r) c f)) ]))
+  where
+    Keeps : List ℕ → Type 0
+    Keeps l = (count_keys (is_due t (suc i) n) (k ∷ r) ≤ count_keys (is_due t (suc i) n) l) ⊎ (c ≤ count_keys (is_due t (suc i) n) l)
 
 -- ---- hits
 
