@@ -1,6 +1,7 @@
 -- The residents and what leaves.
 use Rattle.std.proofs.Common.{◌≡◌, ℕ, suc, zero, ◌+◌, ◌<◌, ◌≤◌, true, false, cond, eqb, nat_lt, ◌⊎◌, inl, inr, List, [], ◌∷◌, length, get_or, ap, ◌∙◌, sym, refl, arith}
-use Rattle.std.proofs.lemmas.Bool.{cases_Bool, eqb-true, eq-eqb, ne_eqb, ltb-true, ltb-false}
+use Rattle.std.proofs.lemmas.Bool.{cases_Bool, cases_eq, eqb-true, eq-eqb, ne_eqb, ltb-true, ltb-false}
+use Rattle.std.proofs.lemmas.Bool.Decides.{nat_tests}
 use Rattle.step_record.specs.declared.outcome.Outcome.{Outcome}
 use Rattle.step_record.specs.declared.outcome.Outcome.TheVariants as outcome
 use Rattle.step_record.specs.Keys.{has_key, keys_without}
@@ -17,24 +18,18 @@ use Rattle.clairvoyant.proofs.Ranking.{IsSeen, seen-own, seen-more, named, leave
 -- ---- the key that leaves is a resident or the accessed one
 
 pub later : (x a : ℕ) (l : List ℕ) → has_key x l ≡ true → has_key x (a ∷ l) ≡ true
-later x a l h = rw h (elim (cases_Bool (eqb x a)) as (λ _. cond (eqb x a) true true ≡ true) [ inl e ↦ rw e refl | inr e ↦ rw e refl ])
+later x a l h = grind (arith, h)
 
 pub soon : (x a : ℕ) (l : List ℕ) → (x ≡ a) ⊎ (has_key x l ≡ true) → has_key x (a ∷ l) ≡ true
-soon x a l h = elim h [ inl f ↦ let s : eqb x a ≡ true = eq-eqb x a f in rw s refl | inr f ↦ later x a l f ]
+soon x a l h = elim h [ inl f ↦ rw (eq-eqb x a f) refl | inr f ↦ later x a l f ]
 
 pub put-has : (x k : ℕ) (r : List ℕ) → has_key x (residents_with k r) ≡ true → (x ≡ k) ⊎ (has_key x r ≡ true)
 put-has x k r h =
-    elim (cases_Bool (eqb x k)) [
-      | inl e ↦ inl (eqb-true x k e)
-      | inr e ↦ inr (rw (has-put x k r, e) at h)
-    ]
+    let is = has-put x k r in
+    elim (cases_eq x k) [ inl e ↦ inl e | inr ne ↦ inr (grind (arith, nat_tests, is, h)) ]
 
 pub without-has : (x v : ℕ) (r : List ℕ) → has_key x (keys_without v r) ≡ true → has_key x r ≡ true
-without-has x v r h =
-    elim (cases_Bool (eqb x v)) [
-      | inl e ↦ absurd (let no : false ≡ true = rw (has-without x v r, e) at h in cc (no))
-      | inr e ↦ rw (has-without x v r, e) at h
-    ]
+without-has x v r h = let is = has-without x v r in grind (arith, is, h)
 
 pub farthest-among : (t : List ℕ) (i b : ℕ) (l : List ℕ) → (farthest t i b l ≡ b) ⊎ (has_key (farthest t i b l) l ≡ true)
 farthest-among t i b [] = inl refl
@@ -151,10 +146,9 @@ pub record IsLeast (t : List ℕ) (i b : ℕ) (l : List ℕ) (v : ℕ) : Type 0 
 
 least-all : (t : List ℕ) (i x a : ℕ) (l : List ℕ) (v : ℕ) → rank t (suc i) v ≤ rank t (suc i) a → ((y : ℕ) → has_key y l ≡ true → rank t (suc i) v ≤ rank t (suc i) y) → has_key x (a ∷ l) ≡ true → rank t (suc i) v ≤ rank t (suc i) x
 least-all t i x a l v f all h =
-    elim (cases_Bool (eqb x a)) [
-      | inl e ↦ let same : x ≡ a = eqb-true x a e in rw same f
-      | inr e ↦ all x (rw e at h)
-    ]
+    let own : eqb x a ≡ true → rank t (suc i) v ≤ rank t (suc i) x = λ e. rw (eqb-true x a e) f in
+    let rest = all x in
+    grind (arith, own, rest, h)
 
 farthest-least : (t : List ℕ) (i b : ℕ) (l : List ℕ) → i < length t → IsSeen t (suc i) b → ((a : ℕ) → has_key a l ≡ true → IsSeen t (suc i) a) → IsLeast t i b l (farthest t i b l)
 farthest-least t i b [] h s u = record { first = omega arith; all = λ a g. absurd (cc (g)) }
