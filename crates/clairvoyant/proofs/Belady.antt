@@ -31,23 +31,22 @@ put-has x k r h =
 pub without-has : (x v : ℕ) (r : List ℕ) → has_key x (keys_without v r) ≡ true → has_key x r ≡ true
 without-has x v r h = let is = has-without x v r in grind (arith, is, h)
 
-pub farthest-among : (t : List ℕ) (i b : ℕ) (l : List ℕ) → (farthest t i b l ≡ b) ⊎ (has_key (farthest t i b l) l ≡ true)
-farthest-among t i b [] = inl refl
+farthest-among : (t : List ℕ) (i b : ℕ) (l : List ℕ) → has_key (farthest t i b l) (b ∷ l) ≡ true
+farthest-among t i b [] = rw (eq-eqb b b refl) refl
 farthest-among t i b (a ∷ l) =
+    let one = farthest-among t i a l in
+    let other = farthest-among t i b l in
     elim (cases_Bool (leaves_first t i a b)) [
       | inl e ↦
-          let w : farthest t i b (a ∷ l) ≡ farthest t i a l = rw e refl in
-          inr (ap (λ x. has_key x (a ∷ l)) w ∙ soon (farthest t i a l) a l (farthest-among t i a l))
+          let is : farthest t i b (a ∷ l) ≡ farthest t i a l = rw e refl in
+          ap (λ x. has_key x (b ∷ a ∷ l)) is ∙ later (farthest t i a l) b (a ∷ l) one
       | inr e ↦
-          let w : farthest t i b (a ∷ l) ≡ farthest t i b l = rw e refl in
-          elim (farthest-among t i b l) [
-            | inl f ↦ inl (w ∙ f)
-            | inr f ↦ inr (ap (λ x. has_key x (a ∷ l)) w ∙ later (farthest t i b l) a l f)
-          ]
+          let is : farthest t i b (a ∷ l) ≡ farthest t i b l = rw e refl in
+          ap (λ x. has_key x (b ∷ a ∷ l)) is ∙ grind (arith, other)
     ]
 
 pub farthest-in : (t : List ℕ) (i k : ℕ) (r : List ℕ) → has_key (farthest t i k r) (residents_with k r) ≡ true
-farthest-in t i k r = has-put (farthest t i k r) k r ∙ soon (farthest t i k r) k r (farthest-among t i k r)
+farthest-in t i k r = has-put (farthest t i k r) k r ∙ farthest-among t i k r
 
 -- ---- the ways of an access
 
@@ -65,11 +64,11 @@ accesses c t i k r =
       | inl e ↦ rw e (hit e)
       | inr e ↦ elim (cases_Bool (nat_lt (length r) c)) as (λ _. Accesses c t i k r (use_record_of c t i k r) (belady_answer c t i k r) (belady_residents_after c t i k r)) [
         | inl f ↦ rw (e, f) (kept e (ltb-true (length r) c f))
-        | inr f ↦ elim (farthest-among t i k r) as (λ _. Accesses c t i k r (use_record_of c t i k r) (belady_answer c t i k r) (belady_residents_after c t i k r)) [
-          | inl g ↦ rw (e, f, g, eq-eqb k k refl, without-put k r e) (rejected e)
-          | inr g ↦
-              let apart : eqb k (farthest t i k r) ≡ false = ne_eqb k (farthest t i k r) (λ s. absurd (cc (e, g, ap (λ x. has_key x r) s))) in
-              rw (e, f, apart) (evicted (farthest t i k r) e g)
+        | inr f ↦ elim (cases_eq k (farthest t i k r)) as (λ _. Accesses c t i k r (use_record_of c t i k r) (belady_answer c t i k r) (belady_residents_after c t i k r)) [
+          | inl g ↦ rw (e, f, ← g, eq-eqb k k refl, without-put k r e) (rejected e)
+          | inr n ↦
+              let there : has_key (farthest t i k r) r ≡ true = (let among = farthest-among t i k r in grind (arith, nat_tests, among, n)) in
+              rw (e, f, ne_eqb k (farthest t i k r) n) (evicted (farthest t i k r) e there)
         ]
       ]
     ]
@@ -139,43 +138,32 @@ module _ (c : ℕ) (t : List ℕ) where
 
 -- ---- what leaves ranks least
 
--- v ranks least of b and the keys l, after the access at place i
-pub record IsLeast (t : List ℕ) (i b : ℕ) (l : List ℕ) (v : ℕ) : Type 0 where
-  pub first : rank t (suc i) v ≤ rank t (suc i) b
-  pub all : (a : ℕ) → has_key a l ≡ true → rank t (suc i) v ≤ rank t (suc i) a
-
-least-all : (t : List ℕ) (i x a : ℕ) (l : List ℕ) (v : ℕ) → rank t (suc i) v ≤ rank t (suc i) a → ((y : ℕ) → has_key y l ≡ true → rank t (suc i) v ≤ rank t (suc i) y) → has_key x (a ∷ l) ≡ true → rank t (suc i) v ≤ rank t (suc i) x
-least-all t i x a l v f all h =
-    let own : eqb x a ≡ true → rank t (suc i) v ≤ rank t (suc i) x = λ e. rw (eqb-true x a e) f in
-    let rest = all x in
-    grind (arith, own, rest, h)
-
-farthest-least : (t : List ℕ) (i b : ℕ) (l : List ℕ) → i < length t → IsSeen t (suc i) b → ((a : ℕ) → has_key a l ≡ true → IsSeen t (suc i) a) → IsLeast t i b l (farthest t i b l)
-farthest-least t i b [] h s u = record { first = omega arith; all = λ a g. absurd (cc (g)) }
-farthest-least t i b (a ∷ l) h s u =
-    let at : IsSeen t (suc i) a = u a (let e : eqb a a ≡ true = eq-eqb a a refl in rw e refl) in
-    let test : leaves_first t i a b ≡ nat_lt (rank t (suc i) a) (rank t (suc i) b) = leaves-rank t i a b h at s in
-    elim (cases_Bool (leaves_first t i a b)) as (λ _. IsLeast t i b (a ∷ l) (farthest t i b (a ∷ l))) [
+farthest-least : (t : List ℕ) (i b : ℕ) (l : List ℕ) → i < length t → ((a : ℕ) → has_key a (b ∷ l) ≡ true → IsSeen t (suc i) a) → (x : ℕ) → has_key x (b ∷ l) ≡ true → rank t (suc i) (farthest t i b l) ≤ rank t (suc i) x
+farthest-least t i b [] h seen x g = let same : b ≡ x = grind (arith, nat_tests, g) in rw same (omega arith)
+farthest-least t i b (a ∷ l) h seen x g =
+    let here : eqb a a ≡ true = eq-eqb a a refl in
+    let own : eqb b b ≡ true = eq-eqb b b refl in
+    let test : leaves_first t i a b ≡ nat_lt (rank t (suc i) a) (rank t (suc i) b) = leaves-rank t i a b h (seen a (grind (arith, here))) (seen b (grind (arith, own))) in
+    let first : eqb x b ≡ true → x ≡ b = eqb-true x b in
+    let second : eqb x a ≡ true → x ≡ a = eqb-true x a in
+    elim (cases_Bool (leaves_first t i a b)) as (λ _. rank t (suc i) (farthest t i b (a ∷ l)) ≤ rank t (suc i) x) [
       | inl e ↦
-          let lt : rank t (suc i) a < rank t (suc i) b = ltb-true (rank t (suc i) a) (rank t (suc i) b) (sym test ∙ e) in
-          let rest : IsLeast t i a l (farthest t i a l) = farthest-least t i a l h at (λ x g. u x (later x a l g)) in
-          let f : rank t (suc i) (farthest t i a l) ≤ rank t (suc i) a = rest.first in
-          rw e record { first = omega (arith, f, lt); all = λ x. least-all t i x a l (farthest t i a l) f rest.all }
+          let rest = farthest-least t i a l h (λ y k. seen y (later y b (a ∷ l) k)) in
+          let least = rest a (grind (arith, here)) in
+          let any = rest x in
+          rw e (grind (arith, nat_tests, test, e, first, least, any, g))
       | inr e ↦
-          let le : rank t (suc i) b ≤ rank t (suc i) a = ltb-false (rank t (suc i) a) (rank t (suc i) b) (sym test ∙ e) in
-          let rest : IsLeast t i b l (farthest t i b l) = farthest-least t i b l h s (λ x g. u x (later x a l g)) in
-          let f : rank t (suc i) (farthest t i b l) ≤ rank t (suc i) b = rest.first in
-          rw e record { first = f; all = λ x. least-all t i x a l (farthest t i b l) (omega (arith, f, le)) rest.all }
+          let rest = farthest-least t i b l h (λ y k. seen y (grind (arith, k))) in
+          let least = rest b (grind (arith, own)) in
+          let any = rest x in
+          rw e (grind (arith, nat_tests, test, e, first, second, least, any, g))
     ]
 
 -- what ranks least is what leaves
-pub farthest-is : (t : List ℕ) (i b : ℕ) (l : List ℕ) (y : ℕ) → i < length t → IsSeen t (suc i) b → ((a : ℕ) → has_key a l ≡ true → IsSeen t (suc i) a) → (y ≡ b) ⊎ (has_key y l ≡ true) → IsLeast t i b l y → farthest t i b l ≡ y
-farthest-is t i b l y h s u among least =
+pub farthest-is : (t : List ℕ) (i b : ℕ) (l : List ℕ) (y : ℕ) → i < length t → ((a : ℕ) → has_key a (b ∷ l) ≡ true → IsSeen t (suc i) a) → has_key y (b ∷ l) ≡ true
+    → ((x : ℕ) → has_key x (b ∷ l) ≡ true → rank t (suc i) y ≤ rank t (suc i) x) → farthest t i b l ≡ y
+farthest-is t i b l y h seen among least =
     let v : ℕ = farthest t i b l in
-    let lower : IsLeast t i b l v = farthest-least t i b l h s u in
-    let down : rank t (suc i) v ≤ rank t (suc i) y = elim among [ inl e ↦ rw e lower.first | inr g ↦ lower.all y g ] in
-    let up : rank t (suc i) y ≤ rank t (suc i) v = elim (farthest-among t i b l) [ inl e ↦ rw e least.first | inr g ↦ least.all v g ] in
-    let seen-y : IsSeen t (suc i) y = elim among [ inl e ↦ rw e s | inr g ↦ u y g ] in
-    let seen-v : IsSeen t (suc i) v = elim (farthest-among t i b l) [ inl e ↦ rw e s | inr g ↦ u v g ] in
-    let same : rank t (suc i) v ≡ rank t (suc i) y = omega arith in
-    sym (named t (suc i) v (omega arith) seen-v).key ∙ ap (key_at t) same ∙ (named t (suc i) y (omega arith) seen-y).key
+    let in_it : has_key v (b ∷ l) ≡ true = farthest-among t i b l in
+    let same : rank t (suc i) v ≡ rank t (suc i) y = omega (arith, farthest-least t i b l h seen y among, least v in_it) in
+    sym (named t (suc i) v (omega arith) (seen v in_it)).key ∙ ap (key_at t) same ∙ (named t (suc i) y (omega arith) (seen y among)).key

@@ -1,6 +1,6 @@
 -- What serving an access changes of the ranks that are held, and undoing it changes back.
-use Rattle.std.proofs.Common.{◌≡◌, ℕ, suc, ◌-◌, ◌*◌, ◌<◌, ◌≤◌, Bool, true, false, ◌&&◌, eqb, inl, inr, List, length, get_or, ap, ◌∙◌, sym, subst, refl, arith}
-use Rattle.std.proofs.lemmas.Bool.{cases_lt, and_parts, eqb-true, eq-eqb, ne_eqb}
+use Rattle.std.proofs.Common.{◌≡◌, ℕ, suc, ◌-◌, ◌*◌, ◌<◌, ◌≤◌, Bool, true, false, ◌&&◌, eqb, inl, inr, List, ◌∷◌, length, get_or, ap, ◌∙◌, sym, subst, refl, arith}
+use Rattle.std.proofs.lemmas.Bool.{cases_eq, cases_lt, and_parts, eqb-true, eq-eqb, ne_eqb}
 use Rattle.step_record.specs.Keys.{has_key, keys_without}
 use Rattle.clairvoyant.specs.declared.optimal_record.EvictedKey.{EvictedKey}
 use Rattle.clairvoyant.specs.declared.optimal_record.OptimalRecord.TheVariants.{Hit, Kept, Evicted, Rejected}
@@ -96,37 +96,40 @@ module _ (c : ℕ) (t : List ℕ) (i : ℕ) (lt : i < length t) where
         sym (f ∙ ap (is_in_set h) e ∙ held-at key (2 * length t - 1 - i) (omega arith) (key-own t i lt) (rank-own t i lt))
 
     module _ (none : has_key key before ≡ false) (new : ℕ) (is : new ≡ rank t (suc i) key) where
-      other : (a : ℕ) → has_key a before ≡ true → eqb a key ≡ false
-      other a g = ne_eqb a key (λ e. absurd (cc (g, none, ap (λ x. has_key x before) e)))
-
-      -- no resident ranks below m where nothing below m is held
-      above : (m : ℕ) → ((q : ℕ) → q < m → is_in_set h q ≡ false) → (a : ℕ) → has_key a before ≡ true → m ≤ rank t (suc i) a
-      above m empty a g =
-          let e : rank t (suc i) a ≡ rank t i a = rank-other t i a lt (other a g) in
-          let n = named-before a g in
-          elim (cases_lt (rank t i a) m) [
-            | inl w ↦ absurd (cc (held-at a (rank t i a) n.within n.key refl, g, empty (rank t i a) w))
-            | inr w ↦ omega arith
+      -- none of the residents and the key ranks below m where nothing below m is held
+      above : (m : ℕ) → m ≤ new → ((q : ℕ) → q < m → is_in_set h q ≡ false) → (a : ℕ) → has_key a (key ∷ before) ≡ true → m ≤ rank t (suc i) a
+      above m le empty a g =
+          elim (cases_eq a key) [
+            | inl e ↦ rw e (omega (arith, is, le))
+            | inr ne ↦
+                let old : has_key a before ≡ true = rw (ne_eqb a key ne) at g in
+                let same : rank t (suc i) a ≡ rank t i a = rank-other t i a lt (ne_eqb a key ne) in
+                let n = named-before a old in
+                elim (cases_lt (rank t i a) m) [
+                  | inl w ↦ absurd (cc (held-at a (rank t i a) n.within n.key refl, old, empty (rank t i a) w))
+                  | inr w ↦ omega (arith, same, w)
+                ]
           ]
 
-      soon-seen : (a : ℕ) → has_key a before ≡ true → IsSeen t (suc i) a
-      soon-seen a g = seen-more t i a (residents-seen c t i a g)
+      soon-seen : (a : ℕ) → has_key a (key ∷ before) ≡ true → IsSeen t (suc i) a
+      soon-seen a g =
+          elim (cases_eq a key) [
+            | inl e ↦ rw e (seen-own t i)
+            | inr ne ↦ seen-more t i a (residents-seen c t i a (rw (ne_eqb a key ne) at g))
+          ]
 
       -- the key itself leaves, or the one that the least rank is of
       pub none-out : ((q : ℕ) → q < new → is_in_set h q ≡ false) → farthest t i key before ≡ key
       none-out empty =
-          farthest-is t i key before key lt (seen-own t i) soon-seen (inl refl) record {
-            first = omega arith;
-            all = λ a g. let u : new ≤ rank t (suc i) a = above new empty a g in omega arith;
-          }
+          farthest-is t i key before key lt soon-seen (rw (eq-eqb key key refl) refl)
+          (λ a g. let low = above new (omega arith) empty a g in omega (arith, low, is))
 
       pub least-out : (m : ℕ) → m < new → is_in_set h m ≡ true → m < 2 * length t → ((q : ℕ) → q < m → is_in_set h q ≡ false)
           → (farthest t i key before ≡ key_at t m) × (has_key (key_at t m) before ≡ true) × (rank t (suc i) (key_at t m) ≡ m)
       least-out m less held within empty =
           let parts = and_parts (has_key (key_at t m) before) (eqb (rank t i (key_at t m)) m) (sym (tied.ranks m within) ∙ held) in
-          let ranked : rank t (suc i) (key_at t m) ≡ m = rank-other t i (key_at t m) lt (other (key_at t m) parts.0) ∙ eqb-true (rank t i (key_at t m)) m parts.1 in
-          let out = farthest-is t i key before (key_at t m) lt (seen-own t i) soon-seen (inr parts.0) record {
-            first = omega (arith, ranked);
-            all = λ a g. let u : m ≤ rank t (suc i) a = above m empty a g in omega (arith, ranked);
-          } in
+          let other : eqb (key_at t m) key ≡ false = ne_eqb (key_at t m) key (λ e. absurd (cc (parts.0, none, ap (λ x. has_key x before) e))) in
+          let ranked : rank t (suc i) (key_at t m) ≡ m = rank-other t i (key_at t m) lt other ∙ eqb-true (rank t i (key_at t m)) m parts.1 in
+          let out = farthest-is t i key before (key_at t m) lt soon-seen (rw (other, parts.0) refl)
+          (λ a g. let low = above m (omega (arith, less)) empty a g in omega (arith, low, ranked)) in
           (out, parts.0, ranked)
