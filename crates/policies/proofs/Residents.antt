@@ -1,7 +1,6 @@
 -- How many keys are resident in a cache of any policy.
 use Rattle.std.proofs.Common.{◌≡◌, ℕ, zero, suc, ◌+◌, ◌≤◌, eqb, nat_lt, true, cond, map, Result, Ok, Err, List, [], ◌∷◌, length, get_or, ap, ◌∙◌, sym, refl, subst, arith, inl, inr}
 use Rattle.std.specs.List.{count_by}
-use Rattle.std.proofs.lemmas.Bool.{cases_Bool}
 use Rattle.clairvoyant.specs.Clairvoyant.{ClairvoyantState, is_next, clairvoyant_access, clairvoyant_after, clairvoyant_act}
 use Rattle.segments.specs.Queues.{residents_in}
 use Rattle.step_record.proofs.Limited.{accepted-in, accepted-where}
@@ -29,16 +28,15 @@ use Rattle.policies.specs.Theorems.{AnyCoversTrace}
 use Rattle.queue_cache.proofs.Counting.{after-counts, hits-misses}
 use Rattle.step_record.specs.declared.job.Job.{Job}
 use Rattle.policies.specs.AnyCounts.{IsOptimalStep, optimal_step}
-use Rattle.step_record.specs.Keys.{has_key, keys_without}
+use Rattle.step_record.specs.Keys.{has_key}
 use Rattle.step_record.specs.Stats.{is_hit, is_miss, is_eviction, one_if, stats_of}
 use Rattle.step_record.specs.declared.stats.Stats.{Stats}
-use Rattle.step_record.proofs.Counting.{stats-snoc}
-use Rattle.clairvoyant.specs.Belady.{farthest, belady_answer, belady_residents_after, belady_residents, belady_outcome, belady_outcomes}
-use Rattle.clairvoyant.specs.Keys.{residents_with, IsAscendingKeys}
-use Rattle.clairvoyant.proofs.Belady.{residents-ascending, full-length, served-has, hit-resident, residents-fit as belady-residents-fit}
+use Rattle.clairvoyant.specs.Belady.{belady_residents, belady_outcomes}
+use Rattle.clairvoyant.specs.Keys.{IsAscendingKeys}
+use Rattle.clairvoyant.proofs.Belady.{residents-ascending, served-has, hit-resident, residents-fit as belady-residents-fit}
+use Rattle.clairvoyant.proofs.Reached.{held-count}
 use Rattle.clairvoyant.proofs.Listing.{times-sum, times-has}
 use Rattle.step_record.proofs.Counting.{one-few}
-use Rattle.clairvoyant.proofs.Keys.{length-put}
 use Rattle.queue_cache.specs.QueueCache.{QueueState, state_after}
 use Rattle.policies.specs.declared.any_policy.AnyPolicy.{AnyPolicy}
 use Rattle.policies.specs.declared.any_policy.AnyPolicy.TheVariants.{Queues, Optimal, Demand, Adaptive}
@@ -55,37 +53,13 @@ residents_fit law own j trace keys (Optimal d) s =
 residents_fit law own j trace keys (Demand d) s = (demand-holds law j keys d s).fits
 residents_fit law own j trace keys (Adaptive d) s = (own j.config j.tuning.period s.checked).fits d (adaptive-sound own j keys d s)
 
-one-in : (c : ℕ) (t : List ℕ) (i k : ℕ) (r : List ℕ) → IsAscendingKeys r → length (belady_residents_after c t i k r) + one_if (is_eviction (belady_answer c t i k r)) ≡ length r + one_if (is_miss (belady_answer c t i k r))
-one-in c t i k r s =
-    elim (cases_Bool (has_key k r)) as (λ _. length (belady_residents_after c t i k r) + one_if (is_eviction (belady_answer c t i k r)) ≡ length r + one_if (is_miss (belady_answer c t i k r))) [
-      | inl e ↦ rw e refl
-      | inr e ↦ elim (cases_Bool (nat_lt (length r) c)) as (λ _. length (belady_residents_after c t i k r) + one_if (is_eviction (belady_answer c t i k r)) ≡ length r + one_if (is_miss (belady_answer c t i k r))) [
-        | inl f ↦ rw (e, f) (omega (arith, length-put k r))
-        | inr f ↦
-            let same : length (keys_without (farthest t i k r) (residents_with k r)) ≡ length r = full-length t i k r s e in
-            elim (cases_Bool (eqb k (farthest t i k r))) as (λ _. length (belady_residents_after c t i k r) + one_if (is_eviction (belady_answer c t i k r)) ≡ length r + one_if (is_miss (belady_answer c t i k r))) [
-              | inl g ↦ rw (e, f, g) (omega (arith, same))
-              | inr g ↦ rw (e, f, g) (omega (arith, same))
-            ]
-      ]
-    ]
-
-belady-counted : (c : ℕ) (t : List ℕ) (i : ℕ) → length (belady_residents c t i) + (stats_of (belady_outcomes c t i)).evictions ≡ (stats_of (belady_outcomes c t i)).misses
-belady-counted c t zero = refl
-belady-counted c t (suc i) =
-    let before : length (belady_residents c t i) + (stats_of (belady_outcomes c t i)).evictions ≡ (stats_of (belady_outcomes c t i)).misses = belady-counted c t i in
-    let out : (stats_of (belady_outcomes c t (suc i))).evictions ≡ (stats_of (belady_outcomes c t i)).evictions + one_if (is_eviction (belady_outcome c t i)) = ap (λ (s : Stats). s.evictions) (stats-snoc (belady_outcomes c t i) (belady_outcome c t i)) in
-    let in_ : (stats_of (belady_outcomes c t (suc i))).misses ≡ (stats_of (belady_outcomes c t i)).misses + one_if (is_miss (belady_outcome c t i)) = ap (λ (s : Stats). s.misses) (stats-snoc (belady_outcomes c t i) (belady_outcome c t i)) in
-    let one : length (belady_residents c t (suc i)) + one_if (is_eviction (belady_outcome c t i)) ≡ length (belady_residents c t i) + one_if (is_miss (belady_outcome c t i)) = one-in c t i (get_or t i 0) (belady_residents c t i) (residents-ascending c t i) in
-    omega (arith, before, out, in_, one)
-
 queues-counted : (d : QueueState) → IsBalancedCache d → length (residents_in d.queues) + d.stats.evictions ≡ d.stats.misses
 queues-counted d s = let counted = s.counted in omega (arith, counted, residents-length d.queues)
 
 pub residents_counted : DemandKeeps → CacheKeeps → ResidentsCounted
 residents_counted law own j trace keys (Queues d) s = queues-counted d (subst IsBalancedCache (sym s.1.gives) (after-balanced j keys))
 residents_counted law own j trace keys (Optimal d) s =
-    subst (λ (x : ClairvoyantState). length x.residents + x.stats.evictions ≡ x.stats.misses) (sym s.gives) (belady-counted j.config.capacity trace (length keys))
+    subst (λ (x : ClairvoyantState). length x.residents + x.stats.evictions ≡ x.stats.misses) (sym s.gives) (held-count j.config.capacity trace (length keys))
 residents_counted law own j trace keys (Demand d) s = demand-counted law j keys d s
 residents_counted law own j trace keys (Adaptive d) s = adaptive-counted own j keys d s
 
@@ -102,7 +76,7 @@ queues-fit j trace =
     omega (arith, counted, few)
 
 optimal-fit : (c : ℕ) (t : List ℕ) (i : ℕ) → (stats_of (belady_outcomes c t i)).misses ≤ (stats_of (belady_outcomes c t i)).evictions + c
-optimal-fit c t i = let counted = belady-counted c t i in let few = belady-residents-fit c t i in omega (arith, counted, few)
+optimal-fit c t i = let counted = held-count c t i in let few = belady-residents-fit c t i in omega (arith, counted, few)
 
 none-kept : (t : List ℕ) → (stats_of (map (λ k. Rejected k) t)).misses ≤ (stats_of (map (λ k. Rejected k) t)).evictions
 none-kept [] = omega arith
