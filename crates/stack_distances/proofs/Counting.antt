@@ -42,9 +42,7 @@ module _ (j : Job) (is_lru : j.policy ≡ Lru) (room : 1 ≤ j.config.capacity) 
   from-outcomes past (k ∷ ks) =
       let head : outcome_after j past k ≡ lru_outcome j.config.capacity past k = outcome-lru j is_lru room past k (after-job j past) in
       let next : queue_state_after (frequency_after j (past ++ k ∷ [])) k (state_after j past) ≡ state_after j (past ++ k ∷ []) = sym (after-snoc j past k) in
-      ap (λ (o : Outcome). o ∷ outcomes_from j (past ++ k ∷ []) (queue_state_after (frequency_after j (past ++ k ∷ [])) k (state_after j past)) ks) head
-      ∙ (ap (λ (d : QueueState). lru_outcome j.config.capacity past k ∷ outcomes_from j (past ++ k ∷ []) d ks) next
-      ∙ ap (λ (os : List Outcome). lru_outcome j.config.capacity past k ∷ os) (from-outcomes (past ++ k ∷ []) ks))
+      λ i. head i ∷ (ap (λ (d : QueueState). outcomes_from j (past ++ k ∷ []) d ks) next ∙ from-outcomes (past ++ k ∷ []) ks) i
 
   all-outcomes : (keys : List ℕ) → outcomes_after j keys ≡ lru_outcomes j.config.capacity [] keys
   unfolding outcomes_after state_after

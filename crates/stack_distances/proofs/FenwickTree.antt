@@ -121,9 +121,7 @@ module _ (place : ℕ) (before sums : List ℕ) (at : ℕ) (h : IsTaken place be
     from = omega (arith, (nested at).0, h.from);
     behind = omega (arith, next-high at, h.behind);
     taken = λ j less in_it from behind. elim (cases_eq j at) [
-      | inl same ↦
-          let here = get_or-set_at sums at j y 0 same (omega (arith, within, h.long)) in
-          omega (arith, here, one, h.left at (omega arith), ap (λ n. get_or before n 0) same)
+      | inl same ↦ omega (arith, get_or-set_at sums at j y 0 same (omega (arith, within, h.long)), one, h.left at (omega arith), ap (λ n. get_or before n 0) same)
       | inr other ↦ elim (cases_lt j at) [
         | inl lower ↦ omega (arith, there y j other, h.taken j lower in_it from behind)
         | inr higher ↦ absurd (omega (arith, (nested at).1 j (omega (arith, higher, other)) less, from, h.behind))
@@ -146,13 +144,11 @@ module _ (place : ℕ) (before sums : List ℕ) (at : ℕ) (h : IsTaken place be
       grows : (m n : ℕ) → m ≤ n → less m ≤ less n
       grows m n order =
           let both = tree.grows m n order in
-          elim (cases_lt place m) [
-            | inl l ↦ grind (arith, nat_tests, one m, one n)
-            | inr h ↦ let low = tree.grows m place h in elim (cases_lt place n) [
-              | inl l ↦ let high = tree.grows (place + 1) n (omega (arith, l)) in grind (arith, nat_tests, one m, one n)
-              | inr k ↦ grind (arith, nat_tests, one m, one n)
-            ]
-          ]
+          let low = tree.grows m place in
+          let high = tree.grows (place + 1) n in
+          let here = one m in
+          let there = one n in
+          grind (arith, nat_tests, both, low, high, some, here, there)
 
       pub all-taken : length before ≤ at → IsFenwickTree less sums
       all-taken end = record {
@@ -161,12 +157,11 @@ module _ (place : ℕ) (before sums : List ℕ) (at : ℕ) (h : IsTaken place be
         summed = λ j in_sums.
             let within : j < length before = omega (arith, in_sums, h.long) in
             let was = tree.summed j within in
-            let low = start-low j in
-            elim (cases_lt j place) [
-              | inl l ↦ let same = h.low j l in grind (arith, nat_tests, one (start_of j), one (j + 1))
-              | inr m ↦ elim (cases_lt place (start_of j)) [
-                | inl l ↦ let same = h.past j l in grind (arith, nat_tests, one (start_of j), one (j + 1))
-                | inr f ↦ let fewer = h.taken j (omega (arith, within, end)) within f m in grind (arith, nat_tests, one (start_of j), one (j + 1))
-              ]
-            ];
+            let start = start-low j in
+            let low = h.low j in
+            let past = h.past j in
+            let fewer = h.taken j (omega (arith, within, end)) within in
+            let first = one (start_of j) in
+            let last = one (j + 1) in
+            grind (arith, nat_tests, was, start, low, past, fewer, first, last);
       }

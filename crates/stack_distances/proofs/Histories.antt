@@ -15,8 +15,8 @@ use Rattle.stack_distances.specs.Sums.{mark_of, sum_below}
 use Rattle.stack_distances.specs.Histogram.{is_last, is_at, IsHistogram}
 use Rattle.stack_distances.specs.declared.histogram.Histogram.{Histogram}
 use Rattle.stack_distances.proofs.Bits.{put-marks}
-use Rattle.stack_distances.proofs.Places.{again-next, came-by, front-at, last_number, last-key, last-low, past-end}
-use Rattle.stack_distances.proofs.Stack.{front-again, front-last, grows, since-beyond, since-within}
+use Rattle.stack_distances.proofs.Places.{again-next, came-by, last_number, last-key, last-low, past-end, stack, stack-front, stack-next}
+use Rattle.stack_distances.proofs.Stack.{since-beyond, since-within}
 
 -- ---- the distances
 
@@ -87,22 +87,13 @@ module _ (keys : List ℕ) (place : ℕ) (in_it : place < length keys) (h : Hist
   marks-few = let on : place + 1 ≡ suc place = omega arith in let none : mark_of words place ≡ 0 = rw free refl in rw on (omega (arith, sum-low words place, none))
 
   -- of the distinct keys, those whose last access is below p are marked there, and the others make up the stack from p
-  stack-below : (p : ℕ) → p ≤ place → sum_below (mark_of words) p + length (distinct_keys (drop p (take place keys))) ≡ length (distinct_keys (take place keys))
+  stack-below : (p : ℕ) → p ≤ place → sum_below (mark_of words) p + stack keys place p ≡ stack keys place 0
   stack-below zero low = omega arith
   stack-below (suc p) low =
-      let front = ap (λ l. length (distinct_keys l)) (front-at keys place p (omega (arith, low)) (omega (arith, in_it))) in
-      let yes : nat_lt p place ≡ true = grind (arith, nat_tests) in
-      elim (two (has_key (get_or keys p 0) (drop (suc p) (take place keys)))) [
-        | inl e ↦
-            let none : mark_of words p ≡ 0 = ap (λ b. cond b 1 0) (c.marked p) ∙ rw (yes, e) refl in
-            omega (arith, stack-below p (omega (arith, low)), front, front-again (get_or keys p 0) (drop (suc p) (take place keys)) e, none)
-        | inr e ↦
-            let one : mark_of words p ≡ 1 = ap (λ b. cond b 1 0) (c.marked p) ∙ rw (yes, e) refl in
-            omega (arith, stack-below p (omega (arith, low)), front, front-last (get_or keys p 0) (drop (suc p) (take place keys)) e, one)
-      ]
-
-  distinct-next : length (distinct_keys (take (place + 1) keys)) ≡ cond (has_key key (take place keys)) (length (distinct_keys (take place keys))) (suc (length (distinct_keys (take place keys))))
-  distinct-next = ap (λ l. length (distinct_keys l)) (take_more keys place 0 in_it) ∙ grows key (take place keys)
+      let rest = stack-below p (omega (arith, low)) in
+      let front = stack-front keys place p (omega (arith, low)) (omega (arith, in_it)) in
+      let mark = c.marked p in
+      grind (arith, nat_tests, rest, front, mark, low)
 
   pub last-next : (places : ℕ → Option ℕ) → ((x : ℕ) → places x ≡ cond (nat_eq key x) (Some place) (place_of h.last x)) → (x : ℕ) → places x ≡ last_below keys (place + 1) x
   last-next places updates x =
@@ -128,7 +119,7 @@ module _ (keys : List ℕ) (place : ℕ) (in_it : place < length keys) (h : Hist
           sym (ap (λ b. cond b false (bit_of vs q)) no) ∙ marked-next 0 (sym (ap number_of never)) q
 
       pub first-long : length h.counts.items + 1 ≡ length (distinct_keys (take (place + 1) keys))
-      first-long = let more : length (distinct_keys (take (place + 1) keys)) ≡ suc (length (distinct_keys (take place keys))) = distinct-next ∙ rw gone refl in omega (arith, more, c.long)
+      first-long = let more : length (distinct_keys (take (place + 1) keys)) ≡ suc (length (distinct_keys (take place keys))) = stack-next keys place 0 in_it (omega arith) ∙ rw gone refl in omega (arith, more, c.long)
 
       pub first-counted : (d : ℕ) → count_by (is_at (suc d)) (distances (take place keys)) ≡ count_by (is_at (suc d)) (distances (take (place + 1) keys))
       first-counted d = sym (count-next (is_at (suc d)) keys place in_it ∙ (ap (λ o. count_by (is_at (suc d)) (distances (take place keys)) + cond (is_at (suc d) o) 1 0) (distance-none (take place keys) key gone) ∙ omega arith))
@@ -170,9 +161,8 @@ module _ (keys : List ℕ) (place : ℕ) (in_it : place < length keys) (h : Hist
       pub depth : sum_below (mark_of vs) p + suc (length (distinct_keys (keys_since key (take place keys)))) ≡ length h.counts.items
       depth =
           let none : cond {A = ℕ} (nat_lt place p) 1 0 ≡ 0 = (let l : p < place = low in grind (arith, nat_tests)) in
-          let front = ap (λ l. length (distinct_keys l)) (front-at keys place p low (omega (arith, in_it))) in
-          let on = front-last (get_or keys p 0) (drop (suc p) (take place keys)) last-there in
-          omega (arith, put-marks words vs place free puts p, none, stack-below p (omega (arith, low)), front, on, since-within key p (take place keys) in-stack, since-beyond key (suc p) (take place keys) came behind, c.long)
+          let front = rw last-there at (stack-front keys place p low (omega (arith, in_it))) in
+          omega (arith, put-marks words vs place free puts p, none, stack-below p (omega (arith, low)), front, since-within key p (take place keys) in-stack, since-beyond key (suc p) (take place keys) came behind, c.long)
 
       pub again-marked : (q : ℕ) → cond (eqb q p) false (bit_of vs q) ≡ is_last keys (place + 1) q
       again-marked q =
@@ -180,7 +170,7 @@ module _ (keys : List ℕ) (place : ℕ) (in_it : place < length keys) (h : Hist
           ap (λ b. cond b false (bit_of vs q)) same ∙ marked-next (suc p) number q
 
       pub again-long : length h.counts.items ≡ length (distinct_keys (take (place + 1) keys))
-      again-long = c.long ∙ sym (distinct-next ∙ rw came refl)
+      again-long = c.long ∙ sym (stack-next keys place 0 in_it (omega arith) ∙ rw came refl)
 
       pub again-counted : (e : ℕ) → e + 1 + sum_below (mark_of vs) p ≡ length h.counts.items → (d : ℕ) → count_by (is_at (suc d)) (distances (take place keys)) + cond (eqb d e) 1 0 ≡ count_by (is_at (suc d)) (distances (take (place + 1) keys))
       again-counted e deep d =

@@ -1,13 +1,13 @@
 -- Where keys of a trace came last.
 use Rattle.std.proofs.Common.{◌≡◌, ℕ, suc, zero, ◌+◌, ◌<◌, ◌≤◌, true, false, cond, eqb, nat_lt, List, [], ◌∷◌, ◌++◌, length, take, drop, get_or, ap, ◌∙◌, sym, refl, arith, inl, inr, drop-cons}
-use Rattle.std.proofs.lemmas.Bool.{cases_eq, cases_lt, eqb-true, eq-eqb, ne_eqb}
+use Rattle.std.proofs.lemmas.Bool.{cases_lt, eq-eqb}
 use Rattle.std.proofs.lemmas.Bool.Decides.{nat_tests}
 use Rattle.std.proofs.lemmas.List.{get_or-take, drop-append-le, length-take-le, take_more}
 use Rattle.std.proofs.Math.ListN.{drop_of_length-le}
 use Rattle.step_record.specs.Keys.{has_key}
-use Rattle.queue_cache.proofs.Recency.{two}
+use Rattle.queue_cache.specs.Lru.{distinct_keys}
 use Rattle.trace_index.specs.Uses.{last_below, number_of}
-use Rattle.stack_distances.proofs.Stack.{has-snoc, eqb-sym}
+use Rattle.stack_distances.proofs.Stack.{has-snoc, grows}
 
 -- ---- the accesses from a place on
 
@@ -49,6 +49,18 @@ came-by keys (suc n) f k h =
           rw more (grind (arith, nat_tests))
     ]
 
+-- how many distinct keys come from a place on, among the first n accesses
+abbrev pub stack : List ℕ → ℕ → ℕ → ℕ
+stack keys n f = length (distinct_keys (drop f (take n keys)))
+
+-- the key at the front counts where it does not come again
+pub stack-front : (keys : List ℕ) (n f : ℕ) → f < n → n ≤ length keys → stack keys n f ≡ cond (has_key (get_or keys f 0) (drop (suc f) (take n keys))) (stack keys n (suc f)) (suc (stack keys n (suc f)))
+stack-front keys n f h all = ap (λ l. length (distinct_keys l)) (front-at keys n f h all) ∙ grind arith
+
+-- and that of an access more where it did not come before
+pub stack-next : (keys : List ℕ) (place f : ℕ) → place < length keys → f ≤ place → stack keys (place + 1) f ≡ cond (has_key (get_or keys place 0) (drop f (take place keys))) (stack keys place f) (suc (stack keys place f))
+stack-next keys place f in_it h = ap (λ l. length (distinct_keys l)) (drop-next keys place f in_it h) ∙ grows (get_or keys place 0) (drop f (take place keys))
+
 -- ---- the last place of a key, by its number
 
 module _ (keys : List ℕ) where
@@ -57,42 +69,25 @@ module _ (keys : List ℕ) where
 
   pub last-low : (n k : ℕ) → last_number n k ≤ n
   last-low zero k = omega arith
-  last-low (suc n) k = elim (two (eqb k (get_or keys n 0))) [ inl e ↦ rw e (omega arith) | inr e ↦ rw e (omega (arith, last-low n k)) ]
+  last-low (suc n) k = let rest = last-low n k in grind (arith, rest)
 
   pub last-key : (n k i : ℕ) → last_number n k ≡ suc i → eqb k (get_or keys i 0) ≡ true
   last-key zero k i h = absurd (omega (arith, h))
-  last-key (suc n) k i h = elim (two (eqb k (get_or keys n 0))) [
-    | inl e ↦ let s : suc n ≡ suc i = rw e at h in let same : i ≡ n = omega (arith, s) in rw same e
-    | inr e ↦ last-key n k i (rw e at h)
-  ]
+  last-key (suc n) k i h = let rest = last-key n k i in grind (arith, nat_tests, rest, h)
 
   pub last-high : (n k i : ℕ) → i < n → eqb k (get_or keys i 0) ≡ true → i < last_number n k
   last-high zero k i h same = absurd (omega (arith, h))
-  last-high (suc n) k i h same = elim (two (eqb k (get_or keys n 0))) [
-    | inl e ↦ rw e (omega (arith, h))
-    | inr e ↦ elim (cases_eq i n) [
-      | inl s ↦ let differ : eqb k (get_or keys i 0) ≡ false = rw s e in absurd (cc (same, differ))
-      | inr d ↦ rw e (last-high n k i (omega (arith, h, d)) same)
-    ]
-  ]
+  last-high (suc n) k i h same =
+      let rest : i < n → i < last_number n k = λ l. last-high n k i l same in
+      grind (arith, nat_tests, rest, h, same)
 
   module _ (place : ℕ) (in_it : place < length keys) (before : ℕ) (noted : before ≡ last_number place (get_or keys place 0)) where
     again-by : (i : ℕ) → nat_lt (suc i) (last_number (suc place) (get_or keys i 0)) ≡ cond (eqb (i + 1) before) true (nat_lt (suc i) (last_number place (get_or keys i 0)))
-    again-by i = elim (two (eqb (get_or keys i 0) (get_or keys place 0))) [
-      | inl e ↦
-          let same : last_number place (get_or keys i 0) ≡ before = ap (last_number place) (eqb-true (get_or keys i 0) (get_or keys place 0) e) ∙ sym noted in
-          let low : before ≤ place = omega (arith, noted, last-low place (get_or keys place 0)) in
-          let high : i < place → i < before = (λ l. omega (arith, same, last-high place (get_or keys i 0) i l (eq-eqb (get_or keys i 0) (get_or keys i 0) refl))) in
-          elim (cases_lt i place) [
-            | inl l ↦ let more : i < before = high l in rw (e, same) (grind (arith, nat_tests))
-            | inr g ↦ rw (e, same) (grind (arith, nat_tests))
-          ]
-      | inr e ↦
-          let other : eqb (i + 1) before ≡ false = ne_eqb (i + 1) before (λ s.
-          let same = last-key place (get_or keys place 0) i (sym noted ∙ (sym s ∙ omega arith)) in
-          absurd (cc (same, eqb-sym (get_or keys place 0) (get_or keys i 0), e))) in
-          rw (e, other) refl
-    ]
+    again-by i =
+        let low = last-low place (get_or keys place 0) in
+        let back = last-key place (get_or keys place 0) i in
+        let high : i < place → i < last_number place (get_or keys i 0) = λ l. last-high place (get_or keys i 0) i l (eq-eqb (get_or keys i 0) (get_or keys i 0) refl) in
+        grind (arith, nat_tests, low, back, high, noted)
 
     -- the access at the place makes the key of the last one to its key come again, and no other
     pub again-next : (i : ℕ) → has_key (get_or keys i 0) (drop (suc i) (take (place + 1) keys)) ≡ cond (eqb (i + 1) before) true (has_key (get_or keys i 0) (drop (suc i) (take place keys)))

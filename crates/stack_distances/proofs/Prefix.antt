@@ -36,10 +36,10 @@ no-hits keys = none-after [] keys
 
 full : (c : ℕ) (xs : List ℕ) (k : ℕ) → length (distinct_keys xs) ≤ c → is_within c (distance xs k) ≡ has_key k xs
 full c xs k h =
-    elim (two (has_key k xs)) [ inl e ↦ let d = since-within k 0 xs e in rw e (grind (arith, nat_tests)) | inr e ↦ rw e refl ]
+    let d = since-within k 0 xs in grind (arith, nat_tests, d, h)
 
 one-grows : (past : List ℕ) (k : ℕ) → length (distinct_keys past) ≤ length (distinct_keys (past ++ k ∷ []))
-one-grows past k = rw (grows k past) (elim (two (has_key k past)) as (λ _. length (distinct_keys past) ≤ cond (has_key k past) (length (distinct_keys past)) (suc (length (distinct_keys past)))) [ inl e ↦ rw e (omega arith) | inr e ↦ rw e (omega arith) ])
+one-grows past k = let more = grows k past in grind (arith, more)
 
 pub more-distinct : (past keys : List ℕ) → length (distinct_keys past) ≤ length (distinct_keys (past ++ keys))
 more-distinct past [] = rw (append-nil past) (omega arith)

@@ -1,8 +1,8 @@
 -- The window of a trace whose keys Lru holds, one access after another.
-use Rattle.std.proofs.Common.{◌≡◌, ℕ, suc, zero, ◌+◌, ◌-◌, ◌<◌, ◌≤◌, min, true, false, ◌||◌, cond, eqb, nat_lt, List, [], ◌∷◌, length, take, drop, get_or, ap, ◌∙◌, sym, refl, arith, inl, inr}
+use Rattle.std.proofs.Common.{◌≡◌, ℕ, suc, zero, ◌+◌, ◌-◌, ◌<◌, ◌≤◌, min, Bool, true, false, ◌||◌, cond, eqb, nat_lt, List, [], ◌∷◌, length, take, drop, get_or, ap, ◌∙◌, sym, refl, arith, inl, inr}
 use Rattle.std.proofs.lemmas.Bool.{cases_eq, cases_lt, ne_eqb}
 use Rattle.std.proofs.lemmas.Bool.Decides.{nat_tests}
-use Rattle.std.proofs.lemmas.List.{drop-append-le, take_more, take_all}
+use Rattle.std.proofs.lemmas.List.{take_all}
 use Rattle.step_record.specs.Keys.{has_key}
 use Rattle.step_record.specs.Bits.{bit_of}
 use Rattle.step_record.specs.declared.job.Job.{Job}
@@ -16,9 +16,9 @@ use Rattle.stack_distances.specs.Window.{IsWindow, IsFirstClear, stats_in}
 use Rattle.stack_distances.specs.declared.window.Window.{Window}
 use Rattle.stack_distances.proofs.Counting.{stats-read, hits-and-held}
 use Rattle.stack_distances.proofs.Histories.{count-next}
-use Rattle.stack_distances.proofs.Places.{again-next, came-by, front-at, last-low, past-end, past-length}
+use Rattle.stack_distances.proofs.Places.{again-next, came-by, last-low, past-end, past-length, stack, stack-front, stack-next}
 use Rattle.stack_distances.proofs.Reading.{sum-small}
-use Rattle.stack_distances.proofs.Stack.{fewer-behind, front-again, front-last, grows, since-within, since-beyond}
+use Rattle.stack_distances.proofs.Stack.{fewer-behind, since-within, since-beyond}
 
 -- ---- hits
 
@@ -37,9 +37,6 @@ miss-beyond c (suc f) xs k full h =
 
 -- the access at the place, and the number of the last one to its key
 module _ (keys : List ℕ) (place : ℕ) (in_it : place < length keys) (before : ℕ) (noted : before ≡ number_of (last_below keys place (get_or keys place 0))) where
-  cut-front : (s : ℕ) → s ≤ place → drop s (take (place + 1) keys) ≡ get_or keys s 0 ∷ drop (suc s) (take (place + 1) keys)
-  cut-front s h = front-at keys (place + 1) s (omega (arith, h)) (omega (arith, in_it))
-
   came-since : (f : ℕ) → nat_lt f (before) ≡ has_key (get_or keys place 0) (drop f (take place keys))
   came-since f = ap (nat_lt f) noted ∙ came-by keys place f (get_or keys place 0) (omega (arith, in_it))
 
@@ -49,40 +46,15 @@ module _ (keys : List ℕ) (place : ℕ) (in_it : place < length keys) (before :
 
   -- ---- the window's begin, moved
 
-  -- past a key that comes again, and past one that does not
-  past-stale : (s : ℕ) → s ≤ place → has_key (get_or keys s 0) (drop (suc s) (take (place + 1) keys)) ≡ true → length (distinct_keys (drop (s + 1) (take (place + 1) keys))) ≡ length (distinct_keys (drop s (take (place + 1) keys)))
-  past-stale s h again =
-      let e : s + 1 ≡ suc s = omega arith in
-      rw e (sym (ap (λ l. length (distinct_keys l)) (cut-front s h) ∙ front-again (get_or keys s 0) (drop (suc s) (take (place + 1) keys)) again))
-
-  past-fresh : (s : ℕ) → s ≤ place → has_key (get_or keys s 0) (drop (suc s) (take (place + 1) keys)) ≡ false → length (distinct_keys (drop (s + 1) (take (place + 1) keys))) + 1 ≡ length (distinct_keys (drop s (take (place + 1) keys)))
-  past-fresh s h gone =
-      let e : s + 1 ≡ suc s = omega arith in
-      rw e (omega (arith, ap (λ l. length (distinct_keys l)) (cut-front s h) ∙ front-last (get_or keys s 0) (drop (suc s) (take (place + 1) keys)) gone))
-
-  -- past several that come again
-  past-run : (f n : ℕ) → f + n ≤ place → ((i : ℕ) → f ≤ i → i < f + n → has_key (get_or keys i 0) (drop (suc i) (take (place + 1) keys)) ≡ true) → length (distinct_keys (drop (f + n) (take (place + 1) keys))) ≡ length (distinct_keys (drop f (take (place + 1) keys)))
-  past-run f zero h again = let e : f + 0 ≡ f = omega arith in ap (λ (s : ℕ). length (distinct_keys (drop s (take (place + 1) keys)))) e
+  -- past several keys that come again
+  past-run : (f n : ℕ) → f + n ≤ place → ((i : ℕ) → f ≤ i → i < f + n → has_key (get_or keys i 0) (drop (suc i) (take (place + 1) keys)) ≡ true) → stack keys (place + 1) (f + n) ≡ stack keys (place + 1) f
+  past-run f zero h again = let e : f + 0 ≡ f = omega arith in ap (stack keys (place + 1)) e
   past-run f (suc n) h again =
-      let e : f + suc n ≡ (f + n) + 1 = omega arith in
-      ap (λ (s : ℕ). length (distinct_keys (drop s (take (place + 1) keys)))) e
-      ∙ (past-stale (f + n) (omega (arith, h)) (again (f + n) (omega arith) (omega arith))
-      ∙ past-run f n (omega (arith, h)) (λ i from below. again i from (omega (arith, below))))
+      let e : f + suc n ≡ suc (f + n) = omega arith in
+      let front = stack-front keys (place + 1) (f + n) (omega (arith, h)) (omega (arith, in_it)) in
+      ap (stack keys (place + 1)) e ∙ (sym (rw (again (f + n) (omega arith) (omega arith)) at front) ∙ past-run f n (omega (arith, h)) (λ i from below. again i from (omega (arith, below))))
 
   -- ---- one access
-
-  grown : (f : ℕ) → f ≤ place → length (distinct_keys (drop f (take (place + 1) keys))) ≡ cond (has_key (get_or keys place 0) (drop f (take place keys))) (length (distinct_keys (drop f (take place keys)))) (suc (length (distinct_keys (drop f (take place keys)))))
-  grown f h =
-      let l : length (take place keys) ≡ place = past-length keys place in_it in
-      let within : f ≤ length (take place keys) = omega (arith, l, h) in
-      ap (λ l. length (distinct_keys (drop f l))) (take_more keys place 0 in_it)
-      ∙ (ap (λ l. length (distinct_keys l)) (drop-append-le f (take place keys) (get_or keys place 0 ∷ []) within) ∙ grows (get_or keys place 0) (drop f (take place keys)))
-
-  same-held : (f : ℕ) → f ≤ place → has_key (get_or keys place 0) (drop f (take place keys)) ≡ true → length (distinct_keys (drop f (take (place + 1) keys))) ≡ length (distinct_keys (drop f (take place keys)))
-  same-held f h came = grown f h ∙ rw came refl
-
-  more-held : (f : ℕ) → f ≤ place → has_key (get_or keys place 0) (drop f (take place keys)) ≡ false → length (distinct_keys (drop f (take (place + 1) keys))) ≡ suc (length (distinct_keys (drop f (take place keys))))
-  more-held f h came = grown f h ∙ rw came refl
 
   module _ (w : Window) (h : IsWindow keys place w) where
     pub hits-small : w.hits ≤ place
@@ -96,21 +68,20 @@ module _ (keys : List ℕ) (place : ℕ) (in_it : place < length keys) (before :
     missed-bit : before ≤ w.first → (i : ℕ) → w.first ≤ i → bit_of w.renewed.items i ≡ has_key (get_or keys i 0) (drop (suc i) (take (place + 1) keys))
     missed-bit early i from = h.renewed i from ∙ sym (again-next keys place in_it before noted i ∙ rw (ne_eqb (i + 1) before (λ e. omega (arith, e, early, from))) refl)
 
+    hits-next : (b : Bool) → is_within w.capacity (distance (take place keys) (get_or keys place 0)) ≡ b → hits_within w.capacity (take (place + 1) keys) ≡ w.hits + cond b 1 0
+    hits-next b e = count-next (is_within w.capacity) keys place in_it ∙ (λ i. sym h.hits i + cond (e i) 1 0)
+
     pub hit-window : (v : Window) → w.first < before → v.capacity ≡ w.capacity → v.first ≡ w.first → v.held ≡ w.held → v.hits ≡ w.hits + 1 → length v.renewed.items ≡ length w.renewed.items → ((i : ℕ) → bit_of v.renewed.items i ≡ (bit_of w.renewed.items i || eqb (before - 1) i)) → IsWindow keys (place + 1) v
     hit-window v later capacity first held hits size sets =
-        let low : nat_lt w.first (before) ≡ true = grind (arith, nat_tests) in
+        let low : nat_lt w.first before ≡ true = grind (arith, nat_tests) in
         let came : has_key (get_or keys place 0) (drop w.first (take place keys)) ≡ true = sym (came-since w.first) ∙ low in
-        let fits : length (distinct_keys (drop w.first (take place keys))) ≤ w.capacity = omega (arith, h.held, h.fits) in
-        let yes : is_within w.capacity (distance (take place keys) (get_or keys place 0)) ≡ true = hit-within w.capacity w.first (take place keys) (get_or keys place 0) fits came in
-        let more : hits_within w.capacity (take (place + 1) keys) ≡ hits_within w.capacity (take place keys) + cond (is_within w.capacity (distance (take place keys) (get_or keys place 0))) 1 0 = count-next (is_within w.capacity) keys place in_it in
-        let was : w.hits ≡ hits_within w.capacity (take place keys) = h.hits in
-        let counted : v.hits ≡ hits_within w.capacity (take (place + 1) keys) = omega (arith, ap (λ b. cond {A = ℕ} b 1 0) yes, more, was, hits) in
+        let yes = hits-next true (hit-within w.capacity w.first (take place keys) (get_or keys place 0) (omega (arith, h.held, h.fits)) came) in
         record {
           begun = omega (arith, h.begun, first);
-          held = held ∙ (h.held ∙ (sym (same-held w.first h.begun came) ∙ ap (λ (f : ℕ). length (distinct_keys (drop f (take (place + 1) keys)))) (sym first)));
+          held = held ∙ (h.held ∙ (sym (rw came at (stack-next keys place w.first in_it h.begun)) ∙ ap (stack keys (place + 1)) (sym first)));
           fits = omega (arith, h.fits, held, capacity);
           full = λ some. held ∙ (h.full (omega (arith, some, first)) ∙ sym capacity);
-          hits = counted ∙ ap (λ (c : ℕ). hits_within c (take (place + 1) keys)) (sym capacity);
+          hits = hits ∙ (sym yes ∙ ap (λ (c : ℕ). hits_within c (take (place + 1) keys)) (sym capacity));
           room = omega (arith, h.room, size);
           few = omega (arith, h.few, size);
           renewed = λ i from. sets i ∙ hit-bit later i (omega (arith, from, first));
@@ -121,16 +92,17 @@ module _ (keys : List ℕ) (place : ℕ) (in_it : place < length keys) (before :
 
     same-hits : before ≤ w.first → w.hits ≡ hits_within w.capacity (take (place + 1) keys)
     same-hits early =
-        let no : is_within w.capacity (distance (take place keys) (get_or keys place 0)) ≡ false = miss-beyond w.capacity w.first (take place keys) (get_or keys place 0) (λ some. sym h.held ∙ h.full some) (missed early) in
-        let more : hits_within w.capacity (take (place + 1) keys) ≡ hits_within w.capacity (take place keys) + cond (is_within w.capacity (distance (take place keys) (get_or keys place 0))) 1 0 = count-next (is_within w.capacity) keys place in_it in
-        let was : w.hits ≡ hits_within w.capacity (take place keys) = h.hits in
-        omega (arith, ap (λ b. cond {A = ℕ} b 1 0) no, more, was)
+        let no = hits-next false (miss-beyond w.capacity w.first (take place keys) (get_or keys place 0) (λ some. sym h.held ∙ h.full some) (missed early)) in
+        omega (arith, no)
+
+    more-held : before ≤ w.first → stack keys (place + 1) w.first ≡ suc w.held
+    more-held early = rw (missed early) at (stack-next keys place w.first in_it h.begun) ∙ ap suc (sym h.held)
 
     pub filled-window : before ≤ w.first → w.held < w.capacity → IsWindow keys (place + 1) (record { capacity = w.capacity; first = w.first; held = w.held + 1; hits = w.hits; renewed = w.renewed })
     filled-window early room =
         record {
           begun = omega (arith, h.begun);
-          held = omega (arith, more-held w.first h.begun (missed early), h.held);
+          held = omega (arith, more-held early);
           fits = omega (arith, room);
           full = λ some. let all : w.held ≡ w.capacity = h.full some in absurd (omega (arith, all, room));
           hits = same-hits early;
@@ -151,21 +123,21 @@ module _ (keys : List ℕ) (place : ℕ) (in_it : place < length keys) (before :
             | inr more ↦ omega (arith, more)
           ]
 
-      one-less : length (distinct_keys (drop (o + 1) (take (place + 1) keys))) + 1 ≡ length (distinct_keys (drop w.first (take (place + 1) keys)))
+      one-less : stack keys (place + 1) (o + 1) + 1 ≡ stack keys (place + 1) w.first
       one-less =
-          let low : o ≤ place = oldest-low in
           let e : w.first + (o - w.first) ≡ o = omega (arith, c.behind) in
+          let on : o + 1 ≡ suc o = omega arith in
           let gone : has_key (get_or keys o 0) (drop (suc o) (take (place + 1) keys)) ≡ false = sym (missed-bit early o c.behind) ∙ c.clear in
-          let run : length (distinct_keys (drop (w.first + (o - w.first)) (take (place + 1) keys))) ≡ length (distinct_keys (drop w.first (take (place + 1) keys))) =
-          past-run w.first (o - w.first) (omega (arith, e, low)) (λ i from below. sym (missed-bit early i from) ∙ c.set i from (omega (arith, e, below))) in
-          past-fresh o low gone ∙ (ap (λ (s : ℕ). length (distinct_keys (drop s (take (place + 1) keys)))) (sym e) ∙ run)
+          let front = rw gone at (stack-front keys (place + 1) o (omega (arith, oldest-low)) (omega (arith, in_it))) in
+          let run = past-run w.first (o - w.first) (omega (arith, e, oldest-low)) (λ i from below. sym (missed-bit early i from) ∙ c.set i from (omega (arith, e, below))) in
+          omega (arith, front, run, ap (stack keys (place + 1)) e, ap (stack keys (place + 1)) on)
 
       pub moved-window : IsWindow keys (place + 1) (record { capacity = w.capacity; first = o + 1; held = w.held; hits = w.hits; renewed = w.renewed })
       moved-window =
           let fits : w.held ≤ w.capacity = h.fits in
           record {
             begun = omega (arith, oldest-low);
-            held = omega (arith, more-held w.first h.begun (missed early), h.held, one-less);
+            held = omega (arith, more-held early, one-less);
             fits = h.fits;
             full = λ some. omega (arith, fits, crowded);
             hits = same-hits early;

@@ -2,7 +2,8 @@
 use Rattle.std.proofs.Common.{◌≡◌, ◌≢◌, ◌⊎◌, min, ◌∙◌, ℕ, zero, suc, ◌+◌, ◌*◌, ◌/◌, ◌^◌, ◌<◌, ◌≤◌, Bool, true, false, cond, eqb, List, [], ◌∷◌, set, get_or, length, replicate, ap, sym, refl, subst, arith, inl, inr, get_or-set_other, get_or-set_same}
 use mir.Val.{bool_byte}
 use Rattle.std.proofs.Math.Nat.{le-min, min-le_left, min-le_right}
-use Rattle.std.proofs.lemmas.Bool.{cases_eq, cases_Bool, eqb-true, eq-eqb, ne_eqb}
+use Rattle.std.proofs.lemmas.Bool.{cases_eq, cases_lt, cases_Bool, eqb-true, ne_eqb}
+use Rattle.std.proofs.lemmas.Bool.Decides.{nat_tests}
 use Rattle.std.proofs.lemmas.List.{length-set, length-replicate}
 use Rattle.trace_index.specs.declared.key_cells.TheConstants.{WINDOW, MAX_HOMES}
 use Rattle.trace_index.specs.KeyCells.{number_or, number_at, number_below, home, taken, IsTable, AreCells, IsPlace}
@@ -17,9 +18,10 @@ within [] q ne = absurd (ne refl)
 within (x ∷ xs) zero ne = omega arith
 within (x ∷ xs) (suc q) ne = omega (arith, within xs q ne)
 
-pub first-of : (n other : ℕ) → n ≢ 0 → number_or n other ≡ n
-first-of zero other ne = absurd (ne refl)
-first-of (suc n) other ne = refl
+-- what `number_or` gives, for `grind`
+or-tells : (n other : ℕ) → ((n ≡ 0) × (number_or n other ≡ other)) ⊎ ((n ≢ 0) × (number_or n other ≡ n))
+or-tells zero other = inl (refl, refl)
+or-tells (suc n) other = inr (λ e. omega (arith, e), refl)
 
 -- ---- how many cells are taken
 
@@ -76,13 +78,9 @@ cells-empty homes len keys numbers k n l few =
 pub none-below : (keys numbers : List ℕ) (n k : ℕ) → ((q : ℕ) → get_or numbers q 0 ≢ 0 → get_or keys q 0 ≢ k) → number_below keys numbers n k ≡ 0
 none-below keys numbers zero k h = refl
 none-below keys numbers (suc n) k h =
-    elim (cases_Bool (eqb (get_or keys n 0) k)) [
-      | inr e ↦ rw e (none-below keys numbers n k h)
-      | inl e ↦ elim (cases_eq (get_or numbers n 0) 0) [
-        | inl z ↦ rw (e, z) (none-below keys numbers n k h)
-        | inr ne ↦ absurd (h n ne (eqb-true _ _ e))
-      ]
-    ]
+    let rest = none-below keys numbers n k h in
+    let here = h n in
+    grind (arith, nat_tests, or-tells, rest, here)
 
 -- a cell has it, and no other cell has the key
 pub one-below : (keys numbers : List ℕ) (n k p : ℕ) → p < n → get_or numbers p 0 ≢ 0 → get_or keys p 0 ≡ k
@@ -91,18 +89,13 @@ one-below keys numbers zero k p lt some there once = absurd (omega (arith, lt))
 one-below keys numbers (suc n) k p lt some there once =
     elim (cases_eq p n) [
       | inl same ↦
-          let e : eqb (get_or keys n 0) k ≡ true = eq-eqb _ _ (ap (λ i. get_or keys i 0) (sym same) ∙ there) in
-          let ne : get_or numbers n 0 ≢ 0 = subst (λ i. get_or numbers i 0 ≢ 0) same some in
-          rw e (first-of (get_or numbers n 0) _ ne ∙ ap (λ i. get_or numbers i 0) (sym same))
+          let own : get_or numbers n 0 ≡ get_or numbers p 0 = ap (λ i. get_or numbers i 0) (sym same) in
+          let key : get_or keys n 0 ≡ k = ap (λ i. get_or keys i 0) (sym same) ∙ there in
+          grind (arith, nat_tests, or-tells, own, key, some)
       | inr other ↦
-          let rest : number_below keys numbers n k ≡ get_or numbers p 0 = one-below keys numbers n k p (omega (arith, lt, other)) some there once in
-          elim (cases_Bool (eqb (get_or keys n 0) k)) [
-            | inr e ↦ rw e rest
-            | inl e ↦ elim (cases_eq (get_or numbers n 0) 0) [
-              | inl z ↦ rw (e, z) rest
-              | inr ne ↦ absurd (other (sym (once n ne (eqb-true _ _ e))))
-            ]
-          ]
+          let rest = one-below keys numbers n k p (omega (arith, lt, other)) some there once in
+          let apart = once n in
+          grind (arith, nat_tests, or-tells, rest, apart, other)
     ]
 
 -- two tables whose cells have the same number for the key
@@ -116,9 +109,7 @@ or-assoc zero b c = refl
 or-assoc (suc a) b c = refl
 
 pub chosen : (b : Bool) (n other : ℕ) → n ≢ 0 → cond b n other ≡ number_or (cond b n 0) other
-chosen true zero other ne = absurd (ne refl)
-chosen true (suc n) other ne = refl
-chosen false n other ne = refl
+chosen b n other ne = grind (arith, or-tells, ne)
 
 -- a cell more was moved to another table
 pub moved-on : (keys numbers : List ℕ) (p k key n new old rest : ℕ) → key ≡ get_or keys p 0 → n ≡ get_or numbers p 0
@@ -157,23 +148,14 @@ module _ (homes : ℕ) (keys numbers : List ℕ) (key end place : ℕ) (t : IsTa
       let from : home homes key ≤ q = subst (λ x. home homes x ≤ q) e (t.behind q ne) in
       let near : q < home homes key + WINDOW = subst (λ x. q < home homes x + WINDOW) e (t.near q ne) in
       let in_it : q < end = least q (omega (arith, within numbers q ne, t.each)) near in
-      elim (cases_eq q place) [
-        | inl same ↦ ne (ap (λ i. get_or numbers i 0) same ∙ empty (omega (arith, same, in_it)))
-        | inr other ↦ elim (order q place other) [
-          | inl less ↦ f.others q from less e
-          | inr more ↦
-              let here : place < end = omega (arith, more, in_it) in
-              t.joined q place ne (subst (λ x. home homes x ≤ place) (sym e) (f.behind here)) more (empty here)
+      elim (cases_lt q place) [
+        | inl less ↦ f.others q from less e
+        | inr le ↦ elim (cases_eq q place) [
+          | inl same ↦ ne (ap (λ i. get_or numbers i 0) same ∙ empty (omega (arith, same, in_it)))
+          | inr other ↦
+              let here : place < end = omega (arith, le, in_it) in
+              t.joined q place ne (subst (λ x. home homes x ≤ place) (sym e) (f.behind here)) (omega (arith, le, other)) (empty here)
         ]
-      ]
-    where
-      order : (a b : ℕ) → a ≢ b → (a < b) ⊎ (b < a)
-      order zero zero ne = absurd (ne refl)
-      order zero (suc b) ne = inl (omega arith)
-      order (suc a) zero ne = inr (omega arith)
-      order (suc a) (suc b) ne = elim (order a b (λ e. ne (ap suc e))) [
-        | inl l ↦ inl (omega (arith, l))
-        | inr l ↦ inr (omega (arith, l))
       ]
 
 -- ---- a key is put where the search ended
@@ -271,17 +253,9 @@ module _ (homes : ℕ) (keys numbers : List ℕ) (key number end place : ℕ) (t
   at-other k apart q =
       elim (cases_eq q place) [
         | inl same ↦
-            let new : eqb (get_or (set keys place key) q 0) k ≡ false = ap (λ x. eqb x k) (ap (λ i. get_or (set keys place key) i 0) same ∙ its-key) ∙ apart in
-            rw new (sym (elim (cases_eq (get_or numbers q 0) 0) [
-              | inl z ↦ elim (cases_Bool (eqb (get_or keys q 0) k)) [
-                | inl e ↦ rw (e, z) refl
-                | inr e ↦ rw e refl
-              ]
-              | inr taken ↦
-                  let its : get_or keys q 0 ≡ key = ap (λ i. get_or keys i 0) same ∙ g.stops here (λ z. taken (ap (λ i. get_or numbers i 0) same ∙ z)) in
-                  let e : eqb (get_or keys q 0) k ≡ false = ap (λ x. eqb x k) its ∙ apart in
-                  rw e refl
-            ]))
+            let new : get_or (set keys place key) q 0 ≡ key = ap (λ i. get_or (set keys place key) i 0) same ∙ its-key in
+            let old : get_or numbers q 0 ≢ 0 → get_or keys q 0 ≡ key = λ ne. ap (λ i. get_or keys i 0) same ∙ g.stops here (λ z. ne (ap (λ i. get_or numbers i 0) same ∙ z)) in
+            grind (arith, nat_tests, new, old, apart)
         | inr other ↦ rw (other-key q other, other-number q other) refl
       ]
 
