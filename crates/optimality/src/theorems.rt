@@ -4,6 +4,7 @@ ghost use Rattle.optimality.specs.Theorems.{BeladyIsOptimal, BeladyIsStrategy, B
 
 /// No strategy of the same capacity has more hits than Belady's policy, at any place of any trace. The strategy may
 /// know the whole trace, and may bypass the cache; it fetches on demand. (Belady 1966.)
+#[tactic(auto, using(crate::proofs::Optimal::optimal))]
 pub fn belady_is_optimal()
     ensures { BeladyIsOptimal }
 {}
@@ -14,6 +15,7 @@ pub fn belady_is_strategy()
 {}
 
 /// At a larger capacity Belady's policy has no fewer hits. (It is a stack algorithm: Mattson and others 1970.)
+#[tactic(auto, using(crate::proofs::Optimal::hits_grow))]
 pub fn belady_hits_grow()
     ensures { BeladyHitsGrow }
 {}
