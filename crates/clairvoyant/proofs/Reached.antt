@@ -1,5 +1,5 @@
 -- What the first accesses of a trace give, one access further.
-use Rattle.std.proofs.Common.{◌≡◌, ℕ, suc, zero, ◌+◌, ◌-◌, ◌<◌, ◌≤◌, true, cond, eqb, nat_lt, Some, None, List, length, get_or, ap, ◌∙◌, sym, refl, subst, arith, add-one}
+use Rattle.std.proofs.Common.{◌≡◌, ℕ, suc, zero, ◌+◌, ◌-◌, ◌<◌, ◌≤◌, true, cond, eqb, nat_lt, Some, None, List, length, get_or, ap, ◌∙◌, sym, refl, arith, add-one}
 use Rattle.std.proofs.lemmas.Bool.{eq-eqb, lt-ltb}
 use Rattle.step_record.specs.declared.limits.TheConstants.{MAX_STEPS}
 use Rattle.step_record.specs.declared.outcome.Outcome.{Outcome}
@@ -55,7 +55,7 @@ act-next c t s k o lt few e f =
     ∙ ap (λ n. Some (belady_outcome c t s.accesses, record { trace = t; capacity = c; residents = belady_residents c t n; stats = stats_with (belady_outcome c t s.accesses) s })) (sym (add-one s.accesses))
     ∙ ap (λ x. Some (x, shown c t (stats_with x s))) (sym f)
 
-uncount : (o : Outcome) (s : Stats) → stats_without o (stats_with o s) ≡ s
+pub uncount : (o : Outcome) (s : Stats) → stats_without o (stats_with o s) ≡ s
 uncount o s =
     let a : s.accesses + 1 - 1 ≡ s.accesses = omega arith in
     let b : s.hits + one_if (is_hit o) - one_if (is_hit o) ≡ s.hits = omega arith in
@@ -64,10 +64,5 @@ uncount o s =
     let f : s.rejections + one_if (is_rejection o) - one_if (is_rejection o) ≡ s.rejections = omega arith in
     rw (a, b, d, e, f) refl
 
-pub uncount-by : (p o : Outcome) (s : Stats) → p ≡ o → stats_without p (stats_with o s) ≡ s
-uncount-by p o s e = ap (λ x. stats_without x (stats_with o s)) e ∙ uncount o s
-
-pub is-counted : (p o : Outcome) (s : Stats) → p ≡ o → IsCounted p (stats_with o s)
-is-counted p o s e =
-    let r : IsCounted o (stats_with o s) = record { accesses = omega arith; hits = omega arith; misses = omega arith; evictions = omega arith; rejections = omega arith } in
-    let P : Outcome → Type 0 = λ x. IsCounted x (stats_with o s) in subst P (sym e) r
+pub is-counted : (o : Outcome) (s : Stats) → IsCounted o (stats_with o s)
+is-counted o s = record { accesses = omega arith; hits = omega arith; misses = omega arith; evictions = omega arith; rejections = omega arith }

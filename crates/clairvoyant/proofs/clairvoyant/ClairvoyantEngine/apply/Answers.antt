@@ -1,8 +1,8 @@
 use Rattle.std.proofs.lemmas.Grind.{common_steps}
 use Rattle.std.proofs.Common.{◌∙◌, sym, ap, arith}
+use Rattle.step_record.specs.Stats.{stats_with}
 use Rattle.clairvoyant.specs.Clairvoyant.{ClairvoyantState}
-use Rattle.clairvoyant.specs.OptimalRecord.{outcome_of, record_at}
-use Rattle.clairvoyant.proofs.Records.{outcome-is}
+use Rattle.clairvoyant.specs.OptimalRecord.{record_at}
 use Rattle.clairvoyant.proofs.Reached.{reached-held}
 use Rattle.clairvoyant.proofs.Applying.{next-keeping, next-accepted, next-undone, next-fits}
 use Rattle.clairvoyant.proofs.clairvoyant.ClairvoyantEngine.apply.Goals as goal
@@ -16,22 +16,22 @@ serve-record-requires-clause-held c = let s = c.self.inside in omega (arith, rea
 pub invariant_of-self : goal.invariant_of-self
 invariant_of-self c =
     let s = c.self.inside in
-    next-keeping s.core.capacity s.core.uses s.stats c.count.new.self c.outcome-outcome.result (omega (arith, c.if-place-len.false, c.len.ensures.len)) c.self.invariant.reached (c.outcome-outcome.ensures ∙ ap outcome_of c.serve-record.ensures.record ∙ outcome-is s.core.capacity s.core.uses s.stats.accesses) c.count.ensures c.serve-record.new.ranks c.serve-record.ensures.tied
+    next-keeping s.core.capacity s.core.uses s.stats c.count.new.self c.serve-record.result (omega (arith, c.if-place-len.false, c.len.ensures.len)) c.self.invariant.reached c.serve-record.ensures.record (c.count.ensures ∙ ap (λ o. stats_with o s.stats) c.outcome-outcome.ensures) c.serve-record.new.ranks c.serve-record.ensures.tied
 
 pub returns-clause-accepted : goal.returns-clause-accepted
 returns-clause-accepted c =
     let s = c.self.inside in
-    next-accepted s.core.capacity s.core.uses s.stats c.count.new.self c.outcome-outcome.result (omega (arith, c.if-place-len.false, c.len.ensures.len)) c.self.invariant.reached (c.outcome-outcome.ensures ∙ ap outcome_of c.serve-record.ensures.record ∙ outcome-is s.core.capacity s.core.uses s.stats.accesses) c.count.ensures c.args.step.now c.args.self.now c.self.view_is (sym c.if-key-step.false ∙ c.key.ensures)
+    next-accepted s.core.capacity s.core.uses s.stats c.count.new.self c.serve-record.result (omega (arith, c.if-place-len.false, c.len.ensures.len)) c.self.invariant.reached c.serve-record.ensures.record (c.count.ensures ∙ ap (λ o. stats_with o s.stats) c.outcome-outcome.ensures) _ _ c.args.self.now c.self.view_is (sym c.if-key-step.false ∙ c.key.ensures) c.outcome-outcome.ensures
 
 pub returns-clause-fits : goal.returns-clause-fits
 returns-clause-fits c =
     let s = c.self.inside in
-    next-fits s.core.capacity s.core.uses s.stats c.count.new.self c.outcome-outcome.result (omega (arith, c.if-place-len.false, c.len.ensures.len)) c.self.invariant.reached (c.outcome-outcome.ensures ∙ ap outcome_of c.serve-record.ensures.record ∙ outcome-is s.core.capacity s.core.uses s.stats.accesses) c.count.ensures c.serve-record.result c.serve-record.ensures.record
+    next-fits s.core.capacity s.core.uses s.stats c.count.new.self c.serve-record.result (omega (arith, c.if-place-len.false, c.len.ensures.len)) c.self.invariant.reached c.serve-record.ensures.record (c.count.ensures ∙ ap (λ o. stats_with o s.stats) c.outcome-outcome.ensures)
 
 pub returns-clause-undone : goal.returns-clause-undone
 returns-clause-undone c =
     let s = c.self.inside in
-    next-undone s.core.capacity s.core.uses s.stats c.count.new.self c.outcome-outcome.result (omega (arith, c.if-place-len.false, c.len.ensures.len)) c.self.invariant.reached (c.outcome-outcome.ensures ∙ ap outcome_of c.serve-record.ensures.record ∙ outcome-is s.core.capacity s.core.uses s.stats.accesses) c.count.ensures c.serve-record.result c.serve-record.ensures.record ∙ c.self.view_is
+    next-undone s.core.capacity s.core.uses s.stats c.count.new.self c.serve-record.result (omega (arith, c.if-place-len.false, c.len.ensures.len)) c.self.invariant.reached c.serve-record.ensures.record (c.count.ensures ∙ ap (λ o. stats_with o s.stats) c.outcome-outcome.ensures) ∙ c.self.view_is
 
 pub returns-clause-record_is : goal.returns-clause-record_is
 returns-clause-record_is c =
