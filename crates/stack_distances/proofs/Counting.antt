@@ -27,8 +27,8 @@ within-hits c xs k = elim (two (has_key k xs)) [ inl h ↦ rw h refl | inr h ↦
 outcome-is : (c : ℕ) (xs : List ℕ) (k : ℕ) → (is_hit (lru_outcome c xs k) ≡ is_lru_hit c xs k) × (is_rejection (lru_outcome c xs k) ≡ false)
 outcome-is c xs k = (grind arith, grind arith)
 
-pub lru-hits : (j : Job) (keys : List ℕ) (k : ℕ) → j.policy ≡ Lru → 1 ≤ j.config.capacity → is_hit (outcome_after j keys k) ≡ is_within j.config.capacity (distance keys k)
-lru-hits j keys k p room = ap is_hit (outcome-lru j p room keys k (after-job j keys)) ∙ ((outcome-is j.config.capacity keys k).0 ∙ sym (within-hits j.config.capacity keys k))
+pub lru_hits : (j : Job) (keys : List ℕ) (k : ℕ) → j.policy ≡ Lru → 1 ≤ j.config.capacity → is_hit (outcome_after j keys k) ≡ is_within j.config.capacity (distance keys k)
+lru_hits j keys k p room = ap is_hit (outcome-lru j p room keys k (after-job j keys)) ∙ ((outcome-is j.config.capacity keys k).0 ∙ sym (within-hits j.config.capacity keys k))
 
 -- ---- a list of accesses
 
@@ -52,10 +52,10 @@ module _ (j : Job) (is_lru : j.policy ≡ Lru) (room : 1 ≤ j.config.capacity) 
 
 -- a miss without an eviction fills one place
 fills : (c : ℕ) (xs : List ℕ) (k : ℕ) → one_if (is_eviction (lru_outcome c xs k)) + min c (length (distinct_keys (xs ++ k ∷ []))) ≡ one_if (is_miss (lru_outcome c xs k)) + min c (length (distinct_keys xs))
-fills c xs k = rw (grows k xs) (elim (two (has_key k xs)) [
-  | inl h ↦ let short : suc (length (distinct_keys (keys_since k xs))) ≤ length (distinct_keys xs) = since-within k 0 xs h in rw h (grind (arith, nat_tests))
-  | inr h ↦ rw h (grind (arith, nat_tests))
-])
+fills c xs k =
+    let more = grows k xs in
+    let short = since-within k 0 xs in
+    grind (arith, nat_tests, more, short)
 
 abbrev IsCounted : ℕ → List ℕ → List ℕ → List Outcome → Type 0
 IsCounted c past keys os = (count_by is_hit os ≡ count_by (is_within c) (distances_after past keys)) × (length os ≡ length keys) × (count_by is_rejection os ≡ 0)
@@ -86,9 +86,9 @@ stats-by c keys =
     let e : count_by is_eviction os ≡ length keys - hits_within c keys - min c (length (distinct_keys keys)) = omega (arith, n.3, m) in
     rw (n.1, n.0, m, e, n.2) refl
 
-pub lru-counts : (j : Job) (keys : List ℕ) → j.policy ≡ Lru → 1 ≤ j.config.capacity → stats_on j keys ≡ stats_within j.config.capacity keys
+pub lru_counts : (j : Job) (keys : List ℕ) → j.policy ≡ Lru → 1 ≤ j.config.capacity → stats_on j keys ≡ stats_within j.config.capacity keys
 unfolding stats_on
-lru-counts j keys p room =
+lru_counts j keys p room =
     let by_queues : outcomes_on j keys ≡ outcomes_after j keys = ap (λ x. outcomes_by (design_of x) j keys) p in
     ap stats_of by_queues ∙ (ap stats_of (all-outcomes j p room keys) ∙ stats-by j.config.capacity keys)
 
@@ -97,7 +97,7 @@ pub stats-read : (j : Job) (keys : List ℕ) (n h held c : ℕ) → j.policy ≡
     → ◌≡◌ {A = Stats} (record { accesses = n; hits = h; misses = n - h; evictions = n - h - held; rejections = 0 }) (stats_on j keys)
 stats-read j keys n h held c lru cap some all hits left =
     let is : ◌≡◌ {A = Stats} (record { accesses = n; hits = h; misses = n - h; evictions = n - h - held; rejections = 0 }) (stats_within c keys) = rw (all, hits, left) refl in
-    is ∙ (ap (λ m. stats_within m keys) (sym cap) ∙ sym (lru-counts j keys lru (rw cap some)))
+    is ∙ (ap (λ m. stats_within m keys) (sym cap) ∙ sym (lru_counts j keys lru (rw cap some)))
 
 -- a miss fills a place of the cache, or evicts
 pub hits-and-held : (c : ℕ) (keys : List ℕ) → hits_within c keys + min c (length (distinct_keys keys)) ≤ length keys
@@ -109,5 +109,5 @@ within-more : (c d : ℕ) (x : Option ℕ) → c ≤ d → one_if (is_within c x
 within-more c d None h = omega arith
 within-more c d (Some n) h = grind (arith, nat_tests)
 
-pub hits-grow : (c d : ℕ) (keys : List ℕ) → c ≤ d → hits_within c keys ≤ hits_within d keys
-hits-grow c d keys h = sum_by-le-sum_by (λ x. one_if (is_within c x)) (λ x. one_if (is_within d x)) (distances keys) (λ x. within-more c d x h)
+pub hits_grow : (c d : ℕ) (keys : List ℕ) → c ≤ d → hits_within c keys ≤ hits_within d keys
+hits_grow c d keys h = sum_by-le-sum_by (λ x. one_if (is_within c x)) (λ x. one_if (is_within d x)) (distances keys) (λ x. within-more c d x h)

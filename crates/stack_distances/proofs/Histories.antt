@@ -61,15 +61,10 @@ sum-low ws (suc n) =
 -- an access is the last one to its key, and that to the same key before it is no more
 next-last : (keys : List ℕ) (place : ℕ) (in_it : place < length keys) (before : ℕ) → before ≡ last_number keys place (get_or keys place 0) → (q : ℕ) → is_last keys (place + 1) q ≡ cond (eqb (q + 1) before) false (cond (eqb q place) true (is_last keys place q))
 next-last keys place in_it before noted q =
-    elim (cases_eq q place) [
-      | inl e ↦
-          let none : has_key (get_or keys q 0) (drop (suc q) (take (place + 1) keys)) ≡ false = ap (has_key (get_or keys q 0)) (past-end keys (place + 1) (suc q) (omega (arith, in_it)) (omega (arith, e))) in
-          let yes : nat_lt q (place + 1) ≡ true = grind (arith, nat_tests) in
-          let other : eqb (q + 1) before ≡ false = ne_eqb (q + 1) before (λ s. omega (arith, s, e, noted, last-low keys place (get_or keys place 0))) in
-          rw (yes, none, other, eq-eqb q place e) refl
-      | inr d ↦
-          let ne : q ≢ place = d in rw (again-next keys place in_it before noted q) (grind (arith, nat_tests))
-    ]
+    let again = again-next keys place in_it before noted q in
+    let low = last-low keys place (get_or keys place 0) in
+    let last : q ≡ place → has_key (get_or keys q 0) (drop (suc q) (take (place + 1) keys)) ≡ false = λ e. ap (has_key (get_or keys q 0)) (past-end keys (place + 1) (suc q) (omega (arith, in_it)) (omega (arith, e))) in
+    grind (arith, nat_tests, again, low, last, noted)
 
 -- ---- one access
 
@@ -150,10 +145,7 @@ module _ (keys : List ℕ) (place : ℕ) (in_it : place < length keys) (h : Hist
       came = has-drop key p (take place keys) in-stack
 
       pub there : bit_of vs p ≡ true
-      there =
-          let yes : nat_lt p place ≡ true = (let l : p < place = low in grind (arith, nat_tests)) in
-          let other : eqb p place ≡ false = ne_eqb p place (λ e. omega (arith, e, low)) in
-          puts p ∙ (ap (λ b. cond b true (bit_of words p)) other ∙ (c.marked p ∙ rw (yes, last-there) refl))
+      there = let is = puts p in let mark = c.marked p in let before = low in grind (arith, nat_tests, is, mark, before, last-there)
 
       pub below-few : sum_below (mark_of vs) p ≤ place
       below-few = omega (arith, sum-low vs p, low)

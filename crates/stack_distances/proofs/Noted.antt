@@ -23,7 +23,7 @@ module _ (counts noted : List ℕ) (d : ℕ) where
   -- the last one is counted
   pub counted-last : d < length counts → (q : ℕ) → count_at (set counts d (get_or counts d 0 + 1)) noted q ≡ count_at counts (noted ++ d ∷ []) q
   counted-last within q = elim (cases_eq q d) [
-    | inl e ↦ omega (arith, get_or-set_at counts d q (get_or counts d 0 + 1) 0 e within, noted-there, ap (λ n. count_at counts (noted ++ d ∷ []) n) e, ap (λ n. count_by (eqb n) noted) e)
+    | inl e ↦ rw e (omega (arith, get_or-set_at counts d d (get_or counts d 0 + 1) 0 refl within, noted-there))
     | inr n ↦ omega (arith, get_or-set_other counts d q (get_or counts d 0 + 1) 0 n, noted-more q, ap (λ b. cond {A = ℕ} b 1 0) (ne_eqb q d n))
   ]
 

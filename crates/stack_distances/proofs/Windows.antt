@@ -7,7 +7,7 @@ use Rattle.step_record.specs.Keys.{has_key}
 use Rattle.step_record.specs.Bits.{bit_of}
 use Rattle.step_record.specs.declared.job.Job.{Job}
 use Rattle.step_record.specs.declared.job.Policy.TheVariants.{Lru}
-use Rattle.queue_cache.specs.Lru.{distinct_keys}
+use Rattle.queue_cache.specs.Lru.{distinct_keys, keys_since}
 use Rattle.policies.specs.AnyPolicy.{stats_on}
 use Rattle.queue_cache.proofs.Recency.{has-drop, two}
 use Rattle.stack_distances.specs.Distances.{distance, is_within, hits_within}
@@ -30,10 +30,9 @@ hit-within c f xs k fits h = let less = since-within k f xs h in rw (has-drop k 
 miss-beyond : (c f : ℕ) (xs : List ℕ) (k : ℕ) → (1 ≤ f → length (distinct_keys (drop f xs)) ≡ c) → has_key k (drop f xs) ≡ false → is_within c (distance xs k) ≡ false
 miss-beyond c zero xs k full h = rw h refl
 miss-beyond c (suc f) xs k full h =
-    elim (two (has_key k xs)) [
-      | inl came ↦ let more = since-beyond k (suc f) xs came h in let all = full (omega arith) in rw came (grind (arith, nat_tests))
-      | inr none ↦ rw none refl
-    ]
+    let more : has_key k xs ≡ true → length (distinct_keys (drop (suc f) xs)) ≤ length (distinct_keys (keys_since k xs)) = λ came. since-beyond k (suc f) xs came h in
+    let all = full (omega arith) in
+    grind (arith, nat_tests, more, all)
 
 -- the access at the place, and the number of the last one to its key
 module _ (keys : List ℕ) (place : ℕ) (in_it : place < length keys) (before : ℕ) (noted : before ≡ number_of (last_below keys place (get_or keys place 0))) where

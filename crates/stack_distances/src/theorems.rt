@@ -3,11 +3,13 @@
 ghost use Rattle.stack_distances.specs.Theorems.{LruHits, LruCounts, HitsGrow};
 
 /// An access is a hit of Lru exactly where its distance is at most the capacity.
+#[tactic(auto, using(crate::proofs::Counting::lru_hits))]
 pub fn lru_hits()
     ensures { LruHits }
 {}
 
 /// The statistics of Lru over a trace, at every capacity, follow from the distances of the accesses.
+#[tactic(auto, using(crate::proofs::Counting::lru_counts))]
 pub fn lru_counts()
     ensures { LruCounts }
 {}
