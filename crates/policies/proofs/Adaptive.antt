@@ -13,7 +13,7 @@ use Rattle.queue_policies.specs.Residents.{state_after_all, outcomes_of_all}
 use Rattle.adaptive_window.specs.AdaptiveCache.{AdaptiveCacheState, cache_access}
 use Rattle.adaptive_window.specs.Residents.{cache_residents, IsCache, CacheKeeps}
 use Rattle.policies.specs.AnyPolicy.{IsAdaptiveAfter, adaptive_start, adaptive_outcomes}
-use Rattle.policies.proofs.Demand.{state-push, outcomes-long}
+use Rattle.policies.proofs.Demand.{state-push, outcomes-long, kept-from}
 
 -- ---- the accesses that it made
 
@@ -52,18 +52,14 @@ record IsCounted (c : ℕ) (d : AdaptiveCacheState) : Type 0 where
   counted : length (cache_residents d) + d.stats.evictions ≡ d.stats.misses
 
 module _ (law : CacheKeeps) (j : Job) (ok : config_fault j.config ≡ Ok tt) where
-  from-kept : (d : AdaptiveCacheState) (keys : List ℕ) → IsCounted j.config.capacity d
-      → IsCounted j.config.capacity (state_after_all cache_access d keys)
-  from-kept d [] h = h
-  from-kept d (k ∷ keys) h =
+  keeps : (k : ℕ) (d : AdaptiveCacheState) → IsCounted j.config.capacity d → IsCounted j.config.capacity (cache_access k d).1
+  keeps k d h =
       let all = law j.config j.tuning.period ok in
-      let one = (all.accesses k d h.cache).counts in
-      let before = h.counted in
-      from-kept (cache_access k d).1 keys (record { cache = all.keeps k d h.cache; counted = omega (arith, one, before) })
+      record { cache = all.keeps k d h.cache; counted = omega (arith, (all.accesses k d h.cache).counts, h.counted) }
 
   kept-after : (keys : List ℕ) → IsCounted j.config.capacity (state_after_all cache_access (adaptive_start j) keys)
   kept-after keys =
-      from-kept (adaptive_start j) keys (record { cache = (law j.config j.tuning.period ok).starts; counted = refl })
+      kept-from cache_access (IsCounted j.config.capacity) keeps (adaptive_start j) keys (record { cache = (law j.config j.tuning.period ok).starts; counted = refl })
 
 kept : CacheKeeps → (j : Job) (keys : List ℕ) (d : AdaptiveCacheState) → IsAdaptiveAfter j keys d → IsCounted j.config.capacity d
 kept law j keys d s = subst (IsCounted j.config.capacity) (sym s.gives) (kept-after law j s.checked keys)

@@ -18,9 +18,6 @@ use Rattle.demand_cache.specs.DemandQueues.{DemandQueues, empty_cache, queues_ac
 use Rattle.demand_cache.specs.DemandCache.{DemandState, demand_access}
 use Rattle.demand_cache.specs.Theorems.{DemandKeeps}
 use Rattle.demand_cache.proofs.Keeping.{page-outcomes}
-use Rattle.queue_cache.specs.declared.design.DemandDesign.{DemandDesign}
-use Rattle.queue_cache.specs.declared.design.Design.{Design}
-use Rattle.queue_cache.specs.declared.design.Design.TheVariants.{Queues, KnowsTrace, Demand, Adaptive}
 use Rattle.policies.specs.DemandDesign.{demand_policy}
 use Rattle.policies.specs.AnyPolicy.{IsDemandAfter, demand_run, demand_outcomes}
 use Rattle.queue_cache.proofs.Reached.{has-room}
@@ -49,13 +46,15 @@ module _ {S : Type 0} (act : ℕ → S → Outcome × S) where
   outcomes-first s (suc n) [] = refl
   outcomes-first s (suc n) (a ∷ keys) = ap (λ l. (act a s).0 ∷ l) (outcomes-first (act a s).1 n keys)
 
-module _ {S : Type 0} (c : ℕ) (start : S) (act : ℕ → S → Outcome × S) (residents : S → List ℕ) (IsState : S → Type 0) (all : KeepsResidents c start act residents IsState) where
-  kept-from : (s : S) (keys : List ℕ) → IsState s → IsState (state_after_all act s keys)
-  kept-from s [] h = h
-  kept-from s (k ∷ keys) h = kept-from (act k s).1 keys (all.keeps k s h)
+  -- what each access keeps
+  module _ (Holds : S → Type 0) (keeps : (k : ℕ) (s : S) → Holds s → Holds (act k s).1) where
+    pub kept-from : (s : S) (keys : List ℕ) → Holds s → Holds (state_after_all act s keys)
+    kept-from s [] h = h
+    kept-from s (k ∷ keys) h = kept-from (act k s).1 keys (keeps k s h)
 
-  pub kept-after : (keys : List ℕ) → IsState (state_after_all act start keys)
-  kept-after keys = kept-from start keys all.starts.0
+pub kept-after : {S : Type 0} (c : ℕ) (start : S) (act : ℕ → S → Outcome × S) (residents : S → List ℕ) (IsState : S → Type 0) → KeepsResidents c start act residents IsState
+    → (keys : List ℕ) → IsState (state_after_all act start keys)
+kept-after c start act residents IsState all keys = kept-from act IsState all.keeps start keys all.starts.0
 
 -- ---- with room for a key
 
@@ -91,20 +90,6 @@ demand_stands j keys d k s =
 
 pub demand-accesses : (j : Job) (keys : List ℕ) (d : DemandState) → IsDemandAfter j keys d → d.stats.accesses ≡ length keys
 demand-accesses j keys d s = ap (λ (x : Stats). x.accesses) s.stats ∙ outcomes-long queues_act (start_of j keys d s) keys
-
-abbrev kind_or : DemandDesign → Design → DemandDesign
-kind_or p (Queues d) = p
-kind_or p KnowsTrace = p
-kind_or p (Demand q) = q
-kind_or p Adaptive = p
-
-pub demand-one : (j : Job) (keys : List ℕ) (d e : DemandState) → IsDemandAfter j keys d → IsDemandAfter j keys e → d ≡ e
-demand-one j keys d e a b =
-    let same : demand_policy a.kind j ≡ demand_policy b.kind j = ap (λ p. demand_policy (kind_or a.kind p) j) (sym a.design ∙ b.design) in
-    let queues : d.queues ≡ e.queues =
-    a.queues ∙ (ap (λ p. state_after_all queues_act (empty_cache p j.config.capacity) keys) same ∙ sym b.queues) in
-    let stats : d.stats ≡ e.stats = a.stats ∙ (ap (λ p. stats_of (demand_run p j.config.capacity keys)) same ∙ sym b.stats) in
-    ap (λ q. record { queues = q; stats = d.stats }) queues ∙ ap (λ x. record { queues = e.queues; stats = x }) stats
 
 -- ---- the residents
 

@@ -10,6 +10,7 @@ use Rattle.policies.specs.declared.any_policy.AnyPolicy.{AnyPolicy}
 use Rattle.policies.specs.declared.any_policy.AnyPolicy.TheVariants.{Queues, Optimal, Demand, Adaptive}
 use Rattle.policies.specs.AnyPolicy.{stats_in, stats_on, outcomes_on, HasAccessed}
 use Rattle.queue_cache.specs.QueueCache.{QueueState, queue_state_after, frequency_after, empty_queue_state, outcomes_after, outcomes_from, access_response}
+use Rattle.policies.specs.Theorems.{AnyReports}
 use Rattle.policies.proofs.OptimalOutcomes.{outcomes-length}
 use Rattle.demand_cache.specs.DemandQueues.{queues_act, empty_cache}
 use Rattle.adaptive_window.specs.AdaptiveCache.{cache_access}
@@ -18,7 +19,7 @@ use Rattle.queue_cache.specs.Design.{design_of}
 use Rattle.policies.specs.DemandDesign.{demand_policy}
 use Rattle.policies.proofs.Demand.{outcomes-first, with-room, demand-room}
 use Rattle.policies.proofs.Adaptive.{adaptive-stats, when-checked}
-use Rattle.policies.proofs.StepLaws.{any_covers_trace, any_reports, outcomes-of-queues, outcomes-of-optimal}
+use Rattle.policies.proofs.StepLaws.{any_covers_trace, outcomes-of-queues, outcomes-of-optimal}
 use Rattle.queue_cache.proofs.Counting.{after-counts}
 
 from_first : (j : Job) (past : List ℕ) (d : QueueState) (n : ℕ) (keys : List ℕ) → outcomes_from j past d (take n keys) ≡ take n (outcomes_from j past d keys)
@@ -67,12 +68,19 @@ within_trace j trace n (Adaptive d) le s =
 -- a cache that made the first accesses has counted their outcomes, of which there may be fewer
 pub first-counts : (j : Job) (trace : List ℕ) (n : ℕ) (d : AnyPolicy) → HasAccessed j trace (take n trace) d
     → stats_in d ≡ stats_of (take n (outcomes_on j trace))
-unfolding stats_on
 first-counts j trace n d s =
     elim (cases_lt n (length trace)) [
       | inl below ↦ within_trace j trace n d (omega (arith, below)) s
       | inr past ↦
-          let long : length (outcomes_on j trace) ≡ length trace = any_covers_trace j trace in
-          any_reports j trace d (subst (λ l. HasAccessed j trace l d) (take_all n trace (omega (arith, past))) s)
-          ∙ ap stats_of (sym (take_all n (outcomes_on j trace) (omega (arith, past, long))))
+          let whole : take n trace ≡ take (length trace) trace = take_all n trace (omega (arith, past)) ∙ sym (take_all (length trace) trace (omega arith)) in
+          let long = any_covers_trace j trace in
+          within_trace j trace (length trace) d (omega arith) (subst (λ l. HasAccessed j trace l d) whole s)
+          ∙ ap stats_of (take_all (length trace) (outcomes_on j trace) (omega (arith, long)) ∙ sym (take_all n (outcomes_on j trace) (omega (arith, past, long))))
     ]
+
+-- one that made all of them has the statistics of the job
+pub any_reports : AnyReports
+unfolding stats_on
+any_reports j trace d s =
+    first-counts j trace (length trace) d (subst (λ l. HasAccessed j trace l d) (sym (take_all (length trace) trace (omega arith))) s)
+    ∙ ap stats_of (take_all (length trace) (outcomes_on j trace) (omega (arith, any_covers_trace j trace)))

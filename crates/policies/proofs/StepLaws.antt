@@ -10,31 +10,31 @@ use Rattle.step_record.specs.Stats.{is_eviction, stats_of}
 use Rattle.clairvoyant.specs.Belady.{belady_outcomes, belady_outcome as outcome_at}
 use Rattle.clairvoyant.specs.Theorems.{ClairvoyantStepLaw, ClairvoyantAccepts}
 use Rattle.clairvoyant.specs.Clairvoyant.{ClairvoyantState, clairvoyant_at, clairvoyant_act}
+use Rattle.policies.specs.declared.any_policy.AnyPolicy.{AnyPolicy}
 use Rattle.policies.specs.declared.any_policy.AnyPolicy.TheVariants.{Queues, Optimal, Demand, Adaptive}
-use Rattle.queue_cache.specs.QueueCache.{QueueState, outcomes_after}
+use Rattle.queue_cache.specs.QueueCache.{state_after, outcomes_after}
 use Rattle.step_record.specs.Limited.{lifted}
 use Rattle.step_record.proofs.Limited.{accepted-in, refused-in}
 use Rattle.queue_cache.specs.QueueStep.{queue_access, queue_count}
 use Rattle.demand_cache.specs.DemandCache.{demand_access, demand_count}
 use Rattle.demand_cache.specs.DemandQueues.{queues_act, empty_cache}
 use Rattle.demand_cache.specs.Theorems.{DemandKeeps, HitsAskNothing, AsksWhereOneLeft}
-use Rattle.queue_policies.specs.Residents.{outcomes_of_all}
+use Rattle.queue_policies.specs.Residents.{state_after_all, outcomes_of_all}
 use Rattle.adaptive_window.specs.AdaptiveCache.{cache_access, cache_count}
 use Rattle.adaptive_window.specs.Residents.{CacheKeeps, CacheHitsAskNothing, CacheAsksWhereOneLeft}
 use Rattle.queue_cache.specs.declared.design.Design.{Design}
 use Rattle.queue_cache.specs.declared.design.Design.TheVariants as design
 use Rattle.queue_cache.specs.Design.{design_of, is_of_queues, is_optimal}
 use Rattle.policies.specs.DemandDesign.{demand_policy}
-use Rattle.policies.specs.AnyPolicy.{stats_on, outcomes_by, adaptive_start, demand_run, IsBeladyAt}
+use Rattle.policies.specs.AnyPolicy.{outcomes_by, adaptive_start, demand_run, IsBeladyAt, HasAccessed}
 use Rattle.policies.specs.AnyCounts.{IsOptimalStep, optimal_step}
-use Rattle.policies.specs.Theorems.{AnyStepLaw, AnyAccepts, AnyIsOne, AnyReports, AnyAnswers, AnyCoversTrace, AnyHitsKeepAll, AnyRecordsShowOutcome, AnyAsksWhereOneLeft}
+use Rattle.policies.specs.Theorems.{AnyStepLaw, AnyAccepts, AnyIsOne, AnyAnswers, AnyCoversTrace, AnyHitsKeepAll, AnyRecordsShowOutcome, AnyAsksWhereOneLeft}
 use Rattle.clairvoyant.proofs.Records.{outcome-is}
 use Rattle.queue_cache.proofs.Leaving.{hit-keeps-all, queue-asks-evicts}
-use Rattle.queue_cache.proofs.Counting.{after-counts}
 use Rattle.queue_cache.proofs.Answered.{after-answers, after-length}
 use Rattle.policies.proofs.OptimalOutcomes.{at-answers, outcomes-length}
-use Rattle.policies.proofs.Demand.{demand_stands, demand-accesses, demand-one, outcomes-at, with-room, demand-room, demand-long, demand-sound}
-use Rattle.policies.proofs.Adaptive.{adaptive_stands, adaptive-stats, adaptive-accesses, adaptive-sound, when-checked, adaptive-long}
+use Rattle.policies.proofs.Demand.{demand_stands, demand-accesses, outcomes-at, with-room, demand-room, demand-long, demand-sound}
+use Rattle.policies.proofs.Adaptive.{adaptive_stands, adaptive-accesses, adaptive-sound, when-checked, adaptive-long}
 use Rattle.queue_cache.proofs.Reached.{stands-step, stands-outcome, stands-accesses}
 
 -- a cache that knows the trace, at its place
@@ -118,36 +118,39 @@ any_accepts law j trace keys rest k (Demand d) t few s h =
 any_accepts law j trace keys rest k (Adaptive d) t few s h =
     has-left trace keys rest k d.stats.accesses t few (adaptive-accesses j keys d s) (refused-in cache_count cache_access Adaptive d k h)
 
--- no design is of queues and knows the trace
-apart-kinds : (x : Design) → is_of_queues x ≡ true → is_optimal x ≡ true → ⊥
-apart-kinds (design.Queues q) a b = cc (b)
-apart-kinds design.KnowsTrace a b = cc (a)
-apart-kinds (design.Demand p) a b = cc (a)
-apart-kinds design.Adaptive a b = cc (a)
+-- the cache of a design after the accesses to the keys
+abbrev cache_by : Design → Job → List ℕ → List ℕ → AnyPolicy
+cache_by (design.Queues q) j trace keys = Queues (state_after j keys)
+cache_by design.KnowsTrace j trace keys = Optimal (clairvoyant_at j.config.capacity trace (length keys))
+cache_by (design.Demand p) j trace keys = Demand record {
+  queues = state_after_all queues_act (empty_cache (demand_policy p j) j.config.capacity) keys;
+  stats = stats_of (demand_run (demand_policy p j) j.config.capacity keys);
+}
+cache_by design.Adaptive j trace keys = Adaptive (state_after_all cache_access (adaptive_start j) keys)
 
-abbrev is-adaptive : Design → Bool
-is-adaptive design.Adaptive = true
-is-adaptive other = false
+module _ (j : Job) (trace keys : List ℕ) where
+  by-queues : (x : Design) → is_of_queues x ≡ true → Queues (state_after j keys) ≡ cache_by x j trace keys
+  by-queues (design.Queues q) h = refl
+  by-queues design.KnowsTrace h = absurd (cc h)
+  by-queues (design.Demand p) h = absurd (cc h)
+  by-queues design.Adaptive h = absurd (cc h)
+
+  by-trace : (x : Design) → is_optimal x ≡ true → Optimal (clairvoyant_at j.config.capacity trace (length keys)) ≡ cache_by x j trace keys
+  by-trace (design.Queues q) h = absurd (cc h)
+  by-trace design.KnowsTrace h = refl
+  by-trace (design.Demand p) h = absurd (cc h)
+  by-trace design.Adaptive h = absurd (cc h)
+
+  is-cache : (d : AnyPolicy) → HasAccessed j trace keys d → d ≡ cache_by (design_of j.policy) j trace keys
+  is-cache (Queues d) s = ap Queues s.1.gives ∙ by-queues (design_of j.policy) s.0
+  is-cache (Optimal d) s = ap Optimal s.gives ∙ by-trace (design_of j.policy) s.policy
+  is-cache (Demand d) s = (λ i. Demand record { queues = s.queues i; stats = s.stats i }) ∙ ap (λ x. cache_by x j trace keys) (sym s.design)
+  is-cache (Adaptive d) s = ap Adaptive s.gives ∙ ap (λ x. cache_by x j trace keys) (sym s.design)
 
 pub any_one : AnyIsOne
-any_one j trace keys (Queues d) (Queues e) a b = ap Queues (a.1.gives ∙ sym b.1.gives)
-any_one j trace keys (Queues d) (Optimal e) a b = absurd (apart-kinds (design_of j.policy) a.0 b.policy)
-any_one j trace keys (Queues d) (Demand e) a b = absurd (let no : false ≡ true = ap is_of_queues (sym b.design) ∙ a.0 in cc (no))
-any_one j trace keys (Optimal d) (Queues e) a b = absurd (apart-kinds (design_of j.policy) b.0 a.policy)
-any_one j trace keys (Optimal d) (Demand e) a b = absurd (let no : false ≡ true = ap is_optimal (sym b.design) ∙ a.policy in cc (no))
-any_one j trace keys (Demand d) (Queues e) a b = absurd (let no : false ≡ true = ap is_of_queues (sym a.design) ∙ b.0 in cc (no))
-any_one j trace keys (Demand d) (Optimal e) a b = absurd (let no : false ≡ true = ap is_optimal (sym a.design) ∙ b.policy in cc (no))
-any_one j trace keys (Demand d) (Demand e) a b = ap Demand (demand-one j keys d e a b)
-any_one j trace keys (Demand d) (Adaptive e) a b = absurd (let no : false ≡ true = ap is-adaptive (sym a.design ∙ b.design) in cc (no))
-any_one j trace keys (Adaptive d) (Demand e) a b = absurd (let no : false ≡ true = ap is-adaptive (sym b.design ∙ a.design) in cc (no))
-any_one j trace keys (Adaptive d) (Queues e) a b = absurd (let no : false ≡ true = ap is_of_queues (sym a.design) ∙ b.0 in cc (no))
-any_one j trace keys (Adaptive d) (Optimal e) a b = absurd (let no : false ≡ true = ap is_optimal (sym a.design) ∙ b.policy in cc (no))
-any_one j trace keys (Queues d) (Adaptive e) a b = absurd (let no : false ≡ true = ap is_of_queues (sym b.design) ∙ a.0 in cc (no))
-any_one j trace keys (Optimal d) (Adaptive e) a b = absurd (let no : false ≡ true = ap is_optimal (sym b.design) ∙ a.policy in cc (no))
-any_one j trace keys (Adaptive d) (Adaptive e) a b = ap Adaptive (a.gives ∙ sym b.gives)
-any_one j trace keys (Optimal d) (Optimal e) a b = ap Optimal (a.gives ∙ sym b.gives)
+any_one j trace keys d e a b = is-cache j trace keys d a ∙ sym (is-cache j trace keys e b)
 
--- the statistics after the whole trace
+-- the outcomes over the whole trace
 
 pub outcomes-of-queues : (x : Design) (j : Job) (trace : List ℕ) → is_of_queues x ≡ true → outcomes_by x j trace ≡ outcomes_after j trace
 outcomes-of-queues (design.Queues q) j trace h = refl
@@ -161,23 +164,6 @@ outcomes-of-optimal (design.Queues q) j trace h = absurd (cc (h))
 outcomes-of-optimal design.KnowsTrace j trace h = refl
 outcomes-of-optimal (design.Demand p) j trace h = absurd (cc (h))
 outcomes-of-optimal design.Adaptive j trace h = absurd (cc (h))
-
-pub any_reports : AnyReports
-unfolding stats_on
-any_reports j trace (Queues d) s =
-    ap (λ (x : QueueState). x.stats) s.1.gives
-    ∙ (after-counts j trace ∙ ap stats_of (sym (outcomes-of-queues (design_of j.policy) j trace s.0)))
-any_reports j trace (Optimal d) s =
-    ap (λ (x : ClairvoyantState). x.stats) s.gives
-    ∙ ap stats_of (sym (outcomes-of-optimal (design_of j.policy) j trace s.policy))
-any_reports j trace (Demand d) s =
-    s.stats ∙ ap stats_of (sym (with-room (demand_policy s.kind j) j.config.capacity trace (demand-room j trace d s)))
-    ∙ ap (λ x. stats_of (outcomes_by x j trace)) (sym s.design)
-any_reports j trace (Adaptive d) s =
-    adaptive-stats j trace d s ∙ ap stats_of (sym (when-checked j trace s.checked))
-    ∙ ap (λ x. stats_of (outcomes_by x j trace)) (sym s.design)
-
--- the outcomes over the whole trace
 
 covers-by : (x : Design) (j : Job) (trace : List ℕ) → length (outcomes_by x j trace) ≡ length trace
 covers-by (design.Queues q) j trace = after-length j trace

@@ -1,4 +1,4 @@
-use Rattle.policies.proofs.StepLaws.{any_reports}
+use Rattle.policies.proofs.FirstAccesses.{any_reports}
 use Rattle.policies.proofs.theorems.any_reports.Goals as goal
 
 pub returns : goal.returns

@@ -3,7 +3,7 @@ use Rattle.std.proofs.lemmas.List.{take_all}
 use Rattle.policies.specs.AnyPolicy.{HasAccessed}
 use Rattle.policies.specs.Reports.{report_of}
 use Rattle.policies.specs.declared.report.Report.{Report}
-use Rattle.policies.proofs.StepLaws.{any_reports}
+use Rattle.policies.proofs.FirstAccesses.{any_reports}
 use Rattle.long_traces.proofs.job_run.JobRun.add_report.Goals as goal
 
 pub returns : goal.returns
