@@ -7,10 +7,10 @@ use Rattle.step_record.specs.Stats.{is_hit, is_miss, is_eviction, one_if}
 use Rattle.step_record.specs.declared.outcome.Outcome.{Outcome}
 use Rattle.step_record.specs.declared.outcome.Outcome.TheVariants.{Hit, Kept, Evicted, Rejected}
 use Rattle.optimality.specs.Strategy.{IsStrategy, strategy_misses}
-use Rattle.queue_policies.specs.Residents.{IsAccess, AreResidents, KeepsResidents, outcomes_of_all}
+use Rattle.queue_policies.specs.Residents.{IsAccess, AreResidents, KeepsResidents, state_after_all, outcomes_of_all}
 use Rattle.queue_cache.proofs.Counting.{hits-misses}
 use Rattle.policies.proofs.Demand.{outcomes-long}
-use Rattle.policy_laws.proofs.Strategies.{Serves, serves, state_at, residents_at, next-is, kept-at, strategy, hits-are}
+use Rattle.policy_laws.proofs.Strategies.{IsOnline, strategy, hits-are, serves, served, state_at, residents_at, next-is, kept-at}
 use Rattle.conservative_laws.specs.Conservative.{FillsFirst}
 use Rattle.conservative_laws.proofs.Misses.{misses-next}
 use Rattle.conservative_laws.proofs.Stretches.{once-few, stretch-next, has-first, has-last}
@@ -41,19 +41,17 @@ among h t residents is (suc n) l x g =
       | inr r ↦ ap (has_key x) longer ∙ has-first x (take n t) (k ∷ []) (among h t residents is n (omega (arith, l)) x r)
     ]
 
-module _ {S : Type 0} (c : ℕ) (start : S) (act : ℕ → S → Outcome × S) (residents : S → List ℕ) (IsState : S → Type 0) (all : Serves c start act residents IsState) (t : List ℕ) where
-  pub misses-served : (n : ℕ) → n ≤ length t
-      → count_by is_miss (outcomes_of_all act start (take n t)) ≡ strategy_misses t (residents_at c start act residents IsState all t) n
-  misses-served n l =
-      let both = hits-misses (outcomes_of_all act start (take n t)) in
-      omega (arith, hits-are c start act residents IsState all t n l, both, outcomes-long act start (take n t), length-take-le n t l)
-
 module _ {S : Type 0} (c : ℕ) (start : S) (act : ℕ → S → Outcome × S) (residents : S → List ℕ) (IsState : S → Type 0) (all : KeepsResidents c start act residents IsState) (t : List ℕ) where
   abbrev held : ℕ → List ℕ
   held = residents_at c start act residents IsState (serves all) t
 
+  online : IsOnline c (λ keys. residents (state_after_all act start keys)) (λ keys. count_by is_hit (outcomes_of_all act start keys))
+  online = served c start act residents IsState (serves all)
+
   pub misses-are : (n : ℕ) → n ≤ length t → count_by is_miss (outcomes_of_all act start (take n t)) ≡ strategy_misses t held n
-  misses-are n l = misses-served c start act residents IsState (serves all) t n l
+  misses-are n l =
+      let both = hits-misses (outcomes_of_all act start (take n t)) in
+      omega (arith, hits-are c _ _ online t n l, both, outcomes-long act start (take n t), length-take-le n t l)
 
   access-at : (n : ℕ) → n < length t → IsAccess c (get_or t n 0) (held n) (act (get_or t n 0) (state_at c start act residents IsState (serves all) t n)).0 (held (suc n))
   access-at n l =
@@ -80,4 +78,4 @@ module _ {S : Type 0} (c : ℕ) (start : S) (act : ℕ → S → Outcome × S) (
   pub fills-first : FillsFirst c t (strategy_misses t held)
   fills-first n l few =
       let own : AreResidents c (held n) = all.holds _ (kept-at c start act residents IsState (serves all) t n) in
-      omega (arith, one-each n l few, once-few (held n) (take n t) own.distinct (among c t held (strategy c start act residents IsState (serves all) t) n l))
+      omega (arith, one-each n l few, once-few (held n) (take n t) own.distinct (among c t held (strategy c _ _ online t) n l))

@@ -1,5 +1,5 @@
 -- The misses of a strategy and of a job.
-use Rattle.std.proofs.Common.{◌≡◌, ℕ, zero, suc, ◌+◌, ◌-◌, ◌*◌, ◌≤◌, true, not, List, [], length, take, get_or, ap, ◌∙◌, sym, arith, inl, inr}
+use Rattle.std.proofs.Common.{◌≡◌, ℕ, zero, suc, ◌+◌, ◌-◌, ◌*◌, ◌≤◌, true, not, List, [], length, take, get_or, ap, ◌∙◌, sym, refl, arith, inl, inr}
 use Rattle.std.proofs.Math.Nat.{add-mul, mul-add, mul-le-mul_right, le_of_mul-le-mul_left}
 use Rattle.std.proofs.lemmas.Bool.{cases_Bool}
 use Rattle.std.proofs.lemmas.List.{take_all, length-take-le}
@@ -14,7 +14,8 @@ use Rattle.queue_cache.specs.Theorems.{LruStepLaw}
 use Rattle.queue_cache.proofs.Balance.{residents-fit}
 use Rattle.queue_cache.proofs.Counting.{hits-misses}
 use Rattle.optimality.specs.Strategy.{strategy_hits, strategy_misses}
-use Rattle.policy_laws.proofs.Beaten.{kept, no-hits, hits-are, stats-queues}
+use Rattle.policy_laws.proofs.Strategies.{IsOnline, hits-are}
+use Rattle.policy_laws.proofs.Beaten.{queue_residents, queues-online}
 use Rattle.policy_laws.proofs.Lru.{lru_at, hits-agree, nothing, lru-kept}
 
 -- ---- of a strategy
@@ -38,7 +39,8 @@ misses-next t residents i =
 
 -- without residents each access is a miss
 pub none-hit : (t : List ℕ) (n : ℕ) → strategy_misses t (λ i. []) n ≡ n
-none-hit t n = ap (λ m. n - m) (no-hits t n) ∙ omega arith
+none-hit t zero = refl
+none-hit t (suc n) = let rest = none-hit t n in omega (arith, rest, misses-next t (λ i. []) n)
 
 -- with twice the capacity the factor is at most two
 pub at-most-twice : (c h m k : ℕ) → 2 * h ≤ c + 1 → (c + 1 - h) * m ≤ (c + 1) * k → m ≤ 2 * k
@@ -62,26 +64,22 @@ stats-misses covers j keys =
 pub misses-by : (t : List ℕ) (r : ℕ → List ℕ) (n m k : ℕ) → k ≡ n - m → strategy_hits t r n ≡ m → k ≡ strategy_misses t r n
 misses-by t r n m k e h = e ∙ ap (λ x. n - x) (sym h)
 
-pub queue-misses : AnyCoversTrace → (j : Job) (trace : List ℕ) (n : ℕ) → has_queues j.policy ≡ true → n ≤ length trace
-    → (stats_on j (take n trace)).misses ≡ strategy_misses trace (kept j trace) n
-queue-misses covers j trace n e l =
-    let all = stats-misses covers j (take n trace) in
-    let hits = stats-queues j (take n trace) e in
-    let same = hits-are j trace n l in
-    let long = length-take-le n trace l in
-    omega (arith, all, hits, same, long)
+pub online-misses : AnyCoversTrace → (j : Job) (held : List ℕ → List ℕ) → IsOnline j.config.capacity held (λ keys. (stats_on j keys).hits)
+    → (trace : List ℕ) (n : ℕ) → n ≤ length trace → (stats_on j (take n trace)).misses ≡ strategy_misses trace (λ i. held (take i trace)) n
+online-misses covers j held online trace n l =
+    omega (arith, stats-misses covers j (take n trace), hits-are j.config.capacity held _ online trace n l, length-take-le n trace l)
 
 pub lru-misses : LruStepLaw → AnyCoversTrace → (j : Job) (trace : List ℕ) (n : ℕ) → j.policy ≡ Lru → n ≤ length trace
     → (stats_on j (take n trace)).misses ≡ strategy_misses trace (lru_at j.config.capacity trace) n
 lru-misses stands covers j trace n is l =
-    queue-misses covers j trace n (ap has_queues is) l
-    ∙ ap (λ m. n - m) (hits-agree trace (kept j trace) (lru_at j.config.capacity trace) n (λ i. lru-kept stands j trace i is))
+    online-misses covers j (queue_residents j) (queues-online j (ap has_queues is)) trace n l
+    ∙ ap (λ m. n - m) (hits-agree trace (λ i. queue_residents j (take i trace)) (lru_at j.config.capacity trace) n (λ i. lru-kept stands j (take i trace) is))
 
 -- a policy of queues without room
 pub queue-misses-all : AnyCoversTrace → (j : Job) (keys : List ℕ) → has_queues j.policy ≡ true → j.config.capacity ≡ 0 → (stats_on j keys).misses ≡ length keys
 queue-misses-all covers j keys is none =
     let n : ℕ = length keys in
     ap (λ l. (stats_on j l).misses) (sym (take_all n keys (omega arith)))
-    ∙ (queue-misses covers j keys n is (omega arith)
-    ∙ (ap (λ m. n - m) (hits-agree keys (kept j keys) (λ i. []) n (λ i. nothing (kept j keys i) (let few = residents-fit j (take i keys) in omega (arith, few, none))))
+    ∙ (online-misses covers j (queue_residents j) (queues-online j is) keys n (omega arith)
+    ∙ (ap (λ m. n - m) (hits-agree keys (λ i. queue_residents j (take i keys)) (λ i. []) n (λ i. nothing (queue_residents j (take i keys)) (let few = residents-fit j (take i keys) in omega (arith, few, none))))
     ∙ none-hit keys n))

@@ -15,7 +15,8 @@ use Rattle.queue_cache.proofs.Balance.{residents-fit}
 use Rattle.queue_cache.proofs.Recency.{has-drop}
 use Rattle.optimality.specs.Strategy.{strategy_hits}
 use Rattle.policy_laws.specs.Theorems.{LruHitsGrow}
-use Rattle.policy_laws.proofs.Beaten.{kept, all-hits, stats-queues}
+use Rattle.policy_laws.proofs.Strategies.{all-hits}
+use Rattle.policy_laws.proofs.Beaten.{queue_residents, queues-online}
 
 -- ---- the residents of Lru
 
@@ -38,15 +39,12 @@ pub nothing : (l : List ℕ) → length l ≤ 0 → l ≡ []
 nothing [] h = refl
 nothing (a ∷ l) h = absurd (omega (arith, h))
 
-pub lru-kept : LruStepLaw → (j : Job) (trace : List ℕ) (i : ℕ) → j.policy ≡ Lru → kept j trace i ≡ lru_at j.config.capacity trace i
-lru-kept stands j trace i is =
+pub lru-kept : LruStepLaw → (j : Job) (keys : List ℕ) → j.policy ≡ Lru → queue_residents j keys ≡ lru_residents j.config.capacity keys
+lru-kept stands j keys is =
     let c : ℕ = j.config.capacity in
     elim (cases_lt 0 c) [
-      | inl room ↦ ap residents_in (stands j (take i trace) 0 is room).0 ∙ keys-in (lru_at c trace i)
-      | inr empty ↦
-          let few = residents-fit j (take i trace) in
-          let few_too = lru-fits c (take i trace) in
-          nothing (kept j trace i) (omega (arith, few, empty)) ∙ sym (nothing (lru_at c trace i) (omega (arith, few_too, empty)))
+      | inl room ↦ ap residents_in (stands j keys 0 is room).0 ∙ keys-in (lru_residents c keys)
+      | inr empty ↦ nothing (queue_residents j keys) (omega (arith, residents-fit j keys, empty)) ∙ sym (nothing (lru_residents c keys) (omega (arith, lru-fits c keys, empty)))
     ]
 
 -- ---- a larger capacity
@@ -69,8 +67,8 @@ hits-more t r s (suc i) h =
 
 lru-hits : LruStepLaw → (j : Job) (trace : List ℕ) → j.policy ≡ Lru → (stats_on j trace).hits ≡ strategy_hits trace (lru_at j.config.capacity trace) (length trace)
 lru-hits stands j trace is =
-    stats-queues j trace (ap has_queues is) ∙ (sym (all-hits j trace)
-    ∙ hits-agree trace (kept j trace) (lru_at j.config.capacity trace) (length trace) (λ i. lru-kept stands j trace i is))
+    sym (all-hits j.config.capacity (queue_residents j) _ (queues-online j (ap has_queues is)) trace)
+    ∙ hits-agree trace (λ i. queue_residents j (take i trace)) (lru_at j.config.capacity trace) (length trace) (λ i. lru-kept stands j (take i trace) is)
 
 pub lru_hits_grow : LruStepLaw → LruHitsGrow
 lru_hits_grow stands small large trace is are le =

@@ -1,17 +1,51 @@
--- A policy that keeps its residents is a strategy that fetches on demand.
+-- A cache that knows no access before it is made is a strategy that fetches on demand.
 use Rattle.std.proofs.Common.{◌≡◌, ◌⊎◌, ℕ, zero, suc, ◌+◌, ◌<◌, ◌≤◌, true, cond, List, [], ◌∷◌, ◌++◌, length, take, get_or, count_by, ap, ◌∙◌, sym, refl, arith}
 use Rattle.std.proofs.Math.Seq.{take-suc}
+use Rattle.std.proofs.lemmas.List.{take_all}
 use Rattle.std.proofs.lemmas.List.Sums.{sum_by-append}
 use Rattle.step_record.specs.Keys.{has_key}
 use Rattle.step_record.specs.Stats.{is_hit, one_if}
 use Rattle.step_record.specs.declared.outcome.Outcome.{Outcome}
 use Rattle.optimality.specs.Strategy.{IsStrategy, strategy_hits}
-use Rattle.optimality.specs.Theorems.{belady_hits, BeladyIsOptimal}
 use Rattle.queue_policies.specs.Residents.{KeepsResidents, state_after_all, outcomes_of_all}
 use Rattle.policies.proofs.Demand.{state-push, outcomes-push, demand-came-from}
 
--- what makes a policy a strategy that fetches on demand: a hit is an access to a resident key, and no key comes in but the
--- accessed one
+-- what a cache of capacity c holds after some accesses, and how many of them were hits: a hit is an access to a resident
+-- key, and no key comes in but the accessed one
+pub record IsOnline (c : ℕ) (held : List ℕ → List ℕ) (hits : List ℕ → ℕ) : Type 0 where
+  pub starts : (held [] ≡ []) × (hits [] ≡ 0)
+  pub came : (keys : List ℕ) (k x : ℕ) → has_key x (held (keys ++ k ∷ [])) ≡ true → (x ≡ k) ⊎ (has_key x (held keys) ≡ true)
+  pub counts : (keys : List ℕ) (k : ℕ) → hits (keys ++ k ∷ []) ≡ hits keys + one_if (has_key k (held keys))
+  pub fits : (keys : List ℕ) → length (held keys) ≤ c
+
+pub hits-by : (c : ℕ) (held : List ℕ → List ℕ) (f g : List ℕ → ℕ) → IsOnline c held f → ((keys : List ℕ) → g keys ≡ f keys) → IsOnline c held g
+hits-by c held f g is same = record {
+  starts = (is.starts.0, same [] ∙ is.starts.1);
+  came = is.came;
+  counts = λ keys k. let more = is.counts keys k in omega (arith, more, same keys, same (keys ++ k ∷ []));
+  fits = is.fits;
+}
+
+module _ (c : ℕ) (held : List ℕ → List ℕ) (hits : List ℕ → ℕ) (is : IsOnline c held hits) (t : List ℕ) where
+  pub strategy : IsStrategy c t (λ i. held (take i t))
+  strategy = record {
+    empty = is.starts.0;
+    on_demand = λ i x h g. is.came (take i t) (get_or t i 0) x (ap (λ l. has_key x (held l)) (sym (take-suc t i 0 h)) ∙ g);
+    fits = λ i h. is.fits (take i t);
+  }
+
+  pub hits-are : (i : ℕ) → i ≤ length t → strategy_hits t (λ i. held (take i t)) i ≡ hits (take i t)
+  hits-are zero h = sym is.starts.1
+  hits-are (suc i) h =
+      let longer = ap hits (take-suc t i 0 (omega (arith, h))) in
+      omega (arith, hits-are i (omega (arith, h)), is.counts (take i t) (get_or t i 0), longer)
+
+  pub all-hits : strategy_hits t (λ i. held (take i t)) (length t) ≡ hits t
+  all-hits = hits-are (length t) (omega arith) ∙ ap hits (take_all (length t) t (omega arith))
+
+-- ---- a policy over states
+
+-- what makes it such a cache
 pub record Serves {S : Type 0} (c : ℕ) (start : S) (act : ℕ → S → Outcome × S) (residents : S → List ℕ) (IsState : S → Type 0) : Type 0 where
   pub starts : IsState start × (residents start ≡ [])
   pub keeps : (k : ℕ) (s : S) → IsState s → IsState (act k s).1
@@ -34,41 +68,30 @@ module _ {S : Type 0} (c : ℕ) (start : S) (act : ℕ → S → Outcome × S) (
   kept-from s [] h = h
   kept-from s (k ∷ keys) h = kept-from (act k s).1 keys (all.keeps k s h)
 
-  pub kept-after : (keys : List ℕ) → IsState (state_after_all act start keys)
+  kept-after : (keys : List ℕ) → IsState (state_after_all act start keys)
   kept-after keys = kept-from start keys all.starts.0
 
-module _ {S : Type 0} (c : ℕ) (start : S) (act : ℕ → S → Outcome × S) (residents : S → List ℕ) (IsState : S → Type 0) (all : Serves c start act residents IsState) (t : List ℕ) where
-  abbrev pub state_at : ℕ → S
-  state_at i = state_after_all act start (take i t)
-
-  abbrev pub residents_at : ℕ → List ℕ
-  residents_at i = residents (state_at i)
-
-  pub next-is : (i : ℕ) → i < length t → state_at (suc i) ≡ (act (get_or t i 0) (state_at i)).1
-  next-is i h = ap (state_after_all act start) (take-suc t i 0 h) ∙ state-push act start (take i t) (get_or t i 0)
-
-  pub kept-at : (i : ℕ) → IsState (state_at i)
-  kept-at i = kept-after c start act residents IsState all (take i t)
-
-  pub strategy : IsStrategy c t residents_at
-  strategy = record {
-    empty = all.starts.1;
-    on_demand = λ i x h g. all.came (get_or t i 0) (state_at i) x (kept-at i) (ap (λ s. has_key x (residents s)) (sym (next-is i h)) ∙ g);
-    fits = λ i h. all.fits (state_at i) (kept-at i);
+  pub served : IsOnline c (λ keys. residents (state_after_all act start keys)) (λ keys. count_by is_hit (outcomes_of_all act start keys))
+  served = record {
+    starts = (all.starts.1, refl);
+    came = λ keys k x g. all.came k (state_after_all act start keys) x (kept-after keys) (ap (λ s. has_key x (residents s)) (sym (state-push act start keys k)) ∙ g);
+    counts = λ keys k.
+        let s : S = state_after_all act start keys in
+        let os : List Outcome = outcomes_of_all act start keys in
+        let more : count_by is_hit (os ++ (act k s).0 ∷ []) ≡ count_by is_hit os + one_if (is_hit (act k s).0) = sum_by-append (λ x. cond (is_hit x) 1 0) os ((act k s).0 ∷ []) ∙ omega arith in
+        ap (count_by is_hit) (outcomes-push act start keys k) ∙ more ∙ ap (λ b. count_by is_hit os + one_if b) (all.hits k s (kept-after keys));
+    fits = λ keys. all.fits (state_after_all act start keys) (kept-after keys);
   }
 
-  next-hits : (i : ℕ) → i < length t → count_by is_hit (outcomes_of_all act start (take (suc i) t)) ≡ count_by is_hit (outcomes_of_all act start (take i t)) + one_if (has_key (get_or t i 0) (residents_at i))
-  next-hits i h =
-      let k : ℕ = get_or t i 0 in
-      let o : Outcome = (act k (state_at i)).0 in
-      let longer = ap (λ l. count_by is_hit (outcomes_of_all act start l)) (take-suc t i 0 h) ∙ ap (count_by is_hit) (outcomes-push act start (take i t) k) in
-      let sum : count_by is_hit (outcomes_of_all act start (take i t) ++ o ∷ []) ≡ count_by is_hit (outcomes_of_all act start (take i t)) + one_if (is_hit o) = sum_by-append (λ x. cond (is_hit x) 1 0) (outcomes_of_all act start (take i t)) (o ∷ []) ∙ omega arith in
-      let hit = all.hits k (state_at i) (kept-at i) in
-      longer ∙ sum ∙ ap (λ b. count_by is_hit (outcomes_of_all act start (take i t)) + one_if b) hit
+  module _ (t : List ℕ) where
+    abbrev pub state_at : ℕ → S
+    state_at i = state_after_all act start (take i t)
 
-  pub hits-are : (i : ℕ) → i ≤ length t → strategy_hits t residents_at i ≡ count_by is_hit (outcomes_of_all act start (take i t))
-  hits-are zero h = refl
-  hits-are (suc i) h = let before = hits-are i (omega (arith, h)) in omega (arith, before, next-hits i (omega (arith, h)))
+    abbrev pub residents_at : ℕ → List ℕ
+    residents_at i = residents (state_at i)
 
-  pub beaten : BeladyIsOptimal → (n : ℕ) → n ≤ length t → count_by is_hit (outcomes_of_all act start (take n t)) ≤ belady_hits c t n
-  beaten optimal n h = omega (arith, hits-are n h, optimal c t residents_at n strategy h)
+    pub next-is : (i : ℕ) → i < length t → state_at (suc i) ≡ (act (get_or t i 0) (state_at i)).1
+    next-is i h = ap (state_after_all act start) (take-suc t i 0 h) ∙ state-push act start (take i t) (get_or t i 0)
+
+    pub kept-at : (i : ℕ) → IsState (state_at i)
+    kept-at i = kept-after (take i t)
