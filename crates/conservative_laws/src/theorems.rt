@@ -11,26 +11,31 @@ ghost use Rattle.conservative_laws.specs.Theorems.{LruFifoClockTwiceAsLarge, NoF
 
 /// A conservative cache of capacity c has at most (c + 1) / (c + 1 - h) times the misses of any strategy of capacity h,
 /// which may bypass the cache, and c more. (After Sleator and Tarjan 1985; Young 1994 for conservative.)
+#[tactic(auto, using(crate::proofs::Competition::conservative_competes))]
 pub fn conservative_competes()
     ensures { ConservativeCompetes }
 {}
 
 /// Where the strategy never bypasses the cache, the factor is c / (c + 1 - h). (Sleator and Tarjan 1985.)
+#[tactic(auto, using(crate::proofs::Competition::conservative_competes_without_bypass))]
 pub fn conservative_competes_without_bypass()
     ensures { ConservativeCompetesWithoutBypass }
 {}
 
 /// A conservative cache that evicts nothing before it is full needs no constant.
+#[tactic(auto, using(crate::proofs::Competition::filling_competes))]
 pub fn filling_competes()
     ensures { FillingCompetes }
 {}
 
 /// So it is beside a strategy that never bypasses the cache.
+#[tactic(auto, using(crate::proofs::Competition::filling_competes_without_bypass))]
 pub fn filling_competes_without_bypass()
     ensures { FillingCompetesWithoutBypass }
 {}
 
 /// Lru, FIFO and CLOCK are conservative; CLOCK since a key joins with its bit set. (Young 1994.)
+#[tactic(auto, using(crate::proofs::Jobs::are_conservative))]
 pub fn lru_fifo_clock_are_conservative()
     ensures { LruFifoClockAreConservative }
 {
@@ -42,6 +47,7 @@ pub fn lru_fifo_clock_are_conservative()
 
 /// At each place of every trace, their misses at capacity c are at most (c + 1) / (c + 1 - h) times those of any
 /// strategy of capacity h, which may bypass the cache. (After Sleator and Tarjan 1985.)
+#[tactic(auto, using(crate::proofs::Jobs::compete))]
 pub fn lru_fifo_clock_compete()
     ensures { LruFifoClockCompete }
 {
@@ -53,6 +59,7 @@ pub fn lru_fifo_clock_compete()
 }
 
 /// Where the strategy never bypasses the cache, the factor is c / (c + 1 - h). (Sleator and Tarjan 1985.)
+#[tactic(auto, using(crate::proofs::Jobs::compete_without_bypass))]
 pub fn lru_fifo_clock_compete_without_bypass()
     ensures { LruFifoClockCompeteWithoutBypass }
 {
@@ -71,6 +78,7 @@ pub fn lru_fifo_clock_twice_as_large()
 }
 
 /// The same bound beside every policy, Belady's optimal policy among them.
+#[tactic(auto, using(crate::proofs::Jobs::compete_with_any))]
 pub fn lru_fifo_clock_compete_with_any()
     ensures { LruFifoClockCompeteWithAny }
 {
@@ -96,6 +104,7 @@ pub fn reports_obey_laws()
 
 /// The factor of that bound is exact, and no policy has a smaller one but that which knows the trace: on some traces,
 /// however long, a strategy does as well as it allows. (After Sleator and Tarjan 1985.)
+#[tactic(auto, using(crate::proofs::Online::no_factor_is_smaller))]
 pub fn no_factor_is_smaller()
     ensures { NoFactorIsSmaller }
 {
@@ -113,6 +122,7 @@ pub fn fifo_and_clock_have_anomaly()
 }
 
 /// SIEVE is not conservative.
+#[tactic(auto, using(crate::proofs::Examples::sieve_is_not_conservative))]
 pub fn sieve_is_not_conservative()
     ensures { SieveIsNotConservative }
 {
@@ -120,6 +130,7 @@ pub fn sieve_is_not_conservative()
 }
 
 /// S3-FIFO is not conservative.
+#[tactic(auto, using(crate::proofs::Examples::s3_fifo_is_not_conservative))]
 pub fn s3_fifo_is_not_conservative()
     ensures { S3FifoIsNotConservative }
 {

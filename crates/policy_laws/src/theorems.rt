@@ -3,6 +3,7 @@ ghost use Rattle.policy_laws.specs.Scans.{ScansSpareProtected};
 ghost use Rattle.policy_laws.specs.Theorems.{NoPolicyBeatsBelady, BeladyLeads, OptimalHitsGrow, LruHitsGrow};
 
 /// Over every trace, no policy has more hits than Belady's optimal policy at the same capacity. (Belady 1966.)
+#[tactic(auto, using(crate::proofs::Beaten::no_policy_beats))]
 pub fn no_policy_beats_belady()
     ensures { NoPolicyBeatsBelady }
 {
@@ -13,6 +14,7 @@ pub fn no_policy_beats_belady()
 }
 
 /// So it is at each place of a trace, for two caches that made the same accesses.
+#[tactic(auto, using(crate::proofs::Beaten::belady_leads))]
 pub fn belady_leads()
     ensures { BeladyLeads }
 {
@@ -22,6 +24,7 @@ pub fn belady_leads()
 }
 
 /// At a larger capacity Belady's optimal policy has no fewer hits. (Mattson and others 1970.)
+#[tactic(auto, using(crate::proofs::Beaten::optimal_grows))]
 pub fn optimal_hits_grow()
     ensures { OptimalHitsGrow }
 {
@@ -30,6 +33,7 @@ pub fn optimal_hits_grow()
 
 /// At a larger capacity Lru has no fewer hits, since it holds what it holds at a smaller one. (Mattson and others
 /// 1970.)
+#[tactic(auto, using(crate::proofs::Lru::lru_hits_grow))]
 pub fn lru_hits_grow()
     ensures { LruHitsGrow }
 {
@@ -38,6 +42,7 @@ pub fn lru_hits_grow()
 
 /// A scan, which accesses keys once each, leaves the protected queue of segmented Lru as it was, with the admission
 /// filter or without: no key that was hit there is lost to keys that come once.
+#[tactic(auto, using(crate::proofs::Scans::scans_spare_protected))]
 pub fn scans_spare_protected()
     ensures { ScansSpareProtected }
 {}
