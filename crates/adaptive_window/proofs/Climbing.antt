@@ -74,8 +74,8 @@ long-enough : (c : ℕ) (period : Option ℕ) → 1 ≤ c → c ≤ period_of c 
 long-enough c None some = omega (arith, some)
 long-enough c (Some n) some = omega arith
 
-pub rules-fit : RulesFit
-rules-fit c main period some few =
+pub rules_fit : RulesFit
+rules_fit c main period some few =
     let part : c * main ≤ c * 99 = mul-le-mul_left c few in
     let w : ℕ = first_window c main in
     let first : 1 ≤ w = omega (arith, some, part) in

@@ -1,5 +1,5 @@
--- An access as the fields show it, and that its record fits.
-use Rattle.std.proofs.Common.{◌≡◌, ℕ, Bool, nat_lt, Option, None, ap, refl, arith, inl, inr}
+-- An access as the fields show it, that its record fits, and that it undoes the access.
+use Rattle.std.proofs.Common.{◌≡◌, ℕ, ◌-◌, ◌≤◌, Bool, cond, nat_lt, Option, None, ap, refl, arith, inl, inr}
 use Rattle.std.proofs.lemmas.Bool.{cases_Bool}
 use Rattle.step_record.specs.Stats.{is_hit}
 use Rattle.step_record.specs.declared.item.Item.{Item}
@@ -9,18 +9,20 @@ use Rattle.replacement.specs.declared.record.Moves.{Moves}
 use Rattle.replacement.specs.declared.rules.Rules.{Rules}
 use Rattle.replacement.specs.Plan.{plan}
 use Rattle.replacement.specs.PlanMoves.{queues_after, moves_of, UndoesMoves}
-use Rattle.replacement.specs.Table.{Response, access}
+use Rattle.replacement.specs.Table.{access}
 use Rattle.replacement.proofs.Balance.{balanced}
 use Rattle.replacement.proofs.Carrying.{plan-undone}
 use Rattle.replacement.proofs.Planned.{accesses-planned}
 use Rattle.adaptive_window.specs.declared.climber.ClimbRules.{ClimbRules}
 use Rattle.adaptive_window.specs.declared.climber.Climber.{Climber}
 use Rattle.adaptive_window.specs.declared.window_record.SizeChange.{SizeChange}
+use Rattle.adaptive_window.specs.declared.window_record.SizeChange.TheVariants.{Shrank, Stayed}
 use Rattle.adaptive_window.specs.declared.window_record.WindowRecord.{WindowRecord}
 use Rattle.adaptive_window.specs.Climber.{climber_after, ends_period, period_record, FitsClimber}
 use Rattle.adaptive_window.specs.AdaptiveWindow.{AdaptiveState, rules_at, size_towards, adjustment_plan, response_of, adaptive_act, IsAdaptive}
-use Rattle.adaptive_window.specs.WindowRecord.{size_change, window_record_of, WindowFits}
-use Rattle.adaptive_window.proofs.Undoing.{undoes}
+use Rattle.adaptive_window.specs.WindowRecord.{size_change, size_before, window_record_of, window_undone, WindowFits}
+use Rattle.adaptive_window.specs.Theorems.{AdaptiveUndoes}
+use Rattle.adaptive_window.proofs.Climbing.{climbed-back}
 
 -- ---- as the fields show it
 
@@ -45,7 +47,7 @@ module _ (r : ClimbRules) (admits : ℕ → ℕ → Bool) (i : Item) (q : Queues
       pub record-is : ◌≡◌ {A = WindowRecord} record { outcome = o; access = a; adjustment = b; size = change; period = period } (window_record_of r admits i (state_by q size k))
       record-is = rw (ea, eb, ec, ep, ek, eo, el, er) refl
 
--- ---- that its record fits
+-- ---- its record
 
 climb-fits : (r : ClimbRules) (hit : Bool) (s : Climber) → FitsClimber (period_record r s) hit (climber_after r hit s)
 climb-fits r hit s = elim (cases_Bool (ends_period r s)) as (λ _. FitsClimber (period_record r s) hit (climber_after r hit s)) [
@@ -62,21 +64,43 @@ all-stay r target size s = elim (cases_Bool (nat_lt size target)) as (λ _. (mov
   ]
 ]
 
-pub record-fits : (r : ClimbRules) (admits : ℕ → ℕ → Bool) (i : Item) (s : AdaptiveState) → IsAdaptive r s
-    → WindowFits r (window_record_of r admits i s) (adaptive_act r admits i s).1
-record-fits p admits i s h =
-    let r : Rules = rules_at p s.size in
-    let a : Response = response_of p admits i s in
-    let d : IsDistinct a.queues = (balanced r admits i s.queues h.distinct (h.window, h.main)).once in
-    let k : Climber = climber_after p (is_hit a.outcome) s.climber in
-    let planned : a.queues ≡ queues_after (plan r admits i s.queues) s.queues = ap (λ x. x.queues) (accesses-planned r admits i s.queues h.distinct) in
-    let first : UndoesMoves s.queues a.queues (moves_of (plan r admits i s.queues) s.queues) = plan-undone (plan r admits i s.queues) s.queues a.queues (moves_of (plan r admits i s.queues) s.queues) h.distinct planned refl in
-    let then : UndoesMoves a.queues (queues_after (adjustment_plan p k.target s.size a.queues) a.queues) (moves_of (adjustment_plan p k.target s.size a.queues) a.queues) =
-    plan-undone (adjustment_plan p k.target s.size a.queues) a.queues (queues_after (adjustment_plan p k.target s.size a.queues) a.queues) (moves_of (adjustment_plan p k.target s.size a.queues) a.queues) d refl refl in
-    record {
-      adjustment = then.fits;
-      all_stay = all-stay p k.target s.size a.queues;
-      access = rw then.undone first.fits;
-      climber = climb-fits p (is_hit a.outcome) s.climber;
-      before = rw (undoes p admits i s h) h;
-    }
+size-back : (target size : ℕ) → 1 ≤ size → size_before (size_change target size) (size_towards target size) ≡ size
+size-back target size h =
+    elim (cases_Bool (nat_lt size target)) as (λ _. size_before (size_change target size) (size_towards target size) ≡ size) [
+      | inl e ↦ rw e (omega arith)
+      | inr e ↦ rw e (elim (cases_Bool (nat_lt target size)) as (λ _. size_before (cond (nat_lt target size) Shrank Stayed) (cond (nat_lt target size) (size - 1) size) ≡ size) [
+        | inl f ↦ rw f (omega (arith, h))
+        | inr f ↦ rw f refl
+      ])
+    ]
+
+module _ (p : ClimbRules) (admits : ℕ → ℕ → Bool) (i : Item) (s : AdaptiveState) (h : IsAdaptive p s) where
+  abbrev rules : Rules
+  rules = rules_at p s.size
+
+  abbrev queues : Queues
+  queues = (response_of p admits i s).queues
+
+  abbrev climber : Climber
+  climber = climber_after p (is_hit (response_of p admits i s).outcome) s.climber
+
+  first : UndoesMoves s.queues queues (moves_of (plan rules admits i s.queues) s.queues)
+  first = plan-undone (plan rules admits i s.queues) s.queues queues _ h.distinct (ap (λ x. x.queues) (accesses-planned rules admits i s.queues h.distinct)) refl
+
+  then : UndoesMoves queues (queues_after (adjustment_plan p climber.target s.size queues) queues) (moves_of (adjustment_plan p climber.target s.size queues) queues)
+  then = plan-undone (adjustment_plan p climber.target s.size queues) queues _ _ (balanced rules admits i s.queues h.distinct (h.window, h.main)).once refl refl
+
+  undone : window_undone (window_record_of p admits i s) (adaptive_act p admits i s).1 ≡ s
+  undone = rw (then.undone, first.undone, size-back climber.target s.size h.least, climbed-back p (is_hit (response_of p admits i s).outcome) s.climber) refl
+
+  pub record-fits : WindowFits p (window_record_of p admits i s) (adaptive_act p admits i s).1
+  record-fits = record {
+    adjustment = then.fits;
+    all_stay = all-stay p climber.target s.size queues;
+    access = rw then.undone first.fits;
+    climber = climb-fits p (is_hit (response_of p admits i s).outcome) s.climber;
+    before = rw undone h;
+  }
+
+pub undoes : AdaptiveUndoes
+undoes p admits i s h = undone p admits i s h

@@ -1,5 +1,5 @@
 -- What an access makes of the queues, and that it keeps the invariant.
-use Rattle.std.proofs.Common.{◌≡◌, ℕ, ◌+◌, ◌-◌, ◌<◌, ◌≤◌, Bool, cond, nat_lt, Option, Some, None, List, [], ◌∷◌, ◌++◌, length, ◌∙◌, refl, arith, inl, inr, length-append}
+use Rattle.std.proofs.Common.{◌≡◌, ℕ, ◌+◌, ◌-◌, ◌<◌, ◌≤◌, Bool, cond, nat_lt, Option, Some, None, List, [], ◌∷◌, length, ◌∙◌, refl, arith, inl, inr, length-append}
 use Rattle.std.specs.Prelude.{count_by}
 use Rattle.std.proofs.lemmas.Bool.{cases_Bool, ltb-true, ltb-false}
 use Rattle.std.proofs.lemmas.List.Sums.{sum_by-append}
@@ -22,7 +22,7 @@ use Rattle.adaptive_window.specs.Climber.{AreClimbRules, distance, ends_period, 
 use Rattle.replacement.specs.Resizing.{loan, growth_plan, shrinking_plan}
 use Rattle.adaptive_window.specs.AdaptiveWindow.{AdaptiveState, empty_adaptive, rules_at, size_towards, adjustment_plan, response_of, adaptive_act, IsAdaptive}
 use Rattle.adaptive_window.specs.Theorems.{IsAdaptiveAccess, AdaptiveKeeps, Access, adaptive_state_after, adaptive_outcomes, AdaptiveCounts}
-use Rattle.adaptive_window.proofs.Protected.{stays, adjusted}
+use Rattle.adaptive_window.proofs.Protected.{none-there, one-less, stays}
 use Rattle.adaptive_window.proofs.Climbing.{climber-starts, climber-kept}
 
 -- ---- one item moves between two queues
@@ -32,22 +32,24 @@ record IsMoved (s t : Queues) (w m : ℕ) : Type 0 where
   same : (j : Item) → queue_occurrences j t ≡ queue_occurrences j s
   window : length t.window ≡ w
   main : main_length t ≡ m
+  protected : length t.protected ≤ length s.protected
 
 unmoved : (s : Queues) → IsMoved s s (length s.window) (main_length s)
-unmoved s = record { same = λ j. refl; window = refl; main = refl }
+unmoved s = record { same = λ j. refl; window = refl; main = refl; protected = omega arith }
 
--- protected's oldest to probation
-demoted : (x : Item) (s : Queues) → IsDistinct s → oldest_of s.protected ≡ Some x → IsMoved s (queues_after_move x Probation s) (length s.window) (main_length s)
-demoted x s d h =
-    let there : 1 ≤ occurrences x s.protected = first-stands x s.protected h in
-    let few = d x in
+-- an item that stands once goes to probation
+to-probation : (x : Item) (s : Queues) (w m : ℕ) → queue_occurrences x s ≡ 1 → w + occurrences x s.window ≡ length s.window → w + m ≡ total_items s
+    → IsMoved s (queues_after_move x Probation s) w m
+to-probation x s w m once left all =
+    let window : length (queues_after_move x Probation s).window ≡ w = omega (arith, left, length-without x s.window) in
     record {
-      same = λ j. queued-kept j x Probation s (omega (arith, few, there));
-      window = omega (arith, few, there, length-without x s.window);
-      main = omega (arith, few, there, length-without x s.probation, length-without x s.protected, length-append (items_without x s.probation) (x ∷ []));
+      same = λ j. queued-kept j x Probation s once;
+      window = window;
+      main = omega (arith, once, left, all, length-without x s.probation, length-without x s.protected, length-append (items_without x s.probation) (x ∷ []));
+      protected = omega (arith, length-without x s.protected);
     }
 
--- probation's oldest to the window
+-- probation's oldest goes to the window
 loaned : (x : Item) (s : Queues) → IsDistinct s → oldest_of s.probation ≡ Some x → IsMoved s (queues_after_move x Window s) (length s.window + 1) (main_length s - 1)
 loaned x s d h =
     let there : 1 ≤ occurrences x s.probation = first-stands x s.probation h in
@@ -56,144 +58,140 @@ loaned x s d h =
       same = λ j. queued-kept j x Window s (omega (arith, few, there));
       window = omega (arith, few, there, length-without x s.window, length-append (items_without x s.window) (x ∷ []));
       main = omega (arith, few, there, length-without x s.probation, length-without x s.protected);
-    }
-
--- the window's oldest to probation
-returned : (x : Item) (s : Queues) → IsDistinct s → oldest_of s.window ≡ Some x → IsMoved s (queues_after_move x Probation s) (length s.window - 1) (main_length s + 1)
-returned x s d h =
-    let there : 1 ≤ occurrences x s.window = first-stands x s.window h in
-    let few = d x in
-    record {
-      same = λ j. queued-kept j x Probation s (omega (arith, few, there));
-      window = omega (arith, few, there, length-without x s.window);
-      main = omega (arith, few, there, length-without x s.probation, length-without x s.protected, length-append (items_without x s.probation) (x ∷ []));
+      protected = omega (arith, length-without x s.protected);
     }
 
 -- ---- the adjustment
 
--- which items stand there is as before, and the queues fit a window of a size
-record IsAdjusted (c size : ℕ) (s t : Queues) : Type 0 where
+-- which items stand there is as before, and the queues fit a window of a size and a protected queue of a size
+record IsAdjusted (c size p : ℕ) (s t : Queues) : Type 0 where
   same : (j : Item) → queue_occurrences j t ≡ queue_occurrences j s
   total : total_items t ≡ total_items s
   window : length t.window ≤ size
   main : size + main_length t ≤ c
+  protected : length t.protected ≤ p
 
-none-there : (l : List Item) → oldest_of l ≡ None → length l ≡ 0
-none-there [] h = refl
-none-there (x ∷ l) h = absurd (cc (h))
-
-some-pushed : (l : List Item) (x : Item) → 1 ≤ length (l ++ x ∷ [])
-some-pushed l x = omega (arith, length-append l (x ∷ []))
-
--- after the demotion probation has an item where the main part is over that size
+-- after the demotion probation has an item where the main part is over that size, and protected is within it
 record IsDemoted (size : ℕ) (s t : Queues) : Type 0 where
   moved : IsMoved s t (length s.window) (main_length s)
   some : size < main_length t → 1 ≤ length t.probation
+  protected : length t.protected ≤ size
 
-distinct-moved : (s t : Queues) (w m : ℕ) → IsMoved s t w m → IsDistinct s → IsDistinct t
-distinct-moved s t w m h d j = let a = h.same j in let b = d j in omega (arith, a, b)
-
-demotes : (size : ℕ) (s : Queues) → IsDistinct s → IsDemoted size s (queues_after_transfer (demotion size s) s)
-demotes size s d =
+demotes : (size : ℕ) (s : Queues) → IsDistinct s → length s.protected ≤ size + 1 → IsDemoted size s (queues_after_transfer (demotion size s) s)
+demotes size s d most =
     elim (cases_Bool (nat_lt size (length s.protected))) as (λ _. IsDemoted size s (queues_after_transfer (demotion size s) s)) [
-      | inl e ↦ rw e (over (oldest_of s.protected) refl)
-      | inr e ↦ let few : length s.protected ≤ size = ltb-false size (length s.protected) e in rw e record { moved = unmoved s; some = λ more. omega (arith, few, more) }
+      | inl e ↦ rw e (over (ltb-true size (length s.protected) e) (oldest_of s.protected) refl)
+      | inr e ↦ let few : length s.protected ≤ size = ltb-false size (length s.protected) e in rw e record { moved = unmoved s; some = λ more. omega (arith, few, more); protected = few }
     ]
   where
-    over : (o : Option Item) → oldest_of s.protected ≡ o → IsDemoted size s (queues_after_transfer (transfer Probation o) s)
-    over None h = let none = none-there s.protected h in record { moved = unmoved s; some = λ more. omega (arith, none, more) }
-    over (Some x) h = record { moved = demoted x s d h; some = λ more. some-pushed (items_without x s.probation) x }
+    over : size < length s.protected → (o : Option Item) → oldest_of s.protected ≡ o → IsDemoted size s (queues_after_transfer (transfer Probation o) s)
+    over more None h = let none = none-there s.protected h in absurd (omega (arith, none, more))
+    over more (Some x) h =
+        let there : 1 ≤ occurrences x s.protected = first-stands x s.protected h in
+        record {
+          moved = to-probation x s (length s.window) (main_length s) (omega (arith, d x, there)) (omega (arith, d x, there)) (omega arith);
+          some = λ more. omega (arith, length-append (items_without x s.probation) (x ∷ []));
+          protected = omega (arith, one-less x s.protected h, most);
+        }
 
-adjusted-moved : (c size : ℕ) (s t : Queues) (w m : ℕ) → IsMoved s t w m → w + m ≡ total_items s → w ≤ size → size + m ≤ c → IsAdjusted c size s t
-adjusted-moved c size s t w m h all few main =
+adjusted-moved : (c size p : ℕ) (s t : Queues) (w m : ℕ) → IsMoved s t w m → w + m ≡ total_items s → w ≤ size → size + m ≤ c → length s.protected ≤ p → IsAdjusted c size p s t
+adjusted-moved c size p s t w m h all few main most =
     let a = h.window in
     let b = h.main in
-    record { same = h.same; total = omega (arith, a, b, all); window = omega (arith, a, few); main = omega (arith, b, main) }
+    let less = h.protected in
+    record { same = h.same; total = omega (arith, a, b, all); window = omega (arith, a, few); main = omega (arith, b, main); protected = omega (arith, less, most) }
 
-lent : (c size : ℕ) (s : Queues) → IsDistinct s → length s.window + 1 ≤ size → size + main_length s ≤ c + 1 → (c < size + main_length s → 1 ≤ length s.probation)
-    → IsAdjusted c size s (queues_after_transfer (loan c size s) s)
-lent c size s d few main some =
-    elim (cases_Bool (nat_lt c (size + main_length s))) as (λ _. IsAdjusted c size s (queues_after_transfer (loan c size s) s)) [
+lent : (c size p : ℕ) (s : Queues) → IsDistinct s → length s.window + 1 ≤ size → size + main_length s ≤ c + 1 → (c < size + main_length s → 1 ≤ length s.probation) → length s.protected ≤ p
+    → IsAdjusted c size p s (queues_after_transfer (loan c size s) s)
+lent c size p s d few main some most =
+    elim (cases_Bool (nat_lt c (size + main_length s))) as (λ _. IsAdjusted c size p s (queues_after_transfer (loan c size s) s)) [
       | inl e ↦ rw e (over (ltb-true c (size + main_length s) e) (oldest_of s.probation) refl)
       | inr e ↦
           let fits : size + main_length s ≤ c = ltb-false c (size + main_length s) e in
-          rw e (adjusted-moved c size s s (length s.window) (main_length s) (unmoved s) (omega arith) (omega (arith, few)) fits)
+          rw e (adjusted-moved c size p s s (length s.window) (main_length s) (unmoved s) (omega arith) (omega (arith, few)) fits most)
     ]
   where
-    over : c < size + main_length s → (o : Option Item) → oldest_of s.probation ≡ o → IsAdjusted c size s (queues_after_transfer (transfer Window o) s)
+    over : c < size + main_length s → (o : Option Item) → oldest_of s.probation ≡ o → IsAdjusted c size p s (queues_after_transfer (transfer Window o) s)
     over more None h = let none = none-there s.probation h in let there = some more in absurd (omega (arith, none, there))
     over more (Some x) h =
         let there = some more in
-        adjusted-moved c size s (queues_after_move x Window s) (length s.window + 1) (main_length s - 1) (loaned x s d h) (omega (arith, there)) few (omega (arith, main, there))
+        adjusted-moved c size p s (queues_after_move x Window s) (length s.window + 1) (main_length s - 1) (loaned x s d h) (omega (arith, there)) few (omega (arith, main, there)) most
 
-grown : (r : ClimbRules) → r.largest ≤ r.capacity → (size : ℕ) (s : Queues) → IsDistinct s → length s.window ≤ size → size + main_length s ≤ r.capacity → size + 1 ≤ r.capacity → IsAdjusted r.capacity (size + 1) s (queues_after (growth_plan (rules_at r (size + 1)) s) s)
-grown r fits size s d few main room =
-    let c : ℕ = r.capacity in
-    let p : ℕ = r.largest - (size + 1) in
-    let t : Queues = queues_after_transfer (demotion p s) s in
-    let h : IsDemoted p s t = demotes p s d in
-    let w = h.moved.window in
-    let m = h.moved.main in
-    let l : IsAdjusted c (size + 1) t (queues_after_transfer (loan c (size + 1) t) t) =
-    lent c (size + 1) t (distinct-moved s t (length s.window) (main_length s) h.moved d) (omega (arith, w, few)) (omega (arith, m, main)) (λ more. h.some (omega (arith, more, fits, room))) in
-    let all = l.total in
-    record { same = λ j. l.same j ∙ h.moved.same j; total = omega (arith, all, w, m); window = l.window; main = l.main }
-
-shrunk : (r : ClimbRules) (size : ℕ) (s : Queues) → IsDistinct s → 1 ≤ size → length s.window ≤ size → size + main_length s ≤ r.capacity → IsAdjusted r.capacity (size - 1) s (queues_after (shrinking_plan (rules_at r (size - 1)) s) s)
-shrunk r size s d some few main =
-    elim (cases_Bool (nat_lt (size - 1) (length s.window))) as (λ _. IsAdjusted r.capacity (size - 1) s (queues_after (shrinking_plan (rules_at r (size - 1)) s) s)) [
-      | inl e ↦ rw e (over (ltb-true (size - 1) (length s.window) e) (oldest_of s.window) refl)
-      | inr e ↦
-          let fits : length s.window ≤ size - 1 = ltb-false (size - 1) (length s.window) e in
-          rw e (adjusted-moved r.capacity (size - 1) s s (length s.window) (main_length s) (unmoved s) (omega arith) fits (omega (arith, main)))
-    ]
+-- queues that fit a window of a size
+module _ (r : ClimbRules) (fits : r.largest ≤ r.capacity) (size : ℕ) (s : Queues) (d : IsDistinct s) (some : 1 ≤ size)
+    (few : length s.window ≤ size) (main : size + main_length s ≤ r.capacity) (short : length s.protected ≤ r.largest - size)
   where
-    over : size - 1 < length s.window → (o : Option Item) → oldest_of s.window ≡ o → IsAdjusted r.capacity (size - 1) s (queues_after_transfer (transfer Probation o) s)
-    over more None h = let none = none-there s.window h in absurd (omega (arith, none, more))
-    over more (Some x) h =
-        adjusted-moved r.capacity (size - 1) s (queues_after_move x Probation s) (length s.window - 1) (main_length s + 1) (returned x s d h) (omega (arith, more)) (omega (arith, few)) (omega (arith, main, some))
+    grown : size + 1 ≤ r.capacity → IsAdjusted r.capacity (size + 1) (r.largest - (size + 1)) s (queues_after (growth_plan (rules_at r (size + 1)) s) s)
+    grown room =
+        let c : ℕ = r.capacity in
+        let p : ℕ = r.largest - (size + 1) in
+        let t : Queues = queues_after_transfer (demotion p s) s in
+        let h : IsDemoted p s t = demotes p s d (omega (arith, short)) in
+        let w = h.moved.window in
+        let m = h.moved.main in
+        let once : IsDistinct t = λ j. (let a = h.moved.same j in let b = d j in omega (arith, a, b)) in
+        let l : IsAdjusted c (size + 1) p t (queues_after_transfer (loan c (size + 1) t) t) =
+        lent c (size + 1) p t once (omega (arith, w, few)) (omega (arith, m, main)) (λ more. h.some (omega (arith, more, fits, room))) h.protected in
+        let all = l.total in
+        record { same = λ j. l.same j ∙ h.moved.same j; total = omega (arith, all, w, m); window = l.window; main = l.main; protected = l.protected }
 
--- the adjustment of queues that fit a window of a size, and the size after it
-record IsSettled (r : ClimbRules) (target size : ℕ) (s : Queues) : Type 0 where
-  queues : IsAdjusted r.capacity (size_towards target size) s (queues_after (adjustment_plan r target size s) s)
-  least : 1 ≤ size_towards target size
-  most : size ≤ r.largest → size_towards target size ≤ r.largest
-  near : (size_towards target size ≤ size + 1) × (size ≤ size_towards target size + 1)
-  nearer : distance target (size_towards target size) ≤ distance target size - 1
+    shrunk : IsAdjusted r.capacity (size - 1) (r.largest - (size - 1)) s (queues_after (shrinking_plan (rules_at r (size - 1)) s) s)
+    shrunk =
+        let p : ℕ = r.largest - (size - 1) in
+        elim (cases_Bool (nat_lt (size - 1) (length s.window))) as (λ _. IsAdjusted r.capacity (size - 1) (r.largest - (size - 1)) s (queues_after (shrinking_plan (rules_at r (size - 1)) s) s)) [
+          | inl e ↦ rw e (over (ltb-true (size - 1) (length s.window) e) (oldest_of s.window) refl)
+          | inr e ↦ rw e (adjusted-moved r.capacity (size - 1) p s s (length s.window) (main_length s) (unmoved s) (omega arith) (ltb-false (size - 1) (length s.window) e) (omega (arith, main)) (omega (arith, short)))
+        ]
+      where
+        over : size - 1 < length s.window → (o : Option Item) → oldest_of s.window ≡ o → IsAdjusted r.capacity (size - 1) (r.largest - (size - 1)) s (queues_after_transfer (transfer Probation o) s)
+        over more None h = let none = none-there s.window h in absurd (omega (arith, none, more))
+        over more (Some x) h =
+            let there : 1 ≤ occurrences x s.window = first-stands x s.window h in
+            adjusted-moved r.capacity (size - 1) (r.largest - (size - 1)) s (queues_after_move x Probation s) (length s.window - 1) (main_length s + 1)
+            (to-probation x s (length s.window - 1) (main_length s + 1) (omega (arith, d x, there)) (omega (arith, d x, there, more)) (omega (arith, more)))
+            (omega (arith, more)) (omega (arith, few)) (omega (arith, main, some)) (omega (arith, short))
 
-settled : (r : ClimbRules) → r.largest ≤ r.capacity → (target size : ℕ) (s : Queues) → IsDistinct s → (1 ≤ target) × (target ≤ r.largest) → 1 ≤ size → length s.window ≤ size → size + main_length s ≤ r.capacity → IsSettled r target size s
-settled r fits target size s d t some few main =
-    elim (cases_Bool (nat_lt size target)) as (λ _. IsSettled r target size s) [
-      | inl e ↦
-          let less : size < target = ltb-true size target e in
-          let high = t.1 in
-          record {
-            queues = rw e (grown r fits size s d few main (omega (arith, less, high, fits)));
-            least = rw e (omega arith);
-            most = λ few. rw e (omega (arith, less, high));
-            near = rw e (omega arith, omega arith);
-            nearer = rw e (omega (arith, less));
-          }
-      | inr e ↦ elim (cases_Bool (nat_lt target size)) as (λ _. IsSettled r target size s) [
-        | inl f ↦
-            let more : target < size = ltb-true target size f in
-            let low = t.0 in
-            record {
-              queues = rw (e, f) (shrunk r size s d some few main);
-              least = rw (e, f) (omega (arith, more, low));
-              most = λ few. rw (e, f) (omega (arith, few));
+    -- the adjustment, and the size after it
+    record IsSettled (target : ℕ) : Type 0 where
+      queues : IsAdjusted r.capacity (size_towards target size) (r.largest - size_towards target size) s (queues_after (adjustment_plan r target size s) s)
+      least : 1 ≤ size_towards target size
+      most : size ≤ r.largest → size_towards target size ≤ r.largest
+      near : (size_towards target size ≤ size + 1) × (size ≤ size_towards target size + 1)
+      nearer : distance target (size_towards target size) ≤ distance target size - 1
+
+    settled : (target : ℕ) → (1 ≤ target) × (target ≤ r.largest) → IsSettled target
+    settled target t =
+        elim (cases_Bool (nat_lt size target)) as (λ _. IsSettled target) [
+          | inl e ↦
+              let less : size < target = ltb-true size target e in
+              let high = t.1 in
+              record {
+                queues = rw e (grown (omega (arith, less, high, fits)));
+                least = rw e (omega arith);
+                most = λ few. rw e (omega (arith, less, high));
+                near = rw e (omega arith, omega arith);
+                nearer = rw e (omega (arith, less));
+              }
+          | inr e ↦ elim (cases_Bool (nat_lt target size)) as (λ _. IsSettled target) [
+            | inl f ↦
+                let more : target < size = ltb-true target size f in
+                let low = t.0 in
+                record {
+                  queues = rw (e, f) shrunk;
+                  least = rw (e, f) (omega (arith, more, low));
+                  most = λ few. rw (e, f) (omega (arith, few));
+                  near = rw (e, f) (omega arith, omega arith);
+                  nearer = rw (e, f) (omega (arith, more));
+                }
+            | inr f ↦ record {
+              queues = rw (e, f) (adjusted-moved r.capacity size (r.largest - size) s s (length s.window) (main_length s) (unmoved s) (omega arith) few main short);
+              least = rw (e, f) some;
+              most = λ few. rw (e, f) few;
               near = rw (e, f) (omega arith, omega arith);
-              nearer = rw (e, f) (omega (arith, more));
+              nearer = (let a = ltb-false size target e in let b = ltb-false target size f in rw (e, f) (omega (arith, a, b)));
             }
-        | inr f ↦ record {
-          queues = rw (e, f) (adjusted-moved r.capacity size s s (length s.window) (main_length s) (unmoved s) (omega arith) few main);
-          least = rw (e, f) some;
-          most = λ few. rw (e, f) few;
-          near = rw (e, f) (omega arith, omega arith);
-          nearer = (let a = ltb-false size target e in let b = ltb-false target size f in rw (e, f) (omega (arith, a, b)));
-        }
-      ]
-    ]
+          ]
+        ]
 
 -- ---- an access
 
@@ -207,8 +205,11 @@ module _ (r : ClimbRules) (are : AreClimbRules r) (admits : ℕ → ℕ → Bool
   next-kept : IsClimber r next-climber
   next-kept = climber-kept r (is_hit (response_of r admits i s).outcome) s.climber are h.climber
 
-  next-settled : IsSettled r next-climber.target s.size (response_of r admits i s).queues
-  next-settled = settled r are.fits next-climber.target s.size (response_of r admits i s).queues came-back.once next-kept.target h.least came-back.sizes.0 came-back.sizes.1
+  few-protected : length (response_of r admits i s).queues.protected ≤ r.largest - s.size
+  few-protected = stays r s.size admits i s.queues h.protected h.distinct
+
+  next-settled : IsSettled r are.fits s.size (response_of r admits i s).queues came-back.once h.least came-back.sizes.0 came-back.sizes.1 few-protected next-climber.target
+  next-settled = settled r are.fits s.size (response_of r admits i s).queues came-back.once h.least came-back.sizes.0 came-back.sizes.1 few-protected next-climber.target next-kept.target
 
   next-near : distance next-climber.target (size_towards next-climber.target s.size) ≤ r.capacity - next-climber.accesses
   next-near =
@@ -233,7 +234,7 @@ module _ (r : ClimbRules) (are : AreClimbRules r) (admits : ℕ → ℕ → Bool
     distinct = λ j. (let a = next-settled.queues.same j in let b = came-back.once j in omega (arith, a, b));
     window = next-settled.queues.window;
     main = next-settled.queues.main;
-    protected = adjusted r next-climber.target s.size (response_of r admits i s).queues (stays r s.size admits i s.queues h.protected h.distinct);
+    protected = next-settled.queues.protected;
     least = next-settled.least;
     most = next-settled.most h.most;
     climber = next-kept;

@@ -1,5 +1,4 @@
 pub mod Climbing
-pub mod Undoing
 pub mod Protected
 pub mod Keeping
 pub mod Worked

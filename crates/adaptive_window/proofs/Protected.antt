@@ -1,4 +1,4 @@
--- Protected stays within its size.
+-- Protected stays within its size in an access by the table of moves.
 use Rattle.std.proofs.Common.{◌≡◌, ℕ, ◌+◌, ◌-◌, ◌<◌, ◌≤◌, Bool, nat_lt, Option, Some, None, List, [], ◌∷◌, length, refl, arith, inl, inr, length-append}
 use Rattle.std.proofs.lemmas.Bool.{cases_Bool, ltb-true, ltb-false}
 use Rattle.step_record.specs.declared.item.Item.{Item}
@@ -10,27 +10,21 @@ use Rattle.segments.proofs.ItemLists.{length-without}
 use Rattle.segments.proofs.MoveLaws.{Stands, in_window, in_probation, in_protected, nowhere, stands}
 use Rattle.segments.proofs.QueueLists.{first-stands}
 use Rattle.replacement.specs.declared.rules.Rules.{Rules}
-use Rattle.replacement.specs.Plan.{demotion, transfer}
-use Rattle.replacement.specs.PlanMoves.{queues_after_transfer, queues_after}
-use Rattle.replacement.specs.Counts.{main_length}
 use Rattle.replacement.specs.Table.{with_recent, queues_after_demotion, contest, trial, trial_of, eviction, access_in, access}
 use Rattle.replacement.proofs.Planned.{access-at}
 use Rattle.adaptive_window.specs.declared.climber.ClimbRules.{ClimbRules}
-use Rattle.replacement.specs.Resizing.{loan, handing_back, growth_plan, shrinking_plan}
-use Rattle.adaptive_window.specs.AdaptiveWindow.{rules_at, size_towards, adjustment_plan}
+use Rattle.adaptive_window.specs.AdaptiveWindow.{rules_at}
 
 shorter : (x : Item) (l : List Item) → length (items_without x l) ≤ length l
 shorter x l = omega (arith, length-without x l)
 
-none-there : (l : List Item) → oldest_of l ≡ None → length l ≡ 0
+pub none-there : (l : List Item) → oldest_of l ≡ None → length l ≡ 0
 none-there [] h = refl
 none-there (x ∷ l) h = absurd (cc (h))
 
 -- its oldest left it
-one-less : (x : Item) (l : List Item) → oldest_of l ≡ Some x → length (items_without x l) + 1 ≤ length l
+pub one-less : (x : Item) (l : List Item) → oldest_of l ≡ Some x → length (items_without x l) + 1 ≤ length l
 one-less x l h = let there = first-stands x l h in omega (arith, there, length-without x l)
-
--- ---- an access by the table of moves
 
 contested : (admits : ℕ → ℕ → Bool) (x : Item) (o : Option Item) (s : Queues) → length (contest admits x o s).queues.protected ≤ length s.protected
 contested admits x None s = shorter x s.protected
@@ -81,60 +75,3 @@ module _ (r : ClimbRules) (size : ℕ) (admits : ℕ → ℕ → Bool) (i : Item
 
   pub stays : IsDistinct s → length (access (rules_at r size) admits i s).queues.protected ≤ (r.largest - size)
   stays d = rw (access-at (rules_at r size) admits i s (queue_holding i s) refl) (stays-at (queue_holding i s) (stands i s d))
-
--- ---- the adjustment
-
-demotes : (size : ℕ) (s : Queues) → length s.protected ≤ size + 1 → length (queues_after_transfer (demotion size s) s).protected ≤ size
-demotes size s few =
-    elim (cases_Bool (nat_lt size (length s.protected))) as (λ _. length (queues_after_transfer (demotion size s) s).protected ≤ size) [
-      | inl e ↦ rw e (over (ltb-true size (length s.protected) e) (oldest_of s.protected) refl)
-      | inr e ↦ rw e (ltb-false size (length s.protected) e)
-    ]
-  where
-    over : size < length s.protected → (o : Option Item) → oldest_of s.protected ≡ o → length (queues_after_transfer (transfer Probation o) s).protected ≤ size
-    over more None h = let none = none-there s.protected h in absurd (omega (arith, none, more))
-    over more (Some x) h = let less = one-less x s.protected h in omega (arith, less, few)
-
-to-window : (o : Option Item) (s : Queues) → length (queues_after_transfer (transfer Window o) s).protected ≤ length s.protected
-to-window None s = omega arith
-to-window (Some x) s = shorter x s.protected
-
-to-probation : (o : Option Item) (s : Queues) → length (queues_after_transfer (transfer Probation o) s).protected ≤ length s.protected
-to-probation None s = omega arith
-to-probation (Some x) s = shorter x s.protected
-
-lends : (c size : ℕ) (s : Queues) → length (queues_after_transfer (loan c size s) s).protected ≤ length s.protected
-lends c size s =
-    elim (cases_Bool (nat_lt c (size + main_length s))) as (λ _. length (queues_after_transfer (loan c size s) s).protected ≤ length s.protected) [
-      | inl e ↦ rw e (to-window (oldest_of s.probation) s)
-      | inr e ↦ rw e (omega arith)
-    ]
-
-returns-one : (size : ℕ) (s : Queues) → length (queues_after_transfer (handing_back size s) s).protected ≤ length s.protected
-returns-one size s =
-    elim (cases_Bool (nat_lt size (length s.window))) as (λ _. length (queues_after_transfer (handing_back size s) s).protected ≤ length s.protected) [
-      | inl e ↦ rw e (to-probation (oldest_of s.window) s)
-      | inr e ↦ rw e (omega arith)
-    ]
-
-grown : (r : ClimbRules) (size : ℕ) (s : Queues) → length s.protected ≤ r.largest - size → length (queues_after (growth_plan (rules_at r (size + 1)) s) s).protected ≤ r.largest - (size + 1)
-grown r size s few =
-    let p : ℕ = r.largest - (size + 1) in
-    let t : Queues = queues_after_transfer (demotion p s) s in
-    let first = demotes p s (omega (arith, few)) in
-    let last = lends r.capacity (size + 1) t in
-    omega (arith, first, last)
-
-shrunk : (r : ClimbRules) (size : ℕ) (s : Queues) → length s.protected ≤ r.largest - size → length (queues_after (shrinking_plan (rules_at r (size - 1)) s) s).protected ≤ r.largest - (size - 1)
-shrunk r size s few = let less = returns-one (size - 1) s in omega (arith, less, few)
-
-pub adjusted : (r : ClimbRules) (target size : ℕ) (s : Queues) → length s.protected ≤ r.largest - size
-    → length (queues_after (adjustment_plan r target size s) s).protected ≤ r.largest - size_towards target size
-adjusted r target size s few =
-    elim (cases_Bool (nat_lt size target)) as (λ _. length (queues_after (adjustment_plan r target size s) s).protected ≤ r.largest - size_towards target size) [
-      | inl e ↦ rw e (grown r size s few)
-      | inr e ↦ elim (cases_Bool (nat_lt target size)) as (λ _. length (queues_after (adjustment_plan r target size s) s).protected ≤ r.largest - size_towards target size) [
-        | inl f ↦ rw (e, f) (shrunk r size s few)
-        | inr f ↦ rw (e, f) few
-      ]
-    ]

@@ -12,7 +12,7 @@ use Rattle.adaptive_window.specs.AdaptiveCache.{AdaptiveCacheState, cache_access
 use Rattle.adaptive_window.specs.Residents.{cache_residents, IsServed, IsCache, CacheKeeps, CacheHitsAskNothing, CacheAsksWhereOneLeft}
 use Rattle.adaptive_window.specs.Theorems.{IsAdaptiveAccess}
 use Rattle.adaptive_window.proofs.Keeping.{starts, kept-access, access-is}
-use Rattle.adaptive_window.proofs.Climbing.{rules-fit}
+use Rattle.adaptive_window.proofs.Climbing.{rules_fit}
 use Rattle.adaptive_window.proofs.Running.{has-room, main-few}
 
 abbrev admitted : ℕ → AdaptiveCacheState → ℕ → ℕ → Bool
@@ -41,7 +41,7 @@ module _ (c k : ℕ) (d : AdaptiveCacheState) (h : IsCache c d) where
 
 pub cache_keeps : CacheKeeps
 cache_keeps c period ok =
-    let fit = rules-fit c.capacity c.main_percent period (has-room c ok) (main-few c ok) in
+    let fit = rules_fit c.capacity c.main_percent period (has-room c ok) (main-few c ok) in
     record {
       starts = record {
         rules = fit.0;
