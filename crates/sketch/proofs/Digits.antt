@@ -1,6 +1,6 @@
 -- One digit of a word.
-use Rattle.std.proofs.Common.{◌≡◌, ◌≢◌, ℕ, suc, zero, ◌+◌, ◌-◌, ◌*◌, ◌/◌, ◌%◌, ◌<◌, ◌≤◌, ◌^◌, List, length, get_or, set, replicate, refl, ap, ◌∙◌, arith, inl, inr}
-use Rattle.std.proofs.lemmas.Nat.{shr-shr, pow-add, one_shl}
+use Rattle.std.proofs.Common.{◌≡◌, ◌≢◌, ℕ, suc, zero, ◌+◌, ◌-◌, ◌*◌, ◌/◌, ◌%◌, ◌<◌, ◌≤◌, ◌^◌, List, length, get_or, set, replicate, bit_and, refl, ap, ◌∙◌, arith, inl, inr}
+use Rattle.std.proofs.lemmas.Nat.{shr-shr, pow-add, one_shl, and_mask}
 use Rattle.std.proofs.lemmas.List.{get_or-set_same, get_or-set_other}
 use Rattle.std.proofs.lemmas.Bool.{cases_eq}
 use Rattle.sketch.specs.Counters.{nibble}
@@ -17,6 +17,10 @@ nibble_is (suc n) x =
     let e : 4 * suc n ≡ 4 + 4 * n = omega arith in
     let s : x / 2 ^ 4 / 2 ^ (4 * n) ≡ x / 2 ^ (4 + 4 * n) = shr-shr x 4 (4 * n) in
     rw (e, ← s) (nibble_is n (x / 16))
+
+-- as it is read
+pub seen : (n x : ℕ) → bit_and (x / 2 ^ (4 * n)) 15 ≡ nibble x n
+seen n x = and_mask (x / 2 ^ (4 * n)) 4 ∙ nibble_is n x
 
 pub nibble_lt : (n x : ℕ) → nibble x n < 16
 unfolding nibble

@@ -1,6 +1,7 @@
 -- Eight words of counters among the others.
-use Rattle.std.proofs.Common.{◌≡◌, ℕ, List, [], ◌∷◌, zero, suc, ◌+◌, ◌-◌, ◌*◌, ◌/◌, ◌%◌, ◌^◌, ◌<◌, ◌≤◌, true, false, cond, nat_lt, length, get_or, set, map, drop, take, bit_and, bit_or, arith, refl, sym, ◌∙◌, ap, inl, inr}
-use Rattle.std.proofs.lemmas.List.{drop_more, get_or-map, length-map, get_or-set_same, get_or-set_other, length-set}
+use Rattle.std.proofs.Common.{◌≡◌, ℕ, List, [], ◌∷◌, ◌+◌, ◌-◌, ◌*◌, ◌/◌, ◌%◌, ◌^◌, ◌<◌, ◌≤◌, true, false, cond, nat_lt, length, get_or, set, map, bit_or, arith, refl, sym, ◌∙◌, ap, inl, inr}
+use Rattle.std.proofs.lemmas.List.FromFn.{fill_by_all}
+use Rattle.std.proofs.lemmas.List.{get_or-map, length-map, get_or-set_same, get_or-set_other, length-set}
 use Rattle.std.proofs.lemmas.Nat.{and_le_r, mul-le}
 use Rattle.std.proofs.lemmas.Bool.{cases_lt, cases_eq}
 use Rattle.std.proofs.lemmas.Bool.Decides.{nat_tests}
@@ -8,23 +9,13 @@ use Rattle.std.proofs.lemmas.Simd.{get_or-put_chunk_at, get_or-put_chunk_above, 
 use lib.Lanes.{chunk, put_chunk}
 use Rattle.sketch.specs.Counters.{nibble}
 use Rattle.sketch.specs.Laws.{halved_word, odd_bits, lost_word, lost_of_word}
+use Rattle.step_record.specs.Places.{by_place}
+use Rattle.step_record.proofs.Places.{get_or-by_place}
 use Rattle.sketch.proofs.Halving.{low_word}
 
-step : (ws : List ℕ) (at next n : ℕ) → at < length ws → at + 1 ≡ next → take (suc n) (drop at ws) ≡ get_or ws at 0 ∷ take n (drop next ws)
-step ws at next n h e = ap (take (suc n)) (drop_more ws at 0 h) ∙ ap (λ i. get_or ws at 0 ∷ take n (drop i ws)) e
-
 -- the eight words, one by one
-pub eight : (ws : List ℕ) (at : ℕ) → at + 8 ≤ length ws → take 8 (drop at ws) ≡ get_or ws at 0 ∷ get_or ws (at + 1) 0 ∷ get_or ws (at + 2) 0 ∷ get_or ws (at + 3) 0 ∷ get_or ws (at + 4) 0 ∷ get_or ws (at + 5) 0 ∷ get_or ws (at + 6) 0 ∷ get_or ws (at + 7) 0 ∷ []
-eight ws at h =
-    let e0 : take 8 (drop (at) ws) ≡ get_or ws (at) 0 ∷ take 7 (drop (at + 1) ws) = step ws at (at + 1) 7 (omega arith) (omega arith) in
-    let e1 : take 7 (drop (at + 1) ws) ≡ get_or ws (at + 1) 0 ∷ take 6 (drop (at + 2) ws) = step ws (at + 1) (at + 2) 6 (omega arith) (omega arith) in
-    let e2 : take 6 (drop (at + 2) ws) ≡ get_or ws (at + 2) 0 ∷ take 5 (drop (at + 3) ws) = step ws (at + 2) (at + 3) 5 (omega arith) (omega arith) in
-    let e3 : take 5 (drop (at + 3) ws) ≡ get_or ws (at + 3) 0 ∷ take 4 (drop (at + 4) ws) = step ws (at + 3) (at + 4) 4 (omega arith) (omega arith) in
-    let e4 : take 4 (drop (at + 4) ws) ≡ get_or ws (at + 4) 0 ∷ take 3 (drop (at + 5) ws) = step ws (at + 4) (at + 5) 3 (omega arith) (omega arith) in
-    let e5 : take 3 (drop (at + 5) ws) ≡ get_or ws (at + 5) 0 ∷ take 2 (drop (at + 6) ws) = step ws (at + 5) (at + 6) 2 (omega arith) (omega arith) in
-    let e6 : take 2 (drop (at + 6) ws) ≡ get_or ws (at + 6) 0 ∷ take 1 (drop (at + 7) ws) = step ws (at + 6) (at + 7) 1 (omega arith) (omega arith) in
-    let e7 : take 1 (drop (at + 7) ws) ≡ get_or ws (at + 7) 0 ∷ take 0 (drop (at + 8) ws) = step ws (at + 7) (at + 8) 0 (omega arith) (omega arith) in
-    rw (e0, e1, e2, e3, e4, e5, e6, e7) refl
+pub eight : (ws : List ℕ) (at : ℕ) → at + 8 ≤ length ws → chunk at 8 ws ≡ by_place 8 (λ t. get_or ws (at + t) 0)
+eight ws at h = fill_by_all (λ t. get_or ws (at + t) 0) (chunk at 8 ws) 8 0 (length-chunk at 8 ws h) (λ t w. get_or-chunk at 8 ws t 0 w)
 
 -- a lane moved left by less than 4 loses no bit
 lane : (x p : ℕ) → p ≤ 8 → odd_bits x * p % 2 ^ 64 ≡ odd_bits x * p
@@ -95,28 +86,10 @@ two_more f xs at a b w before here next j h =
 
 -- eight words doubled, with the lost bits of the first four and of the others
 abbrev pub doubled_eight : List ℕ → ℕ → ℕ → ℕ → List ℕ
-doubled_eight ws at low high =
-    (get_or ws at 0 * 2 % 2 ^ 64 + bit_and (low / 1) 0x1111111111111111) % 2 ^ 64
-    ∷ (get_or ws (at + 1) 0 * 2 % 2 ^ 64 + bit_and (low / 2) 0x1111111111111111) % 2 ^ 64
-    ∷ (get_or ws (at + 2) 0 * 2 % 2 ^ 64 + bit_and (low / 4) 0x1111111111111111) % 2 ^ 64
-    ∷ (get_or ws (at + 3) 0 * 2 % 2 ^ 64 + bit_and (low / 8) 0x1111111111111111) % 2 ^ 64
-    ∷ (get_or ws (at + 4) 0 * 2 % 2 ^ 64 + bit_and (high / 1) 0x1111111111111111) % 2 ^ 64
-    ∷ (get_or ws (at + 5) 0 * 2 % 2 ^ 64 + bit_and (high / 2) 0x1111111111111111) % 2 ^ 64
-    ∷ (get_or ws (at + 6) 0 * 2 % 2 ^ 64 + bit_and (high / 4) 0x1111111111111111) % 2 ^ 64
-    ∷ (get_or ws (at + 7) 0 * 2 % 2 ^ 64 + bit_and (high / 8) 0x1111111111111111) % 2 ^ 64
-    ∷ []
+doubled_eight ws at low high = by_place 8 (λ t. (get_or ws (at + t) 0 * 2 % 2 ^ 64 + odd_bits (cond (nat_lt t 4) low high / 2 ^ (t % 4))) % 2 ^ 64)
 
-module _ (ws : List ℕ) (at low high : ℕ) (fits : (k : ℕ) → get_or ws k 0 < 2 ^ 64) (small : (t : ℕ) → t < 8 → (n : ℕ) → n < 16 → nibble (get_or ws (at + t) 0) n ≤ 7) where
-  pub doubled_at : (t : ℕ) → t < 8 → get_or (doubled_eight ws at low high) t 0 ≡ 2 * get_or ws (at + t) 0 + odd_bits (cond (nat_lt t 4) low high / 2 ^ (t % 4))
-  doubled_at zero h =
-      let e : at + 0 ≡ at = omega arith in
-      let s = small 0 (omega arith) in
-      rw e (lane_doubled (get_or ws at 0) (low / 1) (fits at) (let r = rw e at s in r))
-  doubled_at (suc zero) h = lane_doubled (get_or ws (at + 1) 0) (low / 2) (fits (at + 1)) (small 1 (omega arith))
-  doubled_at (suc (suc zero)) h = lane_doubled (get_or ws (at + 2) 0) (low / 4) (fits (at + 2)) (small 2 (omega arith))
-  doubled_at (suc (suc (suc zero))) h = lane_doubled (get_or ws (at + 3) 0) (low / 8) (fits (at + 3)) (small 3 (omega arith))
-  doubled_at (suc (suc (suc (suc zero)))) h = lane_doubled (get_or ws (at + 4) 0) (high / 1) (fits (at + 4)) (small 4 (omega arith))
-  doubled_at (suc (suc (suc (suc (suc zero))))) h = lane_doubled (get_or ws (at + 5) 0) (high / 2) (fits (at + 5)) (small 5 (omega arith))
-  doubled_at (suc (suc (suc (suc (suc (suc zero)))))) h = lane_doubled (get_or ws (at + 6) 0) (high / 4) (fits (at + 6)) (small 6 (omega arith))
-  doubled_at (suc (suc (suc (suc (suc (suc (suc zero))))))) h = lane_doubled (get_or ws (at + 7) 0) (high / 8) (fits (at + 7)) (small 7 (omega arith))
-  doubled_at (suc (suc (suc (suc (suc (suc (suc (suc t)))))))) h = absurd (omega arith)
+pub doubled_at : (ws : List ℕ) (at low high : ℕ) → ((k : ℕ) → get_or ws k 0 < 2 ^ 64) → ((t : ℕ) → t < 8 → (n : ℕ) → n < 16 → nibble (get_or ws (at + t) 0) n ≤ 7)
+    → (t : ℕ) → t < 8 → get_or (doubled_eight ws at low high) t 0 ≡ 2 * get_or ws (at + t) 0 + odd_bits (cond (nat_lt t 4) low high / 2 ^ (t % 4))
+doubled_at ws at low high fits small t h =
+    get_or-by_place 8 (λ t. (get_or ws (at + t) 0 * 2 % 2 ^ 64 + odd_bits (cond (nat_lt t 4) low high / 2 ^ (t % 4))) % 2 ^ 64) t 0 h
+    ∙ lane_doubled (get_or ws (at + t) 0) (cond (nat_lt t 4) low high / 2 ^ (t % 4)) (fits (at + t)) (small t h)

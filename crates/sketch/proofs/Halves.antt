@@ -60,7 +60,7 @@ bit_lost ws n p e h =
     ∙ ap (bit_at x) b
     ∙ bit_digit (p % 64 / 4) (p % 4) x
     ∙ sym (nibble_odd (p % 64 / 4) (x / 2 ^ (p % 4)) (omega arith))
-    ∙ lost_digit ws (p / 64) (p % 4) (p % 64 / 4) (omega arith) (omega arith)
+    ∙ lost_digit ws (p / 64) (p % 64 / 4) (omega arith) (p % 4) (omega arith)
     ∙ sym (ap (λ k. nibble (get_or ws k 0) (counter_kept p % 16) % 2) c ∙ ap (λ k. nibble (get_or ws (4 * (p / 64) + p % 4) 0) k % 2) d)
 
 pub low_past : (ws : List ℕ) (i : ℕ) → length ws ≤ i / 16 → counter_at ws i ≡ 0
@@ -135,7 +135,7 @@ word_undone ws m i w lt =
     let q : 4 * (i / 4) + i % 4 ≡ i = omega arith in
     let bits : (n : ℕ) → n < 16 → nibble b n ≡ nibble x n % 2 = λ n v.
     ap (λ y. nibble (odd_bits (y / 2 ^ (i % 4))) n) (get_or-by_place m (lost_word ws) (i / 4) 0 w)
-    ∙ lost_digit ws (i / 4) (i % 4) n (omega arith) v
+    ∙ lost_digit ws (i / 4) n v (i % 4) (omega arith)
     ∙ ap (λ j. nibble (get_or ws j 0) n % 2) q in
     let halves : (n : ℕ) → n < 16 → nibble h n ≡ nibble x n / 2 = λ n v. nibble_halved n x v in
     let low : (n : ℕ) → n < 16 → nibble h n ≤ 7 = λ n v. let e = halves n v in let l = nibble_lt n x in omega (arith, e, l) in

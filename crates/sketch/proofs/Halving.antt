@@ -1,136 +1,62 @@
 -- What a halving does to a word's digits.
-use Rattle.std.proofs.Common.{◌≡◌, ℕ, suc, zero, ◌+◌, ◌*◌, ◌/◌, ◌%◌, ◌<◌, ◌≤◌, ◌^◌, List, get_or, bit_and, bit_or, ap, ◌∙◌, arith}
-use Rattle.std.proofs.lemmas.Nat.{and_mask, and_block, or_block, or_comm, or_shifted, or_lt}
+use Rattle.std.proofs.Common.{◌≡◌, ℕ, suc, zero, ◌+◌, ◌*◌, ◌/◌, ◌%◌, ◌<◌, ◌≤◌, ◌^◌, List, get_or, bit_and, bit_or, ap, ◌∙◌, sym, arith}
+use Rattle.std.proofs.lemmas.Nat.{and_mask, and_shr, and_mod, or_shr, or_mod, or_comm, or_shifted, shr-shr, mul-le}
+use Rattle.std.proofs.Math.Nat.{add-mul}
 use Rattle.sketch.specs.Counters.{nibble}
 use Rattle.sketch.specs.Laws.{halved_word, odd_bits, lost_word}
 use Rattle.sketch.proofs.Digits.{four_more}
+
+-- ---- the operators, digit by digit
+
+and_digit : (n x y : ℕ) → nibble (bit_and x y) n ≡ bit_and (nibble x n) (nibble y n)
+unfolding nibble
+and_digit zero x y = and_mod x y 4
+and_digit (suc n) x y = ap (λ z. nibble z n) (and_shr x y 4) ∙ and_digit n (x / 16) (y / 16)
+
+or_digit : (n x y : ℕ) → nibble (bit_or x y) n ≡ bit_or (nibble x n) (nibble y n)
+unfolding nibble
+or_digit zero x y = or_mod x y 4
+or_digit (suc n) x y = ap (λ z. nibble z n) (or_shr x y 4) ∙ or_digit n (x / 16) (y / 16)
+
+-- a word moved right by t below 4 has bit t of each digit lowest
+shifted : (n t x : ℕ) → t < 4 → nibble (x / 2 ^ t) n % 2 ≡ nibble x n / 2 ^ t % 2
+unfolding nibble
+shifted zero zero x h = omega arith
+shifted zero (suc zero) x h = omega arith
+shifted zero (suc (suc zero)) x h = omega arith
+shifted zero (suc (suc (suc zero))) x h = omega arith
+shifted zero (suc (suc (suc (suc t)))) x h = absurd (omega arith)
+shifted (suc n) t x h =
+    let swap : x / 2 ^ t / 16 ≡ x / 16 / 2 ^ t = shr-shr x t 4 ∙ (let e : t + 4 ≡ 4 + t = omega arith in ap (λ k. x / 2 ^ k) e) ∙ sym (shr-shr x 4 t) in
+    rw swap (shifted n t (x / 16) h)
+
+-- ---- masks that are the same in each digit
 
 mask : ℕ → ℕ → ℕ
 mask d zero = 0
 mask d (suc k) = mask d k * 16 + d
 
-halved_step : (x m : ℕ) → bit_and (x / 2) (m * 16 + 7) ≡ bit_and (x / 16 / 2) m * 16 + x % 16 / 2
-halved_step x m =
-    let e : x / 2 ≡ x / 16 / 2 * 2 ^ 4 + x / 2 % 16 = omega arith in
-    let b : bit_and (x / 16 / 2 * 2 ^ 4 + x / 2 % 16) (m * 2 ^ 4 + 7) ≡ bit_and (x / 16 / 2) m * 2 ^ 4 + bit_and (x / 2 % 16) 7 = and_block 4 (x / 16 / 2) m (x / 2 % 16) 7 (omega arith) (omega arith) in
-    let c : bit_and (x / 2 % 16) 7 ≡ x / 2 % 16 % 8 = and_mask (x / 2 % 16) 3 in
-    ap (λ y. bit_and y (m * 16 + 7)) e ∙ b ∙ rw c (omega arith)
-
-halved_digits : (k n x : ℕ) → n < k → nibble (bit_and (x / 2) (mask 7 k)) n ≡ nibble x n / 2
+mask_digit : (d k n : ℕ) → d < 16 → n < k → nibble (mask d k) n ≡ d
 unfolding nibble mask
-halved_digits zero n x w = absurd (omega arith)
-halved_digits (suc k) zero x w = rw (halved_step x (mask 7 k)) (omega arith)
-halved_digits (suc k) (suc n) x w =
-    let e : (bit_and (x / 16 / 2) (mask 7 k) * 16 + x % 16 / 2) / 16 ≡ bit_and (x / 16 / 2) (mask 7 k) = omega arith in
-    rw (halved_step x (mask 7 k), e) (halved_digits k n (x / 16) (omega arith))
+mask_digit d zero n h w = absurd (omega arith)
+mask_digit d (suc k) zero h w = omega arith
+mask_digit d (suc k) (suc n) h w =
+    let e : (mask d k * 16 + d) / 16 ≡ mask d k = omega arith in
+    rw e (mask_digit d k n h (omega arith))
+
+halved : (n x : ℕ) → nibble (x / 2) n % 8 ≡ nibble x n / 2
+unfolding nibble
+halved zero x = omega arith
+halved (suc n) x = let e : x / 2 / 16 ≡ x / 16 / 2 = omega arith in rw e (halved n (x / 16))
 
 pub nibble_halved : (n x : ℕ) → n < 16 → nibble (halved_word x) n ≡ nibble x n / 2
 unfolding mask
-nibble_halved n x w = halved_digits 16 n x w
-
-odd_step : (x m : ℕ) → bit_and x (m * 16 + 1) ≡ bit_and (x / 16) m * 16 + x % 2
-odd_step x m =
-    let e : x ≡ x / 16 * 2 ^ 4 + x % 16 = omega arith in
-    let b : bit_and (x / 16 * 2 ^ 4 + x % 16) (m * 2 ^ 4 + 1) ≡ bit_and (x / 16) m * 2 ^ 4 + bit_and (x % 16) 1 = and_block 4 (x / 16) m (x % 16) 1 (omega arith) (omega arith) in
-    let c : bit_and (x % 16) 1 ≡ x % 16 % 2 = and_mask (x % 16) 1 in
-    ap (λ y. bit_and y (m * 16 + 1)) e ∙ b ∙ rw c (omega arith)
-
-odd_digits : (k n x : ℕ) → n < k → nibble (bit_and x (mask 1 k)) n ≡ nibble x n % 2
-unfolding nibble mask
-odd_digits zero n x w = absurd (omega arith)
-odd_digits (suc k) zero x w = rw (odd_step x (mask 1 k)) (omega arith)
-odd_digits (suc k) (suc n) x w =
-    let e : (bit_and (x / 16) (mask 1 k) * 16 + x % 2) / 16 ≡ bit_and (x / 16) (mask 1 k) = omega arith in
-    rw (odd_step x (mask 1 k), e) (odd_digits k n (x / 16) (omega arith))
+nibble_halved n x w =
+    and_digit n (x / 2) (mask 7 16) ∙ ap (bit_and (nibble (x / 2) n)) (mask_digit 7 16 n (omega arith) w) ∙ and_mask (nibble (x / 2) n) 3 ∙ halved n x
 
 pub nibble_odd : (n x : ℕ) → n < 16 → nibble (odd_bits x) n ≡ nibble x n % 2
 unfolding mask
-nibble_odd n x w = odd_digits 16 n x w
-
--- the union of four words of lowest bits, each a place further
-union : ℕ → ℕ → ℕ → ℕ → ℕ
-union a b c d = bit_or (bit_or (bit_or a (b * 2)) (c * 4)) (d * 8)
-
-union_low : (a b c d : ℕ) → a < 2 → b < 2 → c < 2 → d < 2 → union a b c d ≡ a + 2 * b + 4 * c + 8 * d
-unfolding union
-union_low a b c d p q r s =
-    let x : bit_or a (b * 2) ≡ b * 2 + a = or_comm a (b * 2) ∙ or_shifted b 1 a p in
-    let y : bit_or (b * 2 + a) (c * 4) ≡ c * 4 + (b * 2 + a) = or_comm (b * 2 + a) (c * 4) ∙ or_shifted c 2 (b * 2 + a) (omega arith) in
-    let z : bit_or (c * 4 + (b * 2 + a)) (d * 8) ≡ d * 8 + (c * 4 + (b * 2 + a)) = or_comm (c * 4 + (b * 2 + a)) (d * 8) ∙ or_shifted d 3 (c * 4 + (b * 2 + a)) (omega arith) in
-    rw (x, y, z) (omega arith)
-
-union_step : (a b c d x y z w : ℕ) → a < 2 → b < 2 → c < 2 → d < 2 → union (x * 16 + a) (y * 16 + b) (z * 16 + c) (w * 16 + d) ≡ union x y z w * 16 + (a + 2 * b + 4 * c + 8 * d)
-unfolding union
-union_step a b c d x y z w p q r s =
-    let y2 : (y * 16 + b) * 2 ≡ y * 2 * 2 ^ 4 + b * 2 = omega arith in
-    let z2 : (z * 16 + c) * 4 ≡ z * 4 * 2 ^ 4 + c * 4 = omega arith in
-    let w2 : (w * 16 + d) * 8 ≡ w * 8 * 2 ^ 4 + d * 8 = omega arith in
-    let ab : bit_or a (b * 2) < 2 ^ 4 = or_lt 4 a (b * 2) (omega arith) (omega arith) in
-    let abc : bit_or (bit_or a (b * 2)) (c * 4) < 2 ^ 4 = or_lt 4 (bit_or a (b * 2)) (c * 4) ab (omega arith) in
-    let e : bit_or (x * 2 ^ 4 + a) (y * 2 * 2 ^ 4 + b * 2) ≡ bit_or x (y * 2) * 2 ^ 4 + bit_or a (b * 2) = or_block 4 x (y * 2) a (b * 2) (omega arith) (omega arith) in
-    let f : bit_or (bit_or x (y * 2) * 2 ^ 4 + bit_or a (b * 2)) (z * 4 * 2 ^ 4 + c * 4) ≡ bit_or (bit_or x (y * 2)) (z * 4) * 2 ^ 4 + bit_or (bit_or a (b * 2)) (c * 4) = or_block 4 (bit_or x (y * 2)) (z * 4) (bit_or a (b * 2)) (c * 4) ab (omega arith) in
-    let g : bit_or (bit_or (bit_or x (y * 2)) (z * 4) * 2 ^ 4 + bit_or (bit_or a (b * 2)) (c * 4)) (w * 8 * 2 ^ 4 + d * 8) ≡ bit_or (bit_or (bit_or x (y * 2)) (z * 4)) (w * 8) * 2 ^ 4 + bit_or (bit_or (bit_or a (b * 2)) (c * 4)) (d * 8) = or_block 4 (bit_or (bit_or x (y * 2)) (z * 4)) (w * 8) (bit_or (bit_or a (b * 2)) (c * 4)) (d * 8) abc (omega arith) in
-    let low : bit_or (bit_or (bit_or a (b * 2)) (c * 4)) (d * 8) ≡ a + 2 * b + 4 * c + 8 * d = union_low a b c d p q r s in
-    ap (λ t. bit_or (bit_or (bit_or (x * 16 + a) t) ((z * 16 + c) * 4)) ((w * 16 + d) * 8)) y2
-    ∙ ap (λ t. bit_or (bit_or t ((z * 16 + c) * 4)) ((w * 16 + d) * 8)) e
-    ∙ ap (λ t. bit_or (bit_or (bit_or x (y * 2) * 2 ^ 4 + bit_or a (b * 2)) t) ((w * 16 + d) * 8)) z2
-    ∙ ap (λ t. bit_or t ((w * 16 + d) * 8)) f
-    ∙ ap (λ t. bit_or (bit_or (bit_or x (y * 2)) (z * 4) * 2 ^ 4 + bit_or (bit_or a (b * 2)) (c * 4)) t) w2
-    ∙ g ∙ ap (λ t. bit_or (bit_or (bit_or x (y * 2)) (z * 4)) (w * 8) * 16 + t) low
-
--- bit t of digit n of the union is the lowest bit of the digit of word t
-four_bits : ℕ → ℕ → ℕ → ℕ → ℕ → ℕ
-four_bits n a b c d = nibble a n % 2 + 2 * (nibble b n % 2) + 4 * (nibble c n % 2) + 8 * (nibble d n % 2)
-
--- the lowest digit of the union, and the union of the rest
-union_cut : (k a b c d : ℕ) → union (bit_and a (mask 1 k * 16 + 1)) (bit_and b (mask 1 k * 16 + 1)) (bit_and c (mask 1 k * 16 + 1)) (bit_and d (mask 1 k * 16 + 1))
-    ≡ union (bit_and (a / 16) (mask 1 k)) (bit_and (b / 16) (mask 1 k)) (bit_and (c / 16) (mask 1 k)) (bit_and (d / 16) (mask 1 k)) * 16 + (a % 2 + 2 * (b % 2) + 4 * (c % 2) + 8 * (d % 2))
-union_cut k a b c d =
-    rw (odd_step a (mask 1 k), odd_step b (mask 1 k), odd_step c (mask 1 k), odd_step d (mask 1 k))
-    (union_step (a % 2) (b % 2) (c % 2) (d % 2) (bit_and (a / 16) (mask 1 k)) (bit_and (b / 16) (mask 1 k)) (bit_and (c / 16) (mask 1 k)) (bit_and (d / 16) (mask 1 k)) (omega arith) (omega arith) (omega arith) (omega arith))
-
-union_digits : (k n a b c d : ℕ) → n < k → nibble (union (bit_and a (mask 1 k)) (bit_and b (mask 1 k)) (bit_and c (mask 1 k)) (bit_and d (mask 1 k))) n ≡ four_bits n a b c d
-unfolding nibble mask four_bits
-union_digits zero n a b c d w = absurd (omega arith)
-union_digits (suc k) zero a b c d w = rw (union_cut k a b c d) (omega arith)
-union_digits (suc k) (suc n) a b c d w =
-    let e : (union (bit_and (a / 16) (mask 1 k)) (bit_and (b / 16) (mask 1 k)) (bit_and (c / 16) (mask 1 k)) (bit_and (d / 16) (mask 1 k)) * 16 + (a % 2 + 2 * (b % 2) + 4 * (c % 2) + 8 * (d % 2))) / 16 ≡ union (bit_and (a / 16) (mask 1 k)) (bit_and (b / 16) (mask 1 k)) (bit_and (c / 16) (mask 1 k)) (bit_and (d / 16) (mask 1 k)) = omega arith in
-    rw (union_cut k a b c d, e) (union_digits k n (a / 16) (b / 16) (c / 16) (d / 16) (omega arith))
-
-nibble_lost : (ws : List ℕ) (j n : ℕ) → n < 16 → nibble (lost_word ws j) n ≡ four_bits n (get_or ws (4 * j) 0) (get_or ws (4 * j + 1) 0) (get_or ws (4 * j + 2) 0) (get_or ws (4 * j + 3) 0)
-unfolding mask union
-nibble_lost ws j n w =
-    let z : 4 * j + 0 ≡ 4 * j = omega arith in
-    union_digits 16 n (get_or ws (4 * j + 0) 0) (get_or ws (4 * j + 1) 0) (get_or ws (4 * j + 2) 0) (get_or ws (4 * j + 3) 0) w
-    ∙ ap (λ i. four_bits n (get_or ws i 0) (get_or ws (4 * j + 1) 0) (get_or ws (4 * j + 2) 0) (get_or ws (4 * j + 3) 0)) z
-
--- a word moved right by t below 4 has bit t of each digit lowest
-shifted_1 : (n x : ℕ) → nibble (x / 2) n % 2 ≡ nibble x n / 2 % 2
-unfolding nibble
-shifted_1 zero x = omega arith
-shifted_1 (suc n) x = let e : x / 2 / 16 ≡ x / 16 / 2 = omega arith in rw e (shifted_1 n (x / 16))
-
-shifted_2 : (n x : ℕ) → nibble (x / 4) n % 2 ≡ nibble x n / 4 % 2
-unfolding nibble
-shifted_2 zero x = omega arith
-shifted_2 (suc n) x = let e : x / 4 / 16 ≡ x / 16 / 4 = omega arith in rw e (shifted_2 n (x / 16))
-
-shifted_3 : (n x : ℕ) → nibble (x / 8) n % 2 ≡ nibble x n / 8 % 2
-unfolding nibble
-shifted_3 zero x = omega arith
-shifted_3 (suc n) x = let e : x / 8 / 16 ≡ x / 16 / 8 = omega arith in rw e (shifted_3 n (x / 16))
-
--- what the lost words keep of digit n of word 4j+t
-pub lost_digit : (ws : List ℕ) (j t n : ℕ) → t < 4 → n < 16 → nibble (odd_bits (lost_word ws j / 2 ^ t)) n ≡ nibble (get_or ws (4 * j + t) 0) n % 2
-unfolding four_bits
-lost_digit ws j zero n p w =
-    let z : 4 * j + 0 ≡ 4 * j = omega arith in
-    let o : lost_word ws j / 1 ≡ lost_word ws j = omega arith in
-    nibble_odd n (lost_word ws j / 1) w ∙ ap (λ y. nibble y n % 2) o ∙ rw (nibble_lost ws j n w, z) (omega arith)
-lost_digit ws j (suc zero) n p w = nibble_odd n (lost_word ws j / 2) w ∙ shifted_1 n (lost_word ws j) ∙ rw (nibble_lost ws j n w) (omega arith)
-lost_digit ws j (suc (suc zero)) n p w = nibble_odd n (lost_word ws j / 4) w ∙ shifted_2 n (lost_word ws j) ∙ rw (nibble_lost ws j n w) (omega arith)
-lost_digit ws j (suc (suc (suc zero))) n p w = nibble_odd n (lost_word ws j / 8) w ∙ shifted_3 n (lost_word ws j) ∙ rw (nibble_lost ws j n w) (omega arith)
-lost_digit ws j (suc (suc (suc (suc t)))) n p w = absurd (omega arith)
+nibble_odd n x w = and_digit n x (mask 1 16) ∙ ap (bit_and (nibble x n)) (mask_digit 1 16 n (omega arith) w) ∙ and_mask (nibble x n) 1
 
 -- ---- doubled words
 
@@ -153,3 +79,55 @@ nibble_doubled (suc k) (suc n) x b w h g =
     let q : b % 16 ≤ 1 = g 0 (omega arith) in
     let e : (2 * x + b) / 16 ≡ 2 * (x / 16) + b / 16 = omega arith in
     rw e (nibble_doubled k n (x / 16) (b / 16) (omega arith) (λ m v. h (suc m) (omega arith)) (λ m v. g (suc m) (omega arith)))
+
+-- ---- the lost bits of four words in one
+
+-- a word whose digits are one bit, moved left within them
+parts : (x p : ℕ) → x % 16 ≤ 1 → p ≤ 8 → (x * p % 16 ≡ x % 16 * p) × (x * p / 16 ≡ x / 16 * p)
+parts x p b h =
+    let few : x % 16 * p ≤ 1 * 8 = mul-le (x % 16) p 1 8 b h in
+    let whole : x ≡ x / 16 * 16 + x % 16 = omega arith in
+    let e : x * p ≡ x / 16 * 16 * p + x % 16 * p = ap (λ y. y * p) whole ∙ add-mul (x / 16 * 16) (x % 16) p in
+    let f : x / 16 * 16 * p ≡ x / 16 * p * 16 = grind arith in
+    (omega (arith, few, e, f), omega (arith, few, e, f))
+
+moved : (k n p x : ℕ) → n < k → p ≤ 8 → ((m : ℕ) → m < k → nibble x m ≤ 1) → nibble (x * p) n ≡ nibble x n * p
+unfolding nibble
+moved zero n p x w h b = absurd (omega arith)
+moved (suc k) zero p x w h b = (parts x p (b 0 (omega arith)) h).0
+moved (suc k) (suc n) p x w h b = rw ((parts x p (b 0 (omega arith)) h).1) (moved k n p (x / 16) (omega arith) h (λ m v. b (suc m) (omega arith)))
+
+union_low : (a b c d : ℕ) → a < 2 → b < 2 → c < 2 → d < 2 → bit_or (bit_or (bit_or a (b * 2)) (c * 4)) (d * 8) ≡ a + 2 * b + 4 * c + 8 * d
+union_low a b c d p q r s =
+    let x : bit_or a (b * 2) ≡ b * 2 + a = or_comm a (b * 2) ∙ or_shifted b 1 a p in
+    let y : bit_or (b * 2 + a) (c * 4) ≡ c * 4 + (b * 2 + a) = or_comm (b * 2 + a) (c * 4) ∙ or_shifted c 2 (b * 2 + a) (omega arith) in
+    let z : bit_or (c * 4 + (b * 2 + a)) (d * 8) ≡ d * 8 + (c * 4 + (b * 2 + a)) = or_comm (c * 4 + (b * 2 + a)) (d * 8) ∙ or_shifted d 3 (c * 4 + (b * 2 + a)) (omega arith) in
+    rw (x, y, z) (omega arith)
+
+module _ (ws : List ℕ) (j n : ℕ) (w : n < 16) where
+  -- what one of the four words loses in a digit
+  abbrev lost : ℕ → ℕ
+  lost t = nibble (get_or ws (4 * j + t) 0) n % 2
+
+  moved_bit : (t p : ℕ) → p ≤ 8 → nibble (odd_bits (get_or ws (4 * j + t) 0) * p) n ≡ lost t * p
+  moved_bit t p h =
+      let x = get_or ws (4 * j + t) 0 in
+      moved 16 n p (odd_bits x) w h (λ m v. let e = nibble_odd m x v in omega (arith, e)) ∙ ap (λ y. y * p) (nibble_odd n x w)
+
+  all_lost : nibble (lost_word ws j) n ≡ lost 0 + 2 * lost 1 + 4 * lost 2 + 8 * lost 3
+  all_lost =
+      let x : ℕ → ℕ = λ t. odd_bits (get_or ws (4 * j + t) 0) in
+      or_digit n (bit_or (bit_or (x 0) (x 1 * 2)) (x 2 * 4)) (x 3 * 8)
+      ∙ rw (or_digit n (bit_or (x 0) (x 1 * 2)) (x 2 * 4), or_digit n (x 0) (x 1 * 2), nibble_odd n (get_or ws (4 * j + 0) 0) w, moved_bit 1 2 (omega arith), moved_bit 2 4 (omega arith), moved_bit 3 8 (omega arith))
+      (union_low (lost 0) (lost 1) (lost 2) (lost 3) (omega arith) (omega arith) (omega arith) (omega arith))
+
+  picked : (t : ℕ) → t < 4 → (lost 0 + 2 * lost 1 + 4 * lost 2 + 8 * lost 3) / 2 ^ t % 2 ≡ lost t
+  picked zero h = omega arith
+  picked (suc zero) h = omega arith
+  picked (suc (suc zero)) h = omega arith
+  picked (suc (suc (suc zero))) h = omega arith
+  picked (suc (suc (suc (suc t)))) h = absurd (omega arith)
+
+  -- what the lost words keep of a digit of word 4j+t
+  pub lost_digit : (t : ℕ) → t < 4 → nibble (odd_bits (lost_word ws j / 2 ^ t)) n ≡ nibble (get_or ws (4 * j + t) 0) n % 2
+  lost_digit t h = nibble_odd n (lost_word ws j / 2 ^ t) w ∙ shifted n t (lost_word ws j) h ∙ rw all_lost (picked t h)

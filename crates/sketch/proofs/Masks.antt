@@ -1,11 +1,11 @@
--- A number of one bit is a power of two, and masks a remainder out.
-use Rattle.std.proofs.Common.{◌≡◌, ℕ, zero, suc, ◌-◌, ◌/◌, ◌%◌, ◌<◌, ◌≤◌, ◌^◌, bit_and, w32, refl, arith, inl, inr}
+-- A number of one bit is a power of two, which masks a remainder out and has smaller powers as parts.
+use Rattle.std.proofs.Common.{◌≡◌, ℕ, zero, suc, ◌+◌, ◌-◌, ◌*◌, ◌/◌, ◌%◌, ◌<◌, ◌≤◌, ◌^◌, bit_and, w32, ap, ◌∙◌, refl, arith, inl, inr}
 use Rattle.std.specs.Int.{IsPowerOfTwo, trailing_zeros}
 use Rattle.std.specs.Int.RustNames.{count_ones}
-use Rattle.std.proofs.lemmas.Nat.{and_mask, pow_pos, zero_from_ones, ones_le_self}
+use Rattle.std.proofs.lemmas.Nat.{and_mask, pow_pos, pow-add, pow_below, shl-shr, zero_from_ones, ones_le_self}
 use Rattle.std.proofs.lemmas.Nat.Bits.{bit_at-trailing_zeros, bit_at-pow_other}
-use Rattle.std.proofs.lemmas.Bool.{cases_eq}
-use Rattle.std.proofs.Math.Nat.{pow-suc}
+use Rattle.std.proofs.lemmas.Bool.{cases_eq, cases_lt}
+use Rattle.std.proofs.Math.Nat.{pow-suc, mul_comm}
 use lib.Count.{ones_step}
 
 one_bit : (d n : ℕ) → n ≤ d → count_ones n ≡ 1 → IsPowerOfTwo n
@@ -35,3 +35,14 @@ shifted n w p f =
       | inl e ↦ rw e refl
       | inr d ↦ let z = bit_at-pow_other p.0 (trailing_zeros w32 (2 ^ p.0)) d in absurd (omega (arith, z, t.1))
     ])
+
+-- a power of two is a multiple of each smaller one
+pub whole_parts : (j k : ℕ) → 2 ^ j ≤ 2 ^ k → 2 ^ k ≡ 2 ^ j * (2 ^ k / 2 ^ j)
+whole_parts j k h =
+    elim (cases_lt k j) [
+      | inl below ↦ absurd (omega (arith, h, pow_below k j below))
+      | inr from ↦
+          let e : k ≡ (k - j) + j = omega arith in
+          let p : 2 ^ k ≡ 2 ^ (k - j) * 2 ^ j = ap (λ i. 2 ^ i) e ∙ pow-add 2 (k - j) j in
+          rw (p, shl-shr (2 ^ (k - j)) j) (mul_comm (2 ^ (k - j)) (2 ^ j))
+    ]

@@ -1,6 +1,6 @@
 -- A table whose counters are given place by place.
-use Rattle.std.proofs.Common.{◌≡◌, ℕ, suc, zero, ◌+◌, ◌-◌, ◌*◌, ◌/◌, ◌%◌, ◌^◌, ◌<◌, ◌≤◌, min, true, false, cond, eqb, nat_lt, ◌&&◌, List, get_or, refl, ap, ◌∙◌, sym, arith, inl, inr}
-use Rattle.std.proofs.lemmas.Nat.{pow-add, div-mul-add, mod-mul-add, div-add-mod', div_below}
+use Rattle.std.proofs.Common.{◌≡◌, ℕ, ◌+◌, ◌-◌, ◌*◌, ◌/◌, ◌%◌, ◌<◌, ◌≤◌, min, true, false, cond, eqb, nat_lt, ◌&&◌, List, get_or, refl, ap, ◌∙◌, sym, arith, inl, inr}
+use Rattle.std.proofs.lemmas.Nat.{div-mul-add, mod-mul-add, div-add-mod', div_below}
 use Rattle.std.proofs.lemmas.Bool.{cases_Bool, eqb-true, eq-eqb, ltb-true, ltb-false}
 use Rattle.std.proofs.lemmas.Bool.Decides.{nat_tests}
 use Rattle.step_record.specs.declared.config.Spread.{Spread}
@@ -132,14 +132,6 @@ module _ (w : ℕ) (s : Spread) (some : 0 < w) where
   fits_some r f fit row h e =
       let c : get_or (by_place (4 * w) f) (row * w + column s r.key row w) 0 ≡ f (row * w + column s r.key row w) = get_or-by_place (4 * w) f (row * w + column s r.key row w) 0 (place_within r.key row h) in
       let a : 0 < get_or (by_place (4 * w) f) (row * w + column s r.key row w) 0 = fit.raised row h e in omega (arith, c, a)
-
-pub sixteenth : (k : ℕ) → 16 ≤ 2 ^ k → 2 ^ k ≡ 16 * (2 ^ k / 16)
-sixteenth zero h = absurd (omega arith)
-sixteenth (suc zero) h = absurd (omega arith)
-sixteenth (suc (suc zero)) h = absurd (omega arith)
-sixteenth (suc (suc (suc zero))) h = absurd (omega arith)
-sixteenth (suc (suc (suc (suc k)))) h =
-    let n : suc (suc (suc (suc k))) ≡ 4 + k = omega arith in let e : 2 ^ suc (suc (suc (suc k))) ≡ 16 * 2 ^ k = rw n (pow-add 2 4 k) in rw e (omega arith)
 
 pub cell_within : (w row col : ℕ) → row < 4 → col < w → row * w + col < 4 * w
 cell_within w row col r c = let m : row * w ≤ 3 * w = grind arith in omega arith

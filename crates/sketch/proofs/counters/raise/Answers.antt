@@ -1,12 +1,8 @@
-use Rattle.std.proofs.Common.{◌%◌, ◌/◌, ◌*◌, ◌^◌, ◌<◌, ◌≤◌, ◌+◌, ◌≡◌, ℕ, min, bit_and, get_or, refl, arith, ◌∙◌}
-use Rattle.std.proofs.lemmas.Nat.{and_mask}
+use Rattle.std.proofs.Common.{◌%◌, ◌/◌, ◌^◌, ◌<◌, ◌≤◌, ◌+◌, ◌≡◌, min, get_or, refl, arith, ◌∙◌}
 use Rattle.sketch.specs.Counters.{nibble}
-use Rattle.sketch.proofs.Digits.{nibble_is, nibble_lt, fits_more, unit, raised_here, raised_other, set_here, set_other}
+use Rattle.sketch.proofs.Digits.{seen, nibble_lt, fits_more, unit, raised_here, raised_other, set_here, set_other}
 use Rattle.sketch.proofs.counters.raise.Goals as goal
 use Rattle.sketch.proofs.counters.raise.Goals.{then-below, else-below}
-
-seen : (n x : ℕ) → bit_and (x / 2 ^ (4 * n)) 15 ≡ nibble x n
-seen n x = and_mask (x / 2 ^ (4 * n)) 4 ∙ nibble_is n x
 
 pub overflow_add-words : goal.overflow_add-words
 overflow_add-words c =
