@@ -17,4 +17,5 @@ pub mod S3Fifo
 pub mod S3FifoStep
 pub mod Coming
 pub mod TwoQ
+pub mod FifoPlan
 pub mod ArcPlan

@@ -1,4 +1,4 @@
--- The plan of a policy that keeps each missed key, and counts a hit by 1, is its definition.
+-- The plan of a policy that keeps each missed key is its definition.
 use Rattle.std.proofs.Common.{◌≡◌, ℕ, zero, suc, ◌<◌, ◌≤◌, Bool, true, false, if◌then◌else◌, nat_lt, Option, Some, None, ap, ◌∙◌, refl, arith, inl, inr}
 use Rattle.std.proofs.lemmas.Bool.{cases_Bool, cases_eq, lt-ltb, le-ltb}
 use Rattle.step_record.specs.declared.item.Item.{Item}
@@ -7,7 +7,7 @@ use Rattle.step_record.specs.declared.outcome.Outcome.TheVariants.{Hit, Kept}
 use Rattle.queue_table.specs.Entries.{entry, occurrences}
 use Rattle.queue_table.specs.Queues.{QUEUES, Queues, times_below, after_send, after_count}
 use Rattle.queue_table.proofs.QueueLists.{IsAbsent}
-use Rattle.queue_moves.specs.Moves.{item_of, standing, counts, goes, Plan}
+use Rattle.queue_moves.specs.Moves.{item_of, standing, Own, IsLowOwn, after_own, counts, goes, Plan}
 use Rattle.queue_moves.specs.Tabled.{IsTabled}
 use Rattle.policy_steps.specs.Planned.{IsWithin, resident_plan, IsPlannedWithin}
 use Rattle.policy_steps.proofs.Parts.{first-count, first-send, nowhere, held, held-first}
@@ -29,14 +29,15 @@ module _ (S : Type 0) (n k x q m : ℕ) (s : Queues) (view : ℕ → Queues → 
   abbrev IsPlan : Plan → Type 0
   IsPlan p = IsPlannedWithin n p k s view (if has then (Hit, hit) else if room then (Kept, kept) else leaves) has
 
-  pub resident-planned : IsTabled s → n ≤ QUEUES → q < n → IsWithin n s → room ≡ planned_room → has ≡ nat_lt 0 (times_below n (item_of k) s)
-      → view x (after_count (item_of k) 1 s) ≡ hit
+  pub resident-planned-by : (own : Own) → IsLowOwn own → IsWithin n (after_own own (item_of k) s)
+      → IsTabled s → n ≤ QUEUES → q < n → IsWithin n s → room ≡ planned_room → has ≡ nat_lt 0 (times_below n (item_of k) s)
+      → view x (after_own own (item_of k) s) ≡ hit
       → (IsAbsent (item_of k) s → view x (after_send (entry (item_of k) m) q s) ≡ kept)
       → (IsAbsent (item_of k) s → planned_room ≡ false → IsPlannedWithin n full k s view leaves false)
-      → IsPlan (resident_plan (standing (item_of k) s) planned_room (counts 1) (goes q m) x full)
-  resident-planned t few low first same key hits joins evicts = at (standing (item_of k) s) refl
+      → IsPlan (resident_plan (standing (item_of k) s) planned_room own (goes q m) x full)
+  resident-planned-by own own_low own_first t few low first same key hits joins evicts = at (standing (item_of k) s) refl
     where
-      at : (o : Option (ℕ × ℕ)) → standing (item_of k) s ≡ o → IsPlan (resident_plan o planned_room (counts 1) (goes q m) x full)
+      at : (o : Option (ℕ × ℕ)) → standing (item_of k) s ≡ o → IsPlan (resident_plan o planned_room own (goes q m) x full)
       at (Some w) h =
           let there : has ≡ true = key ∙ lt-ltb 0 _ (some-below n w.0 (item_of k) s (held-first n k s t w first h) (held k s t w h)) in
           rw there (
@@ -44,9 +45,9 @@ module _ (S : Type 0) (n k x q m : ℕ) (s : Queues) (view : ℕ → Queues → 
               outcome = refl;
               state = hits;
               hits = refl;
-              low = record { early = (omega arith, omega arith); late = (omega arith, omega arith); first = tt; second = tt; own = tt };
+              low = record { early = (omega arith, omega arith); late = (omega arith, omega arith); first = tt; second = tt; own = own_low };
             },
-            first-count n (item_of k) 1 s first,
+            own_first,
           )
       at None h =
           let absent = nowhere (item_of k) s h in
@@ -63,3 +64,11 @@ module _ (S : Type 0) (n k x q m : ℕ) (s : Queues) (view : ℕ → Queues → 
             )
             | inr f ↦ rw (gone, same, f) (evicts absent f)
           ]
+
+  -- where a hit counts 1
+  pub resident-planned : IsTabled s → n ≤ QUEUES → q < n → IsWithin n s → room ≡ planned_room → has ≡ nat_lt 0 (times_below n (item_of k) s)
+      → view x (after_count (item_of k) 1 s) ≡ hit
+      → (IsAbsent (item_of k) s → view x (after_send (entry (item_of k) m) q s) ≡ kept)
+      → (IsAbsent (item_of k) s → planned_room ≡ false → IsPlannedWithin n full k s view leaves false)
+      → IsPlan (resident_plan (standing (item_of k) s) planned_room (counts 1) (goes q m) x full)
+  resident-planned t few low first = resident-planned-by (counts 1) tt (first-count n (item_of k) 1 s first) t few low first

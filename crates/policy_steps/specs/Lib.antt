@@ -1,6 +1,7 @@
 pub mod Planned
 pub mod Counted
 pub mod PolicyPage
+pub mod Fifo
 pub mod Clock
 pub mod Sieve
 pub mod S3Fifo

@@ -9,6 +9,7 @@ mod accesses;
 pub mod arc;
 pub mod clock;
 mod comers;
+pub mod fifo;
 mod misses;
 pub mod s3_fifo;
 pub mod sieve;
