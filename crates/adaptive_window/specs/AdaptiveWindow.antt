@@ -7,7 +7,6 @@ use Rattle.step_record.specs.declared.item.Item.{Item}
 use Rattle.step_record.specs.declared.outcome.Outcome.{Outcome}
 use Rattle.segments.specs.Queues.{Queues, empty_queues, IsDistinct}
 use Rattle.replacement.specs.declared.rules.Placement.TheVariants.{Windowed}
-use Rattle.replacement.specs.declared.rules.HitRule.TheVariants.{Renews}
 use Rattle.replacement.specs.declared.rules.Rules.{Rules}
 use Rattle.replacement.specs.Counts.{main_length}
 use Rattle.replacement.specs.Plan.{Plan}
@@ -41,7 +40,6 @@ rules_at r size = record {
   window = size;
   protected = r.largest - size;
   placement = Windowed;
-  hits = Renews;
 }
 
 -- ---- the window's size goes towards the target

@@ -8,7 +8,7 @@ ghost use Rattle.adaptive_window.specs.Climber.{climber_after, first_climber, pe
 ghost use Rattle.adaptive_window.specs.Climber.{IsClimber};
 ghost use Rattle.adaptive_window.specs.AdaptiveWindow.{rules_at};
 
-use replacement::{HitRule, Placement, Rules};
+use replacement::{Placement, Rules};
 use step_record::Config;
 
 // An item, as a step counts it.
@@ -74,7 +74,6 @@ impl ClimbRules {
             window: size as usize,
             protected: (self.largest - size) as usize,
             placement: Placement::Windowed,
-            hits: HitRule::Renews,
         }
     }
 }

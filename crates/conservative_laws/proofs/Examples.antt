@@ -14,19 +14,18 @@ use Rattle.demand_cache.specs.Theorems.{RunsByPage}
 use Rattle.policies.specs.AnyPolicy.{demand_run, stats_on}
 use Rattle.queue_cache.specs.declared.design.DemandDesign.TheVariants as demand
 use Rattle.queue_cache.specs.Design.{design_of}
-use Rattle.policies.specs.Theorems.{FifoStepLaw}
 use Rattle.conservative_laws.specs.Examples.{anomalous_trace, FifoAndClockHaveAnomaly, sieve_trace, SieveIsNotConservative, s3_fifo_trace, S3FifoIsNotConservative}
-use Rattle.conservative_laws.proofs.Jobs.{demand-misses, fifo-misses, clock-misses}
+use Rattle.conservative_laws.proofs.Jobs.{demand-misses, page-misses}
 
-misses-at : FifoStepLaw → RunsByPage → (j : Job) (c m : ℕ) → (j.policy ≡ Fifo) ⊎ (j.policy ≡ Clock) → j.config.capacity ≡ c → 1 ≤ c
+misses-at : RunsByPage → (j : Job) (c m : ℕ) → (j.policy ≡ Fifo) ⊎ (j.policy ≡ Clock) → j.config.capacity ≡ c → 1 ≤ c
     → count_by is_miss (outcomes_of_all (fifo_act c) [] anomalous_trace) ≡ m → count_by is_miss (outcomes_of_all (clock_act c) [] anomalous_trace) ≡ m
     → (stats_on j anomalous_trace).misses ≡ m
-misses-at law page j c m (inl is) at room fifo clock = fifo-misses law j anomalous_trace is (omega (arith, at, room)) ∙ (ap (λ x. count_by is_miss (outcomes_of_all (fifo_act x) [] anomalous_trace)) at ∙ fifo)
-misses-at law page j c m (inr is) at room fifo clock = clock-misses page j anomalous_trace is (omega (arith, at, room)) ∙ (ap (λ x. count_by is_miss (outcomes_of_all (clock_act x) [] anomalous_trace)) at ∙ clock)
+misses-at page j c m (inl is) at room fifo clock = page-misses page demand.Fifo j anomalous_trace (ap design_of is) (omega (arith, at, room)) ∙ (ap (λ x. count_by is_miss (outcomes_of_all (fifo_act x) [] anomalous_trace)) at ∙ fifo)
+misses-at page j c m (inr is) at room fifo clock = page-misses page demand.Clock j anomalous_trace (ap design_of is) (omega (arith, at, room)) ∙ (ap (λ x. count_by is_miss (outcomes_of_all (clock_act x) [] anomalous_trace)) at ∙ clock)
 
-pub have_anomaly : FifoStepLaw → RunsByPage → FifoAndClockHaveAnomaly
-have_anomaly law page small large is same at_small at_large =
-    (misses-at law page small 3 9 is at_small (omega arith) refl refl, misses-at law page large 4 10 (subst (λ p. (p ≡ Fifo) ⊎ (p ≡ Clock)) (sym same) is) at_large (omega arith) refl refl)
+pub have_anomaly : RunsByPage → FifoAndClockHaveAnomaly
+have_anomaly page small large is same at_small at_large =
+    (misses-at page small 3 9 is at_small (omega arith) refl refl, misses-at page large 4 10 (subst (λ p. (p ≡ Fifo) ⊎ (p ≡ Clock)) (sym same) is) at_large (omega arith) refl refl)
 
 pub sieve_is_not_conservative : RunsByPage → SieveIsNotConservative
 sieve_is_not_conservative page j is at all =

@@ -5,24 +5,26 @@ use Rattle.std.proofs.lemmas.List.{take_all, length-take-le}
 use Rattle.step_record.specs.Config.{config_fault}
 use Rattle.step_record.specs.declared.config.ConfigFault.{ConfigFault}
 use Rattle.step_record.specs.declared.job.Job.{Job}
-use Rattle.step_record.specs.declared.job.Policy.TheVariants.{Lru, Fifo, Clock}
+use Rattle.step_record.specs.declared.job.Policy.TheVariants.{Lru}
+use Rattle.step_record.specs.declared.outcome.Outcome.{Outcome}
 use Rattle.step_record.specs.declared.outcome.Outcome.TheVariants.{Rejected}
 use Rattle.step_record.specs.Stats.{is_miss}
-use Rattle.queue_policies.specs.Residents.{AreResidents, outcomes_of_all}
+use Rattle.queue_policies.specs.Residents.{KeepsResidents, AreResidents, state_after_all, outcomes_of_all}
 use Rattle.queue_policies.specs.CountedKeys.{keys_of}
 use Rattle.queue_policies.specs.Fifo.{fifo_act}
 use Rattle.queue_policies.specs.Clock.{clock_act, IsClock}
 use Rattle.queue_policies.proofs.Fifo.{keeps as fifo-keeps}
 use Rattle.queue_policies.proofs.Clock.{keeps as clock-keeps}
 use Rattle.adaptive_window.specs.Residents.{CacheKeeps}
+use Rattle.demand_cache.specs.DemandQueues.{outcomes_of_page}
 use Rattle.demand_cache.specs.Theorems.{DemandKeeps, RunsByPage}
 use Rattle.queue_cache.specs.declared.design.DemandDesign.{DemandDesign}
 use Rattle.queue_cache.specs.declared.design.DemandDesign.TheVariants as demand
 use Rattle.queue_cache.specs.declared.design.Design.TheVariants as design
 use Rattle.policies.specs.AnyPolicy.{demand_run, demand_outcomes, adaptive_outcomes, outcomes_by, outcomes_on, stats_on}
-use Rattle.queue_cache.specs.Design.{design_of, has_queues}
+use Rattle.queue_cache.specs.Design.{design_of}
 use Rattle.policies.specs.DemandDesign.{demand_policy}
-use Rattle.policies.specs.Theorems.{FifoStepLaw, AnyCoversTrace}
+use Rattle.policies.specs.Theorems.{AnyCoversTrace}
 use Rattle.queue_cache.specs.Theorems.{LruStepLaw}
 use Rattle.queue_cache.proofs.Counting.{count-cons}
 use Rattle.policies.proofs.Demand.{with-room}
@@ -32,12 +34,12 @@ use Rattle.policy_laws.proofs.Beaten.{ActsAsStrategy, acts-as-strategy}
 use Rattle.policy_laws.proofs.Lru.{lru_at}
 use Rattle.conservative_laws.specs.Conservative.{misses_on, IsConservative, FillsFirst}
 use Rattle.conservative_laws.specs.Theorems.{FillingCompetes, FillingCompetesWithoutBypass, LruFifoClockAreConservative, LruFifoClockCompete, LruFifoClockCompeteWithoutBypass, LruFifoClockTwiceAsLarge, LruFifoClockCompeteWithAny, IsLruFifoOrClock}
-use Rattle.conservative_laws.proofs.Misses.{none-hit, at-most-twice, stats-misses, misses-by, lru-misses, queue-misses-all}
+use Rattle.conservative_laws.proofs.Misses.{none-hit, at-most-twice, stats-misses, misses-by, lru-misses}
 use Rattle.conservative_laws.proofs.Stretches.{empty-conservative}
 use Rattle.conservative_laws.proofs.Filling.{misses-are, fills-first}
 use Rattle.conservative_laws.proofs.Lru.{lru-conservative, lru-fills}
-use Rattle.conservative_laws.proofs.Fifo.{fifo_queue, fifo-conservative}
-use Rattle.conservative_laws.proofs.Clock.{clock_keys, clock-conservative}
+use Rattle.conservative_laws.proofs.Fifo.{fifo-conservative}
+use Rattle.conservative_laws.proofs.Clock.{clock-conservative}
 
 -- ---- the misses of a job
 
@@ -49,12 +51,9 @@ pub demand-misses : (p : DemandDesign) (j : Job) (keys : List ℕ) → design_of
 demand-misses p j keys is room =
     misses-counted j keys ∙ (ap (λ d. count_by is_miss (outcomes_by d j keys)) is ∙ ap (count_by is_miss) (with-room (demand_policy p j) j.config.capacity keys room))
 
-pub fifo-misses : FifoStepLaw → (j : Job) (keys : List ℕ) → j.policy ≡ Fifo → 1 ≤ j.config.capacity → (stats_on j keys).misses ≡ count_by is_miss (outcomes_of_all (fifo_act j.config.capacity) [] keys)
-fifo-misses law j keys is room = misses-counted j keys ∙ ap (count_by is_miss) (law j keys is room).1
-
-pub clock-misses : RunsByPage → (j : Job) (keys : List ℕ) → j.policy ≡ Clock → 1 ≤ j.config.capacity → (stats_on j keys).misses ≡ count_by is_miss (outcomes_of_all (clock_act j.config.capacity) [] keys)
-clock-misses law j keys is room =
-    demand-misses demand.Clock j keys (ap design_of is) room ∙ ap (count_by is_miss) (law (demand_policy demand.Clock j) j.config.capacity keys room)
+pub page-misses : RunsByPage → (p : DemandDesign) (j : Job) (keys : List ℕ) → design_of j.policy ≡ design.Demand p → 1 ≤ j.config.capacity
+    → (stats_on j keys).misses ≡ count_by is_miss (outcomes_of_page (demand_policy p j) j.config.capacity keys)
+page-misses law p j keys is room = demand-misses p j keys is room ∙ ap (count_by is_miss) (law (demand_policy p j) j.config.capacity keys room)
 
 -- without room each access is a miss
 pub all-rejected : (keys : List ℕ) → count_by is_miss (map (λ k. Rejected k) keys) ≡ length keys
@@ -97,53 +96,48 @@ acts-lru law covers j t is = record {
   fills = lru-fills j.config.capacity t;
 }
 
-acts-fifo : FifoStepLaw → AnyCoversTrace → (j : Job) (t : List ℕ) → j.policy ≡ Fifo → ActsConservatively j t
-acts-fifo law covers j t is =
-    let c : ℕ = j.config.capacity in
-    elim (cases_lt 0 c) [
-      | inl room ↦ record {
-        cache = fifo_queue c t;
-        misses = λ n l. fifo-misses law j (take n t) is room ∙ misses-are c [] (fifo_act c) (λ queue. queue) (AreResidents c) (fifo-keeps c room) t n l;
-        conservative = fifo-conservative c t room;
-        fills = fills-first c [] (fifo_act c) (λ queue. queue) (AreResidents c) (fifo-keeps c room) t;
-      }
-      | inr less ↦ let none : c ≡ 0 = omega (arith, less) in acts-empty j t none (λ keys. queue-misses-all covers j keys (ap has_queues is) none)
-    ]
+-- of a policy that keeps each missed key, by its definition
+module _ {S : Type 0} (law : RunsByPage) (p : DemandDesign) (j : Job) (t : List ℕ) (act : ℕ → ℕ → S → Outcome × S) (start : S) (residents : S → List ℕ) (IsState : ℕ → S → Type 0) where
+  acts-by-page : design_of j.policy ≡ design.Demand p
+      → ((keys : List ℕ) → outcomes_of_page (demand_policy p j) j.config.capacity keys ≡ outcomes_of_all (act j.config.capacity) start keys)
+      → ((c : ℕ) → 1 ≤ c → KeepsResidents c start (act c) residents (IsState c))
+      → ((c : ℕ) → 1 ≤ c → IsConservative c t (strategy_misses t (λ n. residents (state_after_all (act c) start (take n t)))))
+      → ActsConservatively j t
+  acts-by-page is page keeps conservative =
+      let c : ℕ = j.config.capacity in
+      elim (cases_lt 0 c) [
+        | inl room ↦ record {
+          cache = λ n. residents (state_after_all (act c) start (take n t));
+          misses = λ n l. page-misses law p j (take n t) is room ∙ ap (count_by is_miss) (page (take n t)) ∙ misses-are c start (act c) residents (IsState c) (keeps c room) t n l;
+          conservative = conservative c room;
+          fills = fills-first c start (act c) residents (IsState c) (keeps c room) t;
+        }
+        | inr less ↦ let none : c ≡ 0 = omega (arith, less) in acts-empty j t none (λ keys. demand-misses-all p j keys is none)
+      ]
 
-acts-clock : RunsByPage → (j : Job) (t : List ℕ) → j.policy ≡ Clock → ActsConservatively j t
-acts-clock law j t is =
-    let c : ℕ = j.config.capacity in
-    elim (cases_lt 0 c) [
-      | inl room ↦ record {
-        cache = clock_keys c t;
-        misses = λ n l. clock-misses law j (take n t) is room ∙ misses-are c [] (clock_act c) keys_of (IsClock c) (clock-keeps c room) t n l;
-        conservative = clock-conservative c t room;
-        fills = fills-first c [] (clock_act c) keys_of (IsClock c) (clock-keeps c room) t;
-      }
-      | inr less ↦ let none : c ≡ 0 = omega (arith, less) in acts-empty j t none (λ keys. demand-misses-all demand.Clock j keys (ap design_of is) none)
-    ]
-
-acts-conservatively : LruStepLaw → FifoStepLaw → RunsByPage → AnyCoversTrace → (j : Job) (t : List ℕ) → IsLruFifoOrClock j.policy → ActsConservatively j t
-acts-conservatively lru fifo clock covers j t (inl is) = acts-lru lru covers j t is
-acts-conservatively lru fifo clock covers j t (inr (inl is)) = acts-fifo fifo covers j t is
-acts-conservatively lru fifo clock covers j t (inr (inr is)) = acts-clock clock j t is
+acts-conservatively : LruStepLaw → RunsByPage → AnyCoversTrace → (j : Job) (t : List ℕ) → IsLruFifoOrClock j.policy → ActsConservatively j t
+acts-conservatively lru page covers j t (inl is) = acts-lru lru covers j t is
+acts-conservatively lru page covers j t (inr (inl is)) =
+    acts-by-page page demand.Fifo j t fifo_act [] (λ queue. queue) AreResidents (ap design_of is) (λ keys. refl) fifo-keeps (λ c room. fifo-conservative c t room)
+acts-conservatively lru page covers j t (inr (inr is)) =
+    acts-by-page page demand.Clock j t clock_act [] keys_of IsClock (ap design_of is) (λ keys. refl) clock-keeps (λ c room. clock-conservative c t room)
 
 -- ---- the laws
 
-pub are_conservative : LruStepLaw → FifoStepLaw → RunsByPage → AnyCoversTrace → LruFifoClockAreConservative
-are_conservative lru fifo clock covers j t is i n h l few =
-    let a : ActsConservatively j t = acts-conservatively lru fifo clock covers j t is in
+pub are_conservative : LruStepLaw → RunsByPage → AnyCoversTrace → LruFifoClockAreConservative
+are_conservative lru page covers j t is i n h l few =
+    let a : ActsConservatively j t = acts-conservatively lru page covers j t is in
     let bound = a.conservative i n h l few in
     omega (arith, bound, a.misses n l, a.misses i (omega (arith, h, l)))
 
-pub compete : FillingCompetes → LruStepLaw → FifoStepLaw → RunsByPage → AnyCoversTrace → LruFifoClockCompete
-compete filling lru fifo clock covers j t h strategy n is s l =
-    let a : ActsConservatively j t = acts-conservatively lru fifo clock covers j t is in
+pub compete : FillingCompetes → LruStepLaw → RunsByPage → AnyCoversTrace → LruFifoClockCompete
+compete filling lru page covers j t h strategy n is s l =
+    let a : ActsConservatively j t = acts-conservatively lru page covers j t is in
     rw (a.misses n l) (filling j.config.capacity h t a.cache strategy n a.conservative a.fills s l)
 
-pub compete_without_bypass : FillingCompetesWithoutBypass → LruStepLaw → FifoStepLaw → RunsByPage → AnyCoversTrace → LruFifoClockCompeteWithoutBypass
-compete_without_bypass filling lru fifo clock covers j t h strategy n is s never l =
-    let a : ActsConservatively j t = acts-conservatively lru fifo clock covers j t is in
+pub compete_without_bypass : FillingCompetesWithoutBypass → LruStepLaw → RunsByPage → AnyCoversTrace → LruFifoClockCompeteWithoutBypass
+compete_without_bypass filling lru page covers j t h strategy n is s never l =
+    let a : ActsConservatively j t = acts-conservatively lru page covers j t is in
     rw (a.misses n l) (filling j.config.capacity h t a.cache strategy n a.conservative a.fills s never l)
 
 pub twice_as_large : LruFifoClockCompete → LruFifoClockTwiceAsLarge

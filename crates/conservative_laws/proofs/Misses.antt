@@ -2,7 +2,7 @@
 use Rattle.std.proofs.Common.{◌≡◌, ℕ, zero, suc, ◌+◌, ◌-◌, ◌*◌, ◌≤◌, true, not, List, [], length, take, get_or, ap, ◌∙◌, sym, refl, arith, inl, inr}
 use Rattle.std.proofs.Math.Nat.{add-mul, mul-add, mul-le-mul_right, le_of_mul-le-mul_left}
 use Rattle.std.proofs.lemmas.Bool.{cases_Bool}
-use Rattle.std.proofs.lemmas.List.{take_all, length-take-le}
+use Rattle.std.proofs.lemmas.List.{length-take-le}
 use Rattle.step_record.specs.Keys.{has_key}
 use Rattle.step_record.specs.Stats.{one_if}
 use Rattle.step_record.specs.declared.job.Job.{Job}
@@ -11,7 +11,6 @@ use Rattle.queue_cache.specs.Design.{has_queues}
 use Rattle.policies.specs.AnyPolicy.{outcomes_on, stats_on}
 use Rattle.policies.specs.Theorems.{AnyCoversTrace}
 use Rattle.queue_cache.specs.Theorems.{LruStepLaw}
-use Rattle.queue_cache.proofs.Balance.{residents-fit}
 use Rattle.queue_cache.proofs.Counting.{hits-misses}
 use Rattle.optimality.specs.Strategy.{strategy_hits, strategy_misses}
 use Rattle.policy_laws.proofs.Strategies.{IsOnline, hits-are}
@@ -74,12 +73,3 @@ pub lru-misses : LruStepLaw → AnyCoversTrace → (j : Job) (trace : List ℕ) 
 lru-misses stands covers j trace n is l =
     online-misses covers j (queue_residents j) (queues-online j (ap has_queues is)) trace n l
     ∙ ap (λ m. n - m) (hits-agree trace (λ i. queue_residents j (take i trace)) (lru_at j.config.capacity trace) n (λ i. lru-kept stands j (take i trace) is))
-
--- a policy of queues without room
-pub queue-misses-all : AnyCoversTrace → (j : Job) (keys : List ℕ) → has_queues j.policy ≡ true → j.config.capacity ≡ 0 → (stats_on j keys).misses ≡ length keys
-queue-misses-all covers j keys is none =
-    let n : ℕ = length keys in
-    ap (λ l. (stats_on j l).misses) (sym (take_all n keys (omega arith)))
-    ∙ (online-misses covers j (queue_residents j) (queues-online j is) keys n (omega arith)
-    ∙ (ap (λ m. n - m) (hits-agree keys (λ i. queue_residents j (take i keys)) (λ i. []) n (λ i. nothing (queue_residents j (take i keys)) (let few = residents-fit j (take i keys) in omega (arith, few, none))))
-    ∙ none-hit keys n))

@@ -40,7 +40,6 @@ pub fn lru_fifo_clock_are_conservative()
     ensures { LruFifoClockAreConservative }
 {
     queue_cache::theorems::lru_step_law();
-    policies::theorems::fifo_step_law();
     policies::theorems::any_covers_trace();
     demand_cache::theorems::runs_by_page();
 }
@@ -53,7 +52,6 @@ pub fn lru_fifo_clock_compete()
 {
     filling_competes();
     queue_cache::theorems::lru_step_law();
-    policies::theorems::fifo_step_law();
     policies::theorems::any_covers_trace();
     demand_cache::theorems::runs_by_page();
 }
@@ -65,7 +63,6 @@ pub fn lru_fifo_clock_compete_without_bypass()
 {
     filling_competes_without_bypass();
     queue_cache::theorems::lru_step_law();
-    policies::theorems::fifo_step_law();
     policies::theorems::any_covers_trace();
     demand_cache::theorems::runs_by_page();
 }
@@ -117,7 +114,6 @@ pub fn no_factor_is_smaller()
 pub fn fifo_and_clock_have_anomaly()
     ensures { FifoAndClockHaveAnomaly }
 {
-    policies::theorems::fifo_step_law();
     demand_cache::theorems::runs_by_page();
 }
 

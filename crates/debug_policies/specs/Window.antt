@@ -27,7 +27,7 @@ window_of_layout ThreeQueues size = Fixed size
 
 -- of the policies that never move it
 abbrev pub fixed_window : Design → Config → Window
-fixed_window (Queues d) c = window_of_layout d.layout (rules_by d c).window
+fixed_window (Queues d) c = window_of_layout d.layout (rules_by d.layout c).window
 fixed_window KnowsTrace c = Absent
 fixed_window (Demand p) c = Absent
 fixed_window Adaptive c = Absent

@@ -9,17 +9,19 @@ use Rattle.queue_moves.specs.Lists.{QueueLists, lists_of, queues_in}
 use Rattle.queue_moves.proofs.Tabled.{tabled-all}
 use Rattle.queue_moves.proofs.Lists.{lists-shown}
 use Rattle.policy_steps.specs.PolicyPage.{PolicyPage, keys_with}
+use Rattle.policy_steps.proofs.FifoPlan.{fifo-sound}
 use Rattle.policy_steps.proofs.ClockPlan.{clock-sound}
 use Rattle.policy_steps.proofs.SievePlan.{sieve-sound}
 use Rattle.policy_steps.proofs.S3Fifo.{s3-fifo-sound}
 use Rattle.policy_steps.proofs.TwoQ.{two-q-sound}
 use Rattle.policy_steps.proofs.ArcPlan.{arc-sound}
 use Rattle.demand_cache.specs.declared.demand_policy.DemandPolicy.{DemandPolicy}
-use Rattle.demand_cache.specs.declared.demand_policy.DemandPolicy.TheVariants.{Clock, Sieve, S3Fifo, TwoQ, Arc}
+use Rattle.demand_cache.specs.declared.demand_policy.DemandPolicy.TheVariants.{Fifo, Clock, Sieve, S3Fifo, TwoQ, Arc}
 use Rattle.demand_cache.specs.DemandQueues.{DemandQueues, page_of, plan_by, residents_by, IsStateOf, queues_of, plan_of, queues_residents, queues_act, IsQueues}
 use Rattle.demand_cache.specs.Theorems.{PagesAreSound, DemandKeeps, RunsByPage}
 
 pub pages-sound : PagesAreSound
+pages-sound Fifo = fifo-sound
 pages-sound Clock = clock-sound
 pages-sound Sieve = sieve-sound
 pages-sound (S3Fifo part) = s3-fifo-sound part

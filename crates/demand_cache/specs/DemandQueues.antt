@@ -9,13 +9,14 @@ use Rattle.queue_moves.specs.Undoing.{record_of, before_all, FitsMoves, MovesAsk
 use Rattle.queue_moves.specs.Tabled.{IsTabled}
 use Rattle.queue_moves.specs.Lists.{QueueLists, lists_of, queues_in}
 use Rattle.policy_steps.specs.PolicyPage.{PolicyPage}
+use Rattle.policy_steps.specs.Fifo.{fifo_page}
 use Rattle.policy_steps.specs.Clock.{clock_page}
 use Rattle.policy_steps.specs.Sieve.{sieve_page}
 use Rattle.policy_steps.specs.S3Fifo.{s3_fifo_page}
 use Rattle.policy_steps.specs.TwoQ.{two_q_page}
 use Rattle.policy_steps.specs.Arc.{arc_page}
 use Rattle.demand_cache.specs.declared.demand_policy.DemandPolicy.{DemandPolicy}
-use Rattle.demand_cache.specs.declared.demand_policy.DemandPolicy.TheVariants.{Clock, Sieve, S3Fifo, TwoQ, Arc}
+use Rattle.demand_cache.specs.declared.demand_policy.DemandPolicy.TheVariants.{Fifo, Clock, Sieve, S3Fifo, TwoQ, Arc}
 
 -- the queues by number, and the policy's own number: ARC's target, SIEVE's queue ahead of the hand
 pub record DemandQueues : Type 0 where
@@ -36,6 +37,7 @@ empty_cache p c = record { policy = p; capacity = c; scalar = 0; lists = lists_o
 
 -- the policy as one value
 abbrev pub page_of : DemandPolicy → PolicyPage
+page_of Fifo = fifo_page
 page_of Clock = clock_page
 page_of Sieve = sieve_page
 page_of (S3Fifo part) = s3_fifo_page part

@@ -9,7 +9,7 @@ ghost use Rattle.demand_cache.specs.DemandQueues.{page_of, plan_by};
 ghost use Rattle.demand_cache.specs.DemandCache.{IsCountedBy};
 
 use ghost_policies::TwoQSizes;
-use policy_steps::{arc, clock, s3_fifo, sieve, two_q};
+use policy_steps::{arc, clock, fifo, s3_fifo, sieve, two_q};
 use queue_moves::{Accessed, KeyQueues};
 use std::alloc::AllocError;
 use step_record::{Key, Outcome};
@@ -17,6 +17,8 @@ use step_record::{Key, Outcome};
 /// A policy that keeps each missed key, with the sizes of its parts where they are a choice. Any sizes will do.
 #[derive(Clone, Copy, Debug, PartialEq, Eq)]
 pub enum DemandPolicy {
+    /// First in, first out (the textbook definition).
+    Fifo,
     /// Second chance, as the clock of an operating system (Corbató 1969).
     Clock,
     /// A hand that passes over keys which were hit (NSDI 2024).
@@ -47,7 +49,7 @@ impl DemandPolicy {
         ensures second { IfSome result.1 (λ q. q < QUEUES) }
     {
         match self {
-            DemandPolicy::Clock => (0, None),
+            DemandPolicy::Fifo | DemandPolicy::Clock => (0, None),
             DemandPolicy::Sieve => {
                 let ahead = scalar as u8;
                 (1 - ahead, Some(ahead))
@@ -64,7 +66,7 @@ impl DemandPolicy {
         ensures { capacity ≤ result }
     {
         match self {
-            DemandPolicy::Clock | DemandPolicy::Sieve => capacity,
+            DemandPolicy::Fifo | DemandPolicy::Clock | DemandPolicy::Sieve => capacity,
             DemandPolicy::S3Fifo(_) | DemandPolicy::TwoQ(_) | DemandPolicy::Arc => 2 * capacity,
         }
     }
@@ -91,6 +93,10 @@ impl DemandPolicy {
         ensures err { OnErr result (queues_at queues.new ≡ queues_at queues.old) }
     {
         match self {
+            DemandPolicy::Fifo => match fifo::step::<C>(queues, capacity, scalar, key) {
+                Ok(done) => Ok(without_record(done)),
+                Err(fault) => Err(fault),
+            },
             DemandPolicy::Clock => match clock::step::<C>(queues, capacity, scalar, key) {
                 Ok(done) => Ok(without_record(done)),
                 Err(fault) => Err(fault),
@@ -137,6 +143,7 @@ impl DemandPolicy {
         ensures err { OnErr result (queues_at queues.new ≡ queues_at queues.old) }
     {
         match self {
+            DemandPolicy::Fifo => fifo::step::<Accessed>(queues, capacity, scalar, key),
             DemandPolicy::Clock => clock::step::<Accessed>(queues, capacity, scalar, key),
             DemandPolicy::Sieve => sieve::step::<Accessed>(queues, capacity, scalar, key),
             DemandPolicy::S3Fifo(part) => s3_fifo::step::<Accessed>(

@@ -14,6 +14,7 @@ two_q_sizes tuning c = record { kin = part_size tuning.kin c; kout = part_size t
 
 -- the policy of a job, with the sizes of its parts
 abbrev pub demand_policy : DemandDesign → Job → DemandPolicy
+demand_policy demand.Fifo j = sized.Fifo
 demand_policy demand.Clock j = sized.Clock
 demand_policy demand.Sieve j = sized.Sieve
 demand_policy demand.S3Fifo j = sized.S3Fifo (part_size j.tuning.small j.config.capacity)

@@ -2,24 +2,12 @@
 use Rattle.std.specs.Prelude.{◌≡◌, ℕ, ◌≤◌, true, Some, None, List, [], ◌∷◌, ◌++◌, length, slice_index_or}
 use Rattle.step_record.specs.declared.limits.TheConstants.{MAX_STEPS}
 use Rattle.step_record.specs.declared.job.Job.{Job}
-use Rattle.step_record.specs.declared.job.Policy.TheVariants.{Fifo}
 use Rattle.step_record.specs.declared.outcome.Outcome.{Outcome}
 use Rattle.step_record.specs.declared.outcome.Outcome.TheVariants.{Hit}
 use Rattle.step_record.specs.Stats.{is_eviction}
 use Rattle.policies.specs.declared.any_policy.AnyPolicy.{AnyPolicy}
-use Rattle.queue_policies.specs.Fifo.{fifo_act}
-use Rattle.queue_policies.specs.Residents.{state_after_all, outcomes_of_all}
-use Rattle.queue_cache.specs.SingleQueue.{single_queue}
-use Rattle.queue_cache.specs.QueueCache.{state_after}
 use Rattle.policies.specs.AnyPolicy.{HasAccessed, stats_in, stats_on, outcomes_on}
 use Rattle.policies.specs.AnyStep.{any_act, any_record_of, any_asks, recorded_outcome}
-
--- For every list of accesses, a cache of FIFO holds the keys in the order in which they came in, and its outcomes are
--- those of the definition over plain keys.
-abbrev pub FifoStepLaw : Type 0
-FifoStepLaw = (j : Job) (keys : List ℕ) → j.policy ≡ Fifo → 1 ≤ j.config.capacity
-    → ((state_after j keys).queues ≡ single_queue (state_after_all (fifo_act j.config.capacity) [] keys))
-    × (outcomes_on j keys ≡ outcomes_of_all (fifo_act j.config.capacity) [] keys)
 
 -- A cache of any policy that made some accesses made one more after an accepted step.
 abbrev pub AnyStepLaw : Type 0

@@ -12,8 +12,8 @@ use adaptive_window::AdaptiveCache;
 use clairvoyant::Clairvoyant;
 use demand_cache::DemandCache;
 use queue_cache::fixed_design::{
-    FifoDesign, FixedDesign, LruDesign, SegmentedLruDesign, TinyLfuLruDesign,
-    TinyLfuSegmentedDesign, WindowTinyLfuDesign,
+    FixedDesign, LruDesign, SegmentedLruDesign, TinyLfuLruDesign, TinyLfuSegmentedDesign,
+    WindowTinyLfuDesign,
 };
 use queue_cache::{Design, QueueCache};
 use std::alloc::AllocError;
@@ -31,8 +31,8 @@ pub(crate) fn access_queues(cache: &mut QueueCache, keys: &[Key]) -> Result<(), 
         Policy::TinyLfuLru => access_each::<TinyLfuLruDesign>(cache, keys),
         Policy::TinyLfuSegmented => access_each::<TinyLfuSegmentedDesign>(cache, keys),
         Policy::WindowTinyLfu => access_each::<WindowTinyLfuDesign>(cache, keys),
-        Policy::Fifo => access_each::<FifoDesign>(cache, keys),
         Policy::Clairvoyant
+        | Policy::Fifo
         | Policy::Clock
         | Policy::Sieve
         | Policy::S3Fifo

@@ -17,6 +17,7 @@ pub(crate) fn demand_policy(design: DemandDesign, job: &Job) -> DemandPolicy
 {
     let capacity = job.config.capacity;
     match design {
+        DemandDesign::Fifo => DemandPolicy::Fifo,
         DemandDesign::Clock => DemandPolicy::Clock,
         DemandDesign::Sieve => DemandPolicy::Sieve,
         DemandDesign::S3Fifo => DemandPolicy::S3Fifo(part_size(job.tuning.small, capacity)),

@@ -2,15 +2,8 @@
 //! nothing: its contract is the theorem.
 ghost use Rattle.policies.specs.Residents.{ResidentsFit, ResidentsDistinct, ResidentsCounted};
 ghost use Rattle.policies.specs.Residents.{HitsAreResidents, FetchesOnDemand, StatsAddUp, MissesFit};
-ghost use Rattle.policies.specs.Theorems.{FifoStepLaw, AnyHitsKeepAll, AnyRecordsShowOutcome, AnyAsksWhereOneLeft};
+ghost use Rattle.policies.specs.Theorems.{AnyHitsKeepAll, AnyRecordsShowOutcome, AnyAsksWhereOneLeft};
 ghost use Rattle.policies.specs.Theorems.{AnyStepLaw, AnyAccepts, AnyIsOne, AnyReports, AnyAnswers, AnyCoversTrace};
-
-/// What the table of moves gives for FIFO is what its definition over plain keys gives, for every list of accesses.
-pub fn fifo_step_law()
-    ensures { FifoStepLaw }
-{
-    queue_policies::theorems::fifo_keeps();
-}
 
 /// A cache of any policy that made some accesses made one more after an accepted step.
 pub fn any_step_law()

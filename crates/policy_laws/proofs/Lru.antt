@@ -35,7 +35,7 @@ keys-in : (l : List ℕ) → residents_in (single_queue l) ≡ l
 keys-in [] = refl
 keys-in (a ∷ l) = ap (λ r. a ∷ r) (keys-in l)
 
-pub nothing : (l : List ℕ) → length l ≤ 0 → l ≡ []
+nothing : (l : List ℕ) → length l ≤ 0 → l ≡ []
 nothing [] h = refl
 nothing (a ∷ l) h = absurd (omega (arith, h))
 

@@ -9,13 +9,15 @@ use Rattle.queue_table.specs.Queues.{Queues, after_send}
 use Rattle.queue_table.proofs.QueueLists.{IsAbsent}
 use Rattle.queue_policies.specs.Fifo.{fifo_eviction}
 use Rattle.ghost_policies.proofs.ArcPlans.{none-out}
-use Rattle.queue_moves.specs.Moves.{item_of, evicted, leaving, after_leaving, no_run, stays, goes}
+use Rattle.queue_moves.specs.Moves.{item_of, standing, evicted, leaving, after_leaving, no_run, stays, goes}
 use Rattle.queue_moves.specs.Tabled.{IsTabled, keys_of}
 use Rattle.queue_moves.proofs.Tabled.{has-occurs, tabled-leaving}
 use Rattle.policy_steps.specs.Planned.{IsWithin, leaver_plan, IsPlannedWithin}
 use Rattle.policy_steps.specs.Misses.{one_leaver}
-use Rattle.policy_steps.specs.Fifo.{fifo_of}
-use Rattle.policy_steps.specs.Theorems.{FifoIsPlanned}
+use Rattle.policy_steps.specs.Fifo.{fifo_of, fifo_page}
+use Rattle.policy_steps.specs.PolicyPage.{IsPlannedPage, IsSoundPage}
+use Rattle.policy_steps.proofs.Leavers.{resident-alone, resident-full, not-less}
+use Rattle.queue_policies.proofs.Fifo.{keeps}
 use Rattle.policy_steps.proofs.Moving.{length-keys, keys-sent, left-keys, without-drop, miss-low}
 use Rattle.policy_steps.proofs.Parts.{first-send, first-out}
 use Rattle.policy_steps.proofs.Residents.{resident-planned-by}
@@ -45,9 +47,19 @@ module _ (c k x : ℕ) (s : Queues) (t : IsTabled s) (first : IsWithin 1 s) wher
         first-send 1 (entry (item_of k) 0) 0 u (omega arith) (first-out 1 0 s first),
       )
 
-pub planned : FifoIsPlanned
-planned c k x s t first =
+planned : IsPlannedPage fifo_page
+planned c k x s some t first state =
     resident-planned-by (List ℕ) 1 k x 0 0 s (λ y. fifo_of) (has_key k (fifo_of s)) (nat_lt (length (fifo_of s)) c) (nat_lt (length (s 0)) c)
     (fifo_of s) (fifo_of s ++ k ∷ []) (fifo_eviction k (fifo_of s)) (leaver_plan no_run no_run (leaving 0 None) (goes 0 0) x)
     stays tt first t (omega arith) (omega arith) first (ap (λ n. nat_lt n c) (length-keys (s 0))) (has-occurs k (s 0) (t.keys 0) ∙ ap (nat_lt 0) (omega arith))
     refl (joined c k x s t first) (λ none f. evict c k x s t first none)
+
+pub fifo-sound : IsSoundPage fifo_page
+fifo-sound = record {
+  keeps = keeps;
+  starts = (λ q w. refl, refl);
+  planned = planned;
+  residents = λ x s. refl;
+  hits = λ c k x s. resident-alone (standing (item_of k) s) _ _ _ x _ refl;
+  leaves = λ c k x s t first state. resident-full _ (standing (item_of k) s) _ _ _ x _ (λ e. not-less _ _ c (length-keys (s 0)) e);
+}

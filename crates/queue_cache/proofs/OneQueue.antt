@@ -1,6 +1,5 @@
--- The table of moves without counting, in one queue: what an access makes of the keys, by the rule of hits. With the
--- rule of Lru it is an access to the last distinct keys.
-use Rattle.std.proofs.Common.{◌≡◌, ℕ, suc, zero, ◌+◌, ◌-◌, ◌≤◌, Bool, true, false, cond, eqb, nat_lt, Option, Some, None, List, [], ◌∷◌, ◌++◌, length, map, drop, ap, ◌∙◌, sym, refl, arith, subst, inl, inr, append-nil}
+-- The table of moves without counting, in one queue: an access is one to the last distinct keys.
+use Rattle.std.proofs.Common.{◌≡◌, ℕ, suc, zero, ◌+◌, ◌-◌, ◌≤◌, Bool, true, false, cond, eqb, nat_lt, Some, None, List, [], ◌∷◌, ◌++◌, length, map, drop, ap, ◌∙◌, sym, refl, arith, subst, inl, inr, append-nil}
 use Rattle.std.proofs.lemmas.List.{append_assoc, length-map, map-append}
 use Rattle.std.proofs.lemmas.Bool.{eq-eqb}
 use Rattle.std.proofs.lemmas.Bool.Decides.{nat_tests}
@@ -9,15 +8,12 @@ use Rattle.step_record.specs.declared.job.Policy.TheVariants.{Lru}
 use Rattle.step_record.specs.Keys.{has_key, keys_without as without_key}
 use Rattle.segments.specs.declared.records.Queue.TheVariants.{Window}
 use Rattle.segments.specs.Items.{has_item, occurrences, items_without, oldest_of, nodeless_item}
-use Rattle.segments.specs.Queues.{Queues, queue_holding, queues_after_push, total_items}
-use Rattle.admission.specs.Frequency.{FrequencyData}
+use Rattle.segments.specs.Queues.{queue_holding, queues_after_push, total_items}
 use Rattle.replacement.specs.declared.rules.Placement.TheVariants.{Direct}
-use Rattle.replacement.specs.declared.rules.HitRule.{HitRule}
-use Rattle.replacement.specs.declared.rules.HitRule.TheVariants.{Renews, Stays}
 use Rattle.replacement.specs.declared.rules.Rules.{Rules}
 use Rattle.replacement.specs.Admission.{admits_in}
 use Rattle.replacement.specs.Shape.{shape_of}
-use Rattle.replacement.specs.Table.{Response, kept_in, hit_response, hit_by, response_with_victim, response_without_trial, access}
+use Rattle.replacement.specs.Table.{Response, kept_in, hit_response, hit_in, response_with_victim, response_without_trial, access}
 use Rattle.replacement.proofs.Planned.{access-at}
 use Rattle.queue_cache.specs.Lru.{lru_residents, lru_outcome, distinct_keys}
 use Rattle.queue_cache.specs.Design.{design_of, rules_in, rules_of, is_counting}
@@ -47,32 +43,22 @@ without-map k (a ∷ l) =
 pub total-in : (l : List ℕ) → total_items (single_queue l) ≡ length l
 total-in l = omega (arith, length-map l nodeless_item)
 
-abbrev pub one : HitRule → ℕ → Rules
-one h c = record { capacity = c; window = 0; protected = 0; placement = Direct Window; hits = h }
+abbrev one : ℕ → Rules
+one c = record { capacity = c; window = 0; protected = 0; placement = Direct Window }
 
--- the keys after a hit on k, by the rule of hits
-abbrev pub renewed : HitRule → ℕ → List ℕ → List ℕ
-renewed Renews k l = without_key k l ++ k ∷ []
-renewed Stays k l = l
+record IsAccess (c k : ℕ) (l : List ℕ) (r : Response) : Type 0 where
+  lists : r.queues ≡ single_queue (moved c l k)
+  outcome : r.outcome ≡ answer c l k
 
--- and after an access to k
-abbrev pub keys_after : HitRule → ℕ → ℕ → List ℕ → List ℕ
-keys_after h c k l = cond (has_key k l) (renewed h k l) (cond (nat_lt (length l) c) (l ++ k ∷ []) (drop 1 l ++ k ∷ []))
+module _ (c k : ℕ) where
+  one-hit : (l : List ℕ) → has_key k l ≡ true → IsAccess c k l (hit_response (hit_in 0 (nodeless_item k) (Some Window) (single_queue l)))
+  one-hit l e = record { lists = rw (e, without-map k l, map-append nodeless_item (without_key k l) (k ∷ [])) refl; outcome = rw e refl }
 
-pub record IsAccess (h : HitRule) (c k : ℕ) (l : List ℕ) (r : Response) : Type 0 where
-  pub lists : r.queues ≡ single_queue (keys_after h c k l)
-  pub outcome : r.outcome ≡ answer c l k
-
-one-hit : (h : HitRule) (c k : ℕ) (l : List ℕ) → has_key k l ≡ true → IsAccess h c k l (hit_response (hit_by h 0 (nodeless_item k) Window (single_queue l)))
-one-hit Renews c k l e = record { lists = rw (e, without-map k l, map-append nodeless_item (without_key k l) (k ∷ [])) refl; outcome = rw e refl }
-one-hit Stays c k l e = record { lists = rw e refl; outcome = rw e refl }
-
-module _ (h : HitRule) (c k : ℕ) where
-  one-room : (l : List ℕ) → has_key k l ≡ false → nat_lt (length l) c ≡ true → IsAccess h c k l (kept_in (queues_after_push Window (nodeless_item k) (single_queue l)))
+  one-room : (l : List ℕ) → has_key k l ≡ false → nat_lt (length l) c ≡ true → IsAccess c k l (kept_in (queues_after_push Window (nodeless_item k) (single_queue l)))
   one-room l e f = record { lists = rw (e, f, map-append nodeless_item l (k ∷ [])) refl; outcome = rw (e, f) refl }
 
   one-full : (l : List ℕ) → has_key k l ≡ false → nat_lt (length l) c ≡ false → IsDistinct l → 1 ≤ c
-      → IsAccess h c k l (response_with_victim (admits_in None) Window (nodeless_item k) (oldest_of (map nodeless_item l)) (single_queue l))
+      → IsAccess c k l (response_with_victim (admits_in None) Window (nodeless_item k) (oldest_of (map nodeless_item l)) (single_queue l))
   one-full [] e f d w = absurd (let t : nat_lt 0 c ≡ true = grind (arith, nat_tests) in let no : true ≡ false = sym t ∙ f in cc (no))
   one-full (a ∷ l) e f d w =
       let self : eqb a a ≡ true = eq-eqb a a refl in
@@ -81,29 +67,24 @@ module _ (h : HitRule) (c k : ℕ) where
         outcome = rw (e, f) refl;
       }
 
-  one-direct : (l : List ℕ) → has_key k l ≡ false → IsDistinct l → 1 ≤ c → IsAccess h c k l (response_without_trial (one h c) (admits_in None) Window (nodeless_item k) (single_queue l))
+  one-direct : (l : List ℕ) → has_key k l ≡ false → IsDistinct l → 1 ≤ c → IsAccess c k l (response_without_trial (one c) (admits_in None) Window (nodeless_item k) (single_queue l))
   one-direct l e d w =
       let full : Bool → Response = λ b. cond b (kept_in (queues_after_push Window (nodeless_item k) (single_queue l))) (response_with_victim (admits_in None) Window (nodeless_item k) (oldest_of (map nodeless_item l)) (single_queue l)) in
       elim (two (nat_lt (length l) c)) [
-        | inl f ↦ subst (λ (b : Bool). IsAccess h c k l (full b)) (sym (ap (λ n. nat_lt n c) (total-in l) ∙ f)) (one-room l e f)
-        | inr f ↦ subst (λ (b : Bool). IsAccess h c k l (full b)) (sym (ap (λ n. nat_lt n c) (total-in l) ∙ f)) (one-full l e f d w)
+        | inl f ↦ subst (λ (b : Bool). IsAccess c k l (full b)) (sym (ap (λ n. nat_lt n c) (total-in l) ∙ f)) (one-room l e f)
+        | inr f ↦ subst (λ (b : Bool). IsAccess c k l (full b)) (sym (ap (λ n. nat_lt n c) (total-in l) ∙ f)) (one-full l e f d w)
       ]
 
-  one-access : (l : List ℕ) → IsDistinct l → 1 ≤ c → IsAccess h c k l (access (one h c) (admits_in None) (nodeless_item k) (single_queue l))
+  one-access : (l : List ℕ) → IsDistinct l → 1 ≤ c → IsAccess c k l (access (one c) (admits_in None) (nodeless_item k) (single_queue l))
   one-access l d w =
       elim (two (has_key k l)) [
         | inl e ↦
             let there : queue_holding (nodeless_item k) (single_queue l) ≡ Some Window = rw (has-map k l, e) refl in
-            subst (IsAccess h c k l) (sym (access-at (one h c) (admits_in None) (nodeless_item k) (single_queue l) (Some Window) there)) (one-hit h c k l e)
+            subst (IsAccess c k l) (sym (access-at (one c) (admits_in None) (nodeless_item k) (single_queue l) (Some Window) there)) (one-hit l e)
         | inr e ↦
             let there : queue_holding (nodeless_item k) (single_queue l) ≡ None = rw (has-map k l, e) refl in
-            subst (IsAccess h c k l) (sym (access-at (one h c) (admits_in None) (nodeless_item k) (single_queue l) None there)) (one-direct l e d w)
+            subst (IsAccess c k l) (sym (access-at (one c) (admits_in None) (nodeless_item k) (single_queue l) None there)) (one-direct l e d w)
       ]
-
--- the response of a cache of one queue that counts no keys
-pub one-response : (h : HitRule) (j : Job) (l : List ℕ) (d : QueueState) (k : ℕ) (f : Option FrequencyData) → rules_of j ≡ one h j.config.capacity → f ≡ None
-    → d.job ≡ j → d.queues ≡ single_queue l → IsDistinct l → 1 ≤ j.config.capacity → IsAccess h j.config.capacity k l (access_response f k d)
-one-response h j l d k f er ef ej eq apart room = rw (ej, er, ef, eq) (one-access h j.config.capacity k l apart room)
 
 distinct-drop : (n : ℕ) (l : List ℕ) → IsDistinct l → IsDistinct (drop n l)
 distinct-drop zero l d = d
@@ -123,10 +104,11 @@ residents-one (suc c) k xs h = residents-snoc c k xs
 module _ (j : Job) (is_lru : j.policy ≡ Lru) (room : 1 ≤ j.config.capacity) where
   -- the response of an Lru cache whose queue has the last distinct keys
   response-lru : (past : List ℕ) (d : QueueState) (k : ℕ) (ks : List ℕ) → d.job ≡ j → d.queues ≡ single_queue (lru_residents j.config.capacity past)
-      → IsAccess Renews j.config.capacity k (lru_residents j.config.capacity past) (access_response (frequency_after j ks) k d)
+      → IsAccess j.config.capacity k (lru_residents j.config.capacity past) (access_response (frequency_after j ks) k d)
   response-lru past d k ks ej eq =
-      one-response Renews j (lru_residents j.config.capacity past) d k (frequency_after j ks) (ap (λ p. rules_in (design_of p) j.config) is_lru)
-      (ap (λ p. frequency_by (is_counting p) (shape_of j.config) ks) is_lru) ej eq (residents-distinct j.config.capacity past) room
+      let rules : rules_of j ≡ one j.config.capacity = ap (λ p. rules_in (design_of p) j.config) is_lru in
+      let none : frequency_after j ks ≡ None = ap (λ p. frequency_by (is_counting p) (shape_of j.config) ks) is_lru in
+      rw (ej, rules, none, eq) (one-access j.config.capacity k (lru_residents j.config.capacity past) (residents-distinct j.config.capacity past) room)
 
   step-lru : (past : List ℕ) (d : QueueState) (k : ℕ) (ks : List ℕ) → d.job ≡ j → d.queues ≡ single_queue (lru_residents j.config.capacity past)
       → (queue_state_after (frequency_after j ks) k d).queues ≡ single_queue (lru_residents j.config.capacity (past ++ k ∷ []))

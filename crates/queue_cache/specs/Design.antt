@@ -17,8 +17,6 @@ use Rattle.queue_cache.specs.declared.design.Design.{Design}
 use Rattle.queue_cache.specs.declared.design.Design.TheVariants.{Queues, KnowsTrace, Demand, Adaptive}
 use Rattle.queue_cache.specs.declared.design.Layout.{Layout}
 use Rattle.queue_cache.specs.declared.design.Layout.TheVariants.{OneQueue, TwoQueues, ThreeQueues}
-use Rattle.queue_cache.specs.declared.design.QueueDesign.{QueueDesign}
-use Rattle.queue_cache.specs.Fifo.{fifo}
 use Rattle.queue_cache.specs.Lru.{lru}
 use Rattle.queue_cache.specs.SegmentedLru.{segmented_lru}
 use Rattle.queue_cache.specs.TinyLfu.{tiny_lfu}
@@ -31,7 +29,7 @@ design_of TinyLfuLru = Queues (tiny_lfu lru)
 design_of TinyLfuSegmented = Queues (tiny_lfu segmented_lru)
 design_of WindowTinyLfu = Queues window_tiny_lfu
 design_of Clairvoyant = KnowsTrace
-design_of Fifo = Queues fifo
+design_of Fifo = Demand demand.Fifo
 design_of Clock = Demand demand.Clock
 design_of Sieve = Demand demand.Sieve
 design_of S3Fifo = Demand demand.S3Fifo
@@ -41,10 +39,11 @@ design_of Caffeine = Adaptive
 
 -- ---- a design of queues
 
-abbrev pub sizes_by : Layout → Config → Rules
-sizes_by OneQueue c = one_queue c
-sizes_by TwoQueues c = two_queues c
-sizes_by ThreeQueues c = three_queues c
+-- the rules for a configuration
+abbrev pub rules_by : Layout → Config → Rules
+rules_by OneQueue c = one_queue c
+rules_by TwoQueues c = two_queues c
+rules_by ThreeQueues c = three_queues c
 
 -- where a new item goes
 abbrev pub placement_by : Layout → Placement
@@ -52,15 +51,11 @@ placement_by OneQueue = Direct Window
 placement_by TwoQueues = Direct Probation
 placement_by ThreeQueues = Windowed
 
--- the rules for a configuration
-abbrev pub rules_by : QueueDesign → Config → Rules
-rules_by d c = record (sizes_by d.layout c) { hits = d.hits }
-
 -- ---- any design
 
 -- a policy that is not of queues has no rules: these are never used
 abbrev pub rules_in : Design → Config → Rules
-rules_in (Queues d) c = rules_by d c
+rules_in (Queues d) c = rules_by d.layout c
 rules_in KnowsTrace c = one_queue c
 rules_in (Demand p) c = one_queue c
 rules_in Adaptive c = one_queue c

@@ -1,4 +1,3 @@
-pub mod Fifo
 pub mod Lru
 pub mod SegmentedLru
 pub mod TinyLfu

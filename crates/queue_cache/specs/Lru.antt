@@ -4,7 +4,6 @@ use Rattle.std.specs.Prelude.{ℕ, ◌-◌, nat_lt, Bool, false, ◌&&◌, if◌
 use Rattle.step_record.specs.Keys.{has_key}
 use Rattle.step_record.specs.declared.outcome.Outcome.{Outcome}
 use Rattle.step_record.specs.declared.outcome.Outcome.TheVariants.{Hit, Kept, Evicted}
-use Rattle.replacement.specs.declared.rules.HitRule.TheVariants.{Renews}
 use Rattle.queue_cache.specs.declared.design.QueueDesign.{QueueDesign}
 use Rattle.queue_cache.specs.declared.design.Layout.TheVariants.{OneQueue}
 
@@ -41,6 +40,6 @@ lru_outcome c xs k =
 
 -- ---- as a policy of queues
 
--- one queue, where a hit takes its key to the recent end, and no filter
+-- one queue, and no filter
 abbrev pub lru : QueueDesign
-lru = record { layout = OneQueue; hits = Renews; counts_keys = false }
+lru = record { layout = OneQueue; counts_keys = false }

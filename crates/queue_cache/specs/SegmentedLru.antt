@@ -2,9 +2,8 @@
 -- joins probation, and in a full cache the oldest there leaves for it; a hit takes its key to protected, and where that
 -- is then over its size, its oldest goes back to probation. (The main part of TinyLFU, 2017.)
 use Rattle.std.specs.Prelude.{false}
-use Rattle.replacement.specs.declared.rules.HitRule.TheVariants.{Renews}
 use Rattle.queue_cache.specs.declared.design.QueueDesign.{QueueDesign}
 use Rattle.queue_cache.specs.declared.design.Layout.TheVariants.{TwoQueues}
 
 abbrev pub segmented_lru : QueueDesign
-segmented_lru = record { layout = TwoQueues; hits = Renews; counts_keys = false }
+segmented_lru = record { layout = TwoQueues; counts_keys = false }

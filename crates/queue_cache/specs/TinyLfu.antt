@@ -6,4 +6,4 @@ use Rattle.queue_cache.specs.declared.design.QueueDesign.{QueueDesign}
 
 -- the policy behind the filter, with its keys counted
 abbrev pub tiny_lfu : QueueDesign → QueueDesign
-tiny_lfu behind = record { layout = behind.layout; hits = behind.hits; counts_keys = true }
+tiny_lfu behind = record { layout = behind.layout; counts_keys = true }

@@ -3,9 +3,8 @@
 -- there only where its approximate access frequency is higher; else the candidate is rejected. The main part holds
 -- main_percent of the capacity, and protected 80 percent of that. (Caffeine's Design page; the filter: TinyLFU, 2017.)
 use Rattle.std.specs.Prelude.{true}
-use Rattle.replacement.specs.declared.rules.HitRule.TheVariants.{Renews}
 use Rattle.queue_cache.specs.declared.design.QueueDesign.{QueueDesign}
 use Rattle.queue_cache.specs.declared.design.Layout.TheVariants.{ThreeQueues}
 
 abbrev pub window_tiny_lfu : QueueDesign
-window_tiny_lfu = record { layout = ThreeQueues; hits = Renews; counts_keys = true }
+window_tiny_lfu = record { layout = ThreeQueues; counts_keys = true }

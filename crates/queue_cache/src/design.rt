@@ -3,7 +3,7 @@ ghost use Rattle.std.specs.Prelude.{◌≡◌, Ok};
 ghost use Rattle.step_record.specs.Config.{config_fault};
 ghost use Rattle.queue_cache.specs.Design.{design_of, placement_by, rules_by};
 
-use replacement::{HitRule, Placement, Rules};
+use replacement::{Placement, Rules};
 use segments::Queue;
 use step_record::{Config, Policy};
 
@@ -25,8 +25,6 @@ pub enum Design {
 pub struct QueueDesign {
     /// Which queues it has.
     pub layout: Layout,
-    /// What a hit does.
-    pub hits: HitRule,
     /// Whether it counts keys, and admits a new one in a full cache by how often it came.
     pub counts_keys: bool,
 }
@@ -34,6 +32,8 @@ pub struct QueueDesign {
 /// A policy that keeps each missed key, whatever the sizes of its parts.
 #[derive(Clone, Copy)]
 pub enum DemandDesign {
+    /// FIFO.
+    Fifo,
     /// CLOCK.
     Clock,
     /// SIEVE.
@@ -68,7 +68,7 @@ pub fn design_of(policy: Policy) -> Design
         Policy::TinyLfuSegmented => Design::Queues(TINY_LFU_SEGMENTED),
         Policy::WindowTinyLfu => Design::Queues(WINDOW_TINY_LFU),
         Policy::Clairvoyant => Design::KnowsTrace,
-        Policy::Fifo => Design::Queues(FIFO),
+        Policy::Fifo => Design::Demand(DemandDesign::Fifo),
         Policy::Clock => Design::Demand(DemandDesign::Clock),
         Policy::Sieve => Design::Demand(DemandDesign::Sieve),
         Policy::S3Fifo => Design::Demand(DemandDesign::S3Fifo),
@@ -80,37 +80,26 @@ pub fn design_of(policy: Policy) -> Design
 
 pub(crate) const LRU: QueueDesign = QueueDesign {
     layout: Layout::OneQueue,
-    hits: HitRule::Renews,
-    counts_keys: false,
-};
-
-pub(crate) const FIFO: QueueDesign = QueueDesign {
-    layout: Layout::OneQueue,
-    hits: HitRule::Stays,
     counts_keys: false,
 };
 
 pub(crate) const SEGMENTED_LRU: QueueDesign = QueueDesign {
     layout: Layout::TwoQueues,
-    hits: HitRule::Renews,
     counts_keys: false,
 };
 
 pub(crate) const TINY_LFU_LRU: QueueDesign = QueueDesign {
     layout: Layout::OneQueue,
-    hits: HitRule::Renews,
     counts_keys: true,
 };
 
 pub(crate) const TINY_LFU_SEGMENTED: QueueDesign = QueueDesign {
     layout: Layout::TwoQueues,
-    hits: HitRule::Renews,
     counts_keys: true,
 };
 
 pub(crate) const WINDOW_TINY_LFU: QueueDesign = QueueDesign {
     layout: Layout::ThreeQueues,
-    hits: HitRule::Renews,
     counts_keys: true,
 };
 
@@ -118,8 +107,7 @@ impl QueueDesign {
     /// The rules of this design as they are, with all that is the same for each configuration written out.
     #[inline(always)]
     pub(crate) fn fixed(self, rules: &Rules) -> Rules
-        requires placement { rules.now.placement ≡ placement_by self.layout }
-        requires hits { rules.now.hits ≡ self.hits }
+        requires { rules.now.placement ≡ placement_by self.layout }
         ensures { result ≡ rules.now }
     {
         let placement = match self.layout {
@@ -129,7 +117,6 @@ impl QueueDesign {
         };
         Rules {
             placement,
-            hits: self.hits,
             ..*rules
         }
     }
@@ -137,16 +124,12 @@ impl QueueDesign {
     /// The rules for a configuration, which it requires `Config::check` to accept.
     pub fn rules(&self, config: &Config) -> Rules
         requires { config_fault config.now ≡ Ok tt }
-        ensures { result ≡ rules_by self.now config.now }
+        ensures { result ≡ rules_by self.now.layout config.now }
     {
-        let rules = match self.layout {
+        match self.layout {
             Layout::OneQueue => Rules::one_queue(config),
             Layout::TwoQueues => Rules::two_queues(config),
             Layout::ThreeQueues => Rules::three_queues(config),
-        };
-        Rules {
-            hits: self.hits,
-            ..rules
         }
     }
 }

@@ -1,13 +1,12 @@
 //! The designs of the policies of queues as types.
 ghost use Rattle.queue_cache.specs.declared.design.QueueDesign.{QueueDesign};
-ghost use Rattle.queue_cache.specs.Fifo.{fifo};
 ghost use Rattle.queue_cache.specs.Lru.{lru};
 ghost use Rattle.queue_cache.specs.SegmentedLru.{segmented_lru};
 ghost use Rattle.queue_cache.specs.TinyLfu.{tiny_lfu};
 ghost use Rattle.queue_cache.specs.WindowTinyLfu.{window_tiny_lfu};
 
 use crate::design::{
-    FIFO, LRU, QueueDesign, SEGMENTED_LRU, TINY_LFU_LRU, TINY_LFU_SEGMENTED, WINDOW_TINY_LFU,
+    LRU, QueueDesign, SEGMENTED_LRU, TINY_LFU_LRU, TINY_LFU_SEGMENTED, WINDOW_TINY_LFU,
 };
 
 /// A design that is known where a loop over accesses is compiled, so that the loop asks nothing of it.
@@ -62,13 +61,4 @@ impl FixedDesign for WindowTinyLfuDesign {
     ghost DESIGN = { window_tiny_lfu };
 
     const DESIGN: QueueDesign = WINDOW_TINY_LFU;
-}
-
-/// That of FIFO.
-pub struct FifoDesign;
-
-impl FixedDesign for FifoDesign {
-    ghost DESIGN = { fifo };
-
-    const DESIGN: QueueDesign = FIFO;
 }

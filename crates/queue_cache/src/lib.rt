@@ -1,5 +1,5 @@
-//! One table of what each policy is (`design_of`); the policies of queues as one engine: LRU, segmented LRU and FIFO, the
-//! first two also behind the TinyLFU admission filter, and W-TinyLFU.
+//! One table of what each policy is (`design_of`); the policies of queues as one engine: LRU and segmented LRU, each
+//! also behind the TinyLFU admission filter, and W-TinyLFU.
 //!
 //! The engine's steps are accesses. Each policy promises that for every list of accesses that it made, an access answers
 //! the outcome that the policy's definition gives after the whole list, and leaves the cache with that access at the

@@ -12,10 +12,8 @@ use Rattle.segments.proofs.MoveLaws.{Stands, in_window, in_probation, in_protect
 use Rattle.segments.proofs.QueueLists.{first-stands}
 use Rattle.replacement.specs.declared.rules.Placement.{Placement}
 use Rattle.replacement.specs.declared.rules.Placement.TheVariants.{Direct, Windowed}
-use Rattle.replacement.specs.declared.rules.HitRule.{HitRule}
-use Rattle.replacement.specs.declared.rules.HitRule.TheVariants.{Renews, Stays}
 use Rattle.replacement.specs.declared.rules.Rules.{Rules}
-use Rattle.replacement.specs.Table.{Response, with_recent, queues_after_demotion, hit_in, hit_by, rejection, contest, trial, trial_of, eviction, response_with_victim, response_without_trial, miss_by, access_in, access}
+use Rattle.replacement.specs.Table.{Response, with_recent, queues_after_demotion, hit_in, rejection, contest, trial, trial_of, eviction, response_with_victim, response_without_trial, miss_by, access_in, access}
 use Rattle.replacement.specs.Counts.{queue_occurrences, main_length}
 use Rattle.replacement.proofs.Planned.{access-at}
 use Rattle.replacement.proofs.Counting.{taken-less, queued-pushed, queued-kept, taken-total, pushed-total}
@@ -91,10 +89,6 @@ hit-renewed size i p s u (in_probation a b c) =
     renewed-both s (queues_after_move i Protected s) (queues_after_demotion size (queues_after_move i Protected s)) moved (demoted-renewed size (queues_after_move i Protected s) (renewed-distinct s (queues_after_move i Protected s) moved u))
 hit-renewed size i p s u (in_protected a b c) = protected-renewed i s a (omega (arith, b, c))
 hit-renewed size i p s u (nowhere a b c) = renewed-none s
-
-hit-by-renewed : (h : HitRule) (size : ℕ) (i : Item) (q : Queue) (s : Queues) → IsDistinct s → Stands i s (Some q) → IsRenewed s (hit_by h size i q s)
-hit-by-renewed Renews size i q s u at = hit-renewed size i (Some q) s u at
-hit-by-renewed Stays size i q s u at = renewed-none s
 
 -- ---- an eviction, behind a push to the window
 
@@ -312,16 +306,16 @@ stands-none i s p (nowhere a b c) h = omega (arith, a, b, c)
 balanced-at : (r : Rules) (admits : ℕ → ℕ → Bool) (i : Item) (s : Queues) (p : Option Queue) → Stands i s p → IsDistinct s → FitsBy r.placement r s → IsBalanced r i s (access_in r admits i p s)
 balanced-at r admits i s None at u f = missed-by r admits i s u (stands-none i s None at refl) r.placement refl f
 balanced-at r admits i s (Some q) at u f =
-    let h : IsRenewed s (hit_by r.hits r.protected i q s) = hit-by-renewed r.hits r.protected i q s u at in
+    let h : IsRenewed s (hit_in r.protected i (Some q) s) = hit-renewed r.protected i (Some q) s u at in
     let one : queue_occurrences i s ≡ 1 = elim (stands-once i s (Some q) at) [ inl e ↦ absurd (cc (e)) | inr e ↦ e ] in
     let w = h.window in
     let m = h.main in
     record {
       came = λ j. (let a = h.same j in omega (arith, a));
-      once = renewed-distinct s (hit_by r.hits r.protected i q s) h u;
+      once = renewed-distinct s (hit_in r.protected i (Some q) s) h u;
       counted = omega (arith, w, m);
       hit = sym (lt-ltb 0 (queue_occurrences i s) (omega (arith, one)));
-      sizes = renewed-fits r.placement r s (hit_by r.hits r.protected i q s) h f;
+      sizes = renewed-fits r.placement r s (hit_in r.protected i (Some q) s) h f;
     }
 
 pub balanced : (r : Rules) (admits : ℕ → ℕ → Bool) (i : Item) (s : Queues) → IsDistinct s → FitsBy r.placement r s → IsBalanced r i s (access r admits i s)

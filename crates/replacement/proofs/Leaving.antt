@@ -11,11 +11,9 @@ use Rattle.segments.specs.Items.{is_same_item, oldest_of}
 use Rattle.segments.specs.Queues.{Queues, queue_of, queue_holding, queues_after_push, queues_after_move, total_items, IsDistinct}
 use Rattle.replacement.specs.declared.rules.Placement.{Placement}
 use Rattle.replacement.specs.declared.rules.Placement.TheVariants.{Direct, Windowed}
-use Rattle.replacement.specs.declared.rules.HitRule.{HitRule}
-use Rattle.replacement.specs.declared.rules.HitRule.TheVariants.{Renews, Stays}
 use Rattle.replacement.specs.declared.rules.Rules.{Rules}
 use Rattle.replacement.specs.Table.{Response, kept_in, contest, trial_of, eviction, response_with_victim, miss_by, access_in, access}
-use Rattle.replacement.specs.Plan.{Plan, hit_plan_by, plan}
+use Rattle.replacement.specs.Plan.{Plan, plan}
 use Rattle.replacement.specs.PlanMoves.{removal_record, moves_of, queues_after_transfer}
 use Rattle.replacement.proofs.Planned.{plan-at, access-at, accesses-planned}
 
@@ -55,13 +53,9 @@ miss-missed Windowed r a i s = eviction-missed r a (queues_after_push Window i s
 
 -- ---- a hit
 
-hit-plan-keeps : (h : HitRule) (size : ℕ) (i : Item) (q : Queue) (s : Queues) → (moves_of (hit_plan_by h size i q s) s).out ≡ None
-hit-plan-keeps Renews size i q s = refl
-hit-plan-keeps Stays size i q s = refl
-
 pub hit-keeps : (r : Rules) (a : ℕ → ℕ → Bool) (i : Item) (s : Queues) (p : Option Queue) → queue_holding i s ≡ p
     → (access r a i s).outcome ≡ Hit → (moves_of (plan r a i s) s).out ≡ None
-hit-keeps r a i s (Some q) h o = rw (plan-at r a i s (Some q) h) (hit-plan-keeps r.hits r.protected i q s)
+hit-keeps r a i s (Some q) h o = rw (plan-at r a i s (Some q) h) refl
 hit-keeps r a i s None h o =
     let hits : is_hit (access_in r a i None s).outcome ≡ true = ap (λ (x : Response). is_hit x.outcome) (sym (access-at r a i s None h)) ∙ ap is_hit o in
     absurd (let no : true ≡ false = sym hits ∙ (miss-missed r.placement r a i s).0 in cc (no))

@@ -12,11 +12,9 @@ use Rattle.segments.proofs.MoveLaws.{taken-moved}
 use Rattle.segments.proofs.QueueLists.{first-stands, pushed-moved, still-absent}
 use Rattle.replacement.specs.declared.rules.Placement.{Placement}
 use Rattle.replacement.specs.declared.rules.Placement.TheVariants.{Direct, Windowed}
-use Rattle.replacement.specs.declared.rules.HitRule.{HitRule}
-use Rattle.replacement.specs.declared.rules.HitRule.TheVariants.{Renews, Stays}
 use Rattle.replacement.specs.declared.rules.Rules.{Rules}
-use Rattle.replacement.specs.Table.{Response, kept_in, with_recent, queues_after_demotion, hit_response, hit_by, rejection, contest, trial_of, eviction, response_with_victim, response_without_trial, miss_by, miss, access_in, access}
-use Rattle.replacement.specs.Plan.{Plan, Transfer, transfer, demotion, hit_plan_by, stay_plan, contest_plan, direct_plan, candidate_of, eviction_of, eviction_plan, joining_first, miss_plan_by, miss_plan, plan_in, plan}
+use Rattle.replacement.specs.Table.{Response, kept_in, with_recent, queues_after_demotion, hit_response, rejection, contest, trial_of, eviction, response_with_victim, response_without_trial, miss_by, miss, access_in, access}
+use Rattle.replacement.specs.Plan.{Plan, Transfer, transfer, demotion, stay_plan, contest_plan, direct_plan, candidate_of, eviction_of, eviction_plan, joining_first, miss_plan_by, miss_plan, plan_in, plan}
 use Rattle.replacement.specs.PlanMoves.{queues_after_transfer, removed, response_of_plan}
 use Rattle.replacement.specs.Theorems.{HitsPlanned, EvictionsPlanned, AccessesPlanned}
 use Rattle.replacement.proofs.Counting.{distinct-moved}
@@ -38,10 +36,6 @@ pub hits-planned : HitsPlanned
 hits-planned size i Window s = refl
 hits-planned size i Probation s = demoted-planned size (queues_after_move i Protected s)
 hits-planned size i Protected s = refl
-
-hits-planned-by : (h : HitRule) (size : ℕ) (i : Item) (q : Queue) (s : Queues) → hit_response (hit_by h size i q s) ≡ response_of_plan (hit_plan_by h size i q s) s
-hits-planned-by Renews size i q s = ap hit_response (hits-planned size i q s)
-hits-planned-by Stays size i q s = refl
 
 -- ---- evictions
 
@@ -186,7 +180,7 @@ miss-planned r a i s d h = by r.placement
 pub access-planned-in : (r : Rules) (a : ℕ → ℕ → Bool) (i : Item) (p : Option Queue) (s : Queues) → IsDistinct s → queue_holding i s ≡ p
     → access_in r a i p s ≡ response_of_plan (plan_in r a i p s) s
 access-planned-in r a i None s d h = miss-planned r a i s d h
-access-planned-in r a i (Some q) s d h = hits-planned-by r.hits r.protected i q s
+access-planned-in r a i (Some q) s d h = ap hit_response (hits-planned r.protected i q s)
 
 -- the plan of an access and the table, by where its item stands
 pub plan-at : (r : Rules) (a : ℕ → ℕ → Bool) (i : Item) (s : Queues) (p : Option Queue) → queue_holding i s ≡ p → plan r a i s ≡ plan_in r a i p s

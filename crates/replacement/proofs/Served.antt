@@ -2,32 +2,25 @@
 use Rattle.std.proofs.Common.{◌≡◌, ℕ, Bool, Option, Some, None, ap, ◌∙◌, sym, refl, subst}
 use Rattle.step_record.specs.declared.item.Item.{Item}
 use Rattle.step_record.specs.declared.outcome.Outcome.TheVariants.{Hit}
-use Rattle.segments.specs.declared.records.Queue.{Queue}
 use Rattle.segments.specs.declared.records.Queue.TheVariants.{Window}
 use Rattle.segments.specs.declared.records.MoveRecord.{MoveRecord}
 use Rattle.segments.specs.Queues.{Queues, queue_holding, queues_after_move}
 use Rattle.replacement.specs.declared.record.Moves.{Moves}
 use Rattle.replacement.specs.declared.record.Effect.{Effect}
 use Rattle.replacement.specs.declared.rules.Placement.{Placement}
-use Rattle.replacement.specs.declared.rules.HitRule.{HitRule}
-use Rattle.replacement.specs.declared.rules.HitRule.TheVariants.{Renews, Stays}
 use Rattle.replacement.specs.declared.rules.Rules.{Rules}
-use Rattle.replacement.specs.Plan.{Transfer, Plan, hit_plan_by, eviction_plan, joining_first, miss_plan_by, miss_plan, plan}
+use Rattle.replacement.specs.Plan.{Transfer, Plan, eviction_plan, joining_first, miss_plan_by, miss_plan, plan}
 use Rattle.replacement.specs.PlanMoves.{queues_after_transfer, removed, queues_after, transfer_record, removal_record, moves_of}
-use Rattle.replacement.specs.Effects.{IsEffect, IsHitBy}
+use Rattle.replacement.specs.Effects.{IsEffect, IsHit}
 use Rattle.replacement.proofs.Planned.{plan-at, evicts-first}
 
 -- a hit
 
-hit-outcome : (h : HitRule) (size : ℕ) (i : Item) (q : Queue) (s : Queues) → Hit ≡ (hit_plan_by h size i q s).outcome
-hit-outcome Renews size i q s = refl
-hit-outcome Stays size i q s = refl
-
-pub hit-effect : (r : Rules) (a : ℕ → ℕ → Bool) (i : Item) (s t : Queues) (m : Moves) → IsHitBy r.hits r.protected i s t m
+pub hit-effect : (r : Rules) (a : ℕ → ℕ → Bool) (i : Item) (s t : Queues) (m : Moves) → IsHit r.protected i s t m
     → IsEffect (plan r a i s) s t record { outcome = Hit; moves = m }
 hit-effect r a i s t m h =
     subst (λ (p : Plan). IsEffect p s t record { outcome = Hit; moves = m }) (sym (plan-at r a i s (Some h.queue) h.place))
-    record { lists = h.lists; moves = h.moves; outcome = hit-outcome r.hits r.protected i h.queue s }
+    record { lists = h.lists; moves = h.moves; outcome = refl }
 
 -- a miss, which the search for the item left as it was
 

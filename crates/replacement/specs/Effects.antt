@@ -5,9 +5,7 @@ use Rattle.segments.specs.declared.records.Queue.{Queue}
 use Rattle.segments.specs.Queues.{Queues, queue_holding}
 use Rattle.replacement.specs.declared.record.Moves.{Moves}
 use Rattle.replacement.specs.declared.record.Effect.{Effect}
-use Rattle.replacement.specs.declared.rules.HitRule.{HitRule}
-use Rattle.replacement.specs.declared.rules.HitRule.TheVariants.{Renews}
-use Rattle.replacement.specs.Plan.{Plan, hit_plan_by}
+use Rattle.replacement.specs.Plan.{Plan, hit_plan}
 use Rattle.replacement.specs.PlanMoves.{queues_after, moves_of}
 
 -- the plan led from the one to the other queues, and the effect is its record and outcome
@@ -16,13 +14,9 @@ pub record IsEffect (p : Plan) (before after : Queues) (e : Effect) : Type 0 whe
   pub moves : e.moves ≡ moves_of p before
   pub outcome : e.outcome ≡ p.outcome
 
--- the item was there, and was hit by the rule
-pub record IsHitBy (h : HitRule) (size : ℕ) (i : Item) (before after : Queues) (m : Moves) : Type 0 where
+-- the item was there, and went to a recent end
+pub record IsHit (size : ℕ) (i : Item) (before after : Queues) (m : Moves) : Type 0 where
   pub queue : Queue
   pub place : queue_holding i before ≡ Some queue
-  pub lists : after ≡ queues_after (hit_plan_by h size i queue before) before
-  pub moves : m ≡ moves_of (hit_plan_by h size i queue before) before
-
--- the item was there, and went to a recent end
-abbrev pub IsHit : ℕ → Item → Queues → Queues → Moves → Type 0
-IsHit size i before after m = IsHitBy Renews size i before after m
+  pub lists : after ≡ queues_after (hit_plan size i queue before) before
+  pub moves : m ≡ moves_of (hit_plan size i queue before) before

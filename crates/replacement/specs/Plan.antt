@@ -10,8 +10,6 @@ use Rattle.segments.specs.Items.{oldest_of}
 use Rattle.segments.specs.Queues.{Queues, queue_of, queue_holding, queues_after_move, queue_after_access, total_items}
 use Rattle.replacement.specs.declared.rules.Placement.{Placement}
 use Rattle.replacement.specs.declared.rules.Placement.TheVariants.{Direct, Windowed}
-use Rattle.replacement.specs.declared.rules.HitRule.{HitRule}
-use Rattle.replacement.specs.declared.rules.HitRule.TheVariants.{Renews, Stays}
 use Rattle.replacement.specs.declared.rules.Rules.{Rules}
 
 -- an item goes to the recent end of a queue
@@ -48,11 +46,6 @@ hit_plan size i q s = record {
   last = settling size q (queues_after_move i (queue_after_access q) s);
   outcome = Hit;
 }
-
--- by the rule of hits
-abbrev pub hit_plan_by : HitRule → ℕ → Item → Queue → Queues → Plan
-hit_plan_by Renews size i q s = hit_plan size i q s
-hit_plan_by Stays size i q s = record { first = None; leaves = None; last = None; outcome = Hit }
 
 -- ---- a miss
 
@@ -109,7 +102,7 @@ miss_plan r admits i s = miss_plan_by r.placement r admits i s
 
 abbrev pub plan_in : Rules → (ℕ → ℕ → Bool) → Item → Option Queue → Queues → Plan
 plan_in r admits i None s = miss_plan r admits i s
-plan_in r admits i (Some q) s = hit_plan_by r.hits r.protected i q s
+plan_in r admits i (Some q) s = hit_plan r.protected i q s
 
 -- the plan of an access, by where the item stands
 unfoldable pub plan : Rules → (ℕ → ℕ → Bool) → Item → Queues → Plan

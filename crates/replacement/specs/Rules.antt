@@ -1,10 +1,9 @@
--- What a policy of queues goes by: its sizes, where new items go, and what a hit does. The shares are defined by this
+-- What a policy of queues goes by: its sizes, and where new items go. The shares are defined by this
 -- project; a window before a segmented main part is Caffeine's.
 use Rattle.std.specs.Prelude.{ℕ, ◌*◌, ◌/◌, ◌-◌}
 use Rattle.step_record.specs.declared.config.Config.{Config}
 use Rattle.segments.specs.declared.records.Queue.TheVariants.{Window, Probation}
 use Rattle.replacement.specs.declared.rules.Placement.TheVariants.{Direct, Windowed}
-use Rattle.replacement.specs.declared.rules.HitRule.TheVariants.{Renews}
 use Rattle.replacement.specs.declared.rules.Rules.{Rules}
 
 -- how many items the main part holds
@@ -17,7 +16,7 @@ protected_size n = n * 80 / 100
 
 -- one queue
 abbrev pub one_queue : Config → Rules
-one_queue c = record { capacity = c.capacity; window = 0; protected = 0; placement = Direct Window; hits = Renews }
+one_queue c = record { capacity = c.capacity; window = 0; protected = 0; placement = Direct Window }
 
 -- probation and protected
 abbrev pub two_queues : Config → Rules
@@ -26,7 +25,6 @@ two_queues c = record {
   window = 0;
   protected = protected_size c.capacity;
   placement = Direct Probation;
-  hits = Renews;
 }
 
 -- a window before probation and protected
@@ -36,5 +34,4 @@ three_queues c = record {
   window = c.capacity - main_size c;
   protected = protected_size (main_size c);
   placement = Windowed;
-  hits = Renews;
 }

@@ -11,8 +11,6 @@ use Rattle.segments.specs.Queues.{Queues, queue_of, queue_holding}
 use Rattle.segments.specs.Queues.{queues_after_push, queues_without, queues_after_move, total_items}
 use Rattle.replacement.specs.declared.rules.Placement.{Placement}
 use Rattle.replacement.specs.declared.rules.Placement.TheVariants.{Direct, Windowed}
-use Rattle.replacement.specs.declared.rules.HitRule.{HitRule}
-use Rattle.replacement.specs.declared.rules.HitRule.TheVariants.{Renews, Stays}
 use Rattle.replacement.specs.declared.rules.Rules.{Rules}
 
 -- what an access or an eviction comes to: its outcome, the item that left the queues, and the queues that it leaves
@@ -49,11 +47,6 @@ after_hit size i s = hit_in size i (queue_holding i s) s
 
 abbrev pub hit_response : Queues → Response
 hit_response s = record { outcome = Hit; left = None; queues = s }
-
--- the queues after a hit on an item that stands in a queue, by the rule of hits
-abbrev pub hit_by : HitRule → ℕ → Item → Queue → Queues → Queues
-hit_by Renews size i q s = hit_in size i (Some q) s
-hit_by Stays size i q s = s
 
 -- ---- an eviction, where there is a window
 
@@ -113,7 +106,7 @@ miss r admits i s = miss_by r.placement r admits i s
 
 abbrev pub access_in : Rules → (ℕ → ℕ → Bool) → Item → Option Queue → Queues → Response
 access_in r admits i None s = miss r admits i s
-access_in r admits i (Some q) s = hit_response (hit_by r.hits r.protected i q s)
+access_in r admits i (Some q) s = hit_response (hit_in r.protected i (Some q) s)
 
 -- what an access to an item comes to, by where the item stands
 unfoldable pub access : Rules → (ℕ → ℕ → Bool) → Item → Queues → Response

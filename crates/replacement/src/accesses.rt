@@ -8,7 +8,7 @@ ghost use Rattle.replacement.specs.PlanMoves.{moves_of, UndoesMoves};
 ghost use Rattle.replacement.specs.Effects.{IsEffect};
 ghost use Rattle.replacement.specs.KeptMoves.{IsKeepable};
 
-use crate::hits::hit_by;
+use crate::hits::hit;
 use crate::misses::{direct, windowed};
 use crate::record::Effect;
 use crate::rules::{Placement, Rules};
@@ -87,14 +87,14 @@ fn access_planned<C>(
     ensures keepable { IsKeepable result.moves }
     ensures distinct { IsDistinct segments.old.lists }
 {
-    if let Some(moves) = hit_by(segments, rules, item) {
-        return Effect {
+    match hit(segments, rules.protected, item) {
+        Some(moves) => Effect {
             outcome: Outcome::Hit,
             moves,
-        };
-    }
-    match rules.placement {
-        Placement::Windowed => windowed::<C>(segments, frequency, rules, item),
-        Placement::Direct(queue) => direct(segments, frequency, rules, queue, item),
+        },
+        None => match rules.placement {
+            Placement::Windowed => windowed::<C>(segments, frequency, rules, item),
+            Placement::Direct(queue) => direct(segments, frequency, rules, queue, item),
+        },
     }
 }

@@ -4,12 +4,11 @@ ghost use Rattle.segments.specs.Queues.{queue_holding, IsDistinct};
 ghost use Rattle.replacement.specs.Table.{after_hit};
 ghost use Rattle.replacement.specs.Plan.{demotion, settling};
 ghost use Rattle.replacement.specs.PlanMoves.{queues_after_transfer, transfer_record, UndoesMoves};
-ghost use Rattle.replacement.specs.Effects.{IsHit, IsHitBy};
+ghost use Rattle.replacement.specs.Effects.{IsHit};
 ghost use Rattle.replacement.specs.KeptMoves.{IsOldest, IsKeepable};
 
 use crate::queue_moves::send_oldest;
 use crate::record::Moves;
-use crate::rules::{HitRule, Rules};
 use segments::{MoveRecord, Queue, Segments};
 use step_record::Item;
 
@@ -34,26 +33,6 @@ pub fn hit(segments: &mut Segments, size: usize, item: Item) -> Option<Moves>
         out: None,
         last,
     })
-}
-
-/// A hit on an item by the rules; `None`, and nothing moved, where the item stands in no queue.
-#[inline(always)]
-pub(crate) fn hit_by(segments: &mut Segments, rules: &Rules, item: Item) -> Option<Moves>
-    ensures hit { IfSome result (λ m.
-        IsHitBy rules.now.hits rules.now.protected item segments.old.lists segments.new.lists m) }
-    ensures keepable { IfSome result (λ m. IsKeepable m) }
-    ensures absent { IfNone result (queue_holding item segments.old.lists ≡ None) }
-    ensures none { IfNone result (segments.new.lists ≡ segments.old.lists) }
-    ensures spare { segments.old.spare ≤ segments.new.spare }
-    ensures distinct { IsDistinct segments.old.lists }
-{
-    match rules.hits {
-        HitRule::Renews => hit(segments, rules.protected, item),
-        HitRule::Stays => {
-            let _queue = segments.find(item)?;
-            Some(Moves::NONE)
-        }
-    }
 }
 
 // What follows the move of an item that stood in the queue.

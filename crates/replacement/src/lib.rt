@@ -26,4 +26,4 @@ pub use misses::evict;
 pub use record::{Effect, Moves};
 pub use resizing::{grow_window, shrink_window};
 pub use rollback::undo;
-pub use rules::{HitRule, Placement, Rules};
+pub use rules::{Placement, Rules};

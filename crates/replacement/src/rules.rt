@@ -15,16 +15,7 @@ pub enum Placement {
     Windowed,
 }
 
-/// What a hit does to its item.
-#[derive(Clone, Copy)]
-pub enum HitRule {
-    /// An item of the window goes to the window's recent end, any other to protected's.
-    Renews,
-    /// The item stays where it stands, and ages as if it had not been hit.
-    Stays,
-}
-
-/// The sizes that a policy of queues goes by, where new items go, and what a hit does.
+/// The sizes that a policy of queues goes by, and where new items go.
 #[derive(Clone, Copy)]
 pub struct Rules {
     /// How many items the cache holds.
@@ -35,8 +26,6 @@ pub struct Rules {
     pub protected: usize,
     /// Where a new item goes.
     pub placement: Placement,
-    /// What a hit does.
-    pub hits: HitRule,
 }
 
 // How many items the main part holds.
@@ -61,7 +50,6 @@ impl Rules {
             window: 0,
             protected: 0,
             placement: Placement::Direct(Queue::Window),
-            hits: HitRule::Renews,
         }
     }
 
@@ -76,7 +64,6 @@ impl Rules {
             window: 0,
             protected: capacity * 80 / 100,
             placement: Placement::Direct(Queue::Probation),
-            hits: HitRule::Renews,
         }
     }
 
@@ -93,7 +80,6 @@ impl Rules {
             window: capacity - main,
             protected: main * 80 / 100,
             placement: Placement::Windowed,
-            hits: HitRule::Renews,
         }
     }
 }
