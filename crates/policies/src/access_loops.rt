@@ -31,14 +31,8 @@ pub(crate) fn access_queues(cache: &mut QueueCache, keys: &[Key]) -> Result<(), 
         Policy::TinyLfuLru => access_each::<TinyLfuLruDesign>(cache, keys),
         Policy::TinyLfuSegmented => access_each::<TinyLfuSegmentedDesign>(cache, keys),
         Policy::WindowTinyLfu => access_each::<WindowTinyLfuDesign>(cache, keys),
-        Policy::Clairvoyant
-        | Policy::Fifo
-        | Policy::Clock
-        | Policy::Sieve
-        | Policy::S3Fifo
-        | Policy::TwoQ
-        | Policy::Arc
-        | Policy::Caffeine => unreachable!(),
+        // A policy of another engine.
+        _ => unreachable!(),
     }
 }
 
