@@ -40,7 +40,7 @@ module _ (s : Queues) (t : IsTabled s) (from ghost size : ℕ) (r : Bool) (e : E
     where
       go : (u : Queues) → IsTabled u → (f : Bool) → after_leaving (cond f None (leaving ghost None)) u ≡ with_queue ghost (kept f (u ghost)) u
       go u tabled true = turns-within u tabled 0 ghost 0 into
-      go u tabled false = any-out u tabled ghost into
+      go u tabled false = any-out u tabled ghost
 
 -- ---- the keys of the ghost, less the accessed one
 

@@ -1,5 +1,7 @@
 -- A queue's oldest key leaves it, and what that leaves alone.
-use Rattle.std.proofs.Common.{◌≡◌, ℕ, zero, suc, ◌-◌, ◌<◌, false, Option, Some, None, List, [], ◌∷◌, drop, ap, sym, subst, ◌∙◌, refl, arith}
+use Rattle.std.proofs.Common.{eqb, ◌++◌, map, take, append-nil, ◌≡◌, ℕ, zero, suc, ◌-◌, ◌<◌, false, Option, Some, None, List, [], ◌∷◌, drop, ap, sym, subst, ◌∙◌, refl, arith}
+use Rattle.std.proofs.Math.Path.{fun_ext}
+use Rattle.std.proofs.lemmas.Bool.{cond_both, eqb-true}
 use Rattle.step_record.specs.declared.item.Item.{Item}
 use Rattle.queue_table.specs.declared.records.Entry.{Entry}
 use Rattle.queue_table.specs.Entries.{is_same_item, entry, occurrences, oldest_of}
@@ -12,7 +14,7 @@ use Rattle.queue_moves.specs.Moves.{turned, after_turn, after_turns, after_run, 
 use Rattle.queue_moves.specs.Tabled.{IsTabled}
 use Rattle.queue_moves.specs.Undoing.{IsLeft, IsRun}
 use Rattle.queue_moves.proofs.Laws.{first-other, off-after-send}
-use Rattle.queue_moves.proofs.Tabled.{oldest-gone, turns-within}
+use Rattle.queue_moves.proofs.Tabled.{oldest-gone}
 
 pub oldest-out : (s : Queues) → IsTabled s → (q : ℕ) (e : Entry) (l : List Entry) → s q ≡ e ∷ l → after_leaving (leaving q None) s ≡ with_queue q l s
 oldest-out s t q e l h = ap (λ o. departed None o s) (ap oldest_of h) ∙ oldest-gone s t q e l h
@@ -23,13 +25,31 @@ oldest-sent s t q to e l h = ap (λ o. departed (Some (to, 0)) o s) (ap oldest_o
 pub none-out : (s : Queues) (q : ℕ) → s q ≡ [] → after_leaving (leaving q None) s ≡ s
 none-out s q h = ap (λ o. departed None o s) (ap oldest_of h)
 
--- whether it has a key or not
-pub any-out : (s : Queues) → IsTabled s → (q : ℕ) → q < QUEUES → after_leaving (leaving q None) s ≡ with_queue q (drop 1 (s q)) s
-any-out s t q low = at (s q) refl
+-- the same, whether it has a key or not
+
+with-same : (q : ℕ) (s : Queues) → with_queue q (s q) s ≡ s
+with-same q s = fun_ext (λ j. cond_both (eqb j q) (s q) (s j) (λ l. l ≡ s j) (λ e. ap s (sym (eqb-true j q e))) (λ e. refl))
+
+pub any-out : (s : Queues) → IsTabled s → (q : ℕ) → after_leaving (leaving q None) s ≡ with_queue q (drop 1 (s q)) s
+any-out s t q = at (s q) refl
   where
     at : (l : List Entry) → s q ≡ l → after_leaving (leaving q None) s ≡ with_queue q (drop 1 (s q)) s
-    at [] h = none-out s q h ∙ turns-within s t 0 q 0 low ∙ ap (λ l. with_queue q l s) (h ∙ ap (drop 1) (sym h))
+    at [] h = none-out s q h ∙ sym (with-same q s) ∙ ap (λ l. with_queue q l s) (h ∙ ap (drop 1) (sym h))
     at (e ∷ l) h = oldest-out s t q e l h ∙ ap (λ x. with_queue q (drop 1 x) s) (sym h)
+
+pub any-sent : (s : Queues) → IsTabled s → (q to n : ℕ) → after_leaving (leaving q (Some (to, n))) s
+    ≡ with_queue to (with_queue q (drop 1 (s q)) s to ++ map (λ (e : Entry). entry e.item n) (take 1 (s q))) (with_queue q (drop 1 (s q)) s)
+any-sent s t q to n = at (s q) refl
+  where
+    after : List Entry → Queues
+    after l = with_queue to (with_queue q (drop 1 l) s to ++ map (λ (e : Entry). entry e.item n) (take 1 l)) (with_queue q (drop 1 l) s)
+
+    at : (l : List Entry) → s q ≡ l → after_leaving (leaving q (Some (to, n))) s ≡ after (s q)
+    at [] h =
+        let same : with_queue q [] s ≡ s = ap (λ l. with_queue q l s) (sym h) ∙ with-same q s in
+        ap (λ o. departed (Some (to, n)) o s) (ap oldest_of h) ∙ sym (with-same to s) ∙ ap (λ l. with_queue to l s) (sym (append-nil (s to)))
+        ∙ ap (λ (u : Queues). with_queue to (u to ++ []) u) (sym same) ∙ ap after (sym h)
+    at (e ∷ l) h = ap (λ o. departed (Some (to, n)) o s) (ap oldest_of h) ∙ ap (after_push to (entry e.item n)) (oldest-gone s t q e l h) ∙ ap after (sym h)
 
 -- ---- an entry of other queues stays out of those that keys leave
 

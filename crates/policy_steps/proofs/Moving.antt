@@ -1,18 +1,19 @@
 -- What the parts of an access make of the keys of the queues.
-use Rattle.std.proofs.Common.{◌≡◌, ℕ, ◌<◌, ◌≤◌, Bool, true, false, cond, eqb, Option, Some, None, List, [], ◌∷◌, ◌++◌, length, take, drop, append-nil, ap, ◌∙◌, sym, refl, arith, inl, inr}
-use Rattle.std.proofs.lemmas.Bool.{cases_Bool, eqb-true}
+use Rattle.std.proofs.Common.{map, ◌≡◌, ℕ, ◌≤◌, Bool, true, false, cond, eqb, Option, Some, None, List, [], ◌∷◌, ◌++◌, length, take, drop, ap, ◌∙◌, refl, arith, inl, inr}
+use Rattle.std.proofs.lemmas.Bool.{cases_Bool}
 use Rattle.std.proofs.lemmas.List.{length-map}
 use Rattle.step_record.specs.Keys.{has_key, keys_without}
 use Rattle.queue_table.specs.declared.records.Entry.{Entry}
-use Rattle.queue_table.specs.Entries.{entry, oldest_of, entries_without}
-use Rattle.queue_table.specs.Queues.{QUEUES, Queues, with_queue, after_removal, after_send}
+use Rattle.queue_table.specs.Entries.{entry, entries_without}
+use Rattle.queue_table.specs.Queues.{Queues, with_queue, after_send}
 use Rattle.queue_policies.proofs.Residents.{apart}
 use Rattle.ghost_policies.proofs.ArcPlans.{none-out}
-use Rattle.queue_moves.specs.Moves.{item_of, leaving, IsLowTarget, IsLowLeaving, departed, after_leaving, Own, IsLowOwn, own_plan, IsLowPlan}
+use Rattle.queue_moves.specs.Moves.{item_of, leaving, IsLowLeaving, after_leaving, Own, IsLowOwn, own_plan, IsLowPlan}
 use Rattle.queue_moves.specs.Tabled.{HasKeys, IsTabled, keys_of}
-use Rattle.queue_moves.proofs.Tabled.{keys-append, oldest-gone, tabled-leaving}
+use Rattle.queue_moves.proofs.Tabled.{keys-append, tabled-leaving}
 use Rattle.policy_steps.specs.Misses.{Leavers, miss_plan}
 use Rattle.policy_steps.proofs.Keys.{without-keys}
+use Rattle.policy_steps.proofs.Leaving.{any-out, any-sent}
 
 pub length-keys : (l : List Entry) → length (keys_of l) ≡ length l
 length-keys l = length-map l (λ (e : Entry). e.item.key)
@@ -29,71 +30,38 @@ keys-sent k m q s z j =
 
 -- ---- a queue's oldest key leaves it
 
-with-nothing : (q : ℕ) (s : Queues) (j : ℕ) → with_queue q (s q ++ []) s j ≡ s j
-with-nothing q s j =
-    elim (cases_Bool (eqb j q)) as (λ _. cond (eqb j q) (s q ++ []) (s j) ≡ s j) [
-      | inl f ↦ rw f (append-nil (s q) ∙ ap s (sym (eqb-true j q f)))
-      | inr f ↦ rw f refl
-    ]
-
 -- the keys f of the queues, once the oldest of `from` has left it, for another queue or for good
 abbrev pub keys_left : ℕ → Option (ℕ × ℕ) → (ℕ → List ℕ) → ℕ → List ℕ
 keys_left from None f j = cond (eqb j from) (drop 1 (f from)) (f j)
 keys_left from (Some to) f j =
     cond (eqb j to.0) (cond (eqb to.0 from) (drop 1 (f from)) (f to.0) ++ take 1 (f from)) (cond (eqb j from) (drop 1 (f from)) (f j))
 
-module _ (s : Queues) (from : ℕ) where
+keys-with : (q : ℕ) (l : List Entry) (s : Queues) (j : ℕ) → keys_of (with_queue q l s j) ≡ cond (eqb j q) (keys_of l) (keys_of (s j))
+keys-with q l s j = elim (cases_Bool (eqb j q)) as (λ _. keys_of (cond (eqb j q) l (s j)) ≡ cond (eqb j q) (keys_of l) (keys_of (s j))) [ inl f ↦ rw f refl | inr f ↦ rw f refl ]
+
+keys-drop : (l : List Entry) → keys_of (drop 1 l) ≡ drop 1 (keys_of l)
+keys-drop [] = refl
+keys-drop (e ∷ l) = refl
+
+keys-take : (n : ℕ) (l : List Entry) → keys_of (map (λ (e : Entry). entry e.item n) (take 1 l)) ≡ take 1 (keys_of l)
+keys-take n [] = refl
+keys-take n (e ∷ l) = refl
+
+module _ (s : Queues) (from : ℕ) (t : IsTabled s) where
   abbrev keys : ℕ → List ℕ
   keys q = keys_of (s q)
 
-  gone-keys : (l : List Entry) → keys_of l ≡ drop 1 (keys from) → (j : ℕ) → keys_of (with_queue from l s j) ≡ keys_left from None keys j
-  gone-keys l h j =
-      elim (cases_Bool (eqb j from)) as (λ _. keys_of (cond (eqb j from) l (s j)) ≡ cond (eqb j from) (drop 1 (keys from)) (keys_of (s j))) [
-        | inl f ↦ rw f h
-        | inr f ↦ rw f refl
-      ]
+  rest : (j : ℕ) → keys_of (with_queue from (drop 1 (s from)) s j) ≡ keys_left from None keys j
+  rest j = keys-with from (drop 1 (s from)) s j ∙ ap (λ l. cond (eqb j from) l (keys j)) (keys-drop (s from))
 
-  none-keys : s from ≡ [] → (j : ℕ) → keys_of (s j) ≡ keys_left from None keys j
-  none-keys h j =
-      elim (cases_Bool (eqb j from)) as (λ _. keys_of (s j) ≡ cond (eqb j from) (drop 1 (keys from)) (keys_of (s j))) [
-        | inl f ↦ rw f (ap (λ q. keys_of (s q)) (eqb-true j from f) ∙ ap keys_of h ∙ sym (ap (λ z. drop 1 (keys_of z)) h))
-        | inr f ↦ rw f refl
-      ]
-
-  -- u: the queues without it, g: its key in a list
-  sent-keys : (u : Queues) (g : List Entry) → keys_of g ≡ take 1 (keys from) → ((j : ℕ) → keys_of (u j) ≡ keys_left from None keys j)
-      → (to : ℕ × ℕ) (j : ℕ) → keys_of (with_queue to.0 (u to.0 ++ g) u j) ≡ keys_left from (Some to) keys j
-  sent-keys u g new rest to j =
-      elim (cases_Bool (eqb j to.0)) as (λ _. keys_of (cond (eqb j to.0) (u to.0 ++ g) (u j)) ≡ cond (eqb j to.0) (keys_left from None keys to.0 ++ take 1 (keys from)) (keys_left from None keys j)) [
-        | inl f ↦ rw f (keys-append (u to.0) g ∙ ap (λ z. z ++ keys_of g) (rest to.0) ∙ ap (λ z. keys_left from None keys to.0 ++ z) new)
-        | inr f ↦ rw f (rest j)
-      ]
-
-  removed-keys : IsTabled s → (e : Entry) (l : List Entry) → s from ≡ e ∷ l → (j : ℕ) → keys_of (after_removal e.item s j) ≡ keys_left from None keys j
-  removed-keys t e l h j =
-      ap (λ (u : Queues). keys_of (u j)) (oldest-gone s t from e l h) ∙ gone-keys l (sym (ap (λ z. drop 1 (keys_of z)) h)) j
-
-  left-keys-at : IsTabled s → (to : Option (ℕ × ℕ)) (l : List Entry) → s from ≡ l → (j : ℕ)
-      → keys_of (departed to (oldest_of l) s j) ≡ keys_left from to keys j
-  left-keys-at t None [] h j = none-keys h j
-  left-keys-at t (Some to) [] h j =
-      ap keys_of (sym (with-nothing to.0 s j)) ∙ sent-keys s [] (sym (ap (λ z. take 1 (keys_of z)) h)) (none-keys h) to j
-  left-keys-at t None (e ∷ l) h j = removed-keys t e l h j
-  left-keys-at t (Some to) (e ∷ l) h j =
-      sent-keys (after_removal e.item s) (entry e.item to.1 ∷ []) (sym (ap (λ z. take 1 (keys_of z)) h)) (removed-keys t e l h) to j
-
-  pub left-keys : IsTabled s → (to : Option (ℕ × ℕ)) (j : ℕ) → keys_of (after_leaving (leaving from to) s j) ≡ keys_left from to keys j
-  left-keys t to j = left-keys-at t to (s from) refl j
-
--- another one has left then, for good
-pub left-twice : (s : Queues) → IsTabled s → (from : ℕ) (to : Option (ℕ × ℕ)) → IsLowTarget to → from < QUEUES → (q j : ℕ)
-    → keys_of (after_leaving (leaving q None) (after_leaving (leaving from to) s) j)
-    ≡ cond (eqb j q) (drop 1 (keys_left from to (λ i. keys_of (s i)) q)) (keys_left from to (λ i. keys_of (s i)) j)
-left-twice s t from to low w q j =
-    let u : Queues = after_leaving (leaving from to) s in
-    left-keys u q (tabled-leaving s t (leaving from to) (w, low)) None j
-    ∙ ap (λ z. cond (eqb j q) (drop 1 z) (keys_of (u j))) (left-keys s from t to q)
-    ∙ ap (λ z. cond (eqb j q) (drop 1 (keys_left from to (λ i. keys_of (s i)) q)) z) (left-keys s from t to j)
+  pub left-keys : (to : Option (ℕ × ℕ)) (j : ℕ) → keys_of (after_leaving (leaving from to) s j) ≡ keys_left from to keys j
+  left-keys None j = ap (λ (u : Queues). keys_of (u j)) (any-out s t from) ∙ rest j
+  left-keys (Some to) j =
+      let u : Queues = with_queue from (drop 1 (s from)) s in
+      let one : List Entry = map (λ (e : Entry). entry e.item to.1) (take 1 (s from)) in
+      ap (λ (v : Queues). keys_of (v j)) (any-sent s t from to.0 to.1) ∙ keys-with to.0 (u to.0 ++ one) u j
+      ∙ ap (λ l. cond (eqb j to.0) l (keys_of (u j))) (keys-append (u to.0) one ∙ ap (λ l. l ++ keys_of one) (rest to.0) ∙ ap (λ l. keys_left from None keys to.0 ++ l) (keys-take to.1 (s from)))
+      ∙ ap (λ l. cond (eqb j to.0) (keys_left from None keys to.0 ++ take 1 (keys from)) l) (rest j)
 
 -- a key that is not there is taken out for nothing, also once the oldest key has left
 pub without-rest : (k v : ℕ) (l : List ℕ) → has_key k (v ∷ l) ≡ false → keys_without k l ≡ l

@@ -150,7 +150,7 @@ pub record IsLeft (k : ℕ) (u : Queues) (o : Outcome) (r : Outcome × S3FifoSta
 pub main-left : (k : ℕ) (s : Queues) (small : List CountedKey) (ghost : List ℕ) → IsTabled s → counted_keys (s SMALL) ≡ small → keys_without k (keys_of (s GHOST)) ≡ ghost
     → IsLeft k (after_leaving (leaving MAIN None) s) (outcome_after (leaving MAIN None) s) (main_eviction small (counted_keys (s MAIN)) ghost)
 main-left k s small ghost t same same_ghost =
-    subst (λ u. IsLeft k u (outcome_after (leaving MAIN None) s) (main_eviction small (counted_keys (s MAIN)) ghost)) (sym (any-out s t MAIN (omega arith))) (at (s MAIN))
+    subst (λ u. IsLeft k u (outcome_after (leaving MAIN None) s) (main_eviction small (counted_keys (s MAIN)) ghost)) (sym (any-out s t MAIN)) (at (s MAIN))
   where
     at : (l : List Entry) → IsLeft k (with_queue MAIN (drop 1 l) s) (evicted (oldest_of l)) (main_eviction small (counted_keys l) ghost)
     at [] = record { outcome = refl; small = same; main = refl; ghost = same_ghost }
