@@ -4,7 +4,7 @@ use Rattle.std.proofs.lemmas.Bool.{cases_Bool, cases_lt, le-ltb, lt-ltb, eqb-tru
 use Rattle.step_record.specs.Keys.{has_key, keys_without}
 use Rattle.step_record.specs.Stats.{is_hit, is_eviction, is_rejection, one_if}
 use Rattle.step_record.specs.declared.outcome.Outcome.{Outcome}
-use Rattle.step_record.specs.declared.outcome.Outcome.TheVariants.{Hit}
+use Rattle.step_record.specs.declared.outcome.Outcome.TheVariants.{Hit, Evicted}
 use Rattle.queue_policies.specs.Residents.{times, keys_evicted, IsAccess, AreResidents}
 use Rattle.ghost_policies.specs.Arc.{ArcState, arc_residents, arc_total, arc_target, arc_replace, arc_plan, plan_of_new_key, forgotten_of_b1, forgotten_of_b2, leaver_dropped, arc_after_recall, arc_after_forgetting, arc_after_eviction, arc_after_join, arc_after_miss, arc_outcome, arc_act, IsArc}
 use Rattle.ghost_policies.specs.declared.arc.ArcForgets.{ArcForgets}
@@ -122,41 +122,35 @@ module _ (c k : ℕ) (h : 1 ≤ c) (s : ArcState) (i : IsArc c s) where
     full-evicts : c ≤ length s.t1 + length s.t2 → true ≡ cond (nat_lt (length (arc_residents s)) c) false true
     full-evicts m = rw (le-ltb (length (arc_residents s)) c (omega (arith, m, length-append s.t1 s.t2))) refl
 
-    -- a key leaves for a ghost
+    -- where the cache is full, v left the residents for a ghost; the ghosts were b1 and b2 before it
+    left-for-ghost : (g : ArcGhost) (v : ℕ) (b1 b2 : List ℕ) (d : ArcState) → length s.t1 + length s.t2 ≡ c → d.p ≤ c
+        → ((f : ℕ → ℕ) → weight f b1 + weight f b2 + f k ≤ weight f s.b1 + weight f s.b2 + if_new g (f k))
+        → length s.t1 + length b1 + if_new g 1 ≤ c → length b1 + length b2 + 1 ≤ c
+        → ((f : ℕ → ℕ) → weight f d.t1 + weight f d.t2 + f v ≡ weight f s.t1 + weight f s.t2) → ((f : ℕ → ℕ) → weight f d.b1 + weight f d.b2 ≡ weight f b1 + weight f b2 + f v)
+        → length d.t1 + length d.b1 ≤ length s.t1 + length b1 → HasRoom c k g s (Evicted v) d
+    left-for-ghost g v b1 b2 d full fits grows l1 ghosts from into moved =
+        let residents = from (λ _. 1) in let remembered = into (λ _. 1) in
+        record {
+          misses = refl;
+          keeps = refl;
+          evicts = full-evicts (omega (arith, full));
+          moves = λ f. omega (arith, from f);
+          grows = λ f. omega (arith, from f, into f, grows f);
+          l1_fits = omega (arith, moved, l1);
+          all_fit = omega (arith, full, ghosts, residents, remembered, length-weight);
+          full = λ some. omega (arith, full, residents, length-weight);
+          p_fits = fits;
+        }
+
     replaced : (g : ArcGhost) (in_b2 : Bool) (p : ℕ) (b1 b2 : List ℕ) → length s.t1 + length s.t2 ≡ c → p ≤ c → (in_b2 ≡ true) ⊎ (length s.t1 < c)
         → ((f : ℕ → ℕ) → weight f b1 + weight f b2 + f k ≤ weight f s.b1 + weight f s.b2 + if_new g (f k))
         → length s.t1 + length b1 + if_new g 1 ≤ c → length b1 + length b2 + 1 ≤ c
         → HasRoom c k g s (arc_outcome (arc_replace in_b2 p s)) (arc_after_eviction (arc_replace in_b2 p s) record { t1 = s.t1; t2 = s.t2; b1 = b1; b2 = b2; p = p })
     replaced g in_b2 p b1 b2 full fits case grows l1 ghosts =
         replace-cases in_b2 c p s (λ v. HasRoom c k g s (arc_outcome v) (arc_after_eviction v record { t1 = s.t1; t2 = s.t2; b1 = b1; b2 = b2; p = p })) h full fits case
-        (λ v l e.
-        let less : length (drop 1 s.t1) + 1 ≡ length s.t1 = omega (arith, weight-first (λ _. 1) s.t1 v l e, length-weight) in
-        let more : length (b1 ++ v ∷ []) ≡ length b1 + 1 = length-append b1 (v ∷ []) in
-        record {
-          misses = refl;
-          keeps = refl;
-          evicts = full-evicts (omega (arith, full));
-          moves = λ f. omega (arith, weight-first f s.t1 v l e);
-          grows = λ f. omega (arith, weight-first f s.t1 v l e, weight-push f b1 v, grows f);
-          l1_fits = omega (arith, l1, less, more);
-          all_fit = omega (arith, full, ghosts, less, more);
-          full = λ some. omega (arith, full, less);
-          p_fits = fits;
-        })
-        (λ v l e.
-        let less : length (drop 1 s.t2) + 1 ≡ length s.t2 = omega (arith, weight-first (λ _. 1) s.t2 v l e, length-weight) in
-        let more : length (b2 ++ v ∷ []) ≡ length b2 + 1 = length-append b2 (v ∷ []) in
-        record {
-          misses = refl;
-          keeps = refl;
-          evicts = full-evicts (omega (arith, full));
-          moves = λ f. omega (arith, weight-first f s.t2 v l e);
-          grows = λ f. omega (arith, weight-first f s.t2 v l e, weight-push f b2 v, grows f);
-          l1_fits = l1;
-          all_fit = omega (arith, full, ghosts, less, more);
-          full = λ some. omega (arith, full, less);
-          p_fits = fits;
-        })
+        (λ v l e. left-for-ghost g v b1 b2 _ full fits grows l1 ghosts (λ f. omega (arith, weight-first f s.t1 v l e)) (λ f. omega (arith, weight-push f b1 v))
+        (omega (arith, weight-first (λ _. 1) s.t1 v l e, length-append b1 (v ∷ []), length-weight)))
+        (λ v l e. left-for-ghost g v b1 b2 _ full fits grows l1 ghosts (λ f. omega (arith, weight-first f s.t2 v l e)) (λ f. omega (arith, weight-push f b2 v)) (omega arith))
 
     -- a key that a ghost remembers
     recalled : (g : ArcGhost) (in_b2 : Bool) → 1 ≤ length s.b1 + length s.b2 → (in_b2 ≡ true) ⊎ (length s.t1 < c) → ((n : ℕ) → if_new g n ≡ 0)

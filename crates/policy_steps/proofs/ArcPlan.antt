@@ -270,26 +270,15 @@ module _ (c k x : ℕ) (s : Queues) (some : 1 ≤ c) (t : IsTabled s) (i : IsArc
 planned : IsPlannedPage arc_page
 planned c k x s some t shown i = (planned-at c k x s some t i (standing (item_of k) s) refl, tt)
 
--- ---- the plan, by the queue where the key stands
+-- ---- the plan of a key that stands in a ghost
 
-ghost-plan-in : (c p q y : ℕ) (s : Queues) → q < QUEUES → (eqb q T1 || eqb q T2) ≡ false
+pub ghost-plan : (c p q y : ℕ) (s : Queues) → q < QUEUES → (eqb q T1 || eqb q T2) ≡ false
     → y ≡ cond (eqb q B2) (p - step_size B1 B2 s) (min c (p + step_size B2 B1 s)) → plan_in c p q s ≡ recall_plan (eqb q B2) y s
-ghost-plan-in c p zero y s low out e = absurd (cc (out))
-ghost-plan-in c p (suc zero) y s low out e = absurd (cc (out))
-ghost-plan-in c p (suc (suc zero)) y s low out e = ap (λ z. recall_plan false z s) (sym e)
-ghost-plan-in c p (suc (suc (suc zero))) y s low out e = ap (λ z. recall_plan true z s) (sym e)
-ghost-plan-in c p (suc (suc (suc (suc q)))) y s low out e = absurd (omega (arith, low))
-
-module _ (c k p q n : ℕ) (s : Queues) (at : standing (item_of k) s ≡ Some (q, n)) where
-  standing-plan : arc_plan c k p s ≡ plan_in c p q s
-  standing-plan = ap (λ a. plan_at c p a s) at
-
-  pub resident-plan : (eqb q T1 || eqb q T2) ≡ true → arc_plan c k p s ≡ own_plan true (goes T2 0) p
-  resident-plan e = standing-plan ∙ rw e refl
-
-  pub ghost-plan : (y : ℕ) → q < QUEUES → (eqb q T1 || eqb q T2) ≡ false
-      → y ≡ cond (eqb q B2) (p - step_size B1 B2 s) (min c (p + step_size B2 B1 s)) → arc_plan c k p s ≡ recall_plan (eqb q B2) y s
-  ghost-plan y low out e = standing-plan ∙ ghost-plan-in c p q y s low out e
+ghost-plan c p zero y s low out e = absurd (cc (out))
+ghost-plan c p (suc zero) y s low out e = absurd (cc (out))
+ghost-plan c p (suc (suc zero)) y s low out e = ap (λ z. recall_plan false z s) (sym e)
+ghost-plan c p (suc (suc (suc zero))) y s low out e = ap (λ z. recall_plan true z s) (sym e)
+ghost-plan c p (suc (suc (suc (suc q)))) y s low out e = absurd (omega (arith, low))
 
 -- ---- keys leave where the cache is full: a ghost has a key only there
 
