@@ -1,17 +1,20 @@
 -- The key of a miss, while others leave their queues.
-use Rattle.std.proofs.Common.{◌≡◌, ℕ, ◌≤◌, Option, Some, None, List, sym, subst}
+use Rattle.std.proofs.Common.{Bool, ◌<◌, ◌≡◌, ℕ, ◌≤◌, Option, Some, None, List, sym, subst}
 use Rattle.step_record.specs.declared.item.Item.{Item}
 use Rattle.queue_table.specs.declared.records.Entry.{Entry}
 use Rattle.queue_table.specs.declared.records.Found.{Found}
 use Rattle.queue_table.specs.declared.slot.Slot.{Slot}
 use Rattle.queue_table.specs.Entries.{entry, occurrences}
+use Rattle.queue_table.specs.Queues.{QUEUES, queue_holding}
 use Rattle.queue_table.specs.QueueTable.{queues, spare, HoldsAt}
+use Rattle.queue_table.proofs.QueueLists.{absent}
 use Rattle.queue_moves.specs.declared.records.Left.{Left}
 use Rattle.queue_moves.specs.declared.records.Run.{Run}
 use Rattle.queue_moves.specs.Moves.{leaving, IsLowLeaving}
 use Rattle.queue_moves.specs.Undoing.{IsLeft, IsRun}
-use Rattle.policy_steps.specs.Comers.{Comes}
-use Rattle.policy_steps.proofs.Leaving.{absent-left, absent-run}
+use Rattle.policy_steps.specs.Comers.{Comes, IsOutside}
+use Rattle.policy_steps.proofs.Leaving.{absent-left, absent-run, off-run}
+use Rattle.policy_steps.proofs.Steps.{still-none}
 
 -- the oldest of a queue that it is not in has left this
 pub comes-on : (found : Option Found) (i : Item) (from : ℕ) (to : Option (ℕ × ℕ)) (old new : List Slot) (r : Left) → IsLowLeaving (leaving from to) → IsLeft (leaving from to) (queues old) (queues new) r
@@ -25,3 +28,18 @@ pub comes-ran : (found : Option Found) (i : Item) (r : Run) (from : ℕ) (old ne
     → ((j : ℕ) (e : Entry) → HoldsAt j e old → occurrences e.item (queues old from) ≡ 0 → HoldsAt j e new) → occurrences i (queues old from) ≡ 0 → Comes found i old → Comes found i new
 comes-ran None i r from old new ran room others off h = (absent-run i r (queues old) (queues new) ran h.0, subst (λ n. 1 ≤ n) (sym room) h.1)
 comes-ran (Some f) i r from old new ran room others off h = others f.at (entry i f.count) h off
+
+-- ---- it stands outside
+
+pub new-outside : (r : Bool) (i : Item) (a b g : ℕ) (old new : List Slot) → a < QUEUES → b < QUEUES → g < QUEUES → queues new ≡ queues old → queue_holding i (queues old) ≡ None → 1 ≤ spare new → IsOutside r None i a b g new
+new-outside r i a b g old new la lb lg same none room =
+    let none_new = still-none i (queues old) (queues new) same none in
+    let off = absent i (queues new) none_new in
+    record { comes = (none_new, room); off_one = off a la; off_other = off b lb; new = λ f. off g lg }
+
+-- once keys of the first of the queues have turned
+pub outside-ran : (r : Bool) (found : Option Found) (i : Item) (run : Run) (a b g : ℕ) (old new : List Slot) → run.from ≡ a → IsRun run (queues old) (queues new) → spare new ≡ spare old
+    → ((j : ℕ) (e : Entry) → HoldsAt j e old → occurrences e.item (queues old a) ≡ 0 → HoldsAt j e new) → IsOutside r found i a b g old → IsOutside r found i a b g new
+outside-ran r found i run a b g old new from ran room others h =
+    let off : (j : ℕ) → occurrences i (queues old j) ≡ 0 → occurrences i (queues new j) ≡ 0 = λ j. off-run i run a j (queues old) (queues new) from ran.after h.off_one in
+    record { comes = comes-ran found i run a old new ran room others h.off_one h.comes; off_one = off a h.off_one; off_other = off b h.off_other; new = λ f. off g (h.new f) }

@@ -1,40 +1,13 @@
 -- The step of S3-FIFO, from what its calls ensure.
-use Rattle.std.proofs.Common.{◌≡◌, ℕ, ◌+◌, ◌-◌, ◌≤◌, Bool, false, nat_lt, Option, None, List, length, ap, ◌∙◌, subst, refl, arith}
-use Rattle.step_record.specs.declared.item.Item.{Item}
-use Rattle.queue_table.specs.declared.records.Entry.{Entry}
-use Rattle.queue_table.specs.declared.records.Found.{Found}
-use Rattle.queue_table.specs.declared.slot.Slot.{Slot}
-use Rattle.queue_table.specs.Entries.{occurrences}
-use Rattle.queue_table.specs.Queues.{Queues, queue_holding}
-use Rattle.queue_table.specs.QueueTable.{queues, spare, HoldsAt}
-use Rattle.queue_table.proofs.QueueLists.{absent}
+use Rattle.std.proofs.Common.{◌≡◌, ℕ, ◌+◌, ◌-◌, ◌≤◌, Bool, false, nat_lt, length, ap, ◌∙◌, subst, refl, arith}
+use Rattle.queue_table.specs.Queues.{Queues}
 use Rattle.queue_moves.specs.declared.records.Run.{Run}
 use Rattle.queue_moves.specs.Moves.{after_run, Plan}
-use Rattle.queue_moves.specs.Undoing.{IsRun}
 use Rattle.queue_moves.specs.Tabled.{IsTabled}
 use Rattle.queue_policies.specs.S3Fifo.{S3FifoState, s3_fifo_residents, s3_fifo_main_size, most_moves, IsS3Fifo}
 use Rattle.queue_policies.proofs.S3Fifo.{unmoved}
-use Rattle.policy_steps.specs.S3Fifo.{SMALL, MAIN, GHOST, s3_fifo_of, promotions, eviction_plan, s3_fifo_miss}
-use Rattle.policy_steps.specs.S3FifoStep.{IsOutside}
-use Rattle.policy_steps.proofs.Coming.{comes-ran}
-use Rattle.policy_steps.proofs.Leaving.{off-run}
+use Rattle.policy_steps.specs.S3Fifo.{SMALL, MAIN, s3_fifo_of, promotions, eviction_plan, s3_fifo_miss}
 use Rattle.policy_steps.proofs.S3FifoMoves.{state_without, resident-count, promotes}
-
--- ---- the key of a miss
-
-pub new-outside : (r : Bool) (i : Item) (t : List Slot) → queue_holding i (queues t) ≡ None → 1 ≤ spare t → IsOutside r None i t
-new-outside r i t none room =
-    let off = absent i (queues t) none in
-    record { comes = (none, room); small = off SMALL (omega arith); main = off MAIN (omega arith); ghost = λ f. off GHOST (omega arith) }
-
--- once keys of the small queue were promoted
-pub outside-ran : (r : Bool) (found : Option Found) (i : Item) (run : Run) (old new : List Slot) → run.from ≡ SMALL → IsRun run (queues old) (queues new) → spare new ≡ spare old
-    → ((j : ℕ) (e : Entry) → HoldsAt j e old → occurrences e.item (queues old SMALL) ≡ 0 → HoldsAt j e new) → IsOutside r found i old → IsOutside r found i new
-outside-ran r found i run old new from ran room others h =
-    let off : (j : ℕ) → occurrences i (queues old j) ≡ 0 → occurrences i (queues new j) ≡ 0 = λ j. off-run i run SMALL j (queues old) (queues new) from ran.after h.small in
-    record { comes = comes-ran found i run SMALL old new ran room others h.small h.comes; small = off SMALL h.small; main = off MAIN h.main; ghost = λ f. off GHOST (h.ghost f) }
-
--- ---- room
 
 -- once the promotions are made
 module _ (part c : ℕ) (s a : Queues) (early : Run) (is : early ≡ promotions (s3_fifo_main_size part c) s) (after : a ≡ after_run early s) where

@@ -5,7 +5,6 @@ pub mod Fifo
 pub mod Clock
 pub mod Sieve
 pub mod S3Fifo
-pub mod S3FifoStep
 pub mod Misses
 pub mod Comers
 pub mod TwoQ

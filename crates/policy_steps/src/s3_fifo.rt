@@ -6,9 +6,9 @@ ghost use Rattle.queue_table.specs.QueueTable.{queues};
 ghost use Rattle.queue_policies.specs.S3Fifo.{s3_fifo_main_size, hit_count, IsS3Fifo};
 ghost use Rattle.queue_moves.specs.Moves.{item_of};
 ghost use Rattle.queue_moves.specs.Undoing.{IsRun, IsAccessed};
-ghost use Rattle.policy_steps.specs.S3Fifo.{MAIN as MainQueue, s3_fifo_of};
+ghost use Rattle.policy_steps.specs.Comers.{IsOutside};
+ghost use Rattle.policy_steps.specs.S3Fifo.{SMALL as SmallQueue, MAIN as MainQueue, GHOST as GhostQueue, s3_fifo_of};
 ghost use Rattle.policy_steps.specs.S3Fifo.{joins, gives_main, eviction_plan, is_resident, s3_fifo_miss, s3_fifo_plan};
-ghost use Rattle.policy_steps.specs.S3FifoStep.{IsOutside};
 
 use crate::accesses::{hit, kept};
 use crate::comers::{enter_apart, enter_for_oldest, enter_for_remembered};
@@ -87,7 +87,7 @@ fn miss<C>(
 ) -> Accessed
     requires few { capacity ≤ MAX_CAPACITY }
     requires state { IsS3Fifo part capacity (s3_fifo_of (queues table.old)) }
-    requires outside { IsOutside remembered found (item_of key) table.old }
+    requires outside { IsOutside remembered found (item_of key) SmallQueue MainQueue GhostQueue table.old }
     ensures { IsAccessed (s3_fifo_miss part capacity remembered scalar (queues table.old)) (item_of key) scalar
         (queues table.old) (queues table.new) result }
 {
@@ -129,7 +129,7 @@ fn evict<C>(
     early: Run,
 ) -> Accessed
     requires few { length (queues table.old MainQueue) ≤ MAX_CAPACITY }
-    requires outside { IsOutside remembered found (item_of key) table.old }
+    requires outside { IsOutside remembered found (item_of key) SmallQueue MainQueue GhostQueue table.old }
     ensures { (s : Queues) → IsRun early s (queues table.old)
         → IsAccessed (eviction_plan main early remembered scalar (queues table.old)) (item_of key) scalar s
         (queues table.new) result }

@@ -1,13 +1,12 @@
 //! An access by 2Q.
 ghost use Rattle.std.specs.Prelude.{◌≡◌, ◌≤◌, nat_lt, ◌==◌, ◌||◌, false, length, IfOk, OnErr};
-ghost use Rattle.queue_table.specs.Entries.{occurrences};
 ghost use Rattle.queue_table.specs.QueueTable.{queues};
 ghost use Rattle.queue_moves.specs.Moves.{item_of};
 ghost use Rattle.queue_moves.specs.Undoing.{IsAccessed};
-ghost use Rattle.policy_steps.specs.Comers.{Comes};
+ghost use Rattle.policy_steps.specs.Comers.{IsOutside};
 ghost use Rattle.policy_steps.specs.TwoQ.{A1IN, A1OUT, AM, joins, two_q_miss, two_q_plan};
 
-use crate::accesses::hit;
+use crate::accesses::{hit, kept};
 use crate::comers::{enter_apart, enter_for_oldest, enter_for_remembered};
 use crate::misses::{LeftKeys, missed};
 use ghost_policies::TwoQSizes;
@@ -70,10 +69,7 @@ fn miss<C>(
     found: Option<Found>,
     remembered: bool,
 ) -> Accessed
-    requires comes { Comes found (item_of key) table.old }
-    requires a1in { occurrences (item_of key) (queues table.old A1IN) ≡ 0 }
-    requires am { occurrences (item_of key) (queues table.old AM) ≡ 0 }
-    requires a1out { remembered ≡ false → occurrences (item_of key) (queues table.old A1OUT) ≡ 0 }
+    requires outside { IsOutside remembered found (item_of key) A1IN AM A1OUT table.old }
     ensures { IsAccessed (two_q_miss sizes capacity remembered scalar (queues table.old)) (item_of key) scalar
         (queues table.old) (queues table.new) result }
 {
@@ -81,7 +77,7 @@ fn miss<C>(
     let (a1in, am) = (table.len(A1IN), table.len(AM));
     if a1in < (capacity as usize).saturating_sub(am) {
         let own = enter_apart(table, key, found, queue);
-        return missed(LeftKeys::NONE, own, scalar, scalar);
+        return kept(own, scalar);
     }
     if !a1in_gives(a1in, am, sizes.kin) {
         let (first, own) = enter_for_oldest::<C>(table, AM, key, found, queue);

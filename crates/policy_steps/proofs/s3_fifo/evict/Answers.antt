@@ -1,12 +1,11 @@
-use Rattle.std.proofs.Common.{rules, ◌≡◌, None, ap, ◌∙◌, sym, refl, subst}
+use Rattle.std.proofs.Common.{rules, ◌≡◌, None, ap, ◌∙◌, sym, refl}
 use Rattle.queue_table.specs.Queues.{Queues}
 use Rattle.queue_table.specs.QueueTable.{queues}
 use Rattle.queue_moves.specs.declared.records.Run.{Run}
-use Rattle.queue_moves.specs.Moves.{item_of, no_run, leaving, after_leaving, goes}
-use Rattle.queue_moves.specs.Undoing.{IsOwn}
+use Rattle.queue_moves.specs.Moves.{item_of, no_run, leaving, goes}
 use Rattle.queue_moves.proofs.Carried.{no-run}
-use Rattle.policy_steps.specs.Misses.{Leavers, one_leaver, leavers_for_ghost, IsEntered}
-use Rattle.policy_steps.specs.S3Fifo.{SMALL, MAIN, GHOST, main_turns, joins}
+use Rattle.policy_steps.specs.Misses.{one_leaver, leavers_for_ghost}
+use Rattle.policy_steps.specs.S3Fifo.{SMALL, MAIN, GHOST, main_turns}
 use Rattle.policy_steps.proofs.Coming.{comes-ran}
 use Rattle.policy_steps.proofs.Leaving.{off-run}
 use Rattle.policy_steps.proofs.s3_fifo.evict.Goals as goal
@@ -14,29 +13,25 @@ use Rattle.policy_steps.proofs.s3_fifo.evict.Goals as goal
 pub enter_for_oldest-requires-clause-comes : goal.enter_for_oldest-requires-clause-comes
 enter_for_oldest-requires-clause-comes g c =
     let late = c.run-late.ensures in
-    comes-ran c.args.found (item_of c.args.key) c.run-late.result MAIN _ _ late.made late.spare late.others c.requires.outside.main c.requires.outside.comes
+    comes-ran c.args.found (item_of c.args.key) c.run-late.result MAIN _ _ late.made late.spare late.others c.requires.outside.off_other c.requires.outside.comes
 
 pub enter_for_oldest-requires-clause-off : goal.enter_for_oldest-requires-clause-off
 enter_for_oldest-requires-clause-off g c =
-    off-run (item_of c.args.key) c.run-late.result MAIN MAIN (queues c.args.table.now) (queues c.run-late.new.self) (ap (λ (r : Run). r.from) c.run-late.ensures.run) c.run-late.ensures.made.after c.requires.outside.main c.requires.outside.main
+    off-run (item_of c.args.key) c.run-late.result MAIN MAIN (queues c.args.table.now) (queues c.run-late.new.self) (ap (λ (r : Run). r.from) c.run-late.ensures.run) c.run-late.ensures.made.after c.requires.outside.off_other c.requires.outside.off_other
 
 pub returns-then-main_gives : goal.returns-then-main_gives
 returns-then-main_gives g c = λ s ran.
-    let i = item_of c.args.key in
     let t : Queues = queues c.args.table.now in
     let u : Queues = queues c.run-late.new.self in
     let enter = c.enter_for_oldest.ensures in
     let late : c.run-late.result ≡ main_turns t = search rules in
-    let own = subst (λ q. IsOwn (goes q 0) i (after_leaving (leaving MAIN None) u) (queues c.enter_for_oldest.new.table) c.enter_for_oldest.result.1) c.queue_of-queue.ensures enter.own in
-    rw (sym c.main_gives.ensures ∙ c.if-main_gives.true)
-    (c.missed_after.ensures c.args.early (main_turns t) (one_leaver (leaving MAIN None)) (goes (joins c.args.remembered) 0) i s t u _ _ refl late ran
-    c.run-late.ensures.made (c.one.ensures (leaving MAIN None) u _ enter.left enter.out) own)
+    rw (sym c.main_gives.ensures ∙ c.if-main_gives.true, sym c.queue_of-queue.ensures)
+    (c.missed_after.ensures c.args.early (main_turns t) (one_leaver (leaving MAIN None)) (goes c.queue_of-queue.result 0) (item_of c.args.key) s t u _ _ refl late ran
+    c.run-late.ensures.made (c.one.ensures (leaving MAIN None) u _ enter.left enter.out) enter.own)
 
 pub returns : goal.returns
 returns g c = λ s ran.
-    let i = item_of c.args.key in
     let t : Queues = queues c.args.table.now in
-    let l : Leavers = leavers_for_ghost SMALL GHOST c.args.main c.args.remembered t in
-    let entered = subst (λ q. IsEntered l (goes q 0) i t (queues c.enter_for_remembered.new.table) c.enter_for_remembered.result.0 c.enter_for_remembered.result.1) c.queue_of-queue.ensures c.enter_for_remembered.ensures in
-    rw (sym c.main_gives.ensures ∙ c.if-main_gives.false)
-    (c.missed_after-2.ensures c.args.early no_run l (goes (joins c.args.remembered) 0) i s t t _ _ refl refl ran (no-run t) entered.left entered.own)
+    let enter = c.enter_for_remembered.ensures in
+    rw (sym c.main_gives.ensures ∙ c.if-main_gives.false, sym c.queue_of-queue.ensures)
+    (c.missed_after-2.ensures c.args.early no_run (leavers_for_ghost SMALL GHOST c.args.main c.args.remembered t) (goes c.queue_of-queue.result 0) (item_of c.args.key) s t t _ _ refl refl ran (no-run t) enter.left enter.own)

@@ -1,13 +1,14 @@
-use Rattle.std.proofs.Common.{rules, ◌≡◌, ◌+◌, nat_lt, false, length, ap, subst, arith}
+use Rattle.std.proofs.Common.{rules, sym, ◌≡◌, ◌+◌, nat_lt, false, length, ap, subst, arith}
 use Rattle.std.proofs.lemmas.Bool.{lt-ltb, le-ltb}
 use Rattle.queue_table.specs.Queues.{Queues}
 use Rattle.queue_table.specs.QueueTable.{queues}
 use Rattle.queue_moves.specs.declared.records.Run.{Run}
 use Rattle.queue_moves.specs.Moves.{item_of, goes, Plan}
-use Rattle.queue_moves.specs.Undoing.{IsOwn, IsAccessed}
-use Rattle.policy_steps.specs.S3Fifo.{SMALL, MAIN, joins, eviction_plan}
+use Rattle.queue_moves.specs.Undoing.{IsAccessed}
+use Rattle.policy_steps.specs.S3Fifo.{SMALL, MAIN, GHOST, eviction_plan}
+use Rattle.policy_steps.proofs.Coming.{outside-ran}
 use Rattle.policy_steps.proofs.S3FifoMoves.{resident-count}
-use Rattle.policy_steps.proofs.S3FifoStep.{main-few, outside-ran, full-planned}
+use Rattle.policy_steps.proofs.S3FifoStep.{main-few, full-planned}
 use Rattle.policy_steps.proofs.s3_fifo.miss.Goals as goal
 
 pub overflow_add-len : goal.overflow_add-len
@@ -17,9 +18,8 @@ pub returns-then-len-capacity : goal.returns-then-len-capacity
 returns-then-len-capacity g c =
     let i = item_of c.args.key in
     let s : Queues = queues c.args.table.now in
-    let own = subst (λ q. IsOwn (goes q 0) i s (queues c.enter_apart-own.new.table) c.enter_apart-own.result) c.queue_of.ensures c.enter_apart-own.ensures in
-    rw (lt-ltb (length (s SMALL) + length (s MAIN)) c.args.capacity (omega (arith, c.len.ensures, c.len-2.ensures, c.if-len-capacity.true)))
-    (c.kept.ensures (goes (joins c.args.remembered) 0) i s _ own)
+    rw (lt-ltb (length (s SMALL) + length (s MAIN)) c.args.capacity (omega (arith, c.len.ensures, c.len-2.ensures, c.if-len-capacity.true)), sym c.queue_of.ensures)
+    (c.kept.ensures (goes c.queue_of.result 0) i s _ c.enter_apart-own.ensures)
 
 pub evict-requires-clause-few : goal.evict-requires-clause-few
 evict-requires-clause-few g c =
@@ -30,7 +30,7 @@ evict-requires-clause-few g c =
 pub evict-requires-clause-outside : goal.evict-requires-clause-outside
 evict-requires-clause-outside g c =
     let early = c.run-early.ensures in
-    outside-ran c.args.remembered c.args.found (item_of c.args.key) c.run-early.result _ _ (ap (λ (r : Run). r.from) early.run) early.made early.spare early.others c.requires.outside
+    outside-ran c.args.remembered c.args.found (item_of c.args.key) c.run-early.result SMALL MAIN GHOST _ _ (ap (λ (r : Run). r.from) early.run) early.made early.spare early.others c.requires.outside
 
 pub returns : goal.returns
 returns g c =

@@ -1,12 +1,12 @@
-use Rattle.std.proofs.Common.{false, ◌∙◌, sym, subst}
+use Rattle.std.proofs.Common.{false, ◌∙◌, sym, subst, arith}
 use Rattle.queue_table.specs.Queues.{Queues}
 use Rattle.queue_table.specs.QueueTable.{queues}
 use Rattle.queue_policies.specs.S3Fifo.{hit_count, IsS3Fifo}
 use Rattle.queue_moves.specs.Moves.{item_of, counts}
 use Rattle.queue_moves.specs.Undoing.{IsOwn}
-use Rattle.policy_steps.specs.S3Fifo.{s3_fifo_of, plan_at}
-use Rattle.policy_steps.proofs.S3FifoStep.{new-outside}
-use Rattle.policy_steps.proofs.Steps.{still-none, found-accessed, new-accessed}
+use Rattle.policy_steps.specs.S3Fifo.{SMALL, MAIN, GHOST, s3_fifo_of, plan_at}
+use Rattle.policy_steps.proofs.Coming.{new-outside}
+use Rattle.policy_steps.proofs.Steps.{found-accessed, new-accessed}
 use Rattle.policy_steps.proofs.s3_fifo.step.Goals as goal
 
 pub returns-then-is_resident-clause-accessed : goal.returns-then-is_resident-clause-accessed
@@ -21,7 +21,7 @@ pub miss-requires-clause-state : goal.miss-requires-clause-state
 miss-requires-clause-state g c = subst (λ s. IsS3Fifo c.args.part c.args.capacity (s3_fifo_of s)) (sym c.in_ok-reserve.ensures.queues) c.requires.state
 
 pub miss-requires-clause-outside : goal.miss-requires-clause-outside
-miss-requires-clause-outside g c = new-outside false (item_of c.args.key) c.reserve.new.self (still-none _ _ _ c.in_ok-reserve.ensures.queues c.in_default.ensures.absent) c.in_ok-reserve.ensures.room
+miss-requires-clause-outside g c = new-outside false (item_of c.args.key) SMALL MAIN GHOST _ _ (omega arith) (omega arith) (omega arith) c.in_ok-reserve.ensures.queues c.in_default.ensures.absent c.in_ok-reserve.ensures.room
 
 pub returns-in_default-clause-accessed : goal.returns-in_default-clause-accessed
 returns-in_default-clause-accessed g c =
