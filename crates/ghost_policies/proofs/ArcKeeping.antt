@@ -122,35 +122,37 @@ module _ (c k : ℕ) (h : 1 ≤ c) (s : ArcState) (i : IsArc c s) where
     full-evicts : c ≤ length s.t1 + length s.t2 → true ≡ cond (nat_lt (length (arc_residents s)) c) false true
     full-evicts m = rw (le-ltb (length (arc_residents s)) c (omega (arith, m, length-append s.t1 s.t2))) refl
 
-    -- where the cache is full, v left the residents for a ghost; the ghosts were b1 and b2 before it
-    left-for-ghost : (g : ArcGhost) (v : ℕ) (b1 b2 : List ℕ) (d : ArcState) → length s.t1 + length s.t2 ≡ c → d.p ≤ c
-        → ((f : ℕ → ℕ) → weight f b1 + weight f b2 + f k ≤ weight f s.b1 + weight f s.b2 + if_new g (f k))
-        → length s.t1 + length b1 + if_new g 1 ≤ c → length b1 + length b2 + 1 ≤ c
-        → ((f : ℕ → ℕ) → weight f d.t1 + weight f d.t2 + f v ≡ weight f s.t1 + weight f s.t2) → ((f : ℕ → ℕ) → weight f d.b1 + weight f d.b2 ≡ weight f b1 + weight f b2 + f v)
-        → length d.t1 + length d.b1 ≤ length s.t1 + length b1 → HasRoom c k g s (Evicted v) d
-    left-for-ghost g v b1 b2 d full fits grows l1 ghosts from into moved =
-        let residents = from (λ _. 1) in let remembered = into (λ _. 1) in
+    -- v left the residents of a full cache
+    left : (g : ArcGhost) (v : ℕ) (d : ArcState) → length s.t1 + length s.t2 ≡ c → d.p ≤ c → ((f : ℕ → ℕ) → weight f d.t1 + weight f d.t2 + f v ≡ weight f s.t1 + weight f s.t2)
+        → ((f : ℕ → ℕ) → weight f d.b1 + weight f d.b2 + f k ≤ weight f s.b1 + weight f s.b2 + f v + if_new g (f k))
+        → length d.t1 + length d.b1 + if_new g 1 ≤ c → length d.b1 + length d.b2 ≤ c → HasRoom c k g s (Evicted v) d
+    left g v d full fits from grows l1 ghosts =
+        let residents = from (λ _. 1) in
         record {
           misses = refl;
           keeps = refl;
           evicts = full-evicts (omega (arith, full));
           moves = λ f. omega (arith, from f);
-          grows = λ f. omega (arith, from f, into f, grows f);
-          l1_fits = omega (arith, moved, l1);
-          all_fit = omega (arith, full, ghosts, residents, remembered, length-weight);
+          grows = λ f. omega (arith, from f, grows f);
+          l1_fits = l1;
+          all_fit = omega (arith, full, ghosts, residents, length-weight);
           full = λ some. omega (arith, full, residents, length-weight);
           p_fits = fits;
         }
 
+    -- it left for a ghost; the ghosts were b1 and b2 before that
     replaced : (g : ArcGhost) (in_b2 : Bool) (p : ℕ) (b1 b2 : List ℕ) → length s.t1 + length s.t2 ≡ c → p ≤ c → (in_b2 ≡ true) ⊎ (length s.t1 < c)
         → ((f : ℕ → ℕ) → weight f b1 + weight f b2 + f k ≤ weight f s.b1 + weight f s.b2 + if_new g (f k))
         → length s.t1 + length b1 + if_new g 1 ≤ c → length b1 + length b2 + 1 ≤ c
         → HasRoom c k g s (arc_outcome (arc_replace in_b2 p s)) (arc_after_eviction (arc_replace in_b2 p s) record { t1 = s.t1; t2 = s.t2; b1 = b1; b2 = b2; p = p })
     replaced g in_b2 p b1 b2 full fits case grows l1 ghosts =
         replace-cases in_b2 c p s (λ v. HasRoom c k g s (arc_outcome v) (arc_after_eviction v record { t1 = s.t1; t2 = s.t2; b1 = b1; b2 = b2; p = p })) h full fits case
-        (λ v l e. left-for-ghost g v b1 b2 _ full fits grows l1 ghosts (λ f. omega (arith, weight-first f s.t1 v l e)) (λ f. omega (arith, weight-push f b1 v))
-        (omega (arith, weight-first (λ _. 1) s.t1 v l e, length-append b1 (v ∷ []), length-weight)))
-        (λ v l e. left-for-ghost g v b1 b2 _ full fits grows l1 ghosts (λ f. omega (arith, weight-first f s.t2 v l e)) (λ f. omega (arith, weight-push f b2 v)) (omega arith))
+        (λ v l e.
+        let longer = length-append b1 (v ∷ []) in
+        left g v _ full fits (λ f. omega (arith, weight-first f s.t1 v l e)) (λ f. omega (arith, weight-push f b1 v, grows f))
+        (omega (arith, l1, longer, weight-first (λ _. 1) s.t1 v l e, length-weight)) (omega (arith, ghosts, longer)))
+        (λ v l e.
+        left g v _ full fits (λ f. omega (arith, weight-first f s.t2 v l e)) (λ f. omega (arith, weight-push f b2 v, grows f)) l1 (omega (arith, ghosts, length-append b2 (v ∷ []))))
 
     -- a key that a ghost remembers
     recalled : (g : ArcGhost) (in_b2 : Bool) → 1 ≤ length s.b1 + length s.b2 → (in_b2 ≡ true) ⊎ (length s.t1 < c) → ((n : ℕ) → if_new g n ≡ 0)
@@ -204,18 +206,8 @@ module _ (c k : ℕ) (h : 1 ≤ c) (s : ArcState) (i : IsArc c s) where
           (λ same low.
           new-key NoneForgotten (leaver_dropped s.t1)
           (by-oldest (λ l. HasRoom c k NoGhost s (arc_outcome (leaver_dropped l)) (arc_after_eviction (leaver_dropped l) s)) s.t1 (omega (arith, low, h)) (λ v l e.
-          let less : length (drop 1 s.t1) + 1 ≡ length s.t1 = omega (arith, weight-first (λ _. 1) s.t1 v l e, length-weight) in
-          record {
-            misses = refl;
-            keeps = refl;
-            evicts = full-evicts (omega (arith, low));
-            moves = λ f. omega (arith, weight-first f s.t1 v l e);
-            grows = λ f. omega (arith, weight-first f s.t1 v l e);
-            l1_fits = omega (arith, less, same);
-            all_fit = omega (arith, less, all);
-            full = λ some. omega (arith, less, low, fits);
-            p_fits = i.p_fits;
-          })))
+          left NoGhost v _ (omega (arith, low, fits)) i.p_fits (λ f. omega (arith, weight-first f s.t1 v l e)) (λ f. omega arith)
+          (omega (arith, same, weight-first (λ _. 1) s.t1 v l e, length-weight)) (omega (arith, all, low)))))
           (λ other few.
           new-key NoneForgotten NoLeaver record {
             misses = refl;
