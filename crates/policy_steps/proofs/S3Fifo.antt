@@ -13,7 +13,7 @@ use Rattle.queue_policies.specs.Residents.{times}
 use Rattle.queue_policies.specs.CountedKeys.{CountedKey, uncounted_key, count_of, with_count}
 use Rattle.queue_policies.specs.CountedKeys as counted
 use Rattle.queue_policies.specs.Ghost.{ghost_place_of}
-use Rattle.queue_policies.specs.S3Fifo.{S3FifoState, s3_fifo_residents, s3_fifo_main_size, main_eviction, small_eviction, most_moves, s3_fifo_room, s3_fifo_with_key, s3_fifo_with_count, hit_count, s3_fifo_act, IsS3Fifo}
+use Rattle.queue_policies.specs.S3Fifo.{S3FifoState, s3_fifo_residents, s3_fifo_main_size, main_eviction, small_eviction, most_moves, s3_fifo_room, s3_fifo_with_key, hit_count, s3_fifo_act, IsS3Fifo}
 use Rattle.queue_policies.proofs.Residents.{times-none, no-times, brought-few}
 use Rattle.queue_policies.proofs.CountedKeys.{keys-times, count-append, keys-with}
 use Rattle.queue_policies.proofs.S3Fifo.{unmoved, join-times, room-made, keeps}
@@ -28,7 +28,7 @@ use Rattle.policy_steps.specs.S3Fifo.{SMALL, MAIN, GHOST, s3_fifo_of, promotions
 use Rattle.policy_steps.proofs.Counted.{counted-append, keys-counted, counted-with, both-counted}
 use Rattle.policy_steps.proofs.Ghosts.{leavers-low}
 use Rattle.policy_steps.proofs.Keys.{without-keys, without-counted, has-both, its-count}
-use Rattle.policy_steps.proofs.Moving.{first-of, apart-first, AreLow, tabled-leavers}
+use Rattle.policy_steps.proofs.Moving.{first-of, apart-first, own-low, AreLow, tabled-leavers}
 use Rattle.policy_steps.proofs.S3FifoMoves.{state_without, resident-count, IsPromoted, promotes, last_eviction, IsLeft, main-left, small-left}
 use Rattle.policy_steps.proofs.Turns.{turns-keep}
 use Rattle.policy_steps.specs.PolicyPage.{LeavesWhere, IsPlannedPage, IsSoundPage}
@@ -157,14 +157,13 @@ module _ (part c k x : ℕ) (s : Queues) (some : 1 ≤ c) (w : IsTabled s) (stat
   hit : (n : ℕ) → has_key k (s3_fifo_residents (s3_fifo_of s)) ≡ true → count_of k (counted_keys (s SMALL) ++ counted_keys (s MAIN)) ≡ n → IsPlan (own_plan true (counts (hit_count n)) x)
   hit n there count =
       let m : ℕ = hit_count n in
-      let acts : s3_fifo_act part c k (s3_fifo_of s) ≡ (outcome.Hit, s3_fifo_with_count k m (s3_fifo_of s)) = rw (there, count) refl in
       let ghost : keys_of (entries_counted (item_of k) m (s GHOST)) ≡ keys_of (s GHOST) =
       sym (keys-counted (entries_counted (item_of k) m (s GHOST))) ∙ ap counted.keys_of (recounted-in GHOST m (omega arith)) ∙ keys-with k m (counted_keys (s GHOST)) ∙ keys-counted (s GHOST) in
-      record {
-        outcome = ap (λ (a : Outcome × S3FifoState). a.0) (sym acts);
-        state = rw (recounted-in SMALL m (omega arith), recounted-in MAIN m (omega arith), ghost) refl ∙ ap (λ (a : Outcome × S3FifoState). a.1) (sym acts);
-        hits = sym there;
-        low = record { early = (omega arith, omega arith); late = (omega arith, omega arith); first = tt; second = tt; own = tt };
+      rw (there, count) record {
+        outcome = refl;
+        state = rw (recounted-in SMALL m (omega arith), recounted-in MAIN m (omega arith), ghost) refl;
+        hits = refl;
+        low = own-low (counts m) tt;
       }
 
   miss : (r : Bool) → has_key k (keys_of (s SMALL)) ≡ false → has_key k (keys_of (s MAIN)) ≡ false → has_key k (keys_of (s GHOST)) ≡ r → IsPlan (s3_fifo_miss part c r x s)
