@@ -6,14 +6,7 @@ use Rattle.step_record.specs.Stats.{is_hit, is_eviction, is_rejection, one_if}
 use Rattle.step_record.specs.declared.outcome.Outcome.{Outcome}
 use Rattle.step_record.specs.declared.outcome.Outcome.TheVariants.{Hit, Evicted}
 use Rattle.queue_policies.specs.Residents.{times, keys_evicted, IsAccess, AreResidents}
-use Rattle.ghost_policies.specs.Arc.{ArcState, arc_residents, arc_total, arc_target, arc_replace, arc_plan, plan_of_new_key, forgotten_of_b1, forgotten_of_b2, leaver_dropped, arc_after_recall, arc_after_forgetting, arc_after_eviction, arc_after_join, arc_after_miss, arc_outcome, arc_act, IsArc}
-use Rattle.ghost_policies.specs.declared.arc.ArcForgets.{ArcForgets}
-use Rattle.ghost_policies.specs.declared.arc.ArcGhost.{ArcGhost}
-use Rattle.ghost_policies.specs.declared.arc.ArcLeaver.{ArcLeaver}
-use Rattle.ghost_policies.specs.declared.arc.ArcPlan.{ArcPlan}
-use Rattle.ghost_policies.specs.declared.arc.ArcLeaver.TheVariants.{NoLeaver}
-use Rattle.ghost_policies.specs.declared.arc.ArcGhost.TheVariants.{InB1, InB2, NoGhost}
-use Rattle.ghost_policies.specs.declared.arc.ArcForgets.TheVariants.{NoneForgotten}
+use Rattle.ghost_policies.specs.Arc.{ArcState, arc_residents, arc_total, arc_target, arc_replace, arc_plan, plan_of_new_key, forgotten_of_b1, forgotten_of_b2, leaver_dropped, arc_after_recall, arc_after_forgetting, arc_after_eviction, arc_after_join, arc_after_miss, arc_outcome, arc_act, IsArc, ArcForgets, ArcGhost, ArcLeaver, ArcPlan, NoLeaver, InB1, InB2, NoGhost, NoneForgotten}
 use Rattle.ghost_policies.specs.Theorems.{ArcKeeps}
 use Rattle.queue_policies.proofs.Residents.{times-append, times-none, access-keeps}
 use Rattle.queue_policies.proofs.CountedKeys.{by-oldest}

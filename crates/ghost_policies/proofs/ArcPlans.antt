@@ -4,12 +4,7 @@ use Rattle.std.proofs.lemmas.Bool.{cases_Bool, ltb-true, ltb-false, eqb-true, eq
 use Rattle.step_record.specs.Keys.{has_key, keys_without}
 use Rattle.queue_policies.proofs.Residents.{apart}
 use Rattle.queue_policies.proofs.CountedKeys.{by-oldest}
-use Rattle.ghost_policies.specs.Arc.{ArcState, arc_total, forgotten_of_b1, forgotten_of_b2, leaver_to_b1, leaver_to_b2, leaver_dropped, arc_replace, plan_of_new_key}
-use Rattle.ghost_policies.specs.declared.arc.ArcLeaver.{ArcLeaver}
-use Rattle.ghost_policies.specs.declared.arc.ArcPlan.{ArcPlan}
-use Rattle.ghost_policies.specs.declared.arc.ArcLeaver.TheVariants.{NoLeaver, ToB1, ToB2}
-use Rattle.ghost_policies.specs.declared.arc.ArcGhost.TheVariants.{NoGhost}
-use Rattle.ghost_policies.specs.declared.arc.ArcForgets.TheVariants.{NoneForgotten}
+use Rattle.ghost_policies.specs.Arc.{ArcState, arc_total, forgotten_of_b1, forgotten_of_b2, leaver_to_b1, leaver_to_b2, leaver_dropped, arc_replace, plan_of_new_key, ArcLeaver, ArcPlan, NoLeaver, ToB1, ToB2, NoGhost, NoneForgotten}
 
 -- the five ways of a key that no ghost remembers
 pub new-cases : (c : ℕ) (s : ArcState) (P : ArcPlan → Type 0)

@@ -7,13 +7,6 @@ use Rattle.step_record.specs.Keys.{has_key, keys_without}
 use Rattle.step_record.specs.declared.outcome.Outcome.{Outcome}
 use Rattle.step_record.specs.declared.outcome.Outcome.TheVariants.{Hit, Kept, Evicted}
 use Rattle.queue_policies.specs.Residents.{times}
-use Rattle.ghost_policies.specs.declared.arc.ArcGhost.{ArcGhost}
-use Rattle.ghost_policies.specs.declared.arc.ArcGhost.TheVariants.{NoGhost, InB1, InB2}
-use Rattle.ghost_policies.specs.declared.arc.ArcForgets.{ArcForgets}
-use Rattle.ghost_policies.specs.declared.arc.ArcForgets.TheVariants.{NoneForgotten, OfB1, OfB2}
-use Rattle.ghost_policies.specs.declared.arc.ArcLeaver.{ArcLeaver}
-use Rattle.ghost_policies.specs.declared.arc.ArcLeaver.TheVariants.{NoLeaver, ToB1, ToB2, Dropped}
-use Rattle.ghost_policies.specs.declared.arc.ArcPlan.{ArcPlan}
 
 -- the queues, oldest first
 pub record ArcState : Type 0 where
@@ -34,6 +27,33 @@ abbrev pub arc_total : ArcState → ℕ
 arc_total s = length s.t1 + length s.t2 + length s.b1 + length s.b2
 
 -- ---- what a miss moves
+
+-- the ghost that remembered the missed key
+pub data ArcGhost : Type 0 where
+  NoGhost : ArcGhost
+  InB1 : ArcGhost
+  InB2 : ArcGhost
+
+-- the key that is forgotten for a new one, the oldest of its ghost
+pub data ArcForgets : Type 0 where
+  NoneForgotten : ArcForgets
+  OfB1 : ℕ → ArcForgets
+  OfB2 : ℕ → ArcForgets
+
+-- the key that leaves for a new one, the oldest of its queue, where there is no room
+pub data ArcLeaver : Type 0 where
+  NoLeaver : ArcLeaver
+  -- of t1, which b1 remembers
+  ToB1 : ℕ → ArcLeaver
+  -- of t2, which b2 remembers
+  ToB2 : ℕ → ArcLeaver
+  -- of t1, which is not remembered
+  Dropped : ℕ → ArcLeaver
+
+pub record ArcPlan : Type 0 where
+  pub recalls : ArcGhost
+  pub forgets : ArcForgets
+  pub leaver : ArcLeaver
 
 abbrev pub forgotten_of_b1 : List ℕ → ArcForgets
 forgotten_of_b1 [] = NoneForgotten

@@ -2,9 +2,7 @@
 //! Each miss keeps its key.
 #![tactic(auto)]
 
-mod arc;
 pub mod theorems;
 mod two_q;
 
-pub use arc::{ArcForgets, ArcGhost, ArcLeaver, ArcPlan};
 pub use two_q::{TwoQLeaver, TwoQSizes};

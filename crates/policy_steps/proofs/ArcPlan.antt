@@ -8,13 +8,7 @@ use Rattle.queue_table.specs.declared.records.Entry.{Entry}
 use Rattle.queue_table.specs.Entries.{entry, oldest_of}
 use Rattle.queue_table.specs.Queues.{QUEUES, Queues, after_push, after_send}
 use Rattle.queue_table.proofs.QueueLists.{IsAbsent, is_absent}
-use Rattle.ghost_policies.specs.Arc.{ArcState, arc_residents, arc_total, forgotten_of_b1, forgotten_of_b2, leaver_to_b1, leaver_to_b2, leaver_dropped, arc_replace, plan_of_new_key, arc_after_recall, arc_after_forgetting, arc_after_eviction, arc_after_join, arc_after_miss, arc_outcome, arc_act, IsArc}
-use Rattle.ghost_policies.specs.declared.arc.ArcPlan.{ArcPlan}
-use Rattle.ghost_policies.specs.declared.arc.ArcLeaver.{ArcLeaver}
-use Rattle.ghost_policies.specs.declared.arc.ArcForgets.{ArcForgets}
-use Rattle.ghost_policies.specs.declared.arc.ArcGhost.TheVariants.{NoGhost, InB1}
-use Rattle.ghost_policies.specs.declared.arc.ArcForgets.TheVariants.{NoneForgotten}
-use Rattle.ghost_policies.specs.declared.arc.ArcLeaver.TheVariants.{NoLeaver, ToB1, ToB2, Dropped}
+use Rattle.ghost_policies.specs.Arc.{ArcState, arc_residents, arc_total, forgotten_of_b1, forgotten_of_b2, leaver_to_b1, leaver_to_b2, leaver_dropped, arc_replace, plan_of_new_key, arc_after_recall, arc_after_forgetting, arc_after_eviction, arc_after_join, arc_after_miss, arc_outcome, arc_act, IsArc, ArcPlan, ArcLeaver, ArcForgets, NoGhost, InB1, NoneForgotten, NoLeaver, ToB1, ToB2, Dropped}
 use Rattle.ghost_policies.proofs.ArcPlans.{none-out, new-cases}
 use Rattle.ghost_policies.proofs.Weights.{has-append}
 use Rattle.queue_moves.specs.Moves.{item_of, standing, Leaving, leaving, after_leaving, IsLowLeaving, evicted, outcome_after, goes, Plan, own_plan}
