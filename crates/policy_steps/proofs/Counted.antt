@@ -1,14 +1,18 @@
 -- Entries as keys with counts.
-use Rattle.std.proofs.Common.{◌≡◌, ℕ, ◌+◌, ◌≤◌, eqb, nat_lt, List, [], ◌∷◌, ◌++◌, length, ap, ◌∙◌, sym, refl, arith, inl, inr}
-use Rattle.std.proofs.lemmas.Bool.{cases_Bool}
+use Rattle.std.proofs.Common.{◌≡◌, ℕ, ◌+◌, ◌≤◌, true, false, cond, eqb, nat_lt, List, [], ◌∷◌, ◌++◌, length, ap, ◌∙◌, sym, refl, arith, inl, inr}
+use Rattle.std.proofs.lemmas.Bool.{cases_Bool, eq-eqb, ltb-false}
 use Rattle.std.proofs.lemmas.List.{length-map, map-append}
 use Rattle.step_record.specs.Keys.{has_key}
 use Rattle.queue_table.specs.declared.records.Entry.{Entry}
-use Rattle.queue_table.specs.Entries.{is_same_item, entry, oldest_of, occurrences, entries_counted}
+use Rattle.queue_table.specs.Entries.{is_same_item, entry, oldest_of, occurrences, entries_without, entries_counted}
+use Rattle.queue_table.specs.Queues.{Queues}
 use Rattle.queue_table.proofs.EntryLists.{times-append}
-use Rattle.queue_policies.specs.CountedKeys.{keys_of, with_count, oldest_count}
+use Rattle.queue_table.proofs.MoveBack.{without-none}
+use Rattle.queue_policies.specs.CountedKeys.{CountedKey, keys_of, count_of, with_count, oldest_count}
+use Rattle.queue_policies.proofs.CountedKeys.{keys-append, count-append}
+use Rattle.ghost_policies.proofs.Weights.{has-append}
 use Rattle.queue_moves.specs.Moves.{item_of, count_or}
-use Rattle.queue_moves.specs.Tabled.{nodes_of, keys_of as entry_keys}
+use Rattle.queue_moves.specs.Tabled.{StandsAs, nodes_of, keys_of as entry_keys}
 use Rattle.queue_moves.proofs.Tabled.{same-key, has-occurs, counted-none}
 use Rattle.policy_steps.specs.Counted.{counted_key, counted_keys}
 
@@ -55,3 +59,18 @@ counted-with k n (e ∷ l) h few =
           let one : 0 + occurrences (item_of k) l ≤ 1 = rw (same, g) at few in
           rw (same, g) (ap (λ t. counted_key e ∷ t) (counted-with k n l (omega (arith, h)) (omega (arith, one))))
     ]
+
+pub without-counted : (k : ℕ) (l : List Entry) → nodes_of l ≡ 0 → has_key k (entry_keys l) ≡ false → counted_keys (entries_without (item_of k) l) ≡ counted_keys l
+without-counted k l z h = let none = ltb-false 0 _ (sym (has-occurs k l z) ∙ h) in ap counted_keys (without-none (item_of k) l (omega (arith, none)))
+
+-- ---- the key k in one of two queues
+
+pub has-both : (k : ℕ) (a b : List CountedKey) → has_key k (keys_of (a ++ b)) ≡ cond (has_key k (keys_of a)) true (has_key k (keys_of b))
+has-both k a b = ap (has_key k) (keys-append a b) ∙ has-append k (keys_of a) (keys_of b)
+
+-- it stands in queue q with the count n
+pub its-count : (k q n : ℕ) (s : Queues) → StandsAs k q n s → count_of k (counted_keys (s q)) ≡ n
+its-count k q n s t =
+    ap (count_of k) (ap counted_keys t.whole ∙ counted-append t.front (entry (item_of k) n ∷ t.back))
+    ∙ count-append k (counted_keys t.front) (counted_keys (entry (item_of k) n ∷ t.back))
+    ∙ rw (ap (has_key k) (keys-counted t.front) ∙ t.front_off, eq-eqb k k refl) refl

@@ -1,19 +1,18 @@
 -- A key leaves for a ghost, which the accessed key may leave.
-use Rattle.std.proofs.Common.{◌≡◌, ℕ, ◌<◌, ◌≤◌, Bool, true, false, cond, eqb, nat_lt, ◌||◌, Some, None, List, [], ◌∷◌, ◌++◌, length, drop, ap, ◌∙◌, sym, refl, arith}
-use Rattle.std.proofs.lemmas.Bool.{cond_both, lt-ltb}
+use Rattle.std.proofs.Common.{◌≡◌, ℕ, ◌<◌, ◌≤◌, Bool, true, false, cond, eqb, nat_lt, ◌||◌, Some, None, List, [], ◌∷◌, ◌++◌, length, drop, ap, ◌∙◌, sym, refl, arith, inl, inr}
+use Rattle.std.proofs.lemmas.Bool.{cond_both, lt-ltb, cases_Bool}
 use Rattle.step_record.specs.Keys.{has_key, keys_without}
 use Rattle.queue_table.specs.declared.records.Entry.{Entry}
 use Rattle.queue_table.specs.Entries.{entry}
 use Rattle.queue_table.specs.Queues.{QUEUES, Queues, with_queue, after_push}
 use Rattle.queue_policies.specs.Queues.{without_oldest}
 use Rattle.queue_policies.specs.Ghost.{ghost_with}
-use Rattle.queue_policies.proofs.Ghost.{without-none}
+use Rattle.queue_policies.proofs.Ghost.{without-length, without-none}
 use Rattle.ghost_policies.proofs.Weights.{has-append}
 use Rattle.queue_moves.specs.Moves.{leaving, after_leaving, IsLowLeaving}
 use Rattle.queue_moves.specs.Tabled.{IsTabled, keys_of}
 use Rattle.queue_moves.proofs.Tabled.{keys-append, tabled-leaving, turns-within}
 use Rattle.policy_steps.specs.Misses.{after_leavers, leavers_for_ghost}
-use Rattle.policy_steps.proofs.Keys.{without-shorter}
 use Rattle.policy_steps.proofs.Leaving.{oldest-sent, any-out}
 use Rattle.policy_steps.proofs.Moving.{length-keys, without-drop, without-push, without-cond, AreLow}
 
@@ -43,6 +42,14 @@ module _ (s : Queues) (t : IsTabled s) (from ghost size : ℕ) (r : Bool) (e : E
       go u tabled false = any-out u tabled ghost
 
 -- ---- the keys of the ghost, less the accessed one
+
+without-shorter : (k : ℕ) (l : List ℕ) → has_key k l ≡ true → length (keys_without k l) < length l
+without-shorter k [] h = absurd (cc (h))
+without-shorter k (a ∷ l) h =
+    elim (cases_Bool (eqb k a)) [
+      | inl e ↦ rw e (omega (arith, without-length k l))
+      | inr e ↦ let rest : length (keys_without k l) < length l = without-shorter k l (rw e at h) in rw e (omega (arith, rest))
+    ]
 
 drop-oldest : (l : List ℕ) → drop 1 l ≡ without_oldest l
 drop-oldest [] = refl

@@ -7,14 +7,12 @@ pub mod Hand
 pub mod SievePlan
 pub mod Steps
 pub mod SieveStep
-pub mod Keys
 pub mod Turns
 pub mod Leaving
 pub mod Moving
 pub mod Ghosts
 pub mod S3FifoMoves
 pub mod S3Fifo
-pub mod S3FifoStep
 pub mod Coming
 pub mod TwoQ
 pub mod FifoPlan

@@ -25,10 +25,9 @@ use Rattle.policy_steps.specs.Counted.{counted_keys}
 use Rattle.policy_steps.specs.Misses.{Leavers, no_leavers, one_leaver, after_leavers, leavers_for_ghost, run_plan}
 use Rattle.policy_steps.specs.Planned.{IsPlannedBy}
 use Rattle.policy_steps.specs.S3Fifo.{SMALL, MAIN, GHOST, s3_fifo_of, promotions, gives_main, main_turns, joins, s3_fifo_miss, plan_at, is_resident, s3_fifo_page}
-use Rattle.policy_steps.proofs.Counted.{counted-append, keys-counted, counted-with, both-counted}
+use Rattle.policy_steps.proofs.Counted.{counted-append, keys-counted, counted-with, both-counted, without-counted, has-both, its-count}
 use Rattle.policy_steps.proofs.Ghosts.{leavers-low}
-use Rattle.policy_steps.proofs.Keys.{without-keys, without-counted, has-both, its-count}
-use Rattle.policy_steps.proofs.Moving.{first-of, apart-first, own-low, AreLow, tabled-leavers}
+use Rattle.policy_steps.proofs.Moving.{first-of, apart-first, own-low, AreLow, tabled-leavers, without-keys}
 use Rattle.policy_steps.proofs.S3FifoMoves.{state_without, resident-count, IsPromoted, promotes, last_eviction, IsLeft, main-left, small-left}
 use Rattle.policy_steps.proofs.Turns.{turns-keep}
 use Rattle.policy_steps.specs.PolicyPage.{LeavesWhere, IsPlannedPage, IsSoundPage}

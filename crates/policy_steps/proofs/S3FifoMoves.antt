@@ -10,18 +10,19 @@ use Rattle.queue_table.specs.Entries.{entry, oldest_of}
 use Rattle.queue_table.specs.Queues.{Queues, with_queue}
 use Rattle.queue_policies.specs.CountedKeys.{CountedKey, AreCounted, total_count, oldest_count}
 use Rattle.queue_policies.specs.Turns.{after_turn, turn_count_within, after_turns}
-use Rattle.queue_policies.specs.S3Fifo.{S3FifoState, s3_fifo_residents, main_gives, after_promotion, is_settled, main_eviction, small_eviction, s3_fifo_departure, s3_fifo_eviction_within, most_moves, without_ghost_key}
+use Rattle.queue_policies.specs.S3Fifo.{S3FifoState, s3_fifo_residents, main_gives, after_promotion, is_settled, main_eviction, small_eviction, s3_fifo_departure, s3_fifo_eviction_within, most_moves, without_ghost_key, s3_fifo_main_size, IsS3Fifo}
 use Rattle.queue_policies.proofs.CountedKeys.{length-keys, total-append}
 use Rattle.queue_policies.proofs.S3Fifo as page
-use Rattle.queue_policies.proofs.S3Fifo.{made, IsMoved}
+use Rattle.queue_policies.proofs.S3Fifo.{made, IsMoved, unmoved}
 use Rattle.queue_policies.proofs.Turns.{turned-length}
-use Rattle.queue_moves.specs.Moves.{count_or, turns_due, leaving, after_leaving, evicted, outcome_after}
+use Rattle.queue_moves.specs.Moves.{count_or, turns_due, leaving, after_leaving, evicted, outcome_after, after_run, Plan}
 use Rattle.queue_moves.specs.Moves as moves
+use Rattle.queue_moves.specs.declared.records.Run.{Run}
 use Rattle.queue_moves.specs.Tabled.{IsTabled, keys_of, lowered_entry}
 use Rattle.queue_moves.proofs.Tabled.{tabled-turn, turn-is}
 use Rattle.policy_steps.specs.Counted.{counted_keys}
 use Rattle.policy_steps.specs.Misses.{after_leavers, leavers_for_ghost}
-use Rattle.policy_steps.specs.S3Fifo.{SMALL, MAIN, GHOST, s3_fifo_of, gives_main, main_turns}
+use Rattle.policy_steps.specs.S3Fifo.{SMALL, MAIN, GHOST, s3_fifo_of, gives_main, main_turns, promotions, eviction_plan, s3_fifo_miss}
 use Rattle.policy_steps.proofs.Counted.{counted-append, length-counted, oldest-counted}
 use Rattle.policy_steps.proofs.Ghosts.{sent, kept, leavers-gone, ghost-keys}
 use Rattle.policy_steps.proofs.Leaving.{any-out}
@@ -163,3 +164,23 @@ small-left size k s r e l t h is other few =
     let gone : Queues = with_queue GHOST (kept (r || nat_lt (length (s GHOST)) size) (sent SMALL GHOST e l s GHOST)) (sent SMALL GHOST e l s) in
     let at : P gone (e ∷ l) = record { outcome = refl; small = refl; main = refl; ghost = ghost-keys k size e (s GHOST) r is other few } in
     subst (P _) (sym h) (subst (λ u. P u (e ∷ l)) (sym (leavers-gone s t SMALL GHOST size r e l h (omega arith) (omega arith))) at)
+
+-- ---- what the step owes
+
+-- once the promotions are made
+module _ (part c : ℕ) (s a : Queues) (early : Run) (is : early ≡ promotions (s3_fifo_main_size part c) s) (after : a ≡ after_run early s) where
+  abbrev size : ℕ
+  size = s3_fifo_main_size part c
+
+  a-is : a ≡ after_run (promotions size s) s
+  a-is = after ∙ ap (λ e. after_run e s) is
+
+  pub main-few : IsTabled s → IsS3Fifo part c (s3_fifo_of s) → length (a MAIN) ≤ c
+  main-few t state =
+      let w : S3FifoState = state_without 0 s in
+      let many = (promotes size 0 (s3_fifo_residents w) w.ghost (size + 1 - length (s MAIN)) (most_moves w) s (s SMALL) t refl refl (omega arith) (unmoved w state.counts)).moved.many in
+      let same = ap (λ (u : Queues). length (u MAIN)) a-is in
+      omega (arith, many, state.residents.fits, same, resident-count (after_run (promotions size s) s))
+
+  pub full-planned : (P : Plan → Type 0) (r : Bool) (x : ℕ) → nat_lt (length (s SMALL) + length (s MAIN)) c ≡ false → P (eviction_plan size early r x a) → P (s3_fifo_miss part c r x s)
+  full-planned P r x f h = rw f (subst (λ e. P (eviction_plan size e r x (after_run e s))) is (subst (λ b. P (eviction_plan size early r x b)) after h))

@@ -7,8 +7,7 @@ use Rattle.queue_moves.specs.Moves.{item_of, goes, Plan}
 use Rattle.queue_moves.specs.Undoing.{IsAccessed}
 use Rattle.policy_steps.specs.S3Fifo.{SMALL, MAIN, GHOST, eviction_plan}
 use Rattle.policy_steps.proofs.Coming.{outside-ran}
-use Rattle.policy_steps.proofs.S3FifoMoves.{resident-count}
-use Rattle.policy_steps.proofs.S3FifoStep.{main-few, full-planned}
+use Rattle.policy_steps.proofs.S3FifoMoves.{resident-count, main-few, full-planned}
 use Rattle.policy_steps.proofs.s3_fifo.miss.Goals as goal
 
 pub overflow_add-len : goal.overflow_add-len
