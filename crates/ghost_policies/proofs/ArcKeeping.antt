@@ -6,7 +6,7 @@ use Rattle.step_record.specs.Stats.{is_hit, is_eviction, is_rejection, one_if}
 use Rattle.step_record.specs.declared.outcome.Outcome.{Outcome}
 use Rattle.step_record.specs.declared.outcome.Outcome.TheVariants.{Hit, Evicted}
 use Rattle.queue_policies.specs.Residents.{times, keys_evicted, IsAccess, AreResidents}
-use Rattle.ghost_policies.specs.Arc.{ArcState, arc_residents, arc_total, arc_target, arc_replace, arc_plan, plan_of_new_key, forgotten_of_b1, forgotten_of_b2, leaver_dropped, arc_after_recall, arc_after_forgetting, arc_after_eviction, arc_after_join, arc_after_miss, arc_outcome, arc_act, IsArc, ArcForgets, ArcGhost, ArcLeaver, ArcPlan, NoLeaver, InB1, InB2, NoGhost, NoneForgotten}
+use Rattle.ghost_policies.specs.Arc.{ArcState, arc_residents, arc_total, arc_target, arc_replace, arc_plan, plan_of_new_key, oldest_forgotten, OfB1, OfB2, oldest_leaver, Dropped, arc_after_recall, arc_after_forgetting, arc_after_eviction, arc_after_join, arc_after_miss, arc_outcome, arc_act, IsArc, ArcForgets, ArcGhost, ArcLeaver, ArcPlan, NoLeaver, InB1, InB2, NoGhost, NoneForgotten}
 use Rattle.ghost_policies.specs.Theorems.{ArcKeeps}
 use Rattle.queue_policies.proofs.Residents.{times-append, times-none, access-keeps}
 use Rattle.queue_policies.proofs.CountedKeys.{by-oldest}
@@ -192,13 +192,13 @@ module _ (c k : ℕ) (h : 1 ≤ c) (s : ArcState) (i : IsArc c s) where
           new-cases c s IsNew
           (λ same low.
           let full : length s.t1 + length s.t2 ≡ c = i.full (omega (arith, same, low)) in
-          new-key (forgotten_of_b1 s.b1) (arc_replace false s.p s)
-          (by-oldest (λ l. HasRoom c k NoGhost s (arc_outcome (arc_replace false s.p s)) (arc_after_eviction (arc_replace false s.p s) (arc_after_forgetting (forgotten_of_b1 l) s))) s.b1 (omega (arith, same, low)) (λ v l e.
+          new-key (oldest_forgotten OfB1 s.b1) (arc_replace false s.p s)
+          (by-oldest (λ l. HasRoom c k NoGhost s (arc_outcome (arc_replace false s.p s)) (arc_after_eviction (arc_replace false s.p s) (arc_after_forgetting (oldest_forgotten OfB1 l) s))) s.b1 (omega (arith, same, low)) (λ v l e.
           let less : length (drop 1 s.b1) + 1 ≡ length s.b1 = omega (arith, weight-first (λ _. 1) s.b1 v l e, length-weight) in
           replaced NoGhost false s.p (drop 1 s.b1) s.b2 full i.p_fits (inr low) (λ f. omega (arith, weight-first f s.b1 v l e)) (omega (arith, same, less)) (omega (arith, all, full, less)))))
           (λ same low.
-          new-key NoneForgotten (leaver_dropped s.t1)
-          (by-oldest (λ l. HasRoom c k NoGhost s (arc_outcome (leaver_dropped l)) (arc_after_eviction (leaver_dropped l) s)) s.t1 (omega (arith, low, h)) (λ v l e.
+          new-key NoneForgotten (oldest_leaver Dropped s.t1)
+          (by-oldest (λ l. HasRoom c k NoGhost s (arc_outcome (oldest_leaver Dropped l)) (arc_after_eviction (oldest_leaver Dropped l) s)) s.t1 (omega (arith, low, h)) (λ v l e.
           left NoGhost v _ (omega (arith, low, fits)) i.p_fits (λ f. omega (arith, weight-first f s.t1 v l e)) (λ f. omega arith)
           (omega (arith, same, weight-first (λ _. 1) s.t1 v l e, length-weight)) (omega (arith, all, low)))))
           (λ other few.
@@ -215,8 +215,8 @@ module _ (c k : ℕ) (h : 1 ≤ c) (s : ArcState) (i : IsArc c s) where
           })
           (λ other many same.
           let full : length s.t1 + length s.t2 ≡ c = is-full many in
-          new-key (forgotten_of_b2 s.b2) (arc_replace false s.p s)
-          (by-oldest (λ l. HasRoom c k NoGhost s (arc_outcome (arc_replace false s.p s)) (arc_after_eviction (arc_replace false s.p s) (arc_after_forgetting (forgotten_of_b2 l) s))) s.b2 (omega (arith, same, fits, once_fits, other)) (λ v l e.
+          new-key (oldest_forgotten OfB2 s.b2) (arc_replace false s.p s)
+          (by-oldest (λ l. HasRoom c k NoGhost s (arc_outcome (arc_replace false s.p s)) (arc_after_eviction (arc_replace false s.p s) (arc_after_forgetting (oldest_forgotten OfB2 l) s))) s.b2 (omega (arith, same, fits, once_fits, other)) (λ v l e.
           let less : length (drop 1 s.b2) + 1 ≡ length s.b2 = omega (arith, weight-first (λ _. 1) s.b2 v l e, length-weight) in
           replaced NoGhost false s.p s.b1 (drop 1 s.b2) full i.p_fits (inr (omega (arith, other, once_fits))) (λ f. omega (arith, weight-first f s.b2 v l e)) (omega (arith, other, once_fits)) (omega (arith, same, full, less)))))
           (λ other many less.

@@ -4,14 +4,14 @@ use Rattle.std.proofs.lemmas.Bool.{cases_Bool, ltb-true, ltb-false, eqb-true, eq
 use Rattle.step_record.specs.Keys.{has_key, keys_without}
 use Rattle.queue_policies.proofs.Residents.{apart}
 use Rattle.queue_policies.proofs.CountedKeys.{by-oldest}
-use Rattle.ghost_policies.specs.Arc.{ArcState, arc_total, forgotten_of_b1, forgotten_of_b2, leaver_to_b1, leaver_to_b2, leaver_dropped, arc_replace, plan_of_new_key, ArcLeaver, ArcPlan, NoLeaver, ToB1, ToB2, NoGhost, NoneForgotten}
+use Rattle.ghost_policies.specs.Arc.{ArcState, arc_total, oldest_forgotten, OfB1, OfB2, oldest_leaver, ToB1, ToB2, Dropped, arc_replace, plan_of_new_key, ArcLeaver, ArcPlan, NoLeaver, NoGhost, NoneForgotten}
 
 -- the five ways of a key that no ghost remembers
 pub new-cases : (c : ℕ) (s : ArcState) (P : ArcPlan → Type 0)
-    → (length s.t1 + length s.b1 ≡ c → length s.t1 < c → P record { recalls = NoGhost; forgets = forgotten_of_b1 s.b1; leaver = arc_replace false s.p s })
-    → (length s.t1 + length s.b1 ≡ c → c ≤ length s.t1 → P record { recalls = NoGhost; forgets = NoneForgotten; leaver = leaver_dropped s.t1 })
+    → (length s.t1 + length s.b1 ≡ c → length s.t1 < c → P record { recalls = NoGhost; forgets = oldest_forgotten OfB1 s.b1; leaver = arc_replace false s.p s })
+    → (length s.t1 + length s.b1 ≡ c → c ≤ length s.t1 → P record { recalls = NoGhost; forgets = NoneForgotten; leaver = oldest_leaver Dropped s.t1 })
     → ((length s.t1 + length s.b1 ≡ c → ⊥) → arc_total s < c → P record { recalls = NoGhost; forgets = NoneForgotten; leaver = NoLeaver })
-    → ((length s.t1 + length s.b1 ≡ c → ⊥) → c ≤ arc_total s → arc_total s ≡ 2 * c → P record { recalls = NoGhost; forgets = forgotten_of_b2 s.b2; leaver = arc_replace false s.p s })
+    → ((length s.t1 + length s.b1 ≡ c → ⊥) → c ≤ arc_total s → arc_total s ≡ 2 * c → P record { recalls = NoGhost; forgets = oldest_forgotten OfB2 s.b2; leaver = arc_replace false s.p s })
     → ((length s.t1 + length s.b1 ≡ c → ⊥) → c ≤ arc_total s → (arc_total s ≡ 2 * c → ⊥) → P record { recalls = NoGhost; forgets = NoneForgotten; leaver = arc_replace false s.p s })
     → P (plan_of_new_key c s)
 new-cases c s P drops_b1 drops_t1 joins drops_b2 replaces =
@@ -44,11 +44,11 @@ none-out k (a ∷ l) h = let w = apart k a l h in rw w.0 (ap (λ t. a ∷ t) (no
 pub replace-cases : (in_b2 : Bool) (c p : ℕ) (s : ArcState) (P : ArcLeaver → Type 0) → 1 ≤ c → length s.t1 + length s.t2 ≡ c → p ≤ c → (in_b2 ≡ true) ⊎ (length s.t1 < c)
     → ((v : ℕ) (l : List ℕ) → s.t1 ≡ v ∷ l → P (ToB1 v)) → ((v : ℕ) (l : List ℕ) → s.t2 ≡ v ∷ l → P (ToB2 v)) → P (arc_replace in_b2 p s)
 replace-cases in_b2 c p s P h full fits case to_b1 to_b2 =
-    let from_t2 : 1 ≤ length s.t2 → P (leaver_to_b2 s.t2) = λ n. by-oldest (λ l. P (leaver_to_b2 l)) s.t2 n to_b2 in
+    let from_t2 : 1 ≤ length s.t2 → P (oldest_leaver ToB2 s.t2) = λ n. by-oldest (λ l. P (oldest_leaver ToB2 l)) s.t2 n to_b2 in
     elim (cases_Bool (nat_lt 0 (length s.t1))) as (λ _. P (arc_replace in_b2 p s)) [
       | inr e ↦ let none : length s.t1 ≤ 0 = ltb-false 0 (length s.t1) e in rw e (from_t2 (omega (arith, none, full, h)))
       | inl e ↦
-          let from_t1 : P (leaver_to_b1 s.t1) = by-oldest (λ l. P (leaver_to_b1 l)) s.t1 (ltb-true 0 (length s.t1) e) to_b1 in
+          let from_t1 : P (oldest_leaver ToB1 s.t1) = by-oldest (λ l. P (oldest_leaver ToB1 l)) s.t1 (ltb-true 0 (length s.t1) e) to_b1 in
           rw e (elim (cases_Bool (nat_lt p (length s.t1))) [
             | inl f ↦ rw f from_t1
             | inr f ↦

@@ -55,25 +55,15 @@ pub record ArcPlan : Type 0 where
   pub forgets : ArcForgets
   pub leaver : ArcLeaver
 
-abbrev pub forgotten_of_b1 : List ℕ → ArcForgets
-forgotten_of_b1 [] = NoneForgotten
-forgotten_of_b1 (v ∷ queue) = OfB1 v
+-- the oldest of a ghost is forgotten
+abbrev pub oldest_forgotten : (ℕ → ArcForgets) → List ℕ → ArcForgets
+oldest_forgotten forgets [] = NoneForgotten
+oldest_forgotten forgets (v ∷ queue) = forgets v
 
-abbrev pub forgotten_of_b2 : List ℕ → ArcForgets
-forgotten_of_b2 [] = NoneForgotten
-forgotten_of_b2 (v ∷ queue) = OfB2 v
-
-abbrev pub leaver_to_b1 : List ℕ → ArcLeaver
-leaver_to_b1 [] = NoLeaver
-leaver_to_b1 (v ∷ queue) = ToB1 v
-
-abbrev pub leaver_to_b2 : List ℕ → ArcLeaver
-leaver_to_b2 [] = NoLeaver
-leaver_to_b2 (v ∷ queue) = ToB2 v
-
-abbrev pub leaver_dropped : List ℕ → ArcLeaver
-leaver_dropped [] = NoLeaver
-leaver_dropped (v ∷ queue) = Dropped v
+-- the oldest of a queue leaves
+abbrev pub oldest_leaver : (ℕ → ArcLeaver) → List ℕ → ArcLeaver
+oldest_leaver leaves [] = NoLeaver
+oldest_leaver leaves (v ∷ queue) = leaves v
 
 -- ---- which key leaves, and what is forgotten
 
@@ -88,16 +78,16 @@ arc_target c InB2 s = s.p - max 1 (length s.b1 / length s.b2)
 abbrev pub arc_replace : Bool → ℕ → ArcState → ArcLeaver
 arc_replace in_b2 p s =
     if nat_lt 0 (length s.t1) && (nat_lt p (length s.t1) || (in_b2 && length s.t1 == p))
-    then leaver_to_b1 s.t1
-    else leaver_to_b2 s.t2
+    then oldest_leaver ToB1 s.t1
+    else oldest_leaver ToB2 s.t2
 
 -- Where t1 and b1 have c keys (the paper's case IV A), b1's oldest is forgotten; or t1's oldest leaves, and is not
 -- remembered, where t1 has them all.
 abbrev pub plan_of_full_l1 : ℕ → ArcState → ArcPlan
 plan_of_full_l1 c s =
     if nat_lt (length s.t1) c
-    then record { recalls = NoGhost; forgets = forgotten_of_b1 s.b1; leaver = arc_replace false s.p s }
-    else record { recalls = NoGhost; forgets = NoneForgotten; leaver = leaver_dropped s.t1 }
+    then record { recalls = NoGhost; forgets = oldest_forgotten OfB1 s.b1; leaver = arc_replace false s.p s }
+    else record { recalls = NoGhost; forgets = NoneForgotten; leaver = oldest_leaver Dropped s.t1 }
 
 -- Where they have fewer (case IV B), a key leaves where the four queues have at least c, and b2's oldest is forgotten
 -- where they have 2 c.
@@ -106,7 +96,7 @@ plan_of_open_l1 c s =
     if nat_lt (arc_total s) c
     then record { recalls = NoGhost; forgets = NoneForgotten; leaver = NoLeaver }
     else if arc_total s == 2 * c
-    then record { recalls = NoGhost; forgets = forgotten_of_b2 s.b2; leaver = arc_replace false s.p s }
+    then record { recalls = NoGhost; forgets = oldest_forgotten OfB2 s.b2; leaver = arc_replace false s.p s }
     else record { recalls = NoGhost; forgets = NoneForgotten; leaver = arc_replace false s.p s }
 
 abbrev pub plan_of_new_key : ℕ → ArcState → ArcPlan

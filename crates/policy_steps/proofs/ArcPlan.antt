@@ -3,12 +3,12 @@ use Rattle.std.proofs.Common.{◌≡◌, ℕ, zero, suc, ◌+◌, ◌-◌, ◌*�
 use Rattle.std.proofs.lemmas.Bool.{eq-eqb, ne_eqb, lt-ltb, le-ltb, cases_Bool, cases_lt, eqb-true, ltb-false}
 use Rattle.step_record.specs.Keys.{has_key, keys_without}
 use Rattle.step_record.specs.declared.outcome.Outcome.{Outcome}
-use Rattle.step_record.specs.declared.outcome.Outcome.TheVariants.{Hit, Kept, Evicted}
+use Rattle.step_record.specs.declared.outcome.Outcome.TheVariants.{Hit, Evicted}
 use Rattle.queue_table.specs.declared.records.Entry.{Entry}
 use Rattle.queue_table.specs.Entries.{entry, oldest_of}
 use Rattle.queue_table.specs.Queues.{QUEUES, Queues, after_push, after_send}
 use Rattle.queue_table.proofs.QueueLists.{IsAbsent, is_absent}
-use Rattle.ghost_policies.specs.Arc.{ArcState, arc_residents, arc_total, forgotten_of_b1, forgotten_of_b2, leaver_to_b1, leaver_to_b2, leaver_dropped, arc_replace, plan_of_new_key, arc_after_recall, arc_after_forgetting, arc_after_eviction, arc_after_join, arc_after_miss, arc_outcome, arc_act, IsArc, ArcPlan, ArcLeaver, ArcForgets, NoGhost, InB1, NoneForgotten, NoLeaver, ToB1, ToB2, Dropped}
+use Rattle.ghost_policies.specs.Arc.{ArcState, arc_residents, arc_total, oldest_forgotten, OfB1, OfB2, oldest_leaver, ToB1, ToB2, Dropped, arc_replace, plan_of_new_key, arc_after_recall, arc_after_forgetting, arc_after_eviction, arc_after_join, arc_after_miss, arc_outcome, arc_act, IsArc, ArcPlan, ArcLeaver, ArcForgets, NoGhost, InB1, NoneForgotten, NoLeaver}
 use Rattle.ghost_policies.proofs.ArcPlans.{none-out, new-cases}
 use Rattle.ghost_policies.proofs.Weights.{has-append}
 use Rattle.queue_moves.specs.Moves.{item_of, standing, Leaving, leaving, after_leaving, IsLowLeaving, evicted, outcome_after, goes, Plan, own_plan}
@@ -37,19 +37,19 @@ left-state s t p from to = let at = left-keys s from t to in same-state (at T1) 
 
 -- ---- what leaves, in the definition
 
-outcomes : (l : List Entry) (leaver : List ℕ → ArcLeaver) → arc_outcome (leaver []) ≡ Kept → ((v : ℕ) (r : List ℕ) → arc_outcome (leaver (v ∷ r)) ≡ Evicted v) → evicted (oldest_of l) ≡ arc_outcome (leaver (keys_of l))
-outcomes [] leaver none some = sym none
-outcomes (e ∷ l) leaver none some = sym (some e.item.key (keys_of l))
+outcomes : (l : List Entry) (leaves : ℕ → ArcLeaver) → ((v : ℕ) → arc_outcome (leaves v) ≡ Evicted v) → evicted (oldest_of l) ≡ arc_outcome (oldest_leaver leaves (keys_of l))
+outcomes [] leaves out = refl
+outcomes (e ∷ l) leaves out = sym (out e.item.key)
 
-to_b1-state : (l : List ℕ) (d : ArcState) → d.t1 ≡ l → arc_after_eviction (leaver_to_b1 l) d ≡ record d { t1 = drop 1 l; b1 = d.b1 ++ take 1 l }
+to_b1-state : (l : List ℕ) (d : ArcState) → d.t1 ≡ l → arc_after_eviction (oldest_leaver ToB1 l) d ≡ record d { t1 = drop 1 l; b1 = d.b1 ++ take 1 l }
 to_b1-state [] d h = same-state h refl (sym (append-nil d.b1)) refl refl
 to_b1-state (v ∷ l) d h = same-state (ap (drop 1) h) refl refl refl refl
 
-to_b2-state : (l : List ℕ) (d : ArcState) → d.t2 ≡ l → arc_after_eviction (leaver_to_b2 l) d ≡ record d { t2 = drop 1 l; b2 = d.b2 ++ take 1 l }
+to_b2-state : (l : List ℕ) (d : ArcState) → d.t2 ≡ l → arc_after_eviction (oldest_leaver ToB2 l) d ≡ record d { t2 = drop 1 l; b2 = d.b2 ++ take 1 l }
 to_b2-state [] d h = same-state refl h refl (sym (append-nil d.b2)) refl
 to_b2-state (v ∷ l) d h = same-state refl (ap (drop 1) h) refl refl refl
 
-dropped-state : (l : List ℕ) (d : ArcState) → d.t1 ≡ l → arc_after_eviction (leaver_dropped l) d ≡ record d { t1 = drop 1 l }
+dropped-state : (l : List ℕ) (d : ArcState) → d.t1 ≡ l → arc_after_eviction (oldest_leaver Dropped l) d ≡ record d { t1 = drop 1 l }
 dropped-state [] d h = same-state h refl refl refl refl
 dropped-state (v ∷ l) d h = same-state (ap (drop 1) h) refl refl refl refl
 
@@ -60,14 +60,14 @@ less_b1 d = record d { b1 = drop 1 d.b1 }
 abbrev less_b2 : ArcState → ArcState
 less_b2 d = record d { b2 = drop 1 d.b2 }
 
-b1-forgets : (v : ArcLeaver) (l : List ℕ) (d : ArcState) → 1 ≤ length l → less_b1 (arc_after_eviction v (record d { b1 = l })) ≡ arc_after_eviction v (arc_after_forgetting (forgotten_of_b1 l) (record d { b1 = l }))
+b1-forgets : (v : ArcLeaver) (l : List ℕ) (d : ArcState) → 1 ≤ length l → less_b1 (arc_after_eviction v (record d { b1 = l })) ≡ arc_after_eviction v (arc_after_forgetting (oldest_forgotten OfB1 l) (record d { b1 = l }))
 b1-forgets v [] d n = absurd (omega (arith, n))
 b1-forgets NoLeaver (w ∷ l) d n = refl
 b1-forgets (ToB1 v) (w ∷ l) d n = refl
 b1-forgets (ToB2 v) (w ∷ l) d n = refl
 b1-forgets (Dropped v) (w ∷ l) d n = refl
 
-b2-forgets : (v : ArcLeaver) (l : List ℕ) (d : ArcState) → 1 ≤ length l → less_b2 (arc_after_eviction v (record d { b2 = l })) ≡ arc_after_eviction v (arc_after_forgetting (forgotten_of_b2 l) (record d { b2 = l }))
+b2-forgets : (v : ArcLeaver) (l : List ℕ) (d : ArcState) → 1 ≤ length l → less_b2 (arc_after_eviction v (record d { b2 = l })) ≡ arc_after_eviction v (arc_after_forgetting (oldest_forgotten OfB2 l) (record d { b2 = l }))
 b2-forgets v [] d n = absurd (omega (arith, n))
 b2-forgets NoLeaver (w ∷ l) d n = refl
 b2-forgets (ToB1 v) (w ∷ l) d n = refl
@@ -97,14 +97,14 @@ module _ (k : ℕ) (s : Queues) (t : IsTabled s) where
   keys j = keys_of (s j)
 
   abbrev leaver : Bool → ArcLeaver
-  leaver g = cond g (leaver_to_b1 (keys T1)) (leaver_to_b2 (keys T2))
+  leaver g = cond g (oldest_leaver ToB1 (keys T1)) (oldest_leaver ToB2 (keys T2))
 
   page-leaver : (in_b2 : Bool) (p x : ℕ) → arc_replace in_b2 p (arc_of x s) ≡ leaver (gives_t1 in_b2 p s)
   page-leaver in_b2 p x = rw (length-keys (s T1)) refl
 
   leaves-outcome : (g : Bool) → outcome_after (leaves g) s ≡ arc_outcome (leaver g)
-  leaves-outcome true = outcomes (s T1) leaver_to_b1 refl (λ v r. refl)
-  leaves-outcome false = outcomes (s T2) leaver_to_b2 refl (λ v r. refl)
+  leaves-outcome true = outcomes (s T1) ToB1 (λ v. refl)
+  leaves-outcome false = outcomes (s T2) ToB2 (λ v. refl)
 
   evicted-state : (g : Bool) (p : ℕ) → arc_of p (after_leaving (leaves g) s) ≡ arc_after_eviction (leaver g) (arc_of p s)
   evicted-state true p = left-state s t p T1 (Some (B1, 0)) ∙ sym (to_b1-state (keys T1) (arc_of p s) refl)
@@ -211,16 +211,16 @@ module _ (k : ℕ) (s : Queues) (t : IsTabled s) where
             let fits = i.fits in
             new-cases c old IsNew
             (λ same low.
-            replaced-by (leaving B1 None) (forgotten_of_b1 (keys B1)) (omega arith, tt) (rw (at_l1 same, lt-ltb (length (s T1)) c (omega (arith, low, lengths T1))) refl)
+            replaced-by (leaving B1 None) (oldest_forgotten OfB1 (keys B1)) (omega arith, tt) (rw (at_l1 same, lt-ltb (length (s T1)) c (omega (arith, low, lengths T1))) refl)
             (left-state _ tabled x B1 None ∙ ap less_b1 (evicted-state g x) ∙ b1-forgets (leaver g) (keys B1) old (omega (arith, same, low))))
             (λ same low.
-            new-by record { first = leaving T1 None; second = None } NoneForgotten (leaver_dropped (keys T1)) (rw (at_l1 same, le-ltb (length (s T1)) c (omega (arith, low, lengths T1))) refl)
-            ((omega arith, tt), tt) (outcomes (s T1) leaver_dropped refl (λ v r. refl)) (left-state s t x T1 None ∙ sym (dropped-state (keys T1) old refl)))
+            new-by record { first = leaving T1 None; second = None } NoneForgotten (oldest_leaver Dropped (keys T1)) (rw (at_l1 same, le-ltb (length (s T1)) c (omega (arith, low, lengths T1))) refl)
+            ((omega arith, tt), tt) (outcomes (s T1) Dropped (λ v. refl)) (left-state s t x T1 None ∙ sym (dropped-state (keys T1) old refl)))
             (λ other few.
             new-by no_leavers NoneForgotten NoLeaver (rw (off_l1 other, lt-ltb (total s) c (omega (arith, few, totals))) refl)
             (tt, tt) refl refl)
             (λ other many same.
-            replaced-by (leaving B2 None) (forgotten_of_b2 (keys B2)) (omega arith, tt)
+            replaced-by (leaving B2 None) (oldest_forgotten OfB2 (keys B2)) (omega arith, tt)
             (rw (off_l1 other, le-ltb (total s) c (omega (arith, many, totals)), eq-eqb (total s) (2 * c) (sym totals ∙ same)) refl)
             (left-state _ tabled x B2 None ∙ ap less_b2 (evicted-state g x) ∙ b2-forgets (leaver g) (keys B2) old (omega (arith, same, fits, once, other))))
             (λ other many less.

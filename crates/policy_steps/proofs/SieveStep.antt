@@ -1,5 +1,5 @@
 -- The plan of a miss of a full cache by SIEVE, from what the calls that carry it out ensure.
-use Rattle.std.proofs.Common.{◌≡◌, ℕ, ◌<◌, ◌≤◌, true, false, nat_lt, None, List, [], ◌∷◌, length, ap, ◌∙◌, sym, subst, refl, arith}
+use Rattle.std.proofs.Common.{◌≡◌, ℕ, ◌<◌, ◌≤◌, true, false, nat_lt, None, List, [], ◌∷◌, length, drop, ap, ◌∙◌, sym, subst, refl, arith}
 use Rattle.std.proofs.lemmas.Bool.{le-ltb}
 use Rattle.queue_table.specs.declared.records.Entry.{Entry}
 use Rattle.queue_table.specs.Entries.{oldest_of}
@@ -13,7 +13,7 @@ use Rattle.policy_steps.specs.Sieve.{queue_ahead, passed_queue, pass_run, sieve_
 use Rattle.policy_steps.specs.Planned.{leaver_plan}
 use Rattle.queue_policies.proofs.CountedKeys.{by-oldest}
 use Rattle.queue_moves.proofs.Runs.{turns-stop}
-use Rattle.policy_steps.proofs.Leaving.{oldest-out, none-out}
+use Rattle.policy_steps.proofs.Leaving.{any-out}
 
 module _ (c x : ℕ) (s a b d : Queues) (early late : Run) (mid new y : ℕ) where
   abbrev plan : Queues → ℕ → ℕ → ℕ → Plan
@@ -32,9 +32,9 @@ stops c x s a early he ha some few =
 
 -- whether a queue is empty once its oldest key has left
 pub left-empty : (q : ℕ) (s : Queues) → IsTabled s → is_empty (after_leaving (leaving q None) s q) ≡ nat_lt (length (s q)) 2
-left-empty q s t = by (s q) refl
+left-empty q s t = ap (λ (u : Queues). is_empty (u q)) (any-out s t q) ∙ ap is_empty (with-queue-same q (drop 1 (s q)) s) ∙ few (s q)
   where
-    by : (l : List Entry) → s q ≡ l → is_empty (after_leaving (leaving q None) s q) ≡ nat_lt (length (s q)) 2
-    by [] h = rw (ap (λ (u : Queues). u q) (none-out s q h) ∙ h, h) refl
-    by (e ∷ []) h = rw (ap (λ (u : Queues). u q) (oldest-out s t q e [] h) ∙ with-queue-same q [] s, h) refl
-    by (e ∷ x ∷ l) h = rw (ap (λ (u : Queues). u q) (oldest-out s t q e (x ∷ l) h) ∙ with-queue-same q (x ∷ l) s, h) (sym (le-ltb (length (e ∷ x ∷ l)) 2 (omega arith)))
+    few : (l : List Entry) → is_empty (drop 1 l) ≡ nat_lt (length l) 2
+    few [] = refl
+    few (e ∷ []) = refl
+    few (e ∷ x ∷ l) = sym (le-ltb (length (e ∷ x ∷ l)) 2 (omega arith))

@@ -11,8 +11,7 @@ use Rattle.queue_table.proofs.EntryLists.{same-true, same-refl, times-append}
 use Rattle.queue_table.proofs.QueueLists.{IsAbsent, absent, absent-taken, placed, queue-few, distinct-taken, with-queue-same, with-queue-other, times-with, times-none}
 use Rattle.queue_table.proofs.MoveBack.{StandsIn, front-none, back-none, rest, without-none}
 use Rattle.queue_table.proofs.Counting.{distinct-counted}
-use Rattle.queue_moves.specs.Moves.{Entry, item_of, count_of, standing, standing_at, Leaving, Own, stays, counts, goes, Plan, IsLowTarget, IsLowLeaving, IsLowOwn, IsLowPlan}
-use Rattle.queue_moves.specs.Moves.{turned, after_turn, after_turns, departed, after_leaving, count_or, turns_due, after_own, after_runs, after_first, after_second, after_all}
+use Rattle.queue_moves.specs.Moves.{Entry, item_of, count_of, standing, standing_at, Leaving, Own, stays, counts, goes, Plan, IsLowTarget, IsLowLeaving, IsLowOwn, IsLowPlan, turned, after_turn, after_turns, departed, after_leaving, count_or, turns_due, after_own, after_runs, after_first, after_second, after_all}
 use Rattle.queue_moves.specs.Tabled.{nodes_of, IsTabled, keys_of, StandsAs, lowered_entry, turned_list}
 
 -- ---- lists of entries
@@ -271,23 +270,6 @@ turn-is s t from to less e l h =
 
 pub turn-none : (s : Queues) (from to less : ℕ) → s from ≡ [] → after_turn from to less s ≡ s
 turn-none s from to less h = ap (λ (v : List Entry). turned to less (oldest_of v) s) h
-
--- how many turns are due, by the oldest
-
-pub due-none : (s : Queues) (n from to less least : ℕ) → s from ≡ [] → 1 ≤ least → turns_due n from to less least s ≡ 0
-due-none s zero from to less least h w = refl
-due-none s (suc n) from to less least h w = grind (arith, nat_tests)
-
-module _ (s : Queues) (n from to less least : ℕ) (e : Entry) (l : List Entry) (h : s from ≡ e ∷ l) where
-  count-is : nat_lt (count_or 0 (oldest_of (s from))) least ≡ nat_lt e.count least
-  count-is = ap (λ (v : List Entry). nat_lt (count_or 0 (oldest_of v)) least) h
-
-  pub due-few : nat_lt e.count least ≡ true → turns_due (suc n) from to less least s ≡ 0
-  due-few f = rw (count-is ∙ f) refl
-
-  pub due-more : nat_lt e.count least ≡ false
-      → turns_due (suc n) from to less least s ≡ suc (turns_due n from to less least (after_turn from to less s))
-  due-more f = rw (count-is ∙ f) refl
 
 twice-with : (q : ℕ) (l m : List Entry) (s : Queues) → with_queue q l (with_queue q m s) ≡ with_queue q l s
 twice-with q l m s = fun_ext (λ j. grind (arith, nat_tests))
