@@ -1,31 +1,27 @@
 -- 2Q: what an access makes of the queues, and that it keeps the invariant.
-use Rattle.std.proofs.Common.{◌≡◌, ℕ, ◌+◌, ◌≤◌, false, true, cond, ◌==◌, nat_lt, ◌||◌, List, [], ◌∷◌, ◌++◌, length, ◌∙◌, refl, arith, inl, inr, length-append}
+use Rattle.std.proofs.Common.{Bool, ◌≡◌, ℕ, ◌+◌, ◌≤◌, false, true, cond, ◌==◌, nat_lt, ◌||◌, List, [], ◌∷◌, ◌++◌, length, ◌∙◌, refl, arith, inl, inr, length-append}
 use Rattle.std.proofs.lemmas.Bool.{cond_both, or_cases, or_parts, ltb-true, ltb-false, eqb-true, eqb-false}
 use Rattle.step_record.specs.Keys.{has_key}
 use Rattle.step_record.specs.Stats.{is_hit, is_eviction, is_rejection}
 use Rattle.step_record.specs.declared.outcome.Outcome.{Outcome}
 use Rattle.step_record.specs.declared.outcome.Outcome.TheVariants.{Hit}
 use Rattle.queue_policies.specs.Residents.{times, keys_evicted, IsAccess, AreResidents}
-use Rattle.queue_policies.specs.Ghost.{ghost_place_of}
-use Rattle.queue_policies.specs.declared.ghost_place.GhostPlace.{GhostPlace}
-use Rattle.queue_policies.specs.declared.ghost_place.GhostPlace.TheVariants.{Known, Unknown}
 use Rattle.queue_policies.proofs.Residents.{times-append, access-keeps}
 use Rattle.queue_policies.proofs.Ghost.{with-times, with-fits, without-length, still-apart}
-use Rattle.ghost_policies.specs.TwoQ.{TwoQState, two_q_residents, leaver_of_a1in, leaver_of_am, two_q_leaver, two_q_after_recall, two_q_after_eviction, two_q_after_join, two_q_outcome, two_q_act, two_q_after_miss, two_q_after_renewal, IsTwoQ}
-use Rattle.ghost_policies.specs.declared.two_q.TwoQLeaver.{TwoQLeaver}
+use Rattle.ghost_policies.specs.TwoQ.{TwoQLeaver, TwoQState, two_q_residents, leaver_of_a1in, leaver_of_am, two_q_leaver, two_q_after_recall, two_q_after_eviction, two_q_after_join, two_q_outcome, two_q_act, two_q_after_miss, two_q_after_renewal, IsTwoQ}
 use Rattle.ghost_policies.specs.declared.two_q.TwoQSizes.{TwoQSizes}
 use Rattle.ghost_policies.specs.Theorems.{TwoQKeeps}
 use Rattle.ghost_policies.proofs.Weights.{weight, weight-append, weight-push, weight-renewed, hit-moves, miss-moves, has-append}
 
 -- ---- the key comes in
 
-join-weight : (f : ℕ → ℕ) (k : ℕ) (place : GhostPlace) (s : TwoQState) → weight f (two_q_residents (two_q_after_join place k s)) ≡ weight f (two_q_residents s) + f k
-join-weight f k Unknown s = omega (arith, weight-push f s.a1in k, weight-append f (s.a1in ++ k ∷ []) s.am, weight-append f s.a1in s.am)
-join-weight f k (Known j older) s = omega (arith, weight-push f s.am k, weight-append f s.a1in (s.am ++ k ∷ []), weight-append f s.a1in s.am)
+join-weight : (f : ℕ → ℕ) (k : ℕ) (remembered : Bool) (s : TwoQState) → weight f (two_q_residents (two_q_after_join remembered k s)) ≡ weight f (two_q_residents s) + f k
+join-weight f k false s = omega (arith, weight-push f s.a1in k, weight-append f (s.a1in ++ k ∷ []) s.am, weight-append f s.a1in s.am)
+join-weight f k true s = omega (arith, weight-push f s.am k, weight-append f s.a1in (s.am ++ k ∷ []), weight-append f s.a1in s.am)
 
-join-ghost : (k : ℕ) (place : GhostPlace) (s : TwoQState) → (two_q_after_join place k s).a1out ≡ s.a1out
-join-ghost k Unknown s = refl
-join-ghost k (Known j older) s = refl
+join-ghost : (k : ℕ) (remembered : Bool) (s : TwoQState) → (two_q_after_join remembered k s).a1out ≡ s.a1out
+join-ghost k false s = refl
+join-ghost k true s = refl
 
 -- ---- room for it
 
@@ -105,15 +101,15 @@ module _ (z : TwoQSizes) (c k : ℕ) (s : TwoQState) (some : 1 ≤ c) (state : I
   missed : has_key k s.am ≡ false → has_key k s.a1in ≡ false → IsKept (two_q_outcome (two_q_leaver z c s), two_q_after_miss z c k s)
   missed e g =
       let absent : has_key k (two_q_residents s) ≡ false = has-append k s.a1in s.am ∙ rw (g, e) refl in
-      let place : GhostPlace = ghost_place_of k s.a1out in
+      let remembered : Bool = has_key k s.a1out in
       let r : Outcome × TwoQState = after_leaver z (two_q_after_recall k s) (two_q_leaver z c s) in
       let made = room z c (two_q_after_recall k s) some in
-      let access = miss-moves c k (two_q_residents s) (two_q_residents (two_q_after_join place k r.1)) r.0 absent made.misses made.rejects made.evicts (λ f. omega (arith, made.weighs f, join-weight f k place r.1)) in
-      let ghost = join-ghost k place r.1 in
+      let access = miss-moves c k (two_q_residents s) (two_q_residents (two_q_after_join remembered k r.1)) r.0 absent made.misses made.rejects made.evicts (λ f. omega (arith, made.weighs f, join-weight f k remembered r.1)) in
+      let ghost = join-ghost k remembered r.1 in
       record {
         access = access;
         few = rw ghost (made.few (omega (arith, state.few, without-length k s.a1out)));
-        apart = λ x. rw ghost (still-apart x k s.a1out (two_q_residents s) r.1.a1out (two_q_residents (two_q_after_join place k r.1)) r.0 absent (apart-before x) (made.grows x) (access.moves x));
+        apart = λ x. rw ghost (still-apart x k s.a1out (two_q_residents s) r.1.a1out (two_q_residents (two_q_after_join remembered k r.1)) r.0 absent (apart-before x) (made.grows x) (access.moves x));
       }
 
   kept : IsKept (two_q_act z c k s)

@@ -1,18 +1,13 @@
 -- 2Q, the full version (Johnson and Shasha, VLDB 1994): a new key joins a1in, a first-in first-out queue. A key that
 -- leaves it is remembered in a1out, and joins am, which is in order of last access, when it comes again.
-use Rattle.std.specs.Prelude.{ℕ, ◌+◌, ◌≤◌, nat_lt, ◌==◌, ◌||◌, if◌then◌else◌}
+use Rattle.std.specs.Prelude.{Bool, true, false, ℕ, ◌+◌, ◌≤◌, nat_lt, ◌==◌, ◌||◌, if◌then◌else◌}
 use Rattle.std.specs.Prelude.{List, [], ◌∷◌, ◌++◌, length, drop}
 use Rattle.step_record.specs.Keys.{has_key, keys_without}
 use Rattle.step_record.specs.declared.outcome.Outcome.{Outcome}
 use Rattle.step_record.specs.declared.outcome.Outcome.TheVariants.{Hit, Kept, Evicted}
 use Rattle.queue_policies.specs.Residents.{times}
 use Rattle.queue_policies.specs.Ghost.{ghost_with}
-use Rattle.queue_policies.specs.Ghost.{ghost_place_of}
-use Rattle.queue_policies.specs.declared.ghost_place.GhostPlace.{GhostPlace}
-use Rattle.queue_policies.specs.declared.ghost_place.GhostPlace.TheVariants.{Known, Unknown}
 use Rattle.ghost_policies.specs.declared.two_q.TwoQSizes.{TwoQSizes}
-use Rattle.ghost_policies.specs.declared.two_q.TwoQLeaver.{TwoQLeaver}
-use Rattle.ghost_policies.specs.declared.two_q.TwoQLeaver.TheVariants.{NoLeaver, FromA1in, FromAm}
 
 -- the queues, oldest first
 pub record TwoQState : Type 0 where
@@ -29,6 +24,14 @@ two_q_residents s = s.a1in ++ s.am
 -- a1in is to have z.kin keys, and a1out remembers z.kout (the paper: a quarter of the capacity, and half of it)
 
 -- ---- which key leaves
+
+pub data TwoQLeaver : Type 0 where
+  -- there was room
+  NoLeaver : TwoQLeaver
+  -- the oldest of a1in, which a1out remembers
+  FromA1in : ℕ → TwoQLeaver
+  -- the oldest of am
+  FromAm : ℕ → TwoQLeaver
 
 abbrev pub leaver_of_a1in : List ℕ → TwoQLeaver
 leaver_of_a1in [] = NoLeaver
@@ -62,13 +65,13 @@ two_q_after_eviction z (FromA1in v) s =
 two_q_after_eviction z (FromAm v) s = record s { am = drop 1 s.am }
 
 -- the key joins am where it was remembered, else a1in
-abbrev pub two_q_after_join : GhostPlace → ℕ → TwoQState → TwoQState
-two_q_after_join Unknown k s = record s { a1in = s.a1in ++ k ∷ [] }
-two_q_after_join (Known j older) k s = record s { am = s.am ++ k ∷ [] }
+abbrev pub two_q_after_join : Bool → ℕ → TwoQState → TwoQState
+two_q_after_join false k s = record s { a1in = s.a1in ++ k ∷ [] }
+two_q_after_join true k s = record s { am = s.am ++ k ∷ [] }
 
 abbrev pub two_q_after_miss : TwoQSizes → ℕ → ℕ → TwoQState → TwoQState
 two_q_after_miss z c k s =
-    two_q_after_join (ghost_place_of k s.a1out) k (two_q_after_eviction z (two_q_leaver z c s) (two_q_after_recall k s))
+    two_q_after_join (has_key k s.a1out) k (two_q_after_eviction z (two_q_leaver z c s) (two_q_after_recall k s))
 
 abbrev pub two_q_outcome : TwoQLeaver → Outcome
 two_q_outcome NoLeaver = Kept

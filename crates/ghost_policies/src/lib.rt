@@ -5,4 +5,4 @@
 pub mod theorems;
 mod two_q;
 
-pub use two_q::{TwoQLeaver, TwoQSizes};
+pub use two_q::TwoQSizes;

@@ -12,7 +12,6 @@ use Rattle.queue_table.proofs.QueueLists.{queue-few}
 use Rattle.queue_policies.specs.Residents.{times}
 use Rattle.queue_policies.specs.CountedKeys.{CountedKey, uncounted_key, count_of, with_count}
 use Rattle.queue_policies.specs.CountedKeys as counted
-use Rattle.queue_policies.specs.Ghost.{ghost_place_of}
 use Rattle.queue_policies.specs.S3Fifo.{S3FifoState, s3_fifo_residents, s3_fifo_main_size, main_eviction, small_eviction, most_moves, s3_fifo_room, s3_fifo_with_key, hit_count, s3_fifo_act, IsS3Fifo}
 use Rattle.queue_policies.proofs.Residents.{times-none, no-times, brought-few}
 use Rattle.queue_policies.proofs.CountedKeys.{keys-times, count-append, keys-with}
@@ -36,7 +35,7 @@ use Rattle.policy_steps.proofs.Leavers.{HitsAlone, own-alone, never, either, one
 -- ---- the key comes in
 
 joined : (r : Bool) (k : ℕ) (ghost : List ℕ) (u : Queues) (o : Outcome) (e : Outcome × S3FifoState) → has_key k ghost ≡ r → HasKeys u → has_key k (keys_of (u SMALL)) ≡ false → has_key k (keys_of (u MAIN)) ≡ false → IsLeft k u o e
-    → s3_fifo_of (after_send (entry (item_of k) 0) (joins r) u) ≡ s3_fifo_with_key (ghost_place_of k ghost) k e.1
+    → s3_fifo_of (after_send (entry (item_of k) 0) (joins r) u) ≡ s3_fifo_with_key (has_key k ghost) k e.1
 joined true k ghost u o e is z small main left =
     rw (is, without-counted k (u SMALL) (z SMALL) small, counted-append (entries_without (item_of k) (u MAIN)) (entry (item_of k) 0 ∷ []), without-counted k (u MAIN) (z MAIN) main, without-keys k (u GHOST) (z GHOST), left.small, left.main, left.ghost) refl
 joined false k ghost u o e is z small main left =
@@ -66,16 +65,16 @@ module _ (part c k x : ℕ) (r : Bool) (s : Queues) (t : IsTabled s) (some : 1 �
   -- the key is in neither queue once room is made
   none-after : times k (counted.keys_of (room.1.small ++ room.1.main)) ≤ 0
   none-after =
-      let moves = (room-made part c k (ghost_place_of k v.ghost) w some absent state.counts).access.moves k in
+      let moves = (room-made part c k (has_key k v.ghost) w some absent state.counts).access.moves k in
       let before : times k (s3_fifo_residents w) ≡ 0 = times-none k (s3_fifo_residents w) absent in
       let self : one_if (eqb k k) ≡ 1 = ap one_if (eq-eqb k k refl) in
-      omega (arith, moves, before, self, brought-few k k room.0, join-times k k (ghost_place_of k v.ghost) room.1)
+      omega (arith, moves, before, self, brought-few k k room.0, join-times k k (has_key k v.ghost) room.1)
 
   none-in : (l : List Entry) (m : List CountedKey) → counted_keys l ≡ m → times k (counted.keys_of m) ≤ 0 → has_key k (keys_of l) ≡ false
   none-in l m h n = ap (has_key k) (sym (keys-counted l) ∙ ap counted.keys_of h) ∙ no-times k (counted.keys_of m) n
 
   abbrev IsMiss : Plan → Type 0
-  IsMiss p = IsPlannedBy p k s (λ x. s3_fifo_of) (room.0, s3_fifo_with_key (ghost_place_of k v.ghost) k room.1) false
+  IsMiss p = IsPlannedBy p k s (λ x. s3_fifo_of) (room.0, s3_fifo_with_key (has_key k v.ghost) k room.1) false
 
   -- a miss by the plan, once the queues that it leaves and its outcome are those of the definition
   brought : (early late : Run) (l : Leavers) (e : Outcome × S3FifoState) → IsLowRun early → IsLowRun late → AreLow l → room ≡ e

@@ -5,11 +5,8 @@ use Rattle.step_record.specs.Keys.{has_key, keys_without}
 use Rattle.queue_table.specs.declared.records.Entry.{Entry}
 use Rattle.queue_table.specs.Entries.{entry, oldest_of}
 use Rattle.queue_table.specs.Queues.{with_queue, QUEUES, Queues, after_send}
-use Rattle.queue_policies.specs.Ghost.{ghost_place_of}
-use Rattle.ghost_policies.specs.TwoQ.{TwoQState, two_q_residents, leaver_of_a1in, leaver_of_am, two_q_after_recall, two_q_after_eviction, two_q_after_join, two_q_outcome, two_q_act, IsTwoQ}
+use Rattle.ghost_policies.specs.TwoQ.{TwoQLeaver, NoLeaver, FromA1in, FromAm, TwoQState, two_q_residents, leaver_of_a1in, leaver_of_am, two_q_after_recall, two_q_after_eviction, two_q_after_join, two_q_outcome, two_q_act, IsTwoQ}
 use Rattle.ghost_policies.specs.declared.two_q.TwoQSizes.{TwoQSizes}
-use Rattle.ghost_policies.specs.declared.two_q.TwoQLeaver.{TwoQLeaver}
-use Rattle.ghost_policies.specs.declared.two_q.TwoQLeaver.TheVariants.{NoLeaver, FromA1in, FromAm}
 use Rattle.ghost_policies.proofs.ArcPlans.{none-out}
 use Rattle.ghost_policies.proofs.Weights.{has-append}
 use Rattle.queue_moves.specs.Moves.{item_of, standing, leaving, evicted, outcome_after, stays, goes, own_plan}
@@ -43,7 +40,7 @@ joins-low false = omega arith
 
 -- the key joins
 joined : (r : Bool) (k : ℕ) (ghost : List ℕ) (u : Queues) (d : TwoQState) → has_key k ghost ≡ r → HasKeys u → Shows k u d
-    → two_q_of (after_send (entry (item_of k) 0) (joins r) u) ≡ two_q_after_join (ghost_place_of k ghost) k d
+    → two_q_of (after_send (entry (item_of k) 0) (joins r) u) ≡ two_q_after_join (has_key k ghost) k d
 joined true k ghost u d h z at = rw h
     (same-state (keys-sent k 0 AM u z A1IN ∙ at.a1in) (keys-sent k 0 AM u z A1OUT ∙ at.a1out) (keys-sent k 0 AM u z AM ∙ ap (λ t. t ++ k ∷ []) at.am))
 joined false k ghost u d h z at = rw h
@@ -58,7 +55,7 @@ module _ (z : TwoQSizes) (c k x : ℕ) (r : Bool) (s : Queues) (some : 1 ≤ c) 
   after v = two_q_after_eviction z v (two_q_after_recall k (two_q_of s))
 
   abbrev IsMiss : Leavers → TwoQLeaver → Type 0
-  IsMiss l v = IsPlannedBy (miss_plan l (goes (joins r) 0) x) k s (λ y. two_q_of) (two_q_outcome v, two_q_after_join (ghost_place_of k (keys_of (s A1OUT))) k (after v)) false
+  IsMiss l v = IsPlannedBy (miss_plan l (goes (joins r) 0) x) k s (λ y. two_q_of) (two_q_outcome v, two_q_after_join (has_key k (keys_of (s A1OUT))) k (after v)) false
 
   brought : (l : Leavers) (v : TwoQLeaver) → AreLow l → outcome_after l.first s ≡ two_q_outcome v → Shows k (after_leavers l s) (after v) → IsMiss l v
   brought l v low left shows = record {
