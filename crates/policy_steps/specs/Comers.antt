@@ -13,7 +13,8 @@ Comes None i t = (queue_holding i (queues t) ≡ None) × (1 ≤ spare t)
 Comes (Some f) i t = HoldsAt f.at (entry i f.count) t
 
 -- it stands in neither of two queues, nor in the ghost where this does not remember it
-pub record IsOutside (remembered : Bool) (found : Option Found) (i : Item) (one other ghost : ℕ) (t : List Slot) : Type 0 where
+pub record IsOutside (remembered : Bool) (found : Option Found) (i : Item) (one other ghost : ℕ) (t : List Slot)
+    : Type 0 where
   pub comes : Comes found i t
   pub off_one : occurrences i (queues t one) ≡ 0
   pub off_other : occurrences i (queues t other) ≡ 0

@@ -22,8 +22,8 @@ one_leaver l = record { first = l; second = None }
 abbrev pub after_leavers : Leavers → Queues → Queues
 after_leavers l s = after_leaving l.second (after_leaving l.first s)
 
--- The oldest of the queue `from` leaves for a ghost, which forgets its oldest where it is over its size. The accessed key
--- leaves the ghost where that remembers it.
+-- The oldest of the queue `from` leaves for a ghost, which forgets its oldest where it is over its size. The accessed
+-- key leaves the ghost where that remembers it.
 abbrev pub leavers_for_ghost : ℕ → ℕ → ℕ → Bool → Queues → Leavers
 leavers_for_ghost from ghost size remembered s = record {
   first = leaving from (Some (ghost, 0));
@@ -46,7 +46,7 @@ pub record AreLeft (l : Leavers) (s u : Queues) (r : LeftKeys) : Type 0 where
   pub few : outs r.first.by + outs r.second.by ≤ 1
 
 -- they left, and then the accessed key moved
-pub record IsEntered (l : Leavers) (o : Own) (i : Item) (s u : Queues) (r : LeftKeys) (own_move : KeyMove) : Type 0 where
+pub record IsEntered (l : Leavers) (o : Own) (i : Item) (s u : Queues) (r : LeftKeys) (move : KeyMove) : Type 0 where
   pub between : Queues
   pub left : AreLeft l s between r
-  pub own : IsOwn o i between u own_move
+  pub own : IsOwn o i between u move
