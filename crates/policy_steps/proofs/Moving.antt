@@ -1,6 +1,6 @@
 -- What the parts of an access make of the keys of the queues.
-use Rattle.std.proofs.Common.{map, ◌≡◌, ℕ, ◌≤◌, Bool, true, false, cond, eqb, Option, Some, None, List, [], ◌∷◌, ◌++◌, length, take, drop, ap, ◌∙◌, refl, arith, inl, inr}
-use Rattle.std.proofs.lemmas.Bool.{cases_Bool, eq-eqb}
+use Rattle.std.proofs.Common.{map, ◌≡◌, ℕ, ◌≤◌, Bool, true, false, cond, eqb, Option, Some, None, List, [], ◌∷◌, ◌++◌, length, take, drop, ap, ◌∙◌, sym, refl, arith, inl, inr}
+use Rattle.std.proofs.lemmas.Bool.{cases_Bool}
 use Rattle.std.proofs.lemmas.List.{length-map}
 use Rattle.step_record.specs.Keys.{has_key, keys_without}
 use Rattle.queue_table.specs.declared.records.Entry.{Entry}
@@ -10,7 +10,7 @@ use Rattle.queue_policies.proofs.Residents.{apart}
 use Rattle.ghost_policies.proofs.ArcPlans.{none-out}
 use Rattle.queue_moves.specs.Moves.{item_of, leaving, IsLowLeaving, after_leaving, Own, IsLowOwn, own_plan, IsLowPlan}
 use Rattle.queue_moves.specs.Tabled.{HasKeys, IsTabled, keys_of, nodes_of}
-use Rattle.queue_moves.proofs.Tabled.{keys-append, tabled-leaving}
+use Rattle.queue_moves.proofs.Tabled.{keys-taken, keys-append, tabled-leaving}
 use Rattle.policy_steps.specs.Misses.{Leavers, miss_plan}
 use Rattle.policy_steps.proofs.Leaving.{any-out, any-sent}
 
@@ -18,13 +18,7 @@ pub length-keys : (l : List Entry) → length (keys_of l) ≡ length l
 length-keys l = length-map l (λ (e : Entry). e.item.key)
 
 pub without-keys : (k : ℕ) (l : List Entry) → nodes_of l ≡ 0 → keys_of (entries_without (item_of k) l) ≡ keys_without k (keys_of l)
-without-keys k [] h = refl
-without-keys k (e ∷ l) h =
-    let node : eqb 0 e.item.node ≡ true = eq-eqb 0 e.item.node (omega arith) in
-    elim (cases_Bool (eqb k e.item.key)) [
-      | inl f ↦ rw (f, node) (without-keys k l (omega arith))
-      | inr f ↦ rw f (ap (λ t. e.item.key ∷ t) (without-keys k l (omega arith)))
-    ]
+without-keys k l h = sym (keys-taken k l h)
 
 -- ---- the accessed key goes to the recent end of a queue
 
