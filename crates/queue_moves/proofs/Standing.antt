@@ -13,8 +13,7 @@ use Rattle.queue_table.proofs.Holding.{StandsIn as SlotIn, stands, stands_in}
 use Rattle.queue_table.proofs.MoveBack.{StandsIn}
 use Rattle.queue_moves.specs.Moves.{Entry, count_of, standing, standing_at}
 use Rattle.queue_moves.specs.Tabled.{Slot, IsTabled}
-use Rattle.queue_moves.proofs.Tabled.{behind, found-split, few}
-use Rattle.queue_moves.proofs.Tabled.{elsewhere as other}
+use Rattle.queue_moves.proofs.Tabled.{behind, found-split, few, elsewhere as other}
 
 -- the entry is in one of the queues
 pub record Stands (e : Entry) (s : Queues) : Type 0 where

@@ -16,8 +16,7 @@ use Rattle.queue_table.proofs.Holding.{sent-in}
 use Rattle.queue_table.proofs.Indexing.{same-map}
 use Rattle.queue_table.proofs.Tables.{free-real, free-unused, free-within, section-kept}
 use Rattle.queue_table.proofs.Calls.{count-length, spare-sent, spare-freed, free-lists, used-lists, used-not-free}
-use Rattle.queue_table.proofs.Kept.{some-slots, some-used, used-slot, kept-on}
-use Rattle.queue_table.proofs.Kept.{section-few as lengths-few}
+use Rattle.queue_table.proofs.Kept.{some-slots, some-used, used-slot, kept-on, section-few as lengths-few}
 use Rattle.queue_table.proofs.Renewing.{written-entry, other-entry, same-items, keeps-slots, keeps-others}
 
 -- a slot that may go elsewhere: s are the queues without it

@@ -3,9 +3,8 @@ use Rattle.std.specs.Prelude.{◌≡◌, ℕ, suc, zero, []}
 use Rattle.queue_table.specs.declared.records.Place.{Place}
 use Rattle.queue_table.specs.Entries.{items_of}
 use Rattle.queue_table.specs.Queues as ByNumber
-use Rattle.segments.specs.declared.records.Queue.TheVariants.{Window, Probation, Protected}
 use Rattle.segments.specs.declared.records.QueuePlace.{QueuePlace}
-use Rattle.segments.specs.Queues.{Queue, Queues, Shown}
+use Rattle.segments.specs.Queues.{Window, Probation, Protected, Queue, Queues, Shown}
 
 abbrev pub number_of : Queue → ℕ
 number_of Window = 0
