@@ -1,6 +1,6 @@
 -- The slot after a place of a queue, from the links.
 use Rattle.std.proofs.Common.{◌≡◌, ℕ, suc, ◌+◌, ◌<◌, ◌≤◌, true, false, eqb, Option, Some, None, List, [], ◌∷◌, ◌++◌, get_or, map, ap, ◌∙◌, sym, refl, subst, arith, inl, inr, append_assoc}
-use Rattle.std.proofs.lemmas.Bool.{cases_Bool, cases_eq, eqb-true, ne_eqb}
+use Rattle.std.proofs.lemmas.Bool.{cases_eq, ne_eqb}
 use Rattle.std.proofs.lemmas.List.{map-append}
 use Rattle.std.proofs.lemmas.Bool.Decides.{nat_tests}
 use Rattle.queue_table.specs.Entries.{Entry, Item, is_same_item, last_from, last_item, IsGap}
@@ -96,10 +96,9 @@ module _ (slots : List Slot) (o : Order) (h : IsQueued slots o) (q but j : ℕ) 
       let in_use : 1 ≤ count v.at (used o) = section-used q v.at o w stands in
       let holding : queue_holding n (lists_of o (entries slots)) ≡ Some q = subst (λ (x : Item). queue_holding x (lists_of o (entries slots)) ≡ Some q) v.holds (placed-at q v.at o (entries slots) w h.distinct stands) in
       let s = c n refl (λ z. cc (z, holding)) in
-      let same : j ≡ v.at = elim (cases_Bool (eqb j v.at)) [
-        | inl y ↦ eqb-true j v.at y
-        | inr y ↦ absurd (let p = alone o (entries slots) j v.at h.distinct s.0 in_use in let e : is_same_item (f j).item (f v.at).item ≡ true = rw (s.1, v.holds) (same-refl n) in cc (p, e, y))
-      ] in
+      let apart = alone o (entries slots) j v.at h.distinct s.0 in_use in
+      let e : is_same_item (f j).item (f v.at).item ≡ true = rw (s.1, v.holds) (same-refl n) in
+      let same : j ≡ v.at = grind (arith, nat_tests) in
       subst (λ (x : Option Item). IsBehind (next_but (newers slots) j but) q x (entries slots) l) (ap Some s.1) (cut-after (subst (λ x. 1 ≤ count x l) (sym same) there))
 
 -- the slot after a cut is a place
@@ -112,7 +111,7 @@ behind-place b q older es o c = starts c.back c.whole c.next
 
 -- slot 0 stands in no queue
 pub none-out : (slots : List Slot) (o : Order) → IsQueued slots o → (q : ℕ) → q < QUEUES → order_without 0 o (suc q) ≡ o (suc q)
-none-out slots o h q w = without-none 0 (o (suc q)) (none (count 0 (o (suc q))) (λ n. let r = used-real o 0 h.linked.once (section-used q 0 o w n) in omega (arith, r)))
-  where
-    none : (n : ℕ) → (1 ≤ n → ⊥) → n ≡ 0
-    none n x = elim (cases_eq n 0) [ inl e ↦ e | inr e ↦ absurd (x (omega (arith, e))) ]
+none-out slots o h q w =
+    let real = used-real o 0 h.linked.once in
+    let used = section-used q 0 o w in
+    without-none 0 (o (suc q)) (grind arith)

@@ -1,5 +1,5 @@
 -- What growth leaves.
-use Rattle.std.proofs.Common.{◌≡◌, ℕ, ◌+◌, ◌-◌, ◌*◌, ◌^◌, ◌<◌, ◌≤◌, suc, cond, eqb, Result, Ok, Err, List, [], ◌∷◌, ◌++◌, length, ap, ◌∙◌, sym, subst, arith, length-append}
+use Rattle.std.proofs.Common.{◌≡◌, ℕ, ◌+◌, ◌-◌, ◌*◌, ◌^◌, ◌≤◌, suc, cond, eqb, Result, Ok, Err, List, [], ◌∷◌, ◌++◌, length, ap, ◌∙◌, sym, subst, arith, length-append}
 use Rattle.std.specs.Result.{OnOk, OnErr}
 use Rattle.std.specs.declared.alloc.AllocError.{AllocError}
 use Rattle.std.proofs.Math.Path.{fun_ext}
@@ -8,8 +8,9 @@ use Rattle.queue_table.specs.Entries.{entry}
 use Rattle.queue_table.specs.Ring.{Slot, entries, olders, newers, tags, FIRST, until, past, IsRing, Order, ring, order_of, more_free, no_slots, lists_of, lists, IsQueued}
 use Rattle.queue_table.specs.Index.{SlotIndex, capacity}
 use Rattle.queue_table.specs.QueueTable.{IsIndexOf, IsLoaded, IsInSlots, IsSound, IsSame}
-use Rattle.std.proofs.lemmas.Nat.{pow-add, pow_pos}
+use Rattle.std.proofs.lemmas.Nat.{pow-add}
 use Rattle.std.proofs.lemmas.Bool.Decides.{nat_tests}
+use Rattle.std.proofs.Math.Nat.{pow-le-pow_right}
 use Rattle.queue_table.proofs.Holding.{queued-order}
 use Rattle.queue_table.proofs.Tables.{held-grown, lists-grown}
 
@@ -71,16 +72,8 @@ same-first slots q =
       lengths = λ s. ap (λ (p : Order). length (p s)) (o ∙ sym n);
     }
 
--- the load of an index, of as many slots as before
-pub still_loaded : (n m bits : ℕ) → m ≡ n → IsLoaded n bits → IsLoaded m bits
-still_loaded n m bits e l = subst (λ k. IsLoaded k bits) (sym e) l
-
 pub sixteen : (bits : ℕ) → 4 ≤ bits → 16 ≤ 2 ^ bits
-sixteen bits h =
-    let e : bits ≡ 4 + (bits - 4) = omega arith in
-    let p : 2 ^ bits ≡ 16 * 2 ^ (bits - 4) = ap (λ k. 2 ^ k) e ∙ pow-add 2 4 (bits - 4) in
-    let q : 0 < 2 ^ (bits - 4) = pow_pos (bits - 4) in
-    omega (arith, p, q)
+sixteen bits h = let p : 2 ^ 4 ≤ 2 ^ bits = pow-le-pow_right (omega arith) h in p
 
 -- the first index
 pub first_loaded : (n bits : ℕ) → n ≡ FIRST → 4 ≤ bits → IsLoaded n bits

@@ -1,5 +1,5 @@
 -- What holds of a table while one of its calls works on the slots.
-use Rattle.std.proofs.Common.{◌≡◌, ℕ, suc, zero, ◌<◌, ◌≤◌, ◌+◌, ◌^◌, List, [], ◌∷◌, ◌++◌, get_or, take, length, length-append, map, ap, ◌∙◌, sym, subst, arith, refl}
+use Rattle.std.proofs.Common.{◌≡◌, ℕ, suc, ◌<◌, ◌≤◌, ◌+◌, ◌^◌, List, [], ◌∷◌, ◌++◌, get_or, take, length, length-append, map, ap, ◌∙◌, sym, subst, arith, refl}
 use Rattle.std.proofs.lemmas.List.{length-map, take_at}
 use Rattle.std.proofs.lemmas.Simd.{map-map}
 use Rattle.queue_table.specs.Entries.{Entry, Item, items_of}
@@ -8,8 +8,8 @@ use Rattle.queue_table.specs.Ring.{Slot, entries, newers, olders, slot_entry, sl
 use Rattle.queue_table.specs.Index.{SlotIndex, HasSlot}
 use Rattle.queue_table.specs.QueueTable.{Lengths, IsLoaded, IsCounted, IsIndexOf, IsInSlots, IsKept}
 use Rattle.queue_table.proofs.Splices.{walked}
-use Rattle.queue_table.proofs.Orders.{used-real}
-use Rattle.queue_table.proofs.Growing.{still_loaded, no-order}
+use Rattle.queue_table.proofs.Orders.{used-real, ring-at, cut_at_section}
+use Rattle.queue_table.proofs.Growing.{no-order}
 use Rattle.queue_table.proofs.Finding.{slots-length}
 use Rattle.queue_table.proofs.Holding.{linked-section}
 use Rattle.queue_table.proofs.SlotWrites.{no_slot}
@@ -34,7 +34,7 @@ kept-on slots slots2 index index2 n n2 k h q x c e b =
       held = λ _. record { queued = q; indexed = x; room = (let r = h.room in rw b (omega (arith, r, l))) };
       counted = c;
       few = (let f = k.few in omega (arith, f, l));
-      load = subst (IsLoaded (length slots2)) (sym b) (still_loaded (length slots) (length slots2) index.bits l k.load);
+      load = subst (IsLoaded (length slots2)) (sym b) (subst (λ m. IsLoaded m index.bits) (sym l) k.load);
     }
 
 -- a queue that is not of length 0
@@ -58,37 +58,26 @@ ring-length o = simp length-append (omega arith)
 pub before-within : (slots : List Slot) → IsQueued slots (order_of slots) → (q : ℕ) → q < QUEUES → suc q < length slots
 before-within slots h q w = omega (arith, h.linked.long, slots-length slots, ring-length (order_of slots), w)
 
--- all slots in sections are fewer than the slots
-sections-few : (slots : List Slot) (index : SlotIndex) (n : Lengths) → IsKept slots index n → (let o = order_of slots in length (o 0) + (length (o 1) + (length (o 2) + (length (o 3) + length (o 4)))) < 2 ^ 32)
-sections-few [] index n k =
-    let z : (s : ℕ) → length (order_of [] s) ≡ 0 = λ s. ap (λ (o : Order). length (o s)) no-order in
-    omega (arith, z 0, z 1, z 2, z 3, z 4)
-sections-few (x ∷ slots) index n k =
-    let all : List Slot = x ∷ slots in
-    let long = (k.held (omega arith)).queued.linked.long in
-    let size = slots-length all in
-    let ring = ring-length (order_of all) in
-    omega (arith, long, size, ring, k.few)
+-- all slots in the ring are fewer than the slots
+ring-few : (slots : List Slot) (index : SlotIndex) (n : Lengths) → IsKept slots index n → length (ring (order_of slots)) < 2 ^ 32
+ring-few [] index n k = let none = ap (λ (o : Order). length (ring o)) no-order in omega (arith, none)
+ring-few (x ∷ slots) index n k = omega (arith, (k.held (omega arith)).queued.linked.long, slots-length (x ∷ slots), k.few)
 
 pub items-few : (slots : List Slot) (index : SlotIndex) (n : Lengths) → IsKept slots index n → get_or n.at 1 0 + get_or n.at 2 0 + get_or n.at 3 0 + get_or n.at 4 0 < 2 ^ 64
 items-few slots index n k =
-    let f = sections-few slots index n k in
+    let f = ring-few slots index n k in
+    let parts = ring-length (order_of slots) in
     let a = k.counted 1 (omega arith) in
     let b = k.counted 2 (omega arith) in
     let c = k.counted 3 (omega arith) in
     let d = k.counted 4 (omega arith) in
-    omega (arith, f, a, b, c, d)
+    omega (arith, f, parts, a, b, c, d)
 
 pub section-few : (slots : List Slot) (index : SlotIndex) (n : Lengths) → IsKept slots index n → (s : ℕ) → s < SECTIONS → get_or n.at s 0 + 1 < 2 ^ 64
-section-few slots index n k s w = omega (arith, k.counted s w, one s w)
-  where
-    one : (s : ℕ) → s < SECTIONS → length (order_of slots s) < 2 ^ 32
-    one zero w = let f = sections-few slots index n k in omega (arith, f)
-    one (suc zero) w = let f = sections-few slots index n k in omega (arith, f)
-    one (suc (suc zero)) w = let f = sections-few slots index n k in omega (arith, f)
-    one (suc (suc (suc zero))) w = let f = sections-few slots index n k in omega (arith, f)
-    one (suc (suc (suc (suc zero)))) w = let f = sections-few slots index n k in omega (arith, f)
-    one (suc (suc (suc (suc (suc s))))) w = absurd (omega (arith, w))
+section-few slots index n k s w =
+    let o : Order = order_of slots in
+    let parts = ap length (ring-at s o (cut_at_section s o w)) in
+    omega (arith, k.counted s w, ring-few slots index n k, parts, length-append {A = ℕ})
 
 length-lists : (o : Order) (es : List Entry) (q : ℕ) → length (lists_of o es q) ≡ length (o (suc q))
 length-lists o es q = length-map (o (suc q)) (λ j. slot_entry es j)

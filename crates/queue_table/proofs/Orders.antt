@@ -27,6 +27,12 @@ ring-same (suc n) k o p h =
     let r = ring-same n (suc k) o p (λ j m. h j (omega (arith, m))) in
     rw (a, r) refl
 
+pub with-same : (s : ℕ) (l : List ℕ) (o : Order) → with_section s l o s ≡ l
+with-same s l o = grind (arith, nat_tests)
+
+pub with-other : (s j : ℕ) (l : List ℕ) (o : Order) → (j ≡ s → ⊥) → with_section s l o j ≡ o j
+with-other s j l o d = grind (arith, nat_tests)
+
 -- the ring around one section
 pub record IsCut (n k s : ℕ) (o : Order) : Type 0 where
   pub pre : List ℕ
@@ -40,28 +46,16 @@ cut (suc n) k s o a b =
       | inl e ↦ record {
         pre = [];
         post = ring_from n (suc k) o;
-        whole = λ l. (
-            let f : eqb k s ≡ true = eq-eqb k s e in
-            let r = ring-same n (suc k) (with_section s l o) o (λ j m. let g : eqb j s ≡ false = ne_eqb j s (λ z. omega (arith, z, e, m)) in rw g refl) in
-            rw (f, r, e) refl);
+        whole = λ l. (let r = ring-same n (suc k) (with_section s l o) o (λ j m. with-other s j l o (λ z. omega arith)) in grind (arith, nat_tests));
       }
       | inr d ↦
           let c = cut n (suc k) s o (omega (arith, a, d)) (omega (arith, b)) in
           record {
             pre = o k ++ suc k ∷ c.pre;
             post = c.post;
-            whole = λ l. (
-                let f : eqb k s ≡ false = ne_eqb k s d in
-                let w = c.whole l in
-                rw (f, w) (sym (append_assoc (o k) (suc k ∷ c.pre) (l ++ suc s ∷ c.post))));
+            whole = λ l. (let w = c.whole l in let a = append_assoc (o k) (suc k ∷ c.pre) (l ++ suc s ∷ c.post) in grind (arith, nat_tests));
           }
     ]
-
-pub with-same : (s : ℕ) (l : List ℕ) (o : Order) → with_section s l o s ≡ l
-with-same s l o = grind (arith, nat_tests)
-
-pub with-other : (s j : ℕ) (l : List ℕ) (o : Order) → (j ≡ s → ⊥) → with_section s l o j ≡ o j
-with-other s j l o d = grind (arith, nat_tests)
 
 with-itself : (s : ℕ) (o : Order) (j : ℕ) → with_section s (o s) o j ≡ o j
 with-itself s o j = grind (arith, nat_tests)

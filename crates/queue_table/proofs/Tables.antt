@@ -105,10 +105,6 @@ ring-grown ns os o n x is =
     linked (ns ++ 0 ∷ []) (os ++ 0 ∷ []) 0 (o 0) n 0 (queues-ring o) (λ k. let u = one k in let p = parts k in omega (arith, u, p)) (λ k. let u = one k in let p = parts k in let c = count-append k (queues-ring o) (0 ∷ []) in omega (arith, u, p, c)) (omega (arith, eb, n1)) (omega (arith, n1, is)) (omega (arith, o1, is, same)) (omega (arith, o1, same, first)) old in
     let l1 : IsLinked (set (set (ns ++ 0 ∷ []) e n) n 1) (set (set (os ++ 0 ∷ []) n e) 1 n) 0 (ring (more_free n o)) 0 =
     subst (λ (l : List ℕ). IsLinked (set (set (ns ++ 0 ∷ []) e n) n 1) (set (set (os ++ 0 ∷ []) n e) 1 n) 0 l 0) (ring-more n o) (subst (λ y. IsLinked (set (set (ns ++ 0 ∷ []) y n) n 1) (set (set (os ++ 0 ∷ []) n y) 1 n) 0 (o 0 ++ n ∷ queues-ring o) 0) (sym ee) l0) in
-    let s1 = length-set (set (ns ++ 0 ∷ []) e n) n 1 in
-    let s2 = length-set (ns ++ 0 ∷ []) e n in
-    let t1 = length-set (set (os ++ 0 ∷ []) n e) 1 n in
-    let t2 = length-set (os ++ 0 ∷ []) n e in
     let cr : (k : ℕ) → count k (ring (more_free n o)) ≡ count k (ring o) + cond (eqb k n) 1 0 = λ k. (
     let a = ap (count k) (sym (ring-more n o)) in
     let b = count-append k (o 0) (n ∷ queues-ring o) in
@@ -123,10 +119,10 @@ ring-grown ns os o n x is =
     record {
       linked = l1;
       once = λ k. (let c = cr k in let u = one k in omega (arith, c, u));
-      within = λ k m. (let c = cr k in let w = x.within k in let e = cases_eq k n in grind (arith, nat_tests));
-      all = λ k w. (let c = cr k in let a = x.all k in let e = cases_eq k n in grind (arith, nat_tests));
-      same = omega (arith, s1, s2, t1, t2, n1, o1, same);
-      long = omega (arith, lr, s1, s2, n1, long);
+      within = λ k m. (let c = cr k in let w = x.within k in let e = cases_eq k n in grind (arith, nat_tests, length-set {A = ℕ}));
+      all = λ k w. (let c = cr k in let a = x.all k in let e = cases_eq k n in grind (arith, nat_tests, length-set {A = ℕ}));
+      same = omega (arith, length-set {A = ℕ}, n1, o1, same);
+      long = omega (arith, lr, length-set {A = ℕ}, n1, long);
     }
 
 pub older-first : (ns os : List ℕ) (o : Order) → IsRing ns os (ring o) → get_or (os ++ 0 ∷ []) 1 0 < length ns

@@ -74,12 +74,6 @@ turned_to ns os l k b r xs ys us vs wh sc wo pu mi oe ne ob st oi ni ui fin =
     let mv : moved_before k b l ≡ us ++ k ∷ vs = ap (put_before k b) wo ∙ pu in
     let ct : (j : ℕ) → count j (0 ∷ us ++ k ∷ vs) ≡ count j (0 ∷ l) = λ j. (let a = count-mid j k us vs in let c = count-mid j k xs ys in let d = ap (count j) wh in let f = sc j in omega (arith, a, c, d, f)) in
     let lo : length (us ++ k ∷ vs) ≡ length l = (let a = ap length wh in let d = ap length mi in let f1 = length-append us (k ∷ vs) in let f2 = length-append xs (k ∷ ys) in let f3 = length-append us vs in let f4 = length-append xs ys in omega (arith, a, d, f1, f2, f3, f4)) in
-    let n1 = length-set (set (set ns (end_of 0 xs) (start_of ys 0)) (end_of 0 us) k) k (start_of vs 0) in
-    let n2 = length-set (set ns (end_of 0 xs) (start_of ys 0)) (end_of 0 us) k in
-    let n3 = length-set ns (end_of 0 xs) (start_of ys 0) in
-    let o1 = length-set (set (set os (start_of ys 0) (end_of 0 xs)) k (end_of 0 us)) (start_of vs 0) k in
-    let o2 = length-set (set os (start_of ys 0) (end_of 0 xs)) k (end_of 0 us) in
-    let o3 = length-set os (start_of ys 0) (end_of 0 xs) in
     let same = r.same in
     record {
       older_in = oi;
@@ -88,10 +82,10 @@ turned_to ns os l k b r xs ys us vs wh sc wo pu mi oe ne ob st oi ni ui fin =
       ring = rw (mv, ne, oe, ob, ← st) record {
         linked = fin;
         once = λ j. (let a = ct j in let c = r.once j in omega (arith, a, c));
-        within = λ j h. (let a = ct j in let c = r.within j (omega (arith, a, h)) in omega (arith, n1, n2, n3, c));
-        all = λ j h. (let a = ct j in let c = r.all j (omega (arith, n1, n2, n3, h)) in omega (arith, a, c));
-        same = omega (arith, n1, n2, n3, o1, o2, o3, same);
-        long = (let rl = r.long in omega (arith, n1, n2, n3, lo, rl));
+        within = λ j h. (let a = ct j in let c = r.within j (omega (arith, a, h)) in omega (arith, length-set {A = ℕ}, c));
+        all = λ j h. (let a = ct j in let c = r.all j (omega (arith, length-set {A = ℕ}, h)) in omega (arith, a, c));
+        same = omega (arith, length-set {A = ℕ}, same);
+        long = (let rl = r.long in omega (arith, length-set {A = ℕ}, lo, rl));
       };
     }
 
