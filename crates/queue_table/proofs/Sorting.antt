@@ -6,9 +6,6 @@ use Rattle.step_record.specs.declared.item.Item.{Item}
 use Rattle.queue_table.specs.Trees.{Tree, leaf, fork, tally, turn, IsSorted, grafted, lowest, pruned, plucked, renamed, lifted, detached}
 use Rattle.queue_table.proofs.Trees.{on_side}
 
-pub clash : (b : Bool) → b ≡ true → b ≡ false → ⊥
-clash b t f = cc
-
 -- items that stay leave the ways as they are
 pub sorted-same : (its its2 : ℕ → Item) (d : ℕ) (t : Tree) → ((k : ℕ) → 1 ≤ tally k t → its2 k ≡ its k) → IsSorted its d t → IsSorted its2 d t
 sorted-same its its2 d leaf e s = s

@@ -13,9 +13,6 @@ some_or_none (suc n) = inl (omega arith)
 pub tally-here : (i : ℕ) (l r : Tree) → tally i (fork i l r) ≡ 1 + (tally i l + tally i r)
 tally-here i l r = grind (arith, nat_tests)
 
-pub tally-past : (k i : ℕ) (l r : Tree) → (k ≡ i → ⊥) → tally k (fork i l r) ≡ tally k l + tally k r
-tally-past k i l r d = grind (arith, nat_tests)
-
 -- the branch on a side, the right one if true
 abbrev pub on_side : Bool → Tree → Tree → Tree
 on_side right l r = cond right r l
