@@ -128,7 +128,10 @@ module _ (s : Queues) (t : IsTabled s) where
   ]
 
   pub nowhere : (i : Item) → queue_holding i s ≡ None → (j : ℕ) → occurrences i (s j) ≡ 0
-  nowhere i h j = let low = absent i s h j in let high = λ (w : QUEUES ≤ j). ap (occurrences i) (t.high j w) in grind arith
+  nowhere i h j =
+      let low = absent i s h j in
+      let high = λ (w : QUEUES ≤ j). ap (occurrences i) (t.high j w) in
+      grind arith
 
   pub counts-absent : (i : Item) (n : ℕ) → queue_holding i s ≡ None → after_count i n s ≡ s
   counts-absent i n h = fun_ext (λ j. counted-none i n (s j) (nowhere i h j))
@@ -196,7 +199,11 @@ module _ (s : Queues) (t : IsTabled s) where
 
 pub tabled-push : (s : Queues) → IsTabled s → (q : ℕ) (e : Entry) → q < QUEUES → e.item.node ≡ 0 → IsAbsent e.item s → IsTabled (after_push q e s)
 tabled-push s t q e w node none = record {
-  keys = λ j. (let a = nodes-append (s q) (e ∷ []) in let b = t.keys j in let c = cases_eq j q in grind (arith, nat_tests));
+  keys = λ j. (
+      let a = nodes-append (s q) (e ∷ []) in
+      let b = t.keys j in
+      let c = cases_eq j q in
+      grind (arith, nat_tests));
   distinct = λ i. (
       let a = times-with QUEUES q i (s q ++ e ∷ []) s w in
       let b = times-append i (s q) (e ∷ []) in

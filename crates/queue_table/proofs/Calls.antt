@@ -20,7 +20,10 @@ length-put k b [] = refl
 length-put k b (x ∷ l) = let r = length-put k b l in grind (arith, nat_tests)
 
 length-sent : (k s b t : ℕ) (o : Order) → length (sent k s b o t) ≡ length (keys_without k (o t)) + cond (eqb t s) 1 0
-length-sent k s b t o = let c = length-put k b (keys_without k (o s)) in let e = cases_eq t s in grind (arith, nat_tests)
+length-sent k s b t o =
+    let c = length-put k b (keys_without k (o s)) in
+    let e = cases_eq t s in
+    grind (arith, nat_tests)
 
 -- one slot fewer where it stood, one more where it goes
 pub lengths-sent : (k s b from t : ℕ) (o : Order) → from < SECTIONS → t < SECTIONS → IsOnce o → 1 ≤ count k (o from) → length (sent k s b o t) + cond (eqb t from) 1 0 ≡ length (o t) + cond (eqb t s) 1 0

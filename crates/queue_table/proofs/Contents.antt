@@ -25,7 +25,11 @@ times-map f i k (x ∷ l) h = let r = times-map f i k l h in let e = cases_eq k 
 
 pub times-two : (f : ℕ → Entry) (i : Item) (j k : ℕ) (l : List ℕ) → (j ≡ k → ⊥) → is_same_item i (f j).item ≡ true → is_same_item i (f k).item ≡ true → count j l + count k l ≤ occurrences i (map f l)
 times-two f i j k [] d g h = omega arith
-times-two f i j k (x ∷ l) d g h = let r = times-two f i j k l d g h in let e = cases_eq j x in let e2 = cases_eq k x in grind (arith, nat_tests)
+times-two f i j k (x ∷ l) d g h =
+    let r = times-two f i j k l d g h in
+    let e = cases_eq j x in
+    let e2 = cases_eq k x in
+    grind (arith, nat_tests)
 
 pub times-map-none : (f : ℕ → Entry) (i : Item) (l : List ℕ) → ((k : ℕ) → 1 ≤ count k l → is_same_item i (f k).item ≡ false) → occurrences i (map f l) ≡ 0
 times-map-none f i [] h = refl

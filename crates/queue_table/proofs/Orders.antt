@@ -46,14 +46,19 @@ cut (suc n) k s o a b =
       | inl e ↦ record {
         pre = [];
         post = ring_from n (suc k) o;
-        whole = λ l. (let r = ring-same n (suc k) (with_section s l o) o (λ j m. with-other s j l o (λ z. omega arith)) in grind (arith, nat_tests));
+        whole = λ l. (
+            let r = ring-same n (suc k) (with_section s l o) o (λ j m. with-other s j l o (λ z. omega arith)) in
+            grind (arith, nat_tests));
       }
       | inr d ↦
           let c = cut n (suc k) s o (omega (arith, a, d)) (omega (arith, b)) in
           record {
             pre = o k ++ suc k ∷ c.pre;
             post = c.post;
-            whole = λ l. (let w = c.whole l in let a = append_assoc (o k) (suc k ∷ c.pre) (l ++ suc s ∷ c.post) in grind (arith, nat_tests));
+            whole = λ l. (
+                let w = c.whole l in
+                let a = append_assoc (o k) (suc k ∷ c.pre) (l ++ suc s ∷ c.post) in
+                grind (arith, nat_tests));
           }
     ]
 
@@ -193,7 +198,11 @@ used-real o k u h = real k o u (omega (arith, h))
 
 section-below : (n q k : ℕ) (o : Order) → q < n → count k (o (suc q)) ≤ count k (used_below n o)
 section-below zero q k o h = absurd (omega (arith, h))
-section-below (suc n) q k o h = let a = count-append k (o (suc n)) (used_below n o) in let r = section-below n q k o in let e = cases_eq q n in grind (arith, nat_tests)
+section-below (suc n) q k o h =
+    let a = count-append k (o (suc n)) (used_below n o) in
+    let r = section-below n q k o in
+    let e = cases_eq q n in
+    grind (arith, nat_tests)
 
 pub section-in : (q k : ℕ) (o : Order) → q < QUEUES → count k (o (suc q)) ≤ count k (used o)
 section-in q k o h = section-below QUEUES q k o h
@@ -323,7 +332,11 @@ used-freed k b o = used-same QUEUES (sent k 0 b o) (order_without k o) (λ q w. 
 
 -- a slot in use that is sent elsewhere stays in use
 pub used-kept : (j k b q : ℕ) (o : Order) → q < QUEUES → count k (used o) ≡ 1 → count j (used (sent k (suc q) b o)) ≡ count j (used o)
-used-kept j k b q o w h = let s = used-sent j k b q o w in let r = used-without j k o in let e = cases_eq j k in grind (arith, nat_tests)
+used-kept j k b q o w h =
+    let s = used-sent j k b q o w in
+    let r = used-without j k o in
+    let e = cases_eq j k in
+    grind (arith, nat_tests)
 
 -- one free slot more
 pub used-free : (k : ℕ) (l : List ℕ) (o : Order) → used (with_section 0 l o) ≡ used o

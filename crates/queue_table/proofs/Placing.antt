@@ -83,7 +83,10 @@ graft-on roots links links2 place at depth next below item (fork i l r) w f n so
     replaced-below roots links place i l r w links2 next below right (grafted (depth + 1) item at) is b (λ v. ih (on_side right l r) v record {
       fresh = (let m = side-tally right at l r in omega (arith, fresh, m));
       bare = f.bare;
-      apart = λ other e. (let s = same-slot roots i at right other (sym (b ∙ ap (λ k. branch roots k right) is) ∙ e) in let a = ap (λ k. tally k (fork i l r)) s in omega (arith, a, tally-here i l r, fresh));
+      apart = λ other e. (
+          let s = same-slot roots i at right other (sym (b ∙ ap (λ k. branch roots k right) is) ∙ e) in
+          let a = ap (λ k. tally k (fork i l r)) s in
+          omega (arith, a, tally-here i l r, fresh));
     })
 
 -- the slot at the place taken out

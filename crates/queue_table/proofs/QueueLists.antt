@@ -79,4 +79,8 @@ times-past (suc n) q i l s h = let r = times-past n q i l s (omega arith) in gri
 
 pub times-with : (n q : ℕ) (i : Item) (l : List Entry) (s : Queues) → q < n → times_below n i (with_queue q l s) + occurrences i (s q) ≡ times_below n i s + occurrences i l
 times-with zero q i l s h = absurd (omega (arith, h))
-times-with (suc n) q i l s h = let r = times-with n q i l s in let p = times-past n q i l s in let e = cases_eq q n in grind (arith, nat_tests)
+times-with (suc n) q i l s h =
+    let r = times-with n q i l s in
+    let p = times-past n q i l s in
+    let e = cases_eq q n in
+    grind (arith, nat_tests)

@@ -43,7 +43,10 @@ few-from_first (suc n) k h = let r = few-from_first n k h in grind (arith, nat_t
 
 some-from_first : (n k : ℕ) → FIRST ≤ k → k < n + FIRST → count k (from_first n) ≡ 1
 some-from_first zero k a b = absurd (omega (arith, a, b))
-some-from_first (suc n) k a b = let r = some-from_first n k a in let z = count-from_first n k in grind (arith, nat_tests)
+some-from_first (suc n) k a b =
+    let r = some-from_first n k a in
+    let z = count-from_first n k in
+    grind (arith, nat_tests)
 
 all-used : (slots : List Slot) (o : Order) → IsQueued slots o → o 0 ≡ [] → (j : ℕ) → count j (used o) ≡ count j (from_first (length slots - FIRST))
 all-used slots o h f j =
@@ -119,8 +122,16 @@ ring-grown ns os o n x is =
     record {
       linked = l1;
       once = λ k. (let c = cr k in let u = one k in omega (arith, c, u));
-      within = λ k m. (let c = cr k in let w = x.within k in let e = cases_eq k n in grind (arith, nat_tests, length-set {A = ℕ}));
-      all = λ k w. (let c = cr k in let a = x.all k in let e = cases_eq k n in grind (arith, nat_tests, length-set {A = ℕ}));
+      within = λ k m. (
+          let c = cr k in
+          let w = x.within k in
+          let e = cases_eq k n in
+          grind (arith, nat_tests, length-set {A = ℕ}));
+      all = λ k w. (
+          let c = cr k in
+          let a = x.all k in
+          let e = cases_eq k n in
+          grind (arith, nat_tests, length-set {A = ℕ}));
       same = omega (arith, length-set {A = ℕ}, n1, o1, same);
       long = omega (arith, lr, length-set {A = ℕ}, n1, long);
     }

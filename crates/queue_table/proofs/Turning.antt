@@ -82,7 +82,10 @@ turned_to ns os l k b r xs ys us vs wh sc wo pu mi oe ne ob st oi ni ui fin =
       ring = rw (mv, ne, oe, ob, ← st) record {
         linked = fin;
         once = λ j. (let a = ct j in let c = r.once j in omega (arith, a, c));
-        within = λ j h. (let a = ct j in let c = r.within j (omega (arith, a, h)) in omega (arith, length-set {A = ℕ}, c));
+        within = λ j h. (
+            let a = ct j in
+            let c = r.within j (omega (arith, a, h)) in
+            omega (arith, length-set {A = ℕ}, c));
         all = λ j h. (let a = ct j in let c = r.all j (omega (arith, length-set {A = ℕ}, h)) in omega (arith, a, c));
         same = omega (arith, length-set {A = ℕ}, same);
         long = (let rl = r.long in omega (arith, length-set {A = ℕ}, lo, rl));
