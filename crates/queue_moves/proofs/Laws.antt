@@ -46,8 +46,7 @@ pub keys-back : (q : ℕ) (older : Option Item) (e : Entry) (s : Queues) → e.i
 keys-back q older e s n k j =
     let put = nodes-put older e (entries_without e.item (s q)) in
     let less = λ (x : ℕ). nodes-without e.item (s x) in
-    let e = cases_eq j q in
-    grind (arith, nat_tests)
+    grind (arith, nat_tests, cases_eq j q)
 
 -- ---- what stands elsewhere
 

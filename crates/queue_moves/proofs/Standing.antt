@@ -34,20 +34,14 @@ held-stands at e slots h = in_queue (stands_in at (order_of slots) h.used)
 
 pub at-times : (e : Entry) (k : ℕ) (l : List Entry) → k < length l → slice_index_or l k e ≡ e → 1 ≤ occurrences e.item l
 at-times e k [] w h = absurd (omega (arith, w))
-at-times e zero (x ∷ l) w h =
-    let own = same-refl e.item in
-    grind (arith, nat_tests)
+at-times e zero (x ∷ l) w h = grind (arith, nat_tests, same-refl e.item)
 at-times e (suc k) (x ∷ l) w h = let r : 1 ≤ occurrences e.item l = at-times e k l (omega (arith, w)) h in omega (arith, r)
 
 count-at : (e : Entry) (k : ℕ) (l : List Entry) → k < length l → slice_index_or l k e ≡ e → occurrences e.item l ≤ 1 → count_of e.item l ≡ e.count
 count-at e k [] w h few = absurd (omega (arith, w))
-count-at e zero (x ∷ l) w h few =
-    let own = same-refl e.item in
-    grind (arith, nat_tests)
+count-at e zero (x ∷ l) w h few = grind (arith, nat_tests, same-refl e.item)
 count-at e (suc k) (x ∷ l) w h few =
-    let more = at-times e k l (omega arith) h in
-    let r = count-at e k l (omega arith) h in
-    grind (arith, nat_tests)
+    grind (arith, nat_tests, at-times e k l (omega arith) h, count-at e k l (omega arith) h)
 
 pub first-in : (e : Entry) (l : List Entry) → oldest_of l ≡ Some e → Contains l e
 first-in e [] h = absurd (cc h)

@@ -34,9 +34,7 @@ nodes-counted i n (e ∷ l) = let r = nodes-counted i n l in grind (arith, nat_t
 -- the item has the count already, or stands nowhere
 pub counted-own : (i : Item) (n : ℕ) (l : List Entry) → (count_of i l ≡ n) ⊎ (occurrences i l ≡ 0) → occurrences i l ≤ 1 → entries_counted i n l ≡ l
 counted-own i n [] h few = refl
-counted-own i n (x ∷ l) h few =
-    let rest = counted-own i n l in
-    grind (arith, nat_tests)
+counted-own i n (x ∷ l) h few = grind (arith, nat_tests, counted-own i n l)
 
 pub counted-none : (i : Item) (n : ℕ) (l : List Entry) → occurrences i l ≡ 0 → entries_counted i n l ≡ l
 counted-none i n l z = counted-own i n l (inr z) (omega (arith, z))
@@ -48,10 +46,7 @@ behind i (e ∷ l) = cond (is_same_item i e.item) l (behind i l)
 
 pub found-split : (i : Item) (l : List Entry) → 1 ≤ occurrences i l → l ≡ before i l ++ entry i (count_of i l) ∷ behind i l
 found-split i [] h = absurd (omega (arith, h))
-found-split i (x ∷ l) h =
-    let r = found-split i l in
-    let same = same-true i x.item in
-    grind (arith, nat_tests)
+found-split i (x ∷ l) h = grind (arith, nat_tests, found-split i l, same-true i x.item)
 
 -- ---- keys and items
 
@@ -60,17 +55,11 @@ same-key k i h = grind (arith, nat_tests)
 
 pub has-occurs : (k : ℕ) (l : List Entry) → nodes_of l ≡ 0 → has_key k (keys_of l) ≡ nat_lt 0 (occurrences (item_of k) l)
 has-occurs k [] h = refl
-has-occurs k (x ∷ l) h =
-    let own = same-key k x.item (omega arith) in
-    let r = has-occurs k l (omega arith) in
-    grind (arith, nat_tests)
+has-occurs k (x ∷ l) h = grind (arith, nat_tests, same-key k x.item (omega arith), has-occurs k l (omega arith))
 
 pub keys-taken : (k : ℕ) (l : List Entry) → nodes_of l ≡ 0 → keys_without k (keys_of l) ≡ keys_of (entries_without (item_of k) l)
 keys-taken k [] h = refl
-keys-taken k (x ∷ l) h =
-    let own = same-key k x.item (omega arith) in
-    let r = keys-taken k l (omega arith) in
-    grind (arith, nat_tests)
+keys-taken k (x ∷ l) h = grind (arith, nat_tests, same-key k x.item (omega arith), keys-taken k l (omega arith))
 
 has-key-some : (k : ℕ) (l : List Entry) → nodes_of l ≡ 0 → 1 ≤ occurrences (item_of k) l → has_key k (keys_of l) ≡ true
 has-key-some k l h m = has-occurs k l h ∙ lt-ltb 0 (occurrences (item_of k) l) m

@@ -20,10 +20,7 @@ length-put k b [] = refl
 length-put k b (x ∷ l) = let r = length-put k b l in grind (arith, nat_tests)
 
 length-sent : (k s b t : ℕ) (o : Order) → length (sent k s b o t) ≡ length (keys_without k (o t)) + cond (eqb t s) 1 0
-length-sent k s b t o =
-    let c = length-put k b (keys_without k (o s)) in
-    let e = cases_eq t s in
-    grind (arith, nat_tests)
+length-sent k s b t o = grind (arith, nat_tests, length-put k b (keys_without k (o s)), cases_eq t s)
 
 -- one slot fewer where it stood, one more where it goes
 pub lengths-sent : (k s b from t : ℕ) (o : Order) → from < SECTIONS → t < SECTIONS → IsOnce o → 1 ≤ count k (o from) → length (sent k s b o t) + cond (eqb t from) 1 0 ≡ length (o t) + cond (eqb t s) 1 0
@@ -38,10 +35,7 @@ lengths-sent k s b from t o w v u n =
 pub counted-sent : (lengths lengths2 : Lengths) (k s b from here to : ℕ) (o : Order) → IsCounted lengths o → from < SECTIONS → IsOnce o → 1 ≤ count k (o from) → here ≡ from → to ≡ s →
     ((t : ℕ) → t < SECTIONS → get_or lengths2.at t 0 + cond (eqb t here) 1 0 ≡ get_or lengths.at t 0 + cond (eqb t to) 1 0) → IsCounted lengths2 (sent k s b o)
 counted-sent lengths lengths2 k s b from here to o c w u n eh et h t v =
-    let d = lengths-sent k s b from t o w v u n in
-    let f = c t v in
-    let g = h t v in
-    grind (arith, nat_tests)
+    grind (arith, nat_tests, lengths-sent k s b from t o w v u n, c t v, h t v)
 
 pub count-length : (k : ℕ) (l : List ℕ) → count k l ≤ length l
 count-length k l = let a = length-without k l in omega (arith, a)

@@ -25,11 +25,7 @@ times-map f i k (x ∷ l) h = let r = times-map f i k l h in let e = cases_eq k 
 
 pub times-two : (f : ℕ → Entry) (i : Item) (j k : ℕ) (l : List ℕ) → (j ≡ k → ⊥) → is_same_item i (f j).item ≡ true → is_same_item i (f k).item ≡ true → count j l + count k l ≤ occurrences i (map f l)
 times-two f i j k [] d g h = omega arith
-times-two f i j k (x ∷ l) d g h =
-    let r = times-two f i j k l d g h in
-    let e = cases_eq j x in
-    let e2 = cases_eq k x in
-    grind (arith, nat_tests)
+times-two f i j k (x ∷ l) d g h = grind (arith, nat_tests, times-two f i j k l d g h, cases_eq j x, cases_eq k x)
 
 pub times-map-none : (f : ℕ → Entry) (i : Item) (l : List ℕ) → ((k : ℕ) → 1 ≤ count k l → is_same_item i (f k).item ≡ false) → occurrences i (map f l) ≡ 0
 times-map-none f i [] h = refl
@@ -58,10 +54,7 @@ pub alone : (o : Order) (es : List Entry) (k j : ℕ) → IsDistinct (lists_of o
 alone o es k j d a b =
     let own = same-refl (slot_item es k) in
     let two = times-two (λ x. slot_entry es x) (slot_item es k) k j (used o) in
-    let u = times-used (slot_item es k) o es in
-    let w = d (slot_item es k) in
-    let e = cases_eq k j in
-    grind (arith, nat_tests)
+    grind (arith, nat_tests, times-used (slot_item es k) o es, d (slot_item es k), cases_eq k j)
 
 -- two orders with the same entries in each queue
 pub by-queue : (o p : Order) (es fs : List Entry) → IsShort o → IsShort p → ((q : ℕ) → q < QUEUES → lists_of o es q ≡ lists_of p fs q) → lists_of o es ≡ lists_of p fs

@@ -21,9 +21,7 @@ map-counted f g n k [] h a b = refl
 map-counted f g n k (x ∷ l) h a b =
     let here : is_same_item (f k).item (f x).item ≡ eqb k x = h x (let c = count-here x l in omega (arith, c)) in
     let rest : map g l ≡ entries_counted (f k).item n (map f l) = map-counted f g n k l (λ j m. h j (omega arith)) a b in
-    let other = a x in
-    let e = cases_eq k x in
-    grind (arith, nat_tests)
+    grind (arith, nat_tests, a x, cases_eq k x)
 
 times-counted : (i j : Item) (n : ℕ) (l : List Entry) → occurrences j (entries_counted i n l) ≡ occurrences j l
 times-counted i j n [] = refl

@@ -97,12 +97,7 @@ module _ (links : List ℕ) (bits : ℕ) (item_of : ℕ → Item) (used : ℕ �
         placed2 c j u =
             let p = x.placed c j u in
             let i = λ (d : j ≡ k → ⊥). ap (bucket bits) (others j d) in
-            let n = uses j in
-            let t = tallies j in
-            let m = past c u in
-            let e = cases_eq j k in
-            let d = cases_eq c b in
-            grind (arith, nat_tests)
+            grind (arith, nat_tests, uses j, tallies j, past c u, cases_eq j k, cases_eq c b)
 
   -- a slot comes
   module _ (at : ℕ) (item : Item) (item_of2 : ℕ → Item) (used2 : ℕ → ℕ) (j : IsAdded at item item_of item_of2 used used2) (b : ℕ) (bk : b ≡ bucket bits item) (v : b < 2 ^ bits) where

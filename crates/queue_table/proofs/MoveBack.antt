@@ -67,11 +67,7 @@ module _ (p : ℕ) (e : Entry) (s : Queues) (d : IsDistinct s) (at : StandsIn p 
 pub restored : (p : ℕ) (e : Entry) (s : Queues) (d : IsDistinct s) (at : StandsIn p e s) (none : (j : ℕ) → (j ≡ p → ⊥) → occurrences e.item (s j) ≡ 0)
     → (j : ℕ) → after_return p (last_item at.front) e (after_removal e.item s) j ≡ s j
 restored p e s d at none j =
-    let back = back-here p e s d at in
-    let off = none j in
-    let w = without-none e.item (s j) in
-    let c = cases_eq j p in
-    grind (arith, nat_tests)
+    grind (arith, nat_tests, back-here p e s d at, none j, without-none e.item (s j), cases_eq j p)
 
 pub twice : (i : Item) (l : List Entry) → entries_without i (entries_without i l) ≡ entries_without i l
 twice i l = without-none i (entries_without i l) (times-gone i l)

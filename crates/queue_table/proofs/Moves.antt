@@ -138,9 +138,7 @@ module _ (slots slots2 : List Slot) (index : SlotIndex) (lengths : Lengths) (k q
   elsewhere : (j : ℕ) → (j ≡ k → ⊥) → count j (used (order_of slots2)) ≡ count j (used (order_of slots))
   elsewhere j d =
       let a = ap (λ (o : Order). count j (used o)) m.order in
-      let c = used-sent j k b q (order_of slots) m.low in
-      let g = used-other j k (order_of slots) in
-      grind (arith, nat_tests)
+      grind (arith, nat_tests, used-sent j k b q (order_of slots) m.low, used-other j k (order_of slots))
 
   pub slots-stay : 1 ≤ count k (order_of slots 0) → KeepsSlots slots slots2
   slots-stay n = keeps-slots slots slots2 k other elsewhere (free-unused slots (order_of slots) l.held.queued k n)

@@ -183,12 +183,7 @@ count-parts-ring j o = omega (arith, count-from j SECTIONS 0 o, in-used j o)
 -- the slots in use and the free ones are none of those between the sections
 pub real : (k : ℕ) (o : Order) → IsOnce o → 1 ≤ count k (used o) + count k (o 0) → FIRST ≤ k
 real k o u h =
-    let a = count-from k SECTIONS 0 o in
-    let b = in-used k o in
-    let n = u k in
-    let m = marks-some SECTIONS 0 k in
-    let e = cases_eq k 0 in
-    grind (arith, nat_tests)
+    grind (arith, nat_tests, count-from k SECTIONS 0 o, in-used k o, u k, marks-some SECTIONS 0 k, cases_eq k 0)
 
 pub used-few : (o : Order) (k : ℕ) → IsOnce o → count k (used o) ≤ 1
 used-few o k u = let c = count-parts-ring k o in let n = u k in omega (arith, c, n)
@@ -199,10 +194,7 @@ used-real o k u h = real k o u (omega (arith, h))
 section-below : (n q k : ℕ) (o : Order) → q < n → count k (o (suc q)) ≤ count k (used_below n o)
 section-below zero q k o h = absurd (omega (arith, h))
 section-below (suc n) q k o h =
-    let a = count-append k (o (suc n)) (used_below n o) in
-    let r = section-below n q k o in
-    let e = cases_eq q n in
-    grind (arith, nat_tests)
+    grind (arith, nat_tests, count-append k (o (suc n)) (used_below n o), section-below n q k o, cases_eq q n)
 
 pub section-in : (q k : ℕ) (o : Order) → q < QUEUES → count k (o (suc q)) ≤ count k (used o)
 section-in q k o h = section-below QUEUES q k o h
@@ -296,9 +288,7 @@ count-with (suc n) j q l o h =
     let a = count-append j (o (suc n)) (used_below n o) in
     let b = count-append j (p (suc n)) (used_below n p) in
     let past : n ≤ q → count j (used_below n p) ≡ count j (used_below n o) = λ m. ap (count j) (used-same n p o (λ r w. with-other (suc q) (suc r) l o (λ z. omega arith))) in
-    let r = count-with n j q l o in
-    let e = cases_eq q n in
-    grind (arith, nat_tests)
+    grind (arith, nat_tests, count-with n j q l o, cases_eq q n)
 
 -- without a slot the others are in use that were
 pub used-without : (j k : ℕ) (o : Order) → count j (used (order_without k o)) ≡ cond (eqb j k) 0 (count j (used o))
@@ -332,11 +322,7 @@ used-freed k b o = used-same QUEUES (sent k 0 b o) (order_without k o) (λ q w. 
 
 -- a slot in use that is sent elsewhere stays in use
 pub used-kept : (j k b q : ℕ) (o : Order) → q < QUEUES → count k (used o) ≡ 1 → count j (used (sent k (suc q) b o)) ≡ count j (used o)
-used-kept j k b q o w h =
-    let s = used-sent j k b q o w in
-    let r = used-without j k o in
-    let e = cases_eq j k in
-    grind (arith, nat_tests)
+used-kept j k b q o w h = grind (arith, nat_tests, used-sent j k b q o w, used-without j k o, cases_eq j k)
 
 -- one free slot more
 pub used-free : (k : ℕ) (l : List ℕ) (o : Order) → used (with_section 0 l o) ≡ used o

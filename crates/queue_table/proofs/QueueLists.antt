@@ -37,11 +37,7 @@ times-in (suc n) q i s h = let r = times-in n q i s in let e = cases_eq q n in g
 
 placed-below : (n q : ℕ) (i : Item) (s : Queues) → times_below n i s ≤ 1 → q < n → 1 ≤ occurrences i (s q) → queue_below n i s ≡ Some q
 placed-below zero q i s u w h = absurd (omega (arith, w))
-placed-below (suc n) q i s u w h =
-    let t = times-in n q i s in
-    let r = placed-below n q i s in
-    let e = cases_eq q n in
-    grind (arith, nat_tests)
+placed-below (suc n) q i s u w h = grind (arith, nat_tests, times-in n q i s, placed-below n q i s, cases_eq q n)
 
 pub placed : (q : ℕ) (i : Item) (s : Queues) → q < QUEUES → IsDistinct s → 1 ≤ occurrences i (s q) → queue_holding i s ≡ Some q
 placed q i s w u h = placed-below QUEUES q i s (u i) w h
@@ -79,8 +75,4 @@ times-past (suc n) q i l s h = let r = times-past n q i l s (omega arith) in gri
 
 pub times-with : (n q : ℕ) (i : Item) (l : List Entry) (s : Queues) → q < n → times_below n i (with_queue q l s) + occurrences i (s q) ≡ times_below n i s + occurrences i l
 times-with zero q i l s h = absurd (omega (arith, h))
-times-with (suc n) q i l s h =
-    let r = times-with n q i l s in
-    let p = times-past n q i l s in
-    let e = cases_eq q n in
-    grind (arith, nat_tests)
+times-with (suc n) q i l s h = grind (arith, nat_tests, times-with n q i l s, times-past n q i l s, cases_eq q n)

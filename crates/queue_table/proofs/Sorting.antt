@@ -21,9 +21,7 @@ sorted-same its its2 d (fork i l r) e s = (
 pub grafted-tally : (d : ℕ) (x : Item) (at k : ℕ) (t : Tree) → tally k (grafted d x at t) ≡ cond (eqb k at) 1 0 + tally k t
 grafted-tally d x at k leaf = omega arith
 grafted-tally d x at k (fork i l r) =
-    let right = grafted-tally (d + 1) x at k r in
-    let left = grafted-tally (d + 1) x at k l in
-    grind (arith, nat_tests)
+    grind (arith, nat_tests, grafted-tally (d + 1) x at k r, grafted-tally (d + 1) x at k l)
 
 pub grafted-sorted : (its : ℕ → Item) (d : ℕ) (x : Item) (at : ℕ) (t : Tree) → its at ≡ x → IsSorted its d t → IsSorted its d (grafted d x at t)
 grafted-sorted its d x at leaf e s = (tt, tt, (λ k m. absurd (omega (arith, m))), (λ k m. absurd (omega (arith, m))))
@@ -33,12 +31,7 @@ grafted-sorted its d x at (fork i l r) e s =
     (λ b. (grafted-sorted its (d + 1) x at l e s.0, s.1, (λ k m. side k l false b s.2 m), s.3))
   where
     side : (k : ℕ) (u : Tree) (b : Bool) → turn d x ≡ b → ((j : ℕ) → 1 ≤ tally j u → turn d (its j) ≡ b) → 1 ≤ tally k (grafted (d + 1) x at u) → turn d (its k) ≡ b
-    side k u b w f m =
-        let h = grafted-tally (d + 1) x at k u in
-        let there = f k in
-        let own = ap (turn d) e in
-        let c = cases_eq k at in
-        grind (arith, nat_tests)
+    side k u b w f m = grind (arith, nat_tests, grafted-tally (d + 1) x at k u, f k, ap (turn d) e, cases_eq k at)
 
 -- the lowest slot taken out
 
@@ -88,11 +81,7 @@ side-sorted its d false i l r s = s.0
 
 -- on which side the slot stands
 pub its-side : (its : ℕ → Item) (d : ℕ) (x : Item) (at i : ℕ) (l r : Tree) → IsSorted its d (fork i l r) → its at ≡ x → (at ≡ i → ⊥) → 1 ≤ tally at (fork i l r) → 1 ≤ tally at (on_side (turn d x) l r)
-its-side its d x at i l r s e n m =
-    let its = ap (turn d) e in
-    let left = s.2 at in
-    let right = s.3 at in
-    grind (arith, nat_tests)
+its-side its d x at i l r s e n m = grind (arith, nat_tests, ap (turn d) e, s.2 at, s.3 at)
 
 pub detached-tally : (its : ℕ → Item) (d : ℕ) (x : Item) (at k : ℕ) (t : Tree) → IsSorted its d t → its at ≡ x → 1 ≤ tally at t → tally k t ≡ cond (eqb k at) 1 0 + tally k (detached d x at t)
 detached-tally its d x at k leaf s e m = absurd (omega (arith, m))

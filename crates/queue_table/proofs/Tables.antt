@@ -43,10 +43,7 @@ few-from_first (suc n) k h = let r = few-from_first n k h in grind (arith, nat_t
 
 some-from_first : (n k : ℕ) → FIRST ≤ k → k < n + FIRST → count k (from_first n) ≡ 1
 some-from_first zero k a b = absurd (omega (arith, a, b))
-some-from_first (suc n) k a b =
-    let r = some-from_first n k a in
-    let z = count-from_first n k in
-    grind (arith, nat_tests)
+some-from_first (suc n) k a b = grind (arith, nat_tests, some-from_first n k a, count-from_first n k)
 
 all-used : (slots : List Slot) (o : Order) → IsQueued slots o → o 0 ≡ [] → (j : ℕ) → count j (used o) ≡ count j (from_first (length slots - FIRST))
 all-used slots o h f j =
