@@ -51,9 +51,7 @@ module _ (p : ℕ) (e : Entry) (s : Queues) (d : IsDistinct s) (at : StandsIn p 
 
   front-few : (j : Item) → occurrences j at.front ≤ 1
   front-few j =
-      let a = queue-few p s at.low d j in
-      let b = ap (occurrences j) at.whole ∙ times-append j at.front (e ∷ at.back) in
-      omega (arith, a, b)
+      omega (arith, queue-few p s at.low d j, ap (occurrences j) at.whole ∙ times-append j at.front (e ∷ at.back))
 
   -- the gap that it leaves
   pub gap : IsGap (last_item at.front) (after_removal e.item s p)
