@@ -1,7 +1,7 @@
 -- What serving an access changes of the ranks that are held, and undoing it changes back.
 use Rattle.std.proofs.Common.{◌≡◌, ℕ, suc, ◌-◌, ◌*◌, ◌<◌, ◌≤◌, Bool, true, false, ◌&&◌, eqb, inl, inr, List, ◌∷◌, length, get_or, ap, ◌∙◌, sym, subst, refl, arith}
 use Rattle.std.proofs.lemmas.Bool.{cases_eq, cases_lt, and_parts, eqb-true, eq-eqb, ne_eqb}
-use Rattle.step_record.specs.Keys.{has_key, keys_without}
+use Rattle.step_record.specs.Keys.{has_key}
 use Rattle.clairvoyant.specs.declared.optimal_record.EvictedKey.{EvictedKey}
 use Rattle.clairvoyant.specs.declared.optimal_record.OptimalRecord.TheVariants.{Hit, Kept, Evicted, Rejected}
 use Rattle.clairvoyant.specs.Ranks.{rank, key_at}

@@ -1,5 +1,5 @@
 -- A step back of the engine, from a record that fits.
-use Rattle.std.proofs.Common.{◌≡◌, ℕ, suc, ◌-◌, ◌<◌, ◌≤◌, Bool, List, length, ap, ◌∙◌, sym, subst, arith}
+use Rattle.std.proofs.Common.{◌≡◌, ℕ, suc, ◌-◌, Bool, List, ap, ◌∙◌, sym, subst, arith}
 use Rattle.step_record.specs.declared.stats.Stats.{Stats}
 use Rattle.step_record.specs.Stats.{stats_with, stats_without, IsCounted, stats_of}
 use Rattle.step_record.proofs.Counting.{stats-snoc}

@@ -1,5 +1,5 @@
 -- How many keys are resident in a cache of any policy.
-use Rattle.std.proofs.Common.{◌≡◌, ℕ, zero, suc, ◌+◌, ◌≤◌, eqb, nat_lt, true, cond, map, Result, Ok, Err, List, [], ◌∷◌, length, get_or, ap, ◌∙◌, sym, refl, subst, arith, inl, inr}
+use Rattle.std.proofs.Common.{◌≡◌, ℕ, zero, suc, ◌+◌, ◌≤◌, eqb, true, cond, map, Result, Ok, Err, List, [], ◌∷◌, length, ap, ◌∙◌, sym, refl, subst, arith}
 use Rattle.std.specs.List.{count_by}
 use Rattle.clairvoyant.specs.Clairvoyant.{ClairvoyantState, is_next, clairvoyant_access, clairvoyant_after, clairvoyant_act}
 use Rattle.segments.specs.Queues.{residents_in}

@@ -8,14 +8,14 @@ use Rattle.step_record.specs.declared.job.Policy.TheVariants.{Lru}
 use Rattle.step_record.specs.declared.outcome.Outcome.{Outcome}
 use Rattle.step_record.specs.declared.stats.Stats.{Stats}
 use Rattle.step_record.specs.Stats.{is_hit, is_miss, is_eviction, is_rejection, stats_of, one_if}
-use Rattle.queue_cache.specs.Lru.{distinct_keys, keys_since, is_lru_hit, lru_outcome}
+use Rattle.queue_cache.specs.Lru.{distinct_keys, is_lru_hit, lru_outcome}
 use Rattle.queue_cache.specs.QueueCache.{QueueState, queue_state_after, frequency_after, state_after, outcomes_from, outcomes_after, outcome_after}
 use Rattle.queue_cache.specs.Design.{design_of}
 use Rattle.policies.specs.AnyPolicy.{stats_on, outcomes_by, outcomes_on}
 use Rattle.queue_cache.proofs.Counting.{count-cons, hits-misses}
 use Rattle.queue_cache.proofs.Reached.{after-snoc, after-job}
 use Rattle.queue_cache.proofs.OneQueue.{outcome-lru}
-use Rattle.stack_distances.specs.Distances.{distance, distances_after, distances, is_within, hits_within, stats_within}
+use Rattle.stack_distances.specs.Distances.{distance, distances_after, distances, is_within, hits_within, stats_by, stats_within}
 use Rattle.queue_cache.proofs.Recency.{two}
 use Rattle.stack_distances.proofs.Stack.{grows, since-within}
 
@@ -94,10 +94,9 @@ lru_counts j keys p room =
 
 -- as the misses less the keys that are left at the end
 pub stats-read : (j : Job) (keys : List ℕ) (n h held c : ℕ) → j.policy ≡ Lru → j.config.capacity ≡ c → 1 ≤ c → n ≡ length keys → h ≡ hits_within c keys → held ≡ min c (length (distinct_keys keys))
-    → ◌≡◌ {A = Stats} (record { accesses = n; hits = h; misses = n - h; evictions = n - h - held; rejections = 0 }) (stats_on j keys)
+    → stats_by n h held ≡ stats_on j keys
 stats-read j keys n h held c lru cap some all hits left =
-    let is : ◌≡◌ {A = Stats} (record { accesses = n; hits = h; misses = n - h; evictions = n - h - held; rejections = 0 }) (stats_within c keys) = rw (all, hits, left) refl in
-    is ∙ (ap (λ m. stats_within m keys) (sym cap) ∙ sym (lru_counts j keys lru (rw cap some)))
+    (λ i. stats_by (all i) (hits i) (left i)) ∙ ap (λ m. stats_within m keys) (sym cap) ∙ sym (lru_counts j keys lru (rw cap some))
 
 -- a miss fills a place of the cache, or evicts
 pub hits-and-held : (c : ℕ) (keys : List ℕ) → hits_within c keys + min c (length (distinct_keys keys)) ≤ length keys

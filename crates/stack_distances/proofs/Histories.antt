@@ -1,6 +1,6 @@
 -- A histogram, one access of the trace after another.
-use Rattle.std.proofs.Common.{◌≡◌, ◌≢◌, ℕ, suc, zero, ◌+◌, ◌<◌, ◌≤◌, Bool, true, false, cond, eqb, nat_eq, nat_lt, Option, Some, None, List, [], ◌∷◌, ◌++◌, length, count_by, take, drop, get_or, ap, ◌∙◌, sym, refl, arith, inl, inr, append_assoc, append-nil}
-use Rattle.std.proofs.lemmas.Bool.{cases_eq, eqb-true, eq-eqb, ne_eqb}
+use Rattle.std.proofs.Common.{◌≡◌, ℕ, suc, zero, ◌+◌, ◌<◌, ◌≤◌, Bool, true, false, cond, eqb, nat_eq, nat_lt, Option, Some, None, List, [], ◌∷◌, ◌++◌, length, count_by, take, drop, get_or, ap, ◌∙◌, sym, refl, arith, inl, inr, append_assoc, append-nil}
+use Rattle.std.proofs.lemmas.Bool.{eqb-true, ne_eqb}
 use Rattle.std.proofs.lemmas.Bool.Decides.{nat_tests}
 use Rattle.std.proofs.lemmas.List.{take_more}
 use Rattle.std.proofs.lemmas.List.Sums.{sum_by_push}

@@ -1,5 +1,5 @@
 -- The window of a trace whose keys Lru holds, one access after another.
-use Rattle.std.proofs.Common.{◌≡◌, ℕ, suc, zero, ◌+◌, ◌-◌, ◌<◌, ◌≤◌, min, Bool, true, false, ◌||◌, cond, eqb, nat_lt, List, [], ◌∷◌, length, take, drop, get_or, ap, ◌∙◌, sym, refl, arith, inl, inr}
+use Rattle.std.proofs.Common.{◌≡◌, ℕ, suc, zero, ◌+◌, ◌-◌, ◌<◌, ◌≤◌, min, Bool, true, false, ◌||◌, cond, eqb, nat_lt, List, [], length, take, drop, get_or, ap, ◌∙◌, sym, refl, arith, inl, inr}
 use Rattle.std.proofs.lemmas.Bool.{cases_eq, cases_lt, ne_eqb}
 use Rattle.std.proofs.lemmas.Bool.Decides.{nat_tests}
 use Rattle.std.proofs.lemmas.List.{take_all}
@@ -9,10 +9,10 @@ use Rattle.step_record.specs.declared.job.Job.{Job}
 use Rattle.step_record.specs.declared.job.Policy.TheVariants.{Lru}
 use Rattle.queue_cache.specs.Lru.{distinct_keys, keys_since}
 use Rattle.policies.specs.AnyPolicy.{stats_on}
-use Rattle.queue_cache.proofs.Recency.{has-drop, two}
-use Rattle.stack_distances.specs.Distances.{distance, is_within, hits_within}
+use Rattle.queue_cache.proofs.Recency.{has-drop}
+use Rattle.stack_distances.specs.Distances.{distance, is_within, hits_within, stats_by}
 use Rattle.trace_index.specs.Uses.{last_below, number_of}
-use Rattle.stack_distances.specs.Window.{IsWindow, IsFirstClear, stats_in}
+use Rattle.stack_distances.specs.Window.{IsWindow, IsFirstClear}
 use Rattle.stack_distances.specs.declared.window.Window.{Window}
 use Rattle.stack_distances.proofs.Counting.{stats-read, hits-and-held}
 use Rattle.stack_distances.proofs.Histories.{count-next}
@@ -167,5 +167,5 @@ module _ (keys : List ℕ) (w : Window) (place : ℕ) (all : length keys ≤ pla
   pub window-room : w.hits + w.held ≤ length keys
   window-room = omega (arith, hits-and-held w.capacity keys, whole-hits, whole-held)
 
-  pub window-stats : (j : Job) (n : ℕ) → j.policy ≡ Lru → j.config.capacity ≡ w.capacity → 1 ≤ w.capacity → n ≡ length keys → stats_in w n ≡ stats_on j keys
+  pub window-stats : (j : Job) (n : ℕ) → j.policy ≡ Lru → j.config.capacity ≡ w.capacity → 1 ≤ w.capacity → n ≡ length keys → stats_by n w.hits w.held ≡ stats_on j keys
   window-stats j n lru cap some e = stats-read j keys n w.hits w.held w.capacity lru cap some e whole-hits whole-held

@@ -28,13 +28,16 @@ is_within c (Some d) = nat_le d c
 abbrev pub hits_within : ℕ → List ℕ → ℕ
 hits_within c keys = count_by (is_within c) (distances keys)
 
--- What Lru counts at capacity c, by the distances and the number of distinct keys. Each miss brings a key in, and all
--- but those that are left at the end were evicted.
-abbrev pub stats_within : ℕ → List ℕ → Stats
-stats_within c keys = record {
-  accesses = length keys;
-  hits = hits_within c keys;
-  misses = length keys - hits_within c keys;
-  evictions = length keys - hits_within c keys - min c (length (distinct_keys keys));
+-- What is counted of n accesses: each miss brings a key in, and all but those that are held at the end were evicted.
+abbrev pub stats_by : ℕ → ℕ → ℕ → Stats
+stats_by n hits held = record {
+  accesses = n;
+  hits = hits;
+  misses = n - hits;
+  evictions = n - hits - held;
   rejections = 0;
 }
+
+-- what Lru counts at capacity c, by the distances and the number of distinct keys
+abbrev pub stats_within : ℕ → List ℕ → Stats
+stats_within c keys = stats_by (length keys) (hits_within c keys) (min c (length (distinct_keys keys)))

@@ -1,9 +1,8 @@
 -- The window of the trace whose keys Lru holds.
-use Rattle.std.specs.Prelude.{◌≡◌, ℕ, suc, ◌-◌, ◌*◌, ◌<◌, ◌≤◌, true, false, List, length, take, drop}
+use Rattle.std.specs.Prelude.{◌≡◌, ℕ, suc, ◌*◌, ◌<◌, ◌≤◌, true, false, List, length, take, drop}
 use Rattle.std.specs.Prelude.{slice_index}
 use Rattle.step_record.specs.declared.limits.TheConstants.{MAX_ACCESSES}
 use Rattle.step_record.specs.Keys.{has_key}
-use Rattle.step_record.specs.declared.stats.Stats.{Stats}
 use Rattle.step_record.specs.Bits.{bit_of}
 use Rattle.queue_cache.specs.Lru.{distinct_keys}
 use Rattle.stack_distances.specs.Distances.{hits_within}
@@ -27,13 +26,3 @@ pub record IsFirstClear (words : List ℕ) (from place : ℕ) : Type 0 where
   pub behind : from ≤ place
   pub clear : bit_of words place ≡ false
   pub set : (i : ℕ) → from ≤ i → i < place → bit_of words i ≡ true
-
--- what was counted: each miss brought a key in, and all but those of the window were evicted
-abbrev pub stats_in : Window → ℕ → Stats
-stats_in w accesses = record {
-  accesses = accesses;
-  hits = w.hits;
-  misses = accesses - w.hits;
-  evictions = accesses - w.hits - w.held;
-  rejections = 0;
-}

@@ -1,8 +1,9 @@
 //! The hits of Lru at every capacity.
-ghost use Rattle.std.specs.Prelude.{◌≡◌, ℕ, List, ◌≤◌, IfOk};
+ghost use Rattle.std.specs.Prelude.{◌≡◌, ◌+◌, ℕ, List, ◌≤◌, IfOk};
 ghost use Rattle.step_record.specs.declared.job.Job.{Job};
 ghost use Rattle.policies.specs.AnyPolicy.{stats_on};
 ghost use Rattle.stack_distances.specs.Curve.{curve_of};
+ghost use Rattle.stack_distances.specs.Distances.{stats_by};
 
 use crate::histogram::Histogram;
 use std::alloc::{AllocError, Global};
@@ -63,14 +64,7 @@ impl Curve {
     {
         let held = self.hits.len().min(capacity as usize);
         let hits = self.hits_at(held);
-        let misses = self.accesses - hits;
-        Stats {
-            accesses: self.accesses,
-            hits,
-            misses,
-            evictions: misses - held as u64,
-            rejections: 0,
-        }
+        stats_by(self.accesses, hits, held as u64)
     }
 
     // The hits at a capacity of at most the number of distinct keys.
@@ -82,5 +76,20 @@ impl Curve {
             return 0;
         }
         self.hits[capacity - 1] as u64
+    }
+}
+
+// What is counted of so many accesses, hits and keys that are held at the end.
+pub(crate) fn stats_by(accesses: u64, hits: u64, held: u64) -> Stats
+    requires { hits + held ≤ accesses }
+    ensures { result ≡ stats_by accesses hits held }
+{
+    let misses = accesses - hits;
+    Stats {
+        accesses,
+        hits,
+        misses,
+        evictions: misses - held,
+        rejections: 0,
     }
 }

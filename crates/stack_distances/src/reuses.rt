@@ -4,6 +4,7 @@ ghost use Rattle.step_record.specs.declared.job.Job.{Job};
 ghost use Rattle.policies.specs.AnyPolicy.{stats_on};
 ghost use Rattle.stack_distances.specs.Window.{IsWindow};
 
+use crate::curve::stats_by;
 use crate::window::Window;
 use std::alloc::{AllocError, Global};
 use std::marker::Model;
@@ -50,7 +51,11 @@ impl<'a> Reuses<'a> {
         for place in 0..self.uses.len() {
             self.access(&mut window, place);
         }
-        Ok(window.stats(self.uses.len()))
+        Ok(stats_by(
+            self.uses.len() as u64,
+            window.hits as u64,
+            window.held as u64,
+        ))
     }
 
     // Makes the next access of the trace.

@@ -1,11 +1,10 @@
 //! The stretch of a trace whose keys Lru holds.
-ghost use Rattle.std.specs.Prelude.{◌≡◌, ℕ, ◌+◌, ◌≤◌, List, IfOk, length};
+ghost use Rattle.std.specs.Prelude.{◌≡◌, ℕ, ◌≤◌, List, IfOk, length};
 ghost use Rattle.step_record.specs.declared.limits.TheConstants.{MAX_ACCESSES};
-ghost use Rattle.stack_distances.specs.Window.{IsWindow, IsFirstClear, stats_in};
+ghost use Rattle.stack_distances.specs.Window.{IsWindow, IsFirstClear};
 
 use crate::limits::WORD_BITS;
 use std::alloc::{AllocError, Global};
-use step_record::Stats;
 
 /// Where the window begins, how many keys it has, how many accesses were hits, and a bit for each access of the trace,
 /// 64 to a word: whether its key came again in the window.
@@ -43,21 +42,6 @@ impl Window {
         ensures { IsFirstClear self.now.renewed.items self.now.first result }
     {
         first_clear(&self.renewed, self.first)
-    }
-
-    /// What was counted of so many accesses.
-    pub(crate) fn stats(&self, accesses: usize) -> Stats
-        requires room { self.now.hits + self.now.held ≤ accesses }
-        ensures { result ≡ stats_in self.now accesses }
-    {
-        let misses = accesses - self.hits;
-        Stats {
-            accesses: accesses as u64,
-            hits: self.hits as u64,
-            misses: misses as u64,
-            evictions: (misses - self.held) as u64,
-            rejections: 0,
-        }
     }
 }
 

@@ -1,4 +1,4 @@
-use Rattle.std.proofs.Common.{◌≡◌, ◌-◌, ◌*◌, true, false, arith, ap, ◌∙◌}
+use Rattle.std.proofs.Common.{◌-◌, ◌*◌, true, false, arith, ap, ◌∙◌}
 use Rattle.clairvoyant.specs.declared.optimal_record.OptimalRecord.TheVariants.{Evicted, Rejected}
 use Rattle.clairvoyant.proofs.Records.{stands, record-hit, record-kept, record-rejected, record-evicted}
 use Rattle.clairvoyant.proofs.Serving.{tested, hit-tied, kept-tied, rejected-tied, none-out, evicted-tied, least-out}
