@@ -1,30 +1,18 @@
 -- One bit of a layer of words, and the layer above.
-use Rattle.std.proofs.Common.{◌≡◌, ◌≢◌, ℕ, ◌+◌, ◌*◌, ◌/◌, ◌%◌, ◌^◌, ◌<◌, ◌≤◌, Bool, true, false, cond, not, eqb, inl, inr, List, length, get_or, set, ap, ◌∙◌, sym, refl, arith, bit_and, bit_or, w64}
-use Rattle.std.specs.Int.{bit_at, bit_not}
+use Rattle.std.proofs.Common.{◌≡◌, ◌≢◌, ℕ, ◌+◌, ◌*◌, ◌/◌, ◌%◌, ◌^◌, ◌<◌, ◌≤◌, Bool, true, false, not, eqb, inl, inr, List, length, get_or, set, ap, ◌∙◌, sym, refl, arith, bit_or, w64}
+use Rattle.std.specs.Int.{bit_at}
 use Rattle.std.proofs.Math.ListN.{length-set}
 use Rattle.std.proofs.lemmas.Bool.{cases_eq, eq-eqb, ne_eqb}
 use Rattle.std.proofs.lemmas.Bool.Decides.{nat_tests}
 use Rattle.std.proofs.lemmas.Nat.Bits.{bit_at_set_same, bit_at-zero}
 use Rattle.std.proofs.lemmas.List.{get_or_past, get_or-set_other, get_or-set_same}
 use Rattle.step_record.specs.Bits.{bit_of}
-use Rattle.step_record.proofs.OneBit.{bit_put, bit_taken}
 use Rattle.clairvoyant.specs.Bits.{IsBitLayer}
 
 -- a word with a bit is not 0
 pub set-some : (y q : ℕ) → eqb (bit_or y (1 * 2 ^ (q % 64) % 2 ^ 64)) 0 ≡ false
 set-some y q = ne_eqb (bit_or y (1 * 2 ^ (q % 64) % 2 ^ 64)) 0
     (λ h. let no : 1 ≡ 0 = sym (bit_at_set_same w64 y (q % 64) (omega arith)) ∙ ap (λ z. bit_at z (q % 64)) h ∙ bit_at-zero (q % 64) in omega arith)
-
--- one bit of a word that was read
-module _ (ws : List ℕ) (q y : ℕ) (within : q < 64 * length ws) (e : y ≡ get_or ws (q / 64) 0) (p : ℕ) where
-  flip : eqb q p ≡ eqb p q
-  flip = grind (arith, nat_tests)
-
-  pub put-bit-of : bit_of (set ws (q / 64) (bit_or y (1 * 2 ^ (q % 64) % 2 ^ 64))) p ≡ cond (eqb p q) true (bit_of ws p)
-  put-bit-of = rw e (bit_put ws q within p ∙ ap (λ b. cond b true (bit_of ws p)) flip)
-
-  pub take-bit-of : bit_of (set ws (q / 64) (bit_and y (bit_not w64 (1 * 2 ^ (q % 64) % 2 ^ 64)))) p ≡ cond (eqb p q) false (bit_of ws p)
-  take-bit-of = rw e (bit_taken ws q within p ∙ ap (λ b. cond b false (bit_of ws p)) flip)
 
 -- where a layer above holds a word, that is not 0; where it holds none, it is
 pub above-some : (b : Bool) (x : ℕ) → b ≡ true → b ≡ not (eqb x 0) → 0 < x

@@ -20,11 +20,13 @@ pub fn any_accepts()
 }
 
 /// What a cache of any policy shows after some accesses is determined by the job, the trace and the accesses.
+#[tactic(auto, using(crate::proofs::StepLaws::any_one))]
 pub fn any_is_one()
     ensures { AnyIsOne }
 {}
 
 /// After the whole trace, the statistics of a cache of any policy are those of the job over the trace.
+#[tactic(auto, using(crate::proofs::FirstAccesses::any_reports))]
 pub fn any_reports()
     ensures { AnyReports }
 {}
@@ -37,6 +39,7 @@ pub fn any_answers()
 }
 
 /// A job over a trace has one outcome for each access.
+#[tactic(auto, using(crate::proofs::StepLaws::any_covers_trace))]
 pub fn any_covers_trace()
     ensures { AnyCoversTrace }
 {}

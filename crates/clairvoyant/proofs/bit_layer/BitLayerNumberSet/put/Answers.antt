@@ -2,7 +2,8 @@ use Rattle.std.proofs.Common.{◌≡◌, ◌<◌, ◌/◌, false, eqb, length, g
 use Rattle.std.proofs.Math.ListN.{length-set}
 use Rattle.std.proofs.lemmas.Bool.{ne_eqb}
 use Rattle.std.proofs.lemmas.List.{get_or_read}
-use Rattle.clairvoyant.proofs.Words.{put-bit-of, set-some, above-still}
+use Rattle.clairvoyant.proofs.Words.{set-some, above-still}
+use Rattle.step_record.proofs.OneBit.{bit_put}
 use Rattle.clairvoyant.proofs.bit_layer.BitLayerNumberSet.put.Goals as goal
 
 pub invariant_of-self-else-old-eq0 : goal.invariant_of-self-else-old-eq0
@@ -20,10 +21,10 @@ pub returns-then-old-eq0-clause-puts : goal.returns-then-old-eq0-clause-puts
 returns-then-old-eq0-clause-puts g c =
     let ws = c.args.self.now.words.items in
     let in_it : c.args.place / 64 < length ws = omega arith in
-    put-bit-of ws c.args.place c.index-old.result.now c.requires (get_or_read ws _ _ in_it c.index-old.ensures 0)
+    bit_put ws c.args.place c.index-old.result.now c.requires (get_or_read ws _ _ in_it c.index-old.ensures 0)
 
 pub returns-else-old-eq0-clause-puts : goal.returns-else-old-eq0-clause-puts
 returns-else-old-eq0-clause-puts g c =
     let ws = c.args.self.now.words.items in
     let in_it : c.args.place / 64 < length ws = omega arith in
-    put-bit-of ws c.args.place c.index-old.result.now c.requires (get_or_read ws _ _ in_it c.index-old.ensures 0)
+    bit_put ws c.args.place c.index-old.result.now c.requires (get_or_read ws _ _ in_it c.index-old.ensures 0)
