@@ -6,7 +6,6 @@ use Rattle.step_record.specs.Keys.{has_key}
 use Rattle.step_record.specs.declared.job.Job.{Job}
 use Rattle.step_record.specs.declared.job.Policy.TheVariants.{Lru}
 use Rattle.step_record.specs.declared.outcome.Outcome.{Outcome}
-use Rattle.step_record.specs.declared.stats.Stats.{Stats}
 use Rattle.step_record.specs.Stats.{is_hit, is_miss, is_eviction, is_rejection, stats_of, one_if}
 use Rattle.queue_cache.specs.Lru.{distinct_keys, is_lru_hit, lru_outcome}
 use Rattle.queue_cache.specs.QueueCache.{QueueState, queue_state_after, frequency_after, state_after, outcomes_from, outcomes_after, outcome_after}

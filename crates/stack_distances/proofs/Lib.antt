@@ -1,7 +1,6 @@
 pub mod Stack
 pub mod Places
 pub mod Counting
-pub mod Sums
 pub mod Bits
 pub mod Histories
 pub mod Prefix

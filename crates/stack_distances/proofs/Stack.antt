@@ -6,9 +6,6 @@ use Rattle.step_record.specs.Keys.{has_key}
 use Rattle.queue_cache.specs.Lru.{distinct_keys, keys_since}
 use Rattle.queue_cache.proofs.Recency.{has-drop}
 
-pub eqb-sym : (a b : ℕ) → eqb a b ≡ eqb b a
-eqb-sym a b = grind (arith, nat_tests)
-
 pub has-snoc : (a k : ℕ) (xs : List ℕ) → has_key a (xs ++ k ∷ []) ≡ cond (has_key a xs) true (eqb a k)
 has-snoc a k [] = grind arith
 has-snoc a k (x ∷ xs) = let rest = has-snoc a k xs in grind (arith, rest)
