@@ -1,7 +1,7 @@
 -- The batches of a trace, as accesses of a cache.
 use Rattle.std.proofs.Common.{◌≡◌, ℕ, ◌+◌, ◌*◌, ◌≤◌, List, ◌++◌, length, take, drop, sym, ap, ◌∙◌, arith, take-append-drop, append_assoc}
 use Rattle.std.proofs.Math.Seq.{take-add}
-use Rattle.std.proofs.lemmas.List.{take_all}
+use Rattle.std.proofs.lemmas.List.{take_all, drop-drop}
 
 pub taken-more : (size k : ℕ) (keys piece : List ℕ) → piece ≡ take size (drop (k * size) keys) → take (k * size) keys ++ piece ≡ take ((k + 1) * size) keys
 taken-more size k keys piece is =
@@ -11,6 +11,11 @@ taken-more size k keys piece is =
 -- after the last batch the keys are all there
 pub all-taken : (size k : ℕ) (keys : List ℕ) → length keys ≤ k * size + size → take ((k + 1) * size) keys ≡ keys
 all-taken size k keys h = let e : length keys ≤ (k + 1) * size = omega arith in take_all ((k + 1) * size) keys e
+
+-- what is left behind one more of them
+pub next_rest : (keys rest : List ℕ) (size k : ℕ) → rest ≡ drop (k * size) keys → drop size rest ≡ drop ((k + 1) * size) keys
+next_rest keys rest size k is = let e : (k + 1) * size ≡ k * size + size = omega arith in
+    ap (λ (l : List ℕ). drop size l) is ∙ drop-drop size (k * size) keys ∙ ap (λ (n : ℕ). drop n keys) (sym e)
 
 -- what stands behind the first m of the keys begins with the next piece
 pub next-piece : (trace done keys rest piece : List ℕ) (m size : ℕ) → piece ≡ take size (drop m keys) → trace ≡ done ++ (keys ++ rest)

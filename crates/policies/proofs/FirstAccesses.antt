@@ -8,13 +8,12 @@ use Rattle.clairvoyant.specs.Belady.{belady_outcomes, belady_outcome}
 use Rattle.clairvoyant.specs.Clairvoyant.{ClairvoyantState}
 use Rattle.policies.specs.declared.any_policy.AnyPolicy.{AnyPolicy}
 use Rattle.policies.specs.declared.any_policy.AnyPolicy.TheVariants.{Queues, Optimal, Demand, Adaptive}
-use Rattle.policies.specs.AnyPolicy.{stats_in, stats_on, outcomes_on, HasAccessed}
+use Rattle.policies.specs.AnyPolicy.{stats_in, stats_on, outcomes_on, HasAccessed, outcomes_by, adaptive_start}
 use Rattle.queue_cache.specs.QueueCache.{QueueState, queue_state_after, frequency_after, empty_queue_state, outcomes_after, outcomes_from, access_response}
 use Rattle.policies.specs.Theorems.{AnyReports}
 use Rattle.policies.proofs.OptimalOutcomes.{outcomes-length}
 use Rattle.demand_cache.specs.DemandQueues.{queues_act, empty_cache}
 use Rattle.adaptive_window.specs.AdaptiveCache.{cache_access}
-use Rattle.policies.specs.AnyPolicy.{outcomes_by, adaptive_start}
 use Rattle.queue_cache.specs.Design.{design_of}
 use Rattle.policies.specs.DemandDesign.{demand_policy}
 use Rattle.policies.proofs.Demand.{outcomes-first, with-room, demand-room}

@@ -2,8 +2,7 @@ use Rattle.std.proofs.Common.{◌≡◌, ℕ, ◌*◌, ◌++◌, ◌≤◌, List
 use Rattle.std.proofs.lemmas.Grind.{div_ceil_times}
 use Rattle.step_record.specs.declared.limits.TheConstants.{MAX_BATCH}
 use Rattle.policies.specs.AnyPolicy.{HasAccessed}
-use Rattle.policies.proofs.Batches.{next-piece, taken-more}
-use Rattle.policies.proofs.Pieces.{next_rest}
+use Rattle.policies.proofs.Batches.{next-piece, next_rest, taken-more}
 use Rattle.policies.proofs.Stretches.{has-made-all}
 use Rattle.policies.proofs.trace_run.access_in_batches.Goals as goal
 
