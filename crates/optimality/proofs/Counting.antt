@@ -14,6 +14,9 @@ abbrev pub count_keys : (ℕ → Bool) → List ℕ → ℕ
 count_keys p [] = 0
 count_keys p (a ∷ xs) = cond (has_key a xs) 0 (one_if (p a)) + count_keys p xs
 
+pub no : true ≡ false → (A : Type 0) → A
+no h A = absurd (cc (h))
+
 pub head-has : (a : ℕ) (xs : List ℕ) → has_key a (a ∷ xs) ≡ true
 head-has a xs = let e : eqb a a ≡ true = eq-eqb a a refl in rw e refl
 
