@@ -2,24 +2,11 @@
 use Rattle.std.proofs.Common.{◌≡◌, ℕ, suc, zero, ◌%◌, ◌<◌, eqb, ◌&&◌, min, bit_and, refl, ap, ◌∙◌, arith}
 use Rattle.std.specs.Int.{bit_at}
 use Rattle.std.proofs.lemmas.Nat.{and_mask}
+use Rattle.std.proofs.lemmas.Bool.Decides.{nat_tests}
 use Rattle.std.proofs.lemmas.Nat.Bits.{bit_at_and, bit_at_lowest}
 
 three_ones : (p q r : ℕ) → p < 2 → q < 2 → r < 2 → eqb (min (min p q) r) 1 ≡ (eqb p 1 && eqb q 1 && eqb r 1)
-three_ones zero zero zero f g h = refl
-three_ones zero zero (suc zero) f g h = refl
-three_ones zero (suc zero) zero f g h = refl
-three_ones zero (suc zero) (suc zero) f g h = refl
-three_ones (suc zero) zero zero f g h = refl
-three_ones (suc zero) zero (suc zero) f g h = refl
-three_ones (suc zero) (suc zero) zero f g h = refl
-three_ones (suc zero) (suc zero) (suc zero) f g h = refl
-three_ones (suc (suc p)) q r f g h = absurd (omega arith)
-three_ones zero (suc (suc q)) r f g h = absurd (omega arith)
-three_ones (suc zero) (suc (suc q)) r f g h = absurd (omega arith)
-three_ones zero zero (suc (suc r)) f g h = absurd (omega arith)
-three_ones zero (suc zero) (suc (suc r)) f g h = absurd (omega arith)
-three_ones (suc zero) zero (suc (suc r)) f g h = absurd (omega arith)
-three_ones (suc zero) (suc zero) (suc (suc r)) f g h = absurd (omega arith)
+three_ones p q r f g h = grind (arith, nat_tests)
 
 -- whether three numbers are odd, by one look
 pub three_odd : (x y z : ℕ) → eqb (bit_and (bit_and (bit_and x y) z) 1) 1 ≡ (eqb (x % 2) 1 && eqb (y % 2) 1 && eqb (z % 2) 1)

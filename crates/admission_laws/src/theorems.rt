@@ -4,27 +4,32 @@ ghost use Rattle.admission_laws.specs.Theorems.{EstimatesAreBounded, EstimatesAr
 
 /// No key is estimated below an exact count of the same eras: a Count-Min sketch errs on one side. (Cormode and
 /// Muthukrishnan 2005.)
+#[tactic(auto, using(crate::proofs::Counting::never_low))]
 pub fn estimates_are_never_low()
     ensures { EstimatesAreNeverLow }
 {}
 
 /// A key's estimate is at least the number of its records since the last halving, up to 16.
+#[tactic(auto, using(crate::proofs::Counting::count_the_era))]
 pub fn estimates_count_the_era()
     ensures { EstimatesCountTheEra }
 {}
 
 /// An estimate is at most 16, and above the key's own count by no more than what collides with it in any one row.
+#[tactic(auto, using(crate::proofs::Counting::are_bounded))]
 pub fn estimates_are_bounded()
     ensures { EstimatesAreBounded }
 {}
 
 /// The estimate of a key that collides with no other in some row, and in one of its bits, is the exact count.
+#[tactic(auto, using(crate::proofs::Alone::exact))]
 pub fn estimates_are_exact()
     ensures { EstimatesAreExact }
 {}
 
 /// A recorded key's estimate rises by 1 and no other falls, but across a halving, which leaves the half of the least
 /// counter.
+#[tactic(auto, using(crate::proofs::Rising::rise))]
 pub fn estimates_rise()
     ensures { EstimatesRise }
 {}
