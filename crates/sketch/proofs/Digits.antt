@@ -1,5 +1,6 @@
 -- One digit of a word.
 use Rattle.std.proofs.Common.{◌≡◌, ◌≢◌, ℕ, suc, zero, ◌+◌, ◌-◌, ◌*◌, ◌/◌, ◌%◌, ◌<◌, ◌≤◌, ◌^◌, List, length, get_or, set, replicate, bit_and, refl, ap, ◌∙◌, arith, inl, inr}
+use Rattle.std.proofs.lemmas.Bool.Decides.{nat_tests}
 use Rattle.std.proofs.lemmas.Nat.{shr-shr, pow-add, one_shl, and_mask}
 use Rattle.std.proofs.lemmas.List.{get_or-set_same, get_or-set_other}
 use Rattle.std.proofs.lemmas.Bool.{cases_eq}
@@ -92,13 +93,7 @@ module _ (ws : List ℕ) (at : ℕ) (within : at < 16 * length ws) where
 
   pub set_other : (y : ℕ) → ((m : ℕ) → m ≢ at % 16 → nibble y m ≡ nibble (get_or ws (at / 16) 0) m) → (i : ℕ) → i ≢ at → nibble (get_or (set ws (at / 16) y) (i / 16) 0) (i % 16) ≡ nibble (get_or ws (i / 16) 0) (i % 16)
   set_other y h i d =
-      elim (cases_eq (i / 16) (at / 16)) as (λ _. nibble (get_or (set ws (at / 16) y) (i / 16) 0) (i % 16) ≡ nibble (get_or ws (i / 16) 0) (i % 16)) [
-        | inl e ↦
-            let w : at / 16 < length ws = word_within in
-            let m : i % 16 ≢ at % 16 = λ q. d (omega arith) in
-            rw (e, get_or-set_same ws (at / 16) y 0 w) (h (i % 16) m)
-        | inr n ↦ rw (get_or-set_other ws (at / 16) (i / 16) y 0 n) refl
-      ]
+      grind (arith, nat_tests, word_within, get_or-set_same, get_or-set_other)
 
   module _ (some : 0 < nibble (get_or ws (at / 16) 0) (at % 16)) where
     pub lowered_here : nibble (get_or (set ws (at / 16) (get_or ws (at / 16) 0 - 1 * 2 ^ (4 * (at % 16)) % 2 ^ 64)) (at / 16) 0) (at % 16) ≡ nibble (get_or ws (at / 16) 0) (at % 16) - 1

@@ -60,29 +60,14 @@ lane_doubled x b lt low =
 pub lost_in_block : (lost : List ℕ) (b t : ℕ) → t < 8 → odd_bits (cond (nat_lt t 4) (get_or lost (2 * b) 0) (get_or lost (2 * b + 1) 0) / 2 ^ (t % 4)) ≡ lost_of_word lost (8 * b + t)
 lost_in_block lost b t h =
     let m : (8 * b + t) % 4 ≡ t % 4 = omega arith in
-    elim (cases_lt t 4) as (λ _. odd_bits (cond (nat_lt t 4) (get_or lost (2 * b) 0) (get_or lost (2 * b + 1) 0) / 2 ^ (t % 4)) ≡ lost_of_word lost (8 * b + t)) [
-      | inl a ↦
-          let d : (8 * b + t) / 4 ≡ 2 * b = omega arith in
-          let y : nat_lt t 4 ≡ true = grind (arith, nat_tests) in
-          rw (y, d, m) refl
-      | inr a ↦
-          let d : (8 * b + t) / 4 ≡ 2 * b + 1 = omega arith in
-          let y : nat_lt t 4 ≡ false = grind (arith, nat_tests) in
-          rw (y, d, m) refl
-    ]
+    grind (arith, nat_tests)
 
 -- two words written side by side
 pub two_more : (f : ℕ → ℕ) (xs : List ℕ) (at a b : ℕ) → at + 1 < length xs → ((j : ℕ) → j < at → get_or xs j 0 ≡ f j) → a ≡ f at → b ≡ f (at + 1)
     → (j : ℕ) → j < at + 2 → get_or (set (set xs at a) (at + 1) b) j 0 ≡ f j
 two_more f xs at a b w before here next j h =
     let n : length (set xs at a) ≡ length xs = length-set xs at a in
-    elim (cases_eq j (at + 1)) as (λ _. get_or (set (set xs at a) (at + 1) b) j 0 ≡ f j) [
-      | inl e ↦ rw e (get_or-set_same (set xs at a) (at + 1) b 0 (omega (arith, n)) ∙ next)
-      | inr d ↦ get_or-set_other (set xs at a) (at + 1) j b 0 d ∙ elim (cases_eq j at) as (λ _. get_or (set xs at a) j 0 ≡ f j) [
-        | inl e ↦ rw e (get_or-set_same xs at a 0 (omega arith) ∙ here)
-        | inr o ↦ get_or-set_other xs at j a 0 o ∙ before j (omega arith)
-      ]
-    ]
+    grind (arith, nat_tests, get_or-set_same, get_or-set_other)
 
 -- eight words doubled, with the lost bits of the first four and of the others
 abbrev pub doubled_eight : List ℕ → ℕ → ℕ → ℕ → List ℕ

@@ -1,5 +1,6 @@
 -- A halving of a whole table, and its undoing.
 use Rattle.std.proofs.Common.{◌≡◌, ℕ, suc, zero, ◌+◌, ◌*◌, ◌/◌, ◌%◌, ◌<◌, ◌≤◌, ◌^◌, Bool, false, cond, eqb, List, length, get_or, map, refl, ap, ◌∙◌, sym, arith, inl, inr}
+use Rattle.std.proofs.lemmas.Bool.Decides.{nat_tests}
 use Rattle.std.proofs.lemmas.List.{get_or-map, get_or_past, length-map}
 use Rattle.std.proofs.lemmas.Bool.{cases_lt}
 use Rattle.std.specs.Int.{bit_at}
@@ -68,10 +69,7 @@ low_past ws i h = ap (λ x. nibble x (i % 16)) (get_or_past ws (i / 16) 0 h) ∙
 
 pub low_everywhere : (ws : List ℕ) (w : ℕ) → w ≡ 4 * length ws → ((i : ℕ) → i < 4 * w → counter_at ws i ≤ 7) → (i : ℕ) → counter_at ws i ≤ 7
 low_everywhere ws w e h i =
-    elim (cases_lt i (4 * w)) as (λ _. counter_at ws i ≤ 7) [
-      | inl a ↦ h i a
-      | inr a ↦ let z : counter_at ws i ≡ 0 = low_past ws i (omega (arith, e)) in omega (arith, z)
-    ]
+    grind (arith, nat_tests, low_past)
 
 -- digit n of a word of digits below 8, from the digits of all the words
 pub low_digit : (ws : List ℕ) (j n : ℕ) → n < 16 → ((i : ℕ) → counter_at ws i ≤ 7) → nibble (get_or ws j 0) n ≤ 7
@@ -121,10 +119,7 @@ table_is w s ws wide even = record {
 -- no counter is over 7 once it is halved
 pub low_halved : (ws : List ℕ) (i : ℕ) → counter_at (map halved_word ws) i ≤ 7
 low_halved ws i =
-    elim (cases_lt i (16 * length ws)) as (λ _. counter_at (map halved_word ws) i ≤ 7) [
-      | inl a ↦ let e = halved_at ws i a in let l : counter_at ws i < 16 = nibble_lt (i % 16) (get_or ws (i / 16) 0) in omega (arith, e, l)
-      | inr a ↦ let z : counter_at (map halved_word ws) i ≡ 0 = low_past (map halved_word ws) i (let n = length-map ws halved_word in omega (arith, n)) in omega (arith, z)
-    ]
+    grind (arith, nat_tests, halved_at, nibble_lt, low_past, length-map)
 
 -- a word halved, and unhalved by the bits that it lost
 word_undone : (ws : List ℕ) (m i : ℕ) → i / 4 < m → get_or ws i 0 < 2 ^ 64 → 2 * halved_word (get_or ws i 0) + lost_of_word (by_place m (lost_word ws)) i ≡ get_or ws i 0

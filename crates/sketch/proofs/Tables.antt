@@ -45,10 +45,7 @@ module _ (w : ℕ) (s : Spread) (some : 0 < w) where
     columns_below row h = rw (column_is row h) (column_below s key row w some)
 
     pub own_column : (i : ℕ) → (nat_lt (i / w) 4 && eqb (get_or cs (i / w) 0) (i % w)) ≡ (nat_lt (i / w) 4 && is_of s w key i)
-    own_column i = elim (cases_Bool (nat_lt (i / w) 4)) as (λ _. (nat_lt (i / w) 4 && eqb (get_or cs (i / w) 0) (i % w)) ≡ (nat_lt (i / w) 4 && is_of s w key i)) [
-      | inl e ↦ let lt : i / w < 4 = ltb-true _ _ e in rw (e, column_is (i / w) lt) refl
-      | inr e ↦ rw e refl
-    ]
+    own_column i = grind (arith, nat_tests, column_is)
 
   -- a change of a key's counters, and one that takes it back
   module _ (key : ℕ) (g : ℕ → ℕ → ℕ) (f : ℕ → ℕ) where

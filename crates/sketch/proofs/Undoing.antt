@@ -1,5 +1,6 @@
 -- What undoes a touch and a halving, over any table.
 use Rattle.std.proofs.Common.{◌≡◌, ◌≢◌, ℕ, suc, zero, ◌+◌, ◌*◌, ◌/◌, ◌%◌, ◌<◌, ◌≤◌, min, Bool, true, false, cond, eqb, List, get_or, ap, ◌∙◌, refl, subst, arith, inl, inr}
+use Rattle.std.proofs.lemmas.Bool.Decides.{nat_tests}
 use Rattle.std.proofs.lemmas.Bool.{cases_eq, eq-eqb, ne_eqb}
 use Rattle.sketch.specs.declared.halve_record.HalveRecord.{HalveRecord}
 use Rattle.sketch.specs.declared.touch_record.TouchRecord.{TouchRecord}
@@ -18,10 +19,7 @@ one_of false x h = h
 -- a number from its half and its lowest bit
 twice_and : (x : ℕ) → 2 * (x / 2) + cond (eqb (x % 2) 1) 1 0 ≡ x
 twice_and x =
-    elim (cases_eq (x % 2) 1) as (λ _. 2 * (x / 2) + cond (eqb (x % 2) 1) 1 0 ≡ x) [
-      | inl e ↦ let o : eqb (x % 2) 1 ≡ true = eq-eqb _ _ e in rw o (omega (arith, e))
-      | inr n ↦ let o : eqb (x % 2) 1 ≡ false = ne_eqb _ _ n in let z : x % 2 ≡ 0 = two_of (x % 2) (omega arith) n in rw o (omega (arith, z))
-    ]
+    grind (arith, nat_tests, two_of)
   where
     two_of : (v : ℕ) → v < 2 → v ≢ 1 → v ≡ 0
     two_of zero h n = refl
