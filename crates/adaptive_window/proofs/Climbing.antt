@@ -1,5 +1,6 @@
 -- The climber: undone from its record, and its invariant.
 use Rattle.std.proofs.Common.{◌≡◌, ℕ, ◌+◌, ◌-◌, ◌*◌, ◌<◌, ◌≤◌, Bool, true, false, eqb, Option, Some, None, nat_lt, refl, arith, inl, inr}
+use Rattle.std.proofs.lemmas.Bool.Decides.{nat_tests}
 use Rattle.std.proofs.lemmas.Bool.{cases_Bool, ltb-true, ltb-false, eqb-false}
 use Rattle.std.proofs.Math.Nat.{mul-le-mul_left, max-le, min-le_left, le-min, le-max_left}
 use Rattle.step_record.specs.Stats.{one_if}
@@ -10,13 +11,7 @@ use Rattle.adaptive_window.specs.Theorems.{RulesFit}
 
 pub climbed-back : (r : ClimbRules) (hit : Bool) (s : Climber) → climber_before (period_record r s) hit (climber_after r hit s) ≡ s
 climbed-back r hit s =
-    elim (cases_Bool (ends_period r s)) as (λ _. climber_before (period_record r s) hit (climber_after r hit s) ≡ s) [
-      | inl e ↦ rw e refl
-      | inr e ↦
-          let a : s.accesses + 1 - 1 ≡ s.accesses = omega arith in
-          let h : s.hits + one_if hit - one_if hit ≡ s.hits = omega arith in
-          rw (e, a, h) refl
-    ]
+    grind (arith, nat_tests)
 
 -- ---- its invariant
 
@@ -33,10 +28,7 @@ one-most false = omega arith
 
 step-kept : (r : ClimbRules) (s : Climber) → s.step ≤ r.step → next_step r s ≤ r.step
 step-kept r s h =
-    elim (cases_Bool (restarts r s)) as (λ _. next_step r s ≤ r.step) [
-      | inl e ↦ rw e (omega arith)
-      | inr e ↦ rw e (omega (arith, h))
-    ]
+    grind (arith, nat_tests)
 
 pub climber-kept : (r : ClimbRules) (hit : Bool) (s : Climber) → AreClimbRules r → IsClimber r s → IsClimber r (climber_after r hit s)
 climber-kept r hit s are h =
@@ -46,29 +38,11 @@ climber-kept r hit s are h =
     let a = h.accesses in
     let b = h.hits in
     let one = one-most hit in
-    elim (cases_Bool (ends_period r s)) as (λ _. IsClimber r (climber_after r hit s)) [
-      | inl e ↦ rw e record {
-        accesses = omega (arith, some, fits, long);
-        hits = omega arith;
-        last_hits = omega (arith, a, b, one);
-        step = step-kept r (with_access hit s) h.step;
-        target = target-moved r.largest (next_grows (with_access hit s)) (items_of_step s.step) s.target some h.target.0 h.target.1;
-      }
-      | inr e ↦ rw e record {
-        accesses = before-end (s.accesses + 1) r.sample (omega (arith, a)) e;
-        hits = omega (arith, b, one);
-        last_hits = h.last_hits;
-        step = h.step;
-        target = h.target;
-      }
-    ]
+    grind (arith, nat_tests, step-kept, target-moved, before-end)
   where
     before-end : (n m : ℕ) → n ≤ m → eqb n m ≡ false → n < m
     before-end n m few apart =
-        elim (cases_Bool (nat_lt n m)) [
-          | inl e ↦ ltb-true n m e
-          | inr e ↦ let no : n ≡ m → ⊥ = eqb-false n m apart in let over : m ≤ n = ltb-false n m e in absurd (no (omega (arith, few, over)))
-        ]
+        grind (arith, nat_tests)
 
 long-enough : (c : ℕ) (period : Option ℕ) → 1 ≤ c → c ≤ period_of c period
 long-enough c None some = omega (arith, some)

@@ -1,5 +1,6 @@
 -- An access as the fields show it, that its record fits, and that it undoes the access.
 use Rattle.std.proofs.Common.{◌≡◌, ℕ, ◌-◌, ◌≤◌, Bool, cond, nat_lt, Option, None, ap, refl, arith, inl, inr}
+use Rattle.std.proofs.lemmas.Bool.Decides.{nat_tests}
 use Rattle.std.proofs.lemmas.Bool.{cases_Bool}
 use Rattle.step_record.specs.Stats.{is_hit}
 use Rattle.step_record.specs.declared.item.Item.{Item}
@@ -50,29 +51,14 @@ module _ (r : ClimbRules) (admits : ℕ → ℕ → Bool) (i : Item) (q : Queues
 -- ---- its record
 
 climb-fits : (r : ClimbRules) (hit : Bool) (s : Climber) → FitsClimber (period_record r s) hit (climber_after r hit s)
-climb-fits r hit s = elim (cases_Bool (ends_period r s)) as (λ _. FitsClimber (period_record r s) hit (climber_after r hit s)) [
-  | inl e ↦ rw e tt
-  | inr e ↦ rw e (omega arith, omega arith)
-]
+climb-fits r hit s = grind (arith, nat_tests)
 
 all-stay : (r : ClimbRules) (target size : ℕ) (s : Queues) → (moves_of (adjustment_plan r target size s) s).out ≡ None
-all-stay r target size s = elim (cases_Bool (nat_lt size target)) as (λ _. (moves_of (adjustment_plan r target size s) s).out ≡ None) [
-  | inl e ↦ rw e refl
-  | inr e ↦ elim (cases_Bool (nat_lt target size)) as (λ _. (moves_of (adjustment_plan r target size s) s).out ≡ None) [
-    | inl f ↦ rw (e, f) refl
-    | inr f ↦ rw (e, f) refl
-  ]
-]
+all-stay r target size s = grind (arith, nat_tests)
 
 size-back : (target size : ℕ) → 1 ≤ size → size_before (size_change target size) (size_towards target size) ≡ size
 size-back target size h =
-    elim (cases_Bool (nat_lt size target)) as (λ _. size_before (size_change target size) (size_towards target size) ≡ size) [
-      | inl e ↦ rw e (omega arith)
-      | inr e ↦ rw e (elim (cases_Bool (nat_lt target size)) as (λ _. size_before (cond (nat_lt target size) Shrank Stayed) (cond (nat_lt target size) (size - 1) size) ≡ size) [
-        | inl f ↦ rw f (omega (arith, h))
-        | inr f ↦ rw f refl
-      ])
-    ]
+    grind (arith, nat_tests)
 
 module _ (p : ClimbRules) (admits : ℕ → ℕ → Bool) (i : Item) (s : AdaptiveState) (h : IsAdaptive p s) where
   abbrev rules : Rules

@@ -1,5 +1,6 @@
 -- Protected stays within its size in an access by the table of moves.
 use Rattle.std.proofs.Common.{◌≡◌, ℕ, ◌+◌, ◌-◌, ◌<◌, ◌≤◌, Bool, nat_lt, Option, Some, None, List, [], ◌∷◌, length, refl, arith, inl, inr, length-append}
+use Rattle.std.proofs.lemmas.Bool.Decides.{nat_tests}
 use Rattle.std.proofs.lemmas.Bool.{cases_Bool, ltb-true, ltb-false}
 use Rattle.step_record.specs.declared.item.Item.{Item}
 use Rattle.segments.specs.declared.records.Queue.{Queue}
@@ -29,37 +30,22 @@ one-less x l h = let there = first-stands x l h in omega (arith, there, length-w
 contested : (admits : ℕ → ℕ → Bool) (x : Item) (o : Option Item) (s : Queues) → length (contest admits x o s).queues.protected ≤ length s.protected
 contested admits x None s = shorter x s.protected
 contested admits x (Some v) s =
-    elim (cases_Bool (is_same_item x v)) as (λ _. length (contest admits x (Some v) s).queues.protected ≤ length s.protected) [
-      | inl e ↦ rw e (shorter x s.protected)
-      | inr e ↦ rw e (elim (cases_Bool (admits x.key v.key)) [
-        | inl f ↦ rw f (shorter v s.protected)
-        | inr f ↦ rw f (shorter x s.protected)
-      ])
-    ]
+    grind (arith, nat_tests, shorter)
 
 tried : (r : Rules) (admits : ℕ → ℕ → Bool) (o : Option Item) (s : Queues) → length (trial_of r admits o s).queues.protected ≤ length s.protected
 tried r admits None s = omega arith
 tried r admits (Some x) s =
     let t : Queues = queues_after_move x Probation s in
     let less = shorter x s.protected in
-    elim (cases_Bool (nat_lt r.capacity (total_items t))) as (λ _. length (trial r admits x t).queues.protected ≤ length s.protected) [
-      | inl e ↦ let all = contested admits x (oldest_of t.probation) t in rw e (omega (arith, all, less))
-      | inr e ↦ rw e less
-    ]
+    grind (arith, nat_tests, contested)
 
 evicted : (r : Rules) (admits : ℕ → ℕ → Bool) (s : Queues) → length (eviction r admits s).queues.protected ≤ length s.protected
 evicted r admits s =
-    elim (cases_Bool (nat_lt r.window (length s.window))) as (λ _. length (eviction r admits s).queues.protected ≤ length s.protected) [
-      | inl e ↦ rw e (tried r admits (oldest_of s.window) s)
-      | inr e ↦ rw e (omega arith)
-    ]
+    grind (arith, nat_tests, tried)
 
 demoted : (size : ℕ) (s : Queues) → length s.protected ≤ size + 1 → length (queues_after_demotion size s).protected ≤ size
 demoted size s few =
-    elim (cases_Bool (nat_lt size (length s.protected))) as (λ _. length (queues_after_demotion size s).protected ≤ size) [
-      | inl e ↦ rw e (over (ltb-true size (length s.protected) e) (oldest_of s.protected) refl)
-      | inr e ↦ rw e (ltb-false size (length s.protected) e)
-    ]
+    grind (arith, nat_tests, over)
   where
     over : size < length s.protected → (o : Option Item) → oldest_of s.protected ≡ o → length (with_recent o Probation s).protected ≤ size
     over more None h = let none = none-there s.protected h in absurd (omega (arith, none, more))

@@ -22,10 +22,7 @@ use Rattle.adaptive_window.specs.AdaptiveCache.{AdaptiveCacheState, cache_act, c
 -- an accepted configuration has room
 pub has-room : (c : Config) → config_fault c ≡ Ok tt → 1 ≤ c.capacity
 has-room c h =
-    elim (cases_Bool (is_from_one 1048576 c.capacity)) [
-      | inl e ↦ grind (arith, nat_tests)
-      | inr e ↦ absurd (let no : Err Capacity ≡ Ok tt = rw e at h in cc (no))
-    ]
+    grind (arith, nat_tests)
 
 -- its main part is not the whole cache
 pub main-few : (c : Config) → config_fault c ≡ Ok tt → c.main_percent ≤ 99
