@@ -1,5 +1,6 @@
 -- The estimate of a key that collides with no other.
 use Rattle.std.proofs.Common.{◌≡◌, ℕ, zero, suc, ◌+◌, ◌-◌, ◌<◌, ◌≤◌, min, Bool, true, false, cond, eqb, ◌&&◌, List, [], ◌∷◌, ◌++◌, length, take, ap, subst, ◌∙◌, sym, refl, arith, inl, inr}
+use Rattle.std.proofs.lemmas.Bool.Decides.{nat_tests}
 use Rattle.std.proofs.lemmas.List.{append_assoc}
 use Rattle.std.proofs.lemmas.List.Sums.{sum_by-append, sum_by-take-drop}
 use Rattle.std.proofs.lemmas.Bool.{cases_Bool, eqb-true, eq-eqb, and_parts}
@@ -72,10 +73,7 @@ module _ (s : Spread) (d k i : ℕ) (deep : 0 < d) (below : i < 3) where
               | inl g ↦ rw g (omega (arith, few))
               | inr g ↦ (let new : is_known s d (past ++ x ∷ []) k ≡ false = still-new past x xs own e g in let r = rw new at rest in rw (g, e) (omega (arith, r)))
             ] in
-            elim (cases_Bool (is_known s d past x)) as (λ _. records_of k (cond (is_known s d past x) (x ∷ later) later) + cond (is_known s d past k) 0 (min 1 (cond (eqb k x) 1 0 + records_of k xs)) ≤ cond (eqb k x) 1 0 + records_of k xs) [
-              | inl f ↦ rw f (rw (count-cons (eqb k) x later) (omega (arith, most)))
-              | inr f ↦ rw f (omega (arith, most))
-            ]
+            grind (arith, nat_tests, count-cons)
       ])
     where
       append-records : (y : ℕ) (xs ys : List ℕ) → records_of y (xs ++ ys) ≡ records_of y xs + records_of y ys
@@ -102,10 +100,7 @@ module _ (s : Spread) (d k i : ℕ) (deep : 0 < d) (below : i < 3) where
       omega (arith, h, first)
 
   pub door-few : (keys : List ℕ) → Owns keys → cond (is_known s d keys k) 1 0 ≤ min 1 (records_of k keys)
-  door-few keys own = elim (cases_Bool (is_known s d keys k)) as (λ _. cond (is_known s d keys k) 1 0 ≤ min 1 (records_of k keys)) [
-    | inl e ↦ (let some = known-came keys own e in rw e (omega (arith, some)))
-    | inr e ↦ rw e (omega arith)
-  ]
+  door-few keys own = grind (arith, nat_tests, known-came)
 
 module _ (s : Shape) (is : IsShape s) (keys : List ℕ) (key : ℕ) (a : CollidesWithNone s keys key) where
   era-owns : (e x : ℕ) → 1 ≤ records_of x (era s.capacity e keys) → is_probe s.spread s.size x (probe s.spread key a.bit s.size) ≡ true → x ≡ key

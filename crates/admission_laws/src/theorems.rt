@@ -4,13 +4,11 @@ ghost use Rattle.admission_laws.specs.Theorems.{EstimatesAreBounded, EstimatesAr
 
 /// No key is estimated below an exact count of the same eras: a Count-Min sketch errs on one side. (Cormode and
 /// Muthukrishnan 2005.)
-#[tactic(auto, using(crate::proofs::Counting::never_low))]
 pub fn estimates_are_never_low()
     ensures { EstimatesAreNeverLow }
 {}
 
 /// A key's estimate is at least the number of its records since the last halving, up to 16.
-#[tactic(auto, using(crate::proofs::Counting::count_the_era))]
 pub fn estimates_count_the_era()
     ensures { EstimatesCountTheEra }
 {}
