@@ -1,5 +1,6 @@
 -- Lru at two capacities: what it holds at the smaller, it holds at the larger.
 use Rattle.std.proofs.Common.{◌≡◌, ℕ, zero, suc, ◌+◌, ◌-◌, ◌≤◌, true, List, [], ◌∷◌, length, take, drop, get_or, ap, ◌∙◌, sym, refl, arith, inl, inr, length-drop}
+use Rattle.std.proofs.lemmas.Bool.Decides.{nat_tests}
 use Rattle.std.proofs.lemmas.Bool.{cases_Bool, cases_lt}
 use Rattle.std.proofs.lemmas.List.{drop-drop}
 use Rattle.step_record.specs.Keys.{has_key}
@@ -60,10 +61,7 @@ hits-more : (t : List ℕ) (r s : ℕ → List ℕ) (n : ℕ) → ((i k : ℕ) �
 hits-more t r s zero h = omega arith
 hits-more t r s (suc i) h =
     let rest : strategy_hits t r i ≤ strategy_hits t s i = hits-more t r s i h in
-    elim (cases_Bool (has_key (get_or t i 0) (r i))) as (λ _. strategy_hits t r (suc i) ≤ strategy_hits t s (suc i)) [
-      | inl e ↦ rw (e, h i (get_or t i 0) e) (omega (arith, rest))
-      | inr e ↦ rw e (omega (arith, rest))
-    ]
+    grind (arith, nat_tests)
 
 lru-hits : LruStepLaw → (j : Job) (trace : List ℕ) → j.policy ≡ Lru → (stats_on j trace).hits ≡ strategy_hits trace (lru_at j.config.capacity trace) (length trace)
 lru-hits stands j trace is =

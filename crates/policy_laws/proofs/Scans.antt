@@ -1,5 +1,6 @@
 -- A scan leaves protected as it was.
 use Rattle.std.proofs.Common.{◌≡◌, ◌⊎◌, ℕ, ◌≤◌, Bool, true, false, eqb, nat_lt, Option, Some, None, List, [], ◌∷◌, ◌++◌, ap, ◌∙◌, sym, refl, arith, inl, inr, append-nil, append_assoc}
+use Rattle.std.proofs.lemmas.Bool.Decides.{nat_tests}
 use Rattle.std.proofs.lemmas.Bool.{cases_Bool, eq-eqb, lt-ltb}
 use Rattle.step_record.specs.Keys.{has_key}
 use Rattle.step_record.specs.declared.item.Item.{Item}
@@ -34,20 +35,11 @@ module _ (r : Rules) (admits : ℕ → ℕ → Bool) (i : Item) (s : Queues) (u 
   replaced-spares : (o : Option Item) → oldest_of s.probation ≡ o → (response_with_victim admits Probation i o s).queues.protected ≡ s.protected
   replaced-spares None h = refl
   replaced-spares (Some v) h =
-      elim (cases_Bool (admits i.key v.key)) as (λ _. (response_with_victim admits Probation i (Some v) s).queues.protected ≡ s.protected) [
-        | inl e ↦
-            let there : 1 ≤ occurrences v s.probation = first-stands v s.probation h in
-            let once = u v in
-            rw e (without-none v s.protected (omega (arith, there, once)))
-        | inr e ↦ rw e refl
-      ]
+      grind (arith, nat_tests, first-stands, without-none)
 
   miss-spares : (response_without_trial r admits Probation i s).queues.protected ≡ s.protected
   miss-spares =
-      elim (cases_Bool (nat_lt (total_items s) r.capacity)) as (λ _. (response_without_trial r admits Probation i s).queues.protected ≡ s.protected) [
-        | inl e ↦ rw e refl
-        | inr e ↦ rw e (replaced-spares (oldest_of s.probation) refl)
-      ]
+      grind (arith, nat_tests, replaced-spares)
 
   access-spares : r.placement ≡ Direct Probation → queue_holding i s ≡ None → (access r admits i s).queues.protected ≡ s.protected
   access-spares p none =
