@@ -59,10 +59,7 @@ free-below : (n : ℕ) (l : List ℕ) → free_key n l ≤ n - 1
 free-below zero l = omega arith
 free-below (suc n) l =
     let rest = free-below n l in
-    elim (cases_Bool (has_key n l)) as (λ _. cond (has_key n l) (free_key n l) n ≤ suc n - 1) [
-      | inl e ↦ rw e (omega (arith, rest))
-      | inr e ↦ rw e (omega arith)
-    ]
+    grind (arith, nat_tests)
 
 all-there : (n : ℕ) (l : List ℕ) → has_key (free_key n l) l ≡ true → (x : ℕ) → has_key x (down n) ≡ true → has_key x l ≡ true
 all-there zero l h x g = absurd (cc (g))

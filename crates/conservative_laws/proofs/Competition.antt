@@ -1,5 +1,6 @@
 -- A conservative cache beside a strategy: in a stretch in which the one misses c + 1 times, the other misses too.
 use Rattle.std.proofs.Common.{◌≡◌, ℕ, zero, suc, ◌+◌, ◌-◌, ◌*◌, ◌<◌, ◌≤◌, true, false, not, List, [], ◌∷◌, ◌++◌, length, take, get_or, ap, ◌∙◌, sym, arith, inl, inr}
+use Rattle.std.proofs.lemmas.Bool.Decides.{nat_tests}
 use Rattle.std.proofs.Math.Nat.{mul-add, mul_comm, mul-le-mul_left, mul-le-mul_right}
 use Rattle.std.proofs.lemmas.Bool.{cases_Bool, cases_lt}
 use Rattle.step_record.specs.Keys.{has_key}
@@ -127,10 +128,7 @@ module _ (h : ℕ) (t : List ℕ) (other : ℕ → List ℕ) (is : IsStrategy h 
         let all = cover-up h from o.start n behind g l o.cover in
         let few : length all.keys + strategy_misses t other o.start ≤ h + strategy_misses t other n = all.few in
         let held : length (distinct_keys (stretch t from n)) ≤ length all.keys = distinct-few (stretch t from n) all.keys all.accessed in
-        elim (cases_lt c (length (distinct_keys (stretch t from n)))) [
-          | inl f ↦ omega (arith, few, held, f, wide)
-          | inr f ↦ absurd (let most = conservative from n (omega (arith, behind, g)) l (omega (arith, f)) in omega (arith, most, many))
-        ]
+        grind (arith, nat_tests, few, behind)
 
     module _ (opens : (from : ℕ) → from < length t → strategy_misses t cache (suc from) ≡ suc (strategy_misses t cache from) → Opening from)
         (few_misses : (n : ℕ) → n ≤ length t → strategy_misses t cache n ≤ c → d * strategy_misses t cache n ≤ w * strategy_misses t other n + e) where

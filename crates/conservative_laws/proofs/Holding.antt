@@ -91,21 +91,4 @@ pub hold-next : (ks xs : List ℕ) (k : ℕ) → IsDistinct ks → length (hold 
 hold-next [] xs k d = omega arith
 hold-next (a ∷ ks) xs k d =
     let rest : length (hold ks (xs ++ k ∷ [])) + one_if (has_key k (hold ks xs)) ≡ length (hold ks xs) + times k ks = hold-next ks xs k d.1 in
-    elim (cases_Bool (eqb k a)) [
-      | inl e ↦
-          let same : k ≡ a = eqb-true k a e in
-          let self : eqb a k ≡ true = eq-eqb a k (sym same) in
-          let none : times k ks ≡ 0 = times-none k ks (ap (λ y. has_key y ks) same ∙ d.0) in
-          let out : has_key k (hold ks xs) ≡ false = has-hold k ks xs ∙ ap (λ b. cond b (has_key k xs) false) (ap (λ y. has_key y ks) same ∙ d.0) in
-          let not_hit : one_if (has_key k (hold ks xs)) ≡ 0 = ap one_if out in
-          rw (has-more a k xs, self, e) (elim (cases_Bool (has_key a xs)) [
-            | inl f ↦ rw (f, e) (omega (arith, rest, none, not_hit))
-            | inr f ↦ rw (f, out) (omega (arith, rest, none, not_hit))
-          ])
-      | inr e ↦
-          let apart : eqb a k ≡ false = grind (arith, nat_tests) in
-          rw (has-more a k xs, apart, e) (elim (cases_Bool (has_key a xs)) [
-            | inl f ↦ rw (f, e) (omega (arith, rest))
-            | inr f ↦ rw f (omega (arith, rest))
-          ])
-    ]
+    grind (arith, nat_tests, times-none, has-hold, has-more)

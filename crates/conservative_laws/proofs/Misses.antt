@@ -1,5 +1,6 @@
 -- The misses of a strategy and of a job.
 use Rattle.std.proofs.Common.{◌≡◌, ℕ, zero, suc, ◌+◌, ◌-◌, ◌*◌, ◌≤◌, true, not, List, [], length, take, get_or, ap, ◌∙◌, sym, refl, arith, inl, inr}
+use Rattle.std.proofs.lemmas.Bool.Decides.{nat_tests}
 use Rattle.std.proofs.Math.Nat.{add-mul, mul-add, mul-le-mul_right, le_of_mul-le-mul_left}
 use Rattle.std.proofs.lemmas.Bool.{cases_Bool}
 use Rattle.std.proofs.lemmas.List.{length-take-le}
@@ -23,18 +24,12 @@ pub hits-few : (t : List ℕ) (residents : ℕ → List ℕ) (i : ℕ) → strat
 hits-few t residents zero = omega arith
 hits-few t residents (suc i) =
     let rest : strategy_hits t residents i ≤ i = hits-few t residents i in
-    elim (cases_Bool (has_key (get_or t i 0) (residents i))) as (λ _. strategy_hits t residents i + one_if (has_key (get_or t i 0) (residents i)) ≤ suc i) [
-      | inl e ↦ rw e (omega (arith, rest))
-      | inr e ↦ rw e (omega (arith, rest))
-    ]
+    grind (arith, nat_tests)
 
 pub misses-next : (t : List ℕ) (residents : ℕ → List ℕ) (i : ℕ) → strategy_misses t residents (suc i) ≡ strategy_misses t residents i + one_if (not (has_key (get_or t i 0) (residents i)))
 misses-next t residents i =
     let few : strategy_hits t residents i ≤ i = hits-few t residents i in
-    elim (cases_Bool (has_key (get_or t i 0) (residents i))) as (λ _. suc i - (strategy_hits t residents i + one_if (has_key (get_or t i 0) (residents i))) ≡ (i - strategy_hits t residents i) + one_if (not (has_key (get_or t i 0) (residents i)))) [
-      | inl e ↦ rw e (omega (arith, few))
-      | inr e ↦ rw e (omega (arith, few))
-    ]
+    grind (arith, nat_tests)
 
 -- without residents each access is a miss
 pub none-hit : (t : List ℕ) (n : ℕ) → strategy_misses t (λ i. []) n ≡ n

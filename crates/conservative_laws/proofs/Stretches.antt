@@ -1,5 +1,6 @@
 -- Stretches of a trace, their distinct keys, and the misses in them.
 use Rattle.std.proofs.Common.{◌≡◌, ◌⊎◌, ℕ, zero, suc, ◌+◌, ◌<◌, ◌≤◌, Bool, true, false, cond, eqb, List, [], ◌∷◌, ◌++◌, length, take, drop, get_or, ap, ◌∙◌, sym, refl, arith, inl, inr, length-drop}
+use Rattle.std.proofs.lemmas.Bool.Decides.{nat_tests}
 use Rattle.std.proofs.lemmas.Bool.{cases_Bool, cases_lt, eqb-true, eq-eqb}
 use Rattle.std.proofs.lemmas.List.{take_more, drop-append-le, length-take-le}
 use Rattle.std.proofs.Math.Seq.{drop-length}
@@ -62,13 +63,7 @@ stretch-next t i n h l =
 pub one-of : (x k : ℕ) (xs : List ℕ) → has_key x (xs ++ k ∷ []) ≡ true → (x ≡ k) ⊎ (has_key x xs ≡ true)
 one-of x k xs h =
     let both : cond (has_key x xs) true (has_key x (k ∷ [])) ≡ true = sym (has-append x xs (k ∷ [])) ∙ h in
-    elim (cases_Bool (has_key x xs)) [
-      | inl e ↦ inr e
-      | inr e ↦ elim (cases_Bool (eqb x k)) [
-        | inl f ↦ inl (eqb-true x k f)
-        | inr f ↦ absurd (let no : false ≡ true = rw (e, f) at both in cc (no))
-      ]
-    ]
+    grind (arith, nat_tests)
 
 pub has-first : (x : ℕ) (xs ys : List ℕ) → has_key x xs ≡ true → has_key x (xs ++ ys) ≡ true
 has-first x xs ys h = has-append x xs ys ∙ ap (λ b. cond b true (has_key x ys)) h
