@@ -27,10 +27,7 @@ down (suc n) = n ∷ down n
 
 has-down : (x n : ℕ) → has_key x (down n) ≡ nat_lt x n
 has-down x zero = sym (le-ltb x 0 (omega arith))
-has-down x (suc n) = rw (has-down x n) (elim (cases_Bool (eqb x n)) as (λ _. cond (eqb x n) true (nat_lt x n) ≡ nat_lt x (suc n)) [
-  | inl e ↦ let same : x ≡ n = eqb-true x n e in rw e (sym (lt-ltb x (suc n) (omega (arith, same))))
-  | inr e ↦ rw e (grind (arith, nat_tests))
-])
+has-down x (suc n) = rw (has-down x n) (grind (arith, nat_tests))
 
 down-distinct : (n : ℕ) → IsDistinct (down n)
 down-distinct zero = tt

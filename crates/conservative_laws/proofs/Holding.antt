@@ -68,10 +68,7 @@ has-hold x (a ∷ ks) xs =
 has-more : (x k : ℕ) (xs : List ℕ) → has_key x (xs ++ k ∷ []) ≡ cond (eqb x k) true (has_key x xs)
 has-more x k [] = refl
 has-more x k (a ∷ xs) =
-    rw (has-more x k xs) (elim (cases_Bool (eqb x a)) as (λ _. cond (eqb x a) true (cond (eqb x k) true (has_key x xs)) ≡ cond (eqb x k) true (cond (eqb x a) true (has_key x xs))) [
-      | inl e ↦ rw e (elim (cases_Bool (eqb x k)) as (λ _. true ≡ cond (eqb x k) true true) [ inl f ↦ rw f refl | inr f ↦ rw f refl ])
-      | inr e ↦ rw e refl
-    ])
+    rw (has-more x k xs) (grind (arith, nat_tests))
 
 pub hold-strategy : (ks t : List ℕ) → IsStrategy (length ks) t (λ i. hold ks (take i t))
 hold-strategy ks t = record {
@@ -79,10 +76,7 @@ hold-strategy ks t = record {
   on_demand = λ i x h g. (
       let more : take (suc i) t ≡ take i t ++ get_or t i 0 ∷ [] = (let e : suc i ≡ i + 1 = omega arith in ap (λ n. take n t) e ∙ take_more t i 0 h) in
       let now : cond (has_key x ks) (cond (eqb x (get_or t i 0)) true (has_key x (take i t))) false ≡ true = sym (has-hold x ks (take (suc i) t) ∙ ap (λ b. cond (has_key x ks) b false) (ap (has_key x) more ∙ has-more x (get_or t i 0) (take i t))) ∙ g in
-      elim (cases_Bool (eqb x (get_or t i 0))) [
-        | inl e ↦ inl (eqb-true x (get_or t i 0) e)
-        | inr e ↦ inr (has-hold x ks (take i t) ∙ (rw e at now))
-      ]);
+      grind (arith, nat_tests, has-hold));
   fits = λ i h. hold-length ks (take i t);
 }
 

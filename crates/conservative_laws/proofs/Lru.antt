@@ -1,5 +1,6 @@
 -- Lru is conservative: a key that came again in a stretch of few keys is resident still.
 use Rattle.std.proofs.Common.{◌≡◌, ℕ, zero, suc, ◌+◌, ◌<◌, ◌≤◌, Bool, true, false, not, cond, eqb, nat_lt, List, [], ◌∷◌, ◌++◌, length, take, get_or, ap, ◌∙◌, sym, refl, arith, inl, inr}
+use Rattle.std.proofs.lemmas.Bool.Decides.{nat_tests}
 use Rattle.std.proofs.lemmas.Bool.{cases_Bool, cases_lt, eqb-true, lt-ltb}
 use Rattle.std.proofs.lemmas.List.{take-append-drop}
 use Rattle.step_record.specs.Keys.{has_key}
@@ -53,10 +54,7 @@ since-without k (a ∷ xs) =
 since-fewer : (k : ℕ) (xs : List ℕ) → has_key k xs ≡ true → length (distinct_keys (keys_since k xs)) < length (distinct_keys xs)
 since-fewer k xs h =
     let more : length (distinct_keys (k ∷ keys_since k xs)) ≡ suc (length (distinct_keys (keys_since k xs))) = rw (since-without k xs) refl in
-    let few = distinct-subset (k ∷ keys_since k xs) xs (λ x g. elim (cases_Bool (eqb x k)) [
-      | inl e ↦ ap (λ y. has_key y xs) (eqb-true x k e) ∙ h
-      | inr e ↦ since-among k x xs (rw e at g)
-    ]) in
+    let few = distinct-subset (k ∷ keys_since k xs) xs (λ x g. grind (arith, nat_tests, since-among)) in
     omega (arith, more, few)
 
 -- ---- a stretch
