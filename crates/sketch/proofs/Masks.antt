@@ -1,5 +1,6 @@
 -- A number of one bit is a power of two, which masks a remainder out and has smaller powers as parts.
 use Rattle.std.proofs.Common.{◌≡◌, ℕ, zero, suc, ◌+◌, ◌-◌, ◌*◌, ◌/◌, ◌%◌, ◌<◌, ◌≤◌, ◌^◌, bit_and, w32, ap, ◌∙◌, refl, arith, inl, inr}
+use Rattle.std.proofs.lemmas.Bool.Decides.{nat_tests}
 use Rattle.std.specs.Int.{IsPowerOfTwo, trailing_zeros}
 use Rattle.std.specs.Int.RustNames.{count_ones}
 use Rattle.std.proofs.lemmas.Nat.{and_mask, pow_pos, pow-add, pow_below, shl-shr, zero_from_ones, ones_le_self}
@@ -31,10 +32,7 @@ pub shifted : (n w : ℕ) → IsPowerOfTwo w → w < 2 ^ 32 → n / 2 ^ trailing
 shifted n w p f =
     let few : 2 ^ p.0 < 2 ^ 32 = rw p.1 at f in
     let t = bit_at-trailing_zeros w32 (2 ^ p.0) (pow_pos p.0) few in
-    rw p.1 (elim (cases_eq (trailing_zeros w32 (2 ^ p.0)) p.0) as (λ _. n / 2 ^ trailing_zeros w32 (2 ^ p.0) ≡ n / 2 ^ p.0) [
-      | inl e ↦ rw e refl
-      | inr d ↦ let z = bit_at-pow_other p.0 (trailing_zeros w32 (2 ^ p.0)) d in absurd (omega (arith, z, t.1))
-    ])
+    rw p.1 (grind (arith, nat_tests, bit_at-pow_other))
 
 -- a power of two is a multiple of each smaller one
 pub whole_parts : (j k : ℕ) → 2 ^ j ≤ 2 ^ k → 2 ^ k ≡ 2 ^ j * (2 ^ k / 2 ^ j)

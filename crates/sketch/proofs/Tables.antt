@@ -59,10 +59,7 @@ module _ (w : ℕ) (s : Spread) (some : 0 < w) where
     pub unkeyed : (h : ℕ → ℕ → ℕ) → ((i : ℕ) → i < 4 * w → is_of s w key i ≡ true → h (i / w) (g (i / w) (f i)) ≡ f i) → at_key key h (at_key key g (table f)) ≡ table f
     unkeyed h back = ap (λ (cs : List ℕ). let t : Table = record { width = w; spread = s; counters = cs } in t)
         (by_place_same (4 * w) _ f 0 (λ i lt. rw (changed_at i lt)
-        (elim (cases_Bool (is_of s w key i)) as (λ _. cond (is_of s w key i) (h (i / w) (cond (is_of s w key i) (g (i / w) (f i)) (f i))) (cond (is_of s w key i) (g (i / w) (f i)) (f i)) ≡ f i) [
-          | inl e ↦ rw e (back i lt e)
-          | inr e ↦ rw e refl
-        ])))
+        (grind (arith, nat_tests))))
 
     pub own_counter : (row : ℕ) → row < 4 → counter_of key (at_key key g (table f)) row ≡ g row (f (row * w + column s key row w))
     own_counter row h =
@@ -112,10 +109,7 @@ module _ (w : ℕ) (s : Spread) (some : 0 < w) where
     touch_undone small = unkeyed key (λ row x. min 15 (x + 1)) f (λ row x. cond (rose (touch_record_of key (table f)) row) (x - 1) x) (λ i lt e.
         let d : i / w < 4 = div_below i w 4 some lt in
         let p : f (i / w * w + column s key (i / w) w) ≡ f i = ap f (sym (own_place key i e)) in
-        rw (flag (i / w) d, p) (elim (cases_Bool (nat_lt (f i) 15)) as (λ _. cond (nat_lt (f i) 15) (min 15 (f i + 1) - 1) (min 15 (f i + 1)) ≡ f i) [
-          | inl q ↦ rw q (let lt15 : f i < 15 = ltb-true _ _ q in omega arith)
-          | inr q ↦ rw q (let ge15 : 15 ≤ f i = ltb-false _ _ q in omega (arith, small i))
-        ]))
+        rw (flag (i / w) d, p) (grind (arith, nat_tests)))
 
     pub touch_fits : FitsTouch (touch_record_of key (table f)) (touched_table key (table f))
     touch_fits = record {
