@@ -1,7 +1,6 @@
 -- An access as the fields show it, that its record fits, and that it undoes the access.
-use Rattle.std.proofs.Common.{◌≡◌, ℕ, ◌-◌, ◌≤◌, Bool, cond, nat_lt, Option, None, ap, refl, arith, inl, inr}
+use Rattle.std.proofs.Common.{◌≡◌, ℕ, ◌≤◌, Bool, Option, None, ap, refl, arith}
 use Rattle.std.proofs.lemmas.Bool.Decides.{nat_tests}
-use Rattle.std.proofs.lemmas.Bool.{cases_Bool}
 use Rattle.step_record.specs.Stats.{is_hit}
 use Rattle.step_record.specs.declared.item.Item.{Item}
 use Rattle.step_record.specs.declared.outcome.Outcome.{Outcome}
@@ -17,9 +16,8 @@ use Rattle.replacement.proofs.Planned.{accesses-planned}
 use Rattle.adaptive_window.specs.declared.climber.ClimbRules.{ClimbRules}
 use Rattle.adaptive_window.specs.declared.climber.Climber.{Climber}
 use Rattle.adaptive_window.specs.declared.window_record.SizeChange.{SizeChange}
-use Rattle.adaptive_window.specs.declared.window_record.SizeChange.TheVariants.{Shrank, Stayed}
 use Rattle.adaptive_window.specs.declared.window_record.WindowRecord.{WindowRecord}
-use Rattle.adaptive_window.specs.Climber.{climber_after, ends_period, period_record, FitsClimber}
+use Rattle.adaptive_window.specs.Climber.{climber_after, period_record, FitsClimber}
 use Rattle.adaptive_window.specs.AdaptiveWindow.{AdaptiveState, rules_at, size_towards, adjustment_plan, response_of, adaptive_act, IsAdaptive}
 use Rattle.adaptive_window.specs.WindowRecord.{size_change, size_before, window_record_of, window_undone, WindowFits}
 use Rattle.adaptive_window.specs.Theorems.{AdaptiveUndoes}

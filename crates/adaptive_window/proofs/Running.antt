@@ -1,12 +1,11 @@
 -- An access of the engine, as the fields show it.
-use Rattle.std.proofs.Common.{◌≡◌, ◌≢◌, ℕ, ◌≤◌, false, eqb, Some, Ok, Err, refl, arith, inl, inr}
-use Rattle.std.proofs.lemmas.Bool.{cases_Bool, ne_eqb}
+use Rattle.std.proofs.Common.{◌≡◌, ◌≢◌, ℕ, ◌≤◌, false, eqb, Some, Ok, refl, arith}
+use Rattle.std.proofs.lemmas.Bool.{ne_eqb}
 use Rattle.std.proofs.lemmas.Bool.Decides.{nat_tests}
 use Rattle.step_record.specs.declared.config.Config.{Config}
-use Rattle.step_record.specs.declared.config.ConfigFault.TheVariants.{Capacity}
 use Rattle.step_record.specs.declared.outcome.Outcome.{Outcome}
 use Rattle.step_record.specs.declared.stats.Stats.{Stats}
-use Rattle.step_record.specs.Config.{config_fault, is_from_one}
+use Rattle.step_record.specs.Config.{config_fault}
 use Rattle.step_record.specs.Stats.{stats_with}
 use Rattle.segments.specs.Items.{nodeless_item}
 use Rattle.admission.specs.declared.freq_record.FreqRecord.{FreqRecord}
