@@ -1,5 +1,5 @@
 -- A scan leaves protected as it was.
-use Rattle.std.proofs.Common.{◌≡◌, ◌⊎◌, ℕ, ◌≤◌, Bool, true, false, eqb, nat_lt, Option, Some, None, List, [], ◌∷◌, ◌++◌, ap, ◌∙◌, sym, refl, arith, inl, inr, append-nil, append_assoc}
+use Rattle.std.proofs.Common.{◌≡◌, ◌⊎◌, ℕ, Bool, true, false, eqb, Option, Some, None, List, [], ◌∷◌, ◌++◌, ap, ◌∙◌, sym, refl, arith, inl, inr, append-nil, append_assoc}
 use Rattle.std.proofs.lemmas.Bool.Decides.{nat_tests}
 use Rattle.std.proofs.lemmas.Bool.{cases_Bool, eq-eqb, lt-ltb}
 use Rattle.step_record.specs.Keys.{has_key}
@@ -7,8 +7,8 @@ use Rattle.step_record.specs.declared.item.Item.{Item}
 use Rattle.step_record.specs.declared.job.Job.{Job}
 use Rattle.step_record.specs.declared.job.Policy.TheVariants.{SegmentedLru, TinyLfuSegmented}
 use Rattle.segments.specs.declared.records.Queue.TheVariants.{Probation}
-use Rattle.segments.specs.Items.{occurrences, oldest_of, nodeless_item}
-use Rattle.segments.specs.Queues.{Queues, queue_holding, total_items, IsDistinct, residents_in}
+use Rattle.segments.specs.Items.{oldest_of, nodeless_item}
+use Rattle.segments.specs.Queues.{Queues, queue_holding, IsDistinct, residents_in}
 use Rattle.segments.proofs.ItemLists.{without-none}
 use Rattle.segments.proofs.MoveLaws.{stands}
 use Rattle.segments.proofs.QueueLists.{first-stands}
