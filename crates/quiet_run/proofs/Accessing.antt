@@ -8,12 +8,10 @@ use Rattle.segments.specs.declared.records.Queue.TheVariants.{Window, Probation,
 use Rattle.segments.specs.Items.{is_same_item, occurrences, items_without, oldest_of}
 use Rattle.segments.specs.Queues.{Queues, queue_of, queue_holding, queues_after_push, queues_without, queues_after_move, total_items}
 use Rattle.segments.proofs.ItemLists.{same-refl}
-use Rattle.replacement.specs.declared.rules.HitRule.{HitRule}
-use Rattle.replacement.specs.declared.rules.HitRule.TheVariants.{Renews, Stays}
 use Rattle.replacement.specs.declared.rules.Placement.{Placement}
 use Rattle.replacement.specs.declared.rules.Placement.TheVariants.{Direct, Windowed}
 use Rattle.replacement.specs.declared.rules.Rules.{Rules}
-use Rattle.replacement.specs.Table.{kept_in, with_recent, queues_after_demotion, hit_response, hit_by, contest, trial, trial_of, eviction, response_with_victim, miss_by, access_in, access}
+use Rattle.replacement.specs.Table.{kept_in, with_recent, queues_after_demotion, hit_response, hit_in, contest, trial, trial_of, eviction, response_with_victim, miss_by, access_in, access}
 use Rattle.replacement.specs.Counts.{queue_occurrences}
 use Rattle.quiet_run.specs.Nodes.{nodeless, nodeless_list, nodeless_queues, nodeless_response, IsOnly, HasKeysOnce, AccessesAgree}
 
@@ -98,11 +96,10 @@ module _ (IsThere : Item → Type 0) (only : (i j : Item) → IsThere i → IsTh
   demoted : (size : ℕ) (q : Queues) → AllThere q → queues_after_demotion size (nodeless_queues q) ≡ nodeless_queues (queues_after_demotion size q)
   demoted size q a = rw (length-map q.protected nodeless) (chosen nodeless_queues (nat_lt size (length q.protected)) _ _ _ _ (recent q.protected q a.2 a) refl)
 
-  hit : (r : HitRule) (size : ℕ) (i : Item) (p : Queue) (q : Queues) → IsThere i → AllThere q → hit_by r size (nodeless i) p (nodeless_queues q) ≡ nodeless_queues (hit_by r size i p q)
-  hit Stays size i p q h a = refl
-  hit Renews size i Window q h a = (moved i Window q h a).0
-  hit Renews size i Probation q h a = let m = moved i Protected q h a in ap (queues_after_demotion size) m.0 ∙ demoted size (queues_after_move i Protected q) m.1
-  hit Renews size i Protected q h a = (moved i Protected q h a).0
+  hit : (size : ℕ) (i : Item) (p : Queue) (q : Queues) → IsThere i → AllThere q → hit_in size (nodeless i) (Some p) (nodeless_queues q) ≡ nodeless_queues (hit_in size i (Some p) q)
+  hit size i Window q h a = (moved i Window q h a).0
+  hit size i Probation q h a = let m = moved i Protected q h a in ap (queues_after_demotion size) m.0 ∙ demoted size (queues_after_move i Protected q) m.1
+  hit size i Protected q h a = (moved i Protected q h a).0
 
   -- ---- evictions
 
@@ -147,7 +144,7 @@ module _ (IsThere : Item → Type 0) (only : (i j : Item) → IsThere i → IsTh
   accessed-in : (r : Rules) (admits : ℕ → ℕ → Bool) (i : Item) (p : Option Queue) (q : Queues) → IsThere i → AllThere q
       → access_in r admits (nodeless i) p (nodeless_queues q) ≡ nodeless_response (access_in r admits i p q)
   accessed-in r admits i None q h a = missed r.placement r admits i q h a
-  accessed-in r admits i (Some p) q h a = ap hit_response (hit r.hits r.protected i p q h a)
+  accessed-in r admits i (Some p) q h a = ap hit_response (hit r.protected i p q h a)
 
   accessed : (r : Rules) (admits : ℕ → ℕ → Bool) (i : Item) (q : Queues) → IsThere i → ((j : Item) → 1 ≤ queue_occurrences j q → IsThere j)
       → access r admits (nodeless i) (nodeless_queues q) ≡ nodeless_response (access r admits i q)
