@@ -16,7 +16,7 @@ use Rattle.queue_moves.specs.Tabled.{IsTabled, keys_of, StandsAs}
 use Rattle.queue_moves.proofs.Tabled.{keys-append, absent-gone, stands, stands-nowhere, tabled-leaving}
 use Rattle.policy_steps.specs.Planned.{IsPlannedBy}
 use Rattle.policy_steps.specs.Misses.{Leavers, no_leavers, miss_plan}
-use Rattle.policy_steps.specs.Arc.{T1, T2, B1, B2, arc_of, total, step_size, gives_t1, replaced, new_key_leavers, new_key_plan, recall_plan, plan_in, plan_at, arc_plan, arc_page}
+use Rattle.policy_steps.specs.Arc.{T1, T2, B1, B2, arc_of, total, step_size, gives_t1, replaced, new_key_leavers, new_key_plan, recall_plan, plan_in, plan_at, arc_page}
 use Rattle.policy_steps.proofs.Parts.{nowhere}
 use Rattle.policy_steps.proofs.Moving.{length-keys, keys-sent, keys_left, left-keys, without-drop, without-push, apart-first, own-low, AreLow, miss-low, tabled-leavers}
 use Rattle.policy_steps.proofs.Leaving.{still-absent}

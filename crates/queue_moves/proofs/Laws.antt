@@ -1,6 +1,6 @@
 -- What each call owes that moves one key, from what the table under it ensures.
-use Rattle.std.proofs.Common.{◌≡◌, ◌≢◌, ℕ, ◌+◌, ◌<◌, ◌≤◌, ◌⊎◌, true, false, cond, Option, Some, None, List, [], ◌∷◌, map, ap, ◌∙◌, sym, subst, refl, arith, inl, inr, ◌++◌}
-use Rattle.std.proofs.lemmas.Bool.{cases_Bool, cases_eq, cases_lt}
+use Rattle.std.proofs.Common.{◌≡◌, ◌≢◌, ℕ, ◌+◌, ◌<◌, false, Option, Some, None, List, [], ◌∷◌, ap, ◌∙◌, sym, subst, refl, arith, inl, inr}
+use Rattle.std.proofs.lemmas.Bool.{cases_eq}
 use Rattle.std.proofs.Math.Path.{fun_ext}
 use Rattle.std.proofs.lemmas.Bool.Decides.{nat_tests}
 use Rattle.queue_table.specs.Ring.{lists}
@@ -14,8 +14,8 @@ use Rattle.queue_moves.specs.declared.records.KeyMove.{KeyMove}
 use Rattle.queue_moves.specs.declared.records.Change.TheVariants as change
 use Rattle.queue_moves.specs.declared.records.Departure.TheVariants as departure
 use Rattle.queue_moves.specs.Moves.{item_of, count_of, leaving, counts, goes, departed, Entry}
-use Rattle.queue_moves.specs.Undoing.{left_by, nothing_left, key_in, item_in, count_at, move_from, move_of, before_own, FitsPlace, IsLeft, IsOwn}
-use Rattle.queue_moves.specs.Tabled.{nodes_of, HasKeys, IsTabled, keys_of, Slot}
+use Rattle.queue_moves.specs.Undoing.{left_by, nothing_left, key_in, item_in, count_at, move_from, IsLeft, IsOwn}
+use Rattle.queue_moves.specs.Tabled.{nodes_of, HasKeys, IsTabled, Slot}
 use Rattle.queue_moves.proofs.Tabled.{nodes-append, nodes-without, counted-none, oldest-node, counted-own, few, nowhere, absent-gone, tabled-removal}
 use Rattle.queue_moves.proofs.Standing.{Stands, cut, holding, own-count, elsewhere, oldest_stands}
 

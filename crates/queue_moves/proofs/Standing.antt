@@ -1,8 +1,8 @@
 -- Where the entry of a slot stands.
-use Rattle.std.proofs.Common.{◌≡◌, ℕ, suc, zero, ◌+◌, ◌<◌, ◌≤◌, Some, List, [], ◌∷◌, ◌++◌, length, ap, ◌∙◌, sym, subst, arith}
+use Rattle.std.proofs.Common.{◌≡◌, ℕ, suc, zero, ◌<◌, ◌≤◌, Some, List, [], ◌∷◌, ◌++◌, length, ap, ◌∙◌, sym, subst, arith}
 use Rattle.std.specs.List.{Contains, slice_index_or}
 use Rattle.std.proofs.lemmas.Bool.Decides.{nat_tests}
-use Rattle.queue_table.specs.Ring.{lists, order_of, entries, slot_entry, count}
+use Rattle.queue_table.specs.Ring.{lists, order_of, entries, slot_entry}
 use Rattle.queue_table.specs.Entries.{Item, entry, occurrences, oldest_of, before}
 use Rattle.queue_table.specs.Queues.{QUEUES, Queues, queue_holding}
 use Rattle.queue_table.specs.QueueTable.{HoldsAt}

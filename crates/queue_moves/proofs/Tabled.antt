@@ -11,7 +11,7 @@ use Rattle.queue_table.proofs.EntryLists.{same-true, same-refl, times-append}
 use Rattle.queue_table.proofs.QueueLists.{IsAbsent, absent, absent-taken, placed, queue-few, distinct-taken, with-queue-same, with-queue-other, times-with, times-none}
 use Rattle.queue_table.proofs.MoveBack.{StandsIn, front-none, back-none, rest, without-none}
 use Rattle.queue_table.proofs.Counting.{distinct-counted}
-use Rattle.queue_moves.specs.Moves.{Entry, item_of, count_of, standing, standing_at, Leaving, Own, stays, counts, goes, Plan, IsLowTarget, IsLowLeaving, IsLowOwn, IsLowPlan, turned, after_turn, after_turns, departed, after_leaving, count_or, turns_due, after_own, after_runs, after_first, after_second, after_all}
+use Rattle.queue_moves.specs.Moves.{Entry, item_of, count_of, standing, standing_at, Leaving, Own, stays, counts, goes, Plan, IsLowTarget, IsLowLeaving, IsLowOwn, IsLowPlan, turned, after_turn, after_turns, departed, after_leaving, after_own, after_runs, after_first, after_second, after_all}
 use Rattle.queue_moves.specs.Tabled.{nodes_of, IsTabled, keys_of, StandsAs, lowered_entry, turned_list}
 
 -- ---- lists of entries
