@@ -10,7 +10,7 @@ use Rattle.step_record.specs.declared.step.Reply.TheVariants as reply
 use Rattle.step_record.specs.History.{next_data, data_after, IsLegal}
 use Rattle.segments.specs.Items.{occurrences}
 use Rattle.admission.specs.Shape.{Shape, IsShape}
-use Rattle.sketch.proofs.Masks.{whole_parts}
+use Rattle.admission.proofs.Doors.{part_16}
 use Rattle.admission.proofs.Weighing.{frequency_is}
 use Rattle.shell_model.specs.declared.holder.Holder.{Holder}
 use Rattle.shell_model.specs.declared.stats.Counted.TheVariants as counted
@@ -142,7 +142,7 @@ sixteenths : (s : Shape) → IsShape s → s.width ≡ 16 * (s.width / 16)
 sixteenths s h =
     let p = h.width.0 in
     let low : 16 ≤ s.width = omega (arith, h.width.1) in
-    rw p.1 (whole_parts 4 p.0 (rw p.1 at low))
+    rw p.1 (part_16 p.0 (rw p.1 at low))
 
 pub opened-sound : (c : Config) (s : Shape) → IsShapeOf c s → IsConsistent (empty_shell c s)
 opened-sound c sh k = record {
