@@ -66,11 +66,6 @@ demand-misses-all p j keys is none =
     ∙ (ap (λ d. count_by is_miss (outcomes_by d j keys)) is
     ∙ (ap (λ c. count_by is_miss (demand_outcomes (demand_policy p j) c keys)) none ∙ all-rejected keys))
 
-pub adaptive-misses : (j : Job) (keys : List ℕ) (f : Result (Unit {0}) ConfigFault) → design_of j.policy ≡ design.Adaptive → config_fault j.config ≡ f
-    → (stats_on j keys).misses ≡ count_by is_miss (adaptive_outcomes f j keys)
-adaptive-misses j keys f is ok =
-    misses-counted j keys ∙ (ap (λ d. count_by is_miss (outcomes_by d j keys)) is ∙ ap (λ x. count_by is_miss (adaptive_outcomes x j keys)) ok)
-
 -- ---- as a conservative cache
 
 -- residents before each place of a trace, with the misses of the job
