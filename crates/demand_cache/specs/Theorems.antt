@@ -2,7 +2,7 @@
 use Rattle.std.specs.Prelude.{◌≡◌, ℕ, ◌≤◌, true, List}
 use Rattle.step_record.specs.Stats.{is_eviction}
 use Rattle.step_record.specs.declared.outcome.Outcome.TheVariants.{Hit}
-use Rattle.queue_policies.specs.Residents.{KeepsResidents, outcomes_of_all}
+use Rattle.queue_policies.specs.Residents.{KeepsResidents, CountsResidents, outcomes_of_all}
 use Rattle.policy_steps.specs.PolicyPage.{IsSoundPage}
 use Rattle.demand_cache.specs.declared.demand_policy.DemandPolicy.{DemandPolicy}
 use Rattle.demand_cache.specs.DemandQueues.{DemandQueues, empty_cache, queues_act, queues_record_of, queues_asks, queues_residents}
@@ -12,6 +12,11 @@ use Rattle.demand_cache.specs.DemandQueues.{page_of, IsQueues, outcomes_of_page}
 -- is the definition's access.
 abbrev pub PagesAreSound : Type 0
 PagesAreSound = (p : DemandPolicy) → IsSoundPage (page_of p)
+
+-- So the residents of the definition are its misses minus its evictions.
+abbrev pub PagesCount : Type 0
+PagesCount = (p : DemandPolicy) (c : ℕ) → 1 ≤ c
+    → CountsResidents (page_of p).start ((page_of p).act c) (page_of p).residents
 
 -- Of each policy: residents fit, each once; an access is a hit exactly where its key is resident; a miss brings its key
 -- in, and of a full cache one key leaves; none is rejected.

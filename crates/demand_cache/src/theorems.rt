@@ -1,10 +1,11 @@
 //! Theorems on these policies, for callers that see a cache by its steps alone. Each of these functions does nothing:
 //! its contract is the theorem.
-ghost use Rattle.demand_cache.specs.Theorems.{PagesAreSound, DemandKeeps, RunsByPage, HitsAskNothing, AsksWhereOneLeft};
+ghost use Rattle.demand_cache.specs.Theorems.{PagesAreSound, PagesCount, DemandKeeps, RunsByPage, HitsAskNothing, AsksWhereOneLeft};
 
 /// Each policy's definition keeps every missed key, and an access by its plan is the definition's.
 pub fn pages_are_sound()
-    ensures { PagesAreSound }
+    ensures sound { PagesAreSound }
+    ensures counts { PagesCount }
 {}
 
 /// Each policy keeps every missed key, and its residents fit, each once.

@@ -5,9 +5,8 @@ use Rattle.step_record.specs.Keys.{has_key, keys_without}
 use Rattle.step_record.specs.Stats.{is_hit, is_eviction, is_rejection, one_if}
 use Rattle.step_record.specs.declared.outcome.Outcome.{Outcome}
 use Rattle.step_record.specs.declared.outcome.Outcome.TheVariants.{Hit, Evicted}
-use Rattle.queue_policies.specs.Residents.{times, keys_evicted, IsAccess, AreResidents}
-use Rattle.ghost_policies.specs.Arc.{ArcState, arc_residents, arc_total, arc_target, arc_replace, arc_plan, plan_of_new_key, oldest_forgotten, OfB1, OfB2, oldest_leaver, Dropped, arc_after_recall, arc_after_forgetting, arc_after_eviction, arc_after_join, arc_after_miss, arc_outcome, arc_act, IsArc, ArcForgets, ArcGhost, ArcLeaver, ArcPlan, NoLeaver, InB1, InB2, NoGhost, NoneForgotten}
-use Rattle.ghost_policies.specs.Theorems.{ArcKeeps}
+use Rattle.queue_policies.specs.Residents.{times, keys_evicted, IsAccess, AreResidents, KeepsResidents}
+use Rattle.ghost_policies.specs.Arc.{ArcState, arc_residents, arc_total, arc_target, arc_replace, arc_plan, plan_of_new_key, oldest_forgotten, OfB1, OfB2, oldest_leaver, Dropped, arc_after_recall, arc_after_forgetting, arc_after_eviction, arc_after_join, arc_after_miss, arc_outcome, arc_act, IsArc, ArcForgets, ArcGhost, ArcLeaver, ArcPlan, NoLeaver, InB1, InB2, NoGhost, NoneForgotten, empty_arc}
 use Rattle.queue_policies.proofs.Residents.{times-append, times-none, access-keeps}
 use Rattle.queue_policies.proofs.CountedKeys.{by-oldest}
 use Rattle.ghost_policies.proofs.Weights.{weight, length-weight, times-weight, weight-append, weight-push, weight-first, weight-without, weight-out, weight-renewed, hit-moves, miss-moves, has-append}
@@ -257,7 +256,7 @@ module _ (c k : ℕ) (h : 1 ≤ c) (s : ArcState) (i : IsArc c s) where
         ])
       ]
 
-pub keeps : ArcKeeps
+pub keeps : (c : ℕ) → 1 ≤ c → KeepsResidents c empty_arc (arc_act c) arc_residents (IsArc c)
 keeps c h = record {
   starts = (record { fits = omega arith; l1_fits = omega arith; all_fit = omega arith; full = λ some. absurd (omega (arith, some)); p_fits = omega arith; distinct = λ x. omega arith }, refl);
   keeps = λ k s i. (next c k h s i).state;

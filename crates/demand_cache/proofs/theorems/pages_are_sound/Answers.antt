@@ -1,5 +1,6 @@
+use Rattle.queue_policies.proofs.Residents.{counts-residents}
 use Rattle.demand_cache.proofs.Keeping.{pages-sound}
 use Rattle.demand_cache.proofs.theorems.pages_are_sound.Goals as goal
 
 pub returns : goal.returns
-returns c = pages-sound
+returns c = record { sound = pages-sound; counts = λ p n h. counts-residents _ _ _ _ _ ((pages-sound p).keeps n h) }
