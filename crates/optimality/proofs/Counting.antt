@@ -1,6 +1,6 @@
 -- How many distinct keys of a list pass a test.
-use Rattle.std.proofs.Common.{◌≡◌, ℕ, ◌+◌, ◌≤◌, Bool, true, false, cond, eqb, List, [], ◌∷◌, length, ap, ◌∙◌, refl, arith, inl, inr}
-use Rattle.std.proofs.lemmas.Bool.{cases_Bool, eq-eqb, ne_eqb}
+use Rattle.std.proofs.Common.{◌≡◌, ℕ, ◌+◌, ◌≤◌, Bool, true, false, cond, eqb, List, [], ◌∷◌, length, refl, arith}
+use Rattle.std.proofs.lemmas.Bool.{eq-eqb, cases_eq}
 use Rattle.std.proofs.lemmas.Bool.Decides.{nat_tests}
 use Rattle.step_record.specs.Stats.{one_if}
 use Rattle.step_record.specs.Keys.{has_key, keys_without}
@@ -36,20 +36,10 @@ pub count-passing : (p : ℕ → Bool) (xs ys : List ℕ) → ((x : ℕ) → has
 count-passing p [] ys h = omega arith
 count-passing p (a ∷ xs) ys h =
     let rest : count_keys p xs ≤ count_keys p ys = count-passing p xs ys (λ x g. h x (later x a xs g)) in
-    elim (cases_Bool (has_key a xs)) as (λ _. cond (has_key a xs) 0 (one_if (p a)) + count_keys p xs ≤ count_keys p ys) [
-      | inl e ↦ rw e (omega (arith, rest))
-      | inr e ↦ elim (cases_Bool (p a)) as (λ _. cond (has_key a xs) 0 (one_if (p a)) + count_keys p xs ≤ count_keys p ys) [
-        | inl f ↦
-            let among : has_key a ys ≡ true = h a (head-has a xs) f in
-            let apart : (x : ℕ) → has_key x xs ≡ true → p x ≡ true → has_key x (keys_without a ys) ≡ true = λ x g r. (
-            let ne : eqb x a ≡ false = ne_eqb x a (λ (same : x ≡ a). absurd (cc (g, e, ap (λ y. has_key y xs) same))) in
-            has-without x a ys ∙ ap (λ b. cond b false (has_key x ys)) ne ∙ h x (later x a xs g) r) in
-            let others : count_keys p xs ≤ count_keys p (keys_without a ys) = count-passing p xs (keys_without a ys) apart in
-            let all = count-without p a ys in
-            rw (e, f) (let one = rw (among, f) at all in omega (arith, others, one))
-        | inr f ↦ rw (e, f) (omega (arith, rest))
-      ]
-    ]
+    let others : has_key a xs ≡ false → count_keys p xs ≤ count_keys p (keys_without a ys) =
+    λ e. count-passing p xs (keys_without a ys)
+    (λ x g r. grind (arith, nat_tests, has-without x a ys, h x (later x a xs g) r, cases_eq x a)) in
+    grind (arith, nat_tests, rest, others, h a (head-has a xs), count-without p a ys)
 
 pub count-subset : (p : ℕ → Bool) (xs ys : List ℕ) → ((x : ℕ) → has_key x xs ≡ true → has_key x ys ≡ true) → count_keys p xs ≤ count_keys p ys
 count-subset p xs ys h = count-passing p xs ys (λ x g r. h x g)

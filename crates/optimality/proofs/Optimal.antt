@@ -29,15 +29,14 @@ full-keeps t i n k r s e =
     elim (cases_Bool (is_due t (suc i) n v)) [
       | inl f ↦
           let due : AreDue t (suc i) n k r = farthest-due t i n k r f in
-          let each : (x : ℕ) → has_key x (keys_without v (residents_with k r)) ≡ true → is_due t (suc i) n x ≡ true = λ x h. elim (put-has x k r (without-has x v (residents_with k r) h)) [
-            | inl same ↦ ap (is_due t (suc i) n) same ∙ due.first
-            | inr g ↦ due.rest x g
-          ] in
-          let full : count_keys (is_due t (suc i) n) (keys_without v (residents_with k r)) ≡ length (keys_without v (residents_with k r)) = count-all (is_due t (suc i) n) (keys_without v (residents_with k r)) (ascending-without v (residents_with k r) (ascending-put k r s e)) each in
+          let each : (x : ℕ) → has_key x (keys_without v (residents_with k r)) ≡ true → is_due t (suc i) n x ≡ true =
+          λ x h. (
+          let came = put-has x k r (without-has x v (residents_with k r) h) in
+          grind (arith, came, due.first, due.rest x)) in
+          let ascends = ascending-without v (residents_with k r) (ascending-put k r s e) in
+          let full = count-all (is_due t (suc i) n) (keys_without v (residents_with k r)) ascends each in
           inr (omega (arith, full, full-length t i k r s e))
-      | inr f ↦
-          let none : one_if (is_due t (suc i) n v) ≡ 0 = ap one_if f in
-          inl (omega (arith, all, left, none))
+      | inr f ↦ let none : one_if (is_due t (suc i) n v) ≡ 0 = ap one_if f in inl (omega (arith, all, left, none))
     ]
 
 belady-keeps : (c : ℕ) (t : List ℕ) (i n k : ℕ) (r : List ℕ) → IsAscendingKeys r →
@@ -84,10 +83,8 @@ module _ (c : ℕ) (t : List ℕ) (residents : ℕ → List ℕ) (strategy : IsS
       | inl l ↦
           let own : count_keys (is_due t (suc i) n) (residents (suc i)) ≤ count_keys (is_due t (suc i) n) (get_or t i 0 ∷ residents i) = count-subset (is_due t (suc i) n) (residents (suc i)) (get_or t i 0 ∷ residents i) (λ x g. soon x (get_or t i 0) (residents i) (strategy.on_demand i x h g)) in
           let few : count_keys (is_due t (suc i) n) (residents (suc i)) ≤ c = (let short = count-short (is_due t (suc i) n) (residents (suc i)) in let fits : length (residents (suc i)) ≤ c = strategy.fits (suc i) (omega arith) in omega (arith, short, fits)) in
-          elim (belady-keeps c t i n (get_or t i 0) (belady_residents c t i) (residents-ascending c t i)) [
-            | inl g ↦ omega (arith, own, g, all-gains i n h l before)
-            | inr g ↦ omega (arith, few, g, more-hits i h before)
-          ]
+          let keeps = belady-keeps c t i n (get_or t i 0) (belady_residents c t i) (residents-ascending c t i) in
+          grind (arith, own, few, keeps, all-gains i n h l before, more-hits i h before)
       | inr g ↦
           let none : count_keys (is_due t (suc i) n) (residents (suc i)) ≡ 0 = count-none (is_due t (suc i) n) (residents (suc i)) (λ x. due-never t (suc i) n x (omega arith) (omega arith)) in
           omega (arith, none, more-hits i h before)
