@@ -29,7 +29,8 @@ use Rattle.policies.specs.DemandDesign.{demand_policy}
 use Rattle.policies.specs.declared.any_policy.AnyPolicy.{AnyPolicy}
 use Rattle.policies.specs.declared.any_policy.AnyPolicy.TheVariants.{Queues, Optimal, Demand, Adaptive}
 use Rattle.policies.specs.AnyPolicy.{demand_outcomes, adaptive_start, adaptive_outcomes, outcomes_by, stats_in, stats_on, HasAccessed}
-use Rattle.policies.proofs.StepLaws.{outcomes-of-queues, outcomes-of-optimal, any_reports}
+use Rattle.policies.proofs.StepLaws.{outcomes-of-queues, outcomes-of-optimal}
+use Rattle.policies.proofs.FirstAccesses.{any_reports}
 use Rattle.policies.proofs.Demand.{with-room}
 use Rattle.optimality.specs.Strategy.{IsStrategy, strategy_hits}
 use Rattle.optimality.specs.Theorems.{belady_hits, BeladyIsOptimal, BeladyIsStrategy, BeladyHitsGrow}

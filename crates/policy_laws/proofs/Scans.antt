@@ -1,7 +1,7 @@
 -- A scan leaves protected as it was.
 use Rattle.std.proofs.Common.{◌≡◌, ◌⊎◌, ℕ, Bool, true, false, eqb, Option, Some, None, List, [], ◌∷◌, ◌++◌, ap, ◌∙◌, sym, refl, arith, inl, inr, append-nil, append_assoc}
 use Rattle.std.proofs.lemmas.Bool.Decides.{nat_tests}
-use Rattle.std.proofs.lemmas.Bool.{cases_Bool, eq-eqb, lt-ltb}
+use Rattle.std.proofs.lemmas.Bool.{cases_Bool, eq-eqb, lt-ltb, cases_eq}
 use Rattle.step_record.specs.Keys.{has_key}
 use Rattle.step_record.specs.declared.item.Item.{Item}
 use Rattle.step_record.specs.declared.job.Job.{Job}
@@ -34,12 +34,10 @@ use Rattle.policy_laws.specs.Scans.{IsScan, ScansSpareProtected}
 module _ (r : Rules) (admits : ℕ → ℕ → Bool) (i : Item) (s : Queues) (u : IsDistinct s) where
   replaced-spares : (o : Option Item) → oldest_of s.probation ≡ o → (response_with_victim admits Probation i o s).queues.protected ≡ s.protected
   replaced-spares None h = refl
-  replaced-spares (Some v) h =
-      grind (arith, nat_tests, first-stands, without-none)
+  replaced-spares (Some v) h = grind (arith, nat_tests, first-stands, without-none)
 
   miss-spares : (response_without_trial r admits Probation i s).queues.protected ≡ s.protected
-  miss-spares =
-      grind (arith, nat_tests, replaced-spares)
+  miss-spares = grind (arith, nat_tests, replaced-spares)
 
   access-spares : r.placement ≡ Direct Probation → queue_holding i s ≡ None → (access r admits i s).queues.protected ≡ s.protected
   access-spares p none =
@@ -59,18 +57,9 @@ not-held k d s h =
 scan-on : (k : ℕ) (r after ks : List ℕ) → ((x : ℕ) → has_key x after ≡ true → (x ≡ k) ⊎ (has_key x r ≡ true)) → has_key k ks ≡ false → IsScan r ks → IsScan after ks
 scan-on k r after [] came apart scan = tt
 scan-on k r after (a ∷ ks) came apart scan =
-    elim (cases_Bool (eqb k a)) [
-      | inl e ↦ no (rw e at apart) _
-      | inr e ↦
-          let out : has_key a after ≡ false = elim (cases_Bool (has_key a after)) [
-            | inl f ↦ elim (came a f) [
-              | inl same ↦ no (sym (eq-eqb k a (sym same)) ∙ e) _
-              | inr g ↦ no (sym g ∙ scan.0) _
-            ]
-            | inr f ↦ f
-          ] in
-          (out, scan.1, scan-on k r after ks came (rw e at apart) scan.2)
-    ]
+    let e : eqb k a ≡ false = grind (arith, nat_tests) in
+    let out : has_key a after ≡ false = grind (arith, nat_tests, came a, scan.0, e, cases_eq k a) in
+    (out, scan.1, scan-on k r after ks came (rw e at apart) scan.2)
 
 -- ---- the scan
 
