@@ -1,7 +1,7 @@
 -- A trace that misses always, whatever the cache: each access is to a key that is not resident, of one more than fit.
 use Rattle.std.proofs.Common.{◌≡◌, ℕ, zero, suc, ◌+◌, ◌-◌, ◌*◌, ◌<◌, ◌≤◌, true, false, cond, eqb, nat_lt, List, [], ◌∷◌, ◌++◌, length, take, ap, ◌∙◌, sym, refl, subst, arith, inl, inr, length-append}
 use Rattle.std.proofs.Math.Nat.{mul-add, add-mul, mul-le-mul_left}
-use Rattle.std.proofs.lemmas.Bool.{cases_Bool, eqb-true, lt-ltb, le-ltb}
+use Rattle.std.proofs.lemmas.Bool.{cases_Bool, eqb-true, lt-ltb, le-ltb, cases_eq}
 use Rattle.std.proofs.lemmas.Bool.Decides.{nat_tests}
 use Rattle.std.proofs.lemmas.List.{take_all}
 use Rattle.step_record.specs.Keys.{has_key}
@@ -39,13 +39,7 @@ down-length (suc n) = ap suc (down-length n)
 
 down-times : (x n : ℕ) → times x (down n) ≤ 1
 down-times x zero = omega arith
-down-times x (suc n) =
-    elim (cases_Bool (eqb x n)) as (λ _. one_if (eqb x n) + times x (down n) ≤ 1) [
-      | inl e ↦
-          let none : times x (down n) ≡ 0 = times-none x (down n) (has-down x n ∙ (let same : x ≡ n = eqb-true x n e in le-ltb x n (omega (arith, same)))) in
-          rw e (omega (arith, none))
-      | inr e ↦ let rest = down-times x n in rw e (omega (arith, rest))
-    ]
+down-times x (suc n) = grind (arith, nat_tests, down-times x n, times-none x (down n), has-down x n)
 
 -- the largest of them that is not in the list, and 0 where all are
 abbrev free_key : ℕ → List ℕ → ℕ
@@ -54,20 +48,13 @@ free_key (suc n) l = cond (has_key n l) (free_key n l) n
 
 free-below : (n : ℕ) (l : List ℕ) → free_key n l ≤ n - 1
 free-below zero l = omega arith
-free-below (suc n) l =
-    let rest = free-below n l in
-    grind (arith, nat_tests)
+free-below (suc n) l = grind (arith, nat_tests, free-below n l)
 
 all-there : (n : ℕ) (l : List ℕ) → has_key (free_key n l) l ≡ true → (x : ℕ) → has_key x (down n) ≡ true → has_key x l ≡ true
 all-there zero l h x g = absurd (cc (g))
 all-there (suc n) l h x g =
-    elim (cases_Bool (has_key n l)) [
-      | inl e ↦ elim (cases_Bool (eqb x n)) [
-        | inl f ↦ ap (λ y. has_key y l) (eqb-true x n f) ∙ e
-        | inr f ↦ all-there n l (rw e at h) x (rw f at g)
-      ]
-      | inr e ↦ absurd (let no : has_key n l ≡ true = rw e at h in cc (no, e))
-    ]
+    let rest = λ (f : has_key (free_key n l) l ≡ true). all-there n l f x in
+    grind (arith, nat_tests, rest, cases_eq x n)
 
 -- not all of them are in a shorter list
 free-absent : (n : ℕ) (l : List ℕ) → length l < n → has_key (free_key n l) l ≡ false

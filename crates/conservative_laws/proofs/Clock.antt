@@ -1,7 +1,8 @@
 -- CLOCK is conservative: in a stretch of few keys each miss is one of the evictions that were ahead of it, or fills up the
 -- cache.
 use Rattle.std.proofs.Common.{◌≡◌, ℕ, zero, suc, ◌+◌, ◌<◌, ◌≤◌, true, false, not, eqb, nat_lt, List, [], ◌∷◌, ◌++◌, length, take, get_or, ap, ◌∙◌, sym, refl, arith, inl, inr, length-append}
-use Rattle.std.proofs.lemmas.Bool.{cases_Bool, cases_lt, eqb-true, eq-eqb, ltb-false}
+use Rattle.std.proofs.lemmas.Bool.{cases_Bool, cases_lt, eqb-true, eq-eqb, ltb-false, cases_eq}
+use Rattle.std.proofs.lemmas.Bool.Decides.{nat_tests}
 use Rattle.step_record.specs.Keys.{has_key}
 use Rattle.step_record.specs.Stats.{one_if}
 use Rattle.queue_cache.specs.Lru.{distinct_keys}
@@ -37,23 +38,15 @@ turn-ahead ks (e ∷ l) h bits = ahead-turned ks e l h bits.0
 turns-ahead : (ks : List ℕ) (n : ℕ) (queue : List CountedKey) → AreCounted 1 queue → evictions_ahead ks (after_turns (turn_count_within n queue) queue) ≡ evictions_ahead ks queue
 turns-ahead ks zero queue bits = refl
 turns-ahead ks (suc n) queue bits =
-    elim (cases_Bool (eqb (oldest_count queue) 0)) [
-      | inl h ↦ rw h refl
-      | inr h ↦ rw h (turns-ahead ks n (after_turn queue) (turns-counted 1 1 queue bits) ∙ turn-ahead ks queue h bits)
-    ]
+    grind (arith, nat_tests, turns-ahead ks n (after_turn queue) (turns-counted 1 1 queue bits), turn-ahead ks queue)
 
 -- ---- a full cache has a stale key
 
 none-stale : (ks : List ℕ) (queue : List CountedKey) → any_of (is_stale ks) queue ≡ false → (x : ℕ) → has_key x (keys_of queue) ≡ true → has_key x ks ≡ true
 none-stale ks [] h x g = absurd (cc (g))
 none-stale ks (e ∷ l) h x g =
-    elim (cases_Bool (has_key e.key ks)) [
-      | inl f ↦ elim (cases_Bool (eqb x e.key)) [
-        | inl s ↦ ap (λ y. has_key y ks) (eqb-true x e.key s) ∙ f
-        | inr s ↦ none-stale ks l (rw f at h) x (rw s at g)
-      ]
-      | inr f ↦ absurd (let no : true ≡ false = rw f at h in cc (no))
-    ]
+    let rest = λ (f : any_of (is_stale ks) l ≡ false). none-stale ks l f x in
+    grind (arith, nat_tests, rest, cases_eq x e.key)
 
 some-stale : (c k : ℕ) (ks : List ℕ) (queue : List CountedKey) → has_key k ks ≡ true → length (distinct_keys ks) ≤ c → c ≤ length queue → has_key k (keys_of queue) ≡ false → ((x : ℕ) → times x (keys_of queue) ≤ 1) → any_of (is_stale ks) queue ≡ true
 some-stale c k ks queue among few full out once =
@@ -61,10 +54,7 @@ some-stale c k ks queue among few full out once =
       | inl h ↦ h
       | inr h ↦ absurd (
           let less : length (k ∷ keys_of queue) ≤ length (distinct_keys ks) = once-few (k ∷ keys_of queue) ks (once-more k [] (keys_of queue) out once)
-          (λ x g. elim (cases_Bool (eqb x k)) [
-            | inl s ↦ ap (λ y. has_key y ks) (eqb-true x k s) ∙ among
-            | inr s ↦ none-stale ks queue h x (rw s at g)
-          ]) in
+          (λ x g. grind (arith, nat_tests, none-stale ks queue h x, cases_eq x k)) in
           omega (arith, less, few, full, length-keys queue))
     ]
 
@@ -116,9 +106,7 @@ module _ (c : ℕ) (t : List ℕ) (room : 1 ≤ c) (i m : ℕ) (l : m ≤ length
   IsAhead n = misses_at n + evictions_ahead (stretch t i m) (clock_queue c t n) ≤ misses_at i + length (clock_queue c t n)
 
   ahead-here : (n : ℕ) → n ≡ i → IsAhead n
-  ahead-here n same =
-      let misses : misses_at n ≡ misses_at i = ap misses_at same in
-      omega (arith, misses, ahead-few (stretch t i m) (clock_queue c t n))
+  ahead-here n same = omega (arith, ap misses_at same, ahead-few (stretch t i m) (clock_queue c t n))
 
   ahead-next : (n : ℕ) → i ≤ n → n < m → IsAhead n → IsAhead (suc n)
   ahead-next n h g now =

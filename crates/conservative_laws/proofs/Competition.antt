@@ -2,7 +2,7 @@
 use Rattle.std.proofs.Common.{◌≡◌, ℕ, zero, suc, ◌+◌, ◌-◌, ◌*◌, ◌<◌, ◌≤◌, true, false, not, List, [], ◌∷◌, ◌++◌, length, take, get_or, ap, ◌∙◌, sym, arith, inl, inr}
 use Rattle.std.proofs.lemmas.Bool.Decides.{nat_tests}
 use Rattle.std.proofs.Math.Nat.{mul-add, mul_comm, mul-le-mul_left, mul-le-mul_right}
-use Rattle.std.proofs.lemmas.Bool.{cases_Bool, cases_lt}
+use Rattle.std.proofs.lemmas.Bool.{cases_Bool, cases_lt, cases_eq}
 use Rattle.step_record.specs.Keys.{has_key}
 use Rattle.step_record.specs.Stats.{one_if}
 use Rattle.clairvoyant.proofs.Belady.{later}
@@ -40,10 +40,7 @@ module _ (h : ℕ) (t : List ℕ) (other : ℕ → List ℕ) (is : IsStrategy h 
           accessed = λ x g. elim (one-of x k (stretch t from n) (ap (has_key x) (sym more) ∙ g)) [ inl s ↦ ap (λ y. has_key y before.keys) s ∙ e | inr r ↦ before.accessed x r ];
         }
         | inr e ↦
-            let missed : has_key k (other n) ≡ false = (elim (cases_Bool (has_key k (other n))) [
-              | inl f ↦ absurd (let no : true ≡ false = sym (before.resident k f) ∙ e in cc (no))
-              | inr f ↦ f
-            ]) in
+            let missed : has_key k (other n) ≡ false = grind (arith, nat_tests, before.resident k, e) in
             let one : one_if (not (has_key k (other n))) ≡ 1 = ap (λ b. one_if (not b)) missed in
             record {
               keys = k ∷ before.keys;
@@ -55,14 +52,12 @@ module _ (h : ℕ) (t : List ℕ) (other : ℕ → List ℕ) (is : IsStrategy h 
 
   -- the stretch begins where the counting does
   cover-here : (n : ℕ) → n ≤ length t → Cover h n n n
-  cover-here n l =
-      let fits : length (other n) ≤ h = is.fits n l in
-      record {
-        keys = other n;
-        few = omega (arith, fits);
-        resident = λ x g. g;
-        accessed = λ x g. absurd (let no : false ≡ true = ap (has_key x) (sym (stretch-none t n l)) ∙ g in cc (no));
-      }
+  cover-here n l = record {
+    keys = other n;
+    few = omega (arith, is.fits n l);
+    resident = λ x g. g;
+    accessed = λ x g. absurd (let no : false ≡ true = ap (has_key x) (sym (stretch-none t n l)) ∙ g in cc (no));
+  }
 
   -- or at the access before, whose key is resident
   cover-behind : (n : ℕ) → n < length t → has_key (get_or t n 0) (other (suc n)) ≡ true → Cover h n (suc n) (suc n)
@@ -147,13 +142,7 @@ module _ (h : ℕ) (t : List ℕ) (other : ℕ → List ℕ) (is : IsStrategy h 
                 let near : o.start ≤ suc p = o.near in
                 let misses : strategy_misses t cache p + c + 1 ≡ strategy_misses t cache o.start + w = o.misses in
                 let exact : strategy_misses t cache n ≡ strategy_misses t cache o.start + w = omega (arith, misses, first, many) in
-                let less : o.start < n = (elim (cases_lt o.start n) [
-                  | inl f ↦ f
-                  | inr f ↦ absurd (
-                      let same : o.start ≡ n = omega (arith, f, near, before) in
-                      let equal : strategy_misses t cache o.start ≡ strategy_misses t cache n = ap (strategy_misses t cache) same in
-                      omega (arith, equal, exact, some))
-                ]) in
+                let less : o.start < n = grind (arith, nat_tests, cases_eq o.start n, near, before, exact, some) in
                 let rest : d * strategy_misses t cache o.start ≤ w * strategy_misses t other o.start + e = bound-below b o.start (omega (arith, below, less)) (omega (arith, less, l)) in
                 let gain : strategy_misses t other o.start + d ≤ strategy_misses t other n = gains p n o (omega (arith, less)) l (omega (arith, first, many)) in
                 let left : d * strategy_misses t cache n ≡ d * strategy_misses t cache o.start + d * w = ap (λ x. d * x) exact ∙ mul-add d (strategy_misses t cache o.start) w in
@@ -183,10 +172,7 @@ module _ (c h : ℕ) (t : List ℕ) (cache other : ℕ → List ℕ) (conservati
 
   -- a strategy that never bypasses has room for a key, where there is an access
   has-room : NeverBypasses t other → 0 < length t → 1 ≤ h
-  has-room never some =
-      let fits : length (other 1) ≤ h = is.fits 1 (omega (arith, some)) in
-      let one : 1 ≤ length (other 1) = has-some (get_or t 0 0) (other 1) (never 0 some) in
-      omega (arith, fits, one)
+  has-room never some = omega (arith, is.fits 1 (omega (arith, some)), has-some (get_or t 0 0) (other 1) (never 0 some))
 
   competes-without-bypass : (e : ℕ) → NeverBypasses t other → (1 ≤ h → (n : ℕ) → n ≤ length t → strategy_misses t cache n ≤ c → (c + 1 - h) * strategy_misses t cache n ≤ c * strategy_misses t other n + e)
       → (n : ℕ) → n ≤ length t → (c + 1 - h) * strategy_misses t cache n ≤ c * strategy_misses t other n + e

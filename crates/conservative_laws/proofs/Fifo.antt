@@ -1,7 +1,8 @@
 -- FIFO is conservative: the keys that were missed in a stretch of few keys are the newest of the queue.
 use Rattle.std.proofs.Common.{◌≡◌, ℕ, zero, suc, ◌+◌, ◌<◌, ◌≤◌, true, false, not, eqb, nat_lt, List, [], ◌∷◌, ◌++◌, length, take, get_or, ap, ◌∙◌, sym, refl, arith, inl, inr, length-append}
 use Rattle.std.proofs.lemmas.List.{append_assoc, append-nil}
-use Rattle.std.proofs.lemmas.Bool.{cases_Bool, cases_lt, eqb-true, ltb-false}
+use Rattle.std.proofs.lemmas.Bool.{cases_Bool, cases_lt, eqb-true, ltb-false, cases_eq}
+use Rattle.std.proofs.lemmas.Bool.Decides.{nat_tests}
 use Rattle.step_record.specs.Keys.{has_key}
 use Rattle.step_record.specs.Stats.{one_if}
 use Rattle.queue_cache.specs.Lru.{distinct_keys}
@@ -38,13 +39,7 @@ missed c k old new h less =
 
 pub once-more : (k : ℕ) (old new : List ℕ) → has_key k (old ++ new) ≡ false → ((x : ℕ) → times x (old ++ new) ≤ 1) → (x : ℕ) → times x (k ∷ new) ≤ 1
 once-more k old new h d x =
-    let parts : times x (old ++ new) ≡ times x old + times x new = times-append x old new in
-    elim (cases_Bool (eqb x k)) as (λ _. one_if (eqb x k) + times x new ≤ 1) [
-      | inl e ↦
-          let none : times x (old ++ new) ≡ 0 = ap (λ y. times y (old ++ new)) (eqb-true x k e) ∙ times-none k (old ++ new) h in
-          rw e (omega (arith, parts, none))
-      | inr e ↦ let most = d x in rw e (omega (arith, parts, most))
-    ]
+    grind (arith, nat_tests, times-append x old new, times-none k (old ++ new) h, cases_eq x k, d x)
 
 -- ---- a stretch
 
@@ -83,10 +78,7 @@ module _ (c : ℕ) (t : List ℕ) (room : 1 ≤ c) (i m : ℕ) (l : m ≤ length
             let once : (x : ℕ) → times x (now.old ++ now.new) ≤ 1 = λ x. (let d : times x q ≤ 1 = kept.distinct x in let same : times x q ≡ times x (now.old ++ now.new) = ap (times x) now.queue in omega (arith, d, same)) in
             let here : has_key k (stretch t i m) ≡ true = in-stretch t i n m h g l in
             let less : length (k ∷ now.new) ≤ length (distinct_keys (stretch t i m)) = once-few (k ∷ now.new) (stretch t i m) (once-more k now.old now.new out once)
-            (λ x f. elim (cases_Bool (eqb x k)) [
-              | inl s ↦ ap (λ y. has_key y (stretch t i m)) (eqb-true x k s) ∙ here
-              | inr s ↦ now.among x (rw s at f)
-            ]) in
+            (λ x f. grind (arith, nat_tests, now.among x, cases_eq x k, here)) in
             let end = missed c k now.old now.new out (omega (arith, less, few)) in
             record {
               old = end.0;

@@ -1,7 +1,9 @@
 -- A policy that keeps every missed key: its misses are those by its residents, and it fills up before it evicts.
 use Rattle.std.proofs.Common.{◌≡◌, ℕ, zero, suc, ◌+◌, ◌<◌, ◌≤◌, true, false, not, nat_lt, List, [], ◌∷◌, ◌++◌, length, take, get_or, count_by, ap, ◌∙◌, sym, refl, arith, inl, inr}
-use Rattle.std.proofs.lemmas.Bool.{cases_Bool, lt-ltb}
+use Rattle.std.proofs.lemmas.Bool.{cases_Bool, lt-ltb, cases_eq}
 use Rattle.std.proofs.lemmas.List.{length-take-le}
+use Rattle.std.proofs.lemmas.Bool.Decides.{nat_tests}
+use Rattle.replacement.proofs.Residents.{has-append}
 use Rattle.step_record.specs.Keys.{has_key}
 use Rattle.step_record.specs.Stats.{is_hit, is_miss, is_eviction, one_if}
 use Rattle.step_record.specs.declared.outcome.Outcome.{Outcome}
@@ -21,25 +23,15 @@ miss-is Kept = refl
 miss-is (Evicted v) = refl
 miss-is (Rejected v) = refl
 
--- no eviction where there is room
-no-eviction : (c k : ℕ) (old : List ℕ) (o : Outcome) (new : List ℕ) → IsAccess c k old o new → length old < c → is_eviction o ≡ false
-no-eviction c k old o new a room =
-    let less : nat_lt (length old) c ≡ true = lt-ltb (length old) c room in
-    a.evicts ∙ rw less (elim (cases_Bool (has_key k old)) [ inl e ↦ rw e refl | inr e ↦ rw e refl ])
-
-no-eviction-hit : (c k : ℕ) (old : List ℕ) (o : Outcome) (new : List ℕ) → IsAccess c k old o new → has_key k old ≡ true → is_eviction o ≡ false
-no-eviction-hit c k old o new a h = a.evicts ∙ rw h refl
-
 -- the residents of a strategy came before
 among : (h : ℕ) (t : List ℕ) (residents : ℕ → List ℕ) → IsStrategy h t residents → (n : ℕ) → n ≤ length t → (x : ℕ) → has_key x (residents n) ≡ true → has_key x (take n t) ≡ true
 among h t residents is zero l x g = absurd (let no : false ≡ true = ap (has_key x) (sym is.empty) ∙ g in cc (no))
 among h t residents is (suc n) l x g =
     let k : ℕ = get_or t n 0 in
     let longer : take (suc n) t ≡ take n t ++ k ∷ [] = stretch-next t 0 n (omega arith) (omega (arith, l)) in
-    elim (is.on_demand n x (omega (arith, l)) g) [
-      | inl s ↦ ap (has_key x) longer ∙ (ap (λ y. has_key y (take n t ++ k ∷ [])) s ∙ has-last k (take n t))
-      | inr r ↦ ap (has_key x) longer ∙ has-first x (take n t) (k ∷ []) (among h t residents is n (omega (arith, l)) x r)
-    ]
+    let rest = among h t residents is n (omega (arith, l)) x in
+    let came = is.on_demand n x (omega (arith, l)) g in
+    rw longer (grind (arith, nat_tests, rest, came, has-append x (take n t) (k ∷ []), cases_eq x k))
 
 module _ {S : Type 0} (c : ℕ) (start : S) (act : ℕ → S → Outcome × S) (residents : S → List ℕ) (IsState : S → Type 0) (all : KeepsResidents c start act residents IsState) (t : List ℕ) where
   abbrev held : ℕ → List ℕ
@@ -69,10 +61,7 @@ module _ {S : Type 0} (c : ℕ) (start : S) (act : ℕ → S → Outcome × S) (
       let rest : length (held n) ≡ strategy_misses t held n = one-each n (omega (arith, l)) (omega (arith, few, next)) in
       let counts : length (held (suc n)) + one_if (is_eviction o) ≡ length (held n) + one_if (is_miss o) = a.counts in
       let missed : one_if (is_miss o) ≡ one_if (not (has_key k (held n))) = ap one_if (miss-is o ∙ ap not a.hits) in
-      let none : one_if (is_eviction o) ≡ 0 = ap one_if (elim (cases_Bool (has_key k (held n))) [
-        | inl e ↦ no-eviction-hit c k (held n) o (held (suc n)) a e
-        | inr e ↦ let one : one_if (not (has_key k (held n))) ≡ 1 = ap (λ b. one_if (not b)) e in no-eviction c k (held n) o (held (suc n)) a (omega (arith, one, next, few, rest))
-      ]) in
+      let none : one_if (is_eviction o) ≡ 0 = grind (arith, nat_tests, a.evicts, next, rest, few) in
       omega (arith, next, rest, counts, missed, none)
 
   pub fills-first : FillsFirst c t (strategy_misses t held)

@@ -2,7 +2,7 @@
 use Rattle.std.proofs.Common.{◌≡◌, ℕ, zero, suc, ◌+◌, ◌≤◌, Bool, true, false, cond, eqb, List, [], ◌∷◌, ◌++◌, length, take, get_or, ap, ◌∙◌, sym, refl, arith, inl, inr, length-append}
 use Rattle.std.proofs.Math.ListN.{get_or-append}
 use Rattle.std.proofs.Math.Seq.{get_or-append_seam, take-append_seam}
-use Rattle.std.proofs.lemmas.Bool.{cases_Bool, eqb-true}
+use Rattle.std.proofs.lemmas.Bool.{cases_Bool, eqb-true, cases_eq}
 use Rattle.std.proofs.lemmas.List.{take_more, take-append-le}
 use Rattle.std.proofs.lemmas.Bool.Decides.{nat_tests}
 use Rattle.step_record.specs.Keys.{has_key}
@@ -43,32 +43,15 @@ hold-none (a ∷ ks) = hold-none ks
 
 pub hold-length : (ks xs : List ℕ) → length (hold ks xs) ≤ length ks
 hold-length [] xs = omega arith
-hold-length (a ∷ ks) xs =
-    let rest : length (hold ks xs) ≤ length ks = hold-length ks xs in
-    elim (cases_Bool (has_key a xs)) as (λ _. length (cond (has_key a xs) (a ∷ hold ks xs) (hold ks xs)) ≤ suc (length ks)) [ inl e ↦ rw e (omega (arith, rest)) | inr e ↦ rw e (omega (arith, rest)) ]
-
-never : (b : Bool) → cond b false false ≡ false
-never true = refl
-never false = refl
+hold-length (a ∷ ks) xs = grind (arith, nat_tests, hold-length ks xs)
 
 has-hold : (x : ℕ) (ks xs : List ℕ) → has_key x (hold ks xs) ≡ cond (has_key x ks) (has_key x xs) false
 has-hold x [] xs = refl
-has-hold x (a ∷ ks) xs =
-    elim (cases_Bool (has_key a xs)) as (λ _. has_key x (cond (has_key a xs) (a ∷ hold ks xs) (hold ks xs)) ≡ cond (cond (eqb x a) true (has_key x ks)) (has_key x xs) false) [
-      | inl e ↦ rw (e, has-hold x ks xs) (elim (cases_Bool (eqb x a)) as (λ _. cond (eqb x a) true (cond (has_key x ks) (has_key x xs) false) ≡ cond (cond (eqb x a) true (has_key x ks)) (has_key x xs) false) [
-        | inl f ↦ let there : has_key x xs ≡ true = ap (λ y. has_key y xs) (eqb-true x a f) ∙ e in rw (f, there) refl
-        | inr f ↦ rw f refl
-      ])
-      | inr e ↦ rw (e, has-hold x ks xs) (elim (cases_Bool (eqb x a)) as (λ _. cond (has_key x ks) (has_key x xs) false ≡ cond (cond (eqb x a) true (has_key x ks)) (has_key x xs) false) [
-        | inl f ↦ let out : has_key x xs ≡ false = ap (λ y. has_key y xs) (eqb-true x a f) ∙ e in rw (f, out) (never (has_key x ks))
-        | inr f ↦ rw f refl
-      ])
-    ]
+has-hold x (a ∷ ks) xs = grind (arith, nat_tests, has-hold x ks xs, cases_eq x a)
 
 has-more : (x k : ℕ) (xs : List ℕ) → has_key x (xs ++ k ∷ []) ≡ cond (eqb x k) true (has_key x xs)
 has-more x k [] = refl
-has-more x k (a ∷ xs) =
-    rw (has-more x k xs) (grind (arith, nat_tests))
+has-more x k (a ∷ xs) = grind (arith, nat_tests, has-more x k xs)
 
 pub hold-strategy : (ks t : List ℕ) → IsStrategy (length ks) t (λ i. hold ks (take i t))
 hold-strategy ks t = record {
@@ -83,6 +66,4 @@ hold-strategy ks t = record {
 -- each access to one of the keys is a hit, or brings that key in
 pub hold-next : (ks xs : List ℕ) (k : ℕ) → IsDistinct ks → length (hold ks (xs ++ k ∷ [])) + one_if (has_key k (hold ks xs)) ≡ length (hold ks xs) + times k ks
 hold-next [] xs k d = omega arith
-hold-next (a ∷ ks) xs k d =
-    let rest : length (hold ks (xs ++ k ∷ [])) + one_if (has_key k (hold ks xs)) ≡ length (hold ks xs) + times k ks = hold-next ks xs k d.1 in
-    grind (arith, nat_tests, times-none, has-hold, has-more)
+hold-next (a ∷ ks) xs k d = grind (arith, nat_tests, hold-next ks xs k d.1, times-none, has-hold, has-more)

@@ -122,8 +122,7 @@ acts-conservatively lru page covers j t (inr (inr is)) =
 pub are_conservative : LruStepLaw → RunsByPage → AnyCoversTrace → LruFifoClockAreConservative
 are_conservative lru page covers j t is i n h l few =
     let a : ActsConservatively j t = acts-conservatively lru page covers j t is in
-    let bound = a.conservative i n h l few in
-    omega (arith, bound, a.misses n l, a.misses i (omega (arith, h, l)))
+    omega (arith, a.conservative i n h l few, a.misses n l, a.misses i (omega (arith, h, l)))
 
 pub compete : FillingCompetes → LruStepLaw → RunsByPage → AnyCoversTrace → LruFifoClockCompete
 compete filling lru page covers j t h strategy n is s l =

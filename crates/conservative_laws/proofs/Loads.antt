@@ -22,10 +22,7 @@ load-none (a ∷ ks) = let rest = load-none ks in omega (arith, rest)
 
 pub load-next : (ks xs : List ℕ) (k : ℕ) → load ks (xs ++ k ∷ []) ≡ load ks xs + times k ks
 load-next [] xs k = refl
-load-next (a ∷ ks) xs k =
-    let same : eqb a k ≡ eqb k a = grind (arith, nat_tests) in
-    let one : one_if (eqb a k) ≡ one_if (eqb k a) = ap one_if same in
-    omega (arith, load-next ks xs k, times-append a xs (k ∷ []), one)
+load-next (a ∷ ks) xs k = grind (arith, nat_tests, load-next ks xs k, times-append a xs (k ∷ []))
 
 -- ---- the key with the fewest accesses
 
@@ -53,17 +50,8 @@ lightest xs w (v ∷ ws) d =
           record {
             key = l.key;
             others = w ∷ l.others;
-            distinct = (
-              elim (cases_Bool (has_key w l.others)) [
-                | inl e ↦ absurd (let no : has_key w (v ∷ ws) ≡ true = l.among w e in cc (no, d.0))
-                | inr e ↦ e
-              ],
-              l.distinct,
-            );
-            among = λ x h. elim (cases_Bool (eqb x w)) [
-              | inl e ↦ ap (λ y. has_key y (w ∷ v ∷ ws)) (eqb-true x w e) ∙ head-has w (v ∷ ws)
-              | inr e ↦ later x w (v ∷ ws) (l.among x (rw e at h))
-            ];
+            distinct = (grind (arith, nat_tests, l.among w, d.0), l.distinct);
+            among = λ x h. grind (arith, nat_tests, l.among x);
             size = ap suc size;
             sum = omega (arith, sum);
             least = omega (arith, once, least, f);

@@ -1,7 +1,7 @@
 -- Lru is conservative: a key that came again in a stretch of few keys is resident still.
 use Rattle.std.proofs.Common.{◌≡◌, ℕ, zero, suc, ◌+◌, ◌<◌, ◌≤◌, Bool, true, false, not, cond, eqb, nat_lt, List, [], ◌∷◌, ◌++◌, length, take, get_or, ap, ◌∙◌, sym, refl, arith, inl, inr}
 use Rattle.std.proofs.lemmas.Bool.Decides.{nat_tests}
-use Rattle.std.proofs.lemmas.Bool.{cases_Bool, cases_lt, eqb-true, lt-ltb}
+use Rattle.std.proofs.lemmas.Bool.{cases_Bool, cases_lt, eqb-true, lt-ltb, cases_eq}
 use Rattle.std.proofs.lemmas.List.{take-append-drop}
 use Rattle.step_record.specs.Keys.{has_key}
 use Rattle.step_record.specs.Stats.{is_hit, one_if}
@@ -37,18 +37,11 @@ since-second k (a ∷ xs) ys h = rw (has-second k xs ys h) (since-second k xs ys
 since-among : (k x : ℕ) (xs : List ℕ) → has_key x (keys_since k xs) ≡ true → has_key x xs ≡ true
 since-among k x [] h = h
 since-among k x (a ∷ xs) h =
-    later x a xs (elim (cases_Bool (has_key k xs)) [
-      | inl e ↦ since-among k x xs (rw e at h)
-      | inr e ↦ rw e at h
-    ])
+    grind (arith, nat_tests, since-among k x xs)
 
 since-without : (k : ℕ) (xs : List ℕ) → has_key k (keys_since k xs) ≡ false
 since-without k [] = refl
-since-without k (a ∷ xs) =
-    elim (cases_Bool (has_key k xs)) as (λ _. has_key k (cond (has_key k xs) (keys_since k xs) xs) ≡ false) [
-      | inl e ↦ rw e (since-without k xs)
-      | inr e ↦ rw e e
-    ]
+since-without k (a ∷ xs) = grind (arith, nat_tests, since-without k xs)
 
 -- fewer keys than with k
 since-fewer : (k : ℕ) (xs : List ℕ) → has_key k xs ≡ true → length (distinct_keys (keys_since k xs)) < length (distinct_keys xs)
@@ -85,19 +78,10 @@ module _ (c : ℕ) (t : List ℕ) (i : ℕ) where
             let grows : length (distinct_keys s) ≤ length (distinct_keys (s ++ k ∷ [])) = distinct-subset s (s ++ k ∷ []) (λ x g. has-first x s (k ∷ []) g) in
             let rest = few-misses n (omega (arith, f)) (omega (arith, l)) (omega (arith, few, size, grows)) in
             let next = misses-next t (lru_at c t) n in
-            elim (cases_Bool (has_key k s)) [
-              | inl e ↦
-                  let none : one_if (not (has_key k (lru_at c t n))) ≡ 0 = ap (λ b. one_if (not b)) (came-again n e (omega (arith, few, size, grows))) in
-                  omega (arith, rest, next, none, size, grows)
-              | inr e ↦
-                  let one : one_if (not (has_key k (lru_at c t n))) ≤ 1 = one-few (not (has_key k (lru_at c t n))) in
-                  let new : length (distinct_keys (k ∷ s)) ≡ suc (length (distinct_keys s)) = rw e refl in
-                  let more = distinct-subset (k ∷ s) (s ++ k ∷ []) (λ x g. elim (cases_Bool (eqb x k)) [
-                    | inl m ↦ ap (λ y. has_key y (s ++ k ∷ [])) (eqb-true x k m) ∙ has-last k s
-                    | inr m ↦ has-first x s (k ∷ []) (rw m at g)
-                  ]) in
-                  omega (arith, rest, next, one, size, new, more)
-            ]
+            let again = λ (e : has_key k s ≡ true). came-again n e (omega (arith, few, size, grows)) in
+            let more = distinct-subset (k ∷ s) (s ++ k ∷ [])
+            (λ x g. grind (arith, nat_tests, has-last k s, has-first x s (k ∷ []), cases_eq x k)) in
+            grind (arith, nat_tests, rest, next, again, more, size, grows)
       ]
 
 pub lru-conservative : (c : ℕ) (t : List ℕ) → IsConservative c t (strategy_misses t (lru_at c t))

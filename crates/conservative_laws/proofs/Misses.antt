@@ -16,20 +16,16 @@ use Rattle.queue_cache.proofs.Counting.{hits-misses}
 use Rattle.optimality.specs.Strategy.{strategy_hits, strategy_misses}
 use Rattle.policy_laws.proofs.Strategies.{IsOnline, hits-are}
 use Rattle.policy_laws.proofs.Beaten.{queue_residents, queues-online}
-use Rattle.policy_laws.proofs.Lru.{lru_at, hits-agree, nothing, lru-kept}
+use Rattle.policy_laws.proofs.Lru.{lru_at, hits-agree, lru-kept}
 
 -- ---- of a strategy
 
 pub hits-few : (t : List ℕ) (residents : ℕ → List ℕ) (i : ℕ) → strategy_hits t residents i ≤ i
 hits-few t residents zero = omega arith
-hits-few t residents (suc i) =
-    let rest : strategy_hits t residents i ≤ i = hits-few t residents i in
-    grind (arith, nat_tests)
+hits-few t residents (suc i) = grind (arith, nat_tests, hits-few t residents i)
 
 pub misses-next : (t : List ℕ) (residents : ℕ → List ℕ) (i : ℕ) → strategy_misses t residents (suc i) ≡ strategy_misses t residents i + one_if (not (has_key (get_or t i 0) (residents i)))
-misses-next t residents i =
-    let few : strategy_hits t residents i ≤ i = hits-few t residents i in
-    grind (arith, nat_tests)
+misses-next t residents i = grind (arith, nat_tests, hits-few t residents i)
 
 -- without residents each access is a miss
 pub none-hit : (t : List ℕ) (n : ℕ) → strategy_misses t (λ i. []) n ≡ n
@@ -50,10 +46,7 @@ at-most-twice c h m k wide most =
 
 pub stats-misses : AnyCoversTrace → (j : Job) (keys : List ℕ) → (stats_on j keys).misses ≡ length keys - (stats_on j keys).hits
 unfolding stats_on
-stats-misses covers j keys =
-    let both = hits-misses (outcomes_on j keys) in
-    let long = covers j keys in
-    omega (arith, both, long)
+stats-misses covers j keys = omega (arith, hits-misses (outcomes_on j keys), covers j keys)
 
 pub misses-by : (t : List ℕ) (r : ℕ → List ℕ) (n m k : ℕ) → k ≡ n - m → strategy_hits t r n ≡ m → k ≡ strategy_misses t r n
 misses-by t r n m k e h = e ∙ ap (λ x. n - x) (sym h)

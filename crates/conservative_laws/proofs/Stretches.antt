@@ -1,7 +1,7 @@
 -- Stretches of a trace, their distinct keys, and the misses in them.
 use Rattle.std.proofs.Common.{◌≡◌, ◌⊎◌, ℕ, zero, suc, ◌+◌, ◌<◌, ◌≤◌, Bool, true, false, cond, eqb, List, [], ◌∷◌, ◌++◌, length, take, drop, get_or, ap, ◌∙◌, sym, refl, arith, inl, inr, length-drop}
 use Rattle.std.proofs.lemmas.Bool.Decides.{nat_tests}
-use Rattle.std.proofs.lemmas.Bool.{cases_Bool, cases_lt, eq-eqb}
+use Rattle.std.proofs.lemmas.Bool.{cases_Bool, cases_lt, eq-eqb, cases_eq}
 use Rattle.std.proofs.lemmas.List.{take_more, drop-append-le, length-take-le}
 use Rattle.std.proofs.Math.Seq.{drop-length}
 use Rattle.step_record.specs.Keys.{has_key}
@@ -20,11 +20,7 @@ any x = true
 
 distinct-counted : (xs : List ℕ) → length (distinct_keys xs) ≡ count_keys any xs
 distinct-counted [] = refl
-distinct-counted (a ∷ xs) =
-    elim (cases_Bool (has_key a xs)) [
-      | inl e ↦ let rest = distinct-counted xs in rw e (omega (arith, rest))
-      | inr e ↦ let rest = distinct-counted xs in rw e (omega (arith, rest))
-    ]
+distinct-counted (a ∷ xs) = grind (arith, nat_tests, distinct-counted xs)
 
 -- a list that has all keys of xs is no shorter than its distinct keys
 pub distinct-few : (xs l : List ℕ) → ((x : ℕ) → has_key x xs ≡ true → has_key x l ≡ true) → length (distinct_keys xs) ≤ length l
@@ -37,10 +33,8 @@ distinct-subset xs ys h = omega (arith, distinct-counted xs, distinct-counted ys
 once-counted : (l : List ℕ) → ((x : ℕ) → times x l ≤ 1) → count_keys any l ≡ length l
 once-counted [] d = refl
 once-counted (a ∷ l) d =
-    let self : one_if (eqb a a) ≡ 1 = ap one_if (eq-eqb a a refl) in
-    let none : has_key a l ≡ false = no-times a l (let n = d a in omega (arith, n, self)) in
-    let rest : count_keys any l ≡ length l = once-counted l (λ x. let n = d x in omega (arith, n)) in
-    rw none (omega (arith, rest))
+    let rest = once-counted l (λ x. let n = d x in omega (arith, n)) in
+    grind (arith, nat_tests, no-times a l, rest, d a)
 
 pub once-few : (l xs : List ℕ) → ((x : ℕ) → times x l ≤ 1) → ((x : ℕ) → has_key x l ≡ true → has_key x xs ≡ true) → length l ≤ length (distinct_keys xs)
 once-few l xs d h = omega (arith, once-counted l d, distinct-counted xs, count-subset any l xs h)
@@ -61,9 +55,7 @@ stretch-next t i n h l =
     ap (λ m. drop i (take m t)) more ∙ (ap (drop i) (take_more t n 0 l) ∙ drop-append-le i (take n t) (get_or t n 0 ∷ []) (omega (arith, long, h)))
 
 pub one-of : (x k : ℕ) (xs : List ℕ) → has_key x (xs ++ k ∷ []) ≡ true → (x ≡ k) ⊎ (has_key x xs ≡ true)
-one-of x k xs h =
-    let both : cond (has_key x xs) true (has_key x (k ∷ [])) ≡ true = sym (has-append x xs (k ∷ [])) ∙ h in
-    grind (arith, nat_tests)
+one-of x k xs h = grind (arith, nat_tests, has-append x xs (k ∷ []))
 
 pub has-first : (x : ℕ) (xs ys : List ℕ) → has_key x xs ≡ true → has_key x (xs ++ ys) ≡ true
 has-first x xs ys h = has-append x xs ys ∙ ap (λ b. cond b true (has_key x ys)) h
@@ -76,22 +68,15 @@ pub in-stretch : (t : List ℕ) (i n m : ℕ) → i ≤ n → n < m → m ≤ le
 in-stretch t i n zero h g l = absurd (omega (arith, g))
 in-stretch t i n (suc m) h g l =
     let more : stretch t i (suc m) ≡ stretch t i m ++ get_or t m 0 ∷ [] = stretch-next t i m (omega (arith, h, g)) (omega (arith, l)) in
-    elim (cases_lt n m) [
-      | inl f ↦ ap (has_key (get_or t n 0)) more ∙ has-first (get_or t n 0) (stretch t i m) (get_or t m 0 ∷ []) (in-stretch t i n m h f (omega (arith, l)))
-      | inr f ↦
-          let same : n ≡ m = omega (arith, f, g) in
-          ap (has_key (get_or t n 0)) more ∙ (ap (λ y. has_key (get_or t y 0) (stretch t i m ++ get_or t m 0 ∷ [])) same ∙ has-last (get_or t m 0) (stretch t i m))
-    ]
+    let rest = λ (f : n < m). in-stretch t i n m h f (omega (arith, l)) in
+    let parts = has-append (get_or t n 0) (stretch t i m) (get_or t m 0 ∷ []) in
+    rw more (grind (arith, nat_tests, rest, parts, cases_eq n m))
 
 -- ---- without room
 
 none-distinct : (xs : List ℕ) → length (distinct_keys xs) ≤ 0 → length xs ≤ 0
 none-distinct [] h = omega arith
-none-distinct (a ∷ xs) h =
-    elim (cases_Bool (has_key a xs)) [
-      | inl e ↦ let rest : length xs ≤ 0 = none-distinct xs (rw e at h) in absurd (omega (arith, rest, has-some a xs e))
-      | inr e ↦ absurd (let no : suc (length (distinct_keys xs)) ≤ 0 = rw e at h in omega (arith, no))
-    ]
+none-distinct (a ∷ xs) h = grind (arith, nat_tests, none-distinct xs, has-some a xs)
 
 -- no stretch has no key
 pub empty-conservative : (t : List ℕ) (misses : ℕ → ℕ) → IsConservative 0 t misses
