@@ -1,6 +1,6 @@
 -- A policy that keeps every missed key: its misses are those by its residents, and it fills up before it evicts.
-use Rattle.std.proofs.Common.{◌≡◌, ℕ, zero, suc, ◌+◌, ◌<◌, ◌≤◌, true, false, not, nat_lt, List, [], ◌∷◌, ◌++◌, length, take, get_or, count_by, ap, ◌∙◌, sym, refl, arith, inl, inr}
-use Rattle.std.proofs.lemmas.Bool.{cases_Bool, lt-ltb, cases_eq}
+use Rattle.std.proofs.Common.{◌≡◌, ℕ, zero, suc, ◌+◌, ◌<◌, ◌≤◌, true, false, not, List, [], ◌∷◌, ◌++◌, length, take, get_or, count_by, ap, ◌∙◌, sym, refl, arith}
+use Rattle.std.proofs.lemmas.Bool.{cases_eq}
 use Rattle.std.proofs.lemmas.List.{length-take-le}
 use Rattle.std.proofs.lemmas.Bool.Decides.{nat_tests}
 use Rattle.replacement.proofs.Residents.{has-append}
@@ -15,7 +15,7 @@ use Rattle.policies.proofs.Demand.{outcomes-long}
 use Rattle.policy_laws.proofs.Strategies.{IsOnline, strategy, hits-are, serves, served, state_at, residents_at, next-is, kept-at}
 use Rattle.conservative_laws.specs.Conservative.{FillsFirst}
 use Rattle.conservative_laws.proofs.Misses.{misses-next}
-use Rattle.conservative_laws.proofs.Stretches.{once-few, stretch-next, has-first, has-last}
+use Rattle.conservative_laws.proofs.Stretches.{once-few, stretch-next}
 
 miss-is : (o : Outcome) → is_miss o ≡ not (is_hit o)
 miss-is Hit = refl

@@ -1,9 +1,7 @@
 -- The jobs of Lru, FIFO and CLOCK: their misses are those of the definitions over plain keys.
-use Rattle.std.proofs.Common.{◌≡◌, ℕ, ◌+◌, ◌-◌, ◌*◌, ◌≤◌, Result, map, List, [], ◌∷◌, length, take, count_by, ap, ◌∙◌, sym, refl, subst, arith, inl, inr}
+use Rattle.std.proofs.Common.{◌≡◌, ℕ, ◌+◌, ◌-◌, ◌*◌, ◌≤◌, map, List, [], ◌∷◌, length, take, count_by, ap, ◌∙◌, sym, refl, subst, arith, inl, inr}
 use Rattle.std.proofs.lemmas.Bool.{cases_lt}
 use Rattle.std.proofs.lemmas.List.{take_all, length-take-le}
-use Rattle.step_record.specs.Config.{config_fault}
-use Rattle.step_record.specs.declared.config.ConfigFault.{ConfigFault}
 use Rattle.step_record.specs.declared.job.Job.{Job}
 use Rattle.step_record.specs.declared.job.Policy.TheVariants.{Lru}
 use Rattle.step_record.specs.declared.outcome.Outcome.{Outcome}
@@ -21,7 +19,7 @@ use Rattle.demand_cache.specs.Theorems.{DemandKeeps, RunsByPage}
 use Rattle.queue_cache.specs.declared.design.DemandDesign.{DemandDesign}
 use Rattle.queue_cache.specs.declared.design.DemandDesign.TheVariants as demand
 use Rattle.queue_cache.specs.declared.design.Design.TheVariants as design
-use Rattle.policies.specs.AnyPolicy.{demand_run, demand_outcomes, adaptive_outcomes, outcomes_by, outcomes_on, stats_on}
+use Rattle.policies.specs.AnyPolicy.{demand_run, demand_outcomes, outcomes_by, outcomes_on, stats_on}
 use Rattle.queue_cache.specs.Design.{design_of}
 use Rattle.policies.specs.DemandDesign.{demand_policy}
 use Rattle.policies.specs.Theorems.{AnyCoversTrace}

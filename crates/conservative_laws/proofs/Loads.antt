@@ -1,13 +1,11 @@
 -- How many of the accesses are to some keys, and the keys to which most are.
-use Rattle.std.proofs.Common.{◌≡◌, ℕ, zero, suc, ◌+◌, ◌*◌, ◌≤◌, true, eqb, List, [], ◌∷◌, ◌++◌, length, ap, ◌∙◌, sym, refl, subst, arith, inl, inr}
+use Rattle.std.proofs.Common.{◌≡◌, ℕ, zero, suc, ◌+◌, ◌*◌, ◌≤◌, true, List, [], ◌∷◌, ◌++◌, length, ap, ◌∙◌, sym, refl, subst, arith, inl, inr}
 use Rattle.std.proofs.Math.Nat.{mul-add, add-mul, mul_left_comm, mul-le-mul_left, le_of_mul-le-mul_left}
-use Rattle.std.proofs.lemmas.Bool.{cases_Bool, cases_lt, eqb-true}
+use Rattle.std.proofs.lemmas.Bool.{cases_lt}
 use Rattle.std.proofs.lemmas.Bool.Decides.{nat_tests}
 use Rattle.step_record.specs.Keys.{has_key}
-use Rattle.step_record.specs.Stats.{one_if}
 use Rattle.clairvoyant.proofs.Belady.{later}
 use Rattle.queue_cache.proofs.Recency.{IsDistinct}
-use Rattle.optimality.proofs.Counting.{head-has}
 use Rattle.queue_policies.specs.Residents.{times}
 use Rattle.queue_policies.proofs.Residents.{times-append}
 
