@@ -1,6 +1,7 @@
 -- ARC: what an access makes of the residents, and that it keeps the invariant.
 use Rattle.std.proofs.Common.{◌≡◌, ℕ, ◌+◌, ◌*◌, ◌<◌, ◌≤◌, ◌⊎◌, Bool, true, false, cond, eqb, nat_lt, List, [], ◌∷◌, ◌++◌, length, drop, ap, ◌∙◌, sym, subst, refl, arith, inl, inr, length-append}
-use Rattle.std.proofs.lemmas.Bool.{cases_Bool, cases_lt, le-ltb, lt-ltb, eqb-true}
+use Rattle.std.proofs.lemmas.Bool.{cases_Bool, cases_eq, cases_lt, le-ltb, lt-ltb}
+use Rattle.std.proofs.lemmas.Bool.Decides.{nat_tests}
 use Rattle.step_record.specs.Keys.{has_key, keys_without}
 use Rattle.step_record.specs.Stats.{is_hit, is_eviction, is_rejection, one_if}
 use Rattle.step_record.specs.declared.outcome.Outcome.{Outcome}
@@ -10,7 +11,8 @@ use Rattle.ghost_policies.specs.Arc.{ArcState, arc_residents, arc_total, arc_tar
 use Rattle.queue_policies.proofs.Residents.{times-append, times-none, access-keeps}
 use Rattle.queue_policies.proofs.CountedKeys.{by-oldest}
 use Rattle.ghost_policies.proofs.Weights.{weight, length-weight, times-weight, weight-append, weight-push, weight-first, weight-without, weight-out, weight-renewed, hit-moves, miss-moves, has-append}
-use Rattle.ghost_policies.proofs.ArcPlans.{none-out, new-cases, replace-cases}
+use Rattle.queue_policies.proofs.Ghost.{without-none}
+use Rattle.ghost_policies.proofs.ArcPlans.{new-cases, replace-cases}
 
 -- what the four queues weigh
 abbrev weighs : (ℕ → ℕ) → ArcState → ℕ
@@ -162,10 +164,7 @@ module _ (c k : ℕ) (h : 1 ≤ c) (s : ArcState) (i : IsArc c s) where
     module _ (no_b1 : has_key k s.b1 ≡ false) (no_b2 : has_key k s.b2 ≡ false) where
       once : (x : ℕ) → times x s.t1 + times x s.t2 + times x s.b1 + times x s.b2 + one_if (eqb x k) ≤ 1
       once x =
-          elim (cases_Bool (eqb x k)) as (λ _. times x s.t1 + times x s.t2 + times x s.b1 + times x s.b2 + one_if (eqb x k) ≤ 1) [
-            | inl e ↦ let same : x ≡ k = eqb-true x k e in rw (e, same) (omega (arith, times-none k s.t1 no_t1, times-none k s.t2 no_t2, times-none k s.b1 no_b1, times-none k s.b2 no_b2))
-            | inr e ↦ rw e (omega (arith, i.distinct x))
-          ]
+          grind (arith, nat_tests, cases_eq x k, i.distinct x, times-none k s.t1 no_t1, times-none k s.t2 no_t2, times-none k s.b1 no_b1, times-none k s.b2 no_b2)
 
       abbrev IsNew : ArcPlan → Type 0
       IsNew m = IsNext c k s (arc_outcome m.leaver, arc_after_miss c k m s)
@@ -173,17 +172,14 @@ module _ (c k : ℕ) (h : 1 ≤ c) (s : ArcState) (i : IsArc c s) where
       new-key : (f : ArcForgets) (v : ArcLeaver) → HasRoom c k NoGhost s (arc_outcome v) (arc_after_eviction v (arc_after_forgetting f s))
           → IsNew record { recalls = NoGhost; forgets = f; leaver = v }
       new-key f v r =
-          let same : arc_after_recall s.p k s ≡ s = rw (none-out k s.b1 no_b1, none-out k s.b2 no_b2) refl in
+          let same : arc_after_recall s.p k s ≡ s = rw (without-none k s.b1 no_b1, without-none k s.b2 no_b2) refl in
           subst (λ d. IsNext c k s (arc_outcome v, arc_after_join NoGhost k (arc_after_eviction v (arc_after_forgetting f d)))) (sym same)
           (joined NoGhost (arc_outcome v) (arc_after_eviction v (arc_after_forgetting f s)) once r)
 
       -- where as many keys are known as fit, the cache is full
       is-full : c ≤ arc_total s → length s.t1 + length s.t2 ≡ c
       is-full many =
-          elim (cases_lt 0 (length s.b1 + length s.b2)) [
-            | inl some ↦ i.full (omega (arith, some))
-            | inr none ↦ let fits = i.fits in omega (arith, none, many, fits)
-          ]
+          let fits = i.fits in let full = i.full in grind (arith, nat_tests, cases_lt 0 (length s.b1 + length s.b2))
 
       new : IsNew (plan_of_new_key c s)
       new =

@@ -1,8 +1,6 @@
 -- ARC: which key leaves, and the ways of a key that no ghost remembers.
-use Rattle.std.proofs.Common.{ap, ◌≡◌, ℕ, ◌+◌, ◌*◌, ◌<◌, ◌≤◌, Bool, true, false, eqb, nat_lt, ◌⊎◌, ◌&&◌, List, [], ◌∷◌, length, refl, arith, inl, inr}
+use Rattle.std.proofs.Common.{◌≡◌, ℕ, ◌+◌, ◌*◌, ◌<◌, ◌≤◌, Bool, true, false, eqb, nat_lt, ◌⊎◌, ◌&&◌, List, ◌∷◌, length, arith, inl, inr}
 use Rattle.std.proofs.lemmas.Bool.{cases_Bool, ltb-true, ltb-false, eqb-true, eqb-false}
-use Rattle.step_record.specs.Keys.{has_key, keys_without}
-use Rattle.queue_policies.proofs.Residents.{apart}
 use Rattle.queue_policies.proofs.CountedKeys.{by-oldest}
 use Rattle.ghost_policies.specs.Arc.{ArcState, arc_total, oldest_forgotten, OfB1, OfB2, oldest_leaver, ToB1, ToB2, Dropped, arc_replace, plan_of_new_key, ArcLeaver, ArcPlan, NoLeaver, NoGhost, NoneForgotten}
 
@@ -34,11 +32,6 @@ new-cases c s P drops_b1 drops_t1 joins drops_b2 replaces =
                 ])
           ])
     ]
-
--- a key that is not there is taken out for nothing
-pub none-out : (k : ℕ) (l : List ℕ) → has_key k l ≡ false → keys_without k l ≡ l
-none-out k [] h = refl
-none-out k (a ∷ l) h = let w = apart k a l h in rw w.0 (ap (λ t. a ∷ t) (none-out k l w.1))
 
 -- In a full cache the oldest of t1 leaves, or that of t2, which has one where t1 has none, or not over p.
 pub replace-cases : (in_b2 : Bool) (c p : ℕ) (s : ArcState) (P : ArcLeaver → Type 0) → 1 ≤ c → length s.t1 + length s.t2 ≡ c → p ≤ c → (in_b2 ≡ true) ⊎ (length s.t1 < c)

@@ -9,7 +9,8 @@ use Rattle.queue_table.specs.Entries.{entry, oldest_of}
 use Rattle.queue_table.specs.Queues.{QUEUES, Queues, after_push, after_send}
 use Rattle.queue_table.proofs.QueueLists.{IsAbsent, is_absent}
 use Rattle.ghost_policies.specs.Arc.{ArcState, arc_residents, arc_total, oldest_forgotten, OfB1, OfB2, oldest_leaver, ToB1, ToB2, Dropped, arc_replace, plan_of_new_key, arc_after_recall, arc_after_forgetting, arc_after_eviction, arc_after_join, arc_after_miss, arc_outcome, arc_act, IsArc, ArcPlan, ArcLeaver, ArcForgets, NoGhost, InB1, NoneForgotten, NoLeaver}
-use Rattle.ghost_policies.proofs.ArcPlans.{none-out, new-cases}
+use Rattle.queue_policies.proofs.Ghost.{without-none}
+use Rattle.ghost_policies.proofs.ArcPlans.{new-cases}
 use Rattle.ghost_policies.proofs.Weights.{has-append}
 use Rattle.queue_moves.specs.Moves.{item_of, standing, Leaving, leaving, after_leaving, IsLowLeaving, evicted, outcome_after, goes, Plan, own_plan}
 use Rattle.queue_moves.specs.Tabled.{IsTabled, keys_of, StandsAs}
@@ -141,12 +142,12 @@ module _ (k : ℕ) (s : Queues) (t : IsTabled s) where
       recalled-state true p =
           let at = λ (j : ℕ). ap (keys_without k) (left-keys s T1 t (Some (B1, 0)) j) in
           sent-state p _ (tabled-leaving s t (leaves true) (leaves-low true))
-          ∙ same-state (at T1 ∙ without-drop k (keys T1) no_t1) (ap (λ l. l ++ k ∷ []) (at T2 ∙ none-out k (keys T2) no_t2)) (at B1 ∙ with-oldest k (keys B1) (keys T1) no_t1) (at B2) refl
+          ∙ same-state (at T1 ∙ without-drop k (keys T1) no_t1) (ap (λ l. l ++ k ∷ []) (at T2 ∙ without-none k (keys T2) no_t2)) (at B1 ∙ with-oldest k (keys B1) (keys T1) no_t1) (at B2) refl
           ∙ sym (ap (arc_after_join InB1 k) (to_b1-state (keys T1) (arc_after_recall p k old) refl))
       recalled-state false p =
           let at = λ (j : ℕ). ap (keys_without k) (left-keys s T2 t (Some (B2, 0)) j) in
           sent-state p _ (tabled-leaving s t (leaves false) (leaves-low false))
-          ∙ same-state (at T1 ∙ none-out k (keys T1) no_t1) (ap (λ l. l ++ k ∷ []) (at T2 ∙ without-drop k (keys T2) no_t2)) (at B1) (at B2 ∙ with-oldest k (keys B2) (keys T2) no_t2) refl
+          ∙ same-state (at T1 ∙ without-none k (keys T1) no_t1) (ap (λ l. l ++ k ∷ []) (at T2 ∙ without-drop k (keys T2) no_t2)) (at B1) (at B2 ∙ with-oldest k (keys B2) (keys T2) no_t2) refl
           ∙ sym (ap (arc_after_join InB1 k) (to_b2-state (keys T2) (arc_after_recall p k old) refl))
 
       recalled : (in_b2 : Bool) (p : ℕ) → (let v : ArcLeaver = arc_replace in_b2 p old in

@@ -1,7 +1,8 @@
 -- Entries as keys with counts.
-use Rattle.std.proofs.Common.{◌≡◌, ℕ, ◌+◌, ◌≤◌, true, false, cond, eqb, nat_lt, List, [], ◌∷◌, ◌++◌, length, ap, ◌∙◌, sym, refl, arith, inl, inr}
-use Rattle.std.proofs.lemmas.Bool.{cases_Bool, eq-eqb, ltb-false}
+use Rattle.std.proofs.Common.{◌≡◌, ℕ, ◌+◌, ◌≤◌, true, false, cond, eqb, nat_lt, List, [], ◌∷◌, ◌++◌, length, ap, ◌∙◌, sym, refl, arith}
+use Rattle.std.proofs.lemmas.Bool.{eq-eqb, ltb-false}
 use Rattle.std.proofs.lemmas.List.{length-map, map-append}
+use Rattle.std.proofs.lemmas.Bool.Decides.{nat_tests}
 use Rattle.step_record.specs.Keys.{has_key}
 use Rattle.queue_table.specs.declared.records.Entry.{Entry}
 use Rattle.queue_table.specs.Entries.{is_same_item, entry, oldest_of, occurrences, entries_without, entries_counted}
@@ -51,14 +52,7 @@ pub counted-with : (k n : ℕ) (l : List Entry) → nodes_of l ≡ 0 → occurre
 counted-with k n [] h few = refl
 counted-with k n (e ∷ l) h few =
     let same : is_same_item (item_of k) e.item ≡ eqb k e.item.key = same-key k e.item (omega (arith, h)) in
-    elim (cases_Bool (eqb k e.item.key)) [
-      | inl g ↦
-          let one : 1 + occurrences (item_of k) l ≤ 1 = rw (same, g) at few in
-          rw (same, g) (ap (λ t. counted_key (entry e.item n) ∷ counted_keys t) (counted-none (item_of k) n l (omega (arith, one))))
-      | inr g ↦
-          let one : 0 + occurrences (item_of k) l ≤ 1 = rw (same, g) at few in
-          rw (same, g) (ap (λ t. counted_key e ∷ t) (counted-with k n l (omega (arith, h)) (omega (arith, one))))
-    ]
+    grind (arith, nat_tests, counted-none (item_of k) n l, counted-with k n l)
 
 pub without-counted : (k : ℕ) (l : List Entry) → nodes_of l ≡ 0 → has_key k (entry_keys l) ≡ false → counted_keys (entries_without (item_of k) l) ≡ counted_keys l
 without-counted k l z h = let none = ltb-false 0 _ (sym (has-occurs k l z) ∙ h) in ap counted_keys (without-none (item_of k) l (omega (arith, none)))

@@ -8,7 +8,7 @@ use Rattle.queue_table.specs.Entries.{entry, oldest_of, occurrences}
 use Rattle.queue_table.specs.Queues.{Queues, after_send}
 use Rattle.queue_table.proofs.QueueLists.{IsAbsent}
 use Rattle.queue_policies.specs.Fifo.{fifo_eviction}
-use Rattle.ghost_policies.proofs.ArcPlans.{none-out}
+use Rattle.queue_policies.proofs.Ghost.{without-none}
 use Rattle.queue_moves.specs.Moves.{item_of, standing, evicted, leaving, after_leaving, no_run, stays, goes}
 use Rattle.queue_moves.specs.Tabled.{IsTabled, keys_of}
 use Rattle.queue_moves.proofs.Tabled.{has-occurs, tabled-leaving}
@@ -32,7 +32,7 @@ module _ (c k x : ℕ) (s : Queues) (t : IsTabled s) (first : IsWithin 1 s) wher
   gone none = has-occurs k (s 0) (t.keys 0) ∙ le-ltb 0 (occurrences (item_of k) (s 0)) (let z = none 0 (omega arith) in omega (arith, z))
 
   joined : IsAbsent (item_of k) s → fifo_of (after_send (entry (item_of k) 0) 0 s) ≡ fifo_of s ++ k ∷ []
-  joined none = keys-sent k 0 0 s t.keys 0 ∙ ap (λ l. l ++ k ∷ []) (none-out k (fifo_of s) (gone none))
+  joined none = keys-sent k 0 0 s t.keys 0 ∙ ap (λ l. l ++ k ∷ []) (without-none k (fifo_of s) (gone none))
 
   evict : IsAbsent (item_of k) s → IsPlannedWithin 1 (leaver_plan no_run no_run (leaving 0 None) (goes 0 0) x) k s (λ y. fifo_of) (fifo_eviction k (fifo_of s)) false
   evict none =

@@ -1,6 +1,7 @@
 -- A key leaves for a ghost, which the accessed key may leave.
-use Rattle.std.proofs.Common.{◌≡◌, ℕ, ◌<◌, ◌≤◌, Bool, true, false, cond, eqb, nat_lt, ◌||◌, Some, None, List, [], ◌∷◌, ◌++◌, length, drop, ap, ◌∙◌, sym, refl, arith, inl, inr}
-use Rattle.std.proofs.lemmas.Bool.{cond_both, lt-ltb, cases_Bool}
+use Rattle.std.proofs.Common.{◌≡◌, ℕ, ◌<◌, ◌≤◌, Bool, true, false, cond, eqb, nat_lt, ◌||◌, Some, None, List, [], ◌∷◌, ◌++◌, length, drop, ap, ◌∙◌, sym, refl, arith}
+use Rattle.std.proofs.lemmas.Bool.{cond_both, lt-ltb}
+use Rattle.std.proofs.lemmas.Bool.Decides.{nat_tests}
 use Rattle.step_record.specs.Keys.{has_key, keys_without}
 use Rattle.queue_table.specs.declared.records.Entry.{Entry}
 use Rattle.queue_table.specs.Entries.{entry}
@@ -45,11 +46,7 @@ module _ (s : Queues) (t : IsTabled s) (from ghost size : ℕ) (r : Bool) (e : E
 
 without-shorter : (k : ℕ) (l : List ℕ) → has_key k l ≡ true → length (keys_without k l) < length l
 without-shorter k [] h = absurd (cc (h))
-without-shorter k (a ∷ l) h =
-    elim (cases_Bool (eqb k a)) [
-      | inl e ↦ rw e (omega (arith, without-length k l))
-      | inr e ↦ let rest : length (keys_without k l) < length l = without-shorter k l (rw e at h) in rw e (omega (arith, rest))
-    ]
+without-shorter k (a ∷ l) h = grind (arith, nat_tests, without-shorter k l, without-length k l)
 
 drop-oldest : (l : List ℕ) → drop 1 l ≡ without_oldest l
 drop-oldest [] = refl

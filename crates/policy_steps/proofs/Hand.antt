@@ -1,6 +1,7 @@
 -- The hand of SIEVE by runs from the queue ahead of it to the other one.
 use Rattle.std.proofs.Common.{◌≡◌, ℕ, zero, suc, ◌+◌, ◌-◌, ◌≤◌, ◌⊎◌, true, false, eqb, nat_lt, List, [], ◌∷◌, ◌++◌, length, ap, ◌∙◌, sym, subst, refl, arith, inl, inr, length-append}
-use Rattle.std.proofs.lemmas.Bool.{cases_Bool, cases_lt, lt-ltb, le-ltb, eq-eqb, ne_eqb}
+use Rattle.std.proofs.lemmas.Bool.{cases_lt, lt-ltb, le-ltb, eq-eqb, ne_eqb}
+use Rattle.std.proofs.lemmas.Bool.Decides.{nat_tests}
 use Rattle.queue_table.specs.declared.records.Entry.{Entry}
 use Rattle.queue_table.specs.Entries.{entry, oldest_of}
 use Rattle.queue_table.specs.Queues.{Queues, with_queue}
@@ -93,11 +94,7 @@ module _ (x : ℕ) (low : x ≤ 1) where
 
   pub passes : (m : ℕ) (s : Queues) → IsTabled s → stopped (at_hand s) ≡ stopped (at_hand (passed m s))
   passes zero s t = refl
-  passes (suc m) s t =
-      elim (cases_Bool (nat_lt (count_or 0 (oldest_of (s x))) 1)) [
-        | inl g ↦ rw g refl
-        | inr g ↦ rw g (pass (s x) s t refl g ∙ passes m (turned s) (tabled s t))
-      ]
+  passes (suc m) s t = grind (arith, nat_tests, pass (s x) s t refl, passes m (turned s) (tabled s t))
 
   -- a run ends at a clear bit, where there is one
   pub ends : (m : ℕ) (l : List Entry) (s : Queues) → IsTabled s → s x ≡ l → Waits m l → IsClear (passed m s x)

@@ -1,13 +1,13 @@
 -- What the parts of an access make of the keys of the queues.
-use Rattle.std.proofs.Common.{map, ◌≡◌, ℕ, ◌≤◌, Bool, true, false, cond, eqb, Option, Some, None, List, [], ◌∷◌, ◌++◌, length, take, drop, ap, ◌∙◌, sym, refl, arith, inl, inr}
-use Rattle.std.proofs.lemmas.Bool.{cases_Bool}
+use Rattle.std.proofs.Common.{map, ◌≡◌, ℕ, ◌≤◌, Bool, true, false, cond, eqb, Option, Some, None, List, [], ◌∷◌, ◌++◌, length, take, drop, ap, ◌∙◌, sym, refl, arith}
 use Rattle.std.proofs.lemmas.List.{length-map}
+use Rattle.std.proofs.lemmas.Bool.Decides.{nat_tests}
 use Rattle.step_record.specs.Keys.{has_key, keys_without}
 use Rattle.queue_table.specs.declared.records.Entry.{Entry}
 use Rattle.queue_table.specs.Entries.{entry, entries_without}
 use Rattle.queue_table.specs.Queues.{Queues, with_queue, after_send}
 use Rattle.queue_policies.proofs.Residents.{apart}
-use Rattle.ghost_policies.proofs.ArcPlans.{none-out}
+use Rattle.queue_policies.proofs.Ghost.{without-none}
 use Rattle.queue_moves.specs.Moves.{item_of, leaving, IsLowLeaving, after_leaving, Own, IsLowOwn, own_plan, IsLowPlan}
 use Rattle.queue_moves.specs.Tabled.{HasKeys, IsTabled, keys_of, nodes_of}
 use Rattle.queue_moves.proofs.Tabled.{keys-taken, keys-append, tabled-leaving}
@@ -25,10 +25,9 @@ without-keys k l h = sym (keys-taken k l h)
 pub keys-sent : (k m q : ℕ) (s : Queues) → HasKeys s → (j : ℕ)
     → keys_of (after_send (entry (item_of k) m) q s j) ≡ cond (eqb j q) (keys_without k (keys_of (s q)) ++ k ∷ []) (keys_without k (keys_of (s j)))
 keys-sent k m q s z j =
-    elim (cases_Bool (eqb j q)) as (λ _. keys_of (cond (eqb j q) (entries_without (item_of k) (s q) ++ entry (item_of k) m ∷ []) (entries_without (item_of k) (s j))) ≡ cond (eqb j q) (keys_without k (keys_of (s q)) ++ k ∷ []) (keys_without k (keys_of (s j)))) [
-      | inl f ↦ rw f (keys-append (entries_without (item_of k) (s q)) (entry (item_of k) m ∷ []) ∙ ap (λ t. t ++ k ∷ []) (without-keys k (s q) (z q)))
-      | inr f ↦ rw f (without-keys k (s j) (z j))
-    ]
+    let joined = keys-append (entries_without (item_of k) (s q)) (entry (item_of k) m ∷ []) in
+    let rest = without-keys k (s q) (z q) in
+    grind (arith, nat_tests, without-keys k (s j) (z j))
 
 -- ---- a queue's oldest key leaves it
 
@@ -39,7 +38,7 @@ keys_left from (Some to) f j =
     cond (eqb j to.0) (cond (eqb to.0 from) (drop 1 (f from)) (f to.0) ++ take 1 (f from)) (cond (eqb j from) (drop 1 (f from)) (f j))
 
 keys-with : (q : ℕ) (l : List Entry) (s : Queues) (j : ℕ) → keys_of (with_queue q l s j) ≡ cond (eqb j q) (keys_of l) (keys_of (s j))
-keys-with q l s j = elim (cases_Bool (eqb j q)) as (λ _. keys_of (cond (eqb j q) l (s j)) ≡ cond (eqb j q) (keys_of l) (keys_of (s j))) [ inl f ↦ rw f refl | inr f ↦ rw f refl ]
+keys-with q l s j = grind (arith, nat_tests)
 
 keys-drop : (l : List Entry) → keys_of (drop 1 l) ≡ drop 1 (keys_of l)
 keys-drop [] = refl
@@ -67,11 +66,11 @@ module _ (s : Queues) (from : ℕ) (t : IsTabled s) where
 
 -- a key that is not there is taken out for nothing, also once the oldest key has left
 pub without-rest : (k v : ℕ) (l : List ℕ) → has_key k (v ∷ l) ≡ false → keys_without k l ≡ l
-without-rest k v l h = none-out k l (apart k v l h).1
+without-rest k v l h = without-none k l (apart k v l h).1
 
 pub without-drop : (k : ℕ) (l : List ℕ) → has_key k l ≡ false → keys_without k (drop 1 l) ≡ drop 1 l
 without-drop k [] h = refl
-without-drop k (v ∷ l) h = without-rest k v l h
+without-drop k (v ∷ l) h = grind (arith, nat_tests, without-none k l)
 
 pub without-cond : (k : ℕ) (g : Bool) (a b : List ℕ) {a2 b2 : List ℕ} → keys_without k a ≡ a2 → keys_without k b ≡ b2 → keys_without k (cond g a b) ≡ cond g a2 b2
 without-cond k true a b ea eb = ea
@@ -86,11 +85,7 @@ apart-first k v l h = (apart k v l h).0
 
 pub without-push : (k v : ℕ) (l : List ℕ) → eqb k v ≡ false → keys_without k (l ++ v ∷ []) ≡ keys_without k l ++ v ∷ []
 without-push k v [] h = rw h refl
-without-push k v (a ∷ l) h =
-    elim (cases_Bool (eqb k a)) as (λ _. cond (eqb k a) (keys_without k (l ++ v ∷ [])) (a ∷ keys_without k (l ++ v ∷ [])) ≡ cond (eqb k a) (keys_without k l) (a ∷ keys_without k l) ++ v ∷ []) [
-      | inl f ↦ rw f (without-push k v l h)
-      | inr f ↦ rw f (ap (λ t. a ∷ t) (without-push k v l h))
-    ]
+without-push k v (a ∷ l) h = grind (arith, nat_tests, without-push k v l)
 
 -- ---- which queues a plan names
 

@@ -1,6 +1,7 @@
 -- What the parts of a plan do to the queues.
-use Rattle.std.proofs.Common.{◌≡◌, sym, ℕ, zero, suc, ◌-◌, ◌<◌, ◌≤◌, Option, Some, None, ap, ◌∙◌, arith, inl, inr}
+use Rattle.std.proofs.Common.{◌≡◌, sym, ℕ, zero, suc, ◌-◌, ◌<◌, ◌≤◌, Option, Some, None, ap, ◌∙◌, arith}
 use Rattle.std.proofs.lemmas.Bool.{ltb-true, cases_lt}
+use Rattle.std.proofs.lemmas.Bool.Decides.{nat_tests}
 use Rattle.step_record.specs.declared.item.Item.{Item}
 use Rattle.queue_table.specs.declared.records.Entry.{Entry}
 use Rattle.queue_table.specs.Entries.{entry, oldest_of, occurrences, entries_without, entries_counted}
@@ -50,7 +51,5 @@ held k s t at h = ltb-true 0 _ (sym (has-occurs k (s at.0) (t.keys at.0)) ∙ (s
 -- it is one of the first n queues
 pub held-first : (n k : ℕ) (s : Queues) → IsTabled s → (at : ℕ × ℕ) → IsWithin n s → standing (item_of k) s ≡ Some at → at.0 < n
 held-first n k s t at first h =
-    elim (cases_lt at.0 n) [
-      | inl w ↦ w
-      | inr w ↦ absurd (let some = held k s t at h in let none = ap (occurrences (item_of k)) (first at.0 w) in omega (arith, some, none))
-    ]
+    let some = held k s t at h in
+    grind (arith, nat_tests, cases_lt at.0 n, first at.0)

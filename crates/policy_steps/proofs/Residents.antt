@@ -1,6 +1,7 @@
 -- The plan of a policy that keeps each missed key is its definition.
-use Rattle.std.proofs.Common.{◌≡◌, ℕ, zero, suc, ◌<◌, ◌≤◌, Bool, true, false, if◌then◌else◌, nat_lt, Option, Some, None, ap, ◌∙◌, refl, arith, inl, inr}
+use Rattle.std.proofs.Common.{◌≡◌, ℕ, zero, suc, ◌<◌, ◌≤◌, Bool, true, false, if◌then◌else◌, nat_lt, Option, Some, None, ◌∙◌, refl, arith, inl, inr}
 use Rattle.std.proofs.lemmas.Bool.{cases_Bool, cases_eq, lt-ltb, le-ltb}
+use Rattle.std.proofs.lemmas.Bool.Decides.{nat_tests}
 use Rattle.step_record.specs.declared.item.Item.{Item}
 use Rattle.step_record.specs.declared.outcome.Outcome.{Outcome}
 use Rattle.step_record.specs.declared.outcome.Outcome.TheVariants.{Hit, Kept}
@@ -14,15 +15,11 @@ use Rattle.policy_steps.proofs.Parts.{first-count, first-send, nowhere, held, he
 
 some-below : (n q : ℕ) (i : Item) (s : Queues) → q < n → 1 ≤ occurrences i (s q) → 1 ≤ times_below n i s
 some-below zero q i s w h = absurd (omega (arith, w))
-some-below (suc n) q i s w h =
-    elim (cases_eq q n) [
-      | inl e ↦ let its = ap (λ x. occurrences i (s x)) e in omega (arith, its, h)
-      | inr d ↦ let rest = some-below n q i s (omega (arith, w, d)) h in omega (arith, rest)
-    ]
+some-below (suc n) q i s w h = grind (arith, nat_tests, cases_eq q n, some-below n q i s)
 
 none-below : (n : ℕ) (i : Item) (s : Queues) → n ≤ QUEUES → IsAbsent i s → times_below n i s ≡ 0
 none-below zero i s w h = refl
-none-below (suc n) i s w h = let its = h n (omega (arith, w)) in let rest = none-below n i s (omega (arith, w)) h in omega (arith, its, rest)
+none-below (suc n) i s w h = grind (arith, nat_tests, h n, none-below n i s)
 
 -- k joins the queue q, of n, with the count m; has: it is resident; room: there is room, as the definition says and the plan
 module _ (S : Type 0) (n k x q m : ℕ) (s : Queues) (view : ℕ → Queues → S) (has room planned_room : Bool) (hit kept : S) (leaves : Outcome × S) (full : Plan) where

@@ -3,6 +3,7 @@
 -- before the first turn.
 use Rattle.std.proofs.Common.{◌≡◌, ℕ, zero, suc, ◌+◌, ◌-◌, ◌*◌, ◌≤◌, true, false, if◌then◌else◌, eqb, ◌==◌, ◌||◌, nat_lt, Bool, Some, None, List, [], ◌∷◌, ◌++◌, length, drop, ap, sym, subst, ◌∙◌, refl, arith, inl, inr, length-append}
 use Rattle.std.proofs.lemmas.Bool.{cases_Bool, ne_eqb, ltb-false, le-ltb, or_parts}
+use Rattle.std.proofs.lemmas.Bool.Decides.{nat_tests}
 use Rattle.step_record.specs.Keys.{has_key, keys_without}
 use Rattle.step_record.specs.declared.outcome.Outcome.{Outcome}
 use Rattle.queue_table.specs.declared.records.Entry.{Entry}
@@ -51,10 +52,8 @@ gives-still size (e ∷ small) main ghost = ap (nat_lt size) (turned-length main
 turns : (n size : ℕ) (small main : List CountedKey) (ghost : List ℕ) → main_gives size (made small main ghost) ≡ true → s3_fifo_eviction_within n size (made small main ghost) ≡ main_eviction small (after_turns (turn_count_within n main) main) ghost
 turns zero size small main ghost g = rw g refl
 turns (suc n) size small main ghost g =
-    elim (cases_Bool (eqb (oldest_count main) 0)) [
-      | inl e ↦ rw (g, e) refl
-      | inr e ↦ rw (g, e) (turns n size small (after_turn main) ghost (gives-still size small main ghost ∙ g))
-    ]
+    let still = gives-still size small main ghost in
+    grind (arith, nat_tests, turns n size small (after_turn main) ghost)
 
 -- counts are at most 3
 total-few : (l : List CountedKey) → AreCounted 3 l → total_count l ≤ 3 * length l

@@ -1,6 +1,7 @@
 -- The turns of a queue, by its keys and counts.
-use Rattle.std.proofs.Common.{◌≡◌, ℕ, zero, suc, ◌-◌, ◌<◌, ◌≤◌, eqb, nat_lt, List, [], ◌∷◌, ◌++◌, ap, ◌∙◌, sym, refl, arith, inl, inr}
-use Rattle.std.proofs.lemmas.Bool.{cases_Bool, cases_lt, eq-eqb, ne_eqb, le-ltb, lt-ltb}
+use Rattle.std.proofs.Common.{◌≡◌, ℕ, zero, suc, ◌-◌, ◌<◌, ◌≤◌, eqb, nat_lt, List, [], ◌∷◌, ◌++◌, ap, ◌∙◌, refl, arith}
+use Rattle.std.proofs.lemmas.Bool.{eq-eqb}
+use Rattle.std.proofs.lemmas.Bool.Decides.{nat_tests}
 use Rattle.queue_table.specs.declared.records.Entry.{Entry}
 use Rattle.queue_table.specs.Entries.{entry, oldest_of}
 use Rattle.queue_table.specs.Queues.{QUEUES, Queues, with_queue}
@@ -15,10 +16,7 @@ use Rattle.policy_steps.proofs.Counted.{counted-append, oldest-counted}
 use Rattle.queue_moves.proofs.Tabled.{tabled-turn, turn-is, turn-none, turns-within}
 
 no-count : (l : List Entry) → nat_lt (count_or 0 (oldest_of l)) 1 ≡ eqb (oldest_count (counted_keys l)) 0
-no-count l = rw (oldest-counted l) (elim (cases_lt (count_or 0 (oldest_of l)) 1) [
-  | inl h ↦ lt-ltb _ 1 h ∙ sym (eq-eqb _ 0 (omega (arith, h)))
-  | inr h ↦ le-ltb _ 1 h ∙ sym (ne_eqb _ 0 (λ z. omega (arith, h, z)))
-])
+no-count l = grind (arith, nat_tests, oldest-counted l)
 
 turned : (q : ℕ) (s : Queues) → IsTabled s → (l : List Entry) → s q ≡ l → counted_keys (after_turn q q 1 s q) ≡ page.after_turn (counted_keys l)
 turned q s t [] h = ap (λ (u : Queues). counted_keys (u q)) (turn-none s q q 1 h) ∙ ap counted_keys h
@@ -35,16 +33,11 @@ turns-are q zero zero s w t f g = refl
 turns-are q zero (suc m) s w t f g = rw (eq-eqb (oldest_count (counted_keys (s q))) 0 (omega (arith, oldest-few (counted_keys (s q))))) refl
 turns-are q (suc n) zero s w t f g = rw (no-count (s q) ∙ eq-eqb (oldest_count (counted_keys (s q))) 0 (omega (arith, oldest-few (counted_keys (s q))))) refl
 turns-are q (suc n) (suc m) s w t f g =
-    elim (cases_Bool (eqb (oldest_count (counted_keys (s q))) 0)) [
-      | inl h ↦ let clear = no-count (s q) ∙ h in rw (clear, h) refl
-      | inr h ↦
-          let set = no-count (s q) ∙ h in
-          let less = turned-total (counted_keys (s q)) h in
-          let view = turned q s t (s q) refl in
-          let total = ap total_count view in
-          rw (set, h) (turns-are q n m (after_turn q q 1 s) w (tabled-turn s t q q 1 w) (omega (arith, less, total, f)) (omega (arith, less, total, g))
-          ∙ ap (λ x. page.after_turns (page.turn_count_within m x) x) view)
-    ]
+    let clear = no-count (s q) in
+    let less = turned-total (counted_keys (s q)) in
+    let view = turned q s t (s q) refl in
+    let next = turns-are q n m (after_turn q q 1 s) w (tabled-turn s t q q 1 w) in
+    grind (arith, nat_tests)
 
 -- no other queue changes
 pub turns-keep : (q n less j : ℕ) (s : Queues) → q < QUEUES → IsTabled s → (j ≡ q → ⊥) → after_turns n q q less s j ≡ s j

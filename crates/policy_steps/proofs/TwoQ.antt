@@ -1,13 +1,14 @@
 -- 2Q's plan is its definition.
 use Rattle.std.proofs.Common.{◌≡◌, ℕ, ◌+◌, ◌<◌, ◌≤◌, Bool, true, false, eqb, nat_lt, ◌||◌, ◌==◌, Option, Some, None, List, [], ◌∷◌, ◌++◌, length, drop, ap, ◌∙◌, sym, subst, refl, arith, inl, inr, length-append}
-use Rattle.std.proofs.lemmas.Bool.{cases_Bool, cases_eq, eq-eqb, ne_eqb, ltb-true, ltb-false, eqb-true, or_cases, eqb-false, or_parts}
+use Rattle.std.proofs.lemmas.Bool.{cases_Bool, cases_eq, eq-eqb, ne_eqb, ltb-false, eqb-false, or_parts}
+use Rattle.std.proofs.lemmas.Bool.Decides.{nat_tests}
 use Rattle.step_record.specs.Keys.{has_key, keys_without}
 use Rattle.queue_table.specs.declared.records.Entry.{Entry}
 use Rattle.queue_table.specs.Entries.{entry, oldest_of}
 use Rattle.queue_table.specs.Queues.{with_queue, QUEUES, Queues, after_send}
 use Rattle.ghost_policies.specs.TwoQ.{TwoQLeaver, NoLeaver, FromA1in, FromAm, TwoQState, two_q_residents, leaver_of_a1in, leaver_of_am, two_q_after_recall, two_q_after_eviction, two_q_after_join, two_q_outcome, two_q_act, IsTwoQ}
 use Rattle.ghost_policies.specs.declared.two_q.TwoQSizes.{TwoQSizes}
-use Rattle.ghost_policies.proofs.ArcPlans.{none-out}
+use Rattle.queue_policies.proofs.Ghost.{without-none}
 use Rattle.ghost_policies.proofs.Weights.{has-append}
 use Rattle.queue_moves.specs.Moves.{item_of, standing, leaving, evicted, outcome_after, stays, goes, own_plan}
 use Rattle.queue_moves.specs.Tabled.{HasKeys, IsTabled, keys_of, StandsAs}
@@ -67,7 +68,11 @@ module _ (z : TwoQSizes) (c k x : ℕ) (r : Bool) (s : Queues) (some : 1 ≤ c) 
 
   none-leaves : IsMiss no_leavers NoLeaver
   none-leaves = brought no_leavers NoLeaver (tt, tt) refl
-      record { a1in = none-out k (keys_of (s A1IN)) no_a1in; a1out = refl; am = none-out k (keys_of (s AM)) no_am }
+      record {
+        a1in = without-none k (keys_of (s A1IN)) no_a1in;
+        a1out = refl;
+        am = without-none k (keys_of (s AM)) no_am;
+      }
 
   -- the keys of a queue once its oldest has left
   rest : (q : ℕ) (e : Entry) (l : List Entry) → s q ≡ e ∷ l → has_key k (keys_of (s q)) ≡ false → keys_without k (keys_of l) ≡ drop 1 (keys_of (s q))
@@ -76,7 +81,7 @@ module _ (z : TwoQSizes) (c k x : ℕ) (r : Bool) (s : Queues) (some : 1 ≤ c) 
   am-leaves : (e : Entry) (l : List Entry) → s AM ≡ e ∷ l → IsMiss (one_leaver (leaving AM None)) (leaver_of_am (keys_of (s AM)))
   am-leaves e l h =
       let v : TwoQLeaver = FromAm e.item.key in
-      let shows : Shows k (with_queue AM l s) (after v) = record { a1in = none-out k (keys_of (s A1IN)) no_a1in; a1out = refl; am = rest AM e l h no_am } in
+      let shows : Shows k (with_queue AM l s) (after v) = record { a1in = without-none k (keys_of (s A1IN)) no_a1in; a1out = refl; am = rest AM e l h no_am } in
       subst (IsMiss (one_leaver (leaving AM None))) (sym (ap (λ x. leaver_of_am (keys_of x)) h))
       (brought (one_leaver (leaving AM None)) v ((omega arith, tt), tt) (ap (λ x. evicted (oldest_of x)) h) (subst (λ u. Shows k u (after v)) (sym (oldest-out s t AM e l h)) shows))
 
@@ -85,17 +90,13 @@ module _ (z : TwoQSizes) (c k x : ℕ) (r : Bool) (s : Queues) (some : 1 ≤ c) 
       let v : TwoQLeaver = FromA1in e.item.key in
       let other = apart-first k e.item.key (keys_of l) (ap (λ x. has_key k (keys_of x)) (sym h) ∙ no_a1in) in
       let gone : Queues = with_queue A1OUT (kept (r || nat_lt (length (s A1OUT)) z.kout) (sent A1IN A1OUT e l s A1OUT)) (sent A1IN A1OUT e l s) in
-      let shows : Shows k gone (after v) = record { a1in = rest A1IN e l h no_a1in; a1out = ghost-keys k z.kout e (s A1OUT) r in_a1out other i.few; am = none-out k (keys_of (s AM)) no_am } in
+      let shows : Shows k gone (after v) = record { a1in = rest A1IN e l h no_a1in; a1out = ghost-keys k z.kout e (s A1OUT) r in_a1out other i.few; am = without-none k (keys_of (s AM)) no_am } in
       subst (IsMiss (leavers_for_ghost A1IN A1OUT z.kout r s)) (sym (ap (λ x. leaver_of_a1in (keys_of x)) h))
       (brought (leavers_for_ghost A1IN A1OUT z.kout r s) v (leavers-low A1IN A1OUT z.kout r s (omega arith) (omega arith)) (ap (λ x. evicted (oldest_of x)) h)
       (subst (λ u. Shows k u (after v)) (sym (leavers-gone s t A1IN A1OUT z.kout r e l h (omega arith) (omega arith))) shows))
 
   a1in-some : c ≤ length (s A1IN) + length (s AM) → gives_a1in z.kin s ≡ true → 1 ≤ length (s A1IN)
-  a1in-some full f =
-      elim (or_cases (nat_lt z.kin (length (s A1IN))) (eqb (length (s AM)) 0) f) [
-        | inl many ↦ let over = ltb-true z.kin (length (s A1IN)) many in omega (arith, over)
-        | inr none ↦ let empty = eqb-true (length (s AM)) 0 none in omega (arith, empty, full, some)
-      ]
+  a1in-some full f = grind (arith, nat_tests)
 
   planned-miss : IsPlannedBy (two_q_miss z c r x s) k s (λ y. two_q_of) (two_q_act z c k (two_q_of s)) (has_key k (two_q_residents (two_q_of s)))
   planned-miss =
