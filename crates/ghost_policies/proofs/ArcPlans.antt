@@ -1,6 +1,7 @@
 -- ARC: which key leaves, and the ways of a key that no ghost remembers.
-use Rattle.std.proofs.Common.{◌≡◌, ℕ, ◌+◌, ◌*◌, ◌<◌, ◌≤◌, Bool, true, false, eqb, nat_lt, ◌⊎◌, ◌&&◌, List, ◌∷◌, length, arith, inl, inr}
-use Rattle.std.proofs.lemmas.Bool.{cases_Bool, ltb-true, ltb-false, eqb-true, eqb-false}
+use Rattle.std.proofs.Common.{◌≡◌, ℕ, ◌+◌, ◌*◌, ◌<◌, ◌≤◌, Bool, true, false, eqb, nat_lt, ◌⊎◌, ◌&&◌, ◌||◌, List, ◌∷◌, length, arith, inl, inr}
+use Rattle.std.proofs.lemmas.Bool.{cases_Bool, cond_both, ltb-true, ltb-false, eqb-true, eqb-false}
+use Rattle.std.proofs.lemmas.Bool.Decides.{nat_tests}
 use Rattle.queue_policies.proofs.CountedKeys.{by-oldest}
 use Rattle.ghost_policies.specs.Arc.{ArcState, arc_total, oldest_forgotten, OfB1, OfB2, oldest_leaver, ToB1, ToB2, Dropped, arc_replace, plan_of_new_key, ArcLeaver, ArcPlan, NoLeaver, NoGhost, NoneForgotten}
 
@@ -13,48 +14,27 @@ pub new-cases : (c : ℕ) (s : ArcState) (P : ArcPlan → Type 0)
     → ((length s.t1 + length s.b1 ≡ c → ⊥) → c ≤ arc_total s → (arc_total s ≡ 2 * c → ⊥) → P record { recalls = NoGhost; forgets = NoneForgotten; leaver = arc_replace false s.p s })
     → P (plan_of_new_key c s)
 new-cases c s P drops_b1 drops_t1 joins drops_b2 replaces =
-    elim (cases_Bool (eqb (length s.t1 + length s.b1) c)) as (λ _. P (plan_of_new_key c s)) [
-      | inl e ↦
-          let same : length s.t1 + length s.b1 ≡ c = eqb-true (length s.t1 + length s.b1) c e in
-          rw e (elim (cases_Bool (nat_lt (length s.t1) c)) [
-            | inl f ↦ rw f (drops_b1 same (ltb-true (length s.t1) c f))
-            | inr f ↦ rw f (drops_t1 same (ltb-false (length s.t1) c f))
-          ])
-      | inr e ↦
-          let other : length s.t1 + length s.b1 ≡ c → ⊥ = eqb-false (length s.t1 + length s.b1) c e in
-          rw e (elim (cases_Bool (nat_lt (arc_total s) c)) [
-            | inl f ↦ rw f (joins other (ltb-true (arc_total s) c f))
-            | inr f ↦
-                let many : c ≤ arc_total s = ltb-false (arc_total s) c f in
-                rw f (elim (cases_Bool (eqb (arc_total s) (2 * c))) [
-                  | inl g ↦ rw g (drops_b2 other many (eqb-true (arc_total s) (2 * c) g))
-                  | inr g ↦ rw g (replaces other many (eqb-false (arc_total s) (2 * c) g))
-                ])
-          ])
-    ]
+    let l1 : ℕ = length s.t1 + length s.b1 in
+    let all : ℕ = arc_total s in
+    cond_both (eqb l1 c) _ _ P
+    (λ e. cond_both (nat_lt (length s.t1) c) _ _ P
+    (λ f. drops_b1 (eqb-true l1 c e) (ltb-true (length s.t1) c f))
+    (λ f. drops_t1 (eqb-true l1 c e) (ltb-false (length s.t1) c f)))
+    (λ e. cond_both (nat_lt all c) _ _ P (λ f. joins (eqb-false l1 c e) (ltb-true all c f))
+    (λ f. cond_both (eqb all (2 * c)) _ _ P
+    (λ h. drops_b2 (eqb-false l1 c e) (ltb-false all c f) (eqb-true all (2 * c) h))
+    (λ h. replaces (eqb-false l1 c e) (ltb-false all c f) (eqb-false all (2 * c) h))))
 
 -- In a full cache the oldest of t1 leaves, or that of t2, which has one where t1 has none, or not over p.
 pub replace-cases : (in_b2 : Bool) (c p : ℕ) (s : ArcState) (P : ArcLeaver → Type 0) → 1 ≤ c → length s.t1 + length s.t2 ≡ c → p ≤ c → (in_b2 ≡ true) ⊎ (length s.t1 < c)
     → ((v : ℕ) (l : List ℕ) → s.t1 ≡ v ∷ l → P (ToB1 v)) → ((v : ℕ) (l : List ℕ) → s.t2 ≡ v ∷ l → P (ToB2 v)) → P (arc_replace in_b2 p s)
 replace-cases in_b2 c p s P h full fits case to_b1 to_b2 =
-    let from_t2 : 1 ≤ length s.t2 → P (oldest_leaver ToB2 s.t2) = λ n. by-oldest (λ l. P (oldest_leaver ToB2 l)) s.t2 n to_b2 in
-    elim (cases_Bool (nat_lt 0 (length s.t1))) as (λ _. P (arc_replace in_b2 p s)) [
-      | inr e ↦ let none : length s.t1 ≤ 0 = ltb-false 0 (length s.t1) e in rw e (from_t2 (omega (arith, none, full, h)))
-      | inl e ↦
-          let from_t1 : P (oldest_leaver ToB1 s.t1) = by-oldest (λ l. P (oldest_leaver ToB1 l)) s.t1 (ltb-true 0 (length s.t1) e) to_b1 in
-          rw e (elim (cases_Bool (nat_lt p (length s.t1))) [
-            | inl f ↦ rw f from_t1
-            | inr f ↦
-                let low : length s.t1 ≤ p = ltb-false p (length s.t1) f in
-                rw f (elim (cases_Bool (in_b2 && eqb (length s.t1) p)) [
-                  | inl g ↦ rw g from_t1
-                  | inr g ↦ rw g (from_t2 (elim case [
-                    | inr few ↦ omega (arith, few, full)
-                    | inl b ↦
-                        let other : eqb (length s.t1) p ≡ false = rw b at g in
-                        let ne : length s.t1 ≡ p → ⊥ = eqb-false (length s.t1) p other in
-                        omega (arith, ne, low, fits, full)
-                  ]))
-                ])
-          ])
-    ]
+    let n : ℕ = length s.t1 in
+    let from_t1 = λ (some : 1 ≤ n). by-oldest (λ l. P (oldest_leaver ToB1 l)) s.t1 some to_b1 in
+    let from_t2 = λ (some : 1 ≤ length s.t2). by-oldest (λ l. P (oldest_leaver ToB2 l)) s.t2 some to_b2 in
+    let few : (in_b2 && eqb n p) ≡ false → n ≤ p → n < c = λ f low. elim case [
+      | inl b ↦ grind (arith, nat_tests)
+      | inr few ↦ few
+    ] in
+    cond_both (nat_lt 0 n && (nat_lt p n || (in_b2 && eqb n p))) _ _ P
+    (λ e. from_t1 (grind (arith, nat_tests))) (λ e. from_t2 (grind (arith, nat_tests, few)))
