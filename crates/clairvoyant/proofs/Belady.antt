@@ -34,16 +34,7 @@ without-has x v r h = let is = has-without x v r in grind (arith, is, h)
 farthest-among : (t : List ℕ) (i b : ℕ) (l : List ℕ) → has_key (farthest t i b l) (b ∷ l) ≡ true
 farthest-among t i b [] = rw (eq-eqb b b refl) refl
 farthest-among t i b (a ∷ l) =
-    let one = farthest-among t i a l in
-    let other = farthest-among t i b l in
-    elim (cases_Bool (leaves_first t i a b)) [
-      | inl e ↦
-          let is : farthest t i b (a ∷ l) ≡ farthest t i a l = rw e refl in
-          ap (λ x. has_key x (b ∷ a ∷ l)) is ∙ later (farthest t i a l) b (a ∷ l) one
-      | inr e ↦
-          let is : farthest t i b (a ∷ l) ≡ farthest t i b l = rw e refl in
-          ap (λ x. has_key x (b ∷ a ∷ l)) is ∙ grind (arith, other)
-    ]
+    grind (arith, farthest-among t i a l, farthest-among t i b l, cases_Bool (leaves_first t i a b))
 
 pub farthest-in : (t : List ℕ) (i k : ℕ) (r : List ℕ) → has_key (farthest t i k r) (residents_with k r) ≡ true
 farthest-in t i k r = has-put (farthest t i k r) k r ∙ farthest-among t i k r
@@ -144,20 +135,11 @@ farthest-least t i b (a ∷ l) h seen x g =
     let here : eqb a a ≡ true = eq-eqb a a refl in
     let own : eqb b b ≡ true = eq-eqb b b refl in
     let test : leaves_first t i a b ≡ nat_lt (rank t (suc i) a) (rank t (suc i) b) = leaves-rank t i a b h (seen a (grind (arith, here))) (seen b (grind (arith, own))) in
-    let first : eqb x b ≡ true → x ≡ b = eqb-true x b in
-    let second : eqb x a ≡ true → x ≡ a = eqb-true x a in
-    elim (cases_Bool (leaves_first t i a b)) as (λ _. rank t (suc i) (farthest t i b (a ∷ l)) ≤ rank t (suc i) x) [
-      | inl e ↦
-          let rest = farthest-least t i a l h (λ y k. seen y (later y b (a ∷ l) k)) in
-          let least = rest a (grind (arith, here)) in
-          let any = rest x in
-          rw e (grind (arith, nat_tests, test, e, first, least, any, g))
-      | inr e ↦
-          let rest = farthest-least t i b l h (λ y k. seen y (grind (arith, k))) in
-          let least = rest b (grind (arith, own)) in
-          let any = rest x in
-          rw e (grind (arith, nat_tests, test, e, first, second, least, any, g))
-    ]
+    let one = farthest-least t i a l h (λ y k. seen y (later y b (a ∷ l) k)) in
+    let other = farthest-least t i b l h (λ y k. seen y (grind (arith, k))) in
+    let near = one a (grind (arith, here)) in
+    let far = other b (grind (arith, own)) in
+    grind (arith, nat_tests, test, near, far, one x, other x, g, cases_eq x a, cases_eq x b)
 
 -- what ranks least is what leaves
 pub farthest-is : (t : List ℕ) (i b : ℕ) (l : List ℕ) (y : ℕ) → i < length t → ((a : ℕ) → has_key a (b ∷ l) ≡ true → IsSeen t (suc i) a) → has_key y (b ∷ l) ≡ true

@@ -1,6 +1,6 @@
 -- Edits of ascending lists.
-use Rattle.std.proofs.Common.{◌≡◌, ℕ, suc, ◌<◌, ◌≤◌, true, false, cond, eqb, nat_lt, List, [], ◌∷◌, length, ap, ◌∙◌, refl, arith, inl, inr}
-use Rattle.std.proofs.lemmas.Bool.{cond_both, cases_Bool, eqb-true, eq-eqb, ltb-true, le-ltb, lt-ltb}
+use Rattle.std.proofs.Common.{◌≡◌, ℕ, suc, ◌<◌, ◌≤◌, true, false, cond, eqb, nat_lt, List, [], ◌∷◌, length, ap, ◌∙◌, refl, arith}
+use Rattle.std.proofs.lemmas.Bool.{cond_both, eqb-true, eq-eqb, ltb-true, lt-ltb, cases_eq}
 use Rattle.std.proofs.lemmas.Bool.Decides.{nat_tests}
 use Rattle.step_record.specs.Keys.{has_key, keys_without}
 use Rattle.clairvoyant.specs.Keys.{residents_with, IsBelowAll, IsAscendingKeys}
@@ -67,15 +67,8 @@ put-below k (a ∷ l) w = rw (lt-ltb k a w.0) refl
 pub put-without : (k : ℕ) (l : List ℕ) → IsAscendingKeys l → has_key k l ≡ true → residents_with k (keys_without k l) ≡ l
 put-without k [] s h = absurd (cc (h))
 put-without k (a ∷ l) s h =
-    elim (cases_Bool (eqb k a)) as (λ _. residents_with k (cond (eqb k a) (keys_without k l) (a ∷ keys_without k l)) ≡ a ∷ l) [
-      | inl e ↦
-          let same : k ≡ a = eqb-true k a e in
-          rw (e, same, without-none a l (below-none a l s.0)) (put-below a l s.0)
-      | inr e ↦
-          let there : has_key k l ≡ true = rw e at h in
-          let f : nat_lt k a ≡ false = let n : a < k = below-has a k l s.0 there in le-ltb k a (omega arith) in
-          rw (e, f) (ap (λ t. a ∷ t) (put-without k l s.1 there))
-    ]
+    let none = without-none a l (below-none a l s.0) in
+    grind (arith, nat_tests, put-without k l s.1, below-has a k l s.0, none, put-below a l s.0, cases_eq k a)
 
 pub length-put : (k : ℕ) (l : List ℕ) → length (residents_with k l) ≡ suc (length l)
 length-put k [] = refl

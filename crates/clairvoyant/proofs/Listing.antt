@@ -4,7 +4,7 @@ use Rattle.std.specs.List.{sum_by}
 use Rattle.std.specs.List.Sorted.{IsPermutation, IsNonDecreasing}
 use Rattle.std.proofs.lemmas.List.Sums.{sum_by-cons}
 use Rattle.std.proofs.lemmas.List.Sorted.{sum_by-IsPermutation}
-use Rattle.std.proofs.lemmas.Bool.{cases_Bool, cases_eq, eqb-true, eq-eqb, ne_eqb}
+use Rattle.std.proofs.lemmas.Bool.{cases_Bool, cases_eq, eqb-true, eq-eqb}
 use Rattle.std.proofs.lemmas.Bool.Decides.{nat_tests}
 use Rattle.step_record.specs.Stats.{one_if}
 use Rattle.step_record.specs.Keys.{has_key}
@@ -37,8 +37,7 @@ pub times-has : (k : ℕ) (rs : List ℕ) → IsAscendingKeys rs → times k rs 
 times-has k [] s = refl
 times-has k (a ∷ rs) s =
     let alone : eqb k a ≡ true → has_key k rs ≡ false = λ e. ap (λ x. has_key x rs) (eqb-true k a e) ∙ below-none a rs s.0 in
-    let rest = times-has k rs s.1 in
-    grind (arith, alone, rest)
+    grind (arith, alone, times-has k rs s.1)
 
 -- what holds of each element holds of what is in the list
 found : (k : ℕ) (xs : List ℕ) → 0 < times k xs → (P : ℕ → Type 0) → ((j : ℕ) → j < length xs → P (get_or xs j 0)) → P k
@@ -56,10 +55,7 @@ low-sorted : (x : ℕ) (xs : List ℕ) → IsNonDecreasing (x ∷ xs) → (k : �
 low-sorted x xs up k h = found k (x ∷ xs) h (λ y. x ≤ y) (λ j lt. up 0 j 0 (omega arith) lt)
 
 low-ascending : (r : ℕ) (rs : List ℕ) → IsAscendingKeys (r ∷ rs) → (k : ℕ) → 0 < times k (r ∷ rs) → r ≤ k
-low-ascending r rs s k h =
-    let once = times-has k rs s.1 in
-    let above = below-has r k rs s.0 in
-    grind (arith, nat_tests, once, above)
+low-ascending r rs s k h = grind (arith, nat_tests, times-has k rs s.1, below-has r k rs s.0)
 
 -- a sorted list in which each key is as often as in an ascending one is that
 same-list : (xs rs : List ℕ) → IsNonDecreasing xs → IsAscendingKeys rs → ((k : ℕ) → times k xs ≡ times k rs) → xs ≡ rs
@@ -88,22 +84,11 @@ module _ (t : List ℕ) (i : ℕ) (r : List ℕ) (le : i ≤ length t) (seen : (
     -- the rank q is of its key
     own-rank : (k : ℕ) → (has_key k r && eqb (rank t i k) q) ≡ (eqb k (key_at t q) && is_in_set h q)
     own-rank k =
-        elim (cases_eq k (key_at t q)) [
-          | inl e ↦ rw (eq-eqb k (key_at t q) e, tied.ranks q lt, ← e) refl
-          | inr ne ↦ rw (ne_eqb k (key_at t q) ne) (elim (cases_Bool (has_key k r)) [
-            | inl there ↦
-                let key : key_at t (rank t i k) ≡ k = (named t i k le (seen k there)).key in
-                rw (there, ne_eqb (rank t i k) q (λ s. ne (sym key ∙ ap (key_at t) s))) refl
-            | inr none ↦ rw none refl
-          ])
-        ]
+        let key : has_key k r ≡ true → key_at t (rank t i k) ≡ k = λ e. (named t i k le (seen k e)).key in
+        grind (arith, nat_tests, key, tied.ranks q lt, cases_eq k (key_at t q), cases_eq (rank t i k) q)
 
     listed-next : (k : ℕ) → one_if (is_listed t i r (q + 1) k) ≡ one_if (is_listed t i r q k) + one_if (eqb k (key_at t q) && is_in_set h q)
-    listed-next k = split (has_key k r) (rank t i k) ∙ ap (λ b. one_if (is_listed t i r q k) + one_if b) (own-rank k)
-      where
-        split : (b : Bool) (n : ℕ) → one_if (b && nat_lt n (q + 1)) ≡ one_if (b && nat_lt n q) + one_if (b && eqb n q)
-        split true n = grind (arith, nat_tests)
-        split false n = refl
+    listed-next k = grind (arith, nat_tests, own-rank k)
 
     module _ (keys : List ℕ) (all : (k : ℕ) → times k keys ≡ one_if (is_listed t i r q k)) where
       pub listed-other : is_in_set h q ≡ false → (k : ℕ) → times k keys ≡ one_if (is_listed t i r (q + 1) k)

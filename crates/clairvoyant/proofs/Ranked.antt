@@ -1,6 +1,7 @@
 -- The ranks of the residents, one key more or less, and one access further or back.
-use Rattle.std.proofs.Common.{◌≡◌, ℕ, suc, ◌<◌, Bool, true, false, cond, ◌&&◌, eqb, List, length, get_or, ap, ◌∙◌, sym, refl, inl, inr}
-use Rattle.std.proofs.lemmas.Bool.{and_right, cases_Bool, cases_eq, eqb-true, eq-eqb, ne_eqb}
+use Rattle.std.proofs.Common.{◌≡◌, ℕ, suc, ◌<◌, Bool, true, false, cond, ◌&&◌, eqb, List, length, get_or, ap, ◌∙◌, sym, refl, arith}
+use Rattle.std.proofs.lemmas.Bool.{cases_eq, eq-eqb, ne_eqb}
+use Rattle.std.proofs.lemmas.Bool.Decides.{nat_tests}
 use Rattle.step_record.specs.Keys.{has_key, keys_without}
 use Rattle.clairvoyant.specs.Keys.{residents_with}
 use Rattle.clairvoyant.specs.Bits.{is_in_set}
@@ -21,10 +22,7 @@ more-there m k s more = more.has k ∙ ap (λ b. cond b true (has_key k m)) (eq-
 
 fewer : (m : List ℕ) (k : ℕ) (s : List ℕ) → IsMore m k s → (x : ℕ) → has_key x m ≡ cond (eqb x k) false (has_key x s)
 fewer m k s more x =
-    elim (cases_Bool (eqb x k)) [
-      | inl e ↦ rw e (ap (λ y. has_key y m) (eqb-true x k e) ∙ more.new)
-      | inr e ↦ rw e (sym (more.has x ∙ ap (λ b. cond b true (has_key x m)) e))
-    ]
+    grind (arith, nat_tests, more.has x, more.new, cases_eq x k)
 
 gone : (k : ℕ) (r : List ℕ) → has_key k (keys_without k r) ≡ false
 gone k r = has-without k k r ∙ ap (λ b. cond b false (has_key k r)) (eq-eqb k k refl)
@@ -35,10 +33,7 @@ with-more k r none = record { new = none; has = λ x. has-put x k r }
 pub without-more : (k : ℕ) (r : List ℕ) → has_key k r ≡ true → IsMore (keys_without k r) k r
 without-more k r there = record {
   new = gone k r;
-  has = λ x. elim (cases_Bool (eqb x k)) [
-    | inl e ↦ rw e (ap (λ y. has_key y r) (eqb-true x k e) ∙ there)
-    | inr e ↦ rw (has-without x k r, e) refl
-  ];
+  has = λ x. grind (arith, nat_tests, has-without x k r, there, cases_eq x k);
 }
 
 -- k came and v left
@@ -47,10 +42,9 @@ swap-more k v r none there =
     let apart : eqb k v ≡ false = ne_eqb k v (λ e. absurd (cc (none, there, ap (λ x. has_key x r) e))) in
     record {
       new = has-without k v r ∙ rw (apart, none) refl;
-      has = λ x. elim (cases_Bool (eqb x k)) [
-        | inl e ↦ rw (has-without x v (residents_with k r), has-put x k r, e, ap (λ y. eqb y v) (eqb-true x k e) ∙ apart) refl
-        | inr e ↦ rw (has-without x v (residents_with k r), has-put x k r, has-without x v r, e) refl
-      ];
+      has = λ x.
+          let out = has-without x v (residents_with k r) in
+          grind (arith, nat_tests, out, has-put x k r, has-without x v r, apart, cases_eq x k);
     }
 
 -- ---- the ranks that are held
@@ -60,25 +54,10 @@ pub record IsEdited (h : List Bool) (a : ℕ) (b : Bool) (g : List Bool) : Type 
   pub size : length g ≡ length h
   pub tests : (q : ℕ) → is_in_set g q ≡ cond (eqb q a) b (is_in_set h q)
 
-and-true : (b : Bool) → (b && true) ≡ b
-and-true true = refl
-and-true false = refl
-
 module _ (t : List ℕ) (i v : ℕ) (key : key_at t (rank t i v) ≡ v) (b : Bool) (r s : List ℕ) (has : (x : ℕ) → has_key x s ≡ cond (eqb x v) b (has_key x r)) where
   ranked-edited : (q : ℕ) → is_ranked t i s q ≡ cond (eqb q (rank t i v)) b (is_ranked t i r q)
   ranked-edited q =
-      elim (cases_eq q (rank t i v)) [
-        | inl e ↦
-            let at : key_at t q ≡ v = ap (key_at t) e ∙ key in
-            let held : has_key v s ≡ b = has v ∙ ap (λ z. cond z b (has_key v r)) (eq-eqb v v refl) in
-            rw (at, held, eq-eqb (rank t i v) q (sym e), eq-eqb q (rank t i v) e) (and-true b)
-        | inr ne ↦ rw (ne_eqb q (rank t i v) ne) (elim (cases_eq (key_at t q) v) [
-          | inl at ↦
-              let off : eqb (rank t i v) q ≡ false = ne_eqb (rank t i v) q (λ e. ne (sym e)) in
-              rw (at, off) (and_right (has_key v s) false refl ∙ sym (and_right (has_key v r) false refl))
-          | inr apart ↦ rw (has (key_at t q), ne_eqb (key_at t q) v apart) refl
-        ])
-      ]
+      grind (arith, nat_tests, cases_eq q (rank t i v), cases_eq (key_at t q) v, has (key_at t q), key)
 
   tied-edited : (h g : List Bool) (a : ℕ) → a ≡ rank t i v → IsEdited h a b g → IsTied t i r h → IsTied t i s g
   tied-edited h g a is edit tied = record {
@@ -97,10 +76,7 @@ module _ (t : List ℕ) (i v : ℕ) (key : key_at t (rank t i v) ≡ v) (m s : L
 module _ (t : List ℕ) (i : ℕ) (lt : i < length t) (r : List ℕ) (none : has_key (get_or t i 0) r ≡ false) where
   ranked-on : (q : ℕ) → is_ranked t (suc i) r q ≡ is_ranked t i r q
   ranked-on q =
-      elim (cases_Bool (eqb (key_at t q) (get_or t i 0))) [
-        | inl e ↦ let out : has_key (key_at t q) r ≡ false = ap (λ x. has_key x r) (eqb-true _ _ e) ∙ none in rw out refl
-        | inr e ↦ ap (λ n. has_key (key_at t q) r && eqb n q) (rank-other t i (key_at t q) lt e)
-      ]
+      grind (arith, nat_tests, cases_eq (key_at t q) (get_or t i 0), none, rank-other t i (key_at t q) lt)
 
   pub tied-on : (h : List Bool) → IsTied t i r h → IsTied t (suc i) r h
   tied-on h tied = record { size = tied.size; ranks = λ q w. tied.ranks q w ∙ sym (ranked-on q) }

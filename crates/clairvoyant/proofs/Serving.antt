@@ -1,6 +1,7 @@
 -- What serving an access changes of the ranks that are held, and undoing it changes back.
-use Rattle.std.proofs.Common.{◌≡◌, ℕ, suc, ◌-◌, ◌*◌, ◌<◌, ◌≤◌, Bool, true, false, ◌&&◌, eqb, inl, inr, List, ◌∷◌, length, get_or, ap, ◌∙◌, sym, subst, refl, arith}
-use Rattle.std.proofs.lemmas.Bool.{cases_eq, cases_lt, and_parts, eqb-true, eq-eqb, ne_eqb}
+use Rattle.std.proofs.Common.{◌≡◌, ℕ, suc, ◌-◌, ◌*◌, ◌<◌, ◌≤◌, Bool, true, false, eqb, inl, inr, List, ◌∷◌, length, get_or, ap, ◌∙◌, sym, subst, refl, arith}
+use Rattle.std.proofs.lemmas.Bool.{cases_eq, and_parts, eqb-true, eq-eqb, ne_eqb}
+use Rattle.std.proofs.lemmas.Bool.Decides.{nat_tests}
 use Rattle.step_record.specs.Keys.{has_key}
 use Rattle.clairvoyant.specs.declared.optimal_record.EvictedKey.{EvictedKey}
 use Rattle.clairvoyant.specs.declared.optimal_record.OptimalRecord.TheVariants.{Hit, Kept, Evicted, Rejected}
@@ -83,12 +84,7 @@ module _ (c : ℕ) (t : List ℕ) (i : ℕ) (lt : i < length t) where
 
   module _ (h : List Bool) (tied : IsTied t i before h) where
     held-at : (x n : ℕ) → n < 2 * length t → key_at t n ≡ x → rank t i x ≡ n → is_in_set h n ≡ has_key x before
-    held-at x n lt key_is ranked =
-        tied.ranks n lt ∙ ap (λ y. has_key y before && eqb (rank t i y) n) key_is ∙ and-same (has_key x before) (rank t i x) n ranked
-      where
-        and-same : (b : Bool) (m n : ℕ) → m ≡ n → (b && eqb m n) ≡ b
-        and-same true m n e = eq-eqb m n e
-        and-same false m n e = refl
+    held-at x n lt key_is ranked = grind (arith, nat_tests, tied.ranks n lt, key_is, ranked)
 
     -- the key is a resident where the rank that it has now is held
     pub tested : (b : Bool) (own : ℕ) → own ≡ 2 * length t - 1 - i → b ≡ is_in_set h own → has_key key before ≡ b
@@ -99,17 +95,11 @@ module _ (c : ℕ) (t : List ℕ) (i : ℕ) (lt : i < length t) where
       -- none of the residents and the key ranks below m where nothing below m is held
       above : (m : ℕ) → m ≤ new → ((q : ℕ) → q < m → is_in_set h q ≡ false) → (a : ℕ) → has_key a (key ∷ before) ≡ true → m ≤ rank t (suc i) a
       above m le empty a g =
-          elim (cases_eq a key) [
-            | inl e ↦ rw e (omega (arith, is, le))
-            | inr ne ↦
-                let old : has_key a before ≡ true = rw (ne_eqb a key ne) at g in
-                let same : rank t (suc i) a ≡ rank t i a = rank-other t i a lt (ne_eqb a key ne) in
-                let n = named-before a old in
-                elim (cases_lt (rank t i a) m) [
-                  | inl w ↦ absurd (cc (held-at a (rank t i a) n.within n.key refl, old, empty (rank t i a) w))
-                  | inr w ↦ omega (arith, same, w)
-                ]
-          ]
+          let old : eqb a key ≡ false → has_key a before ≡ true = λ f. rw f at g in
+          let n : eqb a key ≡ false → IsNamed t i a = λ f. named-before a (old f) in
+          let held : eqb a key ≡ false → is_in_set h (rank t i a) ≡ has_key a before =
+          λ f. held-at a (rank t i a) (n f).within (n f).key refl in
+          grind (arith, nat_tests, cases_eq a key, is, le, old, held, empty (rank t i a), rank-other t i a lt)
 
       soon-seen : (a : ℕ) → has_key a (key ∷ before) ≡ true → IsSeen t (suc i) a
       soon-seen a g =

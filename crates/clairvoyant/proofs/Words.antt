@@ -1,5 +1,5 @@
 -- One bit of a layer of words, and the layer above.
-use Rattle.std.proofs.Common.{◌≡◌, ◌≢◌, ℕ, ◌+◌, ◌*◌, ◌/◌, ◌%◌, ◌^◌, ◌<◌, ◌≤◌, Bool, true, false, not, eqb, inl, inr, List, length, get_or, set, ap, ◌∙◌, sym, refl, arith, bit_or, w64}
+use Rattle.std.proofs.Common.{◌≡◌, ℕ, ◌+◌, ◌*◌, ◌/◌, ◌%◌, ◌^◌, ◌<◌, ◌≤◌, Bool, true, false, not, eqb, List, length, get_or, set, ap, ◌∙◌, sym, arith, bit_or, w64}
 use Rattle.std.specs.Int.{bit_at}
 use Rattle.std.proofs.Math.ListN.{length-set}
 use Rattle.std.proofs.lemmas.Bool.{cases_eq, eq-eqb, ne_eqb}
@@ -34,23 +34,18 @@ module _ (ws : List ℕ) (w x tz : ℕ) (in_it : w < length ws) (read : x ≡ ge
 
   pub none-held : ((i : ℕ) → i < tz → bit_at x i ≡ 0) → ((v : ℕ) → v < w → get_or ws v 0 ≡ 0) → (q : ℕ) → q < 64 * w + tz → bit_of ws q ≡ false
   none-held low past q lt =
-      elim (cases_eq (q / 64) w) [
-        | inl e ↦ ap (λ n. eqb (bit_at (get_or ws n 0) (q % 64)) 1) e ∙ ap (λ y. eqb (bit_at y (q % 64)) 1) (sym read) ∙ ap (λ y. eqb y 1) (low (q % 64) (omega arith))
-        | inr n ↦ ap (λ y. eqb (bit_at y (q % 64)) 1) (past (q / 64) (let ne : q / 64 ≢ w = n in omega arith)) ∙ ap (λ y. eqb y 1) (bit_at-zero (q % 64))
-      ]
+      grind (arith, nat_tests, cases_eq (q / 64) w, read, low (q % 64), past (q / 64), bit_at-zero (q % 64))
 
 pub above-still : (ws : List ℕ) (n : ℕ) (held : ℕ → Bool) (j x : ℕ) → IsBitLayer ws n held → j < length ws → eqb x 0 ≡ eqb (get_or ws j 0) 0 → IsBitLayer (set ws j x) n held
 above-still ws n held j x up within same = record {
   long = omega (arith, up.long, length-set ws j x);
-  some = λ w. elim (cases_eq w j) [
-    | inl e ↦ up.some w ∙ rw (e, get_or-set_same ws j x 0 within, same) refl
-    | inr ne ↦ up.some w ∙ rw (get_or-set_other ws j w x 0 ne) refl
-  ];
+  some = λ w.
+      let own = get_or-set_same ws j x 0 within in
+      grind (arith, nat_tests, up.some w, own, get_or-set_other ws j w x 0, same, cases_eq w j);
 }
 
 -- where the layer above holds a place, there is a word there
 pub word-there : (ws : List ℕ) (n : ℕ) (held : ℕ → Bool) (w : ℕ) → IsBitLayer ws n held → held w ≡ true → w < length ws
 word-there ws n held w up h =
     let past : length ws ≤ w → get_or ws w 0 ≡ 0 = get_or_past ws w 0 in
-    let some = up.some w in
-    grind (arith, nat_tests, past, some, h)
+    grind (arith, nat_tests, past, h, up.some w)
