@@ -87,16 +87,9 @@ pub one-below : (keys numbers : List ℕ) (n k p : ℕ) → p < n → get_or num
     → ((q : ℕ) → get_or numbers q 0 ≢ 0 → get_or keys q 0 ≡ k → q ≡ p) → number_below keys numbers n k ≡ get_or numbers p 0
 one-below keys numbers zero k p lt some there once = absurd (omega (arith, lt))
 one-below keys numbers (suc n) k p lt some there once =
-    elim (cases_eq p n) [
-      | inl same ↦
-          let own : get_or numbers n 0 ≡ get_or numbers p 0 = ap (λ i. get_or numbers i 0) (sym same) in
-          let key : get_or keys n 0 ≡ k = ap (λ i. get_or keys i 0) (sym same) ∙ there in
-          grind (arith, nat_tests, or-tells, own, key, some)
-      | inr other ↦
-          let rest = one-below keys numbers n k p (omega (arith, lt, other)) some there once in
-          let apart = once n in
-          grind (arith, nat_tests, or-tells, rest, apart, other)
-    ]
+    let rest : p < n → number_below keys numbers n k ≡ get_or numbers p 0 =
+    λ l. one-below keys numbers n k p l some there once in
+    grind (arith, nat_tests, or-tells, rest, once n, some, there, lt, cases_eq p n)
 
 -- two tables whose cells have the same number for the key
 same-below : (keys numbers keys2 numbers2 : List ℕ) (n k : ℕ) → ((q : ℕ) → number_at keys2 numbers2 q k ≡ number_at keys numbers q k)
@@ -189,10 +182,8 @@ module _ (homes : ℕ) (keys numbers : List ℕ) (key number end place : ℕ) (t
   -- a cell with the key, before
   alone : (q : ℕ) → get_or numbers q 0 ≢ 0 → get_or keys q 0 ≡ key → q ≡ place
   alone q ne e =
-      elim (cases_eq (get_or numbers place 0) 0) [
-        | inl z ↦ absurd (absent homes keys numbers key end place t s (λ _. z) q ne e)
-        | inr taken ↦ t.once q place ne taken (e ∙ sym (g.stops here taken))
-      ]
+      let none = absent homes keys numbers key end place t s in
+      grind (arith, nat_tests, cases_eq (get_or numbers place 0) 0, none, t.once q place ne, g.stops here, ne, e)
 
   pub before : number_below keys numbers (length keys) key ≡ get_or numbers place 0
   before =
@@ -202,11 +193,7 @@ module _ (homes : ℕ) (keys numbers : List ℕ) (key number end place : ℕ) (t
       ]
 
   taken-still : (q : ℕ) → number ≢ 0 → get_or numbers q 0 ≢ 0 → get_or (set numbers place number) q 0 ≢ 0
-  taken-still q some ne e =
-      elim (cases_eq q place) [
-        | inl same ↦ some (sym its-number ∙ ap (λ i. get_or (set numbers place number) i 0) (sym same) ∙ e)
-        | inr other ↦ ne (sym (other-number q other) ∙ e)
-      ]
+  taken-still q some ne e = grind (arith, nat_tests, its-number, other-number q, some, ne, e, cases_eq q place)
 
   -- the cell is that of the key, or was taken before
   data Was (q : ℕ) : Type 0 where
@@ -251,13 +238,8 @@ module _ (homes : ℕ) (keys numbers : List ℕ) (key number end place : ℕ) (t
 
   at-other : (k : ℕ) → eqb key k ≡ false → (q : ℕ) → number_at (set keys place key) (set numbers place number) q k ≡ number_at keys numbers q k
   at-other k apart q =
-      elim (cases_eq q place) [
-        | inl same ↦
-            let new : get_or (set keys place key) q 0 ≡ key = ap (λ i. get_or (set keys place key) i 0) same ∙ its-key in
-            let old : get_or numbers q 0 ≢ 0 → get_or keys q 0 ≡ key = λ ne. ap (λ i. get_or keys i 0) same ∙ g.stops here (λ z. ne (ap (λ i. get_or numbers i 0) same ∙ z)) in
-            grind (arith, nat_tests, new, old, apart)
-        | inr other ↦ rw (other-key q other, other-number q other) refl
-      ]
+      let stops : get_or numbers place 0 ≢ 0 → get_or keys place 0 ≡ key = g.stops here in
+      grind (arith, nat_tests, its-key, its-number, other-key q, other-number q, stops, apart, cases_eq q place)
 
   pub put-updates : number ≢ 0 → (k : ℕ) → number_below (set keys place key) (set numbers place number) (length (set keys place key)) k
       ≡ cond (eqb key k) number (number_below keys numbers (length keys) k)
