@@ -1,5 +1,5 @@
 -- The table of moves without counting, in one queue: an access is one to the last distinct keys.
-use Rattle.std.proofs.Common.{◌≡◌, ℕ, suc, zero, ◌+◌, ◌-◌, ◌≤◌, Bool, true, false, cond, eqb, nat_lt, Some, None, List, [], ◌∷◌, ◌++◌, length, map, drop, ap, ◌∙◌, sym, refl, arith, subst, inl, inr, append-nil}
+use Rattle.std.proofs.Common.{◌≡◌, ℕ, suc, zero, ◌+◌, ◌-◌, ◌≤◌, true, false, eqb, nat_lt, Some, None, List, [], ◌∷◌, ◌++◌, length, map, drop, ap, ◌∙◌, sym, refl, arith, subst, inl, inr, append-nil}
 use Rattle.std.proofs.lemmas.List.{append_assoc, length-map, map-append}
 use Rattle.std.proofs.lemmas.Bool.{eq-eqb}
 use Rattle.std.proofs.lemmas.Bool.Decides.{nat_tests}
@@ -7,17 +7,15 @@ use Rattle.step_record.specs.declared.job.Job.{Job}
 use Rattle.step_record.specs.declared.job.Policy.TheVariants.{Lru}
 use Rattle.step_record.specs.Keys.{has_key, keys_without as without_key}
 use Rattle.segments.specs.declared.records.Queue.TheVariants.{Window}
-use Rattle.segments.specs.Items.{has_item, occurrences, items_without, oldest_of, nodeless_item}
+use Rattle.segments.specs.Items.{has_item, items_without, oldest_of, nodeless_item}
 use Rattle.segments.specs.Queues.{queue_holding, queues_after_push, total_items}
 use Rattle.replacement.specs.declared.rules.Placement.TheVariants.{Direct}
 use Rattle.replacement.specs.declared.rules.Rules.{Rules}
 use Rattle.replacement.specs.Admission.{admits_in}
-use Rattle.replacement.specs.Shape.{shape_of}
 use Rattle.replacement.specs.Table.{Response, kept_in, hit_response, hit_in, response_with_victim, response_without_trial, access}
 use Rattle.replacement.proofs.Planned.{access-at}
 use Rattle.queue_cache.specs.Lru.{lru_residents, lru_outcome, distinct_keys}
-use Rattle.queue_cache.specs.Design.{design_of, rules_in, rules_of, is_counting}
-use Rattle.queue_cache.specs.QueueCache.{QueueState, access_response, queue_state_after, frequency_by, frequency_after, state_from, empty_queue_state, state_after, outcome_after}
+use Rattle.queue_cache.specs.QueueCache.{QueueState, access_response, queue_state_after, frequency_after, state_from, empty_queue_state, state_after, outcome_after}
 use Rattle.queue_cache.specs.SingleQueue.{single_queue}
 use Rattle.queue_cache.proofs.Recency.{IsDistinct, moved, answer, two, without-none, distinct-distinct, residents-snoc, outcome-residents}
 
@@ -26,19 +24,11 @@ pos n = grind (arith, nat_tests)
 
 pub has-map : (k : ℕ) (l : List ℕ) → has_item (nodeless_item k) (map nodeless_item l) ≡ has_key k l
 has-map k [] = refl
-has-map k (a ∷ l) =
-    elim (two (eqb k a)) as (λ _. has_item (nodeless_item k) (nodeless_item a ∷ map nodeless_item l) ≡ cond (eqb k a) true (has_key k l)) [
-      | inl e ↦ rw e (pos (occurrences (nodeless_item k) (map nodeless_item l)))
-      | inr e ↦ let z : 0 + occurrences (nodeless_item k) (map nodeless_item l) ≡ occurrences (nodeless_item k) (map nodeless_item l) = omega arith in rw (e, z) (has-map k l)
-    ]
+has-map k (a ∷ l) = grind (arith, nat_tests, pos, has-map k l)
 
 pub without-map : (k : ℕ) (l : List ℕ) → items_without (nodeless_item k) (map nodeless_item l) ≡ map nodeless_item (without_key k l)
 without-map k [] = refl
-without-map k (a ∷ l) =
-    elim (two (eqb k a)) as (λ _. items_without (nodeless_item k) (nodeless_item a ∷ map nodeless_item l) ≡ map nodeless_item (cond (eqb k a) (without_key k l) (a ∷ without_key k l))) [
-      | inl e ↦ rw e (without-map k l)
-      | inr e ↦ rw e (ap (λ t. nodeless_item a ∷ t) (without-map k l))
-    ]
+without-map k (a ∷ l) = grind (arith, nat_tests, without-map k l)
 
 pub total-in : (l : List ℕ) → total_items (single_queue l) ≡ length l
 total-in l = omega (arith, length-map l nodeless_item)
@@ -68,12 +58,7 @@ module _ (c k : ℕ) where
       }
 
   one-direct : (l : List ℕ) → has_key k l ≡ false → IsDistinct l → 1 ≤ c → IsAccess c k l (response_without_trial (one c) (admits_in None) Window (nodeless_item k) (single_queue l))
-  one-direct l e d w =
-      let full : Bool → Response = λ b. cond b (kept_in (queues_after_push Window (nodeless_item k) (single_queue l))) (response_with_victim (admits_in None) Window (nodeless_item k) (oldest_of (map nodeless_item l)) (single_queue l)) in
-      elim (two (nat_lt (length l) c)) [
-        | inl f ↦ subst (λ (b : Bool). IsAccess c k l (full b)) (sym (ap (λ n. nat_lt n c) (total-in l) ∙ f)) (one-room l e f)
-        | inr f ↦ subst (λ (b : Bool). IsAccess c k l (full b)) (sym (ap (λ n. nat_lt n c) (total-in l) ∙ f)) (one-full l e f d w)
-      ]
+  one-direct l e d w = grind (arith, nat_tests, total-in, one-room, one-full)
 
   one-access : (l : List ℕ) → IsDistinct l → 1 ≤ c → IsAccess c k l (access (one c) (admits_in None) (nodeless_item k) (single_queue l))
   one-access l d w =
@@ -105,10 +90,7 @@ module _ (j : Job) (is_lru : j.policy ≡ Lru) (room : 1 ≤ j.config.capacity) 
   -- the response of an Lru cache whose queue has the last distinct keys
   response-lru : (past : List ℕ) (d : QueueState) (k : ℕ) (ks : List ℕ) → d.job ≡ j → d.queues ≡ single_queue (lru_residents j.config.capacity past)
       → IsAccess j.config.capacity k (lru_residents j.config.capacity past) (access_response (frequency_after j ks) k d)
-  response-lru past d k ks ej eq =
-      let rules : rules_of j ≡ one j.config.capacity = ap (λ p. rules_in (design_of p) j.config) is_lru in
-      let none : frequency_after j ks ≡ None = ap (λ p. frequency_by (is_counting p) (shape_of j.config) ks) is_lru in
-      rw (ej, rules, none, eq) (one-access j.config.capacity k (lru_residents j.config.capacity past) (residents-distinct j.config.capacity past) room)
+  response-lru past d k ks ej eq = grind (arith, nat_tests, one-access, residents-distinct)
 
   step-lru : (past : List ℕ) (d : QueueState) (k : ℕ) (ks : List ℕ) → d.job ≡ j → d.queues ≡ single_queue (lru_residents j.config.capacity past)
       → (queue_state_after (frequency_after j ks) k d).queues ≡ single_queue (lru_residents j.config.capacity (past ++ k ∷ []))

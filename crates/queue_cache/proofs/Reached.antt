@@ -1,16 +1,14 @@
 -- What some list of accesses gives, one access further.
-use Rattle.std.proofs.Common.{◌≡◌, ◌≢◌, ℕ, ◌+◌, ◌≤◌, Bool, true, false, inl, inr, Option, Some, None, Ok, Err, List, [], ◌∷◌, ◌++◌, length, ap, ◌∙◌, sym, refl, arith, subst, length-append, append-nil, add-zero}
+use Rattle.std.proofs.Common.{◌≡◌, ◌≢◌, ℕ, ◌+◌, ◌≤◌, Bool, true, false, Option, Some, None, Ok, List, [], ◌∷◌, ◌++◌, length, ap, ◌∙◌, sym, refl, arith, subst, length-append, append-nil, add-zero}
 use Rattle.std.proofs.lemmas.List.{append_assoc}
-use Rattle.std.proofs.lemmas.Bool.{cases_Bool}
 use Rattle.std.proofs.lemmas.List.Sums.{count_by-le-length}
 use Rattle.std.proofs.lemmas.Bool.Decides.{nat_tests}
-use Rattle.step_record.specs.declared.config.ConfigFault.TheVariants.{Capacity}
 use Rattle.step_record.specs.declared.config.Config.{Config}
 use Rattle.step_record.specs.declared.job.Job.{Job}
 use Rattle.step_record.specs.declared.limits.TheConstants.{MAX_STEPS}
 use Rattle.step_record.specs.declared.outcome.Outcome.{Outcome}
 use Rattle.step_record.specs.declared.stats.Stats.{Stats}
-use Rattle.step_record.specs.Config.{config_fault, is_from_one}
+use Rattle.step_record.specs.Config.{config_fault}
 use Rattle.step_record.specs.Pace.{words_of_halvings}
 use Rattle.step_record.specs.Stats.{stats_of, stats_with, is_hit, is_miss, is_eviction, is_rejection, IsSmall}
 use Rattle.segments.specs.Queues.{Queues, empty_queues}
@@ -91,11 +89,7 @@ by-few false c keys some few = tt
 by-few true c keys some few = let h = halvings_bounded c.capacity (length keys) some in omega arith
 
 pub has-room : (c : Config) → config_fault c ≡ Ok tt → 1 ≤ c.capacity
-has-room c h =
-    elim (cases_Bool (is_from_one 1048576 c.capacity)) [
-      | inl e ↦ grind (arith, nat_tests)
-      | inr e ↦ absurd (let no : Err Capacity ≡ Ok tt = rw e at h in cc (no))
-    ]
+has-room c h = grind (arith, nat_tests)
 
 pub reached-halvings : (d : QueueState) → IsReached d → FewHalvings d.frequency
 reached-halvings d r =

@@ -1,6 +1,5 @@
 -- The last distinct keys, one access after another.
-use Rattle.std.proofs.Common.{◌≡◌, ℕ, suc, zero, ◌+◌, ◌-◌, ◌<◌, ◌≤◌, Bool, true, false, cond, ◌&&◌, eqb, nat_lt, List, [], ◌∷◌, ◌++◌, length, drop, ap, ◌∙◌, sym, refl, arith, ◌⊎◌, inl, inr, length-append, length-drop}
-use Rattle.std.proofs.lemmas.Bool.{eqb-true, eq-eqb}
+use Rattle.std.proofs.Common.{◌≡◌, ℕ, suc, zero, ◌+◌, ◌-◌, ◌<◌, ◌≤◌, Bool, true, false, cond, eqb, nat_lt, List, [], ◌∷◌, ◌++◌, length, drop, refl, arith, ◌⊎◌, inl, inr, length-append, length-drop}
 use Rattle.std.proofs.lemmas.Bool.Decides.{nat_tests}
 use Rattle.std.proofs.lemmas.List.{drop-append-le}
 use Rattle.step_record.specs.Keys.{has_key, keys_without}
@@ -34,56 +33,29 @@ last c l = drop (length l - c) l
 
 has-distinct : (k : ℕ) (xs : List ℕ) → has_key k (distinct_keys xs) ≡ has_key k xs
 has-distinct k [] = refl
-has-distinct k (a ∷ xs) =
-    elim (two (has_key a xs)) as (λ _. has_key k (cond (has_key a xs) (distinct_keys xs) (a ∷ distinct_keys xs)) ≡ cond (eqb k a) true (has_key k xs)) [
-      | inl h ↦ rw (h, has-distinct k xs) (elim (two (eqb k a)) as (λ _. has_key k xs ≡ cond (eqb k a) true (has_key k xs)) [
-        | inl e ↦ let same : k ≡ a = eqb-true k a e in rw (e, same) h
-        | inr e ↦ rw e refl
-      ])
-      | inr h ↦ rw (h, has-distinct k xs) refl
-    ]
+has-distinct k (a ∷ xs) = grind (arith, nat_tests, has-distinct k xs)
 
 pub distinct-distinct : (xs : List ℕ) → IsDistinct (distinct_keys xs)
 distinct-distinct [] = tt
-distinct-distinct (a ∷ xs) =
-    elim (two (has_key a xs)) as (λ _. IsDistinct (cond (has_key a xs) (distinct_keys xs) (a ∷ distinct_keys xs))) [
-      | inl h ↦ rw h (distinct-distinct xs)
-      | inr h ↦ rw h (has-distinct a xs ∙ h, distinct-distinct xs)
-    ]
+distinct-distinct (a ∷ xs) = grind (arith, nat_tests, distinct-distinct xs, has-distinct)
 
 pub without-none : (k : ℕ) (l : List ℕ) → has_key k l ≡ false → keys_without k l ≡ l
 without-none k [] h = refl
-without-none k (a ∷ l) h =
-    elim (two (eqb k a)) as (λ _. cond (eqb k a) (keys_without k l) (a ∷ keys_without k l) ≡ a ∷ l) [
-      | inl e ↦ absurd (let no : true ≡ false = rw e at h in cc (no))
-      | inr e ↦ rw e (ap (λ t. a ∷ t) (without-none k l (rw e at h)))
-    ]
+without-none k (a ∷ l) h = grind (arith, nat_tests, without-none k l)
 
 -- at most one leaves
 without-long : (k : ℕ) (l : List ℕ) → IsDistinct l → length l ≤ length (keys_without k l) + 1
 without-long k [] d = omega arith
-without-long k (a ∷ l) d =
-    elim (two (eqb k a)) as (λ _. suc (length l) ≤ length (cond (eqb k a) (keys_without k l) (a ∷ keys_without k l)) + 1) [
-      | inl e ↦ let same : k ≡ a = eqb-true k a e in let gone : keys_without k l ≡ l = rw same (without-none a l d.0) in rw (e, gone) (omega arith)
-      | inr e ↦ rw e (let rest : length l ≤ length (keys_without k l) + 1 = without-long k l d.1 in omega arith)
-    ]
+without-long k (a ∷ l) d = grind (arith, nat_tests, without-none, without-long k l d.1)
 
 without-le : (k : ℕ) (l : List ℕ) → length (keys_without k l) ≤ length l
 without-le k [] = omega arith
-without-le k (a ∷ l) =
-    elim (two (eqb k a)) as (λ _. length (cond (eqb k a) (keys_without k l) (a ∷ keys_without k l)) ≤ suc (length l)) [
-      | inl e ↦ rw e (let rest : length (keys_without k l) ≤ length l = without-le k l in omega arith)
-      | inr e ↦ rw e (let rest : length (keys_without k l) ≤ length l = without-le k l in omega arith)
-    ]
+without-le k (a ∷ l) = grind (arith, nat_tests, without-le k l)
 
 -- one leaves
 without-short : (k : ℕ) (l : List ℕ) → has_key k l ≡ true → length (keys_without k l) < length l
 without-short k [] h = absurd (cc (h))
-without-short k (a ∷ l) h =
-    elim (two (eqb k a)) as (λ _. length (cond (eqb k a) (keys_without k l) (a ∷ keys_without k l)) < suc (length l)) [
-      | inl e ↦ rw e (let rest : length (keys_without k l) ≤ length l = without-le k l in omega arith)
-      | inr e ↦ rw e (let rest : length (keys_without k l) < length l = without-short k l (rw e at h) in omega arith)
-    ]
+without-short k (a ∷ l) h = grind (arith, nat_tests, without-le, without-short k l)
 
 last-long : (c x : ℕ) (l : List ℕ) → c ≤ length l → last c (x ∷ l) ≡ last c l
 last-long c x l h = let n : suc (length l) - c ≡ suc (length l - c) = omega arith in rw n refl
@@ -97,11 +69,7 @@ last-length c l h = simp length-drop (omega arith)
 -- one fewer
 last-fewer : (c : ℕ) (l : List ℕ) → suc c ≤ length l → last c l ≡ drop 1 (last (suc c) l)
 last-fewer c [] h = absurd (omega arith)
-last-fewer c (x ∷ l) h =
-    elim (dec (suc c) (length l)) as (λ _. last c (x ∷ l) ≡ drop 1 (last (suc c) (x ∷ l))) [
-      | inl w ↦ rw (last-long c x l (omega arith), last-long (suc c) x l w) (last-fewer c l w)
-      | inr w ↦ rw (last-long c x l (omega arith), last-short (suc c) (x ∷ l) (omega arith), last-short c l (omega arith)) refl
-    ]
+last-fewer c (x ∷ l) h = grind (arith, nat_tests, last-long, last-fewer c l, last-short)
 
 pub has-drop : (k n : ℕ) (l : List ℕ) → has_key k (drop n l) ≡ true → has_key k l ≡ true
 has-drop k zero l h = h
@@ -113,52 +81,16 @@ has-drop k (suc n) (a ∷ l) h =
 last-hit : (c k : ℕ) (l : List ℕ) → IsDistinct l → has_key k (last (suc c) l) ≡ true → last c (keys_without k l) ≡ keys_without k (last (suc c) l)
 last-hit c k [] d h = absurd (let no : false ≡ true = rw (last-short (suc c) [] (omega arith)) at h in cc (no))
 last-hit c k (x ∷ l) d h =
-    elim (dec (suc c) (length l)) as (λ _. last c (keys_without k (x ∷ l)) ≡ keys_without k (last (suc c) (x ∷ l))) [
-      | inl w ↦
-          let there : has_key k (last (suc c) l) ≡ true = rw (last-long (suc c) x l w) at h in
-          rw (last-long (suc c) x l w) (elim (two (eqb k x)) as (λ _. last c (cond (eqb k x) (keys_without k l) (x ∷ keys_without k l)) ≡ keys_without k (last (suc c) l)) [
-            | inl e ↦ absurd (let same : k ≡ x = eqb-true k x e in let no : has_key x l ≡ true = rw same at (has-drop k (length l - suc c) l there) in cc (no, d.0))
-            | inr e ↦
-                let long : length l ≤ length (keys_without k l) + 1 = without-long k l d.1 in
-                rw (e, last-long c x (keys_without k l) (omega arith)) (last-hit c k l d.1 there)
-          ])
-      | inr w ↦
-          let all : last (suc c) (x ∷ l) ≡ x ∷ l = last-short (suc c) (x ∷ l) (omega arith) in
-          let short : length (keys_without k (x ∷ l)) < length (x ∷ l) = without-short k (x ∷ l) (rw all at h) in
-          rw all (last-short c (keys_without k (x ∷ l)) (omega arith))
-    ]
+    grind (arith, nat_tests, last-long, has-drop, without-long, last-hit c k l d.1, last-short, without-short)
 
 -- k is not among the last
 last-miss : (c k : ℕ) (l : List ℕ) → IsDistinct l → has_key k (last (suc c) l) ≡ false → last c (keys_without k l) ≡ cond (nat_lt (length l) (suc c)) l (drop 1 (last (suc c) l))
-last-miss c k [] d h =
-    let none : last c (keys_without k []) ≡ [] = last-short c [] (omega arith) in
-    let room : nat_lt (length (keys_without k [])) (suc c) ≡ true = grind (arith, nat_tests) in
-    rw (none, room) refl
+last-miss c k [] d h = grind (arith, nat_tests, last-short)
 last-miss c k (x ∷ l) d h =
-    elim (dec (suc c) (length l)) as (λ _. last c (keys_without k (x ∷ l)) ≡ cond (nat_lt (suc (length l)) (suc c)) (x ∷ l) (drop 1 (last (suc c) (x ∷ l)))) [
-      | inl w ↦
-          let there : has_key k (last (suc c) l) ≡ false = rw (last-long (suc c) x l w) at h in
-          let full : nat_lt (suc (length l)) (suc c) ≡ false = grind (arith, nat_tests) in
-          let full2 : nat_lt (length l) (suc c) ≡ false = grind (arith, nat_tests) in
-          rw (full, last-long (suc c) x l w) (elim (two (eqb k x)) as (λ _. last c (cond (eqb k x) (keys_without k l) (x ∷ keys_without k l)) ≡ drop 1 (last (suc c) l)) [
-            | inl e ↦ let same : k ≡ x = eqb-true k x e in rw (e, same, without-none x l d.0) (last-fewer c l w)
-            | inr e ↦
-                let long : length l ≤ length (keys_without k l) + 1 = without-long k l d.1 in
-                rw (e, last-long c x (keys_without k l) (omega arith)) (rw full2 at (last-miss c k l d.1 there))
-          ])
-      | inr w ↦
-          let all : last (suc c) (x ∷ l) ≡ x ∷ l = last-short (suc c) (x ∷ l) (omega arith) in
-          let gone : keys_without k (x ∷ l) ≡ x ∷ l = without-none k (x ∷ l) (rw all at h) in
-          rw gone (elim (dec (suc c) (length (x ∷ l))) as (λ _. last c (x ∷ l) ≡ cond (nat_lt (suc (length l)) (suc c)) (x ∷ l) (drop 1 (last (suc c) (x ∷ l)))) [
-            | inl v ↦ let full : nat_lt (suc (length l)) (suc c) ≡ false = grind (arith, nat_tests) in rw full (last-fewer c (x ∷ l) v)
-            | inr v ↦ let room : nat_lt (suc (length l)) (suc c) ≡ true = grind (arith, nat_tests) in rw room (last-short c (x ∷ l) (omega arith))
-          ])
-    ]
+    grind (arith, nat_tests, last-long, without-none, last-fewer, without-long, last-miss c k l d.1, last-short)
 
 last-snoc : (c k : ℕ) (l : List ℕ) → last (suc c) (l ++ k ∷ []) ≡ last c l ++ k ∷ []
-last-snoc c k l =
-    let n : length (l ++ k ∷ []) - suc c ≡ length l - c = omega (arith, length-append l (k ∷ [])) in
-    rw n (drop-append-le (length l - c) l (k ∷ []) (omega arith))
+last-snoc c k l = grind (arith, nat_tests, length-append, drop-append-le)
 
 has-snoc : (a k : ℕ) (xs : List ℕ) → has_key a (xs ++ k ∷ []) ≡ cond (has_key a xs) true (eqb a k)
 has-snoc a k [] = elim (two (eqb a k)) as (λ _. cond (eqb a k) true false ≡ eqb a k) [ inl e ↦ rw e refl | inr e ↦ rw e refl ]
@@ -170,21 +102,11 @@ eqb-sym a b = grind (arith, nat_tests)
 
 distinct-snoc : (k : ℕ) (xs : List ℕ) → distinct_keys (xs ++ k ∷ []) ≡ keys_without k (distinct_keys xs) ++ k ∷ []
 distinct-snoc k [] = refl
-distinct-snoc k (a ∷ xs) =
-    elim (two (has_key a xs)) as (λ _. cond (has_key a (xs ++ k ∷ [])) (distinct_keys (xs ++ k ∷ [])) (a ∷ distinct_keys (xs ++ k ∷ [])) ≡ keys_without k (cond (has_key a xs) (distinct_keys xs) (a ∷ distinct_keys xs)) ++ k ∷ []) [
-      | inl h ↦ rw (has-snoc a k xs, h) (distinct-snoc k xs)
-      | inr h ↦ rw (has-snoc a k xs, h, eqb-sym a k) (elim (two (eqb k a)) as (λ _. cond (eqb k a) (distinct_keys (xs ++ k ∷ [])) (a ∷ distinct_keys (xs ++ k ∷ [])) ≡ cond (eqb k a) (keys_without k (distinct_keys xs)) (a ∷ keys_without k (distinct_keys xs)) ++ k ∷ []) [
-        | inl e ↦ rw e (distinct-snoc k xs)
-        | inr e ↦ rw e (ap (λ t. a ∷ t) (distinct-snoc k xs))
-      ])
-    ]
+distinct-snoc k (a ∷ xs) = grind (arith, nat_tests, has-snoc, distinct-snoc k xs, eqb-sym)
 
 since-short : (k : ℕ) (xs : List ℕ) → length (distinct_keys (keys_since k xs)) ≤ length (distinct_keys xs)
 since-short k [] = omega arith
-since-short k (a ∷ xs) =
-    let tail : length (distinct_keys xs) ≤ length (distinct_keys (a ∷ xs)) = elim (two (has_key a xs)) as (λ _. length (distinct_keys xs) ≤ length (cond (has_key a xs) (distinct_keys xs) (a ∷ distinct_keys xs))) [ inl h ↦ rw h (omega arith) | inr h ↦ rw h (omega arith) ] in
-    let rest : length (distinct_keys (keys_since k xs)) ≤ length (distinct_keys xs) = since-short k xs in
-    elim (two (has_key k xs)) as (λ _. length (distinct_keys (cond (has_key k xs) (keys_since k xs) xs)) ≤ length (distinct_keys (a ∷ xs))) [ inl h ↦ rw h (omega arith) | inr h ↦ rw h tail ]
+since-short k (a ∷ xs) = grind (arith, nat_tests, since-short k xs)
 
 pub not-drop : (k n : ℕ) (l : List ℕ) → has_key k l ≡ false → has_key k (drop n l) ≡ false
 not-drop k n l h =
@@ -194,44 +116,10 @@ not-drop k n l h =
 has-last : (c k : ℕ) (xs : List ℕ) → has_key k (lru_residents c xs) ≡ is_lru_hit c xs k
 has-last c k [] = let none : last c [] ≡ [] = last-short c [] (omega arith) in rw none refl
 has-last c k (a ∷ xs) =
-    elim (two (has_key k xs)) as (λ _. has_key k (last c (distinct_keys (a ∷ xs))) ≡ cond (eqb k a) true (has_key k xs) && nat_lt (length (distinct_keys (cond (has_key k xs) (keys_since k xs) xs))) c) [
-      | inl h ↦
-          let came : cond (eqb k a) true true ≡ true = elim (two (eqb k a)) as (λ _. cond (eqb k a) true true ≡ true) [ inl e ↦ rw e refl | inr e ↦ rw e refl ] in
-          let rest : has_key k (last c (distinct_keys xs)) ≡ nat_lt (length (distinct_keys (keys_since k xs))) c = rw h at (has-last c k xs) in
-          rw (h, came) (elim (two (has_key a xs)) as (λ _. has_key k (last c (cond (has_key a xs) (distinct_keys xs) (a ∷ distinct_keys xs))) ≡ nat_lt (length (distinct_keys (keys_since k xs))) c) [
-            | inl f ↦ rw f rest
-            | inr f ↦ rw f (elim (dec c (length (distinct_keys xs))) as (λ _. has_key k (last c (a ∷ distinct_keys xs)) ≡ nat_lt (length (distinct_keys (keys_since k xs))) c) [
-              | inl w ↦ rw (last-long c a (distinct_keys xs) w) rest
-              | inr w ↦
-                  let few : nat_lt (length (distinct_keys (keys_since k xs))) c ≡ true = let bound : length (distinct_keys (keys_since k xs)) ≤ length (distinct_keys xs) = since-short k xs in grind (arith, nat_tests) in
-                  rw (last-short c (a ∷ distinct_keys xs) (omega arith), few, has-distinct k xs, h) came
-            ])
-          ])
-      | inr h ↦
-          rw h (elim (two (eqb k a)) as (λ _. has_key k (last c (distinct_keys (a ∷ xs))) ≡ cond (eqb k a) true false && nat_lt (length (distinct_keys xs)) c) [
-            | inl e ↦
-                let same : a ≡ k = sym (eqb-true k a e) in
-                rw (e, same, h) (elim (dec c (length (distinct_keys xs))) as (λ _. has_key k (last c (k ∷ distinct_keys xs)) ≡ nat_lt (length (distinct_keys xs)) c) [
-                  | inl w ↦
-                      let many : nat_lt (length (distinct_keys xs)) c ≡ false = grind (arith, nat_tests) in
-                      rw (last-long c k (distinct_keys xs) w, many) (not-drop k (length (distinct_keys xs) - c) (distinct_keys xs) (has-distinct k xs ∙ h))
-                  | inr w ↦
-                      let few : nat_lt (length (distinct_keys xs)) c ≡ true = grind (arith, nat_tests) in
-                      let self : eqb k k ≡ true = eq-eqb k k refl in
-                      rw (last-short c (k ∷ distinct_keys xs) (omega arith), few, self) refl
-                ])
-            | inr e ↦
-                let none : has_key k (distinct_keys (a ∷ xs)) ≡ false = has-distinct k (a ∷ xs) ∙ rw (e, h) refl in
-                rw e (not-drop k (length (distinct_keys (a ∷ xs)) - c) (distinct_keys (a ∷ xs)) none)
-          ])
-    ]
+    grind (arith, nat_tests, has-last c k xs, last-long, since-short, last-short, has-distinct, not-drop)
 
 full-last : (c : ℕ) (l : List ℕ) → nat_lt (length (last c l)) c ≡ nat_lt (length l) c
-full-last c l =
-    elim (dec c (length l)) as (λ _. nat_lt (length (last c l)) c ≡ nat_lt (length l) c) [
-      | inl w ↦ let n : length (last c l) ≡ c = last-length c l w in rw n (grind (arith, nat_tests))
-      | inr w ↦ rw (last-short c l (omega arith)) refl
-    ]
+full-last c l = grind (arith, nat_tests, last-length, last-short)
 
 -- the residents, one access further
 pub residents-snoc : (c k : ℕ) (xs : List ℕ) → lru_residents (suc c) (xs ++ k ∷ []) ≡ moved (suc c) (lru_residents (suc c) xs) k
@@ -240,10 +128,7 @@ residents-snoc c k xs =
     (elim (two (has_key k (last (suc c) (distinct_keys xs)))) as (λ _. last c (keys_without k (distinct_keys xs)) ++ k ∷ [] ≡ moved (suc c) (last (suc c) (distinct_keys xs)) k) [
       | inl h ↦ rw (h, last-hit c k (distinct_keys xs) (distinct-distinct xs) h) refl
       | inr h ↦ rw (h, last-miss c k (distinct_keys xs) (distinct-distinct xs) h, full-last (suc c) (distinct_keys xs))
-          (elim (dec (suc c) (length (distinct_keys xs))) as (λ _. cond (nat_lt (length (distinct_keys xs)) (suc c)) (distinct_keys xs) (drop 1 (last (suc c) (distinct_keys xs))) ++ k ∷ [] ≡ cond (nat_lt (length (distinct_keys xs)) (suc c)) (last (suc c) (distinct_keys xs) ++ k ∷ []) (drop 1 (last (suc c) (distinct_keys xs)) ++ k ∷ [])) [
-            | inl w ↦ let full : nat_lt (length (distinct_keys xs)) (suc c) ≡ false = grind (arith, nat_tests) in rw full refl
-            | inr w ↦ let room : nat_lt (length (distinct_keys xs)) (suc c) ≡ true = grind (arith, nat_tests) in rw (room, last-short (suc c) (distinct_keys xs) (omega arith)) refl
-          ])
+          (grind (arith, nat_tests, last-short))
     ])
 
 -- the outcome is the one that the residents show
