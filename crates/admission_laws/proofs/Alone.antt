@@ -93,11 +93,7 @@ module _ (s : Spread) (d k i : ℕ) (deep : 0 < d) (below : i < 3) where
       ]
 
   pub era-few : (keys : List ℕ) → Owns keys → records_of k (main_touches s d [] keys) ≤ records_of k keys - 1
-  era-few keys own =
-      let h = main-few [] keys own in
-      let none : is_known s d [] k ≡ false = known_are_held s d [] k deep in
-      let first : cond (is_known s d [] k) 0 (min 1 (records_of k keys)) ≡ min 1 (records_of k keys) = rw none refl in
-      omega (arith, h, first)
+  era-few keys own = grind (arith, nat_tests, main-few, known_are_held)
 
   pub door-few : (keys : List ℕ) → Owns keys → cond (is_known s d keys k) 1 0 ≤ min 1 (records_of k keys)
   door-few keys own = grind (arith, nat_tests, known-came)
