@@ -1,5 +1,6 @@
 -- One access, by the table of moves: what it leaves of an item, how many items, and the outcome that it counts.
-use Rattle.std.proofs.Common.{◌≡◌, ◌⊎◌, ℕ, ◌+◌, ◌<◌, ◌≤◌, Bool, false, cond, nat_lt, Option, Some, None, List, [], ◌∷◌, ◌++◌, length, ap, ◌∙◌, sym, refl, arith, inl, inr, length-append}
+use Rattle.std.proofs.Common.{◌≡◌, ◌⊎◌, ℕ, ◌+◌, ◌<◌, ◌≤◌, Bool, false, cond, nat_lt, Option, Some, None, List, [], ◌∷◌, ◌++◌, length, ◌∙◌, sym, refl, arith, inl, inr, length-append}
+use Rattle.std.proofs.lemmas.Bool.Decides.{nat_tests}
 use Rattle.std.proofs.lemmas.Bool.{cases_Bool, ltb-true, ltb-false, lt-ltb, le-ltb}
 use Rattle.step_record.specs.Stats.{is_hit, is_miss, is_eviction, one_if}
 use Rattle.step_record.specs.declared.item.Item.{Item}
@@ -70,11 +71,7 @@ protected-renewed x s a b = record {
 }
 
 demoted-renewed : (size : ℕ) (s : Queues) → IsDistinct s → IsRenewed s (queues_after_demotion size s)
-demoted-renewed size s u =
-    elim (cases_Bool (nat_lt size (length s.protected))) as (λ _. IsRenewed s (queues_after_demotion size s)) [
-      | inl e ↦ rw e (by (oldest_of s.protected) refl)
-      | inr e ↦ rw e (renewed-none s)
-    ]
+demoted-renewed size s u = grind (arith, nat_tests, by, renewed-none)
   where
     by : (o : Option Item) → oldest_of s.protected ≡ o → IsRenewed s (with_recent o Probation s)
     by None h = renewed-none s
@@ -209,11 +206,7 @@ pub record IsBalanced (r : Rules) (i : Item) (s : Queues) (a : Response) : Type 
 
 -- one more item, which stood nowhere
 joined-once : (i j : Item) (s : Queues) → IsDistinct s → queue_occurrences i s ≡ 0 → queue_occurrences j s + cond (is_same_item j i) 1 0 ≤ 1
-joined-once i j s u none =
-    elim (cases_Bool (is_same_item j i)) as (λ _. queue_occurrences j s + cond (is_same_item j i) 1 0 ≤ 1) [
-      | inl e ↦ let here : queue_occurrences j s ≡ 0 = ap (λ x. queue_occurrences x s) (same-true j i e) ∙ none in rw e (omega (arith, here))
-      | inr e ↦ rw e (omega (arith, u j))
-    ]
+joined-once i j s u none = grind (arith, nat_tests, same-true)
 
 no-hit : (i : Item) (s : Queues) → queue_occurrences i s ≡ 0 → false ≡ nat_lt 0 (queue_occurrences i s)
 no-hit i s none = sym (le-ltb 0 (queue_occurrences i s) (omega (arith, none)))

@@ -1,5 +1,6 @@
 -- How often an item stands in the queues, and how many items do, after each call.
-use Rattle.std.proofs.Common.{◌≡◌, ℕ, ◌+◌, ◌≤◌, false, cond, List, [], ◌∷◌, ◌∙◌, sym, refl, arith, inl, inr, length-append}
+use Rattle.std.proofs.Common.{◌≡◌, ℕ, ◌+◌, ◌≤◌, cond, List, [], ◌∷◌, refl, arith, inl, inr, length-append}
+use Rattle.std.proofs.lemmas.Bool.Decides.{nat_tests}
 use Rattle.std.proofs.lemmas.Bool.{cases_Bool}
 use Rattle.step_record.specs.declared.item.Item.{Item}
 use Rattle.segments.specs.declared.records.Queue.{Queue}
@@ -14,26 +15,10 @@ once i j = cond (is_same_item i j) 1 0
 
 pub unless-same : (j i : Item) (l : List Item) → occurrences j (items_without i l) ≡ cond (is_same_item j i) 0 (occurrences j l)
 unless-same j i [] = elim (cases_Bool (is_same_item j i)) as (λ _. occurrences j [] ≡ cond (is_same_item j i) 0 (occurrences j [])) [ inl e ↦ rw e refl | inr e ↦ rw e refl ]
-unless-same j i (x ∷ l) =
-    let h : occurrences j (items_without i l) ≡ cond (is_same_item j i) 0 (occurrences j l) = unless-same j i l in
-    elim (cases_Bool (is_same_item i x)) as (λ _. occurrences j (cond (is_same_item i x) (items_without i l) (x ∷ items_without i l)) ≡ cond (is_same_item j i) 0 (cond (is_same_item j x) 1 0 + occurrences j l)) [
-      | inl e ↦ let s : i ≡ x = same-true i x e in rw (e, h) (elim (cases_Bool (is_same_item j i)) as (λ _. cond (is_same_item j i) 0 (occurrences j l) ≡ cond (is_same_item j i) 0 (cond (is_same_item j x) 1 0 + occurrences j l)) [
-        | inl f ↦ rw f refl
-        | inr f ↦ let g : is_same_item j x ≡ false = rw s at f in rw (f, g) (omega arith)
-      ])
-      | inr e ↦ rw (e, h) (elim (cases_Bool (is_same_item j i)) as (λ _. cond (is_same_item j x) 1 0 + cond (is_same_item j i) 0 (occurrences j l) ≡ cond (is_same_item j i) 0 (cond (is_same_item j x) 1 0 + occurrences j l)) [
-        | inl f ↦ let s : j ≡ i = same-true j i f in let g : is_same_item j x ≡ false = rw (← s) at e in rw (f, g) refl
-        | inr f ↦ rw f refl
-      ])
-    ]
+unless-same j i (x ∷ l) = grind (arith, nat_tests, unless-same j i l, same-true)
 
 pub queued-taken : (j i : Item) (q : Queues) → queue_occurrences j (queues_without i q) ≡ cond (is_same_item j i) 0 (queue_occurrences j q)
-queued-taken j i q =
-    rw (unless-same j i q.window, unless-same j i q.probation, unless-same j i q.protected)
-    (elim (cases_Bool (is_same_item j i)) as (λ _. cond (is_same_item j i) 0 (occurrences j q.window) + cond (is_same_item j i) 0 (occurrences j q.probation) + cond (is_same_item j i) 0 (occurrences j q.protected) ≡ cond (is_same_item j i) 0 (queue_occurrences j q)) [
-      | inl e ↦ rw e refl
-      | inr e ↦ rw e refl
-    ])
+queued-taken j i q = grind (arith, nat_tests, unless-same)
 
 pub taken-less : (j i : Item) (q : Queues) → queue_occurrences j (queues_without i q) ≤ queue_occurrences j q
 taken-less j i q = omega (arith, times-without i j q.window, times-without i j q.probation, times-without i j q.protected)
@@ -44,26 +29,14 @@ queued-pushed j i Probation q = rw (times-append j q.probation (i ∷ [])) (omeg
 queued-pushed j i Protected q = rw (times-append j q.protected (i ∷ [])) (omega arith)
 
 pub queued-moved : (j i : Item) (to : Queue) (q : Queues) → queue_occurrences j (queues_after_move i to q) ≡ cond (is_same_item j i) 1 (queue_occurrences j q)
-queued-moved j i to q =
-    queued-pushed j i to (queues_without i q) ∙ rw (queued-taken j i q) (elim (cases_Bool (is_same_item j i)) as (λ _. cond (is_same_item j i) 0 (queue_occurrences j q) + cond (is_same_item j i) 1 0 ≡ cond (is_same_item j i) 1 (queue_occurrences j q)) [
-      | inl e ↦ rw e refl
-      | inr e ↦ rw e (omega arith)
-    ])
+queued-moved j i to q = grind (arith, nat_tests, queued-pushed, queued-taken)
 
 pub distinct-moved : (i : Item) (to : Queue) (q : Queues) → IsDistinct q → IsDistinct (queues_after_move i to q)
-distinct-moved i to q d j =
-    rw (queued-moved j i to q) (elim (cases_Bool (is_same_item j i)) as (λ _. cond (is_same_item j i) 1 (queue_occurrences j q) ≤ 1) [
-      | inl e ↦ rw e (omega arith)
-      | inr e ↦ rw e (d j)
-    ])
+distinct-moved i to q d j = grind (arith, nat_tests, queued-moved)
 
 -- the moved item was queued: nothing comes or goes
 pub queued-kept : (j i : Item) (to : Queue) (q : Queues) → queue_occurrences i q ≡ 1 → queue_occurrences j (queues_after_move i to q) ≡ queue_occurrences j q
-queued-kept j i to q h =
-    queued-moved j i to q ∙ elim (cases_Bool (is_same_item j i)) as (λ _. cond (is_same_item j i) 1 (queue_occurrences j q) ≡ queue_occurrences j q) [
-      | inl e ↦ let s : j ≡ i = same-true j i e in rw (e, s) (sym h)
-      | inr e ↦ rw e refl
-    ]
+queued-kept j i to q h = grind (arith, nat_tests, queued-moved, same-true)
 
 -- ---- how many
 

@@ -1,20 +1,20 @@
 -- The plans carry out the table of moves.
-use Rattle.std.proofs.Common.{◌≡◌, ℕ, ◌+◌, ◌≤◌, Bool, true, false, cond, nat_lt, Option, Some, None, List, [], ◌∷◌, ◌++◌, length, ap, ◌∙◌, sym, refl, arith, inl, inr, length-append}
+use Rattle.std.proofs.Common.{◌≡◌, ℕ, ◌+◌, ◌≤◌, Bool, true, false, Option, Some, None, List, [], ◌∷◌, ◌++◌, ap, ◌∙◌, sym, refl, arith, inl, inr, length-append}
+use Rattle.std.proofs.lemmas.Bool.Decides.{nat_tests}
 use Rattle.std.proofs.lemmas.Bool.{cases_Bool}
 use Rattle.step_record.specs.declared.item.Item.{Item}
-use Rattle.step_record.specs.declared.outcome.Outcome.TheVariants.{Evicted}
 use Rattle.segments.specs.declared.records.Queue.{Queue}
 use Rattle.segments.specs.declared.records.Queue.TheVariants.{Window, Probation, Protected}
 use Rattle.segments.specs.Items.{is_same_item, occurrences, items_without, oldest_of}
-use Rattle.segments.specs.Queues.{Queues, queue_of, queue_holding, queues_without, queues_after_move, total_items, IsDistinct}
+use Rattle.segments.specs.Queues.{Queues, queue_holding, queues_without, queues_after_move, total_items, IsDistinct}
 use Rattle.segments.proofs.ItemLists.{same-refl, same-sym, length-without, without-none, without-append}
 use Rattle.segments.proofs.MoveLaws.{taken-moved}
 use Rattle.segments.proofs.QueueLists.{first-stands, pushed-moved, still-absent}
 use Rattle.replacement.specs.declared.rules.Placement.{Placement}
 use Rattle.replacement.specs.declared.rules.Placement.TheVariants.{Direct, Windowed}
 use Rattle.replacement.specs.declared.rules.Rules.{Rules}
-use Rattle.replacement.specs.Table.{Response, kept_in, with_recent, queues_after_demotion, hit_response, rejection, contest, trial_of, eviction, response_with_victim, response_without_trial, miss_by, miss, access_in, access}
-use Rattle.replacement.specs.Plan.{Plan, Transfer, transfer, demotion, stay_plan, contest_plan, direct_plan, candidate_of, eviction_of, eviction_plan, joining_first, miss_plan_by, miss_plan, plan_in, plan}
+use Rattle.replacement.specs.Table.{Response, with_recent, queues_after_demotion, hit_response, contest, trial_of, eviction, response_with_victim, response_without_trial, miss_by, miss, access_in, access}
+use Rattle.replacement.specs.Plan.{Plan, Transfer, transfer, demotion, contest_plan, direct_plan, candidate_of, eviction_of, eviction_plan, joining_first, miss_plan_by, miss_plan, plan_in, plan}
 use Rattle.replacement.specs.PlanMoves.{queues_after_transfer, removed, response_of_plan}
 use Rattle.replacement.specs.Theorems.{HitsPlanned, EvictionsPlanned, AccessesPlanned}
 use Rattle.replacement.proofs.Counting.{distinct-moved}
@@ -22,11 +22,7 @@ use Rattle.replacement.proofs.Counting.{distinct-moved}
 -- ---- hits
 
 demoted-planned : (size : ℕ) (s : Queues) → queues_after_demotion size s ≡ queues_after_transfer (demotion size s) s
-demoted-planned size s =
-    elim (cases_Bool (nat_lt size (length s.protected))) as (λ _. queues_after_demotion size s ≡ queues_after_transfer (demotion size s) s) [
-      | inl e ↦ rw e (by_oldest (oldest_of s.protected))
-      | inr e ↦ rw e refl
-    ]
+demoted-planned size s = grind (arith, nat_tests, by_oldest)
   where
     by_oldest : (o : Option Item) → with_recent o Probation s ≡ queues_after_transfer (transfer Probation o) s
     by_oldest None = refl
@@ -42,18 +38,7 @@ hits-planned size i Protected s = refl
 -- two items taken out, in either order
 swapped : (v c : Item) (l : List Item) → items_without v (items_without c l) ≡ items_without c (items_without v l)
 swapped v c [] = refl
-swapped v c (x ∷ l) =
-    let h : items_without v (items_without c l) ≡ items_without c (items_without v l) = swapped v c l in
-    elim (cases_Bool (is_same_item c x)) as (λ _. items_without v (cond (is_same_item c x) (items_without c l) (x ∷ items_without c l)) ≡ items_without c (cond (is_same_item v x) (items_without v l) (x ∷ items_without v l))) [
-      | inl e ↦ rw e (elim (cases_Bool (is_same_item v x)) as (λ _. items_without v (items_without c l) ≡ items_without c (cond (is_same_item v x) (items_without v l) (x ∷ items_without v l))) [
-        | inl f ↦ rw f h
-        | inr f ↦ rw (f, e) h
-      ])
-      | inr e ↦ rw e (elim (cases_Bool (is_same_item v x)) as (λ _. cond (is_same_item v x) (items_without v (items_without c l)) (x ∷ items_without v (items_without c l)) ≡ items_without c (cond (is_same_item v x) (items_without v l) (x ∷ items_without v l))) [
-        | inl f ↦ rw f h
-        | inr f ↦ rw (f, e) (ap (λ t. x ∷ t) h)
-      ])
-    ]
+swapped v c (x ∷ l) = grind (arith, nat_tests, swapped v c l)
 
 -- another item is taken out before or after the candidate goes to probation
 taken-past : (v c : Item) (q : Queues) → is_same_item v c ≡ false → queues_without v (queues_after_move c Probation q) ≡ queues_after_move c Probation (queues_without v q)
@@ -74,11 +59,7 @@ first-shifted c l h = rw (without-none c l h) (by l)
     by (x ∷ l) = refl
 
 apart : (c v : Item) (l : List Item) → occurrences c l ≡ 0 → oldest_of l ≡ Some v → is_same_item c v ≡ false
-apart c v l h f =
-    elim (cases_Bool (is_same_item c v)) [
-      | inl e ↦ absurd (by l h f e)
-      | inr e ↦ e
-    ]
+apart c v l h f = grind (arith, nat_tests, by)
   where
     item_in : Item → Option Item → Item
     item_in d None = d
@@ -86,11 +67,7 @@ apart c v l h f =
 
     by : (l : List Item) → occurrences c l ≡ 0 → oldest_of l ≡ Some v → is_same_item c v ≡ true → ⊥
     by [] h f e = cc (f)
-    by (x ∷ l) h f e =
-        let s : x ≡ v = ap (item_in x) f in
-        let t : is_same_item c x ≡ true = rw s e in
-        let no : 1 + occurrences c l ≡ 0 = rw t at h in
-        omega arith
+    by (x ∷ l) h f e = grind (arith, nat_tests, item_in)
 
 contest-planned : (a : ℕ → ℕ → Bool) (c : Item) (o : Option Item) (s : Queues) → oldest_of s.probation ≡ o → occurrences c s.probation ≡ 0
     → contest a c (first_or c o) (queues_after_move c Probation s) ≡ response_of_plan (contest_plan Probation a c (Some c) o) s
@@ -98,10 +75,7 @@ unfolding first_or
 contest-planned a c None s f h = let e = same-refl c in rw (e, taken-moved c Probation s) refl
 contest-planned a c (Some v) s f h =
     let e : is_same_item c v ≡ false = apart c v s.probation h f in
-    rw e (elim (cases_Bool (a c.key v.key)) as (λ _. cond {A = Response} (a c.key v.key) record { outcome = Evicted v.key; left = Some v; queues = queues_without v (queues_after_move c Probation s) } (rejection c (queues_after_move c Probation s)) ≡ response_of_plan (contest_plan Probation a c (Some c) (Some v)) s) [
-      | inl g ↦ rw (g, taken-past v c s (same-sym c v e)) refl
-      | inr g ↦ rw (g, taken-moved c Probation s) refl
-    ])
+    rw e (grind (arith, nat_tests, taken-past v c s (same-sym c v e), same-sym c v e, taken-moved c Probation s))
 
 -- the candidate's way to probation adds no item
 total-shifted : (c : Item) (q : Queues) → IsDistinct q → 1 ≤ occurrences c q.window → total_items (queues_after_move c Probation q) ≡ total_items q
@@ -110,32 +84,17 @@ total-shifted c q d h = omega (arith, d c, h, length-without c q.window, length-
 trial-planned : (r : Rules) (a : ℕ → ℕ → Bool) (o : Option Item) (s : Queues) → oldest_of s.window ≡ o → IsDistinct s
     → trial_of r a o s ≡ response_of_plan (eviction_of r a o s) s
 trial-planned r a None s f d = refl
-trial-planned r a (Some c) s f d =
-    let n : 1 ≤ occurrences c s.window = first-stands c s.window f in
-    let z : occurrences c s.probation ≡ 0 = omega (arith, d c, n) in
-    rw (total-shifted c s d n) (elim (cases_Bool (nat_lt r.capacity (total_items s))) as (λ _. cond {A = Response} (nat_lt r.capacity (total_items s)) (contest a c (oldest_of (queues_after_move c Probation s).probation) (queues_after_move c Probation s)) (kept_in (queues_after_move c Probation s))
-    ≡ response_of_plan (cond (nat_lt r.capacity (total_items s)) (contest_plan Probation a c (Some c) (oldest_of s.probation)) (stay_plan Probation c)) s) [
-      | inl e ↦ rw e (ap (λ (o : Option Item). contest a c o (queues_after_move c Probation s)) (first-shifted c s.probation z) ∙ contest-planned a c (oldest_of s.probation) s refl z)
-      | inr e ↦ rw e refl
-    ])
+trial-planned r a (Some c) s f d = grind (arith, nat_tests, first-stands, total-shifted, first-shifted, contest-planned)
 
 pub evictions-planned : EvictionsPlanned
-evictions-planned r a s d =
-    elim (cases_Bool (nat_lt r.window (length s.window))) as (λ _. eviction r a s ≡ response_of_plan (eviction_plan r a s) s) [
-      | inl e ↦ rw e (trial-planned r a (oldest_of s.window) s refl d)
-      | inr e ↦ rw e refl
-    ]
+evictions-planned r a s d = grind (arith, nat_tests, trial-planned)
 
 -- ---- accesses
 
 -- a plan of an eviction moves nothing first, so that an item can join before it
 first-none : (r : Rules) (a : ℕ → ℕ → Bool) (o : Option Item) (s : Queues) → (eviction_of r a o s).first ≡ None
 first-none r a None s = refl
-first-none r a (Some c) s =
-    elim (cases_Bool (nat_lt r.capacity (total_items s))) as (λ _. (eviction_of r a (Some c) s).first ≡ None) [
-      | inl e ↦ rw e (by (oldest_of s.probation))
-      | inr e ↦ rw e refl
-    ]
+first-none r a (Some c) s = grind (arith, nat_tests, by)
   where
     by : (o : Option Item) → (contest_plan Probation a c (Some c) o).first ≡ None
     by None = refl
@@ -155,17 +114,10 @@ replacing-planned : (a : ℕ → ℕ → Bool) (q : Queue) (i : Item) (o : Optio
     → response_with_victim a q i o s ≡ response_of_plan (contest_plan q a i None o) s
 replacing-planned a q i None s h = refl
 replacing-planned a q i (Some v) s h =
-    elim (cases_Bool (a i.key v.key)) as (λ _. response_with_victim a q i (Some v) s ≡ response_of_plan (contest_plan q a i None (Some v)) s) [
-      | inl e ↦ rw (e, pushed-moved i q (queues_without v s) (still-absent i v s h)) refl
-      | inr e ↦ rw e refl
-    ]
+    grind (arith, nat_tests, pushed-moved i q (queues_without v s) (still-absent i v s h), still-absent i v s h)
 
 direct-planned : (r : Rules) (a : ℕ → ℕ → Bool) (q : Queue) (i : Item) (s : Queues) → queue_holding i s ≡ None → response_without_trial r a q i s ≡ response_of_plan (direct_plan r a q i s) s
-direct-planned r a q i s h =
-    elim (cases_Bool (nat_lt (total_items s) r.capacity)) as (λ _. response_without_trial r a q i s ≡ response_of_plan (direct_plan r a q i s) s) [
-      | inl e ↦ rw (e, pushed-moved i q s h) refl
-      | inr e ↦ rw e (replacing-planned a q i (oldest_of (queue_of q s)) s h)
-    ]
+direct-planned r a q i s h = grind (arith, nat_tests, pushed-moved, replacing-planned)
 
 miss-planned : (r : Rules) (a : ℕ → ℕ → Bool) (i : Item) (s : Queues) → IsDistinct s → queue_holding i s ≡ None → miss r a i s ≡ response_of_plan (miss_plan r a i s) s
 miss-planned r a i s d h = by r.placement

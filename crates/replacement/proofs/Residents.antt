@@ -1,8 +1,8 @@
 -- The keys of queues in which all items have one node.
-use Rattle.std.proofs.Common.{◌≡◌, ◌⊎◌, ℕ, suc, ◌+◌, ◌<◌, ◌≤◌, Bool, true, false, cond, ◌&&◌, eqb, nat_lt, List, [], ◌∷◌, ◌++◌, length, map, ap, ◌∙◌, sym, refl, arith, inl, inr, length-append}
+use Rattle.std.proofs.Common.{◌≡◌, ◌⊎◌, ℕ, suc, ◌+◌, ◌≤◌, Bool, true, false, cond, ◌&&◌, eqb, nat_lt, List, [], ◌∷◌, ◌++◌, length, map, ap, ◌∙◌, refl, arith, length-append}
+use Rattle.std.proofs.lemmas.Bool.Decides.{nat_tests}
 use Rattle.std.specs.List.{count_by}
 use Rattle.std.proofs.lemmas.List.Sums.{sum_by-append, sum_by-cons}
-use Rattle.std.proofs.lemmas.Bool.{cases_Bool, ltb-true, ltb-false, lt-ltb}
 use Rattle.step_record.specs.declared.item.Item.{Item}
 use Rattle.step_record.specs.Keys.{has_key}
 use Rattle.step_record.specs.Stats.{one_if}
@@ -28,11 +28,7 @@ residents-length s =
 
 pub has-append : (k : ℕ) (xs ys : List ℕ) → has_key k (xs ++ ys) ≡ cond (has_key k xs) true (has_key k ys)
 has-append k [] ys = refl
-has-append k (a ∷ xs) ys =
-    elim (cases_Bool (eqb k a)) as (λ _. cond (eqb k a) true (has_key k (xs ++ ys)) ≡ cond (cond (eqb k a) true (has_key k xs)) true (has_key k ys)) [
-      | inl e ↦ rw e refl
-      | inr e ↦ rw e (has-append k xs ys)
-    ]
+has-append k (a ∷ xs) ys = grind (arith, nat_tests, has-append k xs ys)
 
 and-yes : (b : Bool) → (b && true) ≡ b
 and-yes true = refl
@@ -43,21 +39,10 @@ key-same k x own = ap (λ n. eqb k x.key && eqb 0 n) own ∙ and-yes (eqb k x.ke
 
 key-there : (k : ℕ) (l : List Item) → ((i : Item) → 1 ≤ occurrences i l → i.node ≡ 0) → has_key k (map (λ i. i.key) l) ≡ nat_lt 0 (occurrences (nodeless_item k) l)
 key-there k [] h = refl
-key-there k (x ∷ l) h =
-    let own : x.node ≡ 0 = h x (let s = same-refl x in rw s (omega arith)) in
-    let rest : has_key k (map (λ i. i.key) l) ≡ nat_lt 0 (occurrences (nodeless_item k) l) = key-there k l (λ i g. h i (omega (arith, g))) in
-    let same : is_same_item (nodeless_item k) x ≡ eqb k x.key = key-same k x own in
-    rw same (elim (cases_Bool (eqb k x.key)) as (λ _. cond (eqb k x.key) true (has_key k (map (λ i. i.key) l)) ≡ nat_lt 0 (cond (eqb k x.key) 1 0 + occurrences (nodeless_item k) l)) [
-      | inl e ↦ rw e (sym (lt-ltb 0 (1 + occurrences (nodeless_item k) l) (omega arith)))
-      | inr e ↦ rw e (rest ∙ ap (nat_lt 0) (omega arith))
-    ])
+key-there k (x ∷ l) h = grind (arith, nat_tests, same-refl, key-there k l, key-same)
 
 some-there : (a b : ℕ) → cond (nat_lt 0 a) true (nat_lt 0 b) ≡ nat_lt 0 (a + b)
-some-there a b =
-    elim (cases_Bool (nat_lt 0 a)) as (λ _. cond (nat_lt 0 a) true (nat_lt 0 b) ≡ nat_lt 0 (a + b)) [
-      | inl e ↦ let n : 0 < a = ltb-true 0 a e in rw e (sym (lt-ltb 0 (a + b) (omega (arith, n))))
-      | inr e ↦ let n : a ≤ 0 = ltb-false 0 a e in rw e (ap (nat_lt 0) (omega (arith, n)))
-    ]
+some-there a b = grind (arith, nat_tests)
 
 -- a key is resident where its item stands
 pub resident-queued : (k : ℕ) (s : Queues) → AreNodeless s → has_key k (residents_in s) ≡ nat_lt 0 (queue_occurrences (nodeless_item k) s)
@@ -97,25 +82,8 @@ resident-once k q once nodeless =
 module _ (k : ℕ) (old new : Queues) (nodeless : AreNodeless old)
     (came : (j : Item) → queue_occurrences j new ≤ queue_occurrences j old + cond (is_same_item j (nodeless_item k)) 1 0) where
   pub still-nodeless : AreNodeless new
-  still-nodeless i h =
-      elim (cases_Bool (is_same_item i (nodeless_item k))) [
-        | inl e ↦ ap (λ (x : Item). x.node) (same-true i (nodeless_item k) e)
-        | inr e ↦
-            let few = came i in
-            let other : cond (is_same_item i (nodeless_item k)) 1 0 ≡ 0 = ap one_if e in
-            nodeless i (omega (arith, h, few, other))
-      ]
+  still-nodeless i h = grind (arith, nat_tests, same-true)
 
   -- a key that is resident then came in or was resident before
   pub queued-from : (x : ℕ) → has_key x (residents_in new) ≡ true → (x ≡ k) ⊎ (has_key x (residents_in old) ≡ true)
-  queued-from x h =
-      let there : nat_lt 0 (queue_occurrences (nodeless_item x) new) ≡ true = sym (resident-queued x new still-nodeless) ∙ h in
-      let some : 0 < queue_occurrences (nodeless_item x) new = ltb-true 0 (queue_occurrences (nodeless_item x) new) there in
-      let few = came (nodeless_item x) in
-      elim (cases_Bool (is_same_item (nodeless_item x) (nodeless_item k))) [
-        | inl e ↦ inl (ap (λ (i : Item). i.key) (same-true (nodeless_item x) (nodeless_item k) e))
-        | inr e ↦
-            let other : one_if (is_same_item (nodeless_item x) (nodeless_item k)) ≡ 0 = ap one_if e in
-            let before : 0 < queue_occurrences (nodeless_item x) old = omega (arith, some, few, other) in
-            inr (resident-queued x old nodeless ∙ lt-ltb 0 (queue_occurrences (nodeless_item x) old) before)
-      ]
+  queued-from x h = grind (arith, nat_tests, resident-queued, still-nodeless, same-true)
