@@ -59,9 +59,7 @@ lru-among c d k xs le h =
 
 hits-more : (t : List ℕ) (r s : ℕ → List ℕ) (n : ℕ) → ((i k : ℕ) → has_key k (r i) ≡ true → has_key k (s i) ≡ true) → strategy_hits t r n ≤ strategy_hits t s n
 hits-more t r s zero h = omega arith
-hits-more t r s (suc i) h =
-    let rest : strategy_hits t r i ≤ strategy_hits t s i = hits-more t r s i h in
-    grind (arith, nat_tests)
+hits-more t r s (suc i) h = grind (arith, nat_tests, hits-more t r s i h)
 
 lru-hits : LruStepLaw → (j : Job) (trace : List ℕ) → j.policy ≡ Lru → (stats_on j trace).hits ≡ strategy_hits trace (lru_at j.config.capacity trace) (length trace)
 lru-hits stands j trace is =
