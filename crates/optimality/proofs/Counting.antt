@@ -26,10 +26,7 @@ count-short p (a ∷ xs) = let rest = count-short p xs in let one = one-few (p a
 
 pub count-without : (p : ℕ → Bool) (v : ℕ) (xs : List ℕ) → count_keys p (keys_without v xs) + cond (has_key v xs) (one_if (p v)) 0 ≡ count_keys p xs
 count-without p v [] = refl
-count-without p v (a ∷ xs) =
-    let rest = count-without p v xs in
-    let there = has-without a v xs in
-    grind (arith, nat_tests, rest, there)
+count-without p v (a ∷ xs) = grind (arith, nat_tests, count-without p v xs, has-without a v xs)
 
 -- where ys has all keys of xs that pass
 pub count-passing : (p : ℕ → Bool) (xs ys : List ℕ) → ((x : ℕ) → has_key x xs ≡ true → p x ≡ true → has_key x ys ≡ true) → count_keys p xs ≤ count_keys p ys
