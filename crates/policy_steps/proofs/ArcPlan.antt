@@ -1,6 +1,6 @@
 -- ARC's plan is its definition.
 use Rattle.std.proofs.Common.{◌≡◌, ℕ, zero, suc, ◌+◌, ◌-◌, ◌*◌, ◌<◌, ◌≤◌, min, Bool, true, false, cond, eqb, ◌||◌, Option, Some, None, List, [], ◌∷◌, ◌++◌, length, take, drop, append-nil, ap, ◌∙◌, sym, subst, refl, arith, inl, inr, nat_lt, ◌⊎◌, ◌==◌, length-append}
-use Rattle.std.proofs.lemmas.Bool.{eq-eqb, ne_eqb, lt-ltb, le-ltb, cases_Bool, cases_lt, eqb-true, ltb-false}
+use Rattle.std.proofs.lemmas.Bool.{cond_both, eq-eqb, ne_eqb, lt-ltb, le-ltb, cases_Bool, cases_lt, eqb-true, ltb-false}
 use Rattle.step_record.specs.Keys.{has_key, keys_without}
 use Rattle.step_record.specs.declared.outcome.Outcome.{Outcome}
 use Rattle.step_record.specs.declared.outcome.Outcome.TheVariants.{Hit, Evicted}
@@ -290,25 +290,21 @@ module _ (c x : ℕ) (s : Queues) (i : IsArc c (arc_of x s)) where
       let all = i.full (omega (arith, h, length-keys (s B1), length-keys (s B2))) in
       omega (arith, all, length-keys (s T1), length-keys (s T2)))
 
-  leaves-of-new : ((new_key_leavers c x s).first ≡ None) × ((new_key_leavers c x s).second ≡ None) ⊎ IsFull
-  leaves-of-new =
-      elim (cases_Bool (length (s T1) + length (s B1) == c)) [
-        | inl e ↦ inr (
-            let l1 = eqb-true (length (s T1) + length (s B1)) c e in
-            elim (cases_lt 0 (length (s B1))) [
-              | inl some ↦ ghost-full (omega (arith, some))
-              | inr none ↦ is-full (omega (arith, l1, none))
-            ])
-        | inr e ↦ elim (cases_Bool (nat_lt (total s) c)) [
-          | inl few ↦ inl (rw (e, few) (refl, refl))
-          | inr many ↦ inr (
-              let most : c ≤ total s = ltb-false (total s) c many in
-              elim (cases_lt 0 (length (s B1) + length (s B2))) [
-                | inl some ↦ ghost-full (omega (arith, some))
-                | inr none ↦ is-full (omega (arith, most, none))
-              ])
-        ]
+  all-full : c ≤ total s → IsFull
+  all-full h =
+      elim (cases_lt 0 (length (s B1) + length (s B2))) [
+        | inl most ↦ ghost-full (omega (arith, most))
+        | inr none ↦ is-full (omega (arith, none, h))
       ]
+
+  abbrev IsNoneOrFull : Leavers → Type 0
+  IsNoneOrFull l = ((l.first ≡ None) × (l.second ≡ None)) ⊎ IsFull
+
+  leaves-of-new : IsNoneOrFull (new_key_leavers c x s)
+  leaves-of-new =
+      cond_both (length (s T1) + length (s B1) == c) _ _ IsNoneOrFull
+      (λ e. inr (all-full (let l1 = eqb-true (length (s T1) + length (s B1)) c e in omega (arith, l1))))
+      (λ e. cond_both (nat_lt (total s) c) _ _ IsNoneOrFull (λ f. inl (refl, refl)) (λ f. inr (all-full (ltb-false (total s) c f))))
 
   leaves-at : IsTabled s → (k : ℕ) (at : Option (ℕ × ℕ)) → standing (item_of k) s ≡ at → LeavesWhere IsFull (plan_at c x at s)
   leaves-at t k None h = miss-full IsFull (new_key_leavers c x s) _ x leaves-of-new

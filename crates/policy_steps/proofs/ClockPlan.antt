@@ -11,7 +11,7 @@ use Rattle.queue_policies.specs.Turns.{after_turns as page_turns, turn_count}
 use Rattle.queue_policies.specs.Clock.{marked_key, clock_eviction, IsClock}
 use Rattle.queue_policies.proofs.CountedKeys.{length-keys}
 use Rattle.queue_policies.proofs.Clock.{counted-total, keeps}
-use Rattle.queue_moves.specs.Moves.{item_of, after_turns, turns_due, evicted, departed, leaving, after_leaving, standing}
+use Rattle.queue_moves.specs.Moves.{item_of, after_turns, turns_due, evicted, departed, leaving, after_leaving, standing, counts}
 use Rattle.queue_moves.specs.Tabled.{IsTabled}
 use Rattle.policy_steps.specs.Counted.{counted_keys}
 use Rattle.policy_steps.specs.Planned.{IsWithin, IsPlannedWithin}
@@ -20,7 +20,7 @@ use Rattle.policy_steps.specs.PolicyPage.{IsPlannedPage, IsSoundPage}
 use Rattle.policy_steps.proofs.Leavers.{resident-alone, resident-full, counted-length, not-less}
 use Rattle.policy_steps.proofs.Residents.{resident-planned}
 use Rattle.policy_steps.proofs.Counted.{keys-counted, counted-append, length-counted, key-counted, counted-with}
-use Rattle.policy_steps.proofs.Parts.{first-send, first-turns, first-out}
+use Rattle.policy_steps.proofs.Parts.{first-count, first-send, first-turns, first-out}
 use Rattle.policy_steps.proofs.Leaving.{absent-turns}
 use Rattle.policy_steps.proofs.Turns.{turns-are}
 use Rattle.queue_moves.proofs.Tabled.{oldest-gone, tabled-turns}
@@ -74,7 +74,7 @@ planned : IsPlannedPage clock_page
 planned c k x s some t first state =
     resident-planned (List CountedKey) 1 k x 0 1 s (λ y. clock_of) (has_key k (keys_of (clock_of s))) (nat_lt (length (clock_of s)) c) (nat_lt (length (s 0)) c)
     (with_count k 1 (clock_of s)) (clock_of s ++ marked_key k ∷ []) (clock_eviction k (page_turns (turn_count (clock_of s)) (clock_of s))) (clock_eviction_plan c x s)
-    t (omega arith) (omega arith) first (ap (λ n. nat_lt n c) (length-counted (s 0))) (key-counted k (s 0) (t.keys 0) ∙ ap (nat_lt 0) (omega arith))
+    (counts 1) tt (first-count 1 (item_of k) 1 s first) t (omega arith) (omega arith) first (ap (λ n. nat_lt n c) (length-counted (s 0))) (key-counted k (s 0) (t.keys 0) ∙ ap (nat_lt 0) (omega arith))
     (counted-with k 1 (s 0) (t.keys 0) (queue-few 0 s (omega arith) t.distinct (item_of k)))
     (λ none. joined k (s 0) (none 0 (omega arith))) (λ none f. evict c k x s t first state none)
 

@@ -20,7 +20,7 @@ use Rattle.policy_steps.proofs.Leavers.{resident-alone, resident-full, not-less}
 use Rattle.queue_policies.proofs.Fifo.{keeps}
 use Rattle.policy_steps.proofs.Moving.{length-keys, keys-sent, left-keys, without-drop, miss-low}
 use Rattle.policy_steps.proofs.Parts.{first-send, first-out}
-use Rattle.policy_steps.proofs.Residents.{resident-planned-by}
+use Rattle.policy_steps.proofs.Residents.{resident-planned}
 
 -- the oldest leaves, and the key joins
 eviction-is : (k : ℕ) (l : List Entry) → ◌≡◌ {A = Outcome × List ℕ} (evicted (oldest_of l), drop 1 (keys_of l) ++ k ∷ []) (fifo_eviction k (keys_of l))
@@ -49,7 +49,7 @@ module _ (c k x : ℕ) (s : Queues) (t : IsTabled s) (first : IsWithin 1 s) wher
 
 planned : IsPlannedPage fifo_page
 planned c k x s some t first state =
-    resident-planned-by (List ℕ) 1 k x 0 0 s (λ y. fifo_of) (has_key k (fifo_of s)) (nat_lt (length (fifo_of s)) c) (nat_lt (length (s 0)) c)
+    resident-planned (List ℕ) 1 k x 0 0 s (λ y. fifo_of) (has_key k (fifo_of s)) (nat_lt (length (fifo_of s)) c) (nat_lt (length (s 0)) c)
     (fifo_of s) (fifo_of s ++ k ∷ []) (fifo_eviction k (fifo_of s)) (leaver_plan no_run no_run (leaving 0 None) (goes 0 0) x)
     stays tt first t (omega arith) (omega arith) first (ap (λ n. nat_lt n c) (length-keys (s 0))) (has-occurs k (s 0) (t.keys 0) ∙ ap (nat_lt 0) (omega arith))
     refl (joined c k x s t first) (λ none f. evict c k x s t first none)

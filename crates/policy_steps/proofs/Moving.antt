@@ -66,7 +66,7 @@ module _ (s : Queues) (from : ℕ) (t : IsTabled s) where
 
 -- a key that is not there is taken out for nothing, also once the oldest key has left
 pub without-rest : (k v : ℕ) (l : List ℕ) → has_key k (v ∷ l) ≡ false → keys_without k l ≡ l
-without-rest k v l h = without-none k l (apart k v l h).1
+without-rest k v l h = grind (arith, nat_tests, without-none k l)
 
 pub without-drop : (k : ℕ) (l : List ℕ) → has_key k l ≡ false → keys_without k (drop 1 l) ≡ drop 1 l
 without-drop k [] h = refl
@@ -81,7 +81,7 @@ first-of [] n = absurd (omega (arith, n))
 first-of (e ∷ r) n = (e, (r, refl))
 
 pub apart-first : (k v : ℕ) (l : List ℕ) → has_key k (v ∷ l) ≡ false → eqb k v ≡ false
-apart-first k v l h = (apart k v l h).0
+apart-first k v l h = grind (arith, nat_tests)
 
 pub without-push : (k v : ℕ) (l : List ℕ) → eqb k v ≡ false → keys_without k (l ++ v ∷ []) ≡ keys_without k l ++ v ∷ []
 without-push k v [] h = rw h refl

@@ -11,6 +11,7 @@ use Rattle.queue_table.proofs.QueueLists.{IsAbsent}
 use Rattle.queue_moves.specs.Moves.{item_of, standing, Own, IsLowOwn, after_own, counts, goes, Plan}
 use Rattle.queue_moves.specs.Tabled.{IsTabled}
 use Rattle.policy_steps.specs.Planned.{IsWithin, resident_plan, IsPlannedWithin}
+use Rattle.policy_steps.proofs.Moving.{own-low}
 use Rattle.policy_steps.proofs.Parts.{first-count, first-send, nowhere, held, held-first}
 
 some-below : (n q : ℕ) (i : Item) (s : Queues) → q < n → 1 ≤ occurrences i (s q) → 1 ≤ times_below n i s
@@ -26,46 +27,25 @@ module _ (S : Type 0) (n k x q m : ℕ) (s : Queues) (view : ℕ → Queues → 
   abbrev IsPlan : Plan → Type 0
   IsPlan p = IsPlannedWithin n p k s view (if has then (Hit, hit) else if room then (Kept, kept) else leaves) has
 
-  pub resident-planned-by : (own : Own) → IsLowOwn own → IsWithin n (after_own own (item_of k) s)
+  pub resident-planned : (own : Own) → IsLowOwn own → IsWithin n (after_own own (item_of k) s)
       → IsTabled s → n ≤ QUEUES → q < n → IsWithin n s → room ≡ planned_room → has ≡ nat_lt 0 (times_below n (item_of k) s)
       → view x (after_own own (item_of k) s) ≡ hit
       → (IsAbsent (item_of k) s → view x (after_send (entry (item_of k) m) q s) ≡ kept)
       → (IsAbsent (item_of k) s → planned_room ≡ false → IsPlannedWithin n full k s view leaves false)
       → IsPlan (resident_plan (standing (item_of k) s) planned_room own (goes q m) x full)
-  resident-planned-by own own_low own_first t few low first same key hits joins evicts = at (standing (item_of k) s) refl
+  resident-planned own own_low own_first t few low first same key hits joins evicts = at (standing (item_of k) s) refl
     where
       at : (o : Option (ℕ × ℕ)) → standing (item_of k) s ≡ o → IsPlan (resident_plan o planned_room own (goes q m) x full)
       at (Some w) h =
           let there : has ≡ true = key ∙ lt-ltb 0 _ (some-below n w.0 (item_of k) s (held-first n k s t w first h) (held k s t w h)) in
-          rw there (
-            record {
-              outcome = refl;
-              state = hits;
-              hits = refl;
-              low = record { early = (omega arith, omega arith); late = (omega arith, omega arith); first = tt; second = tt; own = own_low };
-            },
-            own_first,
-          )
+          rw there (record { outcome = refl; state = hits; hits = refl; low = own-low own own_low }, own_first)
       at None h =
           let absent = nowhere (item_of k) s h in
           let gone : has ≡ false = key ∙ le-ltb 0 _ (let z = none-below n (item_of k) s few absent in omega (arith, z)) in
           elim (cases_Bool planned_room) [
             | inl f ↦ rw (gone, same, f) (
-              record {
-                outcome = refl;
-                state = joins absent;
-                hits = refl;
-                low = record { early = (omega arith, omega arith); late = (omega arith, omega arith); first = tt; second = tt; own = omega (arith, few, low) };
-              },
+              record { outcome = refl; state = joins absent; hits = refl; low = own-low (goes q m) (omega (arith, few, low)) },
               first-send n (entry (item_of k) m) q s low first,
             )
             | inr f ↦ rw (gone, same, f) (evicts absent f)
           ]
-
-  -- where a hit counts 1
-  pub resident-planned : IsTabled s → n ≤ QUEUES → q < n → IsWithin n s → room ≡ planned_room → has ≡ nat_lt 0 (times_below n (item_of k) s)
-      → view x (after_count (item_of k) 1 s) ≡ hit
-      → (IsAbsent (item_of k) s → view x (after_send (entry (item_of k) m) q s) ≡ kept)
-      → (IsAbsent (item_of k) s → planned_room ≡ false → IsPlannedWithin n full k s view leaves false)
-      → IsPlan (resident_plan (standing (item_of k) s) planned_room (counts 1) (goes q m) x full)
-  resident-planned t few low first = resident-planned-by (counts 1) tt (first-count n (item_of k) 1 s first) t few low first

@@ -23,7 +23,7 @@ use Rattle.policy_steps.specs.PolicyPage.{IsPlannedPage, IsSoundPage}
 use Rattle.policy_steps.proofs.Leavers.{resident-alone, resident-full, both-length as shown-length, not-less}
 use Rattle.policy_steps.proofs.Residents.{resident-planned}
 use Rattle.policy_steps.proofs.Counted.{counted-append, length-counted, oldest-counted, key-both, counted-with, both-counted}
-use Rattle.policy_steps.proofs.Parts.{first-send, first-turns, first-out}
+use Rattle.policy_steps.proofs.Parts.{first-count, first-send, first-turns, first-out}
 use Rattle.policy_steps.proofs.Leaving.{absent-turns}
 use Rattle.policy_steps.proofs.Hand.{apart, stopped, no-pass, IsClear, HasClear, Waits, passes, ends, stops}
 
@@ -191,7 +191,7 @@ planned c k x s some t shown state =
     let low = shown.1 in
     let plan = resident-planned SieveState 2 k x x 0 s sieve_of (has_key k (sieve_residents (sieve_of x s))) (nat_lt (length (sieve_residents (sieve_of x s))) c) (nat_lt (length (s 0) + length (s 1)) c)
     (sieve_with_count k 1 (sieve_of x s)) (sieve_with_key k (sieve_of x s)) (sieve_eviction k (stopped (sieve_of x s)).passed (stopped (sieve_of x s)).ahead) (sieve_eviction_plan c x s)
-    t (omega arith) (omega (arith, low)) first (ap (λ n. nat_lt n c) (size c k x s some t first low state)) (key c k x s some t first low state) (hit c k x s some t first low state)
+    (counts 1) tt (first-count 2 (item_of k) 1 s first) t (omega arith) (omega (arith, low)) first (ap (λ n. nat_lt n c) (size c k x s some t first low state)) (key c k x s some t first low state) (hit c k x s some t first low state)
     (joined k x s low) (evict c k x s some t first low state) in
     (plan.0, (plan.1, number c k x s some t first low state (standing (item_of k) s) (nat_lt (length (s 0) + length (s 1)) c)))
 
