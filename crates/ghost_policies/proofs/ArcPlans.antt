@@ -1,6 +1,6 @@
 -- ARC: which key leaves, and the ways of a key that no ghost remembers.
 use Rattle.std.proofs.Common.{◌≡◌, ℕ, ◌+◌, ◌*◌, ◌<◌, ◌≤◌, Bool, true, false, eqb, nat_lt, ◌⊎◌, ◌&&◌, ◌||◌, List, ◌∷◌, length, arith, inl, inr}
-use Rattle.std.proofs.lemmas.Bool.{cases_Bool, cond_both, ltb-true, ltb-false, eqb-true, eqb-false}
+use Rattle.std.proofs.lemmas.Bool.{cond_both, ltb-true, ltb-false, eqb-true, eqb-false}
 use Rattle.std.proofs.lemmas.Bool.Decides.{nat_tests}
 use Rattle.queue_policies.proofs.CountedKeys.{by-oldest}
 use Rattle.ghost_policies.specs.Arc.{ArcState, arc_total, oldest_forgotten, OfB1, OfB2, oldest_leaver, ToB1, ToB2, Dropped, arc_replace, plan_of_new_key, ArcLeaver, ArcPlan, NoLeaver, NoGhost, NoneForgotten}

@@ -6,7 +6,6 @@ use Rattle.step_record.specs.Keys.{has_key, keys_without}
 use Rattle.queue_table.specs.declared.records.Entry.{Entry}
 use Rattle.queue_table.specs.Entries.{entry, entries_without}
 use Rattle.queue_table.specs.Queues.{Queues, with_queue, after_send}
-use Rattle.queue_policies.proofs.Residents.{apart}
 use Rattle.queue_policies.proofs.Ghost.{without-none}
 use Rattle.queue_moves.specs.Moves.{item_of, leaving, IsLowLeaving, after_leaving, Own, IsLowOwn, own_plan, IsLowPlan}
 use Rattle.queue_moves.specs.Tabled.{HasKeys, IsTabled, keys_of, nodes_of}

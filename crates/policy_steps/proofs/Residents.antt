@@ -6,13 +6,13 @@ use Rattle.step_record.specs.declared.item.Item.{Item}
 use Rattle.step_record.specs.declared.outcome.Outcome.{Outcome}
 use Rattle.step_record.specs.declared.outcome.Outcome.TheVariants.{Hit, Kept}
 use Rattle.queue_table.specs.Entries.{entry, occurrences}
-use Rattle.queue_table.specs.Queues.{QUEUES, Queues, times_below, after_send, after_count}
+use Rattle.queue_table.specs.Queues.{QUEUES, Queues, times_below, after_send}
 use Rattle.queue_table.proofs.QueueLists.{IsAbsent}
-use Rattle.queue_moves.specs.Moves.{item_of, standing, Own, IsLowOwn, after_own, counts, goes, Plan}
+use Rattle.queue_moves.specs.Moves.{item_of, standing, Own, IsLowOwn, after_own, goes, Plan}
 use Rattle.queue_moves.specs.Tabled.{IsTabled}
 use Rattle.policy_steps.specs.Planned.{IsWithin, resident_plan, IsPlannedWithin}
 use Rattle.policy_steps.proofs.Moving.{own-low}
-use Rattle.policy_steps.proofs.Parts.{first-count, first-send, nowhere, held, held-first}
+use Rattle.policy_steps.proofs.Parts.{first-send, nowhere, held, held-first}
 
 some-below : (n q : ℕ) (i : Item) (s : Queues) → q < n → 1 ≤ occurrences i (s q) → 1 ≤ times_below n i s
 some-below zero q i s w h = absurd (omega (arith, w))
