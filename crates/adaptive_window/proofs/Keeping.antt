@@ -1,5 +1,6 @@
 -- What an access makes of the queues, and that it keeps the invariant.
 use Rattle.std.proofs.Common.{◌≡◌, ℕ, ◌+◌, ◌-◌, ◌<◌, ◌≤◌, Bool, cond, nat_lt, Option, Some, None, List, [], ◌∷◌, length, ◌∙◌, refl, arith, inl, inr, length-append}
+use Rattle.std.proofs.lemmas.Bool.Decides.{nat_tests}
 use Rattle.std.specs.Prelude.{count_by}
 use Rattle.std.proofs.lemmas.Bool.{cases_Bool, ltb-true, ltb-false}
 use Rattle.std.proofs.lemmas.List.Sums.{sum_by-append}
@@ -18,7 +19,7 @@ use Rattle.replacement.proofs.Counting.{queued-kept}
 use Rattle.replacement.proofs.Balance.{IsBalanced, balanced}
 use Rattle.adaptive_window.specs.declared.climber.ClimbRules.{ClimbRules}
 use Rattle.adaptive_window.specs.declared.climber.Climber.{Climber}
-use Rattle.adaptive_window.specs.Climber.{AreClimbRules, distance, ends_period, climber_after, IsClimber}
+use Rattle.adaptive_window.specs.Climber.{AreClimbRules, distance, climber_after, IsClimber}
 use Rattle.replacement.specs.Resizing.{loan, growth_plan, shrinking_plan}
 use Rattle.adaptive_window.specs.AdaptiveWindow.{AdaptiveState, empty_adaptive, rules_at, size_towards, adjustment_plan, response_of, adaptive_act, IsAdaptive}
 use Rattle.adaptive_window.specs.Theorems.{IsAdaptiveAccess, AdaptiveKeeps, Access, adaptive_state_after, adaptive_outcomes, AdaptiveCounts}
@@ -103,13 +104,7 @@ adjusted-moved c size p s t w m h all few main most =
 
 lent : (c size p : ℕ) (s : Queues) → IsDistinct s → length s.window + 1 ≤ size → size + main_length s ≤ c + 1 → (c < size + main_length s → 1 ≤ length s.probation) → length s.protected ≤ p
     → IsAdjusted c size p s (queues_after_transfer (loan c size s) s)
-lent c size p s d few main some most =
-    elim (cases_Bool (nat_lt c (size + main_length s))) as (λ _. IsAdjusted c size p s (queues_after_transfer (loan c size s) s)) [
-      | inl e ↦ rw e (over (ltb-true c (size + main_length s) e) (oldest_of s.probation) refl)
-      | inr e ↦
-          let fits : size + main_length s ≤ c = ltb-false c (size + main_length s) e in
-          rw e (adjusted-moved c size p s s (length s.window) (main_length s) (unmoved s) (omega arith) (omega (arith, few)) fits most)
-    ]
+lent c size p s d few main some most = grind (arith, nat_tests, over, adjusted-moved, unmoved, most)
   where
     over : c < size + main_length s → (o : Option Item) → oldest_of s.probation ≡ o → IsAdjusted c size p s (queues_after_transfer (transfer Window o) s)
     over more None h = let none = none-there s.probation h in let there = some more in absurd (omega (arith, none, there))
@@ -136,12 +131,7 @@ module _ (r : ClimbRules) (fits : r.largest ≤ r.capacity) (size : ℕ) (s : Qu
         record { same = λ j. l.same j ∙ h.moved.same j; total = omega (arith, all, w, m); window = l.window; main = l.main; protected = l.protected }
 
     shrunk : IsAdjusted r.capacity (size - 1) (r.largest - (size - 1)) s (queues_after (shrinking_plan (rules_at r (size - 1)) s) s)
-    shrunk =
-        let p : ℕ = r.largest - (size - 1) in
-        elim (cases_Bool (nat_lt (size - 1) (length s.window))) as (λ _. IsAdjusted r.capacity (size - 1) (r.largest - (size - 1)) s (queues_after (shrinking_plan (rules_at r (size - 1)) s) s)) [
-          | inl e ↦ rw e (over (ltb-true (size - 1) (length s.window) e) (oldest_of s.window) refl)
-          | inr e ↦ rw e (adjusted-moved r.capacity (size - 1) p s s (length s.window) (main_length s) (unmoved s) (omega arith) (ltb-false (size - 1) (length s.window) e) (omega (arith, main)) (omega (arith, short)))
-        ]
+    shrunk = grind (arith, nat_tests, over, adjusted-moved, unmoved, main)
       where
         over : size - 1 < length s.window → (o : Option Item) → oldest_of s.window ≡ o → IsAdjusted r.capacity (size - 1) (r.largest - (size - 1)) s (queues_after_transfer (transfer Probation o) s)
         over more None h = let none = none-there s.window h in absurd (omega (arith, none, more))
@@ -212,22 +202,7 @@ module _ (r : ClimbRules) (are : AreClimbRules r) (admits : ℕ → ℕ → Bool
   next-settled = settled r are.fits s.size (response_of r admits i s).queues came-back.once h.least came-back.sizes.0 came-back.sizes.1 few-protected next-climber.target next-kept.target
 
   next-near : distance next-climber.target (size_towards next-climber.target s.size) ≤ r.capacity - next-climber.accesses
-  next-near =
-      let nearer = next-settled.nearer in
-      let near = h.near in
-      let low = next-kept.target.0 in
-      let high = next-kept.target.1 in
-      let least = h.least in
-      let main = h.main in
-      let fits = are.fits in
-      elim (cases_Bool (ends_period r s.climber)) as (λ _. distance next-climber.target (size_towards next-climber.target s.size) ≤ r.capacity - next-climber.accesses) [
-        | inl e ↦ let none : next-climber.accesses ≡ 0 = rw e refl in omega (arith, none, nearer, low, high, least, main, fits)
-        | inr e ↦
-            let more : next-climber.accesses ≡ s.climber.accesses + 1 = rw e refl in
-            let same : next-climber.target ≡ s.climber.target = rw e refl in
-            let old : distance next-climber.target s.size ≤ r.capacity - s.climber.accesses = rw same near in
-            omega (arith, more, nearer, old)
-      ]
+  next-near = grind (arith, nat_tests, next-settled, next-kept)
 
   pub kept-access : IsAdaptive r (adaptive_act r admits i s).1
   kept-access = record {

@@ -1,6 +1,5 @@
 -- An access of the engine, as the fields show it.
-use Rattle.std.proofs.Common.{◌≡◌, ◌≢◌, ℕ, ◌≤◌, false, eqb, Some, Ok, refl, arith}
-use Rattle.std.proofs.lemmas.Bool.{ne_eqb}
+use Rattle.std.proofs.Common.{◌≡◌, ◌≢◌, ℕ, ◌≤◌, Some, Ok, refl, arith}
 use Rattle.std.proofs.lemmas.Bool.Decides.{nat_tests}
 use Rattle.step_record.specs.declared.config.Config.{Config}
 use Rattle.step_record.specs.declared.outcome.Outcome.{Outcome}
@@ -36,9 +35,7 @@ module _ (r p : ClimbRules) (w v x : AdaptiveState) (f g : FrequencyData) (s z :
   pub act-is : (q : ClimbRules) → q ≡ p → s.accesses ≢ 4294967296 → o ≡ (adaptive_act p (admits_in (Some g)) (nodeless_item k) v).0
       → x ≡ (adaptive_act p (admits_in (Some g)) (nodeless_item k) v).1 → z ≡ stats_with o s
       → cache_act before k ≡ Some (o, record { rules = q; window = x; frequency = g; stats = z })
-  act-is q eq below eo ex ez =
-      let t : eqb s.accesses 4294967296 ≡ false = ne_eqb _ _ below in
-      rw (t, eq, ex, ez, eo, eg, ep, ev) refl
+  act-is q eq below eo ex ez = grind (arith, nat_tests)
 
   pub recorded-is : (c : FreqRecord) (m : WindowRecord) → c ≡ (cache_record_of k before).counting
       → m ≡ window_record_of p (admits_in (Some g)) (nodeless_item k) v
