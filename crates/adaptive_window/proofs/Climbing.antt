@@ -3,9 +3,7 @@ use Rattle.std.proofs.Common.{◌≡◌, ℕ, ◌+◌, ◌-◌, ◌*◌, ◌<◌
 use Rattle.std.proofs.lemmas.Bool.Decides.{nat_tests}
 use Rattle.std.proofs.Math.Nat.{mul-le-mul_left, max-le, min-le_left, le-min, le-max_left}
 use Rattle.step_record.specs.Stats.{one_if}
-use Rattle.adaptive_window.specs.declared.climber.ClimbRules.{ClimbRules}
-use Rattle.adaptive_window.specs.declared.climber.Climber.{Climber}
-use Rattle.adaptive_window.specs.Climber.{AreClimbRules, first_window, period_of, next_step, moved_target, climber_after, first_climber, period_record, climber_before, IsClimber}
+use Rattle.adaptive_window.specs.Climber.{Climber, ClimbRules, AreClimbRules, first_window, period_of, next_step, moved_target, climber_after, first_climber, period_record, climber_before, IsClimber}
 use Rattle.adaptive_window.specs.Theorems.{RulesFit}
 
 pub climbed-back : (r : ClimbRules) (hit : Bool) (s : Climber) → climber_before (period_record r s) hit (climber_after r hit s) ≡ s

@@ -2,23 +2,18 @@
 use Rattle.std.proofs.Common.{◌≡◌, ℕ, ◌≤◌, Bool, Option, None, ap, refl, arith}
 use Rattle.std.proofs.lemmas.Bool.Decides.{nat_tests}
 use Rattle.step_record.specs.Stats.{is_hit}
-use Rattle.step_record.specs.declared.item.Item.{Item}
-use Rattle.step_record.specs.declared.outcome.Outcome.{Outcome}
 use Rattle.segments.specs.Queues.{Queues, IsDistinct}
 use Rattle.replacement.specs.declared.record.Moves.{Moves}
-use Rattle.replacement.specs.declared.rules.Rules.{Rules}
-use Rattle.replacement.specs.Plan.{plan}
+use Rattle.replacement.specs.Plan.{Outcome, Item, plan}
 use Rattle.replacement.specs.PlanMoves.{queues_after, moves_of, UndoesMoves}
 use Rattle.replacement.specs.Table.{access}
 use Rattle.replacement.proofs.Balance.{balanced}
 use Rattle.replacement.proofs.Carrying.{plan-undone}
-use Rattle.replacement.proofs.Planned.{accesses-planned}
-use Rattle.adaptive_window.specs.declared.climber.ClimbRules.{ClimbRules}
-use Rattle.adaptive_window.specs.declared.climber.Climber.{Climber}
+use Rattle.replacement.proofs.Planned.{accesses_planned}
 use Rattle.adaptive_window.specs.declared.window_record.SizeChange.{SizeChange}
 use Rattle.adaptive_window.specs.declared.window_record.WindowRecord.{WindowRecord}
-use Rattle.adaptive_window.specs.Climber.{climber_after, period_record, FitsClimber}
-use Rattle.adaptive_window.specs.AdaptiveWindow.{AdaptiveState, rules_at, size_towards, adjustment_plan, response_of, adaptive_act, IsAdaptive}
+use Rattle.adaptive_window.specs.Climber.{Climber, ClimbRules, climber_after, period_record, FitsClimber}
+use Rattle.adaptive_window.specs.AdaptiveWindow.{Rules, AdaptiveState, rules_at, size_towards, adjustment_plan, response_of, adaptive_act, IsAdaptive}
 use Rattle.adaptive_window.specs.WindowRecord.{size_change, size_before, window_record_of, window_undone, WindowFits}
 use Rattle.adaptive_window.specs.Theorems.{AdaptiveUndoes}
 use Rattle.adaptive_window.proofs.Climbing.{climbed-back}
@@ -69,7 +64,7 @@ module _ (p : ClimbRules) (admits : ℕ → ℕ → Bool) (i : Item) (s : Adapti
   climber = climber_after p (is_hit (response_of p admits i s).outcome) s.climber
 
   first : UndoesMoves s.queues queues (moves_of (plan rules admits i s.queues) s.queues)
-  first = plan-undone (plan rules admits i s.queues) s.queues queues _ h.distinct (ap (λ x. x.queues) (accesses-planned rules admits i s.queues h.distinct)) refl
+  first = plan-undone (plan rules admits i s.queues) s.queues queues _ h.distinct (ap (λ x. x.queues) (accesses_planned rules admits i s.queues h.distinct)) refl
 
   then : UndoesMoves queues (queues_after (adjustment_plan p climber.target s.size queues) queues) (moves_of (adjustment_plan p climber.target s.size queues) queues)
   then = plan-undone (adjustment_plan p climber.target s.size queues) queues _ _ (balanced rules admits i s.queues h.distinct (h.window, h.main)).once refl refl

@@ -5,21 +5,17 @@ use Rattle.std.specs.Prelude.{count_by}
 use Rattle.std.proofs.lemmas.Bool.{cases_Bool, ltb-true, ltb-false}
 use Rattle.std.proofs.lemmas.List.Sums.{sum_by-append}
 use Rattle.step_record.specs.Stats.{is_hit, is_miss, is_eviction, one_if}
-use Rattle.step_record.specs.declared.item.Item.{Item}
-use Rattle.step_record.specs.declared.outcome.Outcome.{Outcome}
 use Rattle.segments.specs.declared.records.Queue.TheVariants.{Window, Probation}
-use Rattle.segments.specs.Items.{occurrences, items_without, oldest_of}
+use Rattle.segments.specs.Items.{Item, occurrences, items_without, oldest_of}
 use Rattle.segments.specs.Queues.{Queues, queues_after_move, total_items, IsDistinct}
 use Rattle.segments.proofs.ItemLists.{length-without}
 use Rattle.segments.proofs.QueueLists.{first-stands}
 use Rattle.replacement.specs.Counts.{queue_occurrences, main_length}
-use Rattle.replacement.specs.Plan.{demotion, transfer}
+use Rattle.replacement.specs.Plan.{Outcome, demotion, transfer}
 use Rattle.replacement.specs.PlanMoves.{queues_after_transfer, queues_after}
 use Rattle.replacement.proofs.Counting.{queued-kept}
 use Rattle.replacement.proofs.Balance.{IsBalanced, balanced}
-use Rattle.adaptive_window.specs.declared.climber.ClimbRules.{ClimbRules}
-use Rattle.adaptive_window.specs.declared.climber.Climber.{Climber}
-use Rattle.adaptive_window.specs.Climber.{AreClimbRules, distance, climber_after, IsClimber}
+use Rattle.adaptive_window.specs.Climber.{Climber, ClimbRules, AreClimbRules, distance, climber_after, IsClimber}
 use Rattle.replacement.specs.Resizing.{loan, growth_plan, shrinking_plan}
 use Rattle.adaptive_window.specs.AdaptiveWindow.{AdaptiveState, empty_adaptive, rules_at, size_towards, adjustment_plan, response_of, adaptive_act, IsAdaptive}
 use Rattle.adaptive_window.specs.Theorems.{IsAdaptiveAccess, AdaptiveKeeps, Access, adaptive_state_after, adaptive_outcomes, AdaptiveCounts}

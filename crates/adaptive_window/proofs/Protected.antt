@@ -1,19 +1,16 @@
 -- Protected stays within its size in an access by the table of moves.
 use Rattle.std.proofs.Common.{◌≡◌, ℕ, ◌+◌, ◌-◌, ◌<◌, ◌≤◌, Bool, Option, Some, None, List, [], ◌∷◌, length, refl, arith, length-append}
 use Rattle.std.proofs.lemmas.Bool.Decides.{nat_tests}
-use Rattle.step_record.specs.declared.item.Item.{Item}
 use Rattle.segments.specs.declared.records.Queue.{Queue}
 use Rattle.segments.specs.declared.records.Queue.TheVariants.{Window, Probation, Protected}
-use Rattle.segments.specs.Items.{items_without, oldest_of}
+use Rattle.segments.specs.Items.{Item, items_without, oldest_of}
 use Rattle.segments.specs.Queues.{Queues, queue_holding, queues_after_push, queues_after_move, IsDistinct}
 use Rattle.segments.proofs.ItemLists.{length-without}
 use Rattle.segments.proofs.MoveLaws.{Stands, in_window, in_probation, in_protected, nowhere, stands}
 use Rattle.segments.proofs.QueueLists.{first-stands}
-use Rattle.replacement.specs.declared.rules.Rules.{Rules}
 use Rattle.replacement.specs.Table.{with_recent, queues_after_demotion, contest, trial_of, eviction, access_in, access}
 use Rattle.replacement.proofs.Planned.{access-at}
-use Rattle.adaptive_window.specs.declared.climber.ClimbRules.{ClimbRules}
-use Rattle.adaptive_window.specs.AdaptiveWindow.{rules_at}
+use Rattle.adaptive_window.specs.AdaptiveWindow.{ClimbRules, Rules, rules_at}
 
 shorter : (x : Item) (l : List Item) → length (items_without x l) ≤ length l
 shorter x l = omega (arith, length-without x l)

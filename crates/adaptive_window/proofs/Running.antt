@@ -1,9 +1,6 @@
 -- An access of the engine, as the fields show it.
 use Rattle.std.proofs.Common.{◌≡◌, ◌≢◌, ℕ, ◌≤◌, Some, Ok, refl, arith}
 use Rattle.std.proofs.lemmas.Bool.Decides.{nat_tests}
-use Rattle.step_record.specs.declared.config.Config.{Config}
-use Rattle.step_record.specs.declared.outcome.Outcome.{Outcome}
-use Rattle.step_record.specs.declared.stats.Stats.{Stats}
 use Rattle.step_record.specs.Config.{config_fault}
 use Rattle.step_record.specs.Stats.{stats_with}
 use Rattle.segments.specs.Items.{nodeless_item}
@@ -11,11 +8,9 @@ use Rattle.admission.specs.declared.freq_record.FreqRecord.{FreqRecord}
 use Rattle.admission.specs.Frequency.{FrequencyData, frequency_with}
 use Rattle.replacement.specs.Admission.{admits_in}
 use Rattle.adaptive_window.specs.declared.adaptive_cache.AdaptiveRecord.{AdaptiveRecord}
-use Rattle.adaptive_window.specs.declared.climber.ClimbRules.{ClimbRules}
-use Rattle.adaptive_window.specs.declared.window_record.WindowRecord.{WindowRecord}
-use Rattle.adaptive_window.specs.AdaptiveWindow.{AdaptiveState, adaptive_act}
-use Rattle.adaptive_window.specs.WindowRecord.{window_record_of}
-use Rattle.adaptive_window.specs.AdaptiveCache.{AdaptiveCacheState, cache_act, cache_record_of}
+use Rattle.adaptive_window.specs.AdaptiveWindow.{ClimbRules, Outcome, AdaptiveState, adaptive_act}
+use Rattle.adaptive_window.specs.WindowRecord.{WindowRecord, window_record_of}
+use Rattle.adaptive_window.specs.AdaptiveCache.{Stats, Config, AdaptiveCacheState, cache_act, cache_record_of}
 
 -- an accepted configuration has room
 pub has-room : (c : Config) → config_fault c ≡ Ok tt → 1 ≤ c.capacity

@@ -1,9 +1,9 @@
 -- A cache with an adaptive window: what it shows after a list of accesses, one access as a step, its undo record, and how
 -- the record undoes it. Keys are counted by sixteen counters for each entry and without a doorkeeper, as Caffeine does.
 use Rattle.std.specs.Prelude.{◌≡◌, ◌≢◌, ◌⊎◌, ℕ, ◌≤◌, true, Option, Some, None, []}
-use Rattle.step_record.specs.declared.config.Config.{Config}
-use Rattle.step_record.specs.declared.outcome.Outcome.{Outcome}
-use Rattle.step_record.specs.declared.stats.Stats.{Stats}
+pub use Rattle.step_record.specs.declared.config.Config.{Config}
+pub use Rattle.step_record.specs.declared.outcome.Outcome.{Outcome}
+pub use Rattle.step_record.specs.declared.stats.Stats.{Stats}
 use Rattle.step_record.specs.Pace.{Pace}
 use Rattle.step_record.specs.Stats.{stats_of, stats_with, stats_without, IsCounted, IsTally}
 use Rattle.step_record.specs.Limited.{limited}
@@ -15,8 +15,7 @@ use Rattle.replacement.specs.Admission.{admits_in}
 use Rattle.replacement.specs.Shape.{open_shape_of}
 use Rattle.adaptive_window.specs.declared.adaptive_cache.TheConstants.{COLUMNS}
 use Rattle.adaptive_window.specs.declared.adaptive_cache.AdaptiveRecord.{AdaptiveRecord}
-use Rattle.adaptive_window.specs.declared.climber.ClimbRules.{ClimbRules}
-use Rattle.adaptive_window.specs.Climber.{caffeine_rules, first_window}
+use Rattle.adaptive_window.specs.Climber.{ClimbRules, caffeine_rules, first_window}
 use Rattle.adaptive_window.specs.AdaptiveWindow.{AdaptiveState, empty_adaptive, adaptive_act}
 use Rattle.adaptive_window.specs.WindowRecord.{window_record_of, window_undone, WindowFits}
 

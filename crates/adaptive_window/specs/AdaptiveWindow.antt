@@ -3,19 +3,18 @@
 -- the cache is that of a fixed window of the size in force. (Caffeine moves up to 1,000 items at once.)
 use Rattle.std.specs.Prelude.{ℕ, ◌+◌, ◌-◌, ◌≤◌, nat_lt, Bool, if◌then◌else◌, length}
 use Rattle.step_record.specs.Stats.{is_hit}
-use Rattle.step_record.specs.declared.item.Item.{Item}
-use Rattle.step_record.specs.declared.outcome.Outcome.{Outcome}
+pub use Rattle.step_record.specs.declared.item.Item.{Item}
+pub use Rattle.step_record.specs.declared.outcome.Outcome.{Outcome}
 use Rattle.segments.specs.Queues.{Queues, empty_queues, IsDistinct}
 use Rattle.replacement.specs.declared.rules.Placement.TheVariants.{Windowed}
-use Rattle.replacement.specs.declared.rules.Rules.{Rules}
+pub use Rattle.replacement.specs.declared.rules.Rules.{Rules}
 use Rattle.replacement.specs.Counts.{main_length}
 use Rattle.replacement.specs.Plan.{Plan}
 use Rattle.replacement.specs.PlanMoves.{queues_after}
 use Rattle.replacement.specs.Resizing.{growth_plan, shrinking_plan, idle_plan}
 use Rattle.replacement.specs.Table.{Response, access}
-use Rattle.adaptive_window.specs.Climber.{distance, climber_after, first_climber, IsClimber}
-use Rattle.adaptive_window.specs.declared.climber.ClimbRules.{ClimbRules}
-use Rattle.adaptive_window.specs.declared.climber.Climber.{Climber}
+use Rattle.adaptive_window.specs.Climber.{Climber, distance, climber_after, first_climber, IsClimber}
+pub use Rattle.adaptive_window.specs.declared.climber.ClimbRules.{ClimbRules}
 
 pub record AdaptiveState : Type 0 where
   pub queues : Queues

@@ -6,8 +6,8 @@ use Rattle.std.specs.Prelude.{ℕ, ◌+◌, ◌-◌, ◌*◌, ◌/◌, ◌≤◌
 use Rattle.std.specs.Prelude.{Bool, false, not, if◌then◌else◌, Option, Some, None}
 use Rattle.step_record.specs.declared.limits.TheConstants.{MAX_CAPACITY}
 use Rattle.step_record.specs.Stats.{one_if}
-use Rattle.adaptive_window.specs.declared.climber.ClimbRules.{ClimbRules}
-use Rattle.adaptive_window.specs.declared.climber.Climber.{Climber}
+pub use Rattle.adaptive_window.specs.declared.climber.ClimbRules.{ClimbRules}
+pub use Rattle.adaptive_window.specs.declared.climber.Climber.{Climber}
 
 -- the window at first, where the main part is to have so many hundredths
 abbrev pub first_window : ℕ → ℕ → ℕ

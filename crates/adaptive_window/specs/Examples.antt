@@ -1,9 +1,7 @@
 -- A worked example.
 use Rattle.std.specs.Prelude.{◌≡◌, ℕ, nat_lt, Bool, false, List, [], ◌∷◌}
 use Rattle.step_record.specs.Stats.{stats_of}
-use Rattle.step_record.specs.declared.item.Item.{Item}
-use Rattle.adaptive_window.specs.declared.climber.ClimbRules.{ClimbRules}
-use Rattle.adaptive_window.specs.AdaptiveWindow.{empty_adaptive}
+use Rattle.adaptive_window.specs.AdaptiveWindow.{ClimbRules, Item, empty_adaptive}
 use Rattle.adaptive_window.specs.Theorems.{Access, adaptive_outcomes, adaptive_state_after}
 
 abbrev pub item : ℕ → Item

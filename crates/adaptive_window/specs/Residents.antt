@@ -1,17 +1,14 @@
 -- What the cache keeps of its residents, and when undoing an access takes memory.
 use Rattle.std.specs.Prelude.{◌≡◌, ◌⊎◌, ℕ, ◌+◌, ◌≤◌, eqb, true, Option, Ok, List, length, count_by}
 use Rattle.step_record.specs.Config.{config_fault}
-use Rattle.step_record.specs.declared.config.Config.{Config}
-use Rattle.step_record.specs.declared.item.Item.{Item}
-use Rattle.step_record.specs.declared.outcome.Outcome.{Outcome}
 use Rattle.step_record.specs.declared.outcome.Outcome.TheVariants.{Hit}
 use Rattle.step_record.specs.Keys.{has_key}
 use Rattle.step_record.specs.Stats.{is_hit, is_miss, is_eviction, one_if}
 use Rattle.segments.specs.Queues.{residents_in}
-use Rattle.replacement.specs.Counts.{queue_occurrences}
+use Rattle.replacement.specs.Counts.{Item, queue_occurrences}
 use Rattle.adaptive_window.specs.Climber.{AreClimbRules}
-use Rattle.adaptive_window.specs.AdaptiveWindow.{IsAdaptive}
-use Rattle.adaptive_window.specs.AdaptiveCache.{AdaptiveCacheState, empty_cache, cache_access, cache_record_of, cache_asks}
+use Rattle.adaptive_window.specs.AdaptiveWindow.{Outcome, IsAdaptive}
+use Rattle.adaptive_window.specs.AdaptiveCache.{Config, AdaptiveCacheState, empty_cache, cache_access, cache_record_of, cache_asks}
 
 -- the keys that are cached
 abbrev pub cache_residents : AdaptiveCacheState → List ℕ

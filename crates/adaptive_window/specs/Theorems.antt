@@ -1,14 +1,11 @@
 -- What is known of W-TinyLFU with an adaptive window, whatever the admission filter says.
 use Rattle.std.specs.Prelude.{◌≡◌, ℕ, ◌+◌, ◌≤◌, nat_lt, Bool, cond, Option, List, [], ◌∷◌, count_by}
 use Rattle.step_record.specs.Stats.{is_hit, is_miss, is_eviction, one_if}
-use Rattle.step_record.specs.declared.item.Item.{Item}
-use Rattle.step_record.specs.declared.outcome.Outcome.{Outcome}
-use Rattle.segments.specs.Items.{is_same_item}
+use Rattle.segments.specs.Items.{Item, is_same_item}
 use Rattle.segments.specs.Queues.{total_items}
 use Rattle.replacement.specs.Counts.{queue_occurrences}
-use Rattle.adaptive_window.specs.Climber.{AreClimbRules, caffeine_rules, first_window}
-use Rattle.adaptive_window.specs.declared.climber.ClimbRules.{ClimbRules}
-use Rattle.adaptive_window.specs.AdaptiveWindow.{AdaptiveState, empty_adaptive, adaptive_act, IsAdaptive}
+use Rattle.adaptive_window.specs.Climber.{ClimbRules, AreClimbRules, caffeine_rules, first_window}
+use Rattle.adaptive_window.specs.AdaptiveWindow.{Outcome, AdaptiveState, empty_adaptive, adaptive_act, IsAdaptive}
 use Rattle.adaptive_window.specs.WindowRecord.{window_record_of, window_undone}
 
 -- An access is undone from its record and the state after it.

@@ -1,18 +1,16 @@
 -- The undo record of an access with an adaptive window, and how it is undone: the adjustment first, then the access.
 use Rattle.std.specs.Prelude.{ℕ, ◌≡◌, ◌+◌, ◌-◌, nat_lt, Bool, if◌then◌else◌, None}
 use Rattle.step_record.specs.Stats.{is_hit}
-use Rattle.step_record.specs.declared.item.Item.{Item}
 use Rattle.segments.specs.Queues.{Queues}
 use Rattle.replacement.specs.declared.record.Moves.{Moves}
-use Rattle.replacement.specs.Plan.{plan}
+use Rattle.replacement.specs.Plan.{Item, plan}
 use Rattle.replacement.specs.PlanMoves.{moves_of, undone_moves, FitsMoves}
 use Rattle.replacement.specs.Table.{Response}
-use Rattle.adaptive_window.specs.declared.climber.ClimbRules.{ClimbRules}
 use Rattle.adaptive_window.specs.declared.climber.Climber.{Climber}
 use Rattle.adaptive_window.specs.declared.window_record.SizeChange.{SizeChange}
 use Rattle.adaptive_window.specs.declared.window_record.SizeChange.TheVariants.{Grew, Shrank, Stayed}
-use Rattle.adaptive_window.specs.declared.window_record.WindowRecord.{WindowRecord}
-use Rattle.adaptive_window.specs.Climber.{climber_after, period_record, climber_before, FitsClimber}
+pub use Rattle.adaptive_window.specs.declared.window_record.WindowRecord.{WindowRecord}
+use Rattle.adaptive_window.specs.Climber.{ClimbRules, climber_after, period_record, climber_before, FitsClimber}
 use Rattle.adaptive_window.specs.AdaptiveWindow.{AdaptiveState, rules_at, adjustment_plan, response_of, IsAdaptive}
 
 abbrev pub size_change : ℕ → ℕ → SizeChange

@@ -4,8 +4,7 @@ use Rattle.std.proofs.lemmas.Bool.Decides.{nat_tests}
 use Rattle.std.proofs.lemmas.List.{append_assoc}
 use Rattle.std.proofs.lemmas.List.Sums.{sum_by-append, sum_by-take-drop}
 use Rattle.std.proofs.lemmas.Bool.{cases_Bool, eqb-true, eq-eqb, and_parts}
-use Rattle.step_record.specs.declared.config.Spread.{Spread}
-use Rattle.sketch.specs.Columns.{column}
+use Rattle.sketch.specs.Columns.{Spread, column}
 use Rattle.admission.specs.Shape.{Shape, IsShape}
 use Rattle.admission.specs.Eras.{halvings, begins, era, this_era}
 use Rattle.admission.specs.Doorkeeper.{probe, is_probe, is_held, are_held, is_known, main_touches}

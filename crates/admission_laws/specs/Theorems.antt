@@ -1,7 +1,6 @@
 -- How good an estimate is.
 use Rattle.std.specs.Prelude.{◌≡◌, ℕ, ◌+◌, ◌*◌, ◌/◌, ◌<◌, ◌≤◌, ◌==◌, min, true, false, List, length, count_by}
-use Rattle.step_record.specs.declared.config.Spread.{Spread}
-use Rattle.sketch.specs.Columns.{column}
+use Rattle.sketch.specs.Columns.{Spread, column}
 use Rattle.sketch.specs.Sketch.{least_counter}
 use Rattle.admission.specs.Shape.{Shape, IsShape}
 use Rattle.admission.specs.Eras.{halvings, this_era}

@@ -5,19 +5,13 @@ use Rattle.std.specs.Prelude.{IfErr, if◌then◌else◌}
 use Rattle.std.proofs.lemmas.List.Elements.{All-append, All-head, All-tail, All-nil, All-cons}
 use Rattle.std.proofs.lemmas.Bool.{cases_Bool, le-leb, ltb-false}
 use Rattle.step_record.specs.Config.{config_fault, is_from_one}
-use Rattle.step_record.specs.declared.config.Config.{Config}
-use Rattle.step_record.specs.declared.job.Job.{Job}
-use Rattle.step_record.specs.declared.job.Tuning.{Tuning}
-use Rattle.step_record.specs.declared.job.Policy.{Policy}
 use Rattle.step_record.specs.declared.job.Policy.TheVariants.{Clairvoyant}
-use Rattle.step_record.specs.declared.config.ConfigFault.{ConfigFault}
 use Rattle.step_record.specs.declared.config.ConfigFault.TheVariants.{Capacity}
 use Rattle.step_record.specs.declared.limits.TheConstants.{MAX_ACCESSES, MAX_BATCH, MAX_CAPACITY}
-use Rattle.queue_cache.specs.Design.{knows_trace}
-use Rattle.policies.specs.FaultyJobs.{at_capacity, faulty_from, faulty_in, ReturnsFault}
-use Rattle.policies.specs.declared.actor_fault.ActorFault.{ActorFault}
+use Rattle.queue_cache.specs.Design.{Policy, Job, Config, knows_trace}
+use Rattle.policies.specs.FaultyJobs.{ConfigFault, at_capacity, faulty_from, faulty_in, ReturnsFault}
 use Rattle.policies.specs.declared.actor_fault.ActorFault.TheVariants.{OutOfMemory}
-use Rattle.sweeps.specs.Sweep.{first_config_fault, jobs_over, sweep_fault}
+use Rattle.sweeps.specs.Sweep.{ActorFault, first_config_fault, jobs_over, sweep_fault}
 use Rattle.policy_actors.specs.Following.{CanFollow}
 use Rattle.policy_actors.proofs.Following.{all_follow}
 use Rattle.long_traces.specs.Taking.{FollowsTrace}
@@ -25,14 +19,12 @@ use Rattle.long_traces.proofs.Following.{all-follow}
 use Rattle.policy_actors.specs.Faults.{actor_fault}
 use Rattle.sweeps.specs.Intervals.{intervals_fault}
 use Rattle.policies.specs.declared.job_checks.TheConstants.{MAX_ACTORS}
-use Rattle.command_line.specs.Accepted.{AreAcceptedIntervals, AreAcceptedJobs, IsAcceptedPart, IsAcceptedRun, IsAcceptedSweep, is_clairvoyant, is_long, needs_whole_trace}
+use Rattle.command_line.specs.Accepted.{Tuning, AreAcceptedIntervals, AreAcceptedJobs, IsAcceptedPart, IsAcceptedRun, IsAcceptedSweep, is_clairvoyant, is_long, needs_whole_trace}
 use Rattle.command_line.specs.declared.arguments.Arguments.TheVariants.{Intervals, Run, Sweep}
 use Rattle.command_line.specs.declared.arguments.IntervalsArguments.{IntervalsArguments}
-use Rattle.command_line.specs.declared.arguments.JobArguments.{JobArguments}
-use Rattle.command_line.specs.declared.arguments.PartArguments.{PartArguments}
 use Rattle.command_line.specs.declared.arguments.RunArguments.{RunArguments}
 use Rattle.command_line.specs.declared.arguments.SweepArguments.{SweepArguments}
-use Rattle.cachesim.specs.TraceOutput.{jobs_asked, jobs_by_policy}
+use Rattle.cachesim.specs.TraceOutput.{PartArguments, JobArguments, jobs_asked, jobs_by_policy}
 
 no_fault : (config : Config) (tuning : Tuning) (i : ℕ) (policies : List Policy) → config_fault config ≡ Ok tt → faulty_from i (jobs_by_policy config tuning policies) ≡ None
 no_fault config tuning i [] ok = refl

@@ -5,7 +5,6 @@ use Rattle.std.proofs.lemmas.Option.{IfSome_then}
 use Rattle.std.specs.List.{join_with_byte}
 use Rattle.std.proofs.lemmas.Bool.{cases_Bool, cond-false, cond-true, ltb-false, ltb-true}
 use Rattle.std.proofs.lemmas.List.Splits.{join_with_byte-slice_split}
-use Rattle.debug_commands.specs.declared.fault.DebugFault.{DebugFault}
 use Rattle.debug_commands.specs.declared.fault.DebugFault.TheVariants as debug
 use Rattle.debug_commands.specs.declared.dialogue.TheConstants.{MAX_COMMAND_BYTES}
 use Rattle.streams.specs.Feeds.{lines_of}
@@ -14,9 +13,8 @@ use Rattle.debug_commands.specs.Commands.{command_line_of}
 use Rattle.debug_commands.specs.Dialogue.{Dialogue, dialogue_from, dialogue_of, is_quit}
 use Rattle.debug_commands.specs.Timeline.{TimelineData}
 use Rattle.cachesim.specs.DebugOutput.{KnownFiles}
-use Rattle.cachesim.specs.Fault.{of_debug}
+use Rattle.cachesim.specs.Fault.{Fault, DebugFault, of_debug}
 use Rattle.cachesim.specs.FaultCauses.{IsOfMachine, LeavesAnswers}
-use Rattle.cachesim.specs.declared.fault.Fault.{Fault}
 use Rattle.cachesim.specs.declared.fault.Fault.TheVariants as fault
 
 -- an error that a `?` hands on

@@ -2,10 +2,10 @@
 use Rattle.std.specs.Prelude.{◌≡◌, ◌⊎◌, Result, Err}
 use Rattle.streams.specs.Tally.{Exhausts, IsServed}
 use Rattle.streams.specs.declared.retry_budget.TheConstants.{INTERRUPTIONS}
-use Rattle.streams.specs.declared.tally.Tally.{Tally}
+pub use Rattle.streams.specs.declared.tally.Tally.{Tally}
 use Rattle.trace_read.specs.declared.fault.TraceFault.TheVariants as trace
 use Rattle.debug_commands.specs.declared.fault.DebugFault.TheVariants as debug
-use Rattle.cachesim.specs.declared.fault.Fault.{Fault}
+pub use Rattle.cachesim.specs.declared.fault.Fault.{Fault}
 use Rattle.cachesim.specs.declared.fault.Fault.TheVariants.{Debug, Trace, Write}
 
 -- What the input counted before and after, and the output. No call failed, and fewer than a million of either were

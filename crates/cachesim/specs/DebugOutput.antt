@@ -1,8 +1,8 @@
 -- What `debug` and `replay` write: answers to the commands of the input, about what a file has.
 use Rattle.std.specs.Prelude.{ℕ, Bool, List, Option, IfSome, length}
-use Rattle.step_record.specs.declared.config.Config.{Config}
+pub use Rattle.step_record.specs.declared.config.Config.{Config}
 use Rattle.step_record.specs.History.{Entries}
-use Rattle.command_line.specs.declared.arguments.PartArguments.{PartArguments}
+pub use Rattle.command_line.specs.declared.arguments.PartArguments.{PartArguments}
 use Rattle.shell_model.specs.Shell.{Shell, act}
 use Rattle.maintenance.specs.EmptyShell.{IsOpened}
 use Rattle.streams.specs.Part.{AppendsPart}

@@ -2,21 +2,19 @@
 use Rattle.std.specs.Prelude.{◌≡◌, ◌≤◌, ◌⊎◌, ⊤, ℕ, List, [], Option, Result, Err, length}
 use Rattle.std.specs.Io.KnownBytes.{Appends}
 use Rattle.step_record.specs.History.{IsLegal, Entries}
-use Rattle.step_record.specs.declared.config.Config.{Config}
-use Rattle.step_record.specs.declared.step.Reply.{Reply}
-use Rattle.step_record.specs.declared.step.Step.{Step}
-use Rattle.trace_read.specs.declared.format.Format.{Format}
-use Rattle.shell_model.specs.Shell.{Shell, act}
+pub use Rattle.step_record.specs.declared.config.Config.{Config}
+pub use Rattle.trace_read.specs.declared.format.Format.{Format}
+use Rattle.shell_model.specs.Shell.{Step, Reply, Shell, act}
 use Rattle.maintenance.specs.EmptyShell.{IsOpened}
 use Rattle.journal.specs.Session.{SessionState}
-use Rattle.workers.specs.declared.driven.Driven.{Driven}
-use Rattle.workers.specs.declared.run.DriveFault.{DriveFault}
+pub use Rattle.workers.specs.declared.driven.Driven.{Driven}
+pub use Rattle.workers.specs.declared.run.DriveFault.{DriveFault}
 use Rattle.workers.specs.declared.run.DriveFault.TheVariants.{Workers, Held, OutOfMemory, Stopped}
-use Rattle.workers.specs.declared.run.Cause.{Cause}
+pub use Rattle.workers.specs.declared.run.Cause.{Cause}
 use Rattle.workers.specs.declared.run.Cause.TheVariants as cause
 use Rattle.cachesim.specs.TraceOutput.{IfFaultless}
 use Rattle.cachesim.specs.WorkerReads.{AreOfReadsUpTo, AreWalksOfReads}
-use Rattle.cachesim.specs.declared.fault.Fault.{Fault}
+pub use Rattle.cachesim.specs.declared.fault.Fault.{Fault}
 use Rattle.cachesim.specs.declared.fault.Fault.TheVariants as fault
 use Rattle.journal_text.specs.Journal.{journal_of}
 use Rattle.journal_text.specs.declared.version.Version.TheVariants.{Two}

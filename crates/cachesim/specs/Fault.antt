@@ -3,13 +3,13 @@ use Rattle.streams.specs.declared.WriteFault.{WriteFault}
 use Rattle.streams.specs.declared.WriteFault.TheVariants as write
 use Rattle.journal_text.specs.declared.fault.JournalFault.{JournalFault}
 use Rattle.journal_text.specs.declared.fault.JournalFault.TheVariants as reading
-use Rattle.debug_commands.specs.declared.fault.DebugFault.{DebugFault}
+pub use Rattle.debug_commands.specs.declared.fault.DebugFault.{DebugFault}
 use Rattle.debug_commands.specs.declared.fault.DebugFault.TheVariants as debug
 use Rattle.trace_sample.specs.declared.fault.SampleFault.{SampleFault}
 use Rattle.trace_sample.specs.declared.fault.SampleFault.TheVariants as sample
 use Rattle.cachesim.specs.declared.files.FileFault.{FileFault}
 use Rattle.cachesim.specs.declared.files.FileFault.TheVariants as file
-use Rattle.cachesim.specs.declared.fault.Fault.{Fault}
+pub use Rattle.cachesim.specs.declared.fault.Fault.{Fault}
 use Rattle.cachesim.specs.declared.fault.Fault.TheVariants.{Debug, Journal, NoFile, OutOfMemory, Trace, Write}
 
 abbrev pub of_write : WriteFault → Fault

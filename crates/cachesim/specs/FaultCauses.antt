@@ -2,13 +2,11 @@
 use Rattle.std.specs.Prelude.{◌≡◌, ◌≢◌, ◌<◌, ◌⊎◌, ℕ, false, List, Option, None, Some, IfSome, length}
 use Rattle.clap.specs.Words.{Text}
 use Rattle.step_record.specs.History.{Entries}
-use Rattle.step_record.specs.declared.config.Config.{Config}
 use Rattle.shell_model.specs.Shell.{Shell, act}
-use Rattle.maintenance.specs.EmptyShell.{IsOpened}
+use Rattle.maintenance.specs.EmptyShell.{Config, IsOpened}
 use Rattle.step_record.specs.declared.job.Policy.{Policy}
 use Rattle.policies.specs.declared.job_checks.TheConstants.{MAX_ACTORS}
 use Rattle.trace_read.specs.TraceText.{fault_within}
-use Rattle.trace_read.specs.declared.format.Format.{Format}
 use Rattle.trace_read.specs.declared.limits.Limits.{Limits}
 use Rattle.trace_read.specs.declared.limits.TheConstants.Limits.{DEFAULT, LONG}
 use Rattle.trace_read.specs.declared.fault.TraceFault.{TraceFault}
@@ -18,15 +16,13 @@ use Rattle.journal_text.specs.declared.fault.JournalFault.TheVariants as journal
 use Rattle.debug_commands.specs.declared.dialogue.TheConstants.{MAX_COMMAND_BYTES}
 use Rattle.debug_commands.specs.declared.fault.DebugFault.TheVariants as large
 use Rattle.command_line.specs.ParseResult.{IsRefused}
-use Rattle.command_line.specs.declared.arguments.Arguments.{Arguments}
+pub use Rattle.command_line.specs.declared.arguments.Arguments.{Arguments}
 use Rattle.command_line.specs.declared.arguments.Arguments.TheVariants as asked
 use Rattle.cachesim.specs.DebugOutput.{Answering, AnsweringBegun, Debugging, KnownFiles, Replaying}
-use Rattle.cachesim.specs.DriveOutput.{LeavesDrive}
+use Rattle.cachesim.specs.DriveOutput.{Fault, Format, LeavesDrive}
 use Rattle.cachesim.specs.SampleOutput.{IsPartSampled}
-use Rattle.streams.specs.declared.tally.Tally.{Tally}
-use Rattle.cachesim.specs.FaultLine.{IsReported}
+use Rattle.cachesim.specs.FaultLine.{Tally, IsReported}
 use Rattle.cachesim.specs.Outcome.{AsksForSome, AsksHelp}
-use Rattle.cachesim.specs.declared.fault.Fault.{Fault}
 use Rattle.cachesim.specs.declared.fault.Fault.TheVariants.{Actors, Debug, Journal, JournalFull, NoFile, OutOfMemory}
 use Rattle.cachesim.specs.declared.fault.Fault.TheVariants.{Trace, Write}
 

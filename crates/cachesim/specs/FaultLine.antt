@@ -4,11 +4,11 @@ use Rattle.std.specs.Io.KnownBytes.{Appends}
 use Rattle.streams.specs.Part.{AppendsPart}
 use Rattle.streams.specs.Tally.{Exhausts}
 use Rattle.streams.specs.declared.retry_budget.TheConstants.{INTERRUPTIONS}
-use Rattle.streams.specs.declared.tally.Tally.{Tally}
+pub use Rattle.streams.specs.declared.tally.Tally.{Tally}
 use Rattle.trace_read.specs.FaultText.{trace_fault_text}
 use Rattle.journal_text.specs.FaultText.{journal_fault_text}
 use Rattle.debug_commands.specs.FaultText.{debug_fault_text}
-use Rattle.cachesim.specs.declared.fault.Fault.{Fault}
+pub use Rattle.cachesim.specs.declared.fault.Fault.{Fault}
 use Rattle.cachesim.specs.declared.fault.Fault.TheVariants.{Actors, Debug, Journal, JournalFull}
 use Rattle.cachesim.specs.declared.fault.Fault.TheVariants.{NoFile, OutOfMemory, Trace, Write}
 

@@ -5,12 +5,11 @@ use Rattle.clap.specs.Words.{IsAmong, Kinds, Text}
 use Rattle.clap.specs.declared.error.ErrorKind.{ErrorKind}
 use Rattle.clap.specs.declared.error.ErrorKind.TheVariants.{DisplayHelp, DisplayVersion}
 use Rattle.command_line.specs.ParseResult.{AsksFor, IsRefused}
-use Rattle.command_line.specs.declared.arguments.Arguments.{Arguments}
+pub use Rattle.command_line.specs.declared.arguments.Arguments.{Arguments}
 use Rattle.command_line.specs.declared.arguments.Arguments.TheVariants as asked
-use Rattle.command_line.specs.declared.fault.ParseFault.{ParseFault}
+pub use Rattle.command_line.specs.declared.fault.ParseFault.{ParseFault}
 use Rattle.command_line.specs.declared.fault.ParseFault.TheVariants as parse
-use Rattle.streams.specs.declared.tally.Tally.{Tally}
-use Rattle.cachesim.specs.FaultLine.{WritesLine}
+use Rattle.cachesim.specs.FaultLine.{Tally, WritesLine}
 use Rattle.cachesim.specs.DebugOutput.{Answering, Debugging, KnownFiles, Replaying}
 use Rattle.cachesim.specs.DriveOutput.{IsDriven}
 use Rattle.cachesim.specs.SampleOutput.{IsSampled, sample_line}

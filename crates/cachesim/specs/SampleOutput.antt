@@ -7,8 +7,8 @@ use Rattle.trace_read.specs.TraceText.{fault_within, keys_in}
 use Rattle.trace_read.specs.declared.limits.TheConstants.{MAX_LONG_ACCESSES}
 use Rattle.trace_sample.specs.Numbers.{numbers_text}
 use Rattle.trace_sample.specs.Sample.{block_count, sample_of}
-use Rattle.trace_sample.specs.declared.counts.SampleCounts.{SampleCounts}
-use Rattle.command_line.specs.declared.arguments.SampleArguments.{SampleArguments}
+pub use Rattle.trace_sample.specs.declared.counts.SampleCounts.{SampleCounts}
+pub use Rattle.command_line.specs.declared.arguments.SampleArguments.{SampleArguments}
 
 -- the accesses that are kept
 abbrev pub kept_of : SampleArguments → List ℕ → List ℕ

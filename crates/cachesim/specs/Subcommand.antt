@@ -3,14 +3,11 @@ use Rattle.std.specs.Prelude.{ℕ, List, Option, None, Result, IfErr, IfOk, OnOk
 use Rattle.std.specs.Global.{Vec}
 use Rattle.std.specs.Vec.{vec_items}
 use Rattle.streams.specs.Tally.{FailsWhere}
-use Rattle.streams.specs.declared.tally.Tally.{Tally}
-use Rattle.command_line.specs.declared.arguments.Arguments.{Arguments}
-use Rattle.cachesim.specs.CallFaults.{IsOfRead, IsOfWrite}
+use Rattle.cachesim.specs.CallFaults.{Fault, Tally, IsOfRead, IsOfWrite}
 use Rattle.cachesim.specs.DebugOutput.{KnownFiles}
-use Rattle.cachesim.specs.FaultCauses.{IsDue, Leaves}
+use Rattle.cachesim.specs.FaultCauses.{Arguments, IsDue, Leaves}
 use Rattle.cachesim.specs.Outcome.{IsDone}
 use Rattle.cachesim.specs.TraceOutput.{IsTextOf}
-use Rattle.cachesim.specs.declared.fault.Fault.{Fault}
 
 -- It made the text that the arguments ask for, over the bytes of the input, or returned a fault that is due. A read
 -- failed just where that is the fault, by what the input counted before and after; and nothing was written.

@@ -1,24 +1,22 @@
 -- What the subcommands write that read a trace and write a text: `run` and `sweep`, `intervals`, `part` and `compare`.
 use Rattle.std.specs.Prelude.{◌≡◌, ℕ, List, Option, None, Some, IfSome, flat_map, map}
 use Rattle.step_record.specs.declared.config.Config.{Config}
-use Rattle.step_record.specs.declared.job.Job.{Job}
+pub use Rattle.step_record.specs.declared.job.Job.{Job}
 use Rattle.step_record.specs.declared.job.Tuning.{Tuning}
-use Rattle.step_record.specs.declared.job.Policy.{Policy}
+pub use Rattle.step_record.specs.declared.job.Policy.{Policy}
 use Rattle.step_record.specs.declared.limits.TheConstants.{MAX_ACCESSES}
 use Rattle.command_line.specs.declared.arguments.Arguments.{Arguments}
 use Rattle.command_line.specs.declared.arguments.Arguments.TheVariants as asked
-use Rattle.command_line.specs.declared.arguments.JobArguments.{JobArguments}
-use Rattle.command_line.specs.declared.arguments.PartArguments.{PartArguments}
+pub use Rattle.command_line.specs.declared.arguments.JobArguments.{JobArguments}
+pub use Rattle.command_line.specs.declared.arguments.PartArguments.{PartArguments}
 use Rattle.sweeps.specs.Sweep.{jobs_over}
 use Rattle.trace_read.specs.TraceText.{fault_within, keys_in}
 use Rattle.trace_read.specs.declared.format.Format.{Format}
 use Rattle.policies.specs.AnyPolicy.{outcomes_on}
 use Rattle.policies.specs.Reports.{report_on}
-use Rattle.policies.specs.declared.report.Report.{Report}
-use Rattle.sweeps.specs.Intervals.{intervals_on}
-use Rattle.policies.specs.declared.report.Interval.{Interval}
+use Rattle.sweeps.specs.Intervals.{Interval, intervals_on}
 use Rattle.report.specs.IntervalText.{intervals_text}
-use Rattle.report.specs.Text.{reports_text}
+use Rattle.report.specs.Text.{Report, reports_text}
 use Rattle.policy_comparison.specs.ComparedIntervals.{compared_intervals_on, compared_intervals_text}
 use Rattle.policy_comparison.specs.Comparison.{compared_on, comparison_text}
 use Rattle.policy_comparison.specs.Part.{part_line, IsPart}

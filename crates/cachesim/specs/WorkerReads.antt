@@ -1,10 +1,9 @@
 -- Which accesses of a trace each worker reads.
 use Rattle.std.specs.Prelude.{◌≡◌, ℕ, ◌+◌, ◌<◌, ◌≤◌, ◌%◌, ◌==◌, List, [], ◌∷◌, length, get_or, if◌then◌else◌}
 use Rattle.std.specs.Prelude.{Option, Some, None, IfSome}
-use Rattle.step_record.specs.declared.step.Call.{Call}
 use Rattle.step_record.specs.declared.step.Call.TheVariants.{Read}
 use Rattle.step_record.specs.History.{Entries}
-use Rattle.walks.specs.Walks.{AreWalks}
+use Rattle.walks.specs.Walks.{Call, AreWalks}
 use Rattle.walks.specs.WorkerEntries.{entries_of}
 use Rattle.workers.specs.Runs.{AreWalksUpTo, first_cause, IsCauseIn}
 use Rattle.workers.specs.declared.run.Cause.{Cause}

@@ -3,8 +3,7 @@ ghost use Rattle.std.specs.Prelude.{◌≡◌, ◌≢◌, ◌⊎◌, IfErr, IsEr
 ghost use Rattle.std.specs.Io.KnownBytes.{Appends};
 ghost use Rattle.command_line.specs.Accepted.{AreAccepted, needs_whole_trace};
 ghost use Rattle.streams.specs.Tally.{FailsWhere};
-ghost use Rattle.streams.specs.declared.tally.Tally.{Tally};
-ghost use Rattle.cachesim.specs.CallFaults.{IsOfRead, IsOfWrite};
+ghost use Rattle.cachesim.specs.CallFaults.{Tally, IsOfRead, IsOfWrite};
 ghost use Rattle.cachesim.specs.Outcome.{IsSaid};
 ghost use Rattle.cachesim.specs.Subcommand.{IsPerformed};
 

@@ -1,12 +1,10 @@
 -- A step of the engine, from what serving the access left.
 use Rattle.std.proofs.Common.{◌≡◌, ℕ, suc, ◌-◌, ◌<◌, Some, Bool, List, length, get_or, ap, ◌∙◌, sym, subst, arith, add-one}
-use Rattle.step_record.specs.declared.outcome.Outcome.{Outcome}
-use Rattle.step_record.specs.declared.stats.Stats.{Stats}
 use Rattle.step_record.specs.Stats.{stats_with, stats_without}
 use Rattle.clairvoyant.specs.declared.optimal_record.OptimalRecord.{OptimalRecord}
-use Rattle.clairvoyant.specs.Belady.{belady_residents, belady_outcome}
+use Rattle.clairvoyant.specs.Belady.{Outcome, belady_residents, belady_outcome}
 use Rattle.clairvoyant.specs.RankSet.{IsTied}
-use Rattle.clairvoyant.specs.Clairvoyant.{ClairvoyantState, IsBeladyReached, clairvoyant_act}
+use Rattle.clairvoyant.specs.Clairvoyant.{Stats, ClairvoyantState, IsBeladyReached, clairvoyant_act}
 use Rattle.clairvoyant.specs.OptimalRecord.{record_at, outcome_of, undone_keys, clairvoyant_undone, ClairvoyantFits}
 use Rattle.clairvoyant.specs.Representation.{shown, IsRepresented}
 use Rattle.clairvoyant.proofs.Records.{outcome-is, keys-back}

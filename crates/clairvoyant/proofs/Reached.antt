@@ -2,12 +2,10 @@
 use Rattle.std.proofs.Common.{◌≡◌, ℕ, suc, zero, ◌+◌, ◌-◌, ◌<◌, ◌≤◌, true, cond, eqb, nat_lt, Some, None, List, length, get_or, ap, ◌∙◌, sym, refl, arith, add-one}
 use Rattle.std.proofs.lemmas.Bool.{eq-eqb, lt-ltb}
 use Rattle.step_record.specs.declared.limits.TheConstants.{MAX_STEPS}
-use Rattle.step_record.specs.declared.outcome.Outcome.{Outcome}
-use Rattle.step_record.specs.declared.stats.Stats.{Stats}
 use Rattle.step_record.specs.Stats.{is_hit, is_miss, is_eviction, is_rejection, one_if, stats_with, stats_without, IsCounted, stats_of}
 use Rattle.step_record.proofs.Counting.{stats-snoc}
-use Rattle.clairvoyant.specs.Belady.{belady_answer, belady_residents, belady_outcome, belady_outcomes}
-use Rattle.clairvoyant.specs.Clairvoyant.{IsBeladyReached, clairvoyant_act, is_next, clairvoyant_after}
+use Rattle.clairvoyant.specs.Belady.{Outcome, belady_answer, belady_residents, belady_outcome, belady_outcomes}
+use Rattle.clairvoyant.specs.Clairvoyant.{Stats, IsBeladyReached, clairvoyant_act, is_next, clairvoyant_after}
 use Rattle.clairvoyant.specs.Representation.{shown}
 use Rattle.clairvoyant.proofs.Belady.{accesses, access-counts, residents-ascending}
 

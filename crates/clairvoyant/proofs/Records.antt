@@ -1,15 +1,13 @@
 -- What the record of an access says of it, and how it leads back.
 use Rattle.std.proofs.Common.{◌≡◌, ℕ, suc, ◌<◌, ◌≤◌, true, false, eqb, List, length, get_or, ap, ◌∙◌, sym, subst, refl}
 use Rattle.std.proofs.lemmas.Bool.{lt-ltb, le-ltb, eq-eqb, ne_eqb}
-use Rattle.step_record.specs.declared.outcome.Outcome.{Outcome}
 use Rattle.step_record.specs.Keys.{has_key, keys_without}
 use Rattle.clairvoyant.specs.declared.optimal_record.EvictedKey.{EvictedKey}
-use Rattle.clairvoyant.specs.declared.optimal_record.OptimalRecord.{OptimalRecord}
 use Rattle.clairvoyant.specs.declared.optimal_record.OptimalRecord.TheVariants.{Hit, Kept, Evicted, Rejected}
 use Rattle.clairvoyant.specs.Keys.{residents_with, IsAscendingKeys}
 use Rattle.clairvoyant.specs.Ranks.{rank}
-use Rattle.clairvoyant.specs.Belady.{farthest, belady_residents, belady_outcome}
-use Rattle.clairvoyant.specs.OptimalRecord.{record_at, outcome_of, undone_keys}
+use Rattle.clairvoyant.specs.Belady.{Outcome, farthest, belady_residents, belady_outcome}
+use Rattle.clairvoyant.specs.OptimalRecord.{OptimalRecord, record_at, outcome_of, undone_keys}
 use Rattle.clairvoyant.proofs.Keys.{without-put, without-swap, put-without}
 use Rattle.clairvoyant.proofs.Belady.{Accesses, hit, kept, rejected, evicted, accesses, residents-ascending}
 use Rattle.clairvoyant.proofs.Ranked.{IsMore, with-more, without-more, swap-more}

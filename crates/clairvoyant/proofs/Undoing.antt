@@ -1,13 +1,11 @@
 -- A step back of the engine, from a record that fits.
 use Rattle.std.proofs.Common.{◌≡◌, ℕ, suc, ◌-◌, Bool, List, ap, ◌∙◌, sym, subst, arith}
-use Rattle.step_record.specs.declared.stats.Stats.{Stats}
 use Rattle.step_record.specs.Stats.{stats_with, stats_without, IsCounted, stats_of}
 use Rattle.step_record.proofs.Counting.{stats-snoc}
-use Rattle.clairvoyant.specs.declared.optimal_record.OptimalRecord.{OptimalRecord}
 use Rattle.clairvoyant.specs.Belady.{belady_residents, belady_outcome, belady_outcomes}
 use Rattle.clairvoyant.specs.RankSet.{IsTied}
-use Rattle.clairvoyant.specs.Clairvoyant.{ClairvoyantState, IsBeladyReached}
-use Rattle.clairvoyant.specs.OptimalRecord.{record_at, outcome_of, clairvoyant_undone, ClairvoyantFits}
+use Rattle.clairvoyant.specs.Clairvoyant.{Stats, ClairvoyantState, IsBeladyReached}
+use Rattle.clairvoyant.specs.OptimalRecord.{OptimalRecord, record_at, outcome_of, clairvoyant_undone, ClairvoyantFits}
 use Rattle.clairvoyant.specs.Representation.{shown, IsRepresented}
 use Rattle.clairvoyant.proofs.Records.{outcome-is}
 use Rattle.clairvoyant.proofs.Reached.{uncount, is-counted}

@@ -1,14 +1,13 @@
 -- The undo record of an access, as a function of the trace's place and the residents before it.
 use Rattle.std.specs.Prelude.{◌≡◌, ℕ, suc, ◌-◌, ◌≤◌, nat_lt, cond, eqb, List, length, slice_index}
-use Rattle.step_record.specs.declared.outcome.Outcome.{Outcome}
 use Rattle.step_record.specs.declared.outcome.Outcome.TheVariants as outcome
 use Rattle.step_record.specs.Stats.{stats_without}
 use Rattle.step_record.specs.Keys.{has_key, keys_without}
-use Rattle.clairvoyant.specs.declared.optimal_record.OptimalRecord.{OptimalRecord}
+pub use Rattle.clairvoyant.specs.declared.optimal_record.OptimalRecord.{OptimalRecord}
 use Rattle.clairvoyant.specs.declared.optimal_record.OptimalRecord.TheVariants.{Hit, Kept, Evicted, Rejected}
 use Rattle.clairvoyant.specs.Keys.{residents_with}
 use Rattle.clairvoyant.specs.Ranks.{rank}
-use Rattle.clairvoyant.specs.Belady.{farthest, belady_residents}
+use Rattle.clairvoyant.specs.Belady.{Outcome, farthest, belady_residents}
 use Rattle.clairvoyant.specs.Clairvoyant.{ClairvoyantState}
 
 -- the record where k came to a full cache at place i, and v is the one to leave

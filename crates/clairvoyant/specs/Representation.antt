@@ -1,9 +1,8 @@
 -- What ties a cache's fields to the definition.
 use Rattle.std.specs.Prelude.{ℕ, List, Bool}
-use Rattle.step_record.specs.declared.stats.Stats.{Stats}
 use Rattle.clairvoyant.specs.Belady.{belady_residents}
 use Rattle.clairvoyant.specs.RankSet.{IsTied}
-use Rattle.clairvoyant.specs.Clairvoyant.{ClairvoyantState, IsBeladyReached}
+use Rattle.clairvoyant.specs.Clairvoyant.{Stats, ClairvoyantState, IsBeladyReached}
 
 -- the residents are those that the definition gives at the place that the count of accesses names
 abbrev pub shown : ℕ → List ℕ → Stats → ClairvoyantState

@@ -2,9 +2,8 @@
 use Rattle.std.specs.Prelude.{◌≡◌, ℕ, ◌+◌, false, nat_lt, Some, None}
 use Rattle.std.proofs.Common.{ap, refl}
 use Rattle.step_record.specs.declared.limits.TheConstants.{MAX_STEPS}
-use Rattle.step_record.specs.declared.outcome.Outcome.{Outcome}
 use Rattle.step_record.proofs.Limited.{accepted-where}
-use Rattle.clairvoyant.specs.Clairvoyant.{ClairvoyantState, clairvoyant_access, clairvoyant_act, is_next}
+use Rattle.clairvoyant.specs.Clairvoyant.{Outcome, ClairvoyantState, clairvoyant_access, clairvoyant_act, is_next}
 
 pub act_counts : (d : ClairvoyantState) (k : ℕ) (o : Outcome) (e : ClairvoyantState) → clairvoyant_act d k ≡ Some (o, e)
     → e.stats.accesses ≡ d.stats.accesses + 1

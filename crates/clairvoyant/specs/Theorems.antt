@@ -1,8 +1,7 @@
 -- What an accepted step stands for, for callers that see the cache by its steps alone.
 use Rattle.std.specs.Prelude.{◌≡◌, ℕ, suc, ◌<◌, ◌≤◌, Some, None, length, slice_index}
 use Rattle.step_record.specs.declared.limits.TheConstants.{MAX_STEPS}
-use Rattle.step_record.specs.declared.outcome.Outcome.{Outcome}
-use Rattle.clairvoyant.specs.Belady.{belady_outcome}
+use Rattle.clairvoyant.specs.Belady.{Outcome, belady_outcome}
 use Rattle.clairvoyant.specs.Clairvoyant.{ClairvoyantState, clairvoyant_at, clairvoyant_act}
 
 -- For a cache that made the first accesses of its trace, an accepted step is the next of them, answers the outcome

@@ -4,8 +4,7 @@ use Rattle.std.specs.Prelude.{IfOk, option_map}
 use Rattle.std.specs.Borrow.{Bor}
 use Rattle.clap.specs.Words.{Text}
 use Rattle.command_line.specs.Choices.{all_named, and_more}
-use Rattle.command_line.specs.Values.{Answers, AnswersWith}
-use Rattle.command_line.specs.declared.fault.ValueFault.{ValueFault}
+use Rattle.command_line.specs.Values.{ValueFault, Answers, AnswersWith}
 use Rattle.command_line.specs.declared.fault.ValueFault.TheVariants.{Incomplete, OutOfMemory}
 
 module _ {A : Type 0} (named : Text → Option A) where

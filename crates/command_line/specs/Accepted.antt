@@ -3,14 +3,14 @@ use Rattle.std.specs.Prelude.{◌≡◌, ◌≤◌, ◌&&◌, ◌||◌, Bool, fa
 use Rattle.std.specs.Option.{option_map_or}
 use Rattle.std.specs.List.{AllPass, list_any}
 use Rattle.step_record.specs.Config.{config_fault, is_from_one}
-use Rattle.step_record.specs.declared.config.Config.{Config}
+pub use Rattle.step_record.specs.declared.config.Config.{Config}
 use Rattle.step_record.specs.declared.limits.TheConstants.{MAX_ACCESSES, MAX_BATCH, MAX_CAPACITY}
 use Rattle.step_record.specs.declared.limits.TheConstants.{MAX_GHOST_PERCENT, MAX_PART_PERCENT}
-use Rattle.step_record.specs.declared.job.Tuning.{Tuning}
-use Rattle.step_record.specs.declared.job.Policy.{Policy}
+pub use Rattle.step_record.specs.declared.job.Tuning.{Tuning}
+pub use Rattle.step_record.specs.declared.job.Policy.{Policy}
 use Rattle.step_record.specs.declared.job.Policy.TheVariants.{Clairvoyant}
 use Rattle.step_record.specs.declared.worker.TheConstants.{MAX_WORKERS}
-use Rattle.trace_read.specs.declared.limits.Limits.{Limits}
+pub use Rattle.trace_read.specs.declared.limits.Limits.{Limits}
 use Rattle.trace_read.specs.declared.limits.TheConstants.{MAX_LONG_ACCESSES, MAX_LONG_TRACE_BYTES}
 use Rattle.command_line.specs.declared.arguments.Arguments.{Arguments}
 use Rattle.command_line.specs.declared.arguments.Arguments.TheVariants.{Compare, Debug, Drive, Intervals, Part}

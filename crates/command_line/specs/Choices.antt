@@ -15,7 +15,7 @@ use Rattle.trace_read.specs.declared.format.Format.{Format}
 use Rattle.trace_read.specs.declared.format.Format.TheVariants.{Lirs, Arc}
 use Rattle.trace_read.specs.declared.limits.Limits.{Limits}
 use Rattle.trace_read.specs.declared.limits.TheConstants.Limits.{DEFAULT, LONG}
-use Rattle.command_line.specs.declared.choices.WordLists.{WordLists}
+pub use Rattle.command_line.specs.declared.choices.WordLists.{WordLists}
 
 abbrev pub policy_words : List Text
 policy_words = map word_of POLICIES

@@ -4,17 +4,17 @@ use Rattle.clap.specs.Words.{Text}
 use Rattle.step_record.specs.declared.limits.TheConstants.{MAX_BATCH, MAX_CAPACITY, MAX_JOURNAL_LIMIT}
 use Rattle.step_record.specs.declared.limits.TheConstants.{MAX_GHOST_PERCENT, MAX_MAIN_PERCENT, MAX_PART_PERCENT}
 use Rattle.step_record.specs.declared.worker.TheConstants.{MAX_WORKERS}
-use Rattle.command_line.specs.declared.options.OptionName.{OptionName}
+pub use Rattle.command_line.specs.declared.options.OptionName.{OptionName}
 use Rattle.command_line.specs.declared.options.OptionName.TheVariants.{Batch, Capacities, Capacity, ComparedEvery}
 use Rattle.command_line.specs.declared.options.OptionName.TheVariants.{Every, First, In, Out, Period, Small}
 use Rattle.command_line.specs.declared.options.OptionName.TheVariants.{Format, Journal, Limit, Long, Main, Policies, Second}
 use Rattle.command_line.specs.declared.options.OptionName.TheVariants.{Rate, Seed, Spread, Stripes, SweptPolicies, Trace}
 use Rattle.command_line.specs.declared.options.OptionName.TheVariants.{Workers}
 use Rattle.command_line.specs.declared.options.OptionRow.{OptionRow}
-use Rattle.command_line.specs.declared.options.Place.{Place}
+pub use Rattle.command_line.specs.declared.options.Place.{Place}
 use Rattle.command_line.specs.declared.options.Place.TheVariants.{Named, NamedOften, Optional, Positional, Switch}
 use Rattle.command_line.specs.declared.options.Subcommand.{Subcommand}
-use Rattle.command_line.specs.declared.options.ValueKind.{ValueKind}
+pub use Rattle.command_line.specs.declared.options.ValueKind.{ValueKind}
 use Rattle.command_line.specs.declared.options.ValueKind.TheVariants as kind
 
 -- An option: its name, what its values are, how they are given, and its default. With no default it is required,

@@ -1,12 +1,11 @@
 -- What a parse of the words after the program's name gives.
 use Rattle.std.specs.Prelude.{◌≡◌, ◌≢◌, ⊤, List, [], Result, Err}
 use Rattle.clap.specs.Words.{HasKind, Kinds, Text, fault_of, subcommand_of}
-use Rattle.command_line.specs.Choices.{AreLists}
+use Rattle.command_line.specs.Choices.{WordLists, AreLists}
 use Rattle.command_line.specs.Program.{program_app}
 use Rattle.command_line.specs.Values.{asked_in}
-use Rattle.command_line.specs.declared.arguments.Arguments.{Arguments}
-use Rattle.command_line.specs.declared.choices.WordLists.{WordLists}
-use Rattle.command_line.specs.declared.fault.ParseFault.{ParseFault}
+pub use Rattle.command_line.specs.declared.arguments.Arguments.{Arguments}
+pub use Rattle.command_line.specs.declared.fault.ParseFault.{ParseFault}
 use Rattle.command_line.specs.declared.fault.ParseFault.TheVariants as fault
 
 -- clap takes the words, and their matches ask for this

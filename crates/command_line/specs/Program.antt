@@ -8,10 +8,8 @@ use Rattle.clap.specs.declared.builder.ValueParser.{ValueParser}
 use Rattle.clap.specs.declared.builder.ValueParser.TheVariants as parser
 use Rattle.clap.specs.declared.builder.command.Command.{Command}
 use Rattle.clap.specs.declared.builder.command.Command.TheViews.{out-Command}
-use Rattle.command_line.specs.Options.{OptionDefinition, SubcommandDefinition, row_of, subcommands}
+use Rattle.command_line.specs.Options.{Place, OptionName, OptionDefinition, SubcommandDefinition, row_of, subcommands}
 use Rattle.command_line.specs.declared.choices.WordLists.{WordLists}
-use Rattle.command_line.specs.declared.options.OptionName.{OptionName}
-use Rattle.command_line.specs.declared.options.Place.{Place}
 use Rattle.command_line.specs.declared.options.Place.TheVariants.{Named, NamedOften, Optional, Positional, Switch}
 use Rattle.command_line.specs.declared.options.ValueKind.{ValueKind}
 use Rattle.command_line.specs.declared.options.ValueKind.TheVariants.{AnyNumber, File, Flag, Format, Number, Policy}

@@ -10,14 +10,10 @@ use Rattle.clap.specs.Words.{Row, Text, all_of, first_of, one_of}
 use Rattle.clap.specs.ValueTests.{is_unsigned_in}
 use Rattle.step_record.specs.Config.{config_fault}
 use Rattle.step_record.specs.declared.limits.TheConstants.{MAX_STRIPES}
-use Rattle.step_record.specs.declared.config.Config.{Config}
 use Rattle.step_record.specs.declared.config.Spread.{Spread}
-use Rattle.step_record.specs.declared.job.Tuning.{Tuning}
-use Rattle.step_record.specs.declared.job.Policy.{Policy}
 use Rattle.trace_read.specs.declared.format.Format.{Format}
-use Rattle.trace_read.specs.declared.limits.Limits.{Limits}
-use Rattle.command_line.specs.Accepted.{has_long_intervals, needs_whole_trace}
-use Rattle.command_line.specs.Options.{row_of}
+use Rattle.command_line.specs.Accepted.{Limits, Policy, Tuning, Config, has_long_intervals, needs_whole_trace}
+use Rattle.command_line.specs.Options.{ValueKind, OptionName, row_of}
 use Rattle.command_line.specs.Choices.{all_named, format_named, limits_named, policy_named, rate_named, spread_named}
 use Rattle.command_line.specs.declared.arguments.Arguments.{Arguments}
 use Rattle.command_line.specs.declared.arguments.Arguments.TheVariants as asked
@@ -25,11 +21,9 @@ use Rattle.command_line.specs.declared.arguments.JobArguments.{JobArguments}
 use Rattle.command_line.specs.declared.arguments.PartArguments.{PartArguments}
 use Rattle.command_line.specs.declared.fault.ParseFault.{ParseFault}
 use Rattle.command_line.specs.declared.fault.ParseFault.TheVariants.{Incomplete, LongIntervals, Stripes, WholeTrace}
-use Rattle.command_line.specs.declared.fault.ValueFault.{ValueFault}
+pub use Rattle.command_line.specs.declared.fault.ValueFault.{ValueFault}
 use Rattle.command_line.specs.declared.fault.ValueFault.TheVariants as fault
-use Rattle.command_line.specs.declared.options.OptionName.{OptionName}
 use Rattle.command_line.specs.declared.options.OptionName.TheVariants as option
-use Rattle.command_line.specs.declared.options.ValueKind.{ValueKind}
 use Rattle.command_line.specs.declared.options.ValueKind.TheVariants.{Number}
 
 -- the value that is asked for, and P; an error says that there is none, or that the allocation failed

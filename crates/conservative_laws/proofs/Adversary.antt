@@ -6,8 +6,7 @@ use Rattle.std.proofs.lemmas.Bool.Decides.{nat_tests}
 use Rattle.std.proofs.lemmas.List.{take_all}
 use Rattle.step_record.specs.Keys.{has_key}
 use Rattle.step_record.specs.Stats.{one_if}
-use Rattle.step_record.specs.declared.job.Job.{Job}
-use Rattle.policies.specs.AnyPolicy.{stats_on}
+use Rattle.policies.specs.AnyPolicy.{Job, stats_on}
 use Rattle.queue_cache.proofs.Recency.{IsDistinct}
 use Rattle.queue_policies.specs.Residents.{times}
 use Rattle.queue_policies.proofs.Residents.{times-none, times-some}

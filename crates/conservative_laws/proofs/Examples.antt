@@ -3,7 +3,6 @@ use Rattle.std.proofs.Common.{◌≡◌, ◌⊎◌, ℕ, ◌≤◌, List, [], ta
 use Rattle.step_record.specs.declared.limits.TheConstants.{MAX_PART_PERCENT}
 use Rattle.step_record.specs.Job.{part_size}
 use Rattle.step_record.specs.Stats.{is_miss}
-use Rattle.step_record.specs.declared.job.Job.{Job}
 use Rattle.step_record.specs.declared.job.Policy.TheVariants.{Fifo, Clock}
 use Rattle.queue_policies.specs.Residents.{outcomes_of_all}
 use Rattle.queue_policies.specs.Fifo.{fifo_act}
@@ -11,7 +10,7 @@ use Rattle.queue_policies.specs.Clock.{clock_act}
 use Rattle.demand_cache.specs.declared.demand_policy.DemandPolicy.TheVariants as sized
 use Rattle.demand_cache.specs.DemandQueues.{outcomes_of_page}
 use Rattle.demand_cache.specs.Theorems.{RunsByPage}
-use Rattle.policies.specs.AnyPolicy.{demand_run, stats_on}
+use Rattle.policies.specs.AnyPolicy.{Job, demand_run, stats_on}
 use Rattle.queue_cache.specs.declared.design.DemandDesign.TheVariants as demand
 use Rattle.queue_cache.specs.Design.{design_of}
 use Rattle.conservative_laws.specs.Examples.{anomalous_trace, FifoAndClockHaveAnomaly, sieve_trace, SieveIsNotConservative, s3_fifo_trace, S3FifoIsNotConservative}

@@ -2,12 +2,10 @@
 use Rattle.std.proofs.Common.{◌≡◌, ℕ, ◌+◌, ◌-◌, ◌*◌, ◌≤◌, map, List, [], ◌∷◌, length, take, count_by, ap, ◌∙◌, sym, refl, subst, arith, inl, inr}
 use Rattle.std.proofs.lemmas.Bool.{cases_lt}
 use Rattle.std.proofs.lemmas.List.{take_all, length-take-le}
-use Rattle.step_record.specs.declared.job.Job.{Job}
 use Rattle.step_record.specs.declared.job.Policy.TheVariants.{Lru}
-use Rattle.step_record.specs.declared.outcome.Outcome.{Outcome}
 use Rattle.step_record.specs.declared.outcome.Outcome.TheVariants.{Rejected}
 use Rattle.step_record.specs.Stats.{is_miss}
-use Rattle.queue_policies.specs.Residents.{KeepsResidents, AreResidents, state_after_all, outcomes_of_all}
+use Rattle.queue_policies.specs.Residents.{Outcome, KeepsResidents, AreResidents, state_after_all, outcomes_of_all}
 use Rattle.queue_policies.specs.CountedKeys.{keys_of}
 use Rattle.queue_policies.specs.Fifo.{fifo_act}
 use Rattle.queue_policies.specs.Clock.{clock_act, IsClock}
@@ -16,10 +14,9 @@ use Rattle.queue_policies.proofs.Clock.{keeps as clock-keeps}
 use Rattle.adaptive_window.specs.Residents.{CacheKeeps}
 use Rattle.demand_cache.specs.DemandQueues.{outcomes_of_page}
 use Rattle.demand_cache.specs.Theorems.{DemandKeeps, RunsByPage}
-use Rattle.queue_cache.specs.declared.design.DemandDesign.{DemandDesign}
 use Rattle.queue_cache.specs.declared.design.DemandDesign.TheVariants as demand
 use Rattle.queue_cache.specs.declared.design.Design.TheVariants as design
-use Rattle.policies.specs.AnyPolicy.{demand_run, demand_outcomes, outcomes_by, outcomes_on, stats_on}
+use Rattle.policies.specs.AnyPolicy.{DemandDesign, Job, demand_run, demand_outcomes, outcomes_by, outcomes_on, stats_on}
 use Rattle.queue_cache.specs.Design.{design_of}
 use Rattle.policies.specs.DemandDesign.{demand_policy}
 use Rattle.policies.specs.Theorems.{AnyCoversTrace}

@@ -5,9 +5,8 @@ use Rattle.std.proofs.Math.Nat.{add-mul, mul-add, mul-le-mul_right, le_of_mul-le
 use Rattle.std.proofs.lemmas.List.{length-take-le}
 use Rattle.step_record.specs.Keys.{has_key}
 use Rattle.step_record.specs.Stats.{one_if}
-use Rattle.step_record.specs.declared.job.Job.{Job}
 use Rattle.step_record.specs.declared.job.Policy.TheVariants.{Lru}
-use Rattle.queue_cache.specs.Design.{has_queues}
+use Rattle.queue_cache.specs.Design.{Job, has_queues}
 use Rattle.policies.specs.AnyPolicy.{outcomes_on, stats_on}
 use Rattle.policies.specs.Theorems.{AnyCoversTrace}
 use Rattle.queue_cache.specs.Theorems.{LruStepLaw}

@@ -2,13 +2,11 @@
 use Rattle.std.proofs.Common.{ℕ, List, All, length, map, ◌∙◌, sym}
 use Rattle.std.specs.Prelude.{slice_index_or}
 use Rattle.std.proofs.lemmas.List.Elements.{All-map}
-use Rattle.step_record.specs.declared.job.Job.{Job}
-use Rattle.policies.specs.Residents.{StatsAddUp, MissesFit}
+use Rattle.policies.specs.Residents.{Job, StatsAddUp, MissesFit}
 use Rattle.policy_laws.specs.Theorems.{NoPolicyBeatsBelady, LruHitsGrow, OptimalHitsGrow}
 use Rattle.conservative_laws.specs.Theorems.{LruFifoClockCompeteWithAny}
-use Rattle.policies.specs.declared.report.Report.{Report}
 use Rattle.policies.specs.Reports.{report_on}
-use Rattle.conservative_laws.specs.ReportLaws.{AddsUp, AreOrdered, ReportsObeyLaws}
+use Rattle.conservative_laws.specs.ReportLaws.{Report, AddsUp, AreOrdered, ReportsObeyLaws}
 
 -- a fact of every job is one of all reports
 of-all : (P : Report → Type 0) (jobs : List Job) (trace : List ℕ) → ((j : Job) → P (report_on j trace)) → All P (map (λ j. report_on j trace) jobs)

@@ -1,7 +1,6 @@
 -- Conservative caches: few misses in a stretch of few keys.
 use Rattle.std.specs.Prelude.{ℕ, ◌+◌, ◌≤◌, List, length, take, drop}
-use Rattle.step_record.specs.declared.job.Job.{Job}
-use Rattle.policies.specs.AnyPolicy.{stats_on}
+use Rattle.policies.specs.AnyPolicy.{Job, stats_on}
 use Rattle.queue_cache.specs.Lru.{distinct_keys}
 
 -- how many of the accesses below place i are misses of the job

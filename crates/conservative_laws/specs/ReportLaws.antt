@@ -1,9 +1,8 @@
 -- What a reader of reports may rely on, in what the reports show.
 use Rattle.std.specs.Prelude.{◌≡◌, ℕ, ◌+◌, ◌-◌, ◌*◌, ◌≤◌, All, List, length, map}
-use Rattle.step_record.specs.declared.job.Job.{Job}
 use Rattle.step_record.specs.declared.job.Policy.TheVariants.{Lru, Clairvoyant}
-use Rattle.policies.specs.declared.report.Report.{Report}
-use Rattle.policies.specs.Reports.{report_on}
+pub use Rattle.policies.specs.declared.report.Report.{Report}
+use Rattle.policies.specs.Reports.{Job, report_on}
 use Rattle.conservative_laws.specs.Theorems.{IsLruFifoOrClock}
 
 -- each access is a hit or a miss, and the misses that were not evicted again fit the capacity

@@ -2,11 +2,9 @@
 -- know the trace competes better.
 use Rattle.std.specs.Prelude.{◌≡◌, ◌⊎◌, ℕ, suc, ◌+◌, ◌-◌, ◌*◌, ◌<◌, ◌≤◌, true, false, List, length, slice_index}
 use Rattle.step_record.specs.Keys.{has_key}
-use Rattle.step_record.specs.declared.job.Job.{Job}
-use Rattle.step_record.specs.declared.job.Policy.{Policy}
 use Rattle.step_record.specs.declared.job.Policy.TheVariants.{Lru, Fifo, Clock}
-use Rattle.policies.specs.AnyPolicy.{stats_on}
-use Rattle.queue_cache.specs.Design.{knows_trace}
+use Rattle.policies.specs.AnyPolicy.{Job, stats_on}
+use Rattle.queue_cache.specs.Design.{Policy, knows_trace}
 use Rattle.optimality.specs.Strategy.{IsStrategy, strategy_misses}
 use Rattle.conservative_laws.specs.Conservative.{misses_on, IsConservative, FillsFirst}
 

@@ -8,18 +8,15 @@ use Rattle.std.proofs.lemmas.List.Splits.{slice_split-cons_no}
 use Rattle.std.specs.Io.KnownBytes.{Appends, Consumes, IsAtEnd, Keeps}
 use Rattle.std.specs.List.{onto_first}
 use Rattle.std.specs.Prelude.{◌||◌, ◌⊎◌, not, IfSome}
-use Rattle.debug_commands.specs.AnswerText.{IsAnswer}
-use Rattle.debug_commands.specs.Answers.{TimelinePlace, CommandResponse, answer_to, response_to}
-use Rattle.debug_commands.specs.Commands.{command_line_of}
+use Rattle.debug_commands.specs.AnswerText.{Breakpoint, IsAnswer}
+use Rattle.debug_commands.specs.Answers.{InputLine, TimelinePlace, CommandResponse, answer_to, response_to}
+use Rattle.debug_commands.specs.Commands.{Dialect, command_line_of}
 use Rattle.debug_commands.specs.Dialogue.{Dialogue, answers, dialogue_from, dialogue_of, ends, is_last, is_quit, WritesDialogue}
 use Rattle.debug_commands.specs.InputBytes.{feed, IsTooLarge}
 use Rattle.streams.proofs.Feeds.{has_lines, lines_fed, one_unfed}
 use Rattle.streams.specs.Feeds.{lines_of, HasNoFeed}
 use Rattle.debug_commands.specs.Timeline.{TimelineData}
-use Rattle.debug_commands.specs.declared.breakpoint.Breakpoint.{Breakpoint}
 use Rattle.debug_commands.specs.declared.command.Command.TheVariants as command
-use Rattle.debug_commands.specs.declared.command.Dialect.{Dialect}
-use Rattle.debug_commands.specs.declared.command.InputLine.{InputLine}
 use Rattle.debug_commands.specs.declared.command.InputLine.TheVariants.{Empty, Unknown, Known}
 use Rattle.debug_commands.specs.declared.dialogue.TheConstants.{MAX_COMMAND_BYTES}
 

@@ -8,11 +8,10 @@ use Rattle.std.specs.Prelude.{IfSome, OnErr, Result, Ok, Err}
 use Rattle.streams.specs.Part.{AppendsPart}
 use Rattle.streams.specs.Feeds.{lines_of}
 use Rattle.streams.proofs.Feeds.{has_lines, lines_fed, one_unfed}
-use Rattle.debug_commands.specs.Answers.{TimelinePlace, CommandResponse, answer_to}
+use Rattle.debug_commands.specs.Answers.{Breakpoint, TimelinePlace, CommandResponse, answer_to}
 use Rattle.debug_commands.specs.Commands.{command_line_of}
 use Rattle.debug_commands.specs.Dialogue.{Dialogue, dialogue_from, dialogue_of, is_quit}
 use Rattle.debug_commands.specs.Timeline.{TimelineData}
-use Rattle.debug_commands.specs.declared.breakpoint.Breakpoint.{Breakpoint}
 use Rattle.debug_commands.proofs.Ahead.{IsAhead, Round, always, at_the_end, behind, fed_read, fed_room, fed_step, last_step, quit_answer, quit_step, unfed_read, unfed_room, Appends-none, Consumes-none}
 
 pub on_err : {X Y : Type 0} {P : Type 0} (r : Result X Y) → P → OnErr r P

@@ -1,9 +1,7 @@
 -- Where a run stops, step by step.
 use Rattle.std.proofs.Common.{◌≡◌, ◌∙◌, ◌<◌, ◌+◌, ◌-◌, ℕ, zero, suc, List, Some, None, refl, ap, sym, arith}
-use Rattle.debug_commands.specs.Answers.{stop_after, stop_here}
+use Rattle.debug_commands.specs.Answers.{StepFacts, Breakpoint, stop_after, stop_here}
 use Rattle.debug_commands.specs.Breakpoints.{first_holding}
-use Rattle.debug_commands.specs.declared.breakpoint.Breakpoint.{Breakpoint}
-use Rattle.debug_commands.specs.declared.breakpoint.StepFacts.{StepFacts}
 
 module _ (facts : ℕ → StepFacts) (breaks : List Breakpoint) where
   -- with a step left, it is the stop behind that step, or the later one

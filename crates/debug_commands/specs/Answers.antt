@@ -6,11 +6,11 @@ use Rattle.std.specs.Fmt.{decimal}
 use Rattle.debug_commands.specs.Breakpoints.{first_holding, breakpoint_word}
 use Rattle.debug_commands.specs.Timeline.{TimelineData}
 use Rattle.debug_commands.specs.declared.dialogue.TheConstants.{MAX_BREAKPOINTS}
-use Rattle.debug_commands.specs.declared.breakpoint.Breakpoint.{Breakpoint}
-use Rattle.debug_commands.specs.declared.breakpoint.StepFacts.{StepFacts}
+pub use Rattle.debug_commands.specs.declared.breakpoint.Breakpoint.{Breakpoint}
+pub use Rattle.debug_commands.specs.declared.breakpoint.StepFacts.{StepFacts}
 use Rattle.debug_commands.specs.declared.command.Command.{Command}
 use Rattle.debug_commands.specs.declared.command.Command.TheVariants as command
-use Rattle.debug_commands.specs.declared.command.InputLine.{InputLine}
+pub use Rattle.debug_commands.specs.declared.command.InputLine.{InputLine}
 use Rattle.debug_commands.specs.declared.command.InputLine.TheVariants.{Empty, Unknown, Known}
 
 -- between two commands: how many steps are made, and the breakpoints in the order in which they were set

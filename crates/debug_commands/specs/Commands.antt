@@ -3,17 +3,16 @@ use Rattle.std.specs.Prelude.{ℕ, Option, Some, None, List, [], ◌∷◌}
 use Rattle.streams.specs.Blanks.{trimmed_text}
 use Rattle.streams.specs.Numbers.{number_of}
 use Rattle.streams.specs.Reads.{◌>>=◌, with_rest, Reads, at_end}
-use Rattle.debug_commands.specs.Names.{name_of}
+use Rattle.debug_commands.specs.Names.{Name, name_of}
 use Rattle.debug_commands.specs.Words.{words_in}
 use Rattle.debug_commands.specs.declared.breakpoint.Breakpoint.{Breakpoint}
 use Rattle.debug_commands.specs.declared.breakpoint.Breakpoint.TheVariants as point
 use Rattle.debug_commands.specs.declared.command.Command.{Command}
 use Rattle.debug_commands.specs.declared.command.Command.TheVariants as command
-use Rattle.debug_commands.specs.declared.command.Dialect.{Dialect}
+pub use Rattle.debug_commands.specs.declared.command.Dialect.{Dialect}
 use Rattle.debug_commands.specs.declared.command.Dialect.TheVariants.{Policies, Journal}
 use Rattle.debug_commands.specs.declared.command.InputLine.{InputLine}
 use Rattle.debug_commands.specs.declared.command.InputLine.TheVariants.{Empty, Unknown, Known}
-use Rattle.debug_commands.specs.declared.grammar.Name.{Name}
 use Rattle.debug_commands.specs.declared.grammar.Name.TheVariants as name
 
 unfoldable pub command_name_at : Reads Name

@@ -4,11 +4,10 @@ use Rattle.std.specs.Prelude.{◌∷◌}
 use Rattle.std.specs.Prelude.{◌++◌, length}
 use Rattle.std.specs.Io.KnownBytes.{Appends}
 use Rattle.streams.specs.Feeds.{lines_of}
-use Rattle.debug_commands.specs.Answers.{TimelinePlace, CommandResponse, answer_to}
+use Rattle.debug_commands.specs.Answers.{InputLine, TimelinePlace, CommandResponse, answer_to}
 use Rattle.debug_commands.specs.Commands.{command_line_of}
 use Rattle.debug_commands.specs.Timeline.{TimelineData}
 use Rattle.debug_commands.specs.declared.command.Command.TheVariants.{Quit}
-use Rattle.debug_commands.specs.declared.command.InputLine.{InputLine}
 use Rattle.debug_commands.specs.declared.command.InputLine.TheVariants.{Known}
 use Rattle.debug_commands.specs.declared.dialogue.TheConstants.{MAX_COMMAND_BYTES}
 

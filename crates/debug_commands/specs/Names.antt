@@ -1,6 +1,6 @@
 -- The words of a command that are no numbers.
 use Rattle.std.specs.Prelude.{ℕ, List, Option, codes}
-use Rattle.debug_commands.specs.declared.grammar.Name.{Name}
+pub use Rattle.debug_commands.specs.declared.grammar.Name.{Name}
 use Rattle.debug_commands.specs.declared.grammar.Name.TheVariants.{Step, Back, Goto, Run, Break, Clear, Show}
 use Rattle.debug_commands.specs.declared.grammar.Name.TheVariants.{Window, Part, Save}
 use Rattle.debug_commands.specs.declared.grammar.Name.TheVariants.{Quit, Hit, Evict, Halve, Drop}

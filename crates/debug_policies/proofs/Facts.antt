@@ -2,18 +2,14 @@
 use Rattle.std.proofs.Common.{◌≡◌, ◌≢◌, ◌∙◌, ◌<◌, ◌+◌, ℕ, zero, suc, Bool, true, false, Option, Some, None, Result, Ok, Err, List, [], ◌∷◌, ◌++◌, length, get_or, refl, ap, sym, subst, arith}
 use Rattle.std.specs.Prelude.{is_err, OnOk, OnErr, IfSome, IfErr}
 use Rattle.streams.specs.Part.{AppendsPart}
-use Rattle.step_record.specs.declared.config.ConfigFault.{ConfigFault}
-use Rattle.step_record.specs.declared.job.Job.{Job}
-use Rattle.step_record.specs.declared.outcome.Outcome.{Outcome}
 use Rattle.step_record.specs.declared.outcome.Outcome.TheVariants.{Kept}
 use Rattle.step_record.specs.Stats.{is_hit}
 use Rattle.debug_commands.specs.Dialogue.{dialogue_of, WritesDialogue}
 use Rattle.debug_commands.specs.Timeline.{TimelineData}
-use Rattle.debug_commands.specs.declared.fault.DebugFault.{DebugFault}
 use Rattle.debug_commands.specs.declared.fault.DebugFault.TheVariants as debug
-use Rattle.policies.specs.FaultyJobs.{config_or}
-use Rattle.debug_policies.specs.ConfigFault.{ReturnsConfig, UntouchedAtConfig}
-use Rattle.debug_policies.specs.OnePolicy.{OnePolicyState}
+use Rattle.policies.specs.FaultyJobs.{Job, ConfigFault, config_or}
+use Rattle.debug_policies.specs.ConfigFault.{DebugFault, ReturnsConfig, UntouchedAtConfig}
+use Rattle.debug_policies.specs.OnePolicy.{Outcome, OnePolicyState}
 use Rattle.policy_comparison.specs.Part.{IsPart}
 use Rattle.debug_policies.specs.TwoPolicies.{first_parting, just_one, IsPartWalk}
 use Rattle.debug_commands.proofs.Results.{at_success}

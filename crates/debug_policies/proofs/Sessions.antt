@@ -3,16 +3,12 @@ use Rattle.std.proofs.Common.{◌≡◌, ◌∙◌, ◌≤◌, ◌<◌, ◌+◌,
 use Rattle.std.specs.Prelude.{slice_index, IfOk, OnErr}
 use Rattle.std.specs.declared.alloc.AllocError.{AllocError}
 use Rattle.std.proofs.lemmas.List.{take_more, take-append-le}
-use Rattle.step_record.specs.declared.entry.Entry.{Entry}
-use Rattle.step_record.specs.declared.job.Job.{Job}
-use Rattle.step_record.specs.declared.outcome.Outcome.{Outcome}
 use Rattle.step_record.specs.History.{data_after, next_data, IsLegal}
-use Rattle.journal.specs.Session.{SessionState, IsMovedTo}
-use Rattle.policies.specs.declared.any_policy.AnyPolicy.{AnyPolicy}
-use Rattle.policies.specs.AnyPolicy.{HasAccessed}
+use Rattle.journal.specs.Session.{Entry, SessionState, IsMovedTo}
+use Rattle.policies.specs.AnyPolicy.{Outcome, Job, HasAccessed}
 use Rattle.policies.specs.AnyStep.{any_act}
 use Rattle.policies.specs.Theorems.{AnyAnswers, AnyStepLaw}
-use Rattle.debug_policies.specs.OnePolicy.{outcome_at, steps_of, IsPolicyAt}
+use Rattle.debug_policies.specs.OnePolicy.{AnyPolicy, outcome_at, steps_of, IsPolicyAt}
 use Rattle.policy_comparison.proofs.Walked.{moves, outcome-is, stands-in}
 
 abbrev State : Type 0

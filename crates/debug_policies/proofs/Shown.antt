@@ -1,22 +1,19 @@
 -- What a cache shows is what the definition of its policy gives.
 use Rattle.std.proofs.Common.{◌≡◌, ◌∙◌, ◌≤◌, ℕ, true, List, length, take, refl, ap, sym, subst}
 use Rattle.std.proofs.lemmas.List.{length-take-le}
-use Rattle.step_record.specs.declared.job.Job.{Job}
 use Rattle.adaptive_window.specs.AdaptiveCache.{AdaptiveCacheState}
 use Rattle.adaptive_window.specs.Residents.{cache_residents}
 use Rattle.clairvoyant.specs.Belady.{belady_residents}
 use Rattle.clairvoyant.specs.Clairvoyant.{ClairvoyantState}
 use Rattle.segments.specs.Queues.{residents_in}
-use Rattle.policies.specs.declared.any_policy.AnyPolicy.{AnyPolicy}
 use Rattle.policies.specs.declared.any_policy.AnyPolicy.TheVariants.{Queues, Optimal, Demand, Adaptive}
-use Rattle.queue_cache.specs.declared.design.Design.{Design}
 use Rattle.queue_cache.specs.declared.design.Design.TheVariants.{KnowsTrace, Queues as OfQueues, Demand as OfDemand, Adaptive as OfAdaptive}
-use Rattle.queue_cache.specs.Design.{design_of, is_of_queues, is_optimal}
-use Rattle.policies.specs.AnyPolicy.{frequency_in, any_residents, HasAccessed}
+use Rattle.queue_cache.specs.Design.{Job, design_of, is_of_queues, is_optimal}
+use Rattle.policies.specs.AnyPolicy.{Design, frequency_in, any_residents, HasAccessed}
 use Rattle.queue_cache.specs.QueueCache.{QueueState, frequency_after, state_after}
 use Rattle.queue_cache.proofs.Reached.{after-frequency}
 use Rattle.demand_cache.specs.DemandQueues.{queues_residents}
-use Rattle.debug_policies.specs.OnePolicy.{age_in, age_by, residents_at, residents_by}
+use Rattle.debug_policies.specs.OnePolicy.{AnyPolicy, age_in, age_by, residents_at, residents_by}
 use Rattle.debug_policies.specs.Window.{fixed_window, moving_window, window_by, window_in}
 
 -- ---- the age

@@ -1,8 +1,8 @@
 -- Which configuration a debugger refuses.
 use Rattle.std.specs.Prelude.{◌≡◌, ℕ, Option, Some, None, Result, Err}
-use Rattle.debug_commands.specs.declared.fault.DebugFault.{DebugFault}
+pub use Rattle.debug_commands.specs.declared.fault.DebugFault.{DebugFault}
 use Rattle.debug_commands.specs.declared.fault.DebugFault.TheVariants as debug
-use Rattle.policies.specs.declared.actor_fault.ActorFault.{ActorFault}
+pub use Rattle.policies.specs.declared.actor_fault.ActorFault.{ActorFault}
 use Rattle.policies.specs.declared.actor_fault.ActorFault.TheVariants as actor
 
 -- a configuration that is refused is reported by its index; where none is, no index is reported

@@ -2,30 +2,27 @@
 use Rattle.std.specs.Prelude.{◌≡◌, ℕ, zero, suc, ◌≤◌, Option, Some, None, Ok, List, ◌++◌, codes}
 use Rattle.std.specs.Prelude.{length, map, slice_index_or, take, []}
 use Rattle.std.specs.List.{flat_map}
-use Rattle.step_record.specs.declared.entry.Entry.{Entry}
-use Rattle.step_record.specs.declared.job.Job.{Job}
+pub use Rattle.step_record.specs.declared.job.Job.{Job}
 use Rattle.step_record.specs.declared.limits.TheConstants.{MAX_ACCESSES, MAX_JOURNAL_LIMIT}
-use Rattle.step_record.specs.declared.outcome.Outcome.{Outcome}
+pub use Rattle.step_record.specs.declared.outcome.Outcome.{Outcome}
 use Rattle.step_record.specs.declared.outcome.Outcome.TheVariants.{Kept}
-use Rattle.step_record.specs.declared.stats.Stats.{Stats}
 use Rattle.step_record.specs.Config.{config_fault}
 use Rattle.step_record.specs.Job.{word_of}
 use Rattle.step_record.specs.Stats.{stats_of}
 use Rattle.admission.specs.Frequency.{FrequencyData}
-use Rattle.adaptive_window.specs.AdaptiveCache.{cache_access}
+use Rattle.adaptive_window.specs.AdaptiveCache.{Stats, cache_access}
 use Rattle.adaptive_window.specs.Residents.{cache_residents}
 use Rattle.clairvoyant.specs.Belady.{belady_residents}
 use Rattle.debug_commands.specs.Texts.{count_text}
-use Rattle.journal.specs.Session.{SessionState}
+use Rattle.journal.specs.Session.{Entry, SessionState}
 use Rattle.segments.specs.Queues.{residents_in}
-use Rattle.policies.specs.declared.any_policy.AnyPolicy.{AnyPolicy}
+pub use Rattle.policies.specs.declared.any_policy.AnyPolicy.{AnyPolicy}
 use Rattle.queue_policies.specs.Residents.{state_after_all}
 use Rattle.demand_cache.specs.DemandQueues.{empty_cache, queues_act, queues_residents}
-use Rattle.queue_cache.specs.declared.design.Design.{Design}
 use Rattle.queue_cache.specs.declared.design.Design.TheVariants.{KnowsTrace, Queues as OfQueues, Demand as OfDemand, Adaptive as OfAdaptive}
 use Rattle.queue_cache.specs.Design.{design_of}
 use Rattle.policies.specs.DemandDesign.{demand_policy}
-use Rattle.policies.specs.AnyPolicy.{adaptive_start, outcomes_on, HasAccessed}
+use Rattle.policies.specs.AnyPolicy.{Design, adaptive_start, outcomes_on, HasAccessed}
 use Rattle.queue_cache.specs.QueueCache.{frequency_after, state_after}
 
 -- ---- by the definitions

@@ -1,21 +1,19 @@
 -- The window of a policy over a trace once the first accesses are made: by the policy's definition.
 use Rattle.std.specs.Prelude.{ℕ, List, ◌++◌, codes, take}
-use Rattle.step_record.specs.declared.config.Config.{Config}
-use Rattle.step_record.specs.declared.job.Job.{Job}
+pub use Rattle.step_record.specs.declared.job.Job.{Job}
 use Rattle.step_record.specs.Job.{word_of}
-use Rattle.adaptive_window.specs.AdaptiveCache.{cache_access}
+use Rattle.adaptive_window.specs.AdaptiveCache.{Config, cache_access}
 use Rattle.adaptive_window.specs.AdaptiveWindow.{AdaptiveState}
 use Rattle.debug_commands.specs.Texts.{count_text}
 use Rattle.policies.specs.declared.any_policy.AnyPolicy.{AnyPolicy}
 use Rattle.policies.specs.declared.any_policy.AnyPolicy.TheVariants as cache
-use Rattle.queue_cache.specs.declared.design.Design.{Design}
 use Rattle.queue_cache.specs.declared.design.Design.TheVariants.{KnowsTrace, Queues, Demand, Adaptive}
 use Rattle.queue_cache.specs.declared.design.Layout.{Layout}
 use Rattle.queue_cache.specs.declared.design.Layout.TheVariants.{OneQueue, TwoQueues, ThreeQueues}
 use Rattle.queue_cache.specs.Design.{design_of, rules_by}
-use Rattle.policies.specs.AnyPolicy.{adaptive_start}
+use Rattle.policies.specs.AnyPolicy.{Design, adaptive_start}
 use Rattle.queue_policies.specs.Residents.{state_after_all}
-use Rattle.debug_policies.specs.declared.window.Window.{Window}
+pub use Rattle.debug_policies.specs.declared.window.Window.{Window}
 use Rattle.debug_policies.specs.declared.window.Window.TheVariants.{Absent, Fixed, Moving}
 
 -- ---- by the definitions

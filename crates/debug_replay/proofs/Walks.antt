@@ -1,12 +1,9 @@
 -- A session at a place of its steps.
 use Rattle.std.proofs.Common.{◌≡◌, ◌∙◌, ◌+◌, ◌-◌, ℕ, zero, suc, Bool, false, Some, Result, Ok, Err, [], ◌∷◌, ◌++◌, length, take, refl, ap, sym, arith}
 use Rattle.std.specs.Prelude.{is_err, nat_lt, slice_get, OnOk}
-use Rattle.step_record.specs.declared.entry.Entry.{Entry}
-use Rattle.step_record.specs.declared.step.Reply.{Reply}
-use Rattle.step_record.specs.declared.step.Step.{Step}
 use Rattle.step_record.specs.History.{data_after, Entries}
-use Rattle.shell_model.specs.Shell.{Shell, act}
-use Rattle.debug_replay.specs.Replay.{entry_facts, step_facts, halves_on_step, state_at}
+use Rattle.shell_model.specs.Shell.{Step, Reply, Shell, act}
+use Rattle.debug_replay.specs.Replay.{Entry, entry_facts, step_facts, halves_on_step, state_at}
 
 get_take : (n : ℕ) (steps : Entries) (e : Entry Step Reply) → slice_get (take (suc n) steps) n ≡ Some e → slice_get steps n ≡ Some e
 get_take n [] e h = absurd (cc h)

@@ -2,20 +2,17 @@
 use Rattle.std.specs.Prelude.{ℕ, ◌-◌, Bool, true, false, nat_lt, Option, Some, None, [], ◌++◌, length, take}
 use Rattle.std.specs.Prelude.{slice_get}
 use Rattle.std.specs.Borrow.{GName, MutBor}
-use Rattle.step_record.specs.declared.entry.Entry.{Entry}
-use Rattle.step_record.specs.declared.step.Act.{Act}
+pub use Rattle.step_record.specs.declared.entry.Entry.{Entry}
 use Rattle.step_record.specs.declared.step.Act.TheVariants.{Look}
-use Rattle.step_record.specs.declared.step.Reply.{Reply}
 use Rattle.step_record.specs.declared.step.Reply.TheVariants.{Hit, Full, Lost, Evicted, Rejected}
-use Rattle.step_record.specs.declared.step.Step.{Step}
 use Rattle.step_record.specs.History.{data_after, Entries}
 use Rattle.journal.specs.Session.{SessionState}
 use Rattle.debug_commands.specs.Timeline.{TimelineData}
 use Rattle.debug_commands.specs.declared.breakpoint.StepFacts.{StepFacts}
 use Rattle.debug_commands.specs.declared.command.Dialect.TheVariants.{Journal}
-use Rattle.journal_text.specs.Journal.{journal_of}
+use Rattle.journal_text.specs.Journal.{Step, Reply, journal_of}
 use Rattle.journal_text.specs.declared.version.Version.TheVariants.{Two}
-use Rattle.shell_model.specs.Shell.{Shell, act}
+use Rattle.shell_model.specs.Shell.{Act, Shell, act}
 use Rattle.debug_replay.specs.ShownState.{shown_text}
 
 -- the key of a look that found it

@@ -2,17 +2,13 @@
 use Rattle.std.specs.Prelude.{ℕ, zero, suc, Option, Some, None, List, [], ◌∷◌, ◌++◌, codes}
 use Rattle.std.specs.Fmt.{decimal}
 use Rattle.std.specs.List.{flat_map}
-use Rattle.step_record.specs.declared.drain.Drain.{Drain}
 use Rattle.step_record.specs.declared.drain.Drain.TheVariants as drain
-use Rattle.step_record.specs.declared.drain.Phase.{Phase}
 use Rattle.step_record.specs.declared.drain.Phase.TheVariants.{Reads, Writes, Evictions}
-use Rattle.step_record.specs.declared.item.Item.{Item}
 use Rattle.admission.specs.Frequency.{FrequencyData}
 use Rattle.debug_commands.specs.Texts.{count_text}
-use Rattle.shell_buffers.specs.Buffers.{stripe_at}
-use Rattle.shell_buffers.specs.declared.task.Task.{Task}
+use Rattle.shell_buffers.specs.Buffers.{Item, stripe_at}
 use Rattle.shell_buffers.specs.declared.task.Task.TheVariants.{Add, Update, Remove}
-use Rattle.shell_model.specs.Shell.{Shell}
+use Rattle.shell_model.specs.Shell.{Task, Phase, Drain, Shell}
 use Rattle.shell_model.specs.declared.holder.Holder.{Holder}
 use Rattle.shell_model.specs.declared.stats.ShellStats.{ShellStats}
 

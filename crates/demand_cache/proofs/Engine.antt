@@ -4,20 +4,16 @@ use Rattle.std.proofs.lemmas.Bool.{ne_eqb}
 use Rattle.step_record.specs.declared.limits.TheConstants.{MAX_STEPS}
 use Rattle.step_record.specs.Keys.{has_key}
 use Rattle.step_record.specs.Stats.{stats_with}
-use Rattle.step_record.specs.declared.outcome.Outcome.{Outcome}
-use Rattle.step_record.specs.declared.stats.Stats.{Stats}
 use Rattle.queue_table.specs.Queues.{Queues}
-use Rattle.queue_moves.specs.declared.records.Moves.{Moves}
 use Rattle.queue_moves.specs.declared.records.Accessed.{Accessed}
-use Rattle.queue_moves.specs.Moves.{item_of, after_all, outcome_of}
+use Rattle.queue_moves.specs.Moves.{Outcome, item_of, after_all, outcome_of}
 use Rattle.queue_moves.specs.Undoing.{record_of, before_all, FitsMoves, IsAccessed}
 use Rattle.queue_moves.specs.Tabled.{IsTabled}
 use Rattle.queue_moves.specs.Lists.{lists_of, queues_in}
 use Rattle.queue_moves.proofs.Lists.{lists-shown}
 use Rattle.queue_moves.proofs.Tabled.{tabled-all}
-use Rattle.demand_cache.specs.declared.demand_policy.DemandPolicy.{DemandPolicy}
-use Rattle.demand_cache.specs.DemandQueues.{DemandQueues, plan_by, residents_by, queues_residents, IsStateOf, IsQueues, QueuesFits, queues_act, queues_record_of, queues_undone}
-use Rattle.demand_cache.specs.DemandCache.{DemandState, state_with, demand_act, IsCountedBy}
+use Rattle.demand_cache.specs.DemandQueues.{DemandPolicy, Moves, DemandQueues, plan_by, residents_by, queues_residents, IsStateOf, IsQueues, QueuesFits, queues_act, queues_record_of, queues_undone}
+use Rattle.demand_cache.specs.DemandCache.{Stats, DemandState, state_with, demand_act, IsCountedBy}
 use Rattle.demand_cache.specs.Theorems.{PagesAreSound}
 use Rattle.demand_cache.proofs.Keeping.{IsKept, kept, is-cache, cache_of}
 

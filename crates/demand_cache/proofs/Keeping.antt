@@ -15,9 +15,8 @@ use Rattle.policy_steps.proofs.SievePlan.{sieve-sound}
 use Rattle.policy_steps.proofs.S3Fifo.{s3-fifo-sound}
 use Rattle.policy_steps.proofs.TwoQ.{two-q-sound}
 use Rattle.policy_steps.proofs.ArcPlan.{arc-sound}
-use Rattle.demand_cache.specs.declared.demand_policy.DemandPolicy.{DemandPolicy}
 use Rattle.demand_cache.specs.declared.demand_policy.DemandPolicy.TheVariants.{Fifo, Clock, Sieve, S3Fifo, TwoQ, Arc}
-use Rattle.demand_cache.specs.DemandQueues.{DemandQueues, page_of, plan_by, residents_by, IsStateOf, queues_of, plan_of, queues_residents, queues_act, IsQueues}
+use Rattle.demand_cache.specs.DemandQueues.{DemandPolicy, DemandQueues, page_of, plan_by, residents_by, IsStateOf, queues_of, plan_of, queues_residents, queues_act, IsQueues}
 use Rattle.demand_cache.specs.Theorems.{PagesAreSound, DemandKeeps, RunsByPage}
 
 pub pages-sound : PagesAreSound

@@ -1,19 +1,16 @@
 -- What the engine shows, and one access to it as a step.
 use Rattle.std.specs.Prelude.{◌≡◌, ℕ, ◌≤◌, false, Option}
 use Rattle.step_record.specs.declared.limits.TheConstants.{MAX_CAPACITY}
-use Rattle.step_record.specs.declared.outcome.Outcome.{Outcome}
-use Rattle.step_record.specs.declared.stats.Stats.{Stats}
+pub use Rattle.step_record.specs.declared.stats.Stats.{Stats}
 use Rattle.step_record.specs.Keys.{has_key}
 use Rattle.step_record.specs.Stats.{stats_with, stats_without, IsCounted, IsTally}
-use Rattle.step_record.specs.declared.item.Item.{Item}
 use Rattle.step_record.specs.Limited.{limited}
-use Rattle.queue_table.specs.Queues.{Queues}
-use Rattle.queue_moves.specs.Moves.{Plan, outcome_of, after_all}
+use Rattle.queue_table.specs.Queues.{Item, Queues}
+use Rattle.queue_moves.specs.Moves.{Outcome, Plan, outcome_of, after_all}
 use Rattle.queue_moves.specs.Lists.{QueueLists}
 use Rattle.demand_cache.specs.declared.demand_cache.DemandRecord.{DemandRecord}
-use Rattle.demand_cache.specs.declared.demand_policy.DemandPolicy.{DemandPolicy}
 use Rattle.demand_cache.specs.DemandQueues.{DemandQueues, queues_act, queues_record_of, queues_undone, queues_asks}
-use Rattle.demand_cache.specs.DemandQueues.{queues_residents, IsQueues, QueuesFits}
+use Rattle.demand_cache.specs.DemandQueues.{DemandPolicy, queues_residents, IsQueues, QueuesFits}
 
 -- the queues, and what was counted of the applied accesses
 pub record DemandState : Type 0 where

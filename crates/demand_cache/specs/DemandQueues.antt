@@ -1,9 +1,8 @@
 -- One access to the queues of any of these policies, by the policy's plan; its record, and how the record undoes it.
 use Rattle.std.specs.Prelude.{◌≡◌, ℕ, ◌≤◌, List}
-use Rattle.step_record.specs.declared.outcome.Outcome.{Outcome}
 use Rattle.queue_table.specs.Queues.{Queues, empty_queues}
-use Rattle.queue_policies.specs.Residents.{outcomes_of_all}
-use Rattle.queue_moves.specs.declared.records.Moves.{Moves}
+use Rattle.queue_policies.specs.Residents.{Outcome, outcomes_of_all}
+pub use Rattle.queue_moves.specs.declared.records.Moves.{Moves}
 use Rattle.queue_moves.specs.Moves.{item_of, Plan, after_all, outcome_of}
 use Rattle.queue_moves.specs.Undoing.{record_of, before_all, FitsMoves, MovesAsk}
 use Rattle.queue_moves.specs.Tabled.{IsTabled}
@@ -15,7 +14,7 @@ use Rattle.policy_steps.specs.Sieve.{sieve_page}
 use Rattle.policy_steps.specs.S3Fifo.{s3_fifo_page}
 use Rattle.policy_steps.specs.TwoQ.{two_q_page}
 use Rattle.policy_steps.specs.Arc.{arc_page}
-use Rattle.demand_cache.specs.declared.demand_policy.DemandPolicy.{DemandPolicy}
+pub use Rattle.demand_cache.specs.declared.demand_policy.DemandPolicy.{DemandPolicy}
 use Rattle.demand_cache.specs.declared.demand_policy.DemandPolicy.TheVariants.{Fifo, Clock, Sieve, S3Fifo, TwoQ, Arc}
 
 -- the queues by number, and the policy's own number: ARC's target, SIEVE's queue ahead of the hand

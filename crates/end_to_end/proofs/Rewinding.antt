@@ -3,20 +3,17 @@ use Rattle.std.proofs.Common.{◌≡◌, ◌↔◌, ℕ, zero, suc, ◌-◌, ◌
 use Rattle.std.specs.Prelude.{IfErr, IfSome}
 use Rattle.std.proofs.Math.Seq.{take-length, drop-length}
 use Rattle.std.proofs.lemmas.List.{length-map, take-append-le, drop-append-le}
-use Rattle.step_record.specs.declared.step.Call.{Call}
 use Rattle.step_record.specs.History.{data_after, IsLegal, Entries}
 use Rattle.shell_model.specs.Shell.{Shell, act}
 use Rattle.journal.specs.Session.{IsMovedTo}
 use Rattle.journal.specs.Faults.{StandsBack}
-use Rattle.journal.specs.declared.fault.BackFault.{BackFault}
 use Rattle.journal.specs.declared.fault.BackFault.TheVariants as back
-use Rattle.workers.specs.declared.run.Cause.{Cause}
-use Rattle.walks.specs.Walks.{AreWalks}
+use Rattle.walks.specs.Walks.{Call, AreWalks}
 use Rattle.walks.specs.WorkerEntries.{entries_of}
 use Rattle.workers.specs.Runs.{IsRun, IsRunUpTo, AreWalksUpTo, IsCauseIn, first_cause}
 use Rattle.workers.specs.WorkerStates.{ShellSession}
 use Rattle.workers.proofs.Turning.{legal_split, after_append}
-use Rattle.end_to_end.specs.UndoneRun.{IsAnswered, IsRewound, undone_of}
+use Rattle.end_to_end.specs.UndoneRun.{Cause, BackFault, IsAnswered, IsRewound, undone_of}
 
 drop_first : {X : Type 0} (xs ys : List X) → drop (length xs) (xs ++ ys) ≡ ys
 drop_first xs ys = drop-append-le (length xs) xs ys (omega arith) ∙ ap (λ l. l ++ ys) (drop-length xs)

@@ -1,20 +1,16 @@
 -- A run of workers on threads, and what stands once its last steps are undone.
 use Rattle.std.specs.Prelude.{◌≡◌, ◌↔◌, ℕ, ◌-◌, ◌<◌, ◌≤◌, List, [], ◌∷◌, ◌++◌, Option, Some, None, Result, Ok, Err}
 use Rattle.std.specs.Prelude.{OnErr, IfSome, get_or, length, take, drop}
-use Rattle.step_record.specs.declared.entry.Entry.{Entry}
-use Rattle.step_record.specs.declared.step.Call.{Call}
-use Rattle.step_record.specs.declared.step.Reply.{Reply}
-use Rattle.step_record.specs.declared.step.Step.{Step}
 use Rattle.step_record.specs.History.{data_after, Entries, tail_after}
-use Rattle.shell_model.specs.Shell.{Shell, act}
-use Rattle.journal.specs.declared.fault.BackFault.{BackFault}
+use Rattle.shell_model.specs.Shell.{Step, Reply, Shell, act}
+pub use Rattle.journal.specs.declared.fault.BackFault.{BackFault}
 use Rattle.journal.specs.declared.fault.BackFault.TheVariants as back
 use Rattle.workers.specs.declared.run.DriveFault.{DriveFault}
 use Rattle.workers.specs.declared.run.DriveFault.TheVariants as drive
-use Rattle.workers.specs.declared.run.Cause.{Cause}
+pub use Rattle.workers.specs.declared.run.Cause.{Cause}
 use Rattle.walks.specs.WorkerEntries.{entries_of}
-use Rattle.workers.specs.Runs.{AreWalksUpTo, IsCauseIn, first_cause}
-use Rattle.workers.specs.WorkerStates.{ShellSession}
+use Rattle.workers.specs.Runs.{Call, AreWalksUpTo, IsCauseIn, first_cause}
+use Rattle.workers.specs.WorkerStates.{Entry, ShellSession}
 
 -- from the state x on, each reply is the one that the definition gives on the steps before it
 abbrev pub IsAnswered : Shell → Entries → Type 0

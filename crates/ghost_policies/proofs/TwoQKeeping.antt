@@ -3,13 +3,11 @@ use Rattle.std.proofs.Common.{Bool, ◌≡◌, ℕ, ◌+◌, ◌≤◌, false, t
 use Rattle.std.proofs.lemmas.Bool.{cond_both, or_cases, or_parts, ltb-true, ltb-false, eqb-true, eqb-false}
 use Rattle.step_record.specs.Keys.{has_key}
 use Rattle.step_record.specs.Stats.{is_hit, is_eviction, is_rejection}
-use Rattle.step_record.specs.declared.outcome.Outcome.{Outcome}
 use Rattle.step_record.specs.declared.outcome.Outcome.TheVariants.{Hit}
-use Rattle.queue_policies.specs.Residents.{times, keys_evicted, IsAccess, AreResidents, KeepsResidents}
+use Rattle.queue_policies.specs.Residents.{Outcome, times, keys_evicted, IsAccess, AreResidents, KeepsResidents}
 use Rattle.queue_policies.proofs.Residents.{times-append, access-keeps}
 use Rattle.queue_policies.proofs.Ghost.{with-times, with-fits, without-length, still-apart}
-use Rattle.ghost_policies.specs.TwoQ.{TwoQLeaver, TwoQState, two_q_residents, leaver_of_a1in, leaver_of_am, two_q_leaver, two_q_after_recall, two_q_after_eviction, two_q_after_join, two_q_outcome, two_q_act, two_q_after_miss, two_q_after_renewal, IsTwoQ, empty_two_q}
-use Rattle.ghost_policies.specs.declared.two_q.TwoQSizes.{TwoQSizes}
+use Rattle.ghost_policies.specs.TwoQ.{TwoQSizes, TwoQLeaver, TwoQState, two_q_residents, leaver_of_a1in, leaver_of_am, two_q_leaver, two_q_after_recall, two_q_after_eviction, two_q_after_join, two_q_outcome, two_q_act, two_q_after_miss, two_q_after_renewal, IsTwoQ, empty_two_q}
 use Rattle.ghost_policies.proofs.Weights.{weight, weight-append, weight-push, weight-renewed, hit-moves, miss-moves, has-append}
 
 -- ---- the key comes in

@@ -3,11 +3,10 @@
 use Rattle.std.specs.Prelude.{Bool, true, false, ℕ, ◌+◌, ◌≤◌, nat_lt, ◌==◌, ◌||◌, if◌then◌else◌}
 use Rattle.std.specs.Prelude.{List, [], ◌∷◌, ◌++◌, length, drop}
 use Rattle.step_record.specs.Keys.{has_key, keys_without}
-use Rattle.step_record.specs.declared.outcome.Outcome.{Outcome}
 use Rattle.step_record.specs.declared.outcome.Outcome.TheVariants.{Hit, Kept, Evicted}
-use Rattle.queue_policies.specs.Residents.{times}
+use Rattle.queue_policies.specs.Residents.{Outcome, times}
 use Rattle.queue_policies.specs.Ghost.{ghost_with}
-use Rattle.ghost_policies.specs.declared.two_q.TwoQSizes.{TwoQSizes}
+pub use Rattle.ghost_policies.specs.declared.two_q.TwoQSizes.{TwoQSizes}
 
 -- the queues, oldest first
 pub record TwoQState : Type 0 where

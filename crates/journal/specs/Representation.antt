@@ -1,10 +1,9 @@
 -- How a session is kept: its entries, an undo record for each applied step, and how these lead back.
 use Rattle.std.specs.Prelude.{◌≡◌, ℕ, ◌+◌, ◌-◌, ◌≤◌, Option, Some, List, [], ◌∷◌, ◌++◌, length, take, drop, sum_by, min}
-use Rattle.step_record.specs.declared.entry.Entry.{Entry}
 use Rattle.step_record.specs.declared.limits.TheConstants.{MAX_JOURNAL_LIMIT, MAX_STEPS}
 use Rattle.step_record.specs.History.{IsLegal}
 use Rattle.step_record.specs.Pace.{Pace, words_of_halvings}
-use Rattle.journal.specs.Session.{SessionState}
+use Rattle.journal.specs.Session.{Entry, SessionState}
 
 -- what undoing the records, from the last to the first, makes of the data
 abbrev pub opening_from : {C D : Type 0} → (C → D → D) → D → List C → D

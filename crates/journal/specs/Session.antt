@@ -1,7 +1,7 @@
 -- A session: an engine with the journal of its steps, and what a session promises of them.
 -- (Defined by this project: the opening state is kept in no field; undo records lead back to it.)
 use Rattle.std.specs.Prelude.{◌≡◌, ℕ, ◌+◌, ◌*◌, ◌/◌, ◌≤◌, Option, List, ◌++◌, length, take, drop}
-use Rattle.step_record.specs.declared.entry.Entry.{Entry}
+pub use Rattle.step_record.specs.declared.entry.Entry.{Entry}
 use Rattle.step_record.specs.declared.limits.TheConstants.{MAX_JOURNAL_LIMIT, MAX_STEPS}
 use Rattle.step_record.specs.History.{data_after, IsLegal}
 use Rattle.step_record.specs.Pace.{Pace}

@@ -4,21 +4,16 @@ use Rattle.std.proofs.lemmas.List.{append-nil, append_cancel_left}
 use Rattle.std.proofs.lemmas.List.Elements.{All-head, All-tail}
 use Rattle.std.specs.List.{flat_map}
 use Rattle.std.specs.Prelude.{IfErr, OnOk}
-use Rattle.journal_text.specs.Faults.{Accepts, IsAtLine, IsFault, IsWrong}
+use Rattle.journal_text.specs.Faults.{Step, Reply, Entry, Version, JournalFault, Accepts, IsAtLine, IsFault, IsWrong}
 use Rattle.journal_text.specs.Journal.{begun, closing_line, ended_line, entry_line, header, journal_of, AreLines, IsJournalText, IsTextOf}
 use Rattle.journal_text.specs.declared.reader.TheConstants.{MAX_JOURNAL_BYTES}
 use Rattle.journal_text.specs.Table.{text_of, IsLine}
-use Rattle.journal_text.specs.declared.fault.JournalFault.{JournalFault}
 use Rattle.journal_text.specs.declared.fault.JournalFault.TheVariants as fault
 use Rattle.journal_text.specs.declared.line.JournalLine.TheVariants.{Made, Steps}
-use Rattle.journal_text.specs.declared.version.Version.{Version}
 use Rattle.journal_text.specs.declared.version.Version.TheVariants.{One, Two}
 use Rattle.journal_text.proofs.Fronts.{header_lacks, no_line, same_line}
 use Rattle.journal_text.proofs.Unique.{count_line, front_line, line_lacks, made_same, no_entry, nothing_ended, one_header, one_journal, one_line}
 use Rattle.step_record.specs.History.{data_after, next_data, IsLegal, Entries}
-use Rattle.step_record.specs.declared.entry.Entry.{Entry}
-use Rattle.step_record.specs.declared.step.Reply.{Reply}
-use Rattle.step_record.specs.declared.step.Step.{Step}
 use Rattle.streams.specs.Feeds.{HasNoFeed}
 
 -- what stands behind the lines of the first entries

@@ -4,15 +4,11 @@ use Rattle.std.specs.List.{flat_map}
 use Rattle.std.proofs.lemmas.Grind.{flat_map-append}
 use Rattle.std.proofs.lemmas.List.Elements.{All-from_recursion, All-push}
 use Rattle.std.proofs.lemmas.List.{append-nil, flat_map_more, take-append-drop}
-use Rattle.journal_text.specs.Faults.{TakesLine}
+use Rattle.journal_text.specs.Faults.{Step, Reply, Entry, Version, TakesLine}
 use Rattle.journal_text.specs.Journal.{begun, ended_line, entry_line, header, AreLines}
 use Rattle.journal_text.specs.Table.{IsLine}
 use Rattle.journal_text.specs.declared.line.JournalLine.TheVariants.{Made}
-use Rattle.journal_text.specs.declared.version.Version.{Version}
 use Rattle.journal_text.specs.declared.version.Version.TheVariants.{One, Two}
-use Rattle.step_record.specs.declared.entry.Entry.{Entry}
-use Rattle.step_record.specs.declared.step.Reply.{Reply}
-use Rattle.step_record.specs.declared.step.Step.{Step}
 use Rattle.step_record.specs.History.{Entries}
 use Rattle.streams.proofs.Feeds.{has_lines, lines_fed, one_unfed}
 use Rattle.streams.specs.Feeds.{lines_of, HasNoFeed}

@@ -6,16 +6,12 @@ use Rattle.std.specs.Fmt.{decimal}
 use Rattle.std.specs.Prelude.{nat_lt}
 use Rattle.std.specs.Str.{bytes_eq}
 use Rattle.std.proofs.lemmas.Slice.Eq.{bytes_eq-Decides}
-use Rattle.journal_text.specs.LineGrammar.{numeral_of, named_at, only_at, wide_at, small_at, item_at, answer_at, answer_of, act_at, act_with_numbers, reply_at, reply_with_numbers}
+use Rattle.journal_text.specs.LineGrammar.{Reply, Answer, Act, Item, numeral_of, named_at, only_at, wide_at, small_at, item_at, answer_at, answer_of, act_at, act_with_numbers, reply_at, reply_with_numbers}
 use Rattle.journal_text.specs.Table.{word_text, FitWords, act_word, act_words, answer_reply, item_words, reply_word, reply_words, Word, Named, Stripe, Wide}
 use Rattle.journal_text.specs.declared.table.TheConstants.{ACTS, REPLIES}
 use Rattle.journal_text.proofs.Spellings.{found_named, number_again, number_takes}
-use Rattle.step_record.specs.declared.item.Item.{Item}
-use Rattle.step_record.specs.declared.step.Act.{Act}
 use Rattle.step_record.specs.declared.step.Act.TheVariants as act
-use Rattle.step_record.specs.declared.step.Answer.{Answer}
 use Rattle.step_record.specs.declared.step.Answer.TheVariants as answer
-use Rattle.step_record.specs.declared.step.Reply.{Reply}
 use Rattle.step_record.specs.declared.step.Reply.TheVariants as reply
 use Rattle.streams.specs.Reads.{◌>>=◌, first_named, with_rest}
 

@@ -3,16 +3,14 @@ use Rattle.std.proofs.Common.{◌≡◌, ◌≢◌, ◌∙◌, ◌<◌, ◌^◌,
 use Rattle.std.proofs.lemmas.List.{append-nil, append_cancel_left}
 use Rattle.std.proofs.lemmas.List.Elements.{All-head, All-tail}
 use Rattle.std.specs.List.{flat_map}
-use Rattle.journal_text.specs.Journal.{begun, closing_line, ended_line, entry_line, header, journal_of, AreLines}
-use Rattle.journal_text.specs.LineGrammar.{journal_line_in}
+use Rattle.journal_text.specs.Journal.{Entry, begun, closing_line, ended_line, entry_line, header, journal_of, AreLines}
+use Rattle.journal_text.specs.LineGrammar.{JournalLine, journal_line_in}
 use Rattle.journal_text.specs.Table.{text_of, IsLine, Named, Wide, Worker}
-use Rattle.journal_text.specs.declared.line.JournalLine.{JournalLine}
 use Rattle.journal_text.specs.declared.line.JournalLine.TheVariants.{Made, Steps}
 use Rattle.journal_text.specs.declared.version.Version.{Version}
 use Rattle.journal_text.specs.declared.version.Version.TheVariants.{One, Two}
 use Rattle.journal_text.proofs.Fronts.{header_lacks, same_line}
 use Rattle.journal_text.proofs.LineLaws.{entry_printed, line_again, spelled_lacks}
-use Rattle.step_record.specs.declared.entry.Entry.{Entry}
 use Rattle.step_record.specs.declared.step.Reply.{Reply}
 use Rattle.step_record.specs.declared.step.Step.{Step}
 use Rattle.step_record.specs.History.{Entries}

@@ -6,16 +6,13 @@ use Rattle.std.proofs.lemmas.List.Elements.{All-cons, All-head, All-nil, All-tai
 use Rattle.std.proofs.KnownBytes.{Appends-nil, Appends-trans}
 use Rattle.std.specs.Io.KnownBytes.{Appends, Keeps}
 use Rattle.streams.specs.Part.{AppendsPart}
-use Rattle.journal_text.specs.Journal.{AreLines}
+use Rattle.journal_text.specs.Journal.{Step, Reply, Entry, AreLines}
 use Rattle.journal_text.specs.Table.{entry_words, is_answer_in, FitWords, IsLine}
 use Rattle.journal_text.specs.TextBuffer.{AreFit, IsTextWritten}
 use Rattle.journal_text.specs.declared.line.JournalLine.TheVariants.{Made}
 use Rattle.journal_text.specs.declared.version.Version.TheVariants.{Two}
 use Rattle.step_record.specs.Answers.{is_answer, AnswersItsActs}
 use Rattle.step_record.specs.History.{next_data, IsLegal, Entries}
-use Rattle.step_record.specs.declared.entry.Entry.{Entry}
-use Rattle.step_record.specs.declared.step.Reply.{Reply}
-use Rattle.step_record.specs.declared.step.Step.{Step}
 
 -- more was gathered
 pub gathered : (old new : Option (List ℕ)) (waiting now more bytes all : List ℕ) → now ≡ waiting ++ more → all ≡ bytes ++ more

@@ -2,19 +2,18 @@
 use Rattle.std.specs.Prelude.{◌≡◌, ◌≢◌, ◌<◌, ◌≤◌, ◌+◌, ◌⊎◌, ℕ, Bool, true, false, Option, Some, None, Result, Ok, Err}
 use Rattle.std.specs.Prelude.{List, [], ◌∷◌, ◌++◌, length}
 use Rattle.journal_text.specs.Journal.{begun, ended_line, header, journal_of, AreLines}
-use Rattle.journal_text.specs.Table.{text_of, IsLine}
-use Rattle.journal_text.specs.declared.fault.JournalFault.{JournalFault}
+use Rattle.journal_text.specs.Table.{JournalLine, text_of, IsLine}
+pub use Rattle.journal_text.specs.declared.fault.JournalFault.{JournalFault}
 use Rattle.journal_text.specs.declared.fault.JournalFault.TheVariants as fault
-use Rattle.journal_text.specs.declared.line.JournalLine.{JournalLine}
 use Rattle.journal_text.specs.declared.line.JournalLine.TheVariants.{Made, Steps}
 use Rattle.journal_text.specs.declared.reader.TheConstants.{MAX_JOURNAL_BYTES}
-use Rattle.journal_text.specs.declared.version.Version.{Version}
+pub use Rattle.journal_text.specs.declared.version.Version.{Version}
 use Rattle.journal_text.specs.declared.version.Version.TheVariants.{One, Two}
 use Rattle.journal.specs.Session.{SessionState}
 use Rattle.step_record.specs.History.{data_after, Entries, IsLegal}
-use Rattle.step_record.specs.declared.entry.Entry.{Entry}
-use Rattle.step_record.specs.declared.step.Reply.{Reply}
-use Rattle.step_record.specs.declared.step.Step.{Step}
+pub use Rattle.step_record.specs.declared.entry.Entry.{Entry}
+pub use Rattle.step_record.specs.declared.step.Reply.{Reply}
+pub use Rattle.step_record.specs.declared.step.Step.{Step}
 use Rattle.streams.specs.Feeds.{HasNoFeed}
 
 -- Reading leaves where the session was opened, its limit, no undone step where there was none, and applied steps that

@@ -4,20 +4,20 @@ use Rattle.std.specs.Prelude.{if◌then◌else◌}
 use Rattle.std.specs.List.{slice_split}
 use Rattle.std.specs.Str.{bytes_eq}
 use Rattle.journal_text.specs.Table.{act_word, is_answer_in, reply_word}
-use Rattle.journal_text.specs.declared.line.JournalLine.{JournalLine}
+pub use Rattle.journal_text.specs.declared.line.JournalLine.{JournalLine}
 use Rattle.journal_text.specs.declared.line.JournalLine.TheVariants as line
 use Rattle.journal_text.specs.declared.table.TheConstants.{ACTS, REPLIES}
-use Rattle.journal_text.specs.declared.version.Version.{Version}
+pub use Rattle.journal_text.specs.declared.version.Version.{Version}
 use Rattle.journal_text.specs.declared.version.Version.TheVariants.{One, Two}
-use Rattle.step_record.specs.declared.entry.Entry.{Entry}
-use Rattle.step_record.specs.declared.item.Item.{Item}
-use Rattle.step_record.specs.declared.step.Act.{Act}
+pub use Rattle.step_record.specs.declared.entry.Entry.{Entry}
+pub use Rattle.step_record.specs.declared.item.Item.{Item}
+pub use Rattle.step_record.specs.declared.step.Act.{Act}
 use Rattle.step_record.specs.declared.step.Act.TheVariants as act
-use Rattle.step_record.specs.declared.step.Answer.{Answer}
+pub use Rattle.step_record.specs.declared.step.Answer.{Answer}
 use Rattle.step_record.specs.declared.step.Answer.TheVariants as answer
-use Rattle.step_record.specs.declared.step.Reply.{Reply}
+pub use Rattle.step_record.specs.declared.step.Reply.{Reply}
 use Rattle.step_record.specs.declared.step.Reply.TheVariants as reply
-use Rattle.step_record.specs.declared.step.Step.{Step}
+pub use Rattle.step_record.specs.declared.step.Step.{Step}
 use Rattle.step_record.specs.declared.worker.TheConstants.{MAX_WORKERS}
 use Rattle.streams.specs.Numbers.{number_of}
 use Rattle.streams.specs.Reads.{◌>>=◌, at_end, first_named, with_rest, Reads}

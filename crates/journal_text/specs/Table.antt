@@ -2,14 +2,14 @@
 use Rattle.std.specs.Prelude.{◌≡◌, ◌<◌, ◌^◌, ℕ, Bool, List, [], ◌∷◌, ◌++◌, ◌&&◌, map, true, false, codes}
 use Rattle.std.specs.Fmt.{decimal}
 use Rattle.std.specs.List.{AllByRecursion, join_with_byte}
-use Rattle.journal_text.specs.declared.version.Version.{Version}
+pub use Rattle.journal_text.specs.declared.version.Version.{Version}
 use Rattle.journal_text.specs.declared.version.Version.TheVariants.{One, Two}
-use Rattle.journal_text.specs.declared.line.JournalLine.{JournalLine}
+pub use Rattle.journal_text.specs.declared.line.JournalLine.{JournalLine}
 use Rattle.journal_text.specs.declared.line.JournalLine.TheVariants as line
 use Rattle.step_record.specs.Answers.{is_answer}
 use Rattle.step_record.specs.declared.entry.Entry.{Entry}
-use Rattle.step_record.specs.declared.item.Item.{Item}
-use Rattle.step_record.specs.declared.step.Act.{Act}
+pub use Rattle.step_record.specs.declared.item.Item.{Item}
+pub use Rattle.step_record.specs.declared.step.Act.{Act}
 use Rattle.step_record.specs.declared.step.Act.TheVariants as act
 use Rattle.step_record.specs.declared.step.Answer.{Answer}
 use Rattle.step_record.specs.declared.step.Answer.TheVariants as answer

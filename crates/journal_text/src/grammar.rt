@@ -1,7 +1,6 @@
 //! A line, word by word.
 ghost use Rattle.std.specs.Prelude.{◌≡◌, Some, IfSome};
-ghost use Rattle.journal_text.specs.Table.{text_of, IsLine};
-ghost use Rattle.journal_text.specs.declared.line.JournalLine.{JournalLine};
+ghost use Rattle.journal_text.specs.Table.{JournalLine, text_of, IsLine};
 ghost use Rattle.journal_text.specs.LineGrammar.{act_at, count_in, entry_in, journal_line_in, made_in};
 ghost use Rattle.journal_text.specs.LineGrammar.{reply_at, words_of};
 ghost use Rattle.streams.specs.Reads.{with_rest};

@@ -1,9 +1,8 @@
 //! The lines of a journal, whose steps are made one after another.
 ghost use Rattle.std.specs.Prelude.{◌≡◌, ◌≢◌, ◌≤◌, ◌<◌, ◌+◌, ◌++◌, ℕ, List, [], Err, IfErr, OnOk, MatchOption, length};
-ghost use Rattle.journal_text.specs.Faults.{IsFault, IsUnread, KeepsSession};
+ghost use Rattle.journal_text.specs.Faults.{Version, IsFault, IsUnread, KeepsSession};
 ghost use Rattle.streams.specs.Feeds.{HasNoFeed};
 ghost use Rattle.journal_text.specs.Journal.{ended_line, header, IsTextOf};
-ghost use Rattle.journal_text.specs.declared.version.Version.{Version};
 ghost use Rattle.journal_text.specs.declared.version.Version.TheVariants.{One};
 ghost use Rattle.journal.specs.Session.{IsSameSession};
 ghost use Rattle.step_record.specs.History.{IsLegal};

@@ -1,10 +1,9 @@
 //! The step of a line, made in a session.
 ghost use Rattle.std.specs.Prelude.{◌≡◌, ◌≢◌, true, false, ◌∷◌, [], ◌++◌, ◌+◌, ◌≤◌, length, IfErr, IfOk, OnOk};
-ghost use Rattle.journal_text.specs.Faults.{IsWrong, KeepsSession, TakesLine};
+ghost use Rattle.journal_text.specs.Faults.{Version, IsWrong, KeepsSession, TakesLine};
 ghost use Rattle.step_record.specs.History.{IsLegal};
 ghost use Rattle.journal_text.specs.Table.{text_of, IsLine};
 ghost use Rattle.journal_text.specs.declared.line.JournalLine.TheVariants.{Made};
-ghost use Rattle.journal_text.specs.declared.version.Version.{Version};
 
 use super::grammar::line;
 use super::{JournalFault, JournalLine, Version};

@@ -1,14 +1,10 @@
 //! Theorems on the text of journals, on public functions with empty bodies.
 ghost use Rattle.std.specs.Prelude.{◌≡◌, ◌<◌, ◌≤◌, ◌^◌, ℕ, length};
 ghost use Rattle.journal.specs.Session.{IsSoundSession, SessionState};
-ghost use Rattle.journal_text.specs.Journal.{journal_of, AreLines, IsJournalText};
-ghost use Rattle.journal_text.specs.Table.{text_of, IsLine};
-ghost use Rattle.journal_text.specs.declared.line.JournalLine.{JournalLine};
+ghost use Rattle.journal_text.specs.Journal.{Step, Reply, Version, journal_of, AreLines, IsJournalText};
+ghost use Rattle.journal_text.specs.Table.{JournalLine, text_of, IsLine};
 ghost use Rattle.journal_text.specs.declared.reader.TheConstants.{MAX_JOURNAL_BYTES};
-ghost use Rattle.journal_text.specs.declared.version.Version.{Version};
 ghost use Rattle.journal_text.specs.declared.version.Version.TheVariants.{Two};
-ghost use Rattle.step_record.specs.declared.step.Reply.{Reply};
-ghost use Rattle.step_record.specs.declared.step.Step.{Step};
 ghost use Rattle.step_record.specs.History.{Entries};
 
 use step_record::{Engine, Reply, Step};

@@ -6,9 +6,7 @@ use Rattle.std.proofs.lemmas.List.{length-map, get_or-map}
 use Rattle.turn_book.specs.Turns.{Every}
 use Rattle.turn_book.specs.Passes.{BookId, PassState, InOrder, OwnAll, Ends}
 use Rattle.workers.proofs.WorkerLists.{all_of_every, every_of_all}
-use Rattle.library_examples.specs.declared.log.LogLine.{LogLine}
-use Rattle.library_examples.specs.declared.log.Log.{Log}
-use Rattle.library_examples.specs.LogLines.{IsFresh, IsWritten, Wrote, lines_by, numbered}
+use Rattle.library_examples.specs.LogLines.{Log, LogLine, IsFresh, IsWritten, Wrote, lines_by, numbered}
 
 abbrev LogPass : Type 0
 LogPass = PassState Log LogLine

@@ -2,12 +2,10 @@
 use Rattle.std.proofs.Common.{◌≡◌, ◌∙◌, ℕ, suc, ◌+◌, ◌<◌, ◌≤◌, Some, None, List, [], ◌∷◌, ◌++◌, length, take, drop, get_or, ap, sym, subst, arith, append-nil}
 use Rattle.std.specs.Prelude.{slice_index}
 use Rattle.std.proofs.lemmas.List.{take_more, length-take-le}
-use Rattle.step_record.specs.declared.job.Job.{Job}
 use Rattle.step_record.specs.declared.limits.TheConstants.{MAX_ACCESSES}
-use Rattle.step_record.specs.declared.outcome.Outcome.{Outcome}
 use Rattle.step_record.specs.declared.outcome.Outcome.TheVariants.{Kept}
 use Rattle.policies.specs.declared.any_policy.AnyPolicy.{AnyPolicy}
-use Rattle.policies.specs.AnyPolicy.{HasAccessed, outcomes_on}
+use Rattle.policies.specs.AnyPolicy.{Outcome, Job, HasAccessed, outcomes_on}
 use Rattle.policies.specs.AnyStep.{any_act}
 use Rattle.policies.specs.Theorems.{AnyStepLaw, AnyAccepts, AnyAnswers, AnyCoversTrace}
 use Rattle.policies.proofs.Stretches.{next-ahead, added-next}

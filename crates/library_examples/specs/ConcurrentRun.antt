@@ -1,12 +1,9 @@
 -- A session of the concurrent cache in which nothing happened yet.
 use Rattle.std.specs.Prelude.{◌≡◌, [], None}
-use Rattle.step_record.specs.declared.config.Config.{Config}
 use Rattle.step_record.specs.declared.limits.TheConstants.{MAX_JOURNAL_LIMIT}
-use Rattle.step_record.specs.declared.step.Reply.{Reply}
-use Rattle.step_record.specs.declared.step.Step.{Step}
 use Rattle.journal.specs.Session.{SessionState}
-use Rattle.shell_model.specs.Shell.{Shell}
-use Rattle.maintenance.specs.EmptyShell.{IsOpened}
+use Rattle.shell_model.specs.Shell.{Step, Reply, Shell}
+use Rattle.maintenance.specs.EmptyShell.{Config, IsOpened}
 
 -- no step was made, the cache is one that was just opened, and there is room for as many steps as a session may have
 pub record IsNew (c : Config) (s : SessionState Shell Shell Step Reply) : Type 0 where

@@ -3,8 +3,8 @@ use Rattle.std.specs.Prelude.{◌≡◌, ℕ, zero, suc, ◌<◌, ◌≤◌, Lis
 use Rattle.std.specs.Global.{Vec}
 use Rattle.turn_book.specs.Turns.{entries_by}
 use Rattle.turn_book.specs.Passes.{BookId, PassState}
-use Rattle.library_examples.specs.declared.log.LogLine.{LogLine}
-use Rattle.library_examples.specs.declared.log.Log.{Log}
+pub use Rattle.library_examples.specs.declared.log.LogLine.{LogLine}
+pub use Rattle.library_examples.specs.declared.log.Log.{Log}
 
 -- the lines of worker w that are numbered below n, in order
 abbrev pub numbered : ℕ → ℕ → List LogLine

@@ -2,19 +2,14 @@
 use Rattle.std.proofs.Common.{◌≡◌, ℕ, suc, ◌+◌, ◌*◌, ◌<◌, ◌≤◌, List, [], ◌∷◌, ◌++◌, length, take, sym, ap, subst, ◌∙◌, arith, length-append}
 use Rattle.std.specs.Int.{div_ceil}
 use Rattle.std.proofs.lemmas.List.{take_all}
-use Rattle.step_record.specs.declared.job.Job.{Job}
-use Rattle.step_record.specs.declared.outcome.Outcome.{Outcome}
-use Rattle.step_record.specs.declared.stats.Stats.{Stats}
 use Rattle.step_record.specs.Stats.{stats_of}
-use Rattle.policies.specs.AnyPolicy.{HasAccessed, outcomes_on, stats_in}
-use Rattle.policies.specs.declared.report.Interval.{Interval}
+use Rattle.policies.specs.AnyPolicy.{Stats, Outcome, Job, HasAccessed, outcomes_on, stats_in}
 use Rattle.policies.proofs.FirstAccesses.{first-counts}
 use Rattle.policies.proofs.StepLaws.{any_covers_trace}
-use Rattle.sweeps.specs.Intervals.{between, first_intervals, interval_at, intervals_on, IsLater}
+use Rattle.sweeps.specs.Intervals.{Interval, between, first_intervals, interval_at, intervals_on, IsLater}
 use Rattle.sweeps.proofs.Pieces.{next-interval, next-later}
 use Rattle.policy_comparison.proofs.CutHits.{covers-part, covers-whole}
-use Rattle.long_traces.specs.JobRuns.{EndsRow, HasCut, rows_in}
-use Rattle.long_traces.specs.declared.job_run.JobRun.{JobRun}
+use Rattle.long_traces.specs.JobRuns.{JobRun, EndsRow, HasCut, rows_in}
 
 -- ---- one row more
 

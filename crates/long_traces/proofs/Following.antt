@@ -2,8 +2,7 @@
 use Rattle.std.proofs.Common.{◌≡◌, ◌∙◌, ◌+◌, ℕ, List, [], ◌∷◌, None, sym, refl, false, true≢false}
 use Rattle.std.specs.List.{All}
 use Rattle.std.proofs.lemmas.List.Elements.{All-head, All-tail}
-use Rattle.step_record.specs.declared.job.Job.{Job}
-use Rattle.policies.specs.FaultyJobs.{faulty_from}
+use Rattle.policies.specs.FaultyJobs.{Job, faulty_from}
 use Rattle.policy_actors.specs.Following.{CanFollow}
 use Rattle.long_traces.specs.Taking.{FollowsTrace}
 

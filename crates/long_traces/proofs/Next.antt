@@ -3,14 +3,12 @@ use Rattle.std.proofs.Common.{◌≡◌, ℕ, ◌+◌, ◌-◌, ◌<◌, ◌≤�
 use Rattle.std.proofs.Math.Seq.{take-add}
 use Rattle.std.specs.Prelude.{slice_index}
 use Rattle.std.proofs.lemmas.List.{drop-take, drop-drop, get_or-drop, get_or-take, get_or_default, take-take}
-use Rattle.step_record.specs.declared.job.Job.{Job}
 use Rattle.step_record.specs.declared.limits.TheConstants.{MAX_STEPS}
-use Rattle.policies.specs.Accesses.{IsNext}
+use Rattle.policies.specs.Accesses.{Job, IsNext}
 use Rattle.policies.specs.AnyPolicy.{HasAccessed}
 use Rattle.queue_cache.specs.Design.{knows_trace}
 use Rattle.policies.specs.declared.any_policy.AnyPolicy.TheVariants.{Adaptive, Demand, Optimal, Queues}
-use Rattle.policies.specs.declared.any_policy.AnyPolicy.{AnyPolicy}
-use Rattle.policy_comparison.specs.CacheAccess.{StandsAt}
+use Rattle.policy_comparison.specs.CacheAccess.{AnyPolicy, StandsAt}
 use Rattle.long_traces.specs.Taking.{AreNext}
 
 -- a piece of the keys comes next behind those before it

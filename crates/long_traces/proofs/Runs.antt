@@ -7,8 +7,7 @@ use Rattle.std.proofs.lemmas.List.{length-set, map-append, take_more}
 use Rattle.step_record.specs.declared.job.Job.{Job}
 use Rattle.trace_read.specs.TraceText.{keys_in, keys_of_file}
 use Rattle.trace_read.specs.declared.format.Format.{Format}
-use Rattle.long_traces.specs.JobRuns.{HasRun}
-use Rattle.long_traces.specs.declared.job_run.JobRun.{JobRun}
+use Rattle.long_traces.specs.JobRuns.{JobRun, HasRun}
 
 -- what holds of all accesses that are known gives what holds of those of the bytes
 pub from-known : (H Q : List ℕ → Type 0) (format : Format) (bytes : Option (List ℕ)) → IfSome (keys_of_file format bytes) H

@@ -2,9 +2,7 @@
 use Rattle.std.proofs.Common.{◌≡◌, ℕ, zero, suc, List, [], ◌∷◌, Bool, true, false, Option, Some, None, IfNone, OnOk, Result, Ok, Err, refl, arith, true≢false, sym}
 use Rattle.std.specs.Option.{is_some}
 use mathlib.Core.Bool.{not, beq}
-use Rattle.step_record.specs.declared.job.Job.{Job}
-use Rattle.step_record.specs.declared.outcome.Outcome.{Outcome}
-use Rattle.policy_comparison.specs.Part.{AgreeBelow}
+use Rattle.policy_comparison.specs.Part.{Outcome, Job, AgreeBelow}
 use Rattle.long_traces.specs.Pairs.{AreTwo}
 
 pub two-then : (jobs : List Job) (P Q : Job → Job → Type 0) → ((first second : Job) → P first second → Q first second) → AreTwo jobs P → AreTwo jobs Q

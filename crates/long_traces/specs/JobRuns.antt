@@ -5,7 +5,7 @@ use Rattle.step_record.specs.Stats.{stats_of}
 use Rattle.policies.specs.AnyPolicy.{HasAccessed, outcomes_on}
 use Rattle.sweeps.specs.Intervals.{first_intervals}
 use Rattle.long_traces.specs.Taking.{Task}
-use Rattle.long_traces.specs.declared.job_run.JobRun.{JobRun}
+pub use Rattle.long_traces.specs.declared.job_run.JobRun.{JobRun}
 use Rattle.long_traces.specs.declared.job_runs.JobRuns.{JobRuns}
 
 -- how many intervals are over

@@ -1,13 +1,12 @@
 -- What two caches have of a trace whose accesses come in pieces.
 use Rattle.std.specs.Prelude.{◌≡◌, ◌≤◌, ℕ, ◌+◌, IfNone, IfSome, List, [], ◌∷◌, Some, length, take}
-use Rattle.step_record.specs.declared.job.Job.{Job}
 use Rattle.step_record.specs.declared.limits.TheConstants.{MAX_STEPS}
-use Rattle.policies.specs.AnyPolicy.{HasAccessed, outcomes_on}
+use Rattle.policies.specs.AnyPolicy.{Job, HasAccessed, outcomes_on}
 use Rattle.policy_comparison.specs.Comparison.{hits_beside}
 use Rattle.policy_comparison.specs.ComparedRows.{HasCounted}
 use Rattle.policy_comparison.specs.Part.{AgreeBelow, IsPart}
 use Rattle.long_traces.specs.Taking.{AreNext, Task}
-use Rattle.long_traces.specs.declared.compared_run.ComparedRun.{ComparedRun}
+pub use Rattle.long_traces.specs.declared.compared_run.ComparedRun.{ComparedRun}
 use Rattle.long_traces.specs.declared.pair.Pair.{Pair}
 use Rattle.long_traces.specs.declared.part_run.PartRun.{PartRun}
 

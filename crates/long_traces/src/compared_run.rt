@@ -1,7 +1,6 @@
 //! How often two policies hit at the same accesses of a trace that come in pieces.
 ghost use Rattle.std.specs.Prelude.{◌≡◌, ◌≤◌, ◌+◌, ℕ, List, Ok, IfOk, OnOk, length};
-ghost use Rattle.step_record.specs.declared.job.Job.{Job};
-ghost use Rattle.policy_comparison.specs.Comparison.{compared_on};
+ghost use Rattle.policy_comparison.specs.Comparison.{Job, compared_on};
 ghost use Rattle.policy_comparison.specs.ComparedIntervals.{compared_intervals_on};
 ghost use Rattle.long_traces.specs.Taking.{AreNext, CanTake, FollowsTrace, HasTakenAll};
 ghost use Rattle.long_traces.specs.Pairs.{HasCompared, HasComparedTask};

@@ -5,9 +5,8 @@ ghost use Rattle.streams.specs.Tally.{FailsWhere};
 ghost use Rattle.trace_read.specs.ReadTrace.{IsReadWithin};
 ghost use Rattle.trace_read.specs.TraceText.{AreOfFile};
 ghost use Rattle.trace_read.specs.declared.limits.TheConstants.{MAX_LONG_TRACE_BYTES};
-ghost use Rattle.long_traces.specs.Taking.{AreNext, CanTakeFor, FollowsTrace, HasTakenAll, Task};
+ghost use Rattle.long_traces.specs.Taking.{Job, AreNext, CanTakeFor, FollowsTrace, HasTakenAll, Task};
 ghost use Rattle.std.specs.List.{All};
-ghost use Rattle.step_record.specs.declared.job.Job.{Job};
 
 use std::alloc::{AllocError, Global};
 use std::marker::{Brand, Model, PhantomData};

@@ -1,7 +1,6 @@
 //! Two caches that make the same accesses.
 ghost use Rattle.std.specs.Prelude.{◌≡◌, ◌<◌, ◌+◌, ℕ, List, Ok, IfOk, OnOk, length};
-ghost use Rattle.step_record.specs.declared.job.Job.{Job};
-ghost use Rattle.policies.specs.AnyPolicy.{outcomes_on};
+ghost use Rattle.policies.specs.AnyPolicy.{Job, outcomes_on};
 ghost use Rattle.policy_comparison.specs.Part.{is_hit_at};
 ghost use Rattle.long_traces.specs.Taking.{AreNext, FollowsTrace};
 ghost use Rattle.long_traces.specs.Pairs.{AreBefore, HavePaired};

@@ -1,7 +1,6 @@
 //! The first access of a trace that comes in pieces at which one policy hits and the other does not.
 ghost use Rattle.std.specs.Prelude.{◌≡◌, ◌≤◌, ◌<◌, ◌+◌, ℕ, List, Ok, Some, IfOk, IfSome, IfNone, OnOk, length};
-ghost use Rattle.step_record.specs.declared.job.Job.{Job};
-ghost use Rattle.policies.specs.AnyPolicy.{outcomes_on};
+ghost use Rattle.policies.specs.AnyPolicy.{Job, outcomes_on};
 ghost use Rattle.policy_comparison.specs.Part.{AgreeBelow, IsPart};
 ghost use Rattle.long_traces.specs.Taking.{AreNext, CanTake, FollowsTrace};
 ghost use Rattle.long_traces.specs.Pairs.{HavePaired, HasParted, HasPartedTask};

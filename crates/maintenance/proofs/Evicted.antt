@@ -1,25 +1,20 @@
 -- An eviction that was carried out by its plan is the definition's.
 use Rattle.std.proofs.Common.{◌≡◌, Bool, Option, Some, None, ap, subst, sym, ◌∙◌, refl}
-use Rattle.step_record.specs.declared.item.Item.{Item}
-use Rattle.step_record.specs.declared.outcome.Outcome.{Outcome}
-use Rattle.step_record.specs.declared.step.Reply.{Reply}
 use Rattle.step_record.specs.declared.drain.Phase.TheVariants.{Evictions}
 use Rattle.segments.specs.Queues.{Queues, IsDistinct}
-use Rattle.replacement.specs.Table.{Response}
-use Rattle.replacement.specs.declared.record.Moves.{Moves}
-use Rattle.replacement.specs.declared.rules.Rules.{Rules}
+use Rattle.replacement.specs.Table.{Outcome, Item, Response}
 use Rattle.replacement.specs.Rules.{three_queues}
 use Rattle.replacement.specs.Plan.{candidate_of}
 use Rattle.replacement.specs.PlanMoves.{queues_after_transfer, queues_after, response_of_plan, removal_record, moves_of}
-use Rattle.shell_model.specs.Shell.{Shell, in_phase, reply_by, unlisted_by, evicted_by, evict_effect, leaves_table, planned_change, evict_change}
+use Rattle.shell_model.specs.Shell.{Moves, Reply, Shell, in_phase, reply_by, unlisted_by, evicted_by, evict_effect, leaves_table, planned_change, evict_change}
 use Rattle.shell_model.specs.declared.holder.Holder.{Holder}
 use Rattle.shell_model.specs.declared.record.Change.{Change}
 use Rattle.shell_model.specs.declared.record.Change.TheVariants.{Evicted}
-use Rattle.replacement.proofs.Planned.{evictions-planned}
+use Rattle.replacement.proofs.Planned.{evictions_planned}
 use Rattle.shell_model.specs.Frequency.{admits}
 use Rattle.shell_model.specs.Changes.{shell_eviction, shell_after_eviction}
 use Rattle.shell_model.proofs.Evicting.{evictions-by-plan}
-use Rattle.maintenance.specs.EvictionPlan.{planned, item_out}
+use Rattle.maintenance.specs.EvictionPlan.{Rules, planned, item_out}
 
 out-leaves : (o : Option Item) (s : Queues) → item_out (removal_record o s) ≡ o
 out-leaves None s = refl
@@ -60,4 +55,4 @@ pub eviction-leaves : (x : Shell) (r : Rules) (m : Moves) (q : Queues) → IsDis
 eviction-leaves x r m q d hr hq hm =
     let p = planned (three_queues x.config) x.frequency x.queues in
     rw (hq, hm, hr, out-leaves p.leaves (queues_after_transfer p.first x.queues))
-    (ap (λ (y : Response). shell_after_eviction y x) (sym (evictions-planned (three_queues x.config) (admits x.frequency) x.queues d)))
+    (ap (λ (y : Response). shell_after_eviction y x) (sym (evictions_planned (three_queues x.config) (admits x.frequency) x.queues d)))

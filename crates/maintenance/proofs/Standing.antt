@@ -2,12 +2,10 @@
 use Rattle.std.proofs.Common.{◌≡◌, ◌+◌, Some, subst, sym, Ok, Err, Result}
 use Rattle.std.specs.Prelude.{IfOk, OnErr}
 use Rattle.step_record.specs.declared.engine.StepFault.{StepFault}
-use Rattle.step_record.specs.declared.step.Step.{Step}
-use Rattle.step_record.specs.declared.step.Reply.{Reply}
 use Rattle.step_record.specs.Pace.{words_of_halvings}
 use Rattle.admission.specs.Frequency.{pace_of}
 use Rattle.shell_model.specs.declared.record.ShellRecord.{ShellRecord}
-use Rattle.shell_model.specs.Shell.{Shell, act}
+use Rattle.shell_model.specs.Shell.{Reply, Step, Shell, act}
 use Rattle.shell_model.specs.Records.{undone_step, shell_record_of, record_size}
 use Rattle.shell_model.specs.ReachableShell.{IsReachable, ShellFits}
 use Rattle.shell_model.proofs.Reached.{record-law, reached-on}

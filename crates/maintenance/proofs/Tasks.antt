@@ -3,13 +3,10 @@ use Rattle.std.proofs.Common.{arith, ◌≡◌, ℕ, ◌≤◌, true, false, eqb
 use Rattle.std.proofs.lemmas.Bool.{cases_Bool, eqb-true}
 use Rattle.std.specs.Prelude.{get_or}
 use Rattle.step_record.specs.declared.step.Act.TheVariants.{DrainWrite}
-use Rattle.step_record.specs.declared.drain.Phase.{Phase}
-use Rattle.shell_buffers.specs.declared.task.Task.{Task}
 use Rattle.shell_buffers.specs.declared.task.Task.TheVariants.{Add, Update, Remove}
-use Rattle.shell_model.specs.declared.holder.Holder.{Holder}
-use Rattle.shell_model.specs.Changes.{after_change, shell_after_task, without_task}
+use Rattle.shell_model.specs.Changes.{Task, Phase, after_change, shell_after_task, without_task}
 use Rattle.shell_model.specs.Shell.{Shell, act_reply, held_by, may_write, task_reply}
-use Rattle.maintenance.specs.Performing.{HasTask}
+use Rattle.maintenance.specs.Performing.{Holder, HasTask}
 
 pub held-is : (w : ℕ) (o : Option Holder) (h : Holder) → held_by w o ≡ Some h → o ≡ Some h
 held-is w None h e = absurd (cc e)

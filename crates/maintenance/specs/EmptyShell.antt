@@ -1,9 +1,9 @@
 -- A shell just opened, and what its readers show.
 use Rattle.std.specs.Prelude.{◌≡◌, ℕ}
-use Rattle.step_record.specs.declared.config.Config.{Config}
-use Rattle.step_record.specs.declared.drain.Phase.{Phase}
+pub use Rattle.step_record.specs.declared.config.Config.{Config}
+pub use Rattle.step_record.specs.declared.drain.Phase.{Phase}
 use Rattle.admission.specs.Shape.{Shape}
-use Rattle.shell_model.specs.declared.holder.Holder.{Holder}
+pub use Rattle.shell_model.specs.declared.holder.Holder.{Holder}
 use Rattle.shell_model.specs.Shell.{Shell}
 use Rattle.shell_model.specs.Laws.{empty_shell, IsShapeOf}
 

@@ -1,11 +1,10 @@
 -- An eviction as it is carried out.
 use Rattle.std.specs.Prelude.{Option, Some, None}
-use Rattle.step_record.specs.declared.item.Item.{Item}
 use Rattle.segments.specs.declared.records.MoveRecord.{MoveRecord}
 use Rattle.segments.specs.Queues.{Queues}
 use Rattle.admission.specs.Frequency.{FrequencyData}
-use Rattle.replacement.specs.declared.rules.Rules.{Rules}
-use Rattle.replacement.specs.Plan.{Plan, eviction_plan}
+pub use Rattle.replacement.specs.declared.rules.Rules.{Rules}
+use Rattle.replacement.specs.Plan.{Item, Plan, eviction_plan}
 use Rattle.shell_model.specs.Frequency.{admits}
 
 -- the plan of an eviction, where the keys are counted

@@ -1,12 +1,10 @@
 -- What performing an act makes, and which acts may be out of memory.
 use Rattle.std.specs.Prelude.{◌≡◌, ℕ, ◌≤◌, Option, Some, None}
-use Rattle.step_record.specs.declared.step.Act.{Act}
 use Rattle.step_record.specs.declared.step.Act.TheVariants.{Put, DrainRead, DrainWrite}
-use Rattle.step_record.specs.declared.step.Reply.{Reply}
-use Rattle.shell_model.specs.declared.holder.Holder.{Holder}
+pub use Rattle.shell_model.specs.declared.holder.Holder.{Holder}
 use Rattle.shell_model.specs.declared.record.Change.{Change}
 use Rattle.shell_model.specs.Changes.{after_change}
-use Rattle.shell_model.specs.Shell.{Shell, act_reply}
+use Rattle.shell_model.specs.Shell.{Reply, Act, Shell, act_reply}
 
 -- what the change leaves; the shell as it was where the act may not come now
 abbrev pub after_reply : Option (Reply × Change) → Shell → Shell

@@ -2,10 +2,7 @@
 use Rattle.std.proofs.Common.{◌≡◌, ℕ, zero, suc, ◌+◌, ◌<◌, Option, None, Result, Ok, Err, List, [], ◌∷◌, length, refl, arith}
 use Rattle.std.specs.Prelude.{slice_index_or}
 use Rattle.step_record.specs.Config.{config_fault}
-use Rattle.step_record.specs.declared.config.ConfigFault.{ConfigFault}
-use Rattle.step_record.specs.declared.job.Job.{Job}
-use Rattle.policies.specs.declared.actor_fault.ActorFault.{ActorFault}
-use Rattle.policies.specs.FaultyJobs.{config_or, faulty_from}
+use Rattle.policies.specs.FaultyJobs.{ActorFault, Job, ConfigFault, config_or, faulty_from}
 
 both : (r : Result (Unit {0}) ConfigFault) (i : ℕ) (next : Option ActorFault) → config_or r i next ≡ None → (r ≡ Ok tt) × (next ≡ None)
 both (Ok u) i next e = (refl, e)

@@ -2,17 +2,13 @@
 use Rattle.std.proofs.Common.{◌≡◌, ℕ, ◌+◌, ◌≤◌, Result, Ok, Err, List, [], ◌∷◌, ◌++◌, length, ap, ◌∙◌, sym, refl, subst, arith, append-nil, append_assoc}
 use Rattle.std.proofs.lemmas.List.{length-map}
 use Rattle.step_record.specs.Config.{config_fault}
-use Rattle.step_record.specs.declared.config.ConfigFault.{ConfigFault}
-use Rattle.step_record.specs.declared.job.Job.{Job}
-use Rattle.step_record.specs.declared.outcome.Outcome.{Outcome}
 use Rattle.step_record.specs.declared.outcome.Outcome.TheVariants.{Rejected}
-use Rattle.step_record.specs.declared.stats.Stats.{Stats}
 use Rattle.step_record.specs.Stats.{stats_of, stats_with}
 use Rattle.step_record.proofs.Counting.{stats-snoc}
-use Rattle.queue_policies.specs.Residents.{state_after_all, outcomes_of_all}
-use Rattle.adaptive_window.specs.AdaptiveCache.{AdaptiveCacheState, cache_access}
+use Rattle.queue_policies.specs.Residents.{Outcome, state_after_all, outcomes_of_all}
+use Rattle.adaptive_window.specs.AdaptiveCache.{Stats, AdaptiveCacheState, cache_access}
 use Rattle.adaptive_window.specs.Residents.{cache_residents, IsCache, CacheKeeps}
-use Rattle.policies.specs.AnyPolicy.{IsAdaptiveAfter, adaptive_start, adaptive_outcomes}
+use Rattle.policies.specs.AnyPolicy.{Job, ConfigFault, IsAdaptiveAfter, adaptive_start, adaptive_outcomes}
 use Rattle.policies.proofs.Demand.{state-push, outcomes-long, kept-from}
 
 -- ---- the accesses that it made

@@ -4,21 +4,17 @@ use Rattle.std.specs.List.{count_by}
 use Rattle.std.proofs.lemmas.Bool.{cases_Bool, eqb-true}
 use Rattle.std.proofs.lemmas.List.{length-map}
 use Rattle.std.proofs.lemmas.List.Sums.{sum_by-cons}
-use Rattle.step_record.specs.declared.job.Job.{Job}
-use Rattle.step_record.specs.declared.outcome.Outcome.{Outcome}
 use Rattle.step_record.specs.declared.outcome.Outcome.TheVariants.{Hit, Kept, Evicted, Rejected}
-use Rattle.step_record.specs.declared.stats.Stats.{Stats}
 use Rattle.step_record.specs.Keys.{has_key}
 use Rattle.step_record.specs.Stats.{stats_of, stats_with, one_if}
 use Rattle.step_record.proofs.Counting.{stats-snoc}
-use Rattle.queue_policies.specs.Residents.{times, keys_brought, IsAccess, AreResidents, KeepsResidents, state_after_all, outcomes_of_all}
+use Rattle.queue_policies.specs.Residents.{Outcome, times, keys_brought, IsAccess, AreResidents, KeepsResidents, state_after_all, outcomes_of_all}
 use Rattle.queue_policies.proofs.Residents.{times-none, times-some, counts-residents}
-use Rattle.demand_cache.specs.declared.demand_policy.DemandPolicy.{DemandPolicy}
 use Rattle.demand_cache.specs.DemandQueues.{DemandQueues, empty_cache, queues_act, queues_residents, IsQueues}
-use Rattle.demand_cache.specs.DemandCache.{DemandState, demand_access}
+use Rattle.demand_cache.specs.DemandCache.{Stats, DemandState, demand_access}
 use Rattle.demand_cache.specs.Theorems.{DemandKeeps}
 use Rattle.demand_cache.proofs.Keeping.{page-outcomes}
-use Rattle.policies.specs.DemandDesign.{demand_policy}
+use Rattle.policies.specs.DemandDesign.{DemandPolicy, Job, demand_policy}
 use Rattle.policies.specs.AnyPolicy.{IsDemandAfter, demand_run, demand_outcomes}
 use Rattle.queue_cache.proofs.Reached.{has-room}
 

@@ -2,13 +2,12 @@
 use Rattle.std.proofs.Common.{◌≡◌, ◌∙◌, ◌≤◌, ℕ, zero, suc, List, [], ◌∷◌, ◌++◌, inl, inr, length, take, refl, ap, subst, sym, arith}
 use Rattle.std.proofs.lemmas.Bool.{cases_lt}
 use Rattle.std.proofs.lemmas.List.{take_all, take-append-le, length-take-le}
-use Rattle.step_record.specs.declared.job.Job.{Job}
 use Rattle.step_record.specs.Stats.{stats_of}
 use Rattle.clairvoyant.specs.Belady.{belady_outcomes, belady_outcome}
 use Rattle.clairvoyant.specs.Clairvoyant.{ClairvoyantState}
 use Rattle.policies.specs.declared.any_policy.AnyPolicy.{AnyPolicy}
 use Rattle.policies.specs.declared.any_policy.AnyPolicy.TheVariants.{Queues, Optimal, Demand, Adaptive}
-use Rattle.policies.specs.AnyPolicy.{stats_in, stats_on, outcomes_on, HasAccessed, outcomes_by, adaptive_start}
+use Rattle.policies.specs.AnyPolicy.{Job, stats_in, stats_on, outcomes_on, HasAccessed, outcomes_by, adaptive_start}
 use Rattle.queue_cache.specs.QueueCache.{QueueState, queue_state_after, frequency_after, empty_queue_state, outcomes_after, outcomes_from, access_response}
 use Rattle.policies.specs.Theorems.{AnyReports}
 use Rattle.policies.proofs.OptimalOutcomes.{outcomes-length}

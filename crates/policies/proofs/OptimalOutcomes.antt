@@ -3,8 +3,7 @@ use Rattle.std.proofs.Common.{◌≡◌, ℕ, zero, suc, ◌<◌, inl, inr, List
 use Rattle.std.proofs.lemmas.Bool.{cases_lt}
 use Rattle.std.proofs.lemmas.List.{get_or_append_left}
 use Rattle.std.proofs.Math.Seq.{get_or-append_seam}
-use Rattle.step_record.specs.declared.outcome.Outcome.{Outcome}
-use Rattle.clairvoyant.specs.Belady.{belady_outcomes, belady_outcome as outcome_at}
+use Rattle.clairvoyant.specs.Belady.{Outcome, belady_outcomes, belady_outcome as outcome_at}
 
 pub outcomes-length : (c : ℕ) (t : List ℕ) (i : ℕ) → length (belady_outcomes c t i) ≡ i
 outcomes-length c t zero = refl

@@ -1,18 +1,16 @@
 -- How many keys are resident in a cache of any policy.
 use Rattle.std.proofs.Common.{◌≡◌, ℕ, zero, suc, ◌+◌, ◌≤◌, eqb, true, cond, map, Result, Ok, Err, List, [], ◌∷◌, length, ap, ◌∙◌, sym, refl, subst, arith}
 use Rattle.std.specs.List.{count_by}
-use Rattle.clairvoyant.specs.Clairvoyant.{ClairvoyantState, is_next, clairvoyant_access, clairvoyant_after, clairvoyant_act}
+use Rattle.clairvoyant.specs.Clairvoyant.{Stats, ClairvoyantState, is_next, clairvoyant_access, clairvoyant_after, clairvoyant_act}
 use Rattle.segments.specs.Queues.{residents_in}
 use Rattle.step_record.proofs.Limited.{accepted-in, accepted-where}
 use Rattle.queue_cache.specs.QueueStep.{recorded_in, queue_access, queue_count}
-use Rattle.policies.specs.AnyPolicy.{any_residents, outcomes_by, outcomes_on, stats_on, demand_outcomes, adaptive_outcomes}
-use Rattle.queue_cache.specs.declared.design.Design.{Design}
+use Rattle.policies.specs.AnyPolicy.{AnyPolicy, Job, ConfigFault, DemandPolicy, Design, any_residents, outcomes_by, outcomes_on, stats_on, demand_outcomes, adaptive_outcomes}
 use Rattle.queue_cache.specs.declared.design.Design.TheVariants as design
 use Rattle.queue_cache.specs.Design.{design_of}
 use Rattle.policies.specs.DemandDesign.{demand_policy}
 use Rattle.std.proofs.lemmas.List.Sums.{sum_by-cons}
 use Rattle.step_record.specs.declared.outcome.Outcome.TheVariants.{Rejected}
-use Rattle.demand_cache.specs.declared.demand_policy.DemandPolicy.{DemandPolicy}
 use Rattle.demand_cache.specs.DemandCache.{demand_access, demand_count}
 use Rattle.demand_cache.specs.DemandQueues.{DemandQueues, queues_act, queues_residents, empty_cache, IsQueues}
 use Rattle.demand_cache.specs.Theorems.{DemandKeeps}
@@ -20,17 +18,14 @@ use Rattle.queue_policies.specs.Residents.{KeepsResidents, state_after_all}
 use Rattle.queue_policies.proofs.Residents.{counts-residents}
 use Rattle.policies.proofs.Demand.{demand-holds, demand-is-access, demand-counted, demand-came-from, times-by, kept-after, with-room}
 use Rattle.step_record.specs.Config.{config_fault}
-use Rattle.step_record.specs.declared.config.ConfigFault.{ConfigFault}
 use Rattle.adaptive_window.specs.AdaptiveCache.{cache_access, cache_count}
 use Rattle.adaptive_window.specs.Residents.{CacheKeeps}
 use Rattle.policies.proofs.Adaptive.{adaptive-sound, adaptive-counted, adaptive-fit}
 use Rattle.policies.specs.Theorems.{AnyCoversTrace}
 use Rattle.queue_cache.proofs.Counting.{after-counts, hits-misses}
-use Rattle.step_record.specs.declared.job.Job.{Job}
 use Rattle.policies.specs.AnyCounts.{IsOptimalStep, optimal_step}
 use Rattle.step_record.specs.Keys.{has_key}
 use Rattle.step_record.specs.Stats.{is_hit, is_miss, is_eviction, one_if, stats_of}
-use Rattle.step_record.specs.declared.stats.Stats.{Stats}
 use Rattle.clairvoyant.specs.Belady.{belady_residents, belady_outcomes}
 use Rattle.clairvoyant.specs.Keys.{IsAscendingKeys}
 use Rattle.clairvoyant.proofs.Belady.{residents-ascending, served-has, hit-resident, residents-fit as belady-residents-fit}
@@ -38,7 +33,6 @@ use Rattle.clairvoyant.proofs.Reached.{held-count}
 use Rattle.clairvoyant.proofs.Listing.{times-sum, times-has}
 use Rattle.step_record.proofs.Counting.{one-few}
 use Rattle.queue_cache.specs.QueueCache.{QueueState, state_after}
-use Rattle.policies.specs.declared.any_policy.AnyPolicy.{AnyPolicy}
 use Rattle.policies.specs.declared.any_policy.AnyPolicy.TheVariants.{Queues, Optimal, Demand, Adaptive}
 use Rattle.policies.specs.Residents.{StatsAddUp, MissesFit, ResidentsFit, ResidentsDistinct, ResidentsCounted, HitsAreResidents, FetchesOnDemand}
 use Rattle.replacement.proofs.Residents.{residents-length, resident-queued, resident-once}

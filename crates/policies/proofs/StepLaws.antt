@@ -3,16 +3,13 @@ use Rattle.std.proofs.Common.{◌≡◌, ℕ, true, suc, ◌+◌, ◌<◌, ◌�
 use Rattle.std.proofs.lemmas.List.{take_more}
 use Rattle.step_record.specs.Config.{config_fault}
 use Rattle.step_record.specs.declared.limits.TheConstants.{MAX_STEPS}
-use Rattle.step_record.specs.declared.job.Job.{Job}
-use Rattle.step_record.specs.declared.outcome.Outcome.{Outcome}
 use Rattle.step_record.specs.declared.outcome.Outcome.TheVariants.{Hit}
 use Rattle.step_record.specs.Stats.{is_eviction, stats_of}
-use Rattle.clairvoyant.specs.Belady.{belady_outcomes, belady_outcome as outcome_at}
+use Rattle.clairvoyant.specs.Belady.{Outcome, belady_outcomes, belady_outcome as outcome_at}
 use Rattle.clairvoyant.specs.Theorems.{ClairvoyantStepLaw, ClairvoyantAccepts}
 use Rattle.clairvoyant.specs.Clairvoyant.{ClairvoyantState, clairvoyant_at, clairvoyant_act}
-use Rattle.policies.specs.declared.any_policy.AnyPolicy.{AnyPolicy}
 use Rattle.policies.specs.declared.any_policy.AnyPolicy.TheVariants.{Queues, Optimal, Demand, Adaptive}
-use Rattle.queue_cache.specs.QueueCache.{state_after, outcomes_after}
+use Rattle.queue_cache.specs.QueueCache.{Job, state_after, outcomes_after}
 use Rattle.step_record.specs.Limited.{lifted}
 use Rattle.step_record.proofs.Limited.{accepted-in, refused-in}
 use Rattle.queue_cache.specs.QueueStep.{queue_access, queue_count}
@@ -26,7 +23,7 @@ use Rattle.queue_cache.specs.declared.design.Design.{Design}
 use Rattle.queue_cache.specs.declared.design.Design.TheVariants as design
 use Rattle.queue_cache.specs.Design.{design_of, is_of_queues, is_optimal}
 use Rattle.policies.specs.DemandDesign.{demand_policy}
-use Rattle.policies.specs.AnyPolicy.{outcomes_by, adaptive_start, demand_run, IsBeladyAt, HasAccessed}
+use Rattle.policies.specs.AnyPolicy.{AnyPolicy, outcomes_by, adaptive_start, demand_run, IsBeladyAt, HasAccessed}
 use Rattle.policies.specs.AnyCounts.{IsOptimalStep, optimal_step}
 use Rattle.policies.specs.Theorems.{AnyStepLaw, AnyAccepts, AnyIsOne, AnyAnswers, AnyCoversTrace, AnyHitsKeepAll, AnyRecordsShowOutcome, AnyAsksWhereOneLeft}
 use Rattle.clairvoyant.proofs.Records.{outcome-is}

@@ -2,20 +2,18 @@
 use Rattle.std.specs.Prelude.{◌≡◌, ℕ, ◌+◌, true, Option, Some, None}
 use Rattle.std.proofs.Common.{ap, sym, subst}
 use Rattle.step_record.specs.declared.limits.TheConstants.{MAX_STEPS}
-use Rattle.step_record.specs.declared.outcome.Outcome.{Outcome}
 use Rattle.step_record.specs.Pace.{IsPaced, still-paced}
 use Rattle.step_record.specs.Limited.{lifted}
 use Rattle.step_record.proofs.Limited.{accepted-where, accepted-in, ended}
-use Rattle.adaptive_window.specs.AdaptiveCache.{cache_access, cache_count, cache_pace}
+use Rattle.adaptive_window.specs.AdaptiveCache.{Outcome, cache_access, cache_count, cache_pace}
 use Rattle.admission.proofs.Weighing.{recorded_paced}
 use Rattle.clairvoyant.specs.Clairvoyant.{ClairvoyantState, clairvoyant_act}
 use Rattle.clairvoyant.specs.StepCount.{act_counts as optimal_counts, act_ends as optimal_ends}
 use Rattle.demand_cache.specs.DemandCache.{demand_access, demand_count}
-use Rattle.policies.specs.declared.any_policy.AnyPolicy.{AnyPolicy}
 use Rattle.policies.specs.declared.any_policy.AnyPolicy.TheVariants.{Queues, Optimal, Demand, Adaptive}
 use Rattle.queue_cache.specs.QueueStep.{queue_access, queue_count, queue_pace}
 use Rattle.queue_cache.specs.QueuePace.{paced-by}
-use Rattle.policies.specs.AnyPolicy.{stats_in}
+use Rattle.policies.specs.AnyPolicy.{AnyPolicy, stats_in}
 use Rattle.policies.specs.AnyStep.{any_act, any_pace}
 
 abbrev pub any_count : AnyPolicy → ℕ

@@ -1,10 +1,10 @@
 -- What a cache of any policy shows, and what a job over a trace comes to.
 use Rattle.std.specs.Prelude.{◌≡◌, ℕ, zero, suc, ◌≤◌, true, Option, Some, None, Result, Ok, Err, List, length, map, take}
-use Rattle.step_record.specs.declared.config.ConfigFault.{ConfigFault}
-use Rattle.step_record.specs.declared.job.Job.{Job}
-use Rattle.step_record.specs.declared.outcome.Outcome.{Outcome}
+pub use Rattle.step_record.specs.declared.config.ConfigFault.{ConfigFault}
+pub use Rattle.step_record.specs.declared.job.Job.{Job}
+pub use Rattle.step_record.specs.declared.outcome.Outcome.{Outcome}
 use Rattle.step_record.specs.declared.outcome.Outcome.TheVariants.{Rejected}
-use Rattle.step_record.specs.declared.stats.Stats.{Stats}
+pub use Rattle.step_record.specs.declared.stats.Stats.{Stats}
 use Rattle.step_record.specs.Config.{config_fault}
 use Rattle.step_record.specs.Stats.{stats_of}
 use Rattle.admission.specs.Frequency.{FrequencyData}
@@ -14,14 +14,14 @@ use Rattle.adaptive_window.specs.Residents.{cache_residents}
 use Rattle.clairvoyant.specs.Belady.{belady_outcomes}
 use Rattle.clairvoyant.specs.Clairvoyant.{ClairvoyantState, clairvoyant_at}
 use Rattle.queue_policies.specs.Residents.{state_after_all, outcomes_of_all}
-use Rattle.demand_cache.specs.declared.demand_policy.DemandPolicy.{DemandPolicy}
+pub use Rattle.demand_cache.specs.declared.demand_policy.DemandPolicy.{DemandPolicy}
 use Rattle.demand_cache.specs.DemandQueues.{empty_cache, queues_act, queues_residents, outcomes_of_page}
 use Rattle.demand_cache.specs.DemandCache.{DemandState}
 use Rattle.segments.specs.Queues.{residents_in}
-use Rattle.policies.specs.declared.any_policy.AnyPolicy.{AnyPolicy}
+pub use Rattle.policies.specs.declared.any_policy.AnyPolicy.{AnyPolicy}
 use Rattle.policies.specs.declared.any_policy.AnyPolicy.TheVariants.{Queues, Optimal, Demand, Adaptive}
-use Rattle.queue_cache.specs.declared.design.DemandDesign.{DemandDesign}
-use Rattle.queue_cache.specs.declared.design.Design.{Design}
+pub use Rattle.queue_cache.specs.declared.design.DemandDesign.{DemandDesign}
+pub use Rattle.queue_cache.specs.declared.design.Design.{Design}
 use Rattle.queue_cache.specs.declared.design.Design.TheVariants as design
 use Rattle.queue_cache.specs.Design.{design_of, has_queues, knows_trace}
 use Rattle.policies.specs.DemandDesign.{demand_policy}

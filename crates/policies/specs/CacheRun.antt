@@ -1,6 +1,6 @@
 -- What a run has of the accesses while batches come.
 use Rattle.std.specs.Prelude.{⊤, ◌≡◌, ℕ, ◌+◌, ◌≤◌, true, List, length}
-use Rattle.step_record.specs.declared.job.Job.{Job}
+pub use Rattle.step_record.specs.declared.job.Job.{Job}
 use Rattle.step_record.specs.declared.limits.TheConstants.{MAX_ACCESSES}
 use Rattle.policies.specs.AnyPolicy.{HasAccessed}
 use Rattle.policies.specs.Accesses.{IsNext}

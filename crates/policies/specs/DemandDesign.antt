@@ -1,10 +1,10 @@
 -- The policies that keep each missed key, with the sizes that a job gives their parts.
 use Rattle.std.specs.Prelude.{ℕ}
-use Rattle.step_record.specs.declared.job.Job.{Job}
+pub use Rattle.step_record.specs.declared.job.Job.{Job}
 use Rattle.step_record.specs.declared.job.Tuning.{Tuning}
 use Rattle.step_record.specs.Job.{part_size}
 use Rattle.ghost_policies.specs.declared.two_q.TwoQSizes.{TwoQSizes}
-use Rattle.demand_cache.specs.declared.demand_policy.DemandPolicy.{DemandPolicy}
+pub use Rattle.demand_cache.specs.declared.demand_policy.DemandPolicy.{DemandPolicy}
 use Rattle.demand_cache.specs.declared.demand_policy.DemandPolicy.TheVariants as sized
 use Rattle.queue_cache.specs.declared.design.DemandDesign.{DemandDesign}
 use Rattle.queue_cache.specs.declared.design.DemandDesign.TheVariants as demand

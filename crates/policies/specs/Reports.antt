@@ -1,8 +1,7 @@
 -- The report of a job over a trace: the numbers that the definition of its policy gives.
 use Rattle.std.specs.Prelude.{ℕ, ◌*◌, ◌/◌, ◌==◌, List, if◌then◌else◌}
-use Rattle.step_record.specs.declared.job.Job.{Job}
-use Rattle.step_record.specs.declared.stats.Stats.{Stats}
-use Rattle.policies.specs.AnyPolicy.{stats_on}
+pub use Rattle.step_record.specs.declared.job.Job.{Job}
+use Rattle.policies.specs.AnyPolicy.{Stats, stats_on}
 use Rattle.policies.specs.declared.report.Report.{Report}
 
 -- the report of a job, from what was counted

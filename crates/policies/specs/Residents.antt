@@ -2,10 +2,8 @@
 use Rattle.std.specs.Prelude.{◌≡◌, ◌⊎◌, ℕ, ◌+◌, ◌≤◌, true, eqb, Some, List, length, count_by}
 use Rattle.step_record.specs.Keys.{has_key}
 use Rattle.step_record.specs.Stats.{is_hit}
-use Rattle.step_record.specs.declared.job.Job.{Job}
-use Rattle.step_record.specs.declared.outcome.Outcome.{Outcome}
-use Rattle.policies.specs.declared.any_policy.AnyPolicy.{AnyPolicy}
-use Rattle.policies.specs.AnyPolicy.{HasAccessed, any_residents, stats_in, stats_on}
+pub use Rattle.step_record.specs.declared.job.Job.{Job}
+use Rattle.policies.specs.AnyPolicy.{AnyPolicy, Outcome, HasAccessed, any_residents, stats_in, stats_on}
 use Rattle.policies.specs.AnyStep.{any_act}
 
 -- A cache of any policy never holds more keys than its capacity.

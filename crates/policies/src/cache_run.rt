@@ -1,8 +1,7 @@
 //! A job's run over a trace whose accesses come in batches.
 ghost use Rattle.std.specs.Prelude.{◌≡◌, ◌++◌, [], ℕ, List, Ok, IfOk, IfSome, OnOk};
 ghost use Rattle.step_record.specs.Config.{config_fault};
-ghost use Rattle.step_record.specs.declared.job.Job.{Job};
-ghost use Rattle.policies.specs.AnyPolicy.{HasAccessed};
+ghost use Rattle.policies.specs.AnyPolicy.{Job, HasAccessed};
 ghost use Rattle.policies.specs.Accesses.{IsNext};
 ghost use Rattle.policies.specs.CacheRun.{CanTake, HasTaken};
 ghost use Rattle.policies.specs.Reports.{report_on};

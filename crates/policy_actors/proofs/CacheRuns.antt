@@ -2,15 +2,12 @@
 use Rattle.std.proofs.Common.{◌≡◌, ℕ, ◌+◌, ◌*◌, ◌<◌, ◌≤◌, List, [], ◌++◌, length, take, drop, Option, Some, None, IfSome, IsTrue, ⊎_elim, sym, ap, subst, ◌∙◌, arith, append-nil, length-append}
 use Rattle.std.specs.Prelude.{◌↔◌}
 use Rattle.std.proofs.lemmas.Bool.{cases_lt}
-use Rattle.step_record.specs.declared.job.Job.{Job}
 use Rattle.step_record.specs.declared.limits.TheConstants.{MAX_STEPS}
-use Rattle.policy_actors.specs.Following.{CanFollow}
-use Rattle.policy_actors.specs.CacheRuns.{IsAfter}
+use Rattle.policy_actors.specs.Following.{Job, CanFollow}
+use Rattle.policy_actors.specs.CacheRuns.{CacheRun, IsAfter}
 use Rattle.policies.specs.CacheRun.{CanTake, HasTaken}
-use Rattle.policies.specs.declared.cache_run.CacheRun.{CacheRun}
 use Rattle.policies.specs.declared.cache_run.CacheRun.TheVariants.{Cache, NextUses, OutOfMemory}
-use Rattle.policy_actors.specs.ChannelProtocol.{IsBatch}
-use Rattle.policy_actors.specs.declared.channel_protocol.Batch.{Batch}
+use Rattle.policy_actors.specs.ChannelProtocol.{Batch, IsBatch}
 use Rattle.policies.proofs.Batches.{taken-more, all-taken}
 
 nothing : (known : Option (List ℕ)) (size : ℕ) → IfSome known (λ all. [] ≡ take (0 * size) all)

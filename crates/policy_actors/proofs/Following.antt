@@ -2,9 +2,8 @@
 use Rattle.std.proofs.Common.{◌≤◌, ℕ, List, [], ◌∷◌}
 use Rattle.std.specs.List.{All}
 use Rattle.std.proofs.lemmas.List.Elements.{All-nil, All-cons}
-use Rattle.step_record.specs.declared.job.Job.{Job}
 use Rattle.step_record.specs.declared.limits.TheConstants.{MAX_ACCESSES}
-use Rattle.policy_actors.specs.Following.{CanFollow}
+use Rattle.policy_actors.specs.Following.{Job, CanFollow}
 
 pub all_follow : (most : ℕ) (jobs : List Job) → most ≤ MAX_ACCESSES → All (CanFollow most) jobs
 all_follow most [] few = All-nil (CanFollow most)

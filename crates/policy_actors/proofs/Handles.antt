@@ -1,11 +1,7 @@
 -- The handles of the actors that were started.
 use Rattle.std.proofs.Common.{◌≡◌, ◌++◌, ◌∷◌, [], List, Option, Result, Ok, Err, IfOk, IsOk, ap, ◌∙◌}
-use Rattle.std.specs.declared.thread.PromisedHandle.{PromisedHandle}
 use Rattle.std.proofs.lemmas.List.{map-append}
-use Rattle.step_record.specs.declared.job.Job.{Job}
-use Rattle.policies.specs.declared.report.Report.{Report}
-use Rattle.policy_actors.specs.Actors.{jobs_of}
-use Rattle.policy_actors.specs.declared.run.Promised.{Promised}
+use Rattle.policy_actors.specs.Actors.{Promised, Report, Job, PromisedHandle, jobs_of}
 
 -- one more was started, with this promise
 pub one_more : {S E : Type 0} (started : Result (PromisedHandle (Option Report) (Promised S)) E) (old new : List (PromisedHandle (Option Report) (Promised S))) (promised : Promised S) (jobs : List Job)

@@ -3,8 +3,7 @@ use Rattle.std.proofs.Common.{◌≡◌, ℕ, ◌+◌, ◌-◌, ◌*◌, ◌<◌
 use Rattle.std.specs.Prelude.{◌↔◌}
 use Rattle.std.proofs.lemmas.List.{drop-drop, drop-take, take_all, take-take}
 use Rattle.std.proofs.lemmas.Bool.{cases_lt}
-use Rattle.policy_actors.specs.ChannelProtocol.{IsBatch}
-use Rattle.policy_actors.specs.declared.channel_protocol.Batch.{Batch}
+use Rattle.policy_actors.specs.ChannelProtocol.{Batch, IsBatch}
 
 -- so many at the front of a front
 drop_front : (n size : ℕ) (ys : List ℕ) → size ≤ n → drop size (take n ys) ≡ take (n - size) (drop size ys)

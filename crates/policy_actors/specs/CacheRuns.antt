@@ -1,8 +1,7 @@
 -- What an actor has of the accesses while batches come.
 use Rattle.std.specs.Prelude.{◌≡◌, ℕ, ◌*◌, ◌≤◌, Option, IfSome, List, length, take}
-use Rattle.step_record.specs.declared.job.Job.{Job}
-use Rattle.policies.specs.CacheRun.{HasTaken}
-use Rattle.policies.specs.declared.cache_run.CacheRun.{CacheRun}
+use Rattle.policies.specs.CacheRun.{Job, HasTaken}
+pub use Rattle.policies.specs.declared.cache_run.CacheRun.{CacheRun}
 
 -- it took the accesses of the first k batches, of so many keys each, at most `most` in all; they may be those of any
 -- trace

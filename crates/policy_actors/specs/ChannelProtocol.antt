@@ -4,8 +4,8 @@ use Rattle.std.specs.Prelude.{◌≡◌, ℕ, ◌+◌, ◌*◌, ◌<◌, ◌≤�
 use Rattle.std.specs.Prelude.{length, take, drop}
 use mathlib.Core.Option.{some}
 use lib.ListN.{get_elem?}
-use Rattle.policy_actors.specs.declared.channel_protocol.ChannelLog.{ChannelLog}
-use Rattle.policy_actors.specs.declared.channel_protocol.Batch.{Batch}
+pub use Rattle.policy_actors.specs.declared.channel_protocol.ChannelLog.{ChannelLog}
+pub use Rattle.policy_actors.specs.declared.channel_protocol.Batch.{Batch}
 
 abbrev pub channel_log : Bool → Bool → ℕ → ℕ → ChannelLog
 channel_log gives takes given taken = record { gives = gives; takes = takes; given = given; taken = taken }

@@ -2,7 +2,7 @@
 use Rattle.std.specs.Prelude.{ℕ, cond, nat_le, Option, Some, List, length}
 use Rattle.step_record.specs.Config.{is_from_one}
 use Rattle.step_record.specs.declared.limits.TheConstants.{MAX_BATCH}
-use Rattle.step_record.specs.declared.job.Job.{Job}
+pub use Rattle.step_record.specs.declared.job.Job.{Job}
 use Rattle.policies.specs.FaultyJobs.{faulty_in}
 use Rattle.policies.specs.declared.actor_fault.ActorFault.{ActorFault}
 use Rattle.policies.specs.declared.actor_fault.ActorFault.TheVariants.{Batch, Actors}

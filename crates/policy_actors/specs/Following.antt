@@ -1,6 +1,6 @@
 -- Which jobs can be run over a trace that is not kept.
 use Rattle.std.specs.Prelude.{◌≡◌, ◌≤◌, ℕ, true}
-use Rattle.step_record.specs.declared.job.Job.{Job}
+pub use Rattle.step_record.specs.declared.job.Job.{Job}
 use Rattle.step_record.specs.declared.limits.TheConstants.{MAX_ACCESSES}
 use Rattle.queue_cache.specs.Design.{knows_trace}
 

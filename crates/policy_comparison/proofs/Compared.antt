@@ -3,15 +3,12 @@ use Rattle.std.proofs.Common.{◌≡◌, ◌∙◌, ℕ, zero, suc, ◌+◌, ◌
 use Rattle.std.specs.Prelude.{not, ◌&&◌, slice_index_or}
 use Rattle.std.proofs.lemmas.List.{get_or_default, take_more}
 use Rattle.std.proofs.lemmas.List.Sums.{sum_by-append}
-use Rattle.step_record.specs.declared.job.Job.{Job}
-use Rattle.step_record.specs.declared.outcome.Outcome.{Outcome}
 use Rattle.step_record.specs.declared.outcome.Outcome.TheVariants.{Kept}
 use Rattle.step_record.specs.Stats.{is_hit, one_if}
-use Rattle.policies.specs.AnyPolicy.{outcomes_on}
+use Rattle.policies.specs.AnyPolicy.{Outcome, Job, outcomes_on}
 use Rattle.policies.proofs.StepLaws.{any_covers_trace}
 use Rattle.policy_comparison.specs.CacheAccess.{StandsAt}
-use Rattle.policy_comparison.specs.declared.comparison.Comparison.{Comparison}
-use Rattle.policy_comparison.specs.Comparison.{counts_of, counts_with, hits_beside, IsUpTo}
+use Rattle.policy_comparison.specs.Comparison.{Comparison, counts_of, counts_with, hits_beside, IsUpTo}
 use Rattle.policy_comparison.specs.Part.{is_hit_at}
 
 -- ---- hits side by side

@@ -7,15 +7,11 @@ use Rattle.std.proofs.lemmas.Grind.{div_ceil_times}
 use Rattle.std.proofs.lemmas.List.{take_all}
 use Rattle.std.proofs.lemmas.List.Sums.{sum_by-append, sum_by_push}
 use Rattle.std.proofs.lemmas.Nat.{mul-le}
-use Rattle.step_record.specs.declared.job.Job.{Job}
-use Rattle.policies.specs.AnyPolicy.{outcomes_on}
-use Rattle.policy_comparison.specs.declared.comparison.Comparison.{Comparison}
-use Rattle.policy_comparison.specs.Comparison.{compared_on, counts_of, hits_beside}
-use Rattle.policy_comparison.specs.ComparedRows.{EndsRow, rows_in}
-use Rattle.policy_comparison.specs.declared.compared_rows.ComparedInterval.{ComparedInterval}
-use Rattle.policy_comparison.specs.declared.compared_rows.ComparedRows.{ComparedRows}
+use Rattle.policies.specs.AnyPolicy.{Job, outcomes_on}
+use Rattle.policy_comparison.specs.Comparison.{Comparison, compared_on, counts_of, hits_beside}
+use Rattle.policy_comparison.specs.ComparedRows.{ComparedRows, EndsRow, rows_in}
 use Rattle.policy_comparison.proofs.Compared.{beside-long}
-use Rattle.policy_comparison.specs.ComparedIntervals.{between, compared_at, compared_behind, compared_intervals_on, first_compared, IsLater, sum_over, ComparedIntervalsAddUp}
+use Rattle.policy_comparison.specs.ComparedIntervals.{ComparedInterval, between, compared_at, compared_behind, compared_intervals_on, first_compared, IsLater, sum_over, ComparedIntervalsAddUp}
 
 abbrev pub Hit : Type 0
 Hit = Bool × Bool

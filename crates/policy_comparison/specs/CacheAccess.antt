@@ -1,9 +1,8 @@
 -- One access of a cache.
 use Rattle.std.specs.Prelude.{◌≡◌, ℕ, ◌<◌, ◌≤◌, List, length, get_or, take}
-use Rattle.step_record.specs.declared.job.Job.{Job}
 use Rattle.step_record.specs.declared.limits.TheConstants.{MAX_STEPS}
-use Rattle.policies.specs.declared.any_policy.AnyPolicy.{AnyPolicy}
-use Rattle.policies.specs.AnyPolicy.{HasAccessed}
+pub use Rattle.policies.specs.declared.any_policy.AnyPolicy.{AnyPolicy}
+use Rattle.policies.specs.AnyPolicy.{Job, HasAccessed}
 
 -- x is element n of the list, counted from 0
 pub record StandsAt {X : Type 0} (xs : List X) (n : ℕ) (x : X) : Type 0 where

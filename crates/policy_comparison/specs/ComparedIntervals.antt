@@ -3,11 +3,9 @@ use Rattle.std.specs.Int.{div_ceil}
 use Rattle.std.specs.Prelude.{◌≡◌, ℕ, zero, suc, ◌+◌, ◌-◌, ◌*◌, ◌<◌, ◌≤◌, Bool, List, [], ◌∷◌, ◌++◌, codes, drop}
 use Rattle.std.specs.Prelude.{flat_map}
 use Rattle.std.specs.Prelude.{length, sum_by, take}
-use Rattle.step_record.specs.declared.job.Job.{Job}
-use Rattle.policies.specs.AnyPolicy.{outcomes_on}
-use Rattle.policy_comparison.specs.Comparison.{compared_on, counts_of, hits_beside, pair_row}
-use Rattle.policy_comparison.specs.declared.comparison.Comparison.{Comparison}
-use Rattle.policy_comparison.specs.declared.compared_rows.ComparedInterval.{ComparedInterval}
+use Rattle.policies.specs.AnyPolicy.{Job, outcomes_on}
+use Rattle.policy_comparison.specs.Comparison.{Comparison, compared_on, counts_of, hits_beside, pair_row}
+pub use Rattle.policy_comparison.specs.declared.compared_rows.ComparedInterval.{ComparedInterval}
 
 -- ---- the definition
 

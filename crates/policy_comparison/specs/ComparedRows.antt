@@ -1,14 +1,12 @@
 -- What was counted of the first accesses of two policies, with a row for each interval that is over.
 use Rattle.std.specs.Prelude.{◌≡◌, ◌≤◌, ◌<◌, ℕ, ◌+◌, ◌*◌, Bool, List, length, take}
-use Rattle.step_record.specs.declared.outcome.Outcome.{Outcome}
 use Rattle.step_record.specs.declared.limits.TheConstants.{MAX_STEPS}
-use Rattle.policies.specs.AnyPolicy.{outcomes_on}
+use Rattle.policies.specs.AnyPolicy.{Outcome, outcomes_on}
 use Rattle.policy_comparison.specs.CacheAccess.{StandsAt}
 use Rattle.policy_comparison.specs.Comparison.{counts_of, hits_beside}
 use Rattle.policy_comparison.specs.ComparedIntervals.{first_compared}
-use Rattle.policy_comparison.specs.TwoCaches.{AreAbreastOfSome}
-use Rattle.policy_comparison.specs.declared.compared_rows.ComparedRows.{ComparedRows}
-use Rattle.policy_comparison.specs.declared.two_caches.TwoCaches.{TwoCaches}
+use Rattle.policy_comparison.specs.TwoCaches.{TwoCaches, AreAbreastOfSome}
+pub use Rattle.policy_comparison.specs.declared.compared_rows.ComparedRows.{ComparedRows}
 
 -- how many intervals are over
 abbrev pub rows_in : ComparedRows → ℕ

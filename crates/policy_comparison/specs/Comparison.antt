@@ -1,12 +1,11 @@
 -- How often two policies hit at the same accesses of a trace.
 use Rattle.std.specs.Prelude.{ℕ, ◌+◌, ◌≤◌, Bool, not, ◌&&◌, List, [], ◌∷◌, ◌++◌, codes, count_by, flat_map, length, map, zip}
-use Rattle.step_record.specs.declared.job.Job.{Job}
-use Rattle.step_record.specs.declared.outcome.Outcome.{Outcome}
+pub use Rattle.step_record.specs.declared.job.Job.{Job}
 use Rattle.step_record.specs.Job.{word_of}
 use Rattle.step_record.specs.Stats.{is_hit, one_if}
-use Rattle.policies.specs.AnyPolicy.{outcomes_on}
+use Rattle.policies.specs.AnyPolicy.{Outcome, outcomes_on}
 use Rattle.debug_commands.specs.Texts.{count_text}
-use Rattle.policy_comparison.specs.declared.comparison.Comparison.{Comparison}
+pub use Rattle.policy_comparison.specs.declared.comparison.Comparison.{Comparison}
 
 -- ---- the definition
 

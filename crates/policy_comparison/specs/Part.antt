@@ -2,8 +2,8 @@
 use Rattle.std.specs.Prelude.{◌≡◌, ◌≢◌, ℕ, zero, suc, ◌<◌, Bool, false, Option, Some, None, List, ◌++◌}
 use Rattle.std.specs.Prelude.{codes, slice_index_or, take}
 use Rattle.std.specs.Fmt.{decimal}
-use Rattle.step_record.specs.declared.job.Job.{Job}
-use Rattle.step_record.specs.declared.outcome.Outcome.{Outcome}
+pub use Rattle.step_record.specs.declared.job.Job.{Job}
+pub use Rattle.step_record.specs.declared.outcome.Outcome.{Outcome}
 use Rattle.step_record.specs.declared.outcome.Outcome.TheVariants.{Kept}
 use Rattle.step_record.specs.Stats.{is_hit}
 use Rattle.policies.specs.declared.any_policy.AnyPolicy.{AnyPolicy}

@@ -1,11 +1,9 @@
 -- Two caches over one trace, which made the same accesses, and which accesses of the last stretch hit.
 use Rattle.std.specs.Prelude.{◌≡◌, ℕ, ◌+◌, ◌-◌, ◌<◌, ◌≤◌, Bool, false, List, length, min, slice_index_or, take}
-use Rattle.step_record.specs.declared.job.Job.{Job}
 use Rattle.step_record.specs.declared.limits.TheConstants.{MAX_ACCESSES}
-use Rattle.step_record.specs.declared.outcome.Outcome.{Outcome}
-use Rattle.policies.specs.AnyPolicy.{HasAccessed, outcomes_on}
+use Rattle.policies.specs.AnyPolicy.{Outcome, Job, HasAccessed, outcomes_on}
 use Rattle.policy_comparison.specs.declared.two_caches.NotedCache.{NotedCache}
-use Rattle.policy_comparison.specs.declared.two_caches.TwoCaches.{TwoCaches}
+pub use Rattle.policy_comparison.specs.declared.two_caches.TwoCaches.{TwoCaches}
 use Rattle.policy_comparison.specs.declared.two_caches.TheConstants.{STRETCH}
 use Rattle.policy_comparison.specs.Part.{is_hit_at}
 

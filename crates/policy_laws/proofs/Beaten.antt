@@ -5,20 +5,16 @@ use Rattle.std.proofs.lemmas.List.Sums.{sum_by-cons}
 use Rattle.step_record.specs.Keys.{has_key}
 use Rattle.step_record.specs.Stats.{is_hit, one_if}
 use Rattle.step_record.specs.Config.{config_fault}
-use Rattle.step_record.specs.declared.config.ConfigFault.{ConfigFault}
-use Rattle.step_record.specs.declared.job.Job.{Job}
 use Rattle.step_record.specs.declared.outcome.Outcome.TheVariants.{Rejected}
-use Rattle.step_record.specs.declared.stats.Stats.{Stats}
 use Rattle.segments.specs.Queues.{residents_in}
 use Rattle.replacement.proofs.Residents.{resident-queued}
 use Rattle.demand_cache.specs.DemandQueues.{DemandQueues, empty_cache, queues_act, queues_residents, IsQueues}
 use Rattle.demand_cache.specs.Theorems.{DemandKeeps}
 use Rattle.queue_policies.specs.Residents.{state_after_all}
-use Rattle.adaptive_window.specs.AdaptiveCache.{cache_access}
+use Rattle.adaptive_window.specs.AdaptiveCache.{Stats, cache_access}
 use Rattle.adaptive_window.specs.Residents.{cache_residents, IsCache, CacheKeeps}
-use Rattle.queue_cache.specs.declared.design.Design.{Design}
 use Rattle.queue_cache.specs.declared.design.Design.TheVariants as design
-use Rattle.queue_cache.specs.Design.{design_of, is_of_queues, is_optimal, knows_trace}
+use Rattle.queue_cache.specs.Design.{Job, design_of, is_of_queues, is_optimal, knows_trace}
 use Rattle.queue_cache.specs.QueueCache.{QueueState, access_response, frequency_after, state_after}
 use Rattle.queue_cache.proofs.Balance.{IsBalancedCache, step-balanced, after-balanced, came-from, residents-fit}
 use Rattle.queue_cache.proofs.Counting.{after-counts}
@@ -26,15 +22,14 @@ use Rattle.queue_cache.proofs.Reached.{after-snoc}
 use Rattle.clairvoyant.specs.Belady.{belady_residents}
 use Rattle.clairvoyant.specs.Clairvoyant.{ClairvoyantState}
 use Rattle.policies.specs.DemandDesign.{demand_policy}
-use Rattle.policies.specs.declared.any_policy.AnyPolicy.{AnyPolicy}
 use Rattle.policies.specs.declared.any_policy.AnyPolicy.TheVariants.{Queues, Optimal, Demand, Adaptive}
-use Rattle.policies.specs.AnyPolicy.{demand_outcomes, adaptive_start, adaptive_outcomes, outcomes_by, stats_in, stats_on, HasAccessed}
+use Rattle.policies.specs.AnyPolicy.{Design, ConfigFault, demand_outcomes, adaptive_start, adaptive_outcomes, outcomes_by, stats_in, stats_on, HasAccessed}
 use Rattle.policies.proofs.StepLaws.{outcomes-of-queues, outcomes-of-optimal}
 use Rattle.policies.proofs.FirstAccesses.{any_reports}
 use Rattle.policies.proofs.Demand.{with-room}
 use Rattle.optimality.specs.Strategy.{IsStrategy, strategy_hits}
 use Rattle.optimality.specs.Theorems.{belady_hits, BeladyIsOptimal, BeladyIsStrategy, BeladyHitsGrow}
-use Rattle.policy_laws.specs.Theorems.{NoPolicyBeatsBelady, BeladyLeads, OptimalHitsGrow}
+use Rattle.policy_laws.specs.Theorems.{AnyPolicy, NoPolicyBeatsBelady, BeladyLeads, OptimalHitsGrow}
 use Rattle.policy_laws.proofs.Strategies.{IsOnline, hits-by, strategy, hits-are, all-hits, Serves, serves, served}
 
 -- ---- the hits of a job

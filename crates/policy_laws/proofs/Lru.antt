@@ -4,10 +4,9 @@ use Rattle.std.proofs.lemmas.Bool.Decides.{nat_tests}
 use Rattle.std.proofs.lemmas.Bool.{cases_lt}
 use Rattle.std.proofs.lemmas.List.{drop-drop}
 use Rattle.step_record.specs.Keys.{has_key}
-use Rattle.step_record.specs.declared.job.Job.{Job}
 use Rattle.step_record.specs.declared.job.Policy.TheVariants.{Lru}
 use Rattle.segments.specs.Queues.{residents_in}
-use Rattle.queue_cache.specs.Design.{has_queues}
+use Rattle.queue_cache.specs.Design.{Job, has_queues}
 use Rattle.queue_cache.specs.Lru.{distinct_keys, lru_residents}
 use Rattle.queue_cache.specs.SingleQueue.{single_queue}
 use Rattle.policies.specs.AnyPolicy.{stats_on}

@@ -3,26 +3,22 @@ use Rattle.std.proofs.Common.{◌≡◌, ◌⊎◌, ℕ, Bool, true, false, eqb,
 use Rattle.std.proofs.lemmas.Bool.Decides.{nat_tests}
 use Rattle.std.proofs.lemmas.Bool.{lt-ltb, cases_eq}
 use Rattle.step_record.specs.Keys.{has_key}
-use Rattle.step_record.specs.declared.item.Item.{Item}
-use Rattle.step_record.specs.declared.job.Job.{Job}
 use Rattle.step_record.specs.declared.job.Policy.TheVariants.{SegmentedLru, TinyLfuSegmented}
 use Rattle.segments.specs.declared.records.Queue.TheVariants.{Probation}
-use Rattle.segments.specs.Items.{oldest_of, nodeless_item}
+use Rattle.segments.specs.Items.{Item, oldest_of, nodeless_item}
 use Rattle.segments.specs.Queues.{Queues, queue_holding, IsDistinct, residents_in}
 use Rattle.segments.proofs.ItemLists.{without-none}
 use Rattle.segments.proofs.MoveLaws.{stands}
 use Rattle.segments.proofs.QueueLists.{first-stands}
 use Rattle.admission.specs.Frequency.{FrequencyData}
-use Rattle.replacement.specs.declared.rules.Placement.{Placement}
 use Rattle.replacement.specs.declared.rules.Placement.TheVariants.{Direct}
-use Rattle.replacement.specs.declared.rules.Rules.{Rules}
 use Rattle.replacement.specs.Admission.{admits_in}
 use Rattle.replacement.specs.Counts.{queue_occurrences}
 use Rattle.replacement.specs.Table.{Response, response_with_victim, response_without_trial, miss_by, access}
 use Rattle.replacement.proofs.Planned.{access-at}
 use Rattle.replacement.proofs.Balance.{stands-once}
 use Rattle.replacement.proofs.Residents.{resident-queued}
-use Rattle.queue_cache.specs.Design.{design_of, rules_in, rules_of}
+use Rattle.queue_cache.specs.Design.{Rules, Placement, Job, design_of, rules_in, rules_of}
 use Rattle.queue_cache.specs.QueueCache.{QueueState, frequency_after, state_after}
 use Rattle.queue_cache.proofs.Reached.{after-job, after-snoc}
 use Rattle.queue_cache.proofs.Balance.{IsBalancedCache, after-balanced, came-from}

@@ -1,10 +1,9 @@
 -- Scan resistance: keys that come once do not push out keys that came again.
 use Rattle.std.specs.Prelude.{◌≡◌, ◌⊎◌, ℕ, false, List, [], ◌∷◌, ◌++◌}
 use Rattle.step_record.specs.Keys.{has_key}
-use Rattle.step_record.specs.declared.job.Job.{Job}
 use Rattle.step_record.specs.declared.job.Policy.TheVariants.{SegmentedLru, TinyLfuSegmented}
 use Rattle.segments.specs.Queues.{residents_in}
-use Rattle.queue_cache.specs.QueueCache.{state_after}
+use Rattle.queue_cache.specs.QueueCache.{Job, state_after}
 
 -- the keys are accessed once each, and none of them is resident when the scan begins
 abbrev pub IsScan : List ℕ → List ℕ → Type 0

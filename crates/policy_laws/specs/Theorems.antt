@@ -1,9 +1,8 @@
 -- The policies beside Belady's optimal policy, and larger capacities.
 use Rattle.std.specs.Prelude.{◌≡◌, ℕ, ◌≤◌, List}
-use Rattle.step_record.specs.declared.job.Job.{Job}
 use Rattle.step_record.specs.declared.job.Policy.TheVariants.{Lru, Clairvoyant}
-use Rattle.policies.specs.declared.any_policy.AnyPolicy.{AnyPolicy}
-use Rattle.policies.specs.AnyPolicy.{HasAccessed, stats_in, stats_on}
+pub use Rattle.policies.specs.declared.any_policy.AnyPolicy.{AnyPolicy}
+use Rattle.policies.specs.AnyPolicy.{Job, HasAccessed, stats_in, stats_on}
 
 -- Over every trace, no policy has more hits than Belady's optimal policy at the same capacity.
 abbrev pub NoPolicyBeatsBelady : Type 0

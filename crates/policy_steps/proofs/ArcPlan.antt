@@ -2,17 +2,15 @@
 use Rattle.std.proofs.Common.{◌≡◌, ℕ, zero, suc, ◌+◌, ◌-◌, ◌*◌, ◌<◌, ◌≤◌, min, Bool, true, false, cond, eqb, ◌||◌, Option, Some, None, List, [], ◌∷◌, ◌++◌, length, take, drop, append-nil, ap, ◌∙◌, sym, subst, refl, arith, inl, inr, nat_lt, ◌⊎◌, ◌==◌, length-append}
 use Rattle.std.proofs.lemmas.Bool.{cond_both, eq-eqb, ne_eqb, lt-ltb, le-ltb, cases_lt, eqb-true, ltb-false}
 use Rattle.step_record.specs.Keys.{has_key, keys_without}
-use Rattle.step_record.specs.declared.outcome.Outcome.{Outcome}
 use Rattle.step_record.specs.declared.outcome.Outcome.TheVariants.{Hit, Evicted}
-use Rattle.queue_table.specs.declared.records.Entry.{Entry}
 use Rattle.queue_table.specs.Entries.{entry, oldest_of}
 use Rattle.queue_table.specs.Queues.{QUEUES, Queues, after_push, after_send}
 use Rattle.queue_table.proofs.QueueLists.{IsAbsent, is_absent}
-use Rattle.ghost_policies.specs.Arc.{ArcState, arc_residents, arc_total, oldest_forgotten, OfB1, OfB2, oldest_leaver, ToB1, ToB2, Dropped, arc_replace, plan_of_new_key, arc_after_recall, arc_after_forgetting, arc_after_eviction, arc_after_join, arc_after_miss, arc_outcome, arc_act, IsArc, ArcPlan, ArcLeaver, ArcForgets, NoGhost, InB1, NoneForgotten, NoLeaver}
+use Rattle.ghost_policies.specs.Arc.{Outcome, ArcState, arc_residents, arc_total, oldest_forgotten, OfB1, OfB2, oldest_leaver, ToB1, ToB2, Dropped, arc_replace, plan_of_new_key, arc_after_recall, arc_after_forgetting, arc_after_eviction, arc_after_join, arc_after_miss, arc_outcome, arc_act, IsArc, ArcPlan, ArcLeaver, ArcForgets, NoGhost, InB1, NoneForgotten, NoLeaver}
 use Rattle.queue_policies.proofs.Ghost.{without-none}
 use Rattle.ghost_policies.proofs.ArcPlans.{new-cases}
 use Rattle.ghost_policies.proofs.Weights.{has-append}
-use Rattle.queue_moves.specs.Moves.{item_of, standing, Leaving, leaving, after_leaving, IsLowLeaving, evicted, outcome_after, goes, Plan, own_plan}
+use Rattle.queue_moves.specs.Moves.{Entry, item_of, standing, Leaving, leaving, after_leaving, IsLowLeaving, evicted, outcome_after, goes, Plan, own_plan}
 use Rattle.queue_moves.specs.Tabled.{IsTabled, keys_of, StandsAs}
 use Rattle.queue_moves.proofs.Tabled.{keys-append, absent-gone, stands, stands-nowhere, tabled-leaving}
 use Rattle.policy_steps.specs.Planned.{IsPlannedBy}

@@ -1,7 +1,6 @@
 -- CLOCK's plan is its definition.
 use Rattle.std.proofs.Common.{◌≡◌, ℕ, ◌≤◌, false, nat_lt, None, List, [], ◌∷◌, ◌++◌, length, ap, ◌∙◌, refl, arith}
 use Rattle.step_record.specs.Keys.{has_key}
-use Rattle.queue_table.specs.declared.records.Entry.{Entry}
 use Rattle.queue_table.specs.Entries.{entry, oldest_of, occurrences, entries_without}
 use Rattle.queue_table.specs.Queues.{Queues, after_send}
 use Rattle.queue_table.proofs.QueueLists.{IsAbsent, queue-few}
@@ -11,7 +10,7 @@ use Rattle.queue_policies.specs.Turns.{after_turns as page_turns, turn_count}
 use Rattle.queue_policies.specs.Clock.{marked_key, clock_eviction, IsClock}
 use Rattle.queue_policies.proofs.CountedKeys.{length-keys}
 use Rattle.queue_policies.proofs.Clock.{counted-total, keeps}
-use Rattle.queue_moves.specs.Moves.{item_of, after_turns, turns_due, evicted, departed, leaving, after_leaving, standing, counts}
+use Rattle.queue_moves.specs.Moves.{Entry, item_of, after_turns, turns_due, evicted, departed, leaving, after_leaving, standing, counts}
 use Rattle.queue_moves.specs.Tabled.{IsTabled}
 use Rattle.policy_steps.specs.Counted.{counted_keys}
 use Rattle.policy_steps.specs.Planned.{IsWithin, IsPlannedWithin}

@@ -1,18 +1,14 @@
 -- The key of a miss, while others leave their queues.
 use Rattle.std.proofs.Common.{Bool, ◌<◌, ◌≡◌, ℕ, ◌≤◌, Option, Some, None, List, sym, subst}
-use Rattle.step_record.specs.declared.item.Item.{Item}
-use Rattle.queue_table.specs.declared.records.Entry.{Entry}
-use Rattle.queue_table.specs.declared.records.Found.{Found}
-use Rattle.queue_table.specs.declared.slot.Slot.{Slot}
-use Rattle.queue_table.specs.Entries.{entry, occurrences}
+use Rattle.queue_table.specs.Entries.{Item, entry, occurrences}
 use Rattle.queue_table.specs.Queues.{QUEUES, queue_holding}
 use Rattle.queue_table.specs.QueueTable.{queues, spare, HoldsAt}
 use Rattle.queue_table.proofs.QueueLists.{absent}
 use Rattle.queue_moves.specs.declared.records.Left.{Left}
 use Rattle.queue_moves.specs.declared.records.Run.{Run}
-use Rattle.queue_moves.specs.Moves.{leaving, IsLowLeaving}
+use Rattle.queue_moves.specs.Moves.{Entry, leaving, IsLowLeaving}
 use Rattle.queue_moves.specs.Undoing.{IsLeft, IsRun}
-use Rattle.policy_steps.specs.Comers.{Comes, IsOutside}
+use Rattle.policy_steps.specs.Comers.{Slot, Found, Comes, IsOutside}
 use Rattle.policy_steps.proofs.Leaving.{absent-left, absent-run, off-run}
 use Rattle.policy_steps.proofs.Steps.{still-none}
 

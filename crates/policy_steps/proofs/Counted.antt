@@ -4,7 +4,6 @@ use Rattle.std.proofs.lemmas.Bool.{eq-eqb, ltb-false}
 use Rattle.std.proofs.lemmas.List.{length-map, map-append}
 use Rattle.std.proofs.lemmas.Bool.Decides.{nat_tests}
 use Rattle.step_record.specs.Keys.{has_key}
-use Rattle.queue_table.specs.declared.records.Entry.{Entry}
 use Rattle.queue_table.specs.Entries.{is_same_item, entry, oldest_of, occurrences, entries_without, entries_counted}
 use Rattle.queue_table.specs.Queues.{Queues}
 use Rattle.queue_table.proofs.EntryLists.{times-append}
@@ -12,7 +11,7 @@ use Rattle.queue_table.proofs.MoveBack.{without-none}
 use Rattle.queue_policies.specs.CountedKeys.{CountedKey, keys_of, count_of, with_count, oldest_count}
 use Rattle.queue_policies.proofs.CountedKeys.{keys-append, count-append}
 use Rattle.ghost_policies.proofs.Weights.{has-append}
-use Rattle.queue_moves.specs.Moves.{item_of, count_or}
+use Rattle.queue_moves.specs.Moves.{Entry, item_of, count_or}
 use Rattle.queue_moves.specs.Tabled.{StandsAs, nodes_of, keys_of as entry_keys}
 use Rattle.queue_moves.proofs.Tabled.{same-key, has-occurs, counted-none}
 use Rattle.policy_steps.specs.Counted.{counted_key, counted_keys}

@@ -2,14 +2,12 @@
 use Rattle.std.proofs.Common.{◌≡◌, ℕ, false, nat_lt, None, List, [], ◌∷◌, ◌++◌, length, drop, ap, ◌∙◌, refl, arith}
 use Rattle.std.proofs.lemmas.Bool.{le-ltb}
 use Rattle.step_record.specs.Keys.{has_key, keys_without}
-use Rattle.step_record.specs.declared.outcome.Outcome.{Outcome}
-use Rattle.queue_table.specs.declared.records.Entry.{Entry}
 use Rattle.queue_table.specs.Entries.{entry, oldest_of, occurrences}
 use Rattle.queue_table.specs.Queues.{Queues, after_send}
 use Rattle.queue_table.proofs.QueueLists.{IsAbsent}
-use Rattle.queue_policies.specs.Fifo.{fifo_eviction}
+use Rattle.queue_policies.specs.Fifo.{Outcome, fifo_eviction}
 use Rattle.queue_policies.proofs.Ghost.{without-none}
-use Rattle.queue_moves.specs.Moves.{item_of, standing, evicted, leaving, after_leaving, no_run, stays, goes}
+use Rattle.queue_moves.specs.Moves.{Entry, item_of, standing, evicted, leaving, after_leaving, no_run, stays, goes}
 use Rattle.queue_moves.specs.Tabled.{IsTabled, keys_of}
 use Rattle.queue_moves.proofs.Tabled.{has-occurs, tabled-leaving}
 use Rattle.policy_steps.specs.Planned.{IsWithin, leaver_plan, IsPlannedWithin}

@@ -3,14 +3,13 @@ use Rattle.std.proofs.Common.{◌≡◌, ℕ, ◌<◌, ◌≤◌, Bool, true, fa
 use Rattle.std.proofs.lemmas.Bool.{cond_both, lt-ltb}
 use Rattle.std.proofs.lemmas.Bool.Decides.{nat_tests}
 use Rattle.step_record.specs.Keys.{has_key, keys_without}
-use Rattle.queue_table.specs.declared.records.Entry.{Entry}
 use Rattle.queue_table.specs.Entries.{entry}
 use Rattle.queue_table.specs.Queues.{QUEUES, Queues, with_queue, after_push}
 use Rattle.queue_policies.specs.Queues.{without_oldest}
 use Rattle.queue_policies.specs.Ghost.{ghost_with}
 use Rattle.queue_policies.proofs.Ghost.{without-length, without-none}
 use Rattle.ghost_policies.proofs.Weights.{has-append}
-use Rattle.queue_moves.specs.Moves.{leaving, after_leaving, IsLowLeaving}
+use Rattle.queue_moves.specs.Moves.{Entry, leaving, after_leaving, IsLowLeaving}
 use Rattle.queue_moves.specs.Tabled.{IsTabled, keys_of}
 use Rattle.queue_moves.proofs.Tabled.{keys-append, tabled-leaving, turns-within}
 use Rattle.policy_steps.specs.Misses.{after_leavers, leavers_for_ghost}

@@ -2,14 +2,13 @@
 use Rattle.std.proofs.Common.{◌≡◌, ℕ, zero, suc, ◌+◌, ◌-◌, ◌≤◌, ◌⊎◌, true, false, eqb, nat_lt, List, [], ◌∷◌, ◌++◌, length, ap, ◌∙◌, sym, subst, refl, arith, inl, inr, length-append}
 use Rattle.std.proofs.lemmas.Bool.{cases_lt, lt-ltb, le-ltb, eq-eqb, ne_eqb}
 use Rattle.std.proofs.lemmas.Bool.Decides.{nat_tests}
-use Rattle.queue_table.specs.declared.records.Entry.{Entry}
 use Rattle.queue_table.specs.Entries.{entry, oldest_of}
 use Rattle.queue_table.specs.Queues.{Queues, with_queue}
 use Rattle.queue_table.proofs.QueueLists.{with-queue-same, with-queue-other}
 use Rattle.queue_policies.specs.CountedKeys.{counted_less, AreCounted, total_count, oldest_count}
 use Rattle.queue_policies.specs.Sieve.{SieveState, after_wrap, after_pass, pass_count_within, pass_count, after_passes}
 use Rattle.queue_policies.proofs.Sieve.{whole, past-total}
-use Rattle.queue_moves.specs.Moves.{count_or, after_turn, after_turns, turns_due}
+use Rattle.queue_moves.specs.Moves.{Entry, count_or, after_turn, after_turns, turns_due}
 use Rattle.queue_moves.specs.Tabled.{IsTabled}
 use Rattle.queue_moves.proofs.Tabled.{tabled-turn, turn-is}
 use Rattle.policy_steps.specs.Sieve.{passed_queue}

@@ -1,10 +1,9 @@
 -- When keys leave the queues by a plan.
 use Rattle.std.proofs.Common.{◌≡◌, ℕ, ◌+◌, ◌⊎◌, Bool, true, false, if◌then◌else◌, nat_lt, Option, Some, None, List, ◌++◌, length, ap, ◌∙◌, sym, refl, arith, inl, inr, length-append}
 use Rattle.std.proofs.lemmas.List.{length-map}
-use Rattle.queue_table.specs.declared.records.Entry.{Entry}
 use Rattle.queue_policies.specs.CountedKeys as counted
 use Rattle.queue_policies.proofs.CountedKeys.{length-keys}
-use Rattle.queue_moves.specs.Moves.{Own, Plan, own_plan}
+use Rattle.queue_moves.specs.Moves.{Entry, Own, Plan, own_plan}
 use Rattle.queue_moves.specs.Tabled.{keys_of}
 use Rattle.policy_steps.specs.Planned.{resident_plan}
 use Rattle.policy_steps.specs.Counted.{counted_keys}

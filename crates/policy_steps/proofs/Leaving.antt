@@ -2,15 +2,13 @@
 use Rattle.std.proofs.Common.{eqb, ◌++◌, map, take, append-nil, ◌≡◌, ℕ, zero, suc, ◌-◌, ◌<◌, false, Option, Some, None, List, [], ◌∷◌, drop, ap, sym, subst, ◌∙◌, refl, arith}
 use Rattle.std.proofs.Math.Path.{fun_ext}
 use Rattle.std.proofs.lemmas.Bool.{cond_both, eqb-true}
-use Rattle.step_record.specs.declared.item.Item.{Item}
-use Rattle.queue_table.specs.declared.records.Entry.{Entry}
-use Rattle.queue_table.specs.Entries.{is_same_item, entry, occurrences, oldest_of}
+use Rattle.queue_table.specs.Entries.{Item, is_same_item, entry, occurrences, oldest_of}
 use Rattle.queue_table.specs.Queues.{QUEUES, Queues, with_queue, queue_holding, after_push}
 use Rattle.queue_table.proofs.EntryLists.{times-without}
 use Rattle.queue_table.proofs.QueueLists.{IsAbsent, absent, is_absent}
 use Rattle.queue_moves.specs.declared.records.Left.{Left}
 use Rattle.queue_moves.specs.declared.records.Run.{Run}
-use Rattle.queue_moves.specs.Moves.{turned, after_turn, after_turns, after_run, Leaving, departed, leaving, after_leaving, IsLowLeaving}
+use Rattle.queue_moves.specs.Moves.{Entry, turned, after_turn, after_turns, after_run, Leaving, departed, leaving, after_leaving, IsLowLeaving}
 use Rattle.queue_moves.specs.Tabled.{IsTabled}
 use Rattle.queue_moves.specs.Undoing.{IsLeft, IsRun}
 use Rattle.queue_moves.proofs.Laws.{first-other, off-after-send}

@@ -2,12 +2,10 @@
 use Rattle.std.proofs.Common.{◌≡◌, sym, ℕ, zero, suc, ◌-◌, ◌<◌, ◌≤◌, Option, Some, None, ap, ◌∙◌, arith}
 use Rattle.std.proofs.lemmas.Bool.{ltb-true, cases_lt}
 use Rattle.std.proofs.lemmas.Bool.Decides.{nat_tests}
-use Rattle.step_record.specs.declared.item.Item.{Item}
-use Rattle.queue_table.specs.declared.records.Entry.{Entry}
-use Rattle.queue_table.specs.Entries.{entry, oldest_of, occurrences, entries_without, entries_counted}
+use Rattle.queue_table.specs.Entries.{Item, entry, oldest_of, occurrences, entries_without, entries_counted}
 use Rattle.queue_table.specs.Queues.{Queues, after_removal, after_send, after_count}
 use Rattle.queue_table.proofs.QueueLists.{IsAbsent, absent, with-queue-other}
-use Rattle.queue_moves.specs.Moves.{item_of, standing, turned, after_turn, after_turns, departed, leaving, after_leaving}
+use Rattle.queue_moves.specs.Moves.{Entry, item_of, standing, turned, after_turn, after_turns, departed, leaving, after_leaving}
 use Rattle.queue_moves.specs.Tabled.{IsTabled}
 use Rattle.policy_steps.specs.Planned.{IsWithin}
 use Rattle.queue_moves.proofs.Tabled.{nowhere-standing, has-occurs, stands}

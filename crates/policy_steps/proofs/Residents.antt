@@ -2,13 +2,11 @@
 use Rattle.std.proofs.Common.{◌≡◌, ℕ, zero, suc, ◌<◌, ◌≤◌, Bool, true, false, if◌then◌else◌, nat_lt, Option, Some, None, ◌∙◌, refl, arith, inl, inr}
 use Rattle.std.proofs.lemmas.Bool.{cases_Bool, cases_eq, lt-ltb, le-ltb}
 use Rattle.std.proofs.lemmas.Bool.Decides.{nat_tests}
-use Rattle.step_record.specs.declared.item.Item.{Item}
-use Rattle.step_record.specs.declared.outcome.Outcome.{Outcome}
 use Rattle.step_record.specs.declared.outcome.Outcome.TheVariants.{Hit, Kept}
-use Rattle.queue_table.specs.Entries.{entry, occurrences}
+use Rattle.queue_table.specs.Entries.{Item, entry, occurrences}
 use Rattle.queue_table.specs.Queues.{QUEUES, Queues, times_below, after_send}
 use Rattle.queue_table.proofs.QueueLists.{IsAbsent}
-use Rattle.queue_moves.specs.Moves.{item_of, standing, Own, IsLowOwn, after_own, goes, Plan}
+use Rattle.queue_moves.specs.Moves.{Outcome, item_of, standing, Own, IsLowOwn, after_own, goes, Plan}
 use Rattle.queue_moves.specs.Tabled.{IsTabled}
 use Rattle.policy_steps.specs.Planned.{IsWithin, resident_plan, IsPlannedWithin}
 use Rattle.policy_steps.proofs.Moving.{own-low}

@@ -3,25 +3,22 @@ use Rattle.std.proofs.Common.{◌≡◌, ℕ, ◌+◌, ◌-◌, ◌<◌, ◌≤�
 use Rattle.std.proofs.lemmas.Bool.{cases_Bool, cond_both, or_parts, eq-eqb, eqb-true, eqb-false}
 use Rattle.step_record.specs.Keys.{has_key, keys_without}
 use Rattle.step_record.specs.Stats.{one_if}
-use Rattle.step_record.specs.declared.outcome.Outcome.{Outcome}
 use Rattle.step_record.specs.declared.outcome.Outcome.TheVariants as outcome
-use Rattle.queue_table.specs.declared.records.Entry.{Entry}
 use Rattle.queue_table.specs.Entries.{entry, entries_without, entries_counted}
 use Rattle.queue_table.specs.Queues.{QUEUES, Queues, after_send}
 use Rattle.queue_table.proofs.QueueLists.{queue-few}
-use Rattle.queue_policies.specs.Residents.{times}
+use Rattle.queue_policies.specs.Residents.{Outcome, times}
 use Rattle.queue_policies.specs.CountedKeys.{CountedKey, uncounted_key, count_of, with_count}
 use Rattle.queue_policies.specs.CountedKeys as counted
 use Rattle.queue_policies.specs.S3Fifo.{S3FifoState, s3_fifo_residents, s3_fifo_main_size, main_eviction, small_eviction, most_moves, s3_fifo_room, s3_fifo_with_key, hit_count, s3_fifo_act, IsS3Fifo}
 use Rattle.queue_policies.proofs.Residents.{times-none, no-times, brought-few}
 use Rattle.queue_policies.proofs.CountedKeys.{keys-times, count-append, keys-with}
 use Rattle.queue_policies.proofs.S3Fifo.{unmoved, join-times, room-made, keeps}
-use Rattle.queue_moves.specs.declared.records.Run.{Run}
-use Rattle.queue_moves.specs.Moves.{item_of, standing, no_run, counts, goes, Plan, own_plan, after_run, after_runs, leaving, outcome_after, IsLowRun, IsLowOwn, IsLowPlan}
+use Rattle.queue_moves.specs.Moves.{Entry, item_of, standing, no_run, counts, goes, Plan, own_plan, after_run, after_runs, leaving, outcome_after, IsLowRun, IsLowOwn, IsLowPlan}
 use Rattle.queue_moves.specs.Tabled.{IsTabled, StandsAs, keys_of, HasKeys}
 use Rattle.queue_moves.proofs.Tabled.{stands, stands-nowhere, tabled-turns, tabled-runs}
 use Rattle.policy_steps.specs.Counted.{counted_keys}
-use Rattle.policy_steps.specs.Misses.{Leavers, no_leavers, one_leaver, after_leavers, leavers_for_ghost, run_plan}
+use Rattle.policy_steps.specs.Misses.{Run, Leavers, no_leavers, one_leaver, after_leavers, leavers_for_ghost, run_plan}
 use Rattle.policy_steps.specs.Planned.{IsPlannedBy}
 use Rattle.policy_steps.specs.S3Fifo.{SMALL, MAIN, GHOST, s3_fifo_of, promotions, gives_main, main_turns, joins, s3_fifo_miss, plan_at, is_resident, s3_fifo_page}
 use Rattle.policy_steps.proofs.Counted.{counted-append, keys-counted, counted-with, both-counted, without-counted, has-both, its-count}

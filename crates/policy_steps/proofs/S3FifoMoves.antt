@@ -5,24 +5,21 @@ use Rattle.std.proofs.Common.{◌≡◌, ℕ, zero, suc, ◌+◌, ◌-◌, ◌*�
 use Rattle.std.proofs.lemmas.Bool.{cases_Bool, ne_eqb, ltb-false, le-ltb, or_parts}
 use Rattle.std.proofs.lemmas.Bool.Decides.{nat_tests}
 use Rattle.step_record.specs.Keys.{has_key, keys_without}
-use Rattle.step_record.specs.declared.outcome.Outcome.{Outcome}
-use Rattle.queue_table.specs.declared.records.Entry.{Entry}
 use Rattle.queue_table.specs.Entries.{entry, oldest_of}
 use Rattle.queue_table.specs.Queues.{Queues, with_queue}
 use Rattle.queue_policies.specs.CountedKeys.{CountedKey, AreCounted, total_count, oldest_count}
 use Rattle.queue_policies.specs.Turns.{after_turn, turn_count_within, after_turns}
-use Rattle.queue_policies.specs.S3Fifo.{S3FifoState, s3_fifo_residents, main_gives, after_promotion, is_settled, main_eviction, small_eviction, s3_fifo_departure, s3_fifo_eviction_within, most_moves, without_ghost_key, s3_fifo_main_size, IsS3Fifo}
+use Rattle.queue_policies.specs.S3Fifo.{Outcome, S3FifoState, s3_fifo_residents, main_gives, after_promotion, is_settled, main_eviction, small_eviction, s3_fifo_departure, s3_fifo_eviction_within, most_moves, without_ghost_key, s3_fifo_main_size, IsS3Fifo}
 use Rattle.queue_policies.proofs.CountedKeys.{length-keys, total-append}
 use Rattle.queue_policies.proofs.S3Fifo as page
 use Rattle.queue_policies.proofs.S3Fifo.{made, IsMoved, unmoved}
 use Rattle.queue_policies.proofs.Turns.{turned-length}
-use Rattle.queue_moves.specs.Moves.{count_or, turns_due, leaving, after_leaving, evicted, outcome_after, after_run, Plan}
+use Rattle.queue_moves.specs.Moves.{Entry, count_or, turns_due, leaving, after_leaving, evicted, outcome_after, after_run, Plan}
 use Rattle.queue_moves.specs.Moves as moves
-use Rattle.queue_moves.specs.declared.records.Run.{Run}
 use Rattle.queue_moves.specs.Tabled.{IsTabled, keys_of, lowered_entry}
 use Rattle.queue_moves.proofs.Tabled.{tabled-turn, turn-is}
 use Rattle.policy_steps.specs.Counted.{counted_keys}
-use Rattle.policy_steps.specs.Misses.{after_leavers, leavers_for_ghost}
+use Rattle.policy_steps.specs.Misses.{Run, after_leavers, leavers_for_ghost}
 use Rattle.policy_steps.specs.S3Fifo.{SMALL, MAIN, GHOST, s3_fifo_of, gives_main, main_turns, promotions, eviction_plan, s3_fifo_miss}
 use Rattle.policy_steps.proofs.Counted.{counted-append, length-counted, oldest-counted}
 use Rattle.policy_steps.proofs.Ghosts.{sent, kept, leavers-gone, ghost-keys}

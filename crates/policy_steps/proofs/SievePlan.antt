@@ -2,17 +2,14 @@
 use Rattle.std.proofs.Common.{◌≡◌, ℕ, zero, suc, ◌+◌, ◌≤◌, ◌⊎◌, true, false, if◌then◌else◌, nat_lt, Option, Some, None, List, [], ◌∷◌, ◌++◌, length, ap, ◌∙◌, sym, subst, refl, arith, inl, inr, length-append, Bool}
 use Rattle.std.proofs.lemmas.Bool.{ltb-false}
 use Rattle.step_record.specs.Keys.{has_key}
-use Rattle.step_record.specs.declared.item.Item.{Item}
-use Rattle.step_record.specs.declared.outcome.Outcome.{Outcome}
-use Rattle.queue_table.specs.declared.records.Entry.{Entry}
-use Rattle.queue_table.specs.Entries.{entry, oldest_of, occurrences}
+use Rattle.queue_table.specs.Entries.{Item, entry, oldest_of, occurrences}
 use Rattle.queue_table.specs.Queues.{Queues, with_queue, after_removal, after_send, times_below, after_count}
 use Rattle.queue_table.proofs.MoveBack.{without-none}
 use Rattle.queue_table.proofs.QueueLists.{IsAbsent, still-absent, queue-few, with-queue-same, with-queue-other}
 use Rattle.queue_policies.specs.Queues.{is_empty}
-use Rattle.queue_policies.specs.Sieve.{SieveState, sieve_residents, after_wrap, sieve_with_key, sieve_eviction, HasAhead, IsSieve, sieve_with_count}
+use Rattle.queue_policies.specs.Sieve.{Outcome, SieveState, sieve_residents, after_wrap, sieve_with_key, sieve_eviction, HasAhead, IsSieve, sieve_with_count}
 use Rattle.queue_policies.proofs.CountedKeys.{by-oldest, length-keys, counted-second}
-use Rattle.queue_moves.specs.Moves.{item_of, standing, evicted, departed, counts, goes}
+use Rattle.queue_moves.specs.Moves.{Entry, item_of, standing, evicted, departed, counts, goes}
 use Rattle.queue_policies.proofs.Sieve.{keeps}
 use Rattle.queue_moves.specs.Tabled.{IsTabled}
 use Rattle.queue_moves.proofs.Tabled.{oldest-gone, tabled-turns}

@@ -1,15 +1,13 @@
 -- The plan of a miss of a full cache by SIEVE, from what the calls that carry it out ensure.
 use Rattle.std.proofs.Common.{◌≡◌, ℕ, ◌<◌, ◌≤◌, true, false, nat_lt, None, List, [], ◌∷◌, length, drop, ap, ◌∙◌, sym, subst, refl, arith}
 use Rattle.std.proofs.lemmas.Bool.{le-ltb}
-use Rattle.queue_table.specs.declared.records.Entry.{Entry}
 use Rattle.queue_table.specs.Entries.{oldest_of}
 use Rattle.queue_table.proofs.QueueLists.{with-queue-same}
 use Rattle.queue_policies.specs.Queues.{is_empty}
-use Rattle.queue_moves.specs.Tabled.{IsTabled}
+use Rattle.queue_moves.specs.Tabled.{Entry, IsTabled}
 use Rattle.queue_table.specs.Queues.{Queues}
-use Rattle.queue_moves.specs.declared.records.Run.{Run}
 use Rattle.queue_moves.specs.Moves.{leaving, goes, Plan, after_run, turns_due, count_or, after_leaving}
-use Rattle.policy_steps.specs.Sieve.{queue_ahead, passed_queue, pass_run, sieve_eviction_plan}
+use Rattle.policy_steps.specs.Sieve.{Run, queue_ahead, passed_queue, pass_run, sieve_eviction_plan}
 use Rattle.policy_steps.specs.Planned.{leaver_plan}
 use Rattle.queue_policies.proofs.CountedKeys.{by-oldest}
 use Rattle.queue_moves.proofs.Runs.{turns-stop}

@@ -1,7 +1,6 @@
 -- What an access owes, from what its calls ensure.
 use Rattle.std.proofs.Common.{◌≡◌, ℕ, Bool, false, if◌then◌else◌, Option, None, ap, ◌∙◌, sym, subst, Some, true}
-use Rattle.step_record.specs.declared.item.Item.{Item}
-use Rattle.queue_table.specs.Queues.{Queues, queue_holding}
+use Rattle.queue_table.specs.Queues.{Item, Queues, queue_holding}
 use Rattle.queue_moves.specs.declared.records.Accessed.{Accessed}
 use Rattle.queue_moves.specs.Moves.{standing, standing_at, Own, Plan, own_plan}
 use Rattle.queue_moves.specs.Undoing.{IsAccessed}

@@ -2,14 +2,13 @@
 use Rattle.std.proofs.Common.{◌≡◌, ℕ, zero, suc, ◌-◌, ◌<◌, ◌≤◌, eqb, nat_lt, List, [], ◌∷◌, ◌++◌, ap, ◌∙◌, refl, arith}
 use Rattle.std.proofs.lemmas.Bool.{eq-eqb}
 use Rattle.std.proofs.lemmas.Bool.Decides.{nat_tests}
-use Rattle.queue_table.specs.declared.records.Entry.{Entry}
 use Rattle.queue_table.specs.Entries.{entry, oldest_of}
 use Rattle.queue_table.specs.Queues.{QUEUES, Queues, with_queue}
 use Rattle.queue_table.proofs.QueueLists.{with-queue-same, with-queue-other}
 use Rattle.queue_policies.specs.CountedKeys.{total_count, oldest_count}
 use Rattle.queue_policies.specs.Turns as page
 use Rattle.queue_policies.proofs.Turns.{turned-total, oldest-few}
-use Rattle.queue_moves.specs.Moves.{count_or, after_turn, after_turns, turns_due}
+use Rattle.queue_moves.specs.Moves.{Entry, count_or, after_turn, after_turns, turns_due}
 use Rattle.queue_moves.specs.Tabled.{IsTabled}
 use Rattle.policy_steps.specs.Counted.{counted_keys}
 use Rattle.policy_steps.proofs.Counted.{counted-append, oldest-counted}

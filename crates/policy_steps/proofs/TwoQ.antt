@@ -3,19 +3,17 @@ use Rattle.std.proofs.Common.{◌≡◌, ℕ, ◌+◌, ◌<◌, ◌≤◌, Bool,
 use Rattle.std.proofs.lemmas.Bool.{cases_Bool, cases_eq, eq-eqb, ne_eqb, ltb-false, eqb-false, or_parts}
 use Rattle.std.proofs.lemmas.Bool.Decides.{nat_tests}
 use Rattle.step_record.specs.Keys.{has_key, keys_without}
-use Rattle.queue_table.specs.declared.records.Entry.{Entry}
 use Rattle.queue_table.specs.Entries.{entry, oldest_of}
 use Rattle.queue_table.specs.Queues.{with_queue, QUEUES, Queues, after_send}
 use Rattle.ghost_policies.specs.TwoQ.{TwoQLeaver, NoLeaver, FromA1in, FromAm, TwoQState, two_q_residents, leaver_of_a1in, leaver_of_am, two_q_after_recall, two_q_after_eviction, two_q_after_join, two_q_outcome, two_q_act, IsTwoQ}
-use Rattle.ghost_policies.specs.declared.two_q.TwoQSizes.{TwoQSizes}
 use Rattle.queue_policies.proofs.Ghost.{without-none}
 use Rattle.ghost_policies.proofs.Weights.{has-append}
-use Rattle.queue_moves.specs.Moves.{item_of, standing, leaving, evicted, outcome_after, stays, goes, own_plan}
+use Rattle.queue_moves.specs.Moves.{Entry, item_of, standing, leaving, evicted, outcome_after, stays, goes, own_plan}
 use Rattle.queue_moves.specs.Tabled.{HasKeys, IsTabled, keys_of, StandsAs}
 use Rattle.queue_moves.proofs.Tabled.{stands, stands-nowhere}
 use Rattle.policy_steps.specs.Planned.{IsPlannedBy}
 use Rattle.policy_steps.specs.Misses.{Leavers, no_leavers, one_leaver, leavers_for_ghost, after_leavers, miss_plan}
-use Rattle.policy_steps.specs.TwoQ.{A1IN, A1OUT, AM, two_q_of, gives_a1in, joins, two_q_miss, plan_at, two_q_leavers, two_q_page}
+use Rattle.policy_steps.specs.TwoQ.{TwoQSizes, A1IN, A1OUT, AM, two_q_of, gives_a1in, joins, two_q_miss, plan_at, two_q_leavers, two_q_page}
 use Rattle.policy_steps.proofs.Ghosts.{leavers-low, sent, kept, leavers-gone, ghost-keys}
 use Rattle.policy_steps.proofs.Leaving.{oldest-out}
 use Rattle.policy_steps.proofs.Moving.{length-keys, keys-sent, without-rest, first-of, apart-first, own-low, AreLow, miss-low, tabled-leavers}

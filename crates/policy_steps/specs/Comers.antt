@@ -1,9 +1,8 @@
 -- What is known of the key of a miss.
 use Rattle.std.specs.Prelude.{◌≡◌, ℕ, ◌≤◌, Bool, false, Option, Some, None, List}
-use Rattle.step_record.specs.declared.item.Item.{Item}
-use Rattle.queue_table.specs.declared.records.Found.{Found}
-use Rattle.queue_table.specs.declared.slot.Slot.{Slot}
-use Rattle.queue_table.specs.Entries.{entry, occurrences}
+pub use Rattle.queue_table.specs.declared.records.Found.{Found}
+pub use Rattle.queue_table.specs.declared.slot.Slot.{Slot}
+use Rattle.queue_table.specs.Entries.{Item, entry, occurrences}
 use Rattle.queue_table.specs.Queues.{queue_holding}
 use Rattle.queue_table.specs.QueueTable.{queues, spare, HoldsAt}
 

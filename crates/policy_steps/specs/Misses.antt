@@ -1,9 +1,8 @@
 -- The plan of a miss: what leaves, and what becomes of the accessed key.
 use Rattle.std.specs.Prelude.{ℕ, ◌+◌, ◌≤◌, nat_lt, ◌||◌, Bool, false, if◌then◌else◌, Option, Some, None, length}
-use Rattle.step_record.specs.declared.item.Item.{Item}
-use Rattle.queue_table.specs.Queues.{Queues}
+use Rattle.queue_table.specs.Queues.{Item, Queues}
 use Rattle.queue_moves.specs.declared.records.KeyMove.{KeyMove}
-use Rattle.queue_moves.specs.declared.records.Run.{Run}
+pub use Rattle.queue_moves.specs.declared.records.Run.{Run}
 use Rattle.queue_moves.specs.Moves.{no_run, Leaving, leaving, after_leaving, Own, Plan}
 use Rattle.queue_moves.specs.Undoing.{outs, IsLeft, IsOwn}
 use Rattle.policy_steps.specs.declared.misses.LeftKeys.{LeftKeys}

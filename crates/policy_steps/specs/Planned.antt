@@ -1,9 +1,8 @@
 -- Plans of policies that keep each missed key, and what it is that a plan is the access of a policy's definition.
 use Rattle.std.specs.Prelude.{◌≡◌, ℕ, ◌≤◌, Bool, [], true, false, if◌then◌else◌, Option, Some, None}
-use Rattle.step_record.specs.declared.outcome.Outcome.{Outcome}
 use Rattle.queue_table.specs.Queues.{Queues}
-use Rattle.queue_moves.specs.declared.records.Run.{Run}
-use Rattle.queue_moves.specs.Moves.{item_of, Leaving, Own, Plan, own_plan, after_all, outcome_of, IsLowPlan}
+pub use Rattle.queue_moves.specs.declared.records.Run.{Run}
+use Rattle.queue_moves.specs.Moves.{Outcome, item_of, Leaving, Own, Plan, own_plan, after_all, outcome_of, IsLowPlan}
 
 -- the queues from n on are empty
 abbrev pub IsWithin : ℕ → Queues → Type 0

@@ -8,7 +8,7 @@ use Rattle.std.specs.Prelude.{Option, Some, None, length}
 use Rattle.queue_table.specs.Queues.{Queues}
 use Rattle.queue_policies.specs.S3Fifo.{S3FifoState, s3_fifo_main_size, hit_count}
 use Rattle.queue_policies.specs.S3Fifo.{empty_s3_fifo, s3_fifo_residents, s3_fifo_act, IsS3Fifo}
-use Rattle.queue_moves.specs.declared.records.Run.{Run}
+pub use Rattle.queue_moves.specs.declared.records.Run.{Run}
 use Rattle.queue_moves.specs.Moves.{item_of, standing, run, no_run, turns_due, after_run, leaving, counts, goes}
 use Rattle.queue_moves.specs.Moves.{Plan, own_plan}
 use Rattle.queue_moves.specs.Tabled.{keys_of}

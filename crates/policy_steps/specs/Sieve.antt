@@ -6,7 +6,7 @@ use Rattle.std.specs.Prelude.{ℕ, ◌+◌, ◌-◌, ◌≤◌, nat_lt, if◌the
 use Rattle.queue_table.specs.Queues.{Queues}
 use Rattle.queue_policies.specs.Queues.{is_empty}
 use Rattle.queue_policies.specs.Sieve.{SieveState, empty_sieve, sieve_residents, sieve_act, IsSieve}
-use Rattle.queue_moves.specs.declared.records.Run.{Run}
+pub use Rattle.queue_moves.specs.declared.records.Run.{Run}
 use Rattle.queue_moves.specs.Moves.{item_of, standing, run, turns_due, after_run, leaving, after_leaving, counts, goes}
 use Rattle.queue_moves.specs.Moves.{Plan}
 use Rattle.policy_steps.specs.Counted.{counted_keys}

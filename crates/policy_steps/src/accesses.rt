@@ -1,11 +1,9 @@
 //! Accesses of a policy that keeps each missed key, from the parts of their plans that were carried out.
 ghost use Rattle.std.specs.Prelude.{◌≡◌, ◌≤◌, ℕ, Option, true, false};
-ghost use Rattle.step_record.specs.declared.item.Item.{Item};
-ghost use Rattle.queue_table.specs.Queues.{Queues};
-ghost use Rattle.queue_moves.specs.declared.records.Run.{Run};
+ghost use Rattle.queue_table.specs.Queues.{Item, Queues};
 ghost use Rattle.queue_moves.specs.Moves.{Leaving, Own, own_plan};
 ghost use Rattle.queue_moves.specs.Undoing.{IsRun, IsLeft, IsOwn, IsAccessed, outs};
-ghost use Rattle.policy_steps.specs.Planned.{leaver_plan};
+ghost use Rattle.policy_steps.specs.Planned.{Run, leaver_plan};
 
 use crate::misses::{LeftKeys, missed_after};
 use queue_moves::{Accessed, KeyMove, Left, Moves, Run};

@@ -2,11 +2,10 @@
 ghost use Rattle.std.specs.Prelude.{◌≡◌, ◌<◌, ◌≤◌, ◌+◌, ◌-◌, ◌*◌, ◌/◌, ℕ, min, max, nat_lt, ◌==◌, ◌||◌, ◌&&◌, false};
 ghost use Rattle.std.specs.Prelude.{length, None, IfOk, OnErr};
 ghost use Rattle.step_record.specs.declared.limits.TheConstants.{MAX_CAPACITY};
-ghost use Rattle.queue_table.specs.declared.records.Entry.{Entry};
 ghost use Rattle.queue_table.specs.Entries.{entry, occurrences};
 ghost use Rattle.queue_table.specs.Queues.{queue_holding};
 ghost use Rattle.queue_table.specs.QueueTable.{queues, spare, HoldsAt};
-ghost use Rattle.queue_moves.specs.Moves.{item_of, goes};
+ghost use Rattle.queue_moves.specs.Moves.{Entry, item_of, goes};
 ghost use Rattle.queue_moves.specs.Undoing.{IsLeft, IsAccessed, outs};
 ghost use Rattle.ghost_policies.specs.Arc.{IsArc};
 ghost use Rattle.policy_steps.specs.Misses.{miss_plan};

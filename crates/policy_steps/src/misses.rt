@@ -1,11 +1,9 @@
 //! A miss, from what made room for its key and what became of the key.
 ghost use Rattle.std.specs.Prelude.{◌≡◌, ◌≤◌, ℕ, Option};
-ghost use Rattle.step_record.specs.declared.item.Item.{Item};
-ghost use Rattle.queue_table.specs.Queues.{Queues};
-ghost use Rattle.queue_moves.specs.declared.records.Run.{Run};
+ghost use Rattle.queue_table.specs.Queues.{Item, Queues};
 ghost use Rattle.queue_moves.specs.Moves.{Leaving, Own};
 ghost use Rattle.queue_moves.specs.Undoing.{IsRun, IsLeft, IsOwn, IsAccessed, outs};
-ghost use Rattle.policy_steps.specs.Misses.{Leavers, one_leaver, run_plan, miss_plan, AreLeft};
+ghost use Rattle.policy_steps.specs.Misses.{Run, Leavers, one_leaver, run_plan, miss_plan, AreLeft};
 
 use queue_moves::{Accessed, KeyMove, Left, Moves, Run};
 

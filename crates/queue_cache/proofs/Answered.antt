@@ -1,8 +1,6 @@
 -- The outcomes of a list of accesses, by place.
 use Rattle.std.proofs.Common.{◌≡◌, ℕ, suc, List, [], ◌∷◌, ◌++◌, length, get_or, ap, ◌∙◌, refl, append-nil, append_assoc}
-use Rattle.step_record.specs.declared.job.Job.{Job}
-use Rattle.step_record.specs.declared.outcome.Outcome.{Outcome}
-use Rattle.queue_cache.specs.QueueCache.{QueueState, access_response, queue_state_after, frequency_after, state_from, empty_queue_state, state_after, outcomes_from, outcomes_after, outcome_after}
+use Rattle.queue_cache.specs.QueueCache.{Outcome, Job, QueueState, access_response, queue_state_after, frequency_after, state_from, empty_queue_state, state_after, outcomes_from, outcomes_after, outcome_after}
 
 from-answers : (j : Job) (past : List ℕ) (d : QueueState) (keys rest : List ℕ) (k : ℕ) (x : Outcome)
     → get_or (outcomes_from j past d (keys ++ k ∷ rest)) (length keys) x

@@ -1,8 +1,5 @@
 -- What holds of every cache of queues that made some accesses.
 use Rattle.std.proofs.Common.{◌≡◌, ◌⊎◌, ℕ, ◌+◌, ◌≤◌, true, Option, List, [], ◌∷◌, ◌++◌, length, ap, ◌∙◌, refl, arith}
-use Rattle.step_record.specs.declared.config.Config.{Config}
-use Rattle.step_record.specs.declared.job.Job.{Job}
-use Rattle.step_record.specs.declared.job.Policy.{Policy}
 use Rattle.step_record.specs.declared.job.Policy.TheVariants.{Lru, WindowTinyLfu}
 use Rattle.step_record.specs.Keys.{has_key}
 use Rattle.segments.specs.Items.{nodeless_item}
@@ -11,7 +8,7 @@ use Rattle.admission.specs.Frequency.{FrequencyData}
 use Rattle.replacement.specs.Admission.{admits_in}
 use Rattle.replacement.proofs.Balance.{FitsBy, fits-total, IsBalanced, balanced}
 use Rattle.replacement.proofs.Residents.{AreNodeless, residents-length, still-nodeless, queued-from}
-use Rattle.queue_cache.specs.Design.{design_of, rules_in, rules_of}
+use Rattle.queue_cache.specs.Design.{Policy, Job, Config, design_of, rules_in, rules_of}
 use Rattle.queue_cache.specs.QueueCache.{QueueState, access_response, queue_state_after, frequency_after, state_from, empty_queue_state, state_after}
 use Rattle.queue_cache.proofs.Reached.{after-job}
 

@@ -1,12 +1,10 @@
 -- The statistics are the counts of the outcomes.
 use Rattle.std.proofs.Common.{◌≡◌, ℕ, ◌+◌, Bool, List, [], ◌∷◌, ◌++◌, length, count_by, ap, ◌∙◌, sym, refl, arith, append-nil, append_assoc}
 use Rattle.std.proofs.lemmas.List.Sums.{sum_by-cons}
-use Rattle.step_record.specs.declared.job.Job.{Job}
-use Rattle.step_record.specs.declared.outcome.Outcome.{Outcome}
 use Rattle.step_record.specs.declared.outcome.Outcome.TheVariants.{Hit, Kept, Evicted, Rejected}
 use Rattle.step_record.specs.Stats.{is_hit, is_miss, one_if, stats_of, stats_with}
 use Rattle.step_record.proofs.Counting.{stats-snoc}
-use Rattle.queue_cache.specs.QueueCache.{QueueState, access_response, queue_state_after, frequency_after, state_from, empty_queue_state, state_after, outcomes_from, outcomes_after}
+use Rattle.queue_cache.specs.QueueCache.{Outcome, Job, QueueState, access_response, queue_state_after, frequency_after, state_from, empty_queue_state, state_after, outcomes_from, outcomes_after}
 
 from-counts : (j : Job) (past : List ℕ) (d : QueueState) (os : List Outcome) (keys : List ℕ) → d.stats ≡ stats_of os
     → (state_from j past d keys).stats ≡ stats_of (os ++ outcomes_from j past d keys)

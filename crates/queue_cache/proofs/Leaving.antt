@@ -1,6 +1,5 @@
 -- Which item the record of an access moves out.
 use Rattle.std.proofs.Common.{◌≡◌, ℕ, true, List, Some, None, option_map, sym, refl, subst}
-use Rattle.step_record.specs.declared.job.Job.{Job}
 use Rattle.step_record.specs.declared.outcome.Outcome.TheVariants.{Hit}
 use Rattle.step_record.specs.Stats.{is_eviction}
 use Rattle.step_record.proofs.Limited.{accepted}
@@ -8,7 +7,7 @@ use Rattle.segments.specs.Items.{nodeless_item}
 use Rattle.segments.specs.Queues.{queue_holding, IsDistinct}
 use Rattle.replacement.specs.Admission.{admits_in}
 use Rattle.replacement.proofs.Leaving.{hit-keeps, leaver-shown, asks-evicts}
-use Rattle.queue_cache.specs.Design.{rules_of}
+use Rattle.queue_cache.specs.Design.{Job, rules_of}
 use Rattle.queue_cache.specs.QueueCache.{QueueState, StandsFor, access_response}
 use Rattle.queue_cache.proofs.Balance.{after-balanced}
 use Rattle.queue_cache.specs.QueueStep.{IsReached, recorded_in, queue_access, queue_count, queue_act, queue_asks, queue_record_of}

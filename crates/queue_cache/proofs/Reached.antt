@@ -3,31 +3,25 @@ use Rattle.std.proofs.Common.{◌≡◌, ◌≢◌, ℕ, ◌+◌, ◌≤◌, Boo
 use Rattle.std.proofs.lemmas.List.{append_assoc}
 use Rattle.std.proofs.lemmas.List.Sums.{count_by-le-length}
 use Rattle.std.proofs.lemmas.Bool.Decides.{nat_tests}
-use Rattle.step_record.specs.declared.config.Config.{Config}
-use Rattle.step_record.specs.declared.job.Job.{Job}
 use Rattle.step_record.specs.declared.limits.TheConstants.{MAX_STEPS}
-use Rattle.step_record.specs.declared.outcome.Outcome.{Outcome}
-use Rattle.step_record.specs.declared.stats.Stats.{Stats}
 use Rattle.step_record.specs.Config.{config_fault}
 use Rattle.step_record.specs.Pace.{words_of_halvings}
 use Rattle.step_record.specs.Stats.{stats_of, stats_with, is_hit, is_miss, is_eviction, is_rejection, IsSmall}
 use Rattle.segments.specs.Queues.{Queues, empty_queues}
 use Rattle.step_record.proofs.Limited.{accepted}
-use Rattle.admission.specs.declared.freq_record.FreqRecord.{FreqRecord}
 use Rattle.admission.specs.Shape.{Shape}
 use Rattle.admission.specs.Frequency.{FrequencyData, frequency_of}
 use Rattle.admission.proofs.Recording.{recorded_freq}
 use Rattle.admission.proofs.Weighing.{halvings_bounded, weight_falls}
-use Rattle.replacement.specs.declared.rules.Rules.{Rules}
 use Rattle.replacement.specs.declared.record.Effect.{Effect}
 use Rattle.replacement.specs.Admission.{admits_in}
-use Rattle.replacement.specs.Shape.{shape_of}
-use Rattle.replacement.specs.Table.{Response, access}
+use Rattle.replacement.specs.Shape.{Config, shape_of}
+use Rattle.replacement.specs.Table.{Outcome, Response, access}
 use Rattle.replacement.proofs.Shape.{shape-is}
 use Rattle.segments.specs.Items.{nodeless_item}
-use Rattle.queue_cache.specs.Design.{is_counting, rules_of}
-use Rattle.queue_cache.specs.QueueCache.{QueueState, access_response, queue_state_after, frequency_by, frequency_after, state_from, empty_queue_state, state_after, outcomes_after, outcome_after, StandsFor}
-use Rattle.queue_cache.specs.QueueStep.{IsReached, recorded_in, queue_access, queue_count, queue_act, FitsCounting, unrecorded, pace_by}
+use Rattle.queue_cache.specs.Design.{Rules, Job, is_counting, rules_of}
+use Rattle.queue_cache.specs.QueueCache.{Stats, QueueState, access_response, queue_state_after, frequency_by, frequency_after, state_from, empty_queue_state, state_after, outcomes_after, outcome_after, StandsFor}
+use Rattle.queue_cache.specs.QueueStep.{FreqRecord, IsReached, recorded_in, queue_access, queue_count, queue_act, FitsCounting, unrecorded, pace_by}
 use Rattle.admission.specs.FreqRecord.{size_of}
 use Rattle.queue_cache.specs.QueueFields.{FewHalvings}
 use Rattle.queue_cache.proofs.Answered.{after-length}

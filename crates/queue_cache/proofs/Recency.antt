@@ -3,9 +3,8 @@ use Rattle.std.proofs.Common.{◌≡◌, ℕ, suc, zero, ◌+◌, ◌-◌, ◌<�
 use Rattle.std.proofs.lemmas.Bool.Decides.{nat_tests}
 use Rattle.std.proofs.lemmas.List.{drop-append-le}
 use Rattle.step_record.specs.Keys.{has_key, keys_without}
-use Rattle.step_record.specs.declared.outcome.Outcome.{Outcome}
 use Rattle.step_record.specs.declared.outcome.Outcome.TheVariants.{Hit, Kept, Evicted}
-use Rattle.queue_cache.specs.Lru.{distinct_keys, keys_since, lru_residents, is_lru_hit, lru_outcome, first_or}
+use Rattle.queue_cache.specs.Lru.{Outcome, distinct_keys, keys_since, lru_residents, is_lru_hit, lru_outcome, first_or}
 
 -- the residents after an access, from those before it
 abbrev pub moved : ℕ → List ℕ → ℕ → List ℕ
@@ -22,11 +21,6 @@ IsDistinct (a ∷ xs) = (has_key a xs ≡ false) × IsDistinct xs
 pub two : (b : Bool) → (b ≡ true) ⊎ (b ≡ false)
 two true = inl refl
 two false = inr refl
-
-dec : (a b : ℕ) → (a ≤ b) ⊎ (b < a)
-dec zero b = inl (omega arith)
-dec (suc a) zero = inr (omega arith)
-dec (suc a) (suc b) = elim (dec a b) [ inl h ↦ inl (omega arith) | inr h ↦ inr (omega arith) ]
 
 abbrev pub last : ℕ → List ℕ → List ℕ
 last c l = drop (length l - c) l

@@ -1,22 +1,16 @@
 -- The record of an access, as the fields give it.
 use Rattle.std.proofs.Common.{◌≡◌, ℕ, Option, ap, ◌∙◌}
-use Rattle.step_record.specs.declared.job.Job.{Job}
-use Rattle.step_record.specs.declared.outcome.Outcome.{Outcome}
 use Rattle.step_record.specs.declared.stats.Stats.{Stats}
 use Rattle.segments.specs.Queues.{Queues}
-use Rattle.admission.specs.declared.freq_record.FreqRecord.{FreqRecord}
 use Rattle.admission.specs.Frequency.{FrequencyData}
-use Rattle.replacement.specs.declared.rules.Rules.{Rules}
-use Rattle.replacement.specs.declared.record.Moves.{Moves}
 use Rattle.replacement.specs.declared.record.Effect.{Effect}
 use Rattle.replacement.specs.Admission.{admits_in}
-use Rattle.replacement.specs.Table.{Response, access}
+use Rattle.replacement.specs.Table.{Outcome, Response, access}
 use Rattle.replacement.specs.Plan.{plan}
 use Rattle.replacement.specs.PlanMoves.{moves_of}
 use Rattle.segments.specs.Items.{nodeless_item}
-use Rattle.queue_cache.specs.declared.record.AccessRecord.{AccessRecord}
-use Rattle.queue_cache.specs.Design.{rules_of}
-use Rattle.queue_cache.specs.QueueStep.{recorded_in, counting_record, queue_record_of}
+use Rattle.queue_cache.specs.Design.{Rules, Job, rules_of}
+use Rattle.queue_cache.specs.QueueStep.{AccessRecord, Moves, FreqRecord, recorded_in, counting_record, queue_record_of}
 
 abbrev pub record_with : FreqRecord → Moves → Outcome → AccessRecord
 record_with c m o = record { counting = c; moves = m; outcome = o }

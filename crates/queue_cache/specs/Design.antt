@@ -1,16 +1,16 @@
 -- What each policy is: the one table of policies. The design of a policy of queues stands in the module of its name,
 -- with the source.
 use Rattle.std.specs.Prelude.{Bool, true, false}
-use Rattle.step_record.specs.declared.config.Config.{Config}
-use Rattle.step_record.specs.declared.job.Job.{Job}
-use Rattle.step_record.specs.declared.job.Policy.{Policy}
+pub use Rattle.step_record.specs.declared.config.Config.{Config}
+pub use Rattle.step_record.specs.declared.job.Job.{Job}
+pub use Rattle.step_record.specs.declared.job.Policy.{Policy}
 use Rattle.step_record.specs.declared.job.Policy.TheVariants.{Lru, SegmentedLru, TinyLfuLru, TinyLfuSegmented}
 use Rattle.step_record.specs.declared.job.Policy.TheVariants.{WindowTinyLfu, Clairvoyant, Fifo, Clock, Sieve, S3Fifo}
 use Rattle.step_record.specs.declared.job.Policy.TheVariants.{TwoQ, Arc, Caffeine}
 use Rattle.segments.specs.declared.records.Queue.TheVariants.{Window, Probation}
-use Rattle.replacement.specs.declared.rules.Placement.{Placement}
+pub use Rattle.replacement.specs.declared.rules.Placement.{Placement}
 use Rattle.replacement.specs.declared.rules.Placement.TheVariants.{Direct, Windowed}
-use Rattle.replacement.specs.declared.rules.Rules.{Rules}
+pub use Rattle.replacement.specs.declared.rules.Rules.{Rules}
 use Rattle.replacement.specs.Rules.{one_queue, two_queues, three_queues}
 use Rattle.queue_cache.specs.declared.design.DemandDesign.TheVariants as demand
 use Rattle.queue_cache.specs.declared.design.Design.{Design}

@@ -2,9 +2,9 @@
 -- access. (The textbook definition of Lru.)
 use Rattle.std.specs.Prelude.{ℕ, ◌-◌, nat_lt, Bool, false, ◌&&◌, if◌then◌else◌, List, [], ◌∷◌, length, drop}
 use Rattle.step_record.specs.Keys.{has_key}
-use Rattle.step_record.specs.declared.outcome.Outcome.{Outcome}
+pub use Rattle.step_record.specs.declared.outcome.Outcome.{Outcome}
 use Rattle.step_record.specs.declared.outcome.Outcome.TheVariants.{Hit, Kept, Evicted}
-use Rattle.queue_cache.specs.declared.design.QueueDesign.{QueueDesign}
+pub use Rattle.queue_cache.specs.declared.design.QueueDesign.{QueueDesign}
 use Rattle.queue_cache.specs.declared.design.Layout.TheVariants.{OneQueue}
 
 -- ---- over the accesses

@@ -1,12 +1,10 @@
 -- What ties the fields of a cache of queues to what it shows.
 use Rattle.std.specs.Prelude.{◌≡◌, ◌+◌, ◌≤◌, Option, Some, None}
-use Rattle.step_record.specs.declared.job.Job.{Job}
 use Rattle.step_record.specs.declared.limits.TheConstants.{MAX_STEPS}
 use Rattle.step_record.specs.declared.stats.Stats.{Stats}
 use Rattle.segments.specs.Queues.{Queues}
 use Rattle.admission.specs.Frequency.{FrequencyData}
-use Rattle.replacement.specs.declared.rules.Rules.{Rules}
-use Rattle.queue_cache.specs.Design.{rules_of}
+use Rattle.queue_cache.specs.Design.{Rules, Job, rules_of}
 use Rattle.queue_cache.specs.QueueStep.{IsReached}
 
 -- the rules are the job's, and some list of accesses gives what is shown

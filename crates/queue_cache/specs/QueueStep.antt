@@ -1,23 +1,21 @@
 -- How one access changes what a cache of queues shows, its undo record, and how the record undoes it.
 use Rattle.std.specs.Prelude.{◌≡◌, ◌≢◌, ◌⊎◌, ℕ, ◌≤◌, true, Option, Some, None, List, length}
 use Rattle.step_record.specs.declared.limits.TheConstants.{MAX_STEPS}
-use Rattle.step_record.specs.declared.outcome.Outcome.{Outcome}
 use Rattle.step_record.specs.Stats.{stats_without, IsCounted}
 use Rattle.step_record.specs.Pace.{Pace, pace_without_sketch}
 use Rattle.step_record.specs.Limited.{limited}
-use Rattle.admission.specs.declared.freq_record.FreqRecord.{FreqRecord}
+pub use Rattle.admission.specs.declared.freq_record.FreqRecord.{FreqRecord}
 use Rattle.admission.specs.Frequency.{FrequencyData, frequency_with, halves, pace_of as frequency_pace}
 use Rattle.admission.specs.declared.freq_record.FreqRecord.TheVariants.{Nothing}
 use Rattle.admission.specs.FreqRecord.{frequency_record as freq_record_of, frequency_before as freq_undone, FitsRecord}
 use Rattle.admission.specs.FreqRecord.{size_of}
-use Rattle.replacement.specs.declared.record.Moves.{Moves}
+pub use Rattle.replacement.specs.declared.record.Moves.{Moves}
 use Rattle.replacement.specs.Admission.{admits_in}
-use Rattle.replacement.specs.Plan.{plan}
+use Rattle.replacement.specs.Plan.{Item, Outcome, plan}
 use Rattle.replacement.specs.PlanMoves.{moves_of, undone_moves, FitsMoves}
-use Rattle.step_record.specs.declared.item.Item.{Item}
 use Rattle.segments.specs.Items.{nodeless_item}
 use Rattle.segments.specs.Queues.{Queues, queue_holding}
-use Rattle.queue_cache.specs.declared.record.AccessRecord.{AccessRecord}
+pub use Rattle.queue_cache.specs.declared.record.AccessRecord.{AccessRecord}
 use Rattle.queue_cache.specs.Design.{rules_of}
 use Rattle.queue_cache.specs.QueueCache.{QueueState, access_response, queue_state_after, StandsFor}
 

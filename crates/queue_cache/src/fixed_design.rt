@@ -1,6 +1,5 @@
 //! The designs of the policies of queues as types.
-ghost use Rattle.queue_cache.specs.declared.design.QueueDesign.{QueueDesign};
-ghost use Rattle.queue_cache.specs.Lru.{lru};
+ghost use Rattle.queue_cache.specs.Lru.{QueueDesign, lru};
 ghost use Rattle.queue_cache.specs.SegmentedLru.{segmented_lru};
 ghost use Rattle.queue_cache.specs.TinyLfu.{tiny_lfu};
 ghost use Rattle.queue_cache.specs.WindowTinyLfu.{window_tiny_lfu};

@@ -1,13 +1,9 @@
 -- The parts of an access together.
 use Rattle.std.proofs.Common.{◌≡◌, ℕ, ◌≤◌, ap, ◌∙◌, sym, subst, refl, arith}
-use Rattle.step_record.specs.declared.item.Item.{Item}
-use Rattle.queue_table.specs.Queues.{Queues}
-use Rattle.queue_moves.specs.declared.records.KeyMove.{KeyMove}
-use Rattle.queue_moves.specs.declared.records.Left.{Left}
+use Rattle.queue_table.specs.Queues.{Item, Queues}
 use Rattle.queue_moves.specs.declared.records.Run.{Run}
-use Rattle.queue_moves.specs.declared.records.Moves.{Moves}
 use Rattle.queue_moves.specs.Moves.{Plan, after_run, after_runs, after_leaving, after_first, after_second, after_own}
-use Rattle.queue_moves.specs.Undoing.{before_run, before_leaving, before_own, left_of, move_of, FitsRun, FitsLeft, IsRun, IsLeft, IsOwn, IsCarried, coming_back}
+use Rattle.queue_moves.specs.Undoing.{Moves, Left, KeyMove, before_run, before_leaving, before_own, left_of, move_of, FitsRun, FitsLeft, IsRun, IsLeft, IsOwn, IsCarried, coming_back}
 
 pub no-run : (s : Queues) → IsRun (let r : Run = record { times = 0; from = 0; to = 0; less = 0 } in r) s s
 no-run s = record { after = refl; fits = record { from = omega arith; to = omega arith; counts = tt }; undone = refl }

@@ -5,7 +5,6 @@ use Rattle.std.proofs.Math.Path.{fun_ext}
 use Rattle.std.proofs.lemmas.Bool.Decides.{nat_tests}
 use Rattle.queue_table.specs.Ring.{lists}
 use Rattle.queue_table.specs.Entries.{Item, is_same_item, entry, occurrences, entries_without, entries_counted, last_from, last_item, oldest_of, newest_of, newest_from, before, put_behind, IsGap}
-use Rattle.queue_table.specs.declared.records.Place.{Place}
 use Rattle.queue_table.specs.Queues.{QUEUES, Queues, queue_holding, place_at, place_in, IsDistinct, after_push, after_removal, after_send, after_count, after_return}
 use Rattle.queue_table.proofs.EntryLists.{same-refl, times-append, times-without}
 use Rattle.queue_table.proofs.QueueLists.{absent, is_absent, still-absent}
@@ -14,7 +13,7 @@ use Rattle.queue_moves.specs.declared.records.KeyMove.{KeyMove}
 use Rattle.queue_moves.specs.declared.records.Change.TheVariants as change
 use Rattle.queue_moves.specs.declared.records.Departure.TheVariants as departure
 use Rattle.queue_moves.specs.Moves.{item_of, count_of, leaving, counts, goes, departed, Entry}
-use Rattle.queue_moves.specs.Undoing.{left_by, nothing_left, key_in, item_in, count_at, move_from, IsLeft, IsOwn}
+use Rattle.queue_moves.specs.Undoing.{Place, left_by, nothing_left, key_in, item_in, count_at, move_from, IsLeft, IsOwn}
 use Rattle.queue_moves.specs.Tabled.{nodes_of, HasKeys, IsTabled, Slot}
 use Rattle.queue_moves.proofs.Tabled.{nodes-append, nodes-without, counted-none, oldest-node, counted-own, few, nowhere, absent-gone, tabled-removal}
 use Rattle.queue_moves.proofs.Standing.{Stands, cut, holding, own-count, elsewhere, oldest_stands}

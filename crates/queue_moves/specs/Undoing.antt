@@ -1,19 +1,18 @@
 -- The undo record of an access, from its plan and the queues before it, and how it undoes the access.
 use Rattle.std.specs.Prelude.{◌≡◌, ◌≢◌, ℕ, zero, suc, ◌+◌, ◌<◌, ◌≤◌, Option, Some, None}
-use Rattle.queue_table.specs.declared.records.Place.{Place}
+pub use Rattle.queue_table.specs.declared.records.Place.{Place}
 pub use Rattle.queue_table.specs.declared.records.Entry.{Entry}
 use Rattle.queue_table.specs.Entries.{Item, entry, oldest_of, newest_of, IsGap}
 use Rattle.queue_table.specs.Queues.{QUEUES, Queues, queue_holding, place_in, after_removal, after_count, after_return}
-use Rattle.queue_moves.specs.declared.records.Run.{Run}
-use Rattle.queue_moves.specs.declared.records.Left.{Left}
+pub use Rattle.queue_moves.specs.declared.records.Left.{Left}
 use Rattle.queue_moves.specs.declared.records.Departure.{Departure}
 use Rattle.queue_moves.specs.declared.records.Departure.TheVariants.{Stayed, Sent, Out}
-use Rattle.queue_moves.specs.declared.records.KeyMove.{KeyMove}
+pub use Rattle.queue_moves.specs.declared.records.KeyMove.{KeyMove}
 use Rattle.queue_moves.specs.declared.records.Change.{Change}
 use Rattle.queue_moves.specs.declared.records.Change.TheVariants.{Unmoved, Counted, Joined, Moved}
-use Rattle.queue_moves.specs.declared.records.Moves.{Moves}
+pub use Rattle.queue_moves.specs.declared.records.Moves.{Moves}
 use Rattle.queue_moves.specs.declared.records.Accessed.{Accessed}
-use Rattle.queue_moves.specs.Moves.{item_of, count_of, Leaving, Own, stays, counts, goes, Plan, after_turn, after_run, after_runs}
+use Rattle.queue_moves.specs.Moves.{Run, item_of, count_of, Leaving, Own, stays, counts, goes, Plan, after_turn, after_run, after_runs}
 use Rattle.queue_moves.specs.Moves.{after_leaving, after_first, after_second, after_own, after_all, outcome_of}
 
 -- ---- the record

@@ -1,10 +1,9 @@
 //! Queues of keys by number, and the calls that carry out one part of a plan.
 ghost use Rattle.std.specs.Prelude.{◌≡◌, ◌≢◌, ◌<◌, ◌≤◌, ◌+◌, ◌++◌, ℕ, nat_lt, true, false, map, [], length, Ok, Option, Some, None, OnOk, OnErr, IfOk, IfSome, IfNone};
-ghost use Rattle.queue_table.specs.declared.records.Entry.{Entry};
 ghost use Rattle.queue_table.specs.Entries.{entry, occurrences, oldest_of};
 ghost use Rattle.queue_table.specs.Queues.{QUEUES, empty_queues, queue_holding};
 ghost use Rattle.queue_table.specs.QueueTable.{queues, spare, HoldsAt};
-ghost use Rattle.queue_moves.specs.Moves.{after_leaving, item_of, run, standing, turns_due, count_or, leaving, counts, goes};
+ghost use Rattle.queue_moves.specs.Moves.{Entry, after_leaving, item_of, run, standing, turns_due, count_or, leaving, counts, goes};
 ghost use Rattle.queue_moves.specs.Undoing.{IsTurn, IsRun, IsLeft, IsOwn, outs, key_in};
 ghost use Rattle.queue_moves.specs.Tabled.{IsTabled, keys_of};
 
@@ -29,9 +28,8 @@ pub struct KeyQueues {
 
 impl Model for KeyQueues {
     ghost use Rattle.std.specs.Prelude.{List};
-    ghost use Rattle.queue_table.specs.declared.slot.Slot.{Slot};
     ghost use Rattle.queue_table.specs.QueueTable.{queues};
-    ghost use Rattle.queue_moves.specs.Tabled.{HasKeys};
+    ghost use Rattle.queue_moves.specs.Tabled.{Slot, HasKeys};
 
     ghost Value = { List Slot };
 

@@ -1,7 +1,6 @@
 //! The undo record of an access: of fixed size, whatever the access moved.
 ghost use Rattle.std.specs.Prelude.{◌≡◌, ℕ, Bool, Option};
-ghost use Rattle.step_record.specs.declared.item.Item.{Item};
-ghost use Rattle.queue_table.specs.Queues.{Queues};
+ghost use Rattle.queue_table.specs.Queues.{Item, Queues};
 ghost use Rattle.queue_moves.specs.Moves.{item_of, Leaving, Own, stays, own_plan, outcome_after};
 ghost use Rattle.queue_moves.specs.Undoing.{left_of, IsOwn, IsCarried};
 

@@ -3,7 +3,7 @@
 use Rattle.std.specs.Prelude.{◌≡◌, ℕ, List, [], ◌∷◌}
 use Rattle.step_record.specs.Job.{part_size}
 use Rattle.step_record.specs.Stats.{stats_of}
-use Rattle.step_record.specs.declared.outcome.Outcome.{Outcome}
+pub use Rattle.step_record.specs.declared.outcome.Outcome.{Outcome}
 use Rattle.step_record.specs.declared.outcome.Outcome.TheVariants.{Hit, Kept, Evicted}
 use Rattle.step_record.specs.declared.stats.Stats.{Stats}
 use Rattle.queue_policies.specs.Residents.{state_after_all, outcomes_of_all}

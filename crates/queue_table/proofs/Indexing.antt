@@ -3,8 +3,7 @@ use Rattle.std.proofs.Common.{◌≡◌, ℕ, suc, zero, ◌+◌, ◌*◌, ◌^�
 use Rattle.std.proofs.Math.ListN.{length-replicate}
 use Rattle.std.proofs.lemmas.Bool.{eq-eqb, ne_eqb, cases_Bool, cases_eq}
 use Rattle.std.proofs.lemmas.Bool.Decides.{nat_tests}
-use Rattle.step_record.specs.declared.item.Item.{Item}
-use Rattle.queue_table.specs.Trees.{Tree, leaf, tally, branch, IsTree, IsSorted, grafted, detached}
+use Rattle.queue_table.specs.Trees.{Item, Tree, leaf, tally, branch, IsTree, IsSorted, grafted, detached}
 use Rattle.queue_table.specs.Places.{IsWhole, IsBare, IsFree, IsThere, Replaces}
 use Rattle.queue_table.specs.Index.{SlotIndex, IsMapped, IsIndexed, IsAdded, IsRemoved, IsFound, IsInBucket, CanFind, bucket, capacity}
 use Rattle.queue_table.specs.Walks.{HasTree, HasTreeWithin}

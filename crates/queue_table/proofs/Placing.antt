@@ -3,8 +3,7 @@ use Rattle.std.proofs.Common.{◌≡◌, ℕ, ◌+◌, ◌<◌, ◌≤◌, Bool,
 use Rattle.std.proofs.lemmas.Bool.{eq-eqb, ne_eqb, cond_both}
 use Rattle.std.proofs.lemmas.List.{get_or_default}
 use Rattle.std.proofs.lemmas.Bool.Decides.{nat_tests}
-use Rattle.step_record.specs.declared.item.Item.{Item}
-use Rattle.queue_table.specs.Trees.{Tree, leaf, fork, tally, branch, turn, IsTree, grafted, lowest, plucked, lifted, detached}
+use Rattle.queue_table.specs.Trees.{Item, Tree, leaf, fork, tally, branch, turn, IsTree, grafted, lowest, plucked, lifted, detached}
 use Rattle.queue_table.specs.Places.{IsOutside, IsWhole, IsFree, IsThere, Replaces}
 use Rattle.queue_table.proofs.Trees.{tally-here, on_side, side-tally, same-slot, same-tree}
 use Rattle.queue_table.proofs.Sorting.{side-sorted, its-side}

@@ -1,8 +1,7 @@
 -- What a walk down a tree knows at the next place.
 use Rattle.std.proofs.Common.{◌≡◌, ℕ, ◌+◌, ◌^◌, ◌<◌, ◌≤◌, Bool, true, false, List, length, get_or, ap, ◌∙◌, sym, refl, arith, inl, inr}
 use Rattle.std.proofs.lemmas.Bool.{cases_eq}
-use Rattle.step_record.specs.declared.item.Item.{Item}
-use Rattle.queue_table.specs.Trees.{Tree, leaf, fork, tally, size, branch, turn, IsSorted}
+use Rattle.queue_table.specs.Trees.{Item, Tree, leaf, fork, tally, size, branch, turn, IsSorted}
 use Rattle.queue_table.specs.Places.{IsWhole, IsThere}
 use Rattle.queue_table.specs.Index.{SlotIndex, IsFound}
 use Rattle.queue_table.specs.Walks.{HasTree, HasTreeWithin, IsOnWay}

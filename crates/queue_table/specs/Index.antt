@@ -1,8 +1,7 @@
 -- The index as a map: which slots it knows, and the item of each.
 use Rattle.std.specs.Prelude.{◌≡◌, ℕ, ◌+◌, ◌-◌, ◌*◌, ◌/◌, ◌%◌, ◌^◌, ◌≤◌, ◌<◌, eqb, cond, List, length}
-use Rattle.step_record.specs.declared.item.Item.{Item}
 pub use Rattle.queue_table.specs.declared.slot_index.SlotIndex.{SlotIndex}
-use Rattle.queue_table.specs.Trees.{Tree, tally, IsTree, IsSorted}
+use Rattle.queue_table.specs.Trees.{Item, Tree, tally, IsTree, IsSorted}
 use Rattle.queue_table.specs.Places.{IsBare}
 
 -- a key and a node spread over the upper bits of one product by a number near 2^64 over the golden ratio (Knuth's

@@ -1,7 +1,6 @@
 -- The tree at a place of the links, and another one put there.
 use Rattle.std.specs.Prelude.{◌≡◌, ℕ, ◌≤◌, ◌<◌, Bool, List, length, slice_index}
-use Rattle.step_record.specs.declared.item.Item.{Item}
-use Rattle.queue_table.specs.Trees.{Tree, tally, branch, IsTree, IsSorted}
+use Rattle.queue_table.specs.Trees.{Item, Tree, tally, branch, IsTree, IsSorted}
 
 -- the place is that of no branch of the tree's slots
 abbrev pub IsOutside : ℕ → ℕ → Tree → Type 0

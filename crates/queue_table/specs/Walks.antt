@@ -1,8 +1,7 @@
 -- What the walks down a tree go by.
 use Rattle.std.specs.Prelude.{ℕ, ◌+◌, ◌^◌, ◌≤◌, ◌<◌, length}
-use Rattle.step_record.specs.declared.item.Item.{Item}
 use Rattle.queue_table.specs.declared.slot_index.SlotIndex.{SlotIndex}
-use Rattle.queue_table.specs.Trees.{Tree, tally, size}
+use Rattle.queue_table.specs.Trees.{Item, Tree, tally, size}
 use Rattle.queue_table.specs.Places.{IsWhole, IsThere}
 
 -- a tree stands at the place, whose slots are few enough for its depth

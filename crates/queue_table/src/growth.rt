@@ -2,8 +2,7 @@
 ghost use Rattle.std.specs.Prelude.{◌≡◌, ◌<◌, ◌≤◌, ◌+◌, ◌*◌, ◌-◌, ◌^◌, eqb, cond, ◌++◌, ◌∷◌, [], OnOk, OnErr, IfOk, ℕ, length};
 ghost use Rattle.queue_table.specs.Ring.{entries, olders, newers, tags, FIRST, IsRing, ring, order_of, no_slots, more_free};
 ghost use Rattle.queue_table.specs.Ring.{lists, bare_slot, IsQueued};
-ghost use Rattle.queue_table.specs.Entries.{entry};
-ghost use Rattle.step_record.specs.declared.item.Item.{Item};
+ghost use Rattle.queue_table.specs.Entries.{Item, entry};
 ghost use Rattle.queue_table.specs.Index.{capacity, IsIndexed};
 ghost use Rattle.queue_table.specs.QueueTable.{bits_of_first, bits_of_wider, bits_once_begun, from_first, IsIndexOf, IsLoaded, IsInSlots, IsSound, IsSame};
 

@@ -2,8 +2,7 @@
 ghost use Rattle.std.specs.Prelude.{◌≡◌, ◌≢◌, ◌<◌, ◌≤◌, ◌+◌, ◌*◌, ◌^◌, suc, [], Ok, Option, Some, None, OnOk, IfOk, IfSome, IfNone};
 ghost use Rattle.std.specs.Prelude.{ℕ, length};
 ghost use Rattle.std.specs.List.{Contains};
-ghost use Rattle.step_record.specs.declared.item.Item.{Item};
-ghost use Rattle.queue_table.specs.Entries.{entry, items_of, oldest_of, newest_of, IsGap};
+ghost use Rattle.queue_table.specs.Entries.{Item, entry, items_of, oldest_of, newest_of, IsGap};
 ghost use Rattle.queue_table.specs.Queues.{QUEUES, empty_queues, queue_holding, items_below, place_in, IsDistinct};
 ghost use Rattle.queue_table.specs.Queues.{after_push, after_removal, after_send, after_count, after_return};
 ghost use Rattle.queue_table.specs.Ring.{entries, lists_of, order_of, order_without, sent, IsPlace, IsQueued};

@@ -1,8 +1,7 @@
 //! A hash index whose buckets are search trees: the slots whose items share a bucket stand in one tree, in which each
 //! bit of key and node goes left or right. So no list of keys makes a search long: it passes one slot a bit at most.
 ghost use Rattle.std.specs.Prelude.{◌≡◌, ◌≢◌, ◌<◌, ◌≤◌, ◌+◌, ◌^◌, ℕ, true, false, IfOk, length, slice_index};
-ghost use Rattle.step_record.specs.declared.item.Item.{Item};
-ghost use Rattle.queue_table.specs.Trees.{Tree, branch, tally, turn, IsSorted, grafted, plucked, lowest, lifted, detached};
+ghost use Rattle.queue_table.specs.Trees.{Item, Tree, branch, tally, turn, IsSorted, grafted, plucked, lowest, lifted, detached};
 ghost use Rattle.queue_table.specs.Places.{IsWhole, IsBare, IsFree, IsThere, Replaces};
 ghost use Rattle.queue_table.specs.Index.{bucket, capacity, IsIndexed, LacksSlot, HasSlot, IsAdded, IsRemoved, CanFind, IsFound, IsInBucket};
 ghost use Rattle.queue_table.specs.Walks.{HasTree, HasTreeWithin, IsOnWay};

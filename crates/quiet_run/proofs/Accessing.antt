@@ -2,18 +2,15 @@
 use Rattle.std.proofs.Common.{◌≡◌, ◌⊎◌, ℕ, ◌≤◌, Bool, true, false, cond, eqb, nat_lt, Option, Some, None, List, [], ◌∷◌, ◌++◌, length, ap, ◌∙◌, sym, refl, arith, inl, inr}
 use Rattle.std.proofs.lemmas.Bool.{eq-eqb, eqb-true, cases_Bool, cond_both}
 use Rattle.std.proofs.lemmas.List.{length-map, map-append}
-use Rattle.step_record.specs.declared.item.Item.{Item}
-use Rattle.segments.specs.declared.records.Queue.{Queue}
 use Rattle.segments.specs.declared.records.Queue.TheVariants.{Window, Probation, Protected}
-use Rattle.segments.specs.Items.{is_same_item, occurrences, items_without, oldest_of}
+use Rattle.segments.specs.Items.{Item, is_same_item, occurrences, items_without, oldest_of}
 use Rattle.segments.specs.Queues.{Queues, queue_of, queue_holding, queues_after_push, queues_without, queues_after_move, total_items}
 use Rattle.segments.proofs.ItemLists.{same-refl}
 use Rattle.replacement.specs.declared.rules.Placement.{Placement}
 use Rattle.replacement.specs.declared.rules.Placement.TheVariants.{Direct, Windowed}
-use Rattle.replacement.specs.declared.rules.Rules.{Rules}
-use Rattle.replacement.specs.Table.{kept_in, with_recent, queues_after_demotion, hit_response, hit_in, contest, trial, trial_of, eviction, response_with_victim, miss_by, access_in, access}
+use Rattle.replacement.specs.Table.{Queue, kept_in, with_recent, queues_after_demotion, hit_response, hit_in, contest, trial, trial_of, eviction, response_with_victim, miss_by, access_in, access}
 use Rattle.replacement.specs.Counts.{queue_occurrences}
-use Rattle.quiet_run.specs.Nodes.{nodeless, nodeless_list, nodeless_queues, nodeless_response, IsOnly, HasKeysOnce, AccessesAgree}
+use Rattle.quiet_run.specs.Nodes.{Rules, nodeless, nodeless_list, nodeless_queues, nodeless_response, IsOnly, HasKeysOnce, AccessesAgree}
 
 -- a function of what a test chooses
 chosen : {A B : Type 0} (f : A → B) (b : Bool) (x y : A) (u v : B) → u ≡ f x → v ≡ f y → cond b u v ≡ f (cond b x y)

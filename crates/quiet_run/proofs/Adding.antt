@@ -1,22 +1,16 @@
 -- Steps that came to the end of a session.
 use Rattle.std.proofs.Common.{◌≡◌, ℕ, ◌+◌, ◌-◌, Option, Some, None, option_map, [], ◌∷◌, ◌++◌, length, length-append, refl, sym, ap, ◌∙◌, subst, arith}
 use Rattle.std.proofs.lemmas.List.{append_assoc, append-nil}
-use Rattle.step_record.specs.declared.entry.Entry.{Entry}
-use Rattle.step_record.specs.declared.outcome.Outcome.{Outcome}
-use Rattle.step_record.specs.declared.step.Reply.{Reply}
-use Rattle.step_record.specs.declared.step.Step.{Step}
-use Rattle.step_record.specs.declared.drain.Phase.{Phase}
 use Rattle.step_record.specs.declared.drain.Phase.TheVariants.{Reads, Writes, Evictions}
 use Rattle.step_record.specs.History.{Entries, tail_after}
 use Rattle.step_record.proofs.Undone.{tail_joined}
-use Rattle.shell_model.specs.declared.holder.Holder.{Holder}
-use Rattle.shell_model.specs.ReachableShell.{worker_of}
-use Rattle.maintenance.specs.EmptyShell.{holder_parts}
+use Rattle.shell_model.specs.ReachableShell.{Step, Reply, worker_of}
+use Rattle.maintenance.specs.EmptyShell.{Holder, Phase, holder_parts}
 use Rattle.walks.specs.declared.place.Local.{Local}
 use Rattle.walks.specs.WalkPlaces.{IsWalkFrom, phase_act}
 use Rattle.walks.specs.NextActs.{IsAheadOf}
-use Rattle.quiet_run.specs.Outcomes.{outcome_with_reply, outcome_from}
-use Rattle.quiet_run.specs.QuietWalks.{with_rounds}
+use Rattle.quiet_run.specs.Outcomes.{Outcome, outcome_with_reply, outcome_from}
+use Rattle.quiet_run.specs.QuietWalks.{Entry, with_rounds}
 use Rattle.quiet_run.specs.Settle.{ShellSession, AddsSteps, IsAtStart, IsRestOfRound, IsRest}
 use Rattle.quiet_run.proofs.Rounds.{reading, writing, evicting}
 

@@ -2,19 +2,13 @@
 use Rattle.std.proofs.Common.{◌≡◌, ◌≢◌, ℕ, ◌≤◌, true, false, eqb, Option, Some, None, IsSome, [], ◌∷◌, ◌++◌, length, refl, sym, ap, ◌∙◌, subst, inl, inr, arith}
 use Rattle.std.proofs.lemmas.Bool.{cases_Bool, eqb-true, eq-eqb}
 use Rattle.std.proofs.lemmas.List.{append_assoc, append-nil, map-append}
-use Rattle.step_record.specs.declared.entry.Entry.{Entry}
-use Rattle.step_record.specs.declared.step.Act.{Act}
 use Rattle.step_record.specs.declared.step.Act.TheVariants as act
-use Rattle.step_record.specs.declared.step.Reply.{Reply}
 use Rattle.step_record.specs.declared.step.Reply.TheVariants as reply
-use Rattle.step_record.specs.declared.step.Step.{Step}
-use Rattle.step_record.specs.declared.drain.Phase.{Phase}
 use Rattle.step_record.specs.declared.drain.Phase.TheVariants.{Reads, Writes, Evictions}
 use Rattle.step_record.specs.Answers.{is_answer}
 use Rattle.step_record.specs.History.{Entries}
-use Rattle.shell_model.specs.declared.holder.Holder.{Holder}
-use Rattle.shell_model.specs.ReachableShell.{IsReachable, worker_of}
-use Rattle.shell_model.specs.Laws.{is_ending}
+use Rattle.shell_model.specs.ReachableShell.{Step, Reply, IsReachable, worker_of}
+use Rattle.shell_model.specs.Laws.{Phase, Act, Entry, is_ending}
 use Rattle.shell_model.specs.Shell.{Shell, held_by, act_reply, act as acted}
 use Rattle.shell_model.proofs.Engines.{hold_laws}
 use Rattle.shell_model.proofs.Reached.{reached-sound, reached-on}
@@ -29,7 +23,7 @@ use Rattle.walks.proofs.Asking.{follow, first_step, not_over}
 use Rattle.walks.proofs.Walking.{asked_of, completion, not_done, same_step}
 use Rattle.walks.proofs.Admitting.{at_start, no_node, starts, nobody}
 use Rattle.quiet_run.specs.QuietWalks.{reply_with_round, entry_with_round, with_rounds}
-use Rattle.quiet_run.specs.Settle.{IsAtStart}
+use Rattle.quiet_run.specs.Settle.{Holder, IsAtStart}
 use Rattle.quiet_run.proofs.Rounds.{finish_rounds}
 
 -- the worker stands there, and no other holds the maintenance

@@ -1,13 +1,12 @@
 -- Keys one after another.
 use Rattle.std.proofs.Common.{◌≡◌, ◌≢◌, ℕ, ◌+◌, ◌<◌, List, [], ◌∷◌, ◌++◌, length, get_or, drop, refl, sym, ap, ◌∙◌, subst, add-one, drop-cons}
 use Rattle.std.proofs.lemmas.List.{append_assoc, append-nil}
-use Rattle.step_record.specs.declared.outcome.Outcome.{Outcome}
 use Rattle.step_record.specs.declared.outcome.Outcome.TheVariants as outcome
 use Rattle.step_record.specs.declared.step.Act.TheVariants as act
 use Rattle.step_record.specs.declared.step.Reply.TheVariants as reply
 use Rattle.step_record.specs.History.{Entries}
 use Rattle.walks.specs.Walks.{step_of}
-use Rattle.quiet_run.specs.Outcomes.{outcome_from}
+use Rattle.quiet_run.specs.Outcomes.{Outcome, outcome_from}
 use Rattle.quiet_run.specs.QuietWalks.{IsQuietWalk, AreQuietWalks, BeginQuietWalks}
 
 pub drop_key : (ks : List ℕ) (i d : ℕ) → i < length ks → drop i ks ≡ get_or ks i d ∷ drop (i + 1) ks

@@ -2,9 +2,7 @@
 use Rattle.std.proofs.Common.{◌≡◌, ℕ, suc, ◌+◌, ◌<◌, ◌≤◌, true, nat_lt, Some, None, List, [], ◌∷◌, length, refl, sym, subst, arith}
 use Rattle.std.proofs.Math.Nat.{zero-mod}
 use Rattle.std.proofs.lemmas.Bool.Decides.{nat_tests}
-use Rattle.step_record.specs.declared.item.Item.{Item}
 use Rattle.step_record.specs.declared.config.Config.{Config}
-use Rattle.step_record.specs.declared.outcome.Outcome.{Outcome}
 use Rattle.step_record.specs.declared.outcome.Outcome.TheVariants as outcome
 use Rattle.step_record.specs.declared.step.Act.TheVariants as a
 use Rattle.step_record.specs.declared.step.Answer.TheVariants as answer
@@ -15,11 +13,11 @@ use Rattle.admission.specs.Frequency.{FrequencyData}
 use Rattle.segments.specs.declared.records.Queue.TheVariants.{Window}
 use Rattle.segments.specs.Queues.{Queues, queues_after_push}
 use Rattle.shell_buffers.specs.declared.task.Task.TheVariants.{Add}
-use Rattle.shell_buffers.specs.Buffers.{stripe_at}
+use Rattle.shell_buffers.specs.Buffers.{Item, stripe_at}
 use Rattle.shell_model.specs.declared.stats.ShellStats.{ShellStats}
 use Rattle.shell_model.specs.Frequency.{frequency_recorded}
 use Rattle.shell_model.specs.ShellStats.{shell_stats_after}
-use Rattle.replacement.specs.Table.{after_hit}
+use Rattle.replacement.specs.Table.{Outcome, after_hit}
 use Rattle.shell_model.specs.Shell.{Shell, window_size, shell_protected_size, node_of, table_with, unlisted_by}
 use Rattle.walks.specs.Walks.{Opens, FollowsLook, FollowsOffer, FollowsPut, FollowsReport, IsRound, FollowsBegin, IsWriting, FollowsDrainWrite}
 use Rattle.quiet_run.specs.QuietWalks.{with_rounds, IsQuietWalk}

@@ -3,30 +3,24 @@ use Rattle.std.proofs.Common.{◌≡◌, ℕ, suc, zero, ◌+◌, ◌<◌, ◌�
 use Rattle.std.specs.Prelude.{MatchBool, ◌==◌}
 use Rattle.std.proofs.lemmas.Bool.{cases_Bool, eq-eqb}
 use Rattle.std.proofs.lemmas.Bool.Decides.{nat_tests}
-use Rattle.step_record.specs.declared.item.Item.{Item}
-use Rattle.step_record.specs.declared.config.Config.{Config}
-use Rattle.step_record.specs.declared.outcome.Outcome.{Outcome}
 use Rattle.step_record.specs.declared.outcome.Outcome.TheVariants as outcome
 use Rattle.step_record.specs.declared.step.Act.TheVariants as a
-use Rattle.step_record.specs.declared.step.Reply.{Reply}
 use Rattle.step_record.specs.declared.step.Reply.TheVariants as reply
 use Rattle.step_record.specs.declared.drain.Drain.TheVariants as drain
-use Rattle.step_record.specs.declared.drain.Phase.{Phase}
 use Rattle.step_record.specs.declared.drain.Phase.TheVariants.{Reads, Writes, Evictions}
 use Rattle.step_record.specs.History.{Entries}
 use Rattle.admission.specs.Frequency.{FrequencyData}
 use Rattle.segments.specs.declared.records.Queue.TheVariants.{Probation}
-use Rattle.segments.specs.Items.{is_same_item, occurrences, items_without, oldest_of}
+use Rattle.segments.specs.Items.{Item, is_same_item, occurrences, items_without, oldest_of}
 use Rattle.segments.specs.Queues.{Queues, queues_after_move, total_items}
 use Rattle.segments.proofs.ItemLists.{length-without}
 use Rattle.replacement.specs.Admission.{admits_in}
-use Rattle.replacement.specs.Rules.{three_queues}
-use Rattle.replacement.specs.Table.{Response, contest, trial, eviction}
-use Rattle.shell_buffers.specs.declared.task.Task.{Task}
+use Rattle.replacement.specs.Rules.{Config, three_queues}
+use Rattle.replacement.specs.Table.{Outcome, Response, contest, trial, eviction}
 use Rattle.shell_buffers.specs.Buffers.{stripe_at}
 use Rattle.shell_model.specs.declared.stats.ShellStats.{ShellStats}
-use Rattle.shell_model.specs.ShellStats.{shell_stats_after}
-use Rattle.shell_model.specs.Shell.{Shell, window_size, reply_by, unlisted_by, may_write}
+use Rattle.shell_model.specs.ShellStats.{Reply, shell_stats_after}
+use Rattle.shell_model.specs.Shell.{Task, Phase, Shell, window_size, reply_by, unlisted_by, may_write}
 use Rattle.shell_model.proofs.Making.{evict-is}
 use Rattle.shell_model.proofs.Undoing.{first-queued}
 use Rattle.walks.specs.Walks.{Opens, IsEnding, FollowsEnd, IsEvicting, FollowsEvict, IsWriting, FollowsDrainWrite, IsReading, FollowsDrainRead}

@@ -1,17 +1,14 @@
 -- Keys one after another.
 use Rattle.std.proofs.Common.{◌≡◌, ℕ, ◌≤◌, Option, Some, Ok, List, [], ◌∷◌, ◌++◌, ap, subst, ◌∙◌, sym, refl, arith}
 use Rattle.std.proofs.lemmas.List.{append_assoc, append-nil}
-use Rattle.step_record.specs.declared.config.Config.{Config}
-use Rattle.step_record.specs.declared.outcome.Outcome.{Outcome}
-use Rattle.step_record.specs.declared.job.Job.{Job}
 use Rattle.step_record.specs.Config.{config_fault}
 use Rattle.step_record.specs.History.{next_data, data_after, IsLegal, Entries}
 use Rattle.admission.specs.Shape.{Shape, IsShape}
 use Rattle.admission.specs.Frequency.{FrequencyData, frequency_of, pace_of}
 use Rattle.admission.proofs.Recording.{recorded_freq}
-use Rattle.replacement.specs.Shape.{shape_of}
+use Rattle.replacement.specs.Shape.{Config, shape_of}
 use Rattle.replacement.proofs.Shape.{shape-is, own-shape}
-use Rattle.queue_cache.specs.QueueCache.{QueueState, access_response, queue_state_after, frequency_after, empty_queue_state as opened_policy, outcomes_from, outcomes_after, state_from, state_after}
+use Rattle.queue_cache.specs.QueueCache.{Job, Outcome, QueueState, access_response, queue_state_after, frequency_after, empty_queue_state as opened_policy, outcomes_from, outcomes_after, state_from, state_after}
 use Rattle.queue_cache.specs.QueueStep.{recorded_in}
 use Rattle.queue_cache.proofs.Reached.{has-room, after-frequency, after-job}
 use Rattle.shell_model.specs.Shell.{Shell, act}

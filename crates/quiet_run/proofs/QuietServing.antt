@@ -3,23 +3,19 @@ use Rattle.std.proofs.Common.{◌≡◌, ℕ, suc, zero, ◌+◌, ◌-◌, ◌�
 use Rattle.std.specs.Prelude.{◌==◌}
 use Rattle.std.proofs.lemmas.Bool.{cases_Bool}
 use Rattle.std.proofs.lemmas.List.{length-replicate}
-use Rattle.step_record.specs.declared.item.Item.{Item}
-use Rattle.step_record.specs.declared.config.Config.{Config}
-use Rattle.step_record.specs.declared.outcome.Outcome.{Outcome}
 use Rattle.step_record.specs.declared.outcome.Outcome.TheVariants as outcome
 use Rattle.step_record.specs.declared.drain.Drain.TheVariants as drain
 use Rattle.step_record.specs.History.{data_after, IsLegal, Entries}
 use Rattle.admission.specs.Frequency.{FrequencyData}
-use Rattle.segments.specs.declared.records.Queue.{Queue}
 use Rattle.segments.specs.declared.records.Queue.TheVariants.{Window}
-use Rattle.segments.specs.Items.{occurrences}
+use Rattle.segments.specs.Items.{Item, occurrences}
 use Rattle.segments.specs.Queues.{Queues, queue_holding, queues_after_push, IsDistinct}
 use Rattle.segments.proofs.MoveLaws.{Stands, in_window, in_probation, in_protected, nowhere, stands}
 use Rattle.segments.proofs.QueueLists.{is_absent}
 use Rattle.replacement.specs.Admission.{admits_in}
 use Rattle.replacement.specs.Counts.{queue_occurrences}
-use Rattle.replacement.specs.Rules.{three_queues}
-use Rattle.replacement.specs.Table.{Response, hit_response, hit_in, after_hit, access_in, access}
+use Rattle.replacement.specs.Rules.{Config, three_queues}
+use Rattle.replacement.specs.Table.{Queue, Outcome, Response, hit_response, hit_in, after_hit, access_in, access}
 use Rattle.replacement.proofs.Balance.{hit-renewed}
 use Rattle.replacement.proofs.Planned.{access-at}
 use Rattle.queue_cache.specs.QueueCache.{QueueState, access_response, queue_state_after}

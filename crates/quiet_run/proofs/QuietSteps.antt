@@ -1,22 +1,14 @@
 -- What the entries of a walk come to, read one after another: the definition of the cache fixes each reply.
 use Rattle.std.proofs.Common.{◌≡◌, ℕ, nat_lt, Option, Some, None, List, [], ◌∷◌, ap, subst, ◌∙◌, sym, refl, inl, inr}
 use Rattle.std.proofs.lemmas.Bool.{cases_Bool}
-use Rattle.step_record.specs.declared.item.Item.{Item}
-use Rattle.step_record.specs.declared.config.Config.{Config}
-use Rattle.step_record.specs.declared.outcome.Outcome.{Outcome}
-use Rattle.step_record.specs.declared.step.Act.{Act}
-use Rattle.step_record.specs.declared.step.Reply.{Reply}
-use Rattle.step_record.specs.declared.drain.Drain.{Drain}
 use Rattle.step_record.specs.declared.drain.Drain.TheVariants as drain
-use Rattle.step_record.specs.declared.drain.Phase.{Phase}
 use Rattle.step_record.specs.History.{next_data, data_after, IsLegal, Entries}
 use Rattle.admission.specs.Frequency.{FrequencyData}
 use Rattle.segments.specs.Queues.{Queues}
-use Rattle.shell_buffers.specs.declared.task.Task.{Task}
 use Rattle.shell_model.specs.declared.holder.Holder.{Holder}
 use Rattle.shell_model.specs.declared.stats.ShellStats.{ShellStats}
-use Rattle.shell_model.specs.Shell.{Shell, act_effect, counted_up, act}
-use Rattle.shell_model.specs.Laws.{MadeStep}
+use Rattle.shell_model.specs.Shell.{Task, Phase, Drain, Reply, Act, Outcome, Item, Shell, act_effect, counted_up, act}
+use Rattle.shell_model.specs.Laws.{Config, MadeStep}
 use Rattle.walks.specs.Walks.{Opens, step_of}
 use Rattle.quiet_run.specs.Outcomes.{outcome_with_reply, outcome_from}
 use Rattle.quiet_run.specs.QuietWalks.{reply_with_round, with_rounds}

@@ -1,8 +1,7 @@
 -- The table and the queues where no task waits.
 use Rattle.std.proofs.Common.{◌≡◌, ℕ, ◌≤◌, true, eqb, Option, Some, None, List, [], ap, ◌∙◌, sym, refl, arith}
 use Rattle.std.proofs.lemmas.Bool.{eq-eqb, eqb-true, and_from, true_from_ne_false}
-use Rattle.step_record.specs.declared.item.Item.{Item}
-use Rattle.segments.specs.Items.{occurrences}
+use Rattle.segments.specs.Items.{Item, occurrences}
 use Rattle.segments.specs.Queues.{Queues, IsDistinct}
 use Rattle.segments.proofs.ItemLists.{same-true}
 use Rattle.replacement.specs.Counts.{queue_occurrences}

@@ -1,17 +1,13 @@
 -- A round has no report: it is the same with a round behind each report.
 use Rattle.std.proofs.Common.{◌≡◌, ℕ, ◌+◌, ◌==◌, ◌↔◌, Bool, true, false, [], ◌∷◌, refl, MatchBool}
-use Rattle.step_record.specs.declared.entry.Entry.{Entry}
-use Rattle.step_record.specs.declared.step.Act.{Act}
 use Rattle.step_record.specs.declared.step.Act.TheVariants as act
 use Rattle.step_record.specs.declared.step.Answer.TheVariants as answer
-use Rattle.step_record.specs.declared.step.Reply.{Reply}
 use Rattle.step_record.specs.declared.step.Reply.TheVariants as reply
-use Rattle.step_record.specs.declared.step.Step.{Step}
 use Rattle.step_record.specs.History.{Entries}
-use Rattle.walks.specs.Walks.{step_of, IsRound, FollowsBegin, IsReading, FollowsDrainRead, IsWriting, FollowsDrainWrite, IsEvicting, FollowsEvict, IsEnding, FollowsEnd}
+use Rattle.walks.specs.Walks.{Step, Reply, Act, step_of, IsRound, FollowsBegin, IsReading, FollowsDrainRead, IsWriting, FollowsDrainWrite, IsEvicting, FollowsEvict, IsEnding, FollowsEnd}
 use Rattle.walks.specs.WalkPlaces.{IsWalkFrom, is_place}
 use Rattle.walks.proofs.Finishing.{finish}
-use Rattle.quiet_run.specs.QuietWalks.{reply_with_round, with_rounds}
+use Rattle.quiet_run.specs.QuietWalks.{Entry, reply_with_round, with_rounds}
 
 none : (es : Entries) → (with_rounds es ≡ []) ↔ (es ≡ [])
 none [] = ((λ h. refl), (λ h. refl))

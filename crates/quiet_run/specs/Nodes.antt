@@ -1,9 +1,8 @@
 -- Nodes aside: what a policy, which keeps one item a key, sees of the concurrent cache's items.
 use Rattle.std.specs.Prelude.{◌≡◌, ℕ, ◌≤◌, Bool, Option, Some, None, List, map}
-use Rattle.step_record.specs.declared.item.Item.{Item}
 use Rattle.segments.specs.Queues.{Queues, IsDistinct}
-use Rattle.replacement.specs.declared.rules.Rules.{Rules}
-use Rattle.replacement.specs.Table.{Response, access}
+pub use Rattle.replacement.specs.declared.rules.Rules.{Rules}
+use Rattle.replacement.specs.Table.{Item, Response, access}
 use Rattle.replacement.specs.Counts.{queue_occurrences}
 
 -- the item as a policy has it

@@ -1,6 +1,6 @@
 -- What the replies of a key's steps come to, as a policy's outcome.
 use Rattle.std.specs.Prelude.{[], ◌∷◌}
-use Rattle.step_record.specs.declared.outcome.Outcome.{Outcome}
+pub use Rattle.step_record.specs.declared.outcome.Outcome.{Outcome}
 use Rattle.step_record.specs.declared.outcome.Outcome.TheVariants as outcome
 use Rattle.step_record.specs.declared.step.Reply.{Reply}
 use Rattle.step_record.specs.declared.step.Reply.TheVariants as reply

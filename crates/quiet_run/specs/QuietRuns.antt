@@ -1,14 +1,12 @@
 -- What a quiet run of the concurrent cache is to W-TinyLFU.
 use Rattle.std.specs.Prelude.{◌≡◌, ℕ, Some, List, ◌++◌}
-use Rattle.step_record.specs.declared.config.Config.{Config}
-use Rattle.step_record.specs.declared.outcome.Outcome.{Outcome}
 use Rattle.step_record.specs.declared.outcome.Outcome.TheVariants.{Kept}
 use Rattle.step_record.specs.History.{data_after, IsLegal, Entries}
-use Rattle.queue_cache.specs.QueueCache.{QueueState, outcomes_after, state_after}
+use Rattle.queue_cache.specs.QueueCache.{Outcome, QueueState, outcomes_after, state_after}
 use Rattle.queue_cache.specs.QueueStep.{queue_act}
 use Rattle.shell_model.specs.Shell.{Shell, act}
 use Rattle.shell_model.specs.ReachableShell.{IsReachable}
-use Rattle.quiet_run.specs.Quiet.{IsQuiet, quiet_job}
+use Rattle.quiet_run.specs.Quiet.{Config, IsQuiet, quiet_job}
 use Rattle.quiet_run.specs.Outcomes.{outcome_from}
 use Rattle.quiet_run.specs.QuietWalks.{IsQuietWalk}
 

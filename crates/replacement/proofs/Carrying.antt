@@ -1,14 +1,11 @@
 -- Carrying a plan out is undone by its record.
 use Rattle.std.proofs.Common.{◌≡◌, Option, Some, None, refl}
-use Rattle.step_record.specs.declared.item.Item.{Item}
-use Rattle.segments.specs.declared.records.MoveRecord.{MoveRecord}
 use Rattle.segments.specs.Queues.{Queues, queues_without, queues_after_move, IsDistinct}
 use Rattle.segments.specs.Moves.{move_record}
 use Rattle.segments.proofs.MoveLaws.{move-recorded, out-recorded}
 use Rattle.segments.proofs.QueueLists.{distinct-taken}
-use Rattle.replacement.specs.declared.record.Moves.{Moves}
-use Rattle.replacement.specs.Plan.{Transfer, Plan}
-use Rattle.replacement.specs.PlanMoves.{queues_after_transfer, removed, queues_after, transfer_record, removal_record, moves_of, undone_by, FitsBy, needed_by, UndoesMoves}
+use Rattle.replacement.specs.Plan.{Item, Transfer, Plan}
+use Rattle.replacement.specs.PlanMoves.{Moves, MoveRecord, queues_after_transfer, removed, queues_after, transfer_record, removal_record, moves_of, undone_by, FitsBy, needed_by, UndoesMoves}
 use Rattle.replacement.proofs.Counting.{distinct-moved}
 
 -- the record of one move, or of none, fits the distinct items that the move left, and undoes it

@@ -1,21 +1,16 @@
 -- Which item the record of an access moves out.
 use Rattle.std.proofs.Common.{◌≡◌, ℕ, Bool, true, false, nat_lt, Option, Some, None, option_map, length, ap, ◌∙◌, sym, refl}
 use Rattle.std.proofs.lemmas.Bool.{cond_both}
-use Rattle.step_record.specs.declared.item.Item.{Item}
 use Rattle.step_record.specs.declared.outcome.Outcome.TheVariants.{Hit}
 use Rattle.step_record.specs.Stats.{is_eviction, is_hit}
-use Rattle.segments.specs.declared.records.Queue.{Queue}
-use Rattle.segments.specs.declared.records.MoveRecord.{MoveRecord}
 use Rattle.segments.specs.declared.records.Queue.TheVariants.{Window, Probation}
-use Rattle.segments.specs.Items.{is_same_item, oldest_of}
+use Rattle.segments.specs.Items.{Item, is_same_item, oldest_of}
 use Rattle.segments.specs.Queues.{Queues, queue_of, queue_holding, queues_after_push, queues_after_move, total_items, IsDistinct}
-use Rattle.replacement.specs.declared.rules.Placement.{Placement}
 use Rattle.replacement.specs.declared.rules.Placement.TheVariants.{Direct, Windowed}
-use Rattle.replacement.specs.declared.rules.Rules.{Rules}
-use Rattle.replacement.specs.Table.{Response, kept_in, contest, trial_of, eviction, response_with_victim, miss_by, access_in, access}
+use Rattle.replacement.specs.Table.{Rules, Placement, Queue, Response, kept_in, contest, trial_of, eviction, response_with_victim, miss_by, access_in, access}
 use Rattle.replacement.specs.Plan.{Plan, plan}
-use Rattle.replacement.specs.PlanMoves.{removal_record, moves_of, queues_after_transfer}
-use Rattle.replacement.proofs.Planned.{plan-at, access-at, accesses-planned}
+use Rattle.replacement.specs.PlanMoves.{MoveRecord, removal_record, moves_of, queues_after_transfer}
+use Rattle.replacement.proofs.Planned.{plan-at, access-at, accesses_planned}
 
 -- ---- no miss is a hit, and an item leaves only by an eviction
 
@@ -71,7 +66,7 @@ pub leaver-shown : (r : Rules) (a : ℕ → ℕ → Bool) (i : Item) (s : Queues
     → option_map (λ m. m.item) (moves_of (plan r a i s) s).out ≡ (access r a i s).left
 leaver-shown r a i s u =
     let p : Plan = plan r a i s in
-    removed-item p.leaves (queues_after_transfer p.first s) ∙ ap (λ (x : Response). x.left) (sym (accesses-planned r a i s u))
+    removed-item p.leaves (queues_after_transfer p.first s) ∙ ap (λ (x : Response). x.left) (sym (accesses_planned r a i s u))
 
 pub access-evicts : (r : Rules) (a : ℕ → ℕ → Bool) (i : Item) (s : Queues) → Evicts (access r a i s)
 unfolding access

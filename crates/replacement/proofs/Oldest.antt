@@ -1,15 +1,12 @@
 -- Moves of the oldest item of a queue, and of one that stands in none.
 use Rattle.std.proofs.Common.{◌≡◌, Option, Some, None, List, [], ◌∷◌, refl, subst}
 use Rattle.std.specs.Prelude.{MatchOption, IfSome}
-use Rattle.step_record.specs.declared.item.Item.{Item}
-use Rattle.segments.specs.declared.records.Queue.{Queue}
-use Rattle.segments.specs.declared.records.MoveRecord.{MoveRecord}
-use Rattle.segments.specs.Items.{oldest_of, last_item, before}
+use Rattle.segments.specs.Items.{Item, oldest_of, last_item, before}
 use Rattle.segments.specs.Queues.{Queues, queue_of, queue_holding, IsDistinct}
 use Rattle.segments.specs.Moves.{move_record, IsMoveRecord}
 use Rattle.segments.proofs.ItemLists.{same-refl}
 use Rattle.segments.proofs.QueueLists.{placed, first-stands}
-use Rattle.replacement.specs.KeptMoves.{IsOldest, IsDrop, IsFirstMove}
+use Rattle.replacement.specs.KeptMoves.{MoveRecord, Queue, IsOldest, IsDrop, IsFirstMove}
 
 none-before : (l : List Item) (i : Item) → oldest_of l ≡ Some i → last_item (before i l) ≡ None
 none-before [] i e = absurd (cc (e))

@@ -2,18 +2,14 @@
 use Rattle.std.proofs.Common.{◌≡◌, ℕ, ◌+◌, ◌≤◌, Bool, true, false, Option, Some, None, List, [], ◌∷◌, ◌++◌, ap, ◌∙◌, sym, refl, arith, inl, inr, length-append}
 use Rattle.std.proofs.lemmas.Bool.Decides.{nat_tests}
 use Rattle.std.proofs.lemmas.Bool.{cases_Bool}
-use Rattle.step_record.specs.declared.item.Item.{Item}
-use Rattle.segments.specs.declared.records.Queue.{Queue}
 use Rattle.segments.specs.declared.records.Queue.TheVariants.{Window, Probation, Protected}
-use Rattle.segments.specs.Items.{is_same_item, occurrences, items_without, oldest_of}
+use Rattle.segments.specs.Items.{Item, is_same_item, occurrences, items_without, oldest_of}
 use Rattle.segments.specs.Queues.{Queues, queue_holding, queues_without, queues_after_move, total_items, IsDistinct}
 use Rattle.segments.proofs.ItemLists.{same-refl, same-sym, length-without, without-none, without-append}
 use Rattle.segments.proofs.MoveLaws.{taken-moved}
 use Rattle.segments.proofs.QueueLists.{first-stands, pushed-moved, still-absent}
-use Rattle.replacement.specs.declared.rules.Placement.{Placement}
 use Rattle.replacement.specs.declared.rules.Placement.TheVariants.{Direct, Windowed}
-use Rattle.replacement.specs.declared.rules.Rules.{Rules}
-use Rattle.replacement.specs.Table.{Response, with_recent, queues_after_demotion, hit_response, contest, trial_of, eviction, response_with_victim, response_without_trial, miss_by, miss, access_in, access}
+use Rattle.replacement.specs.Table.{Rules, Placement, Queue, Response, with_recent, queues_after_demotion, hit_response, contest, trial_of, eviction, response_with_victim, response_without_trial, miss_by, miss, access_in, access}
 use Rattle.replacement.specs.Plan.{Plan, Transfer, transfer, demotion, contest_plan, direct_plan, candidate_of, eviction_of, eviction_plan, joining_first, miss_plan_by, miss_plan, plan_in, plan}
 use Rattle.replacement.specs.PlanMoves.{queues_after_transfer, removed, response_of_plan}
 use Rattle.replacement.specs.Theorems.{HitsPlanned, EvictionsPlanned, AccessesPlanned}
@@ -28,10 +24,10 @@ demoted-planned size s = grind (arith, nat_tests, by_oldest)
     by_oldest None = refl
     by_oldest (Some i) = refl
 
-pub hits-planned : HitsPlanned
-hits-planned size i Window s = refl
-hits-planned size i Probation s = demoted-planned size (queues_after_move i Protected s)
-hits-planned size i Protected s = refl
+pub hits_planned : HitsPlanned
+hits_planned size i Window s = refl
+hits_planned size i Probation s = demoted-planned size (queues_after_move i Protected s)
+hits_planned size i Protected s = refl
 
 -- ---- evictions
 
@@ -86,8 +82,8 @@ trial-planned : (r : Rules) (a : ℕ → ℕ → Bool) (o : Option Item) (s : Qu
 trial-planned r a None s f d = refl
 trial-planned r a (Some c) s f d = grind (arith, nat_tests, first-stands, total-shifted, first-shifted, contest-planned)
 
-pub evictions-planned : EvictionsPlanned
-evictions-planned r a s d = grind (arith, nat_tests, trial-planned)
+pub evictions_planned : EvictionsPlanned
+evictions_planned r a s d = grind (arith, nat_tests, trial-planned)
 
 -- ---- accesses
 
@@ -126,13 +122,13 @@ miss-planned r a i s d h = by r.placement
     by (Direct q) = direct-planned r a q i s h
     by Windowed =
         ap (eviction r a) (pushed-moved i Window s h)
-        ∙ (evictions-planned r a (queues_after_move i Window s) (distinct-moved i Window s d)
+        ∙ (evictions_planned r a (queues_after_move i Window s) (distinct-moved i Window s d)
         ∙ sym (joined-response i (eviction_plan r a (queues_after_move i Window s)) s (evicts-first r a (queues_after_move i Window s))))
 
 pub access-planned-in : (r : Rules) (a : ℕ → ℕ → Bool) (i : Item) (p : Option Queue) (s : Queues) → IsDistinct s → queue_holding i s ≡ p
     → access_in r a i p s ≡ response_of_plan (plan_in r a i p s) s
 access-planned-in r a i None s d h = miss-planned r a i s d h
-access-planned-in r a i (Some q) s d h = ap hit_response (hits-planned r.protected i q s)
+access-planned-in r a i (Some q) s d h = ap hit_response (hits_planned r.protected i q s)
 
 -- the plan of an access and the table, by where its item stands
 pub plan-at : (r : Rules) (a : ℕ → ℕ → Bool) (i : Item) (s : Queues) (p : Option Queue) → queue_holding i s ≡ p → plan r a i s ≡ plan_in r a i p s
@@ -143,7 +139,7 @@ pub access-at : (r : Rules) (a : ℕ → ℕ → Bool) (i : Item) (s : Queues) (
 unfolding access
 access-at r a i s p h = ap (λ (x : Option Queue). access_in r a i x s) h
 
-pub accesses-planned : AccessesPlanned
-accesses-planned r a i s d =
+pub accesses_planned : AccessesPlanned
+accesses_planned r a i s d =
     access-at r a i s (queue_holding i s) refl ∙ (access-planned-in r a i (queue_holding i s) s d refl
     ∙ ap (λ (p : Plan). response_of_plan p s) (sym (plan-at r a i s (queue_holding i s) refl)))

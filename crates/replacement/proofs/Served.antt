@@ -1,17 +1,13 @@
 -- What the calls leave is what the plan of an access says.
 use Rattle.std.proofs.Common.{◌≡◌, ℕ, Bool, Option, Some, None, ap, ◌∙◌, sym, refl, subst}
-use Rattle.step_record.specs.declared.item.Item.{Item}
 use Rattle.step_record.specs.declared.outcome.Outcome.TheVariants.{Hit}
 use Rattle.segments.specs.declared.records.Queue.TheVariants.{Window}
-use Rattle.segments.specs.declared.records.MoveRecord.{MoveRecord}
 use Rattle.segments.specs.Queues.{Queues, queue_holding, queues_after_move}
-use Rattle.replacement.specs.declared.record.Moves.{Moves}
-use Rattle.replacement.specs.declared.record.Effect.{Effect}
 use Rattle.replacement.specs.declared.rules.Placement.{Placement}
 use Rattle.replacement.specs.declared.rules.Rules.{Rules}
-use Rattle.replacement.specs.Plan.{Transfer, Plan, eviction_plan, joining_first, miss_plan_by, miss_plan, plan}
-use Rattle.replacement.specs.PlanMoves.{queues_after_transfer, removed, queues_after, transfer_record, removal_record, moves_of}
-use Rattle.replacement.specs.Effects.{IsEffect, IsHit}
+use Rattle.replacement.specs.Plan.{Item, Transfer, Plan, eviction_plan, joining_first, miss_plan_by, miss_plan, plan}
+use Rattle.replacement.specs.PlanMoves.{Moves, MoveRecord, queues_after_transfer, removed, queues_after, transfer_record, removal_record, moves_of}
+use Rattle.replacement.specs.Effects.{Effect, IsEffect, IsHit}
 use Rattle.replacement.proofs.Planned.{plan-at, evicts-first}
 
 -- a hit

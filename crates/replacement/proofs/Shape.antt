@@ -3,12 +3,10 @@ use Rattle.std.proofs.Common.{◌≡◌, ℕ, zero, suc, ◌+◌, ◌*◌, ◌/�
 use Rattle.std.proofs.lemmas.Nat.{pow-add}
 use Rattle.std.proofs.lemmas.Bool.Decides.{leb_tells}
 use Rattle.std.specs.Int.{IsPowerOfTwo, IsNextPowerOfTwo}
-use Rattle.step_record.specs.declared.config.Config.{Config}
-use Rattle.step_record.specs.declared.config.Spread.{Spread}
-use Rattle.admission.specs.Shape.{Shape, IsShape, IsOpenShape}
+use Rattle.admission.specs.Shape.{Spread, Shape, IsShape, IsOpenShape}
 use Rattle.admission.specs.Frequency.{FrequencyData, frequency_of, IsFrequencyOf, IsOpenFrequencyOf}
 use Rattle.admission.proofs.Recording.{next_within}
-use Rattle.replacement.specs.Shape.{doubled, least_power, shape_of, open_shape_of}
+use Rattle.replacement.specs.Shape.{Config, doubled, least_power, shape_of, open_shape_of}
 
 power-next : (k : ℕ) → 2 ^ suc k ≡ 2 * 2 ^ k
 power-next k = let q : suc k ≡ 1 + k = omega arith in rw q (pow-add 2 1 k)

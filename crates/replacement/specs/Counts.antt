@@ -1,6 +1,6 @@
 -- How many items stand where in the queues.
 use Rattle.std.specs.Prelude.{ℕ, ◌+◌, length}
-use Rattle.step_record.specs.declared.item.Item.{Item}
+pub use Rattle.step_record.specs.declared.item.Item.{Item}
 use Rattle.segments.specs.Items.{occurrences}
 use Rattle.segments.specs.Queues.{Queues}
 

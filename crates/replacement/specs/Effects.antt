@@ -1,12 +1,9 @@
 -- That a plan was carried out.
 use Rattle.std.specs.Prelude.{◌≡◌, ℕ, Some}
-use Rattle.step_record.specs.declared.item.Item.{Item}
-use Rattle.segments.specs.declared.records.Queue.{Queue}
 use Rattle.segments.specs.Queues.{Queues, queue_holding}
-use Rattle.replacement.specs.declared.record.Moves.{Moves}
-use Rattle.replacement.specs.declared.record.Effect.{Effect}
-use Rattle.replacement.specs.Plan.{Plan, hit_plan}
-use Rattle.replacement.specs.PlanMoves.{queues_after, moves_of}
+pub use Rattle.replacement.specs.declared.record.Effect.{Effect}
+use Rattle.replacement.specs.Plan.{Queue, Item, Plan, hit_plan}
+use Rattle.replacement.specs.PlanMoves.{Moves, queues_after, moves_of}
 
 -- the plan led from the one to the other queues, and the effect is its record and outcome
 pub record IsEffect (p : Plan) (before after : Queues) (e : Effect) : Type 0 where

@@ -1,10 +1,10 @@
 -- How the moves of an access are kept: which moves have a packed form, and what the form shows.
 use Rattle.std.specs.Prelude.{◌≡◌, Bool, true, false, Option, Some, None}
 use Rattle.step_record.specs.declared.item.Item.{Item}
-use Rattle.segments.specs.declared.records.Queue.{Queue}
+pub use Rattle.segments.specs.declared.records.Queue.{Queue}
 use Rattle.segments.specs.declared.records.Queue.TheVariants as queue
 use Rattle.segments.specs.declared.records.QueuePlace.{QueuePlace}
-use Rattle.segments.specs.declared.records.MoveRecord.{MoveRecord}
+pub use Rattle.segments.specs.declared.records.MoveRecord.{MoveRecord}
 use Rattle.replacement.specs.declared.record.Moves.{Moves}
 use Rattle.replacement.specs.declared.kept_moves.Spot.{Spot}
 use Rattle.replacement.specs.declared.kept_moves.Spot.TheVariants.{Nowhere, Window, Probation, Protected}

@@ -1,11 +1,10 @@
 -- What carrying a plan out makes of the queues, the record of it, and how the record undoes it.
 use Rattle.std.specs.Prelude.{◌≡◌, ℕ, Option, Some, None}
-use Rattle.step_record.specs.declared.item.Item.{Item}
-use Rattle.segments.specs.declared.records.MoveRecord.{MoveRecord}
+pub use Rattle.segments.specs.declared.records.MoveRecord.{MoveRecord}
 use Rattle.segments.specs.Queues.{Queues, queues_without, queues_after_move}
 use Rattle.segments.specs.Moves.{move_record, queues_before_move, FitsMove, room_needed}
-use Rattle.replacement.specs.declared.record.Moves.{Moves}
-use Rattle.replacement.specs.Table.{Response}
+pub use Rattle.replacement.specs.declared.record.Moves.{Moves}
+use Rattle.replacement.specs.Table.{Item, Response}
 use Rattle.replacement.specs.Plan.{Transfer, Plan}
 
 abbrev pub queues_after_transfer : Option Transfer → Queues → Queues

@@ -6,9 +6,8 @@ use Rattle.step_record.specs.declared.outcome.Outcome.TheVariants.{Hit}
 use Rattle.segments.specs.declared.records.Queue.TheVariants.{Window, Probation}
 use Rattle.segments.specs.Items.{oldest_of}
 use Rattle.segments.specs.Queues.{Queues}
-use Rattle.replacement.specs.declared.rules.Rules.{Rules}
 use Rattle.replacement.specs.Counts.{main_length}
-use Rattle.replacement.specs.Plan.{Transfer, Plan, transfer, demotion}
+use Rattle.replacement.specs.Plan.{Rules, Transfer, Plan, transfer, demotion}
 use Rattle.replacement.specs.PlanMoves.{queues_after_transfer}
 
 -- where the main part is over what a window of a size leaves of a capacity, probation's oldest goes to the window

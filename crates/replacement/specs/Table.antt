@@ -1,17 +1,17 @@
 -- The table of moves: what a hit, a miss and an eviction make of the queues. (Segmented LRU with an admission filter:
 -- TinyLFU, 2017; a window before it, and the order of an eviction: Caffeine's Design page.)
 use Rattle.std.specs.Prelude.{ℕ, nat_lt, Bool, if◌then◌else◌, Option, Some, None, length}
-use Rattle.step_record.specs.declared.item.Item.{Item}
-use Rattle.step_record.specs.declared.outcome.Outcome.{Outcome}
+pub use Rattle.step_record.specs.declared.item.Item.{Item}
+pub use Rattle.step_record.specs.declared.outcome.Outcome.{Outcome}
 use Rattle.step_record.specs.declared.outcome.Outcome.TheVariants.{Hit, Kept, Evicted, Rejected}
-use Rattle.segments.specs.declared.records.Queue.{Queue}
+pub use Rattle.segments.specs.declared.records.Queue.{Queue}
 use Rattle.segments.specs.declared.records.Queue.TheVariants.{Window, Probation, Protected}
 use Rattle.segments.specs.Items.{is_same_item, oldest_of}
 use Rattle.segments.specs.Queues.{Queues, queue_of, queue_holding}
 use Rattle.segments.specs.Queues.{queues_after_push, queues_without, queues_after_move, total_items}
-use Rattle.replacement.specs.declared.rules.Placement.{Placement}
+pub use Rattle.replacement.specs.declared.rules.Placement.{Placement}
 use Rattle.replacement.specs.declared.rules.Placement.TheVariants.{Direct, Windowed}
-use Rattle.replacement.specs.declared.rules.Rules.{Rules}
+pub use Rattle.replacement.specs.declared.rules.Rules.{Rules}
 
 -- what an access or an eviction comes to: its outcome, the item that left the queues, and the queues that it leaves
 pub record Response : Type 0 where

@@ -1,10 +1,7 @@
 -- The plans carry out the table of moves.
 use Rattle.std.specs.Prelude.{◌≡◌, ℕ, Bool, Some}
-use Rattle.step_record.specs.declared.item.Item.{Item}
-use Rattle.segments.specs.declared.records.Queue.{Queue}
 use Rattle.segments.specs.Queues.{Queues, IsDistinct}
-use Rattle.replacement.specs.declared.rules.Rules.{Rules}
-use Rattle.replacement.specs.Table.{hit_in, eviction, access}
+use Rattle.replacement.specs.Table.{Rules, Queue, Item, hit_in, eviction, access}
 use Rattle.replacement.specs.Plan.{hit_plan, eviction_plan, plan}
 use Rattle.replacement.specs.PlanMoves.{queues_after, response_of_plan}
 

@@ -11,11 +11,10 @@ use Rattle.std.specs.Fmt.{decimal}
 use Rattle.std.specs.Str.Parse.{AllDigits}
 use Rattle.csv.specs.Writing.{default_writer, field_text, fields_text, is_blank, needs_byte, row_body, row_text}
 use Rattle.policies.specs.Reports.{rate_of}
-use Rattle.report.specs.Text.{line_text, rate_text_of, row_fields}
+use Rattle.report.specs.Text.{Report, line_text, rate_text_of, row_fields}
 use Rattle.step_record.specs.Job.{word_of}
 use Rattle.step_record.specs.declared.job.Policy.{Policy}
 use Rattle.step_record.specs.declared.job.Policy.TheVariants.{Lru}
-use Rattle.policies.specs.declared.report.Report.{Report}
 
 abbrev pub IsPlain : List ℕ → Type 0
 IsPlain field = list_any (needs_byte default_writer) field ≡ false

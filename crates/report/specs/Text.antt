@@ -4,7 +4,7 @@ use Rattle.std.specs.List.{flat_map, join_with_byte}
 use Rattle.std.specs.Fmt.{decimal}
 use Rattle.step_record.specs.Job.{word_of}
 use Rattle.policies.specs.Reports.{rate_of}
-use Rattle.policies.specs.declared.report.Report.{Report}
+pub use Rattle.policies.specs.declared.report.Report.{Report}
 
 -- `16.66`
 unfoldable pub rate_text_of : ℕ → List ℕ

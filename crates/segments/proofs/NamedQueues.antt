@@ -2,7 +2,6 @@
 use Rattle.std.proofs.Common.{◌≡◌, ℕ, ◌+◌, ◌<◌, ◌≤◌, cond, Option, Some, None, List, [], ◌∷◌, ◌++◌, ap, ◌∙◌, sym, refl, subst, arith}
 use Rattle.std.proofs.lemmas.List.{map-append}
 use Rattle.std.proofs.lemmas.Bool.Decides.{nat_tests}
-use Rattle.queue_table.specs.declared.records.Place.{Place}
 use Rattle.queue_table.specs.Entries as Entries
 use Rattle.queue_table.specs.declared.records.Entry.{Entry}
 use Rattle.queue_table.specs.Entries.{Item, items_of}
@@ -16,7 +15,7 @@ use Rattle.queue_table.proofs.Contents.{cut_at}
 use Rattle.queue_table.proofs.QueueLists.{placed}
 use Rattle.segments.proofs.QueueLists.{absent, is_absent}
 use Rattle.segments.proofs.MoveLaws.{Stands, in_window, in_probation, in_protected, nowhere, stands}
-use Rattle.segments.specs.Names.{number_of, name_of, named, IsNamed, named_place}
+use Rattle.segments.specs.Names.{Place, number_of, name_of, named, IsNamed, named_place}
 
 -- one list: what is done to the entries is done to their items
 

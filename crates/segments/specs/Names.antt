@@ -1,6 +1,6 @@
 -- The three queues by name, as the first three of the queues by number: counts are forgotten.
 use Rattle.std.specs.Prelude.{◌≡◌, ℕ, suc, zero, []}
-use Rattle.queue_table.specs.declared.records.Place.{Place}
+pub use Rattle.queue_table.specs.declared.records.Place.{Place}
 use Rattle.queue_table.specs.Entries.{items_of}
 use Rattle.queue_table.specs.Queues as ByNumber
 use Rattle.segments.specs.declared.records.QueuePlace.{QueuePlace}

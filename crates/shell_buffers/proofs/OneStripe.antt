@@ -2,8 +2,7 @@
 use Rattle.std.proofs.Common.{◌≡◌, ℕ, ◌<◌, List, [], length, get_or, set, map, ap, ◌∙◌, sym, subst}
 use Rattle.std.proofs.lemmas.List.{map-set, get_or-map, length-map}
 use Rattle.arrayvec.specs.ArrayVec.{ArrayVec}
-use Rattle.step_record.specs.declared.item.Item.{Item}
-use Rattle.shell_buffers.specs.Buffers.{stripe_at, items_of}
+use Rattle.shell_buffers.specs.Buffers.{Item, stripe_at, items_of}
 
 module _ (buffers : List (ArrayVec Item)) (s : ℕ) (old new : ArrayVec Item) (shown : List (List Item)) (view : map items_of buffers ≡ shown) (h : s < length shown) (e : old ≡ get_or buffers s old) where
   -- what a stripe shows

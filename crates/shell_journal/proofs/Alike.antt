@@ -1,8 +1,7 @@
 -- Shells just opened with one configuration are alike.
 use Rattle.std.proofs.Common.{◌≡◌, [], refl, sym, ap, ◌∙◌}
-use Rattle.step_record.specs.declared.config.Config.{Config}
 use Rattle.admission.specs.Frequency.{FrequencyData, frequency_of}
-use Rattle.replacement.specs.Shape.{shape_of}
+use Rattle.replacement.specs.Shape.{Config, shape_of}
 use Rattle.replacement.proofs.Shape.{own-shape}
 use Rattle.shell_model.specs.Shell.{Shell}
 use Rattle.shell_model.specs.Laws.{empty_shell}

@@ -3,22 +3,17 @@ use Rattle.std.proofs.Common.{◌≡◌, ℕ, suc, zero, ◌+◌, ◌<◌, ◌�
 use Rattle.std.proofs.lemmas.Bool.{cases_Bool, eqb-true, eq-eqb}
 use Rattle.std.proofs.lemmas.List.{get_or-set_same, get_or-set_other}
 use Rattle.std.specs.List.{AllByRecursion}
-use Rattle.step_record.specs.declared.item.Item.{Item}
-use Rattle.step_record.specs.declared.config.Config.{Config}
 use Rattle.step_record.specs.declared.limits.TheConstants.{MAX_STEPS}
-use Rattle.step_record.specs.declared.step.Act.{Act}
 use Rattle.step_record.specs.declared.step.Act.TheVariants as a
-use Rattle.step_record.specs.declared.step.Reply.{Reply}
 use Rattle.step_record.specs.declared.step.Reply.TheVariants as reply
 use Rattle.step_record.specs.History.{next_data, data_after, IsLegal}
-use Rattle.segments.specs.Items.{occurrences, oldest_of}
-use Rattle.shell_buffers.specs.declared.task.Task.{Task}
+use Rattle.segments.specs.Items.{Item, occurrences, oldest_of}
 use Rattle.shell_buffers.specs.declared.task.Task.TheVariants.{Add, Update, Remove}
 use Rattle.shell_buffers.specs.Buffers.{stripe_at}
-use Rattle.shell_model.specs.Shell.{Shell, node_of, counted_up, act}
+use Rattle.shell_model.specs.Shell.{Task, Reply, Act, Shell, node_of, counted_up, act}
 use Rattle.replacement.specs.Counts.{queue_occurrences}
 use Rattle.shell_model.specs.Consistency.{IsConsistent}
-use Rattle.shell_model.specs.Laws.{MadeStep, empty_shell}
+use Rattle.shell_model.specs.Laws.{Config, MadeStep, empty_shell}
 use Rattle.shell_model.specs.ReachableShell.{IsReachable, IsBounded}
 use Rattle.admission.specs.Shape.{Shape}
 use Rattle.shell_model.proofs.Counting.{node-listed, listed-times}

@@ -1,11 +1,8 @@
 -- Which journal can be copied.
 use Rattle.std.specs.Prelude.{◌≡◌, ◌≤◌, [], length}
-use Rattle.step_record.specs.declared.config.Config.{Config}
-use Rattle.step_record.specs.declared.step.Reply.{Reply}
-use Rattle.step_record.specs.declared.step.Step.{Step}
 use Rattle.journal.specs.Session.{SessionState}
-use Rattle.shell_model.specs.Shell.{Shell}
-use Rattle.maintenance.specs.EmptyShell.{IsOpened}
+use Rattle.shell_model.specs.Shell.{Step, Reply, Shell}
+use Rattle.maintenance.specs.EmptyShell.{Config, IsOpened}
 
 -- The copy was opened alike, has no entry yet, and has room for those of the session.
 pub record CanHold (session copy : SessionState Shell Shell Step Reply) : Type 0 where

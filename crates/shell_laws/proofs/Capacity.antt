@@ -5,23 +5,19 @@ use Rattle.std.proofs.lemmas.Bool.Decides.{nat_tests}
 use Rattle.std.proofs.lemmas.Nat.{mul-le}
 use Rattle.std.specs.Prelude.{nat_le}
 use Rattle.step_record.specs.Config.{config_fault, is_from_one}
-use Rattle.step_record.specs.declared.config.Config.{Config}
 use Rattle.step_record.specs.declared.limits.TheConstants.{MAX_CAPACITY, MAX_MAIN_PERCENT}
-use Rattle.step_record.specs.declared.item.Item.{Item}
-use Rattle.segments.specs.Items.{occurrences}
+use Rattle.segments.specs.Items.{Item, occurrences}
 use Rattle.segments.specs.Queues.{Queues, total_items}
 use Rattle.segments.proofs.ItemLists.{times-append}
-use Rattle.shell_buffers.specs.declared.task.Task.{Task}
-use Rattle.replacement.specs.Rules.{main_size}
-use Rattle.shell_model.specs.declared.holder.Holder.{Holder}
-use Rattle.shell_model.specs.Shell.{Shell, window_size}
+use Rattle.replacement.specs.Rules.{Config, main_size}
+use Rattle.shell_model.specs.Shell.{Task, Shell, window_size}
 use Rattle.replacement.specs.Counts.{queue_occurrences}
 use Rattle.shell_model.specs.Consistency.{IsConsistent, waiting_adds}
 use Rattle.shell_model.specs.Laws.{empty_shell}
 use Rattle.shell_model.specs.ReachableShell.{IsReachable}
 use Rattle.shell_model.proofs.Holding.{opened-sound}
 use Rattle.shell_model.proofs.Reached.{reached-sound}
-use Rattle.shell_laws.specs.Capacity.{tasks_applied, items_added, items_removed, CapacityLaw}
+use Rattle.shell_laws.specs.Capacity.{Holder, tasks_applied, items_added, items_removed, CapacityLaw}
 use Rattle.shell_laws.proofs.Lists.{no-longer, times-added, times-removed, few-added}
 use Rattle.shell_laws.proofs.Windows.{IsWindowed, after-windowed}
 

@@ -1,14 +1,12 @@
 -- An Evict takes one item out of a window that is over its size.
 use Rattle.std.proofs.Common.{◌≡◌, ℕ, ◌+◌, ◌<◌, ◌≤◌, true, List, length, refl, arith}
 use Rattle.std.proofs.lemmas.Bool.{ltb-true, ltb-false}
-use Rattle.step_record.specs.declared.item.Item.{Item}
 use Rattle.step_record.specs.declared.step.Act.TheVariants as a
-use Rattle.step_record.specs.declared.step.Reply.{Reply}
 use Rattle.segments.specs.declared.records.Queue.TheVariants.{Probation}
-use Rattle.segments.specs.Items.{occurrences, items_without}
+use Rattle.segments.specs.Items.{Item, occurrences, items_without}
 use Rattle.segments.specs.Queues.{IsDistinct}
 use Rattle.segments.proofs.ItemLists.{times-gone, length-without}
-use Rattle.shell_model.specs.Shell.{Shell, window_size, is_over}
+use Rattle.shell_model.specs.Shell.{Reply, Shell, window_size, is_over}
 use Rattle.shell_model.specs.ShellEviction.{shift_effect, IsCandidate, IsVictim}
 use Rattle.shell_model.specs.ShellSteps as k
 use Rattle.shell_model.specs.ShellSteps.{Makes, Steps}

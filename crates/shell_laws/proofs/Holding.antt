@@ -1,16 +1,12 @@
 -- A worker holds the maintenance exactly where the drain state is ToIdle or ToRequired.
 use Rattle.std.proofs.Common.{◌≡◌, ◌∙◌, ℕ, Option, Some, None, is_some, List, [], ◌∷◌, ap, sym, subst, refl}
-use Rattle.step_record.specs.declared.step.Act.{Act}
-use Rattle.step_record.specs.declared.drain.Drain.{Drain}
 use Rattle.step_record.specs.declared.drain.Drain.TheVariants.{Idle, Required, ToIdle, ToRequired}
-use Rattle.step_record.specs.declared.step.Reply.{Reply}
 use Rattle.step_record.specs.History.{next_data, data_after, IsLegal}
 use Rattle.shell_model.specs.declared.holder.Holder.{Holder}
-use Rattle.step_record.specs.declared.drain.Phase.{Phase}
 use Rattle.step_record.specs.declared.drain.Phase.TheVariants.{Writes, Evictions}
-use Rattle.shell_model.specs.ShellState.{holder_in_phase}
+use Rattle.shell_model.specs.ShellState.{Phase, Drain, holder_in_phase}
 use Rattle.shell_model.specs.Changes.{holder_after_task}
-use Rattle.shell_model.specs.Shell.{Shell, act, after_write, drain_at_end}
+use Rattle.shell_model.specs.Shell.{Reply, Act, Shell, act, after_write, drain_at_end}
 use Rattle.shell_model.specs.Laws.{MadeStep, empty_shell}
 use Rattle.shell_model.specs.ShellSteps as k
 use Rattle.shell_model.specs.ShellSteps.{Makes, Steps}

@@ -1,12 +1,10 @@
 -- Lists of items by how often each stands in them.
 use Rattle.std.proofs.Common.{◌≡◌, ◌+◌, ◌≤◌, cond, List, [], ◌∷◌, length, ap, refl, arith, inl, inr}
 use Rattle.std.proofs.lemmas.Bool.{cases_Bool}
-use Rattle.step_record.specs.declared.item.Item.{Item}
-use Rattle.segments.specs.Items.{is_same_item, occurrences, items_without}
+use Rattle.segments.specs.Items.{Item, is_same_item, occurrences, items_without}
 use Rattle.segments.proofs.ItemLists.{same-refl, same-true, length-without}
-use Rattle.shell_buffers.specs.declared.task.Task.{Task}
 use Rattle.shell_buffers.specs.declared.task.Task.TheVariants.{Add, Update, Remove}
-use Rattle.shell_model.specs.Consistency.{waiting_adds, leaving}
+use Rattle.shell_model.specs.Consistency.{Task, waiting_adds, leaving}
 use Rattle.replacement.proofs.Counting.{unless-same}
 use Rattle.shell_laws.specs.Capacity.{items_added, items_removed}
 

@@ -2,17 +2,14 @@
 use Rattle.std.proofs.Common.{◌≡◌, ℕ, ◌+◌, ◌-◌, ◌≤◌, Bool, true, false, cond, Some, None, List, [], ◌∷◌, length, ap, ◌∙◌, refl, arith, inl, inr}
 use Rattle.std.proofs.lemmas.Bool.{cases_lt}
 use Rattle.step_record.specs.History.{next_data, data_after, IsLegal}
-use Rattle.step_record.specs.declared.config.Config.{Config}
-use Rattle.step_record.specs.declared.step.Act.{Act}
 use Rattle.step_record.specs.declared.step.Act.TheVariants as a
-use Rattle.step_record.specs.declared.step.Reply.{Reply}
 use Rattle.step_record.specs.declared.step.Reply.TheVariants as reply
-use Rattle.shell_model.specs.Shell.{Shell, window_size, act}
+use Rattle.shell_model.specs.Shell.{Reply, Act, Shell, window_size, act}
 use Rattle.shell_model.specs.ShellSteps as k
 use Rattle.shell_model.specs.ShellSteps.{Makes, Steps}
 use Rattle.shell_model.proofs.Making.{stepped}
 use Rattle.shell_model.specs.Consistency.{IsConsistent}
-use Rattle.shell_model.specs.Laws.{MadeStep, tally, is_ending, some_end}
+use Rattle.shell_model.specs.Laws.{Config, MadeStep, tally, is_ending, some_end}
 use Rattle.shell_model.specs.ReachableShell.{IsReachable, worker_of}
 use Rattle.shell_model.proofs.Engines.{hold_laws}
 use Rattle.shell_model.proofs.Reached.{reached-sound, reached-on}

@@ -2,37 +2,29 @@
 use Rattle.std.proofs.Common.{◌≡◌, ℕ, zero, suc, ◌+◌, ◌-◌, ◌*◌, ◌<◌, ◌≤◌, true, false, eqb, nat_lt, Option, Some, None, Ok, List, [], ◌∷◌, ◌++◌, length, ap, subst, ◌∙◌, sym, refl, arith, inl, inr, length-append}
 use Rattle.std.proofs.lemmas.Bool.{cases_lt, cond_both, ne_eqb, lt-ltb, le-ltb}
 use Rattle.step_record.specs.Config.{config_fault}
-use Rattle.step_record.specs.declared.config.Config.{Config}
-use Rattle.step_record.specs.declared.item.Item.{Item}
-use Rattle.step_record.specs.declared.step.Act.{Act}
 use Rattle.step_record.specs.declared.step.Act.TheVariants as a
-use Rattle.step_record.specs.declared.step.Step.{Step}
-use Rattle.step_record.specs.declared.step.Reply.{Reply}
 use Rattle.step_record.specs.declared.step.Reply.TheVariants as reply
 use Rattle.step_record.specs.declared.drain.Drain.TheVariants as drain
-use Rattle.step_record.specs.declared.drain.Phase.{Phase}
 use Rattle.step_record.specs.declared.drain.Phase.TheVariants.{Reads, Writes, Evictions}
 use Rattle.segments.specs.declared.records.Queue.TheVariants.{Window, Probation}
-use Rattle.segments.specs.Items.{occurrences, items_without, oldest_of}
+use Rattle.segments.specs.Items.{Item, occurrences, items_without, oldest_of}
 use Rattle.segments.specs.Queues.{Queues, queues_after_move, queues_after_push, total_items, IsDistinct}
 use Rattle.segments.proofs.ItemLists.{length-without}
 use Rattle.admission.specs.Shape.{Shape}
-use Rattle.shell_buffers.specs.declared.task.Task.{Task}
 use Rattle.shell_buffers.specs.declared.task.Task.TheVariants.{Add, Update, Remove}
-use Rattle.shell_model.specs.declared.holder.Holder.{Holder}
 use Rattle.shell_model.specs.Frequency.{frequency_recorded}
-use Rattle.replacement.specs.Rules.{three_queues}
+use Rattle.replacement.specs.Rules.{Config, three_queues}
 use Rattle.replacement.specs.Plan.{candidate_of}
 use Rattle.replacement.specs.Table.{kept_in}
-use Rattle.shell_model.specs.ShellState.{holder_in_phase}
+use Rattle.shell_model.specs.ShellState.{Task, Phase, holder_in_phase}
 use Rattle.shell_model.specs.Changes.{shell_eviction}
 use Rattle.shell_model.proofs.Making.{evict-is}
-use Rattle.shell_model.specs.Shell.{Shell, held_by, in_phase, evicted_by, node_of, table_with, window_size, drain_at_end, may_write, act_effect, counted_up, act}
+use Rattle.shell_model.specs.Shell.{Reply, Step, Act, Shell, held_by, in_phase, evicted_by, node_of, table_with, window_size, drain_at_end, may_write, act_effect, counted_up, act}
 use Rattle.shell_model.specs.Laws.{IsShapeOf, empty_shell}
 use Rattle.shell_model.specs.ReachableShell.{IsReachable}
 use Rattle.shell_model.proofs.Undoing.{sound-distinct, first-queued}
 use Rattle.shell_model.proofs.Reached.{reached-sound, reached-on}
-use Rattle.shell_laws.specs.Capacity.{tasks_applied, items_added, items_removed, IsNearCapacity}
+use Rattle.shell_laws.specs.Capacity.{Holder, tasks_applied, items_added, items_removed, IsNearCapacity}
 use Rattle.shell_laws.specs.Sharpness.{IsBoundReached, SharpnessLaw}
 use Rattle.shell_laws.proofs.Capacity.{checked-sizes, near-capacity}
 

@@ -3,23 +3,18 @@ use Rattle.std.proofs.Common.{◌≡◌, ℕ, ◌+◌, ◌≤◌, Bool, true, fa
 use Rattle.std.proofs.lemmas.Bool.{cond_both, ltb-false}
 use Rattle.step_record.specs.History.{next_data, data_after, IsLegal}
 use Rattle.step_record.specs.declared.config.Config.{Config}
-use Rattle.step_record.specs.declared.item.Item.{Item}
-use Rattle.step_record.specs.declared.step.Act.{Act}
-use Rattle.step_record.specs.declared.step.Reply.{Reply}
 use Rattle.step_record.specs.declared.step.Reply.TheVariants as reply
 use Rattle.step_record.specs.declared.drain.Phase.{Phase}
 use Rattle.step_record.specs.declared.drain.Phase.TheVariants.{Writes, Evictions}
-use Rattle.segments.specs.declared.records.Queue.{Queue}
 use Rattle.segments.specs.declared.records.Queue.TheVariants.{Probation, Protected}
-use Rattle.segments.specs.Items.{items_without, oldest_of}
+use Rattle.segments.specs.Items.{Item, items_without, oldest_of}
 use Rattle.segments.specs.Queues.{Queues, queue_holding, queues_after_move, IsDistinct}
 use Rattle.segments.proofs.ItemLists.{length-without}
 use Rattle.segments.proofs.MoveLaws.{Stands, in_window, in_probation, in_protected, nowhere, stands}
-use Rattle.replacement.specs.Table.{with_recent, hit_in, after_hit}
-use Rattle.shell_model.specs.declared.holder.Holder.{Holder}
+use Rattle.replacement.specs.Table.{Queue, with_recent, hit_in, after_hit}
 use Rattle.shell_model.specs.ShellState.{Shell, window_size, shell_protected_size, is_over, holder_in_phase, in_phase}
 use Rattle.shell_model.specs.Changes.{holder_after_task}
-use Rattle.shell_model.specs.Shell.{act}
+use Rattle.shell_model.specs.Shell.{Reply, Act, act}
 use Rattle.shell_model.specs.ShellEviction.{shift_effect, leave}
 use Rattle.shell_model.specs.ShellSteps as k
 use Rattle.shell_model.specs.ShellSteps.{Makes, Steps}
@@ -29,7 +24,7 @@ use Rattle.shell_model.proofs.Counting.{cleared-is}
 use Rattle.shell_model.proofs.Making.{stepped}
 use Rattle.shell_model.proofs.Undoing.{sound-distinct}
 use Rattle.shell_model.proofs.Preserving.{sound-next}
-use Rattle.shell_laws.specs.Capacity.{tasks_applied}
+use Rattle.shell_laws.specs.Capacity.{Holder, tasks_applied}
 
 -- What a step keeps, for any two numbers: the one and the window are at most the other and the tasks applied. And the
 -- tasks applied grow.

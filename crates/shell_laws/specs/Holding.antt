@@ -1,8 +1,7 @@
 -- When a worker holds the maintenance.
 use Rattle.std.specs.Prelude.{◌≡◌, Bool, true, false, is_some}
-use Rattle.step_record.specs.declared.drain.Drain.{Drain}
 use Rattle.step_record.specs.declared.drain.Drain.TheVariants.{Idle, Required, ToIdle, ToRequired}
-use Rattle.shell_model.specs.Shell.{Shell}
+use Rattle.shell_model.specs.Shell.{Drain, Shell}
 use Rattle.shell_model.specs.ReachableShell.{IsReachable}
 
 -- whether maintenance is under way, by the drain state

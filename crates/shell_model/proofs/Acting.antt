@@ -2,18 +2,13 @@
 use Rattle.std.proofs.Common.{◌≡◌, ℕ, ◌+◌, ◌-◌, ◌≤◌, nat_lt, Option, Some, None, ◌∙◌, refl, arith}
 use Rattle.std.proofs.lemmas.Bool.{cond_both}
 use native.Mathlib.Numerals.{unary_clauses}
-use Rattle.step_record.specs.declared.step.Reply.{Reply}
-use Rattle.step_record.specs.declared.step.Step.{Step}
-use Rattle.shell_model.specs.declared.stats.Counted.{Counted}
 use Rattle.shell_model.specs.declared.stats.Counted.TheVariants as counted
 use Rattle.shell_model.specs.declared.stats.ShellStats.{ShellStats}
-use Rattle.shell_model.specs.declared.record.ShellRecord.{ShellRecord}
-use Rattle.shell_model.specs.declared.record.Change.{Change}
 use Rattle.shell_model.specs.declared.record.Change.TheVariants.{Nothing, Read, Applied, Evicted}
-use Rattle.shell_model.specs.Changes.{after_change, before_change, FitsChange}
-use Rattle.shell_model.specs.Shell.{Shell, act_reply, with_shell, act_effect, counted_reply, act}
-use Rattle.shell_model.specs.ShellStats.{counted_of, shell_stats_with, AllCounts, shell_stats_after}
-use Rattle.shell_model.specs.Records.{record_by, shell_record_of, undone_step, FitsStep}
+use Rattle.shell_model.specs.Changes.{Change, after_change, before_change, FitsChange}
+use Rattle.shell_model.specs.Shell.{Step, Reply, Shell, act_reply, with_shell, act_effect, counted_reply, act}
+use Rattle.shell_model.specs.ShellStats.{Counted, counted_of, shell_stats_with, AllCounts, shell_stats_after}
+use Rattle.shell_model.specs.Records.{ShellRecord, record_by, shell_record_of, undone_step, FitsStep}
 use Rattle.shell_model.specs.Consistency.{IsConsistent}
 use Rattle.shell_model.proofs.Undoing.{GoesTo, reply-goes}
 

@@ -1,27 +1,19 @@
 -- What the shell keeps as an engine: its replies belong to their acts, it counts its steps, its frequency ages as a
 -- sketch does, and a record's words are those of its halving.
 use Rattle.std.proofs.Common.{◌≡◌, ℕ, ◌+◌, ◌^◌, true, false, Option, Some, None, ap, subst, sym, ◌∙◌, refl, arith, inl}
-use Rattle.step_record.specs.declared.step.Act.{Act}
-use Rattle.step_record.specs.declared.step.Step.{Step}
-use Rattle.step_record.specs.declared.drain.Phase.{Phase}
 use Rattle.step_record.specs.declared.drain.Phase.TheVariants.{Writes, Evictions}
-use Rattle.step_record.specs.declared.step.Reply.{Reply}
 use Rattle.step_record.specs.declared.step.Reply.TheVariants as reply
 use Rattle.step_record.specs.Answers.{is_answer, AnswersItsActs}
 use Rattle.step_record.specs.Pace.{Pace, IsPaced, words_of_halvings}
-use Rattle.admission.specs.declared.freq_record.FreqRecord.{FreqRecord}
 use Rattle.admission.specs.FreqRecord.{size_of}
 use Rattle.admission.specs.Frequency.{FrequencyData, pace_of}
 use Rattle.admission.proofs.Weighing.{recorded_paced, weight_falls}
-use Rattle.shell_model.specs.declared.holder.Holder.{Holder}
-use Rattle.shell_model.specs.declared.record.ShellRecord.{ShellRecord}
-use Rattle.shell_model.specs.declared.record.Change.{Change}
 use Rattle.shell_model.specs.declared.record.Change.TheVariants.{Nothing, Read, Applied}
-use Rattle.shell_model.specs.Frequency.{frequency_recorded, frequency_unrecorded, FitsFrequency}
-use Rattle.shell_model.specs.ShellState.{Shell, holder_in_phase}
-use Rattle.shell_model.specs.Shell.{act}
+use Rattle.shell_model.specs.Frequency.{FreqRecord, frequency_recorded, frequency_unrecorded, FitsFrequency}
+use Rattle.shell_model.specs.ShellState.{Holder, Phase, Shell, holder_in_phase}
+use Rattle.shell_model.specs.Shell.{Change, Reply, Step, Act, act}
 use Rattle.shell_model.specs.Changes.{holder_after_task, before_change, FitsChange, change_size}
-use Rattle.shell_model.specs.Records.{undone_step, FitsStep, record_size}
+use Rattle.shell_model.specs.Records.{ShellRecord, undone_step, FitsStep, record_size}
 use Rattle.shell_model.specs.Laws.{MadeStep, is_ending}
 use Rattle.shell_model.specs.ReachableShell.{worker_of, HoldLaws}
 use Rattle.shell_model.specs.ShellSteps as k

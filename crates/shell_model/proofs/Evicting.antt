@@ -2,18 +2,16 @@
 use Rattle.std.proofs.Common.{◌≡◌, nat_lt, true, false, Option, Some, None, List, [], ◌∷◌, ◌++◌, length, ap, refl, sym, ◌∙◌, arith, inl, inr}
 use Rattle.std.proofs.lemmas.Bool.{cases_Bool}
 use Rattle.std.proofs.lemmas.Bool.Decides.{nat_tests}
-use Rattle.step_record.specs.declared.item.Item.{Item}
-use Rattle.step_record.specs.declared.step.Reply.{Reply}
 use Rattle.segments.specs.declared.records.Queue.TheVariants.{Probation}
-use Rattle.segments.specs.Items.{is_same_item, items_without, oldest_of}
+use Rattle.segments.specs.Items.{Item, is_same_item, items_without, oldest_of}
 use Rattle.segments.specs.Queues.{queues_after_move, IsDistinct}
 use Rattle.replacement.specs.Rules.{three_queues}
 use Rattle.replacement.specs.Plan.{candidate_of, eviction_plan}
 use Rattle.replacement.specs.PlanMoves.{response_of_plan}
 use Rattle.replacement.specs.Table.{Response, contest, trial, trial_of}
-use Rattle.replacement.proofs.Planned.{evictions-planned}
+use Rattle.replacement.proofs.Planned.{evictions_planned}
 use Rattle.shell_model.specs.Frequency.{admits}
-use Rattle.shell_model.specs.Shell.{Shell, window_size, evicted_by, is_over, evict_effect}
+use Rattle.shell_model.specs.Shell.{Reply, Shell, window_size, evicted_by, is_over, evict_effect}
 use Rattle.shell_model.specs.ShellEviction.{shift_effect, IsCandidate, is_too_much, IsVictim, Evicts, EvictionsByReply}
 use Rattle.shell_model.specs.ShellEviction as e
 
@@ -66,4 +64,4 @@ pub evictions-by-plan : (x : Shell) → IsDistinct x.queues → evict_effect x �
     x
 evictions-by-plan x d =
     ap (λ (r : Response). evicted_by (candidate_of (three_queues x.config) x.queues) r x)
-    (evictions-planned (three_queues x.config) (admits x.frequency) x.queues d)
+    (evictions_planned (three_queues x.config) (admits x.frequency) x.queues d)

@@ -2,31 +2,26 @@
 use Rattle.std.proofs.Common.{◌≡◌, ℕ, suc, zero, ◌+◌, ◌<◌, ◌≤◌, ◌↔◌, true, false, eqb, nat_lt, List, [], ◌∷◌, ◌++◌, length, set, drop, ap, ◌∙◌, sym, refl, arith, inl, inr, append-nil, append_assoc}
 use Rattle.std.proofs.lemmas.Bool.{cases_Bool, eqb-true, eq-eqb}
 use Rattle.std.proofs.lemmas.List.{drop-append-le, drop-drop, get_or-set_same, get_or-set_other}
-use Rattle.step_record.specs.declared.item.Item.{Item}
-use Rattle.step_record.specs.declared.step.Act.{Act}
 use Rattle.step_record.specs.declared.step.Act.TheVariants as a
-use Rattle.step_record.specs.declared.step.Reply.{Reply}
 use Rattle.step_record.specs.declared.step.Reply.TheVariants as reply
 use Rattle.step_record.specs.History.{next_data, data_after, IsLegal}
-use Rattle.segments.specs.Items.{is_same_item, occurrences, items_without}
+use Rattle.segments.specs.Items.{Item, is_same_item, occurrences, items_without}
 use Rattle.segments.proofs.ItemLists.{same-true, times-append}
 use Rattle.admission.specs.Shape.{Shape, IsShape}
 use Rattle.admission.specs.Frequency.{FrequencyData, frequency_of}
 use Rattle.admission.proofs.Recording.{recorded_freq}
-use Rattle.step_record.specs.declared.config.Config.{Config}
 use Rattle.shell_model.specs.declared.stats.ShellStats.{ShellStats}
 use Rattle.shell_model.specs.declared.stats.Counted.{Counted}
 use Rattle.shell_model.specs.declared.stats.Counted.TheVariants as counted
 use Rattle.shell_model.specs.Frequency.{frequency_recorded}
-use Rattle.shell_model.specs.declared.stats.TheConstants.ShellStats.{NONE}
-use Rattle.shell_model.specs.ShellStats.{counted_of, count_of, shell_stats_with, raises, shell_stats_after}
+use Rattle.shell_model.specs.ShellStats.{NONE, Reply, counted_of, count_of, shell_stats_with, raises, shell_stats_after}
 use Rattle.step_record.specs.Stats.{one_if}
 use Rattle.shell_buffers.specs.Buffers.{stripe_at}
 use Rattle.shell_model.specs.Changes.{shell_after_touch}
-use Rattle.shell_model.specs.Shell.{Shell, act}
+use Rattle.shell_model.specs.Shell.{Act, Shell, act}
 use Rattle.replacement.specs.Counts.{queue_occurrences}
 use Rattle.shell_model.specs.Consistency.{IsConsistent}
-use Rattle.shell_model.specs.Laws.{MadeStep, empty_shell, collect, tally, offered, drained, asked, done, added, evicted_items, removed_items, keyed}
+use Rattle.shell_model.specs.Laws.{Config, MadeStep, empty_shell, collect, tally, offered, drained, asked, done, added, evicted_items, removed_items, keyed}
 use Rattle.replacement.proofs.Counting.{once, unless-same}
 use Rattle.shell_model.proofs.Counting.{times-placed, listed-times, node-listed, unlisted-is}
 use Rattle.shell_model.proofs.Undoing.{first-queued, shifted-queued}

@@ -1,24 +1,19 @@
 -- Who holds the maintenance, and in which phase.
 use Rattle.std.proofs.Common.{◌≡◌, ℕ, suc, zero, ◌+◌, ◌*◌, ◌/◌, ◌≤◌, Bool, true, false, cond, Option, Some, None, List, [], ◌∷◌, replicate, ap, ◌∙◌, refl, arith}
-use Rattle.step_record.specs.declared.config.Config.{Config}
-use Rattle.step_record.specs.declared.step.Act.{Act}
 use Rattle.step_record.specs.declared.step.Act.TheVariants as a
 use Rattle.step_record.specs.declared.drain.Phase.TheVariants.{Reads, Writes, Evictions}
-use Rattle.step_record.specs.declared.drain.Phase.{Phase}
-use Rattle.step_record.specs.declared.step.Reply.{Reply}
 use Rattle.step_record.specs.declared.step.Reply.TheVariants as reply
 use Rattle.step_record.specs.History.{next_data, data_after, IsLegal}
 use Rattle.segments.specs.Items.{occurrences}
 use Rattle.admission.specs.Shape.{Shape, IsShape}
 use Rattle.admission.proofs.Doors.{part_16}
 use Rattle.admission.proofs.Weighing.{frequency_is}
-use Rattle.shell_model.specs.declared.holder.Holder.{Holder}
 use Rattle.shell_model.specs.declared.stats.Counted.TheVariants as counted
-use Rattle.shell_model.specs.ShellStats.{raises}
+use Rattle.shell_model.specs.ShellStats.{Reply, raises}
 use Rattle.shell_buffers.specs.Buffers.{stripe_at}
-use Rattle.shell_model.specs.ShellState.{holder_in_phase}
+use Rattle.shell_model.specs.ShellState.{Holder, Phase, Config, holder_in_phase}
 use Rattle.shell_model.specs.Changes.{holder_after_task}
-use Rattle.shell_model.specs.Shell.{Shell, may_write, act}
+use Rattle.shell_model.specs.Shell.{Act, Shell, may_write, act}
 use Rattle.shell_model.specs.Consistency.{IsConsistent}
 use Rattle.shell_model.specs.Laws.{MadeStep, collect, IsShapeOf, empty_shell, added, is_ending, is_drain_write, is_evict, some_end, some_act, phase_after, open_from, open_began, holding_of, holding_from, AreReplies, HistoryLaws}
 use Rattle.shell_model.specs.ShellSteps as k

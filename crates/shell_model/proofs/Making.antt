@@ -1,27 +1,19 @@
 -- A step is one of the cases.
 use Rattle.std.proofs.Common.{◌≡◌, ℕ, ◌<◌, ◌≤◌, true, false, ◌&&◌, eqb, nat_lt, Option, Some, None, List, [], ◌∷◌, length, ap, subst, sym, ◌∙◌, refl, arith, inl, inr}
 use Rattle.std.proofs.lemmas.Bool.{and_parts, cases_Bool, cond_both, eqb-true, eqb-false, ltb-true, ltb-false}
-use Rattle.step_record.specs.declared.item.Item.{Item}
-use Rattle.step_record.specs.declared.step.Answer.{Answer}
 use Rattle.step_record.specs.declared.step.Answer.TheVariants as answer
-use Rattle.step_record.specs.declared.step.Act.{Act}
 use Rattle.step_record.specs.declared.step.Act.TheVariants as a
-use Rattle.step_record.specs.declared.drain.Drain.{Drain}
 use Rattle.step_record.specs.declared.drain.Drain.TheVariants as drain
 use Rattle.step_record.specs.declared.drain.Phase.TheVariants.{Writes, Evictions}
-use Rattle.step_record.specs.declared.step.Reply.{Reply}
 use Rattle.step_record.specs.declared.step.Reply.TheVariants as reply
 use Rattle.replacement.specs.Rules.{three_queues}
-use Rattle.replacement.specs.Plan.{Plan, candidate_of, eviction_plan}
-use Rattle.shell_buffers.specs.declared.task.Task.{Task}
+use Rattle.replacement.specs.Plan.{Item, Plan, candidate_of, eviction_plan}
 use Rattle.shell_buffers.specs.declared.task.Task.TheVariants.{Add, Update, Remove}
 use Rattle.shell_buffers.specs.Buffers.{stripe_at}
-use Rattle.shell_model.specs.declared.holder.Holder.{Holder}
-use Rattle.shell_model.specs.declared.record.Change.{Change}
 use Rattle.shell_model.specs.declared.record.Change.TheVariants as change
 use Rattle.shell_model.specs.Frequency.{admits}
-use Rattle.shell_model.specs.Changes.{after_change, shell_eviction}
-use Rattle.shell_model.specs.Shell.{Shell, node_of, held_by, in_phase, is_over, look_reply, offer_reply, put_at, put_reply, remove_at, after_read, after_write, begin_reply, read_reply, write_reply, task_reply, evict_effect, evicted_by, planned_change, evict_change, end_reply, drain_at_end, may_read, may_write, is_stripe, some_if, if_held, act_reply, with_shell, act_effect, counted_up, counted_reply}
+use Rattle.shell_model.specs.Changes.{Change, Holder, Task, after_change, shell_eviction}
+use Rattle.shell_model.specs.Shell.{Reply, Drain, Act, Answer, Shell, node_of, held_by, in_phase, is_over, look_reply, offer_reply, put_at, put_reply, remove_at, after_read, after_write, begin_reply, read_reply, write_reply, task_reply, evict_effect, evicted_by, planned_change, evict_change, end_reply, drain_at_end, may_read, may_write, is_stripe, some_if, if_held, act_reply, with_shell, act_effect, counted_up, counted_reply}
 use Rattle.shell_model.specs.ShellEviction.{Evicts}
 use Rattle.shell_model.specs.ShellEviction as evicts
 use Rattle.shell_model.specs.ShellSteps.{MayOffer, Holds, MayRead, MayWrite, Makes, Steps, StepsByReply}

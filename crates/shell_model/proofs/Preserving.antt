@@ -3,26 +3,19 @@ use Rattle.std.proofs.Common.{◌≡◌, ℕ, suc, zero, ◌+◌, ◌<◌, ◌�
 use Rattle.std.proofs.lemmas.Bool.{eqb-true, eq-eqb, cases_Bool}
 use Rattle.std.proofs.lemmas.Bool.Decides.{nat_tests}
 use Rattle.std.proofs.lemmas.List.{get_or-set_same, get_or-set_other}
-use Rattle.step_record.specs.declared.item.Item.{Item}
-use Rattle.step_record.specs.declared.step.Act.{Act}
 use Rattle.step_record.specs.declared.drain.Phase.TheVariants.{Writes, Evictions}
-use Rattle.step_record.specs.declared.drain.Phase.{Phase}
-use Rattle.step_record.specs.declared.step.Reply.{Reply}
-use Rattle.segments.specs.declared.records.Queue.{Queue}
 use Rattle.segments.specs.declared.records.Queue.TheVariants.{Window, Probation, Protected}
-use Rattle.segments.specs.Items.{is_same_item, occurrences, items_without, oldest_of}
+use Rattle.segments.specs.Items.{Item, is_same_item, occurrences, items_without, oldest_of}
 use Rattle.segments.specs.Queues.{Queues, queue_holding, queues_after_push, queues_after_move, queues_without, total_items, IsDistinct}
 use Rattle.segments.proofs.ItemLists.{same-refl, same-true, times-append, times-one, length-without, times-without}
 use Rattle.segments.proofs.MoveLaws.{Stands, in_window, in_probation, in_protected, nowhere, stands}
 use Rattle.replacement.specs.Rules.{main_size}
-use Rattle.replacement.specs.Table.{with_recent, hit_in, after_hit}
-use Rattle.shell_buffers.specs.declared.task.Task.{Task}
+use Rattle.replacement.specs.Table.{Queue, with_recent, hit_in, after_hit}
 use Rattle.shell_buffers.specs.declared.task.Task.TheVariants.{Add, Update, Remove}
-use Rattle.shell_model.specs.declared.holder.Holder.{Holder}
 use Rattle.shell_buffers.specs.Buffers.{stripe_at}
-use Rattle.shell_model.specs.ShellState.{Shell, node_of, table_with, queues_cleared, window_size, shell_protected_size, holder_in_phase, in_phase}
+use Rattle.shell_model.specs.ShellState.{Holder, Task, Phase, Shell, node_of, table_with, queues_cleared, window_size, shell_protected_size, holder_in_phase, in_phase}
 use Rattle.shell_model.specs.Changes.{holder_after_task}
-use Rattle.shell_model.specs.Shell.{act}
+use Rattle.shell_model.specs.Shell.{Reply, Act, act}
 use Rattle.shell_model.specs.ShellEviction.{shift_effect, leave, IsCandidate}
 use Rattle.shell_model.specs.ShellSteps.{MayWrite, Makes, Steps}
 use Rattle.shell_model.specs.ShellSteps as k

@@ -2,14 +2,10 @@
 use Rattle.std.proofs.Common.{◌≡◌, ℕ, Some, Ok, List, [], ◌∷◌, ◌++◌, ap, subst, ◌∙◌, sym, refl, arith}
 use Rattle.step_record.specs.Config.{config_fault}
 use Rattle.step_record.specs.History.{next_data, data_after, IsLegal}
-use Rattle.step_record.specs.declared.config.Config.{Config}
-use Rattle.step_record.specs.declared.step.Act.{Act}
-use Rattle.step_record.specs.declared.step.Step.{Step}
-use Rattle.step_record.specs.declared.step.Reply.{Reply}
-use Rattle.shell_model.specs.Shell.{Shell, act}
+use Rattle.shell_model.specs.Shell.{Reply, Step, Act, Shell, act}
 use Rattle.shell_model.specs.Consistency.{IsConsistent}
 use Rattle.shell_model.specs.Records.{shell_record_of}
-use Rattle.shell_model.specs.Laws.{MadeStep, IsShapeOf, empty_shell, some_end, open_began}
+use Rattle.shell_model.specs.Laws.{Config, MadeStep, IsShapeOf, empty_shell, some_end, open_began}
 use Rattle.shell_model.specs.ReachableShell.{IsReachable, RecordLaw, LaterLaws}
 use Rattle.shell_model.proofs.Acting.{IsUndone, act-undone}
 use Rattle.shell_model.specs.ShellSteps as k

@@ -2,37 +2,27 @@
 use Rattle.std.proofs.Common.{◌≡◌, ℕ, suc, zero, ◌+◌, ◌-◌, ◌<◌, ◌≤◌, Bool, true, cond, ◌&&◌, eqb, nat_lt, Option, Some, None, List, [], ◌∷◌, ◌++◌, length, set, drop, ap, sym, refl, arith, inl, inr, length-append}
 use Rattle.std.proofs.lemmas.Bool.{and_parts, cases_Bool, cond_both, eqb-false, ltb-true}
 use Rattle.std.proofs.lemmas.List.{take_at, get_or-set_same, set-set, set-get_or, length-set}
-use Rattle.step_record.specs.declared.item.Item.{Item}
-use Rattle.step_record.specs.declared.step.Act.{Act}
 use Rattle.step_record.specs.declared.step.Act.TheVariants as a
-use Rattle.step_record.specs.declared.drain.Phase.{Phase}
 use Rattle.step_record.specs.declared.drain.Phase.TheVariants.{Writes, Evictions}
-use Rattle.step_record.specs.declared.step.Reply.{Reply}
 use Rattle.step_record.specs.declared.step.Reply.TheVariants as reply
-use Rattle.segments.specs.declared.records.Queue.{Queue}
 use Rattle.segments.specs.declared.records.Queue.TheVariants.{Window, Probation}
-use Rattle.segments.specs.declared.records.MoveRecord.{MoveRecord}
-use Rattle.segments.specs.Items.{is_same_item, occurrences, oldest_of}
+use Rattle.segments.specs.Items.{Item, is_same_item, occurrences, oldest_of}
 use Rattle.segments.specs.Queues.{Queues, queue_holding, queues_after_push, queues_after_move, queues_without, IsDistinct}
 use Rattle.segments.proofs.ItemLists.{same-refl, same-true}
 use Rattle.segments.proofs.MoveLaws.{taken-none}
 use Rattle.replacement.specs.Rules.{three_queues}
-use Rattle.replacement.specs.Table.{hit_in}
+use Rattle.replacement.specs.Table.{Queue, hit_in}
 use Rattle.replacement.specs.Plan.{Plan, hit_plan, stay_plan, candidate_of, eviction_plan}
-use Rattle.replacement.specs.PlanMoves.{queues_after_transfer, queues_after, response_of_plan, removal_record, moves_of, undone_moves, UndoesMoves}
+use Rattle.replacement.specs.PlanMoves.{MoveRecord, queues_after_transfer, queues_after, response_of_plan, removal_record, moves_of, undone_moves, UndoesMoves}
 use Rattle.replacement.proofs.Carrying.{UndoesMove, removal-undone, plan-undone}
-use Rattle.replacement.proofs.Planned.{hits-planned, evictions-planned}
-use Rattle.shell_buffers.specs.declared.task.Task.{Task}
+use Rattle.replacement.proofs.Planned.{hits_planned, evictions_planned}
 use Rattle.shell_buffers.specs.declared.task.Task.TheVariants.{Add, Update, Remove}
-use Rattle.shell_model.specs.declared.holder.Holder.{Holder}
-use Rattle.shell_model.specs.declared.record.UseRecord.{UseRecord}
-use Rattle.shell_model.specs.declared.record.Change.{Change}
 use Rattle.shell_model.specs.declared.record.Change.TheVariants.{Nothing, Offered, Removed, Passed, Ended}
 use Rattle.shell_model.specs.Frequency.{frequency_unrecorded, admits}
 use Rattle.shell_buffers.specs.Buffers.{stripe_at, all_but_newest}
-use Rattle.shell_model.specs.ShellState.{Shell, shell_protected_size, is_over, node_of, is_listed, unlisted, unlisted_by, cleared_from, holder_in_phase}
-use Rattle.shell_model.specs.Changes.{shell_after_touch, shell_after_task, holder_after_task, shell_eviction, after_change, holder_with_task, entered, before_change, IsNewest, FitsTouched, IsInPhase, HasLeft, IsOut, FitsChange}
-use Rattle.shell_model.specs.Shell.{offer_reply, put_at, put_reply, remove_at, begin_reply, hit_moves, touched_of, added_of, cleared_of, read_reply, task_reply, write_reply, evict_effect, leaves_table, planned_change, evict_change, drain_at_end, end_reply, may_read, may_write, is_stripe, some_if, act_reply}
+use Rattle.shell_model.specs.ShellState.{Holder, Task, Phase, Shell, shell_protected_size, is_over, node_of, is_listed, unlisted, unlisted_by, cleared_from, holder_in_phase}
+use Rattle.shell_model.specs.Changes.{Change, UseRecord, shell_after_touch, shell_after_task, holder_after_task, shell_eviction, after_change, holder_with_task, entered, before_change, IsNewest, FitsTouched, IsInPhase, HasLeft, IsOut, FitsChange}
+use Rattle.shell_model.specs.Shell.{Reply, Act, offer_reply, put_at, put_reply, remove_at, begin_reply, hit_moves, touched_of, added_of, cleared_of, read_reply, task_reply, write_reply, evict_effect, leaves_table, planned_change, evict_change, drain_at_end, end_reply, may_read, may_write, is_stripe, some_if, act_reply}
 use Rattle.replacement.specs.Counts.{queue_occurrences}
 use Rattle.shell_model.specs.Consistency.{IsConsistent, waiting_adds, leaving, IsAscending}
 use Rattle.replacement.proofs.Counting.{queued-moved}
@@ -117,7 +107,7 @@ pub hit-back : (size : ℕ) (i : Item) (q : Queues) (p : Option Queue) → IsDis
     → UndoesMoves q (hit_in size i p q) (hit_moves size i p q)
 hit-back size i q None d = record { fits = record { last = tt; out = tt; first = tt; stays = (refl, refl) }; undone = refl }
 hit-back size i q (Some p) d =
-    plan-undone (hit_plan size i p q) q (hit_in size i (Some p) q) (hit_moves size i (Some p) q) d (hits-planned size i p q) refl
+    plan-undone (hit_plan size i p q) q (hit_in size i (Some p) q) (hit_moves size i (Some p) q) d (hits_planned size i p q) refl
 
 hit-stays : (size : ℕ) (i : Item) (q : Queues) (p : Option Queue) → (hit_moves size i p q).out ≡ None
 hit-stays size i q None = refl
@@ -285,7 +275,7 @@ planned-goes h (Some c) p x f r w =
 evict-goes : (h : Holder) (x : Shell) → x.holder ≡ Some h → IsConsistent x → Goes x (evict_change h x)
 evict-goes h x f w =
     planned-goes h (candidate_of (three_queues x.config) x.queues) (eviction_plan (three_queues x.config) (admits x.frequency) x.queues) x f
-    (evictions-planned (three_queues x.config) (admits x.frequency) x.queues (sound-distinct x w)) w
+    (evictions_planned (three_queues x.config) (admits x.frequency) x.queues (sound-distinct x w)) w
 
 end-goes : (h : Holder) (x : Shell) → x.holder ≡ Some h → Goes x (end_reply h x).1
 end-goes h x f =

@@ -2,27 +2,25 @@
 -- change are there for undoing alone.
 use Rattle.std.specs.Prelude.{◌≡◌, ◌≢◌, ℕ, ◌+◌, ◌-◌, ◌<◌, Bool, true, false, Option, Some, None}
 use Rattle.std.specs.Prelude.{List, [], ◌∷◌, ◌++◌, drop, length, set}
-use Rattle.step_record.specs.declared.item.Item.{Item}
 use Rattle.step_record.specs.declared.drain.Drain.TheVariants.{ToIdle}
-use Rattle.step_record.specs.declared.drain.Phase.{Phase}
+pub use Rattle.step_record.specs.declared.drain.Phase.{Phase}
 use Rattle.step_record.specs.declared.drain.Phase.TheVariants.{Reads, Writes, Evictions}
 use Rattle.segments.specs.declared.records.Queue.TheVariants.{Window}
-use Rattle.segments.specs.declared.records.MoveRecord.{MoveRecord}
-use Rattle.segments.specs.Items.{items_without}
+use Rattle.segments.specs.Items.{Item, items_without}
 use Rattle.segments.specs.Queues.{queues_after_push}
 use Rattle.admission.specs.FreqRecord.{size_of}
 use Rattle.replacement.specs.Rules.{three_queues}
 use Rattle.replacement.specs.Table.{Response, after_hit, eviction}
-use Rattle.replacement.specs.PlanMoves.{undone_by, undone_moves, FitsBy, FitsMoves}
+use Rattle.replacement.specs.PlanMoves.{MoveRecord, undone_by, undone_moves, FitsBy, FitsMoves}
 use Rattle.shell_buffers.specs.Buffers.{stripe_at, all_but_newest}
 use Rattle.shell_buffers.specs.declared.stripes.TheConstants.{MAX_ITEMS}
 use Rattle.shell_buffers.specs.declared.write_tasks.TheConstants.{MAX_TASKS}
-use Rattle.shell_buffers.specs.declared.task.Task.{Task}
+pub use Rattle.shell_buffers.specs.declared.task.Task.{Task}
 use Rattle.shell_buffers.specs.declared.task.Task.TheVariants.{Add, Update, Remove}
-use Rattle.shell_model.specs.declared.holder.Holder.{Holder}
-use Rattle.shell_model.specs.declared.record.UseRecord.{UseRecord}
-use Rattle.shell_model.specs.declared.record.EvictionRecord.{EvictionRecord}
-use Rattle.shell_model.specs.declared.record.Change.{Change}
+pub use Rattle.shell_model.specs.declared.holder.Holder.{Holder}
+pub use Rattle.shell_model.specs.declared.record.UseRecord.{UseRecord}
+pub use Rattle.shell_model.specs.declared.record.EvictionRecord.{EvictionRecord}
+pub use Rattle.shell_model.specs.declared.record.Change.{Change}
 use Rattle.shell_model.specs.declared.record.Change.TheVariants.{Nothing, Offered, Updated, Added, Removed, Requested}
 use Rattle.shell_model.specs.declared.record.Change.TheVariants.{Began, Read, Passed, Applied, Cleared, Evicted, Ended}
 use Rattle.shell_model.specs.Frequency.{frequency_recorded, frequency_unrecorded, FitsFrequency, admits}

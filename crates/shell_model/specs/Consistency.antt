@@ -3,17 +3,15 @@ use Rattle.std.specs.Prelude.{◌≡◌, ℕ, ◌+◌, ◌<◌, ◌≤◌, if◌
 use Rattle.std.specs.Prelude.{[], ◌∷◌, length}
 use Rattle.shell_buffers.specs.declared.stripes.TheConstants.{MAX_ITEMS}
 use Rattle.shell_buffers.specs.declared.write_tasks.TheConstants.{MAX_TASKS}
-use Rattle.step_record.specs.declared.item.Item.{Item}
 use Rattle.admission.specs.Frequency.{IsFrequency}
-use Rattle.segments.specs.Items.{is_same_item, occurrences}
+use Rattle.segments.specs.Items.{Item, is_same_item, occurrences}
 use Rattle.segments.specs.Queues.{Queues}
-use Rattle.shell_buffers.specs.declared.task.Task.{Task}
+pub use Rattle.shell_buffers.specs.declared.task.Task.{Task}
 use Rattle.shell_buffers.specs.declared.task.Task.TheVariants.{Add, Update, Remove}
 use Rattle.shell_buffers.specs.Buffers.{stripe_at}
 use Rattle.replacement.specs.Rules.{main_size}
 use Rattle.replacement.specs.Counts.{queue_occurrences, main_length}
-use Rattle.shell_model.specs.Shell.{Shell}
-use Rattle.shell_model.specs.declared.holder.Holder.{Holder}
+use Rattle.shell_model.specs.Shell.{Holder, Shell}
 
 -- how often an Add of the item waits
 abbrev pub waiting_adds : Item → List Task → ℕ

@@ -1,7 +1,7 @@
 -- The shell's frequency, as admission has it: one key more is recorded, and that is undone from its record. The names
 -- stand for admission's, so that what is said of the shell need not look into counters and bits.
 use Rattle.std.specs.Prelude.{ℕ, nat_lt, Bool}
-use Rattle.admission.specs.declared.freq_record.FreqRecord.{FreqRecord}
+pub use Rattle.admission.specs.declared.freq_record.FreqRecord.{FreqRecord}
 use Rattle.admission.specs.Frequency.{FrequencyData, estimate, frequency_with as recorded_key}
 use Rattle.admission.specs.FreqRecord.{frequency_record as key_record, frequency_before, FitsRecord}
 

@@ -3,17 +3,14 @@ use Rattle.std.specs.Prelude.{◌≡◌, ℕ, ◌<◌, ◌≤◌, false, Option,
 use Rattle.step_record.specs.declared.limits.TheConstants.{MAX_STEPS}
 use Rattle.step_record.specs.Config.{config_fault}
 use Rattle.step_record.specs.History.{data_after, IsLegal}
-use Rattle.step_record.specs.declared.step.Step.{Step}
-use Rattle.step_record.specs.declared.step.Reply.{Reply}
+pub use Rattle.step_record.specs.declared.step.Step.{Step}
+pub use Rattle.step_record.specs.declared.step.Reply.{Reply}
 use Rattle.step_record.specs.declared.step.Reply.TheVariants.{Began}
-use Rattle.shell_model.specs.declared.holder.Holder.{Holder}
 use Rattle.admission.specs.Shape.{Shape}
-use Rattle.shell_model.specs.declared.record.ShellRecord.{ShellRecord}
 use Rattle.shell_model.specs.ShellStats.{AreAtMost}
-use Rattle.shell_model.specs.Shell.{Shell, act}
-use Rattle.shell_model.specs.Records.{undone_step, FitsStep, shell_record_of}
+use Rattle.shell_model.specs.Shell.{Item, Holder, Shell, act}
+use Rattle.shell_model.specs.Records.{ShellRecord, undone_step, FitsStep, shell_record_of}
 use Rattle.shell_model.specs.Laws.{MadeStep, IsShapeOf, empty_shell, is_ending, holding_of, holding_from, open_began}
-use Rattle.step_record.specs.declared.item.Item.{Item}
 use Rattle.segments.specs.Items.{occurrences}
 
 pub record IsReachable (x : Shell) : Type 0 where

@@ -1,14 +1,11 @@
 -- The records of steps, and how a record undoes its step.
 use Rattle.std.specs.Prelude.{ℕ, ◌-◌, ◌≤◌, Option, Some, None}
-use Rattle.step_record.specs.declared.step.Step.{Step}
-use Rattle.step_record.specs.declared.step.Reply.{Reply}
 use Rattle.shell_model.specs.declared.stats.Counted.TheVariants as counted
-use Rattle.shell_model.specs.declared.record.ShellRecord.{ShellRecord}
-use Rattle.shell_model.specs.declared.record.Change.{Change}
+pub use Rattle.shell_model.specs.declared.record.ShellRecord.{ShellRecord}
 use Rattle.shell_model.specs.declared.record.Change.TheVariants as change
-use Rattle.shell_model.specs.ShellStats.{counted_of, shell_stats_with, AllCounts}
-use Rattle.shell_model.specs.Changes.{before_change, FitsChange, change_asks, change_size}
-use Rattle.shell_model.specs.Shell.{Shell, act_reply}
+use Rattle.shell_model.specs.ShellStats.{Reply, counted_of, shell_stats_with, AllCounts}
+use Rattle.shell_model.specs.Changes.{Change, before_change, FitsChange, change_asks, change_size}
+use Rattle.shell_model.specs.Shell.{Step, Shell, act_reply}
 
 -- the count that the reply raises, and the change
 abbrev pub record_by : Option (Reply × Change) → ShellRecord

@@ -2,44 +2,41 @@
 use Rattle.std.specs.Prelude.{ℕ, ◌+◌, nat_lt, Bool, true, false, ◌&&◌, eqb, if◌then◌else◌, Option, Some, None}
 use Rattle.std.specs.Prelude.{List, [], ◌∷◌, length}
 use Rattle.step_record.specs.declared.limits.TheConstants.{MAX_STEPS}
-use Rattle.step_record.specs.declared.item.Item.{Item}
-use Rattle.step_record.specs.declared.outcome.Outcome.{Outcome}
+pub use Rattle.step_record.specs.declared.item.Item.{Item}
+pub use Rattle.step_record.specs.declared.outcome.Outcome.{Outcome}
 use Rattle.step_record.specs.declared.outcome.Outcome.TheVariants as outcome
-use Rattle.step_record.specs.declared.step.Answer.{Answer}
+pub use Rattle.step_record.specs.declared.step.Answer.{Answer}
 use Rattle.step_record.specs.declared.step.Answer.TheVariants as answer
-use Rattle.step_record.specs.declared.step.Act.{Act}
+pub use Rattle.step_record.specs.declared.step.Act.{Act}
 use Rattle.step_record.specs.declared.step.Act.TheVariants.{Look, Offer, Lose, Put, Remove as RemoveKey, AfterRead}
 use Rattle.step_record.specs.declared.step.Act.TheVariants.{AfterWrite, Begin, DrainRead, DrainWrite, Evict, End}
-use Rattle.step_record.specs.declared.step.Step.{Step}
-use Rattle.step_record.specs.declared.step.Reply.{Reply}
+pub use Rattle.step_record.specs.declared.step.Step.{Step}
+pub use Rattle.step_record.specs.declared.step.Reply.{Reply}
 use Rattle.step_record.specs.declared.step.Reply.TheVariants as reply
-use Rattle.step_record.specs.declared.drain.Drain.{Drain}
+pub use Rattle.step_record.specs.declared.drain.Drain.{Drain}
 use Rattle.step_record.specs.declared.drain.Drain.TheVariants as drain
-use Rattle.step_record.specs.declared.drain.Phase.{Phase}
+pub use Rattle.step_record.specs.declared.drain.Phase.{Phase}
 use Rattle.step_record.specs.declared.drain.Phase.TheVariants.{Reads, Writes, Evictions}
-use Rattle.segments.specs.declared.records.Queue.{Queue}
 use Rattle.segments.specs.declared.records.Queue.TheVariants.{Window}
-use Rattle.segments.specs.declared.records.MoveRecord.{MoveRecord}
+pub use Rattle.segments.specs.declared.records.MoveRecord.{MoveRecord}
 use Rattle.segments.specs.Queues.{Queues, queue_holding}
 use Rattle.segments.specs.Moves.{move_record}
-use Rattle.replacement.specs.declared.record.Moves.{Moves}
+pub use Rattle.replacement.specs.declared.record.Moves.{Moves}
 use Rattle.replacement.specs.Rules.{three_queues}
-use Rattle.replacement.specs.Table.{Response}
+use Rattle.replacement.specs.Table.{Queue, Response}
 use Rattle.replacement.specs.Plan.{Plan, hit_plan, stay_plan, candidate_of, eviction_plan}
 use Rattle.replacement.specs.PlanMoves.{moves_of}
 use Rattle.shell_buffers.specs.Buffers.{stripe_at}
 use Rattle.shell_buffers.specs.declared.stripes.TheConstants.{MAX_ITEMS}
 use Rattle.shell_buffers.specs.declared.write_tasks.TheConstants.{MAX_TASKS}
-use Rattle.shell_buffers.specs.declared.task.Task.{Task}
+pub use Rattle.shell_buffers.specs.declared.task.Task.{Task}
 use Rattle.shell_buffers.specs.declared.task.Task.TheVariants.{Add, Update, Remove}
-use Rattle.shell_model.specs.declared.holder.Holder.{Holder}
-use Rattle.shell_model.specs.declared.record.UseRecord.{UseRecord}
-use Rattle.shell_model.specs.declared.record.EvictionRecord.{EvictionRecord}
-use Rattle.shell_model.specs.declared.record.Change.{Change}
+pub use Rattle.shell_model.specs.declared.holder.Holder.{Holder}
+pub use Rattle.shell_model.specs.declared.record.Change.{Change}
 use Rattle.shell_model.specs.declared.record.Change.TheVariants as change
 use Rattle.shell_model.specs.Frequency.{shell_frequency_record, admits}
 use Rattle.shell_model.specs.ShellStats.{shell_stats_after}
-use Rattle.shell_model.specs.Changes.{shell_eviction, shell_after_eviction, after_change}
+use Rattle.shell_model.specs.Changes.{EvictionRecord, UseRecord, shell_eviction, shell_after_eviction, after_change}
 pub use Rattle.shell_model.specs.ShellState.{Shell, window_size, shell_protected_size, is_over, node_of, table_with}
 pub use Rattle.shell_model.specs.ShellState.{is_listed, unlisted, unlisted_by, held_by, in_phase}
 

@@ -1,13 +1,11 @@
 -- An eviction of the maintenance in its own words.
 use Rattle.std.specs.Prelude.{◌≡◌, nat_lt, Bool, true, false, Some}
-use Rattle.step_record.specs.declared.item.Item.{Item}
-use Rattle.step_record.specs.declared.step.Reply.{Reply}
 use Rattle.step_record.specs.declared.step.Reply.TheVariants as reply
 use Rattle.segments.specs.declared.records.Queue.TheVariants.{Probation}
-use Rattle.segments.specs.Items.{is_same_item, oldest_of}
+use Rattle.segments.specs.Items.{Item, is_same_item, oldest_of}
 use Rattle.segments.specs.Queues.{queues_without, queues_after_move, total_items}
 use Rattle.shell_model.specs.Frequency.{admits}
-use Rattle.shell_model.specs.Shell.{Shell, unlisted, is_over, evict_effect}
+use Rattle.shell_model.specs.Shell.{Reply, Shell, unlisted, is_over, evict_effect}
 
 -- the item goes to probation's recent end
 abbrev pub shift_effect : Item → Shell → Shell

@@ -1,17 +1,17 @@
 -- The state of the concurrent cache, and what steps look up in it.
 use Rattle.std.specs.Prelude.{ℕ, nat_lt, Bool, false, eqb, if◌then◌else◌, Option, Some, None}
 use Rattle.std.specs.Prelude.{List, [], ◌∷◌, length}
-use Rattle.step_record.specs.declared.item.Item.{Item}
-use Rattle.step_record.specs.declared.config.Config.{Config}
-use Rattle.step_record.specs.declared.drain.Drain.{Drain}
-use Rattle.step_record.specs.declared.drain.Phase.{Phase}
-use Rattle.segments.specs.declared.records.Queue.{Queue}
+pub use Rattle.step_record.specs.declared.item.Item.{Item}
+pub use Rattle.step_record.specs.declared.config.Config.{Config}
+pub use Rattle.step_record.specs.declared.drain.Drain.{Drain}
+pub use Rattle.step_record.specs.declared.drain.Phase.{Phase}
+pub use Rattle.segments.specs.declared.records.Queue.{Queue}
 use Rattle.segments.specs.Items.{items_without}
 use Rattle.segments.specs.Queues.{Queues, queue_holding, queues_without}
 use Rattle.admission.specs.Frequency.{FrequencyData}
 use Rattle.replacement.specs.Rules.{three_queues}
-use Rattle.shell_buffers.specs.declared.task.Task.{Task}
-use Rattle.shell_model.specs.declared.holder.Holder.{Holder}
+pub use Rattle.shell_buffers.specs.declared.task.Task.{Task}
+pub use Rattle.shell_model.specs.declared.holder.Holder.{Holder}
 use Rattle.shell_model.specs.declared.stats.ShellStats.{ShellStats}
 
 pub record Shell : Type 0 where

@@ -1,12 +1,12 @@
 -- The statistics: how often each kind of reply was given.
 use Rattle.std.specs.Prelude.{ℕ, ◌+◌, ◌≤◌, nat_lt, Bool}
-use Rattle.step_record.specs.declared.step.Reply.{Reply}
+pub use Rattle.step_record.specs.declared.step.Reply.{Reply}
 use Rattle.step_record.specs.declared.step.Reply.TheVariants.{Hit, Miss, Kept, Full, Lost, WritesFull, Present, Added}
 use Rattle.step_record.specs.declared.step.Reply.TheVariants.{Removed, Began, Busy, Evicted, Rejected}
-use Rattle.shell_model.specs.declared.stats.Counted.{Counted}
+pub use Rattle.shell_model.specs.declared.stats.Counted.{Counted}
 use Rattle.shell_model.specs.declared.stats.Counted.TheVariants as counted
-use Rattle.shell_model.specs.declared.stats.ShellStats.{ShellStats}
-use Rattle.shell_model.specs.declared.stats.TheConstants.ShellStats.{NONE}
+pub use Rattle.shell_model.specs.declared.stats.ShellStats.{ShellStats}
+pub use Rattle.shell_model.specs.declared.stats.TheConstants.ShellStats.{NONE}
 
 -- which count a reply raises
 abbrev pub counted_of : Reply → Counted

@@ -1,25 +1,18 @@
 -- What a step makes of the state, one case for each reply.
 use Rattle.std.specs.Prelude.{◌≡◌, ℕ, ◌<◌, ◌≤◌, true, false, Some, None, List, [], ◌∷◌, length}
-use Rattle.step_record.specs.declared.item.Item.{Item}
-use Rattle.step_record.specs.declared.step.Answer.{Answer}
-use Rattle.step_record.specs.declared.step.Act.{Act}
 use Rattle.step_record.specs.declared.step.Act.TheVariants as a
-use Rattle.step_record.specs.declared.step.Reply.{Reply}
 use Rattle.step_record.specs.declared.step.Reply.TheVariants as reply
-use Rattle.step_record.specs.declared.drain.Drain.{Drain}
 use Rattle.step_record.specs.declared.drain.Phase.TheVariants.{Writes, Evictions}
-use Rattle.segments.specs.Items.{is_same_item}
+use Rattle.segments.specs.Items.{Item, is_same_item}
 use Rattle.shell_buffers.specs.Buffers.{stripe_at}
 use Rattle.shell_buffers.specs.declared.stripes.TheConstants.{MAX_ITEMS}
 use Rattle.shell_buffers.specs.declared.write_tasks.TheConstants.{MAX_TASKS}
-use Rattle.shell_buffers.specs.declared.task.Task.{Task}
 use Rattle.shell_buffers.specs.declared.task.Task.TheVariants.{Add, Update, Remove}
-use Rattle.shell_model.specs.declared.holder.Holder.{Holder}
 use Rattle.shell_model.specs.declared.record.Change.TheVariants as change
 use Rattle.shell_model.specs.Frequency.{admits}
-use Rattle.shell_model.specs.Changes.{after_change}
+use Rattle.shell_model.specs.Changes.{Holder, Task, after_change}
 use Rattle.shell_model.specs.Shell.{Shell, node_of, is_over, in_phase, after_read, after_write, touched_of, task_reply}
-use Rattle.shell_model.specs.Shell.{may_read, may_write, drain_at_end, counted_up, act}
+use Rattle.shell_model.specs.Shell.{Drain, Reply, Act, Answer, may_read, may_write, drain_at_end, counted_up, act}
 use Rattle.shell_model.specs.ShellEviction.{shift_effect, leave, IsCandidate, IsVictim, is_too_much}
 use Rattle.shell_model.specs.Laws.{MadeStep}
 

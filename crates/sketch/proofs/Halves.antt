@@ -4,14 +4,12 @@ use Rattle.std.proofs.lemmas.Bool.Decides.{nat_tests}
 use Rattle.std.proofs.lemmas.List.{get_or-map, get_or_past, length-map}
 use Rattle.std.specs.Int.{bit_at}
 use Rattle.step_record.specs.Bits.{bit_of, bits_of}
-use Rattle.sketch.specs.declared.halve_record.HalveRecord.{HalveRecord}
-use Rattle.step_record.specs.declared.config.Spread.{Spread}
 use Rattle.sketch.specs.Counters.{nibble, counter_at}
 use Rattle.sketch.specs.Laws.{halved_word, odd_bits, lost_word, lost_of_word, unhalved_words}
 use Rattle.sketch.specs.Laws.{lost_bit}
 use Rattle.step_record.specs.Places.{by_place}
-use Rattle.sketch.specs.HalveRecord.{counter_kept, kept_at, halve_record_of, table_before_halving}
-use Rattle.sketch.specs.Sketch.{Table, halved_table, IsTable}
+use Rattle.sketch.specs.HalveRecord.{HalveRecord, counter_kept, kept_at, halve_record_of, table_before_halving}
+use Rattle.sketch.specs.Sketch.{Spread, Table, halved_table, IsTable}
 use Rattle.std.proofs.lemmas.Nat.{and_le_r, shr-shr}
 use Rattle.sketch.proofs.Digits.{same_digits, nibble_is, nibble_lt, zero_nibble}
 use Rattle.sketch.proofs.Halving.{nibble_halved, nibble_odd, lost_digit, nibble_doubled}

@@ -3,13 +3,11 @@ use Rattle.std.proofs.Common.{◌≡◌, ℕ, ◌+◌, ◌-◌, ◌*◌, ◌/◌
 use Rattle.std.proofs.lemmas.Nat.{div-mul-add, mod-mul-add, div-add-mod', div_below}
 use Rattle.std.proofs.lemmas.Bool.{eqb-true, eq-eqb, ltb-false}
 use Rattle.std.proofs.lemmas.Bool.Decides.{nat_tests}
-use Rattle.step_record.specs.declared.config.Spread.{Spread}
-use Rattle.sketch.specs.declared.touch_record.TouchRecord.{TouchRecord}
 use Rattle.sketch.specs.declared.touch_record.RaisedRows.{RaisedRows}
-use Rattle.sketch.specs.Columns.{column, column_below}
+use Rattle.sketch.specs.Columns.{Spread, column, column_below}
 use Rattle.step_record.specs.Places.{by_place}
 use Rattle.sketch.specs.Sketch.{Table, counter_of, is_of, at_key, touched_table, least_counter}
-use Rattle.sketch.specs.TouchRecord.{touch_record_of, rose, table_before_touch, FitsTouch}
+use Rattle.sketch.specs.TouchRecord.{TouchRecord, touch_record_of, rose, table_before_touch, FitsTouch}
 use Rattle.step_record.proofs.Places.{get_or-by_place, by_place_same}
 
 -- the least of two counters that rise is the least of the two, risen

@@ -2,10 +2,9 @@
 use Rattle.std.proofs.Common.{◌≡◌, ◌≢◌, ℕ, suc, zero, ◌+◌, ◌*◌, ◌/◌, ◌%◌, ◌<◌, ◌≤◌, min, Bool, true, false, cond, eqb, List, get_or, ap, ◌∙◌, refl, subst, arith}
 use Rattle.std.proofs.lemmas.Bool.Decides.{nat_tests}
 use Rattle.sketch.specs.declared.halve_record.HalveRecord.{HalveRecord}
-use Rattle.sketch.specs.declared.touch_record.TouchRecord.{TouchRecord}
 use Rattle.sketch.specs.Sketch.{Table, counter_of, is_of, touched_table, halved_table, least_counter, IsTable}
 use Rattle.sketch.specs.Columns.{column}
-use Rattle.sketch.specs.TouchRecord.{touch_record_of, table_before_touch, FitsTouch}
+use Rattle.sketch.specs.TouchRecord.{TouchRecord, touch_record_of, table_before_touch, FitsTouch}
 use Rattle.sketch.specs.HalveRecord.{counter_kept, kept_at, halve_record_of, table_before_halving, FitsHalve}
 use Rattle.step_record.proofs.Places.{length-by_place, get_or-by_place, by_place_same, by_place_whole}
 use Rattle.sketch.proofs.RowLists.{small_by_place}

@@ -3,7 +3,7 @@
 use Rattle.std.specs.Prelude.{◌≡◌, ℕ, ◌+◌, ◌*◌, ◌/◌, ◌%◌, ◌<◌, ◌≤◌, false, cond, ◌==◌, length, slice_index}
 use Rattle.std.specs.Prelude.{slice_index_or}
 use Rattle.step_record.specs.Places.{by_place}
-use Rattle.sketch.specs.declared.halve_record.HalveRecord.{HalveRecord}
+pub use Rattle.sketch.specs.declared.halve_record.HalveRecord.{HalveRecord}
 use Rattle.sketch.specs.Sketch.{Table, changed}
 
 -- the counter whose lost bit is bit p

@@ -1,6 +1,6 @@
 -- A touch's record: what it is, when it fits a table, and what undoing it leaves.
 use Rattle.std.specs.Prelude.{◌≡◌, ℕ, ◌-◌, ◌<◌, nat_lt, Bool, true, false, cond, [], ◌∷◌, slice_index_or}
-use Rattle.sketch.specs.declared.touch_record.TouchRecord.{TouchRecord}
+pub use Rattle.sketch.specs.declared.touch_record.TouchRecord.{TouchRecord}
 use Rattle.sketch.specs.Sketch.{Table, counter_of, at_key}
 
 -- the record of a touch, from the table before it: the key, and its rows whose counter has room to rise

@@ -3,12 +3,10 @@ use Rattle.std.proofs.Common.{◌≡◌, ℕ, suc, ◌+◌, ◌-◌, ◌≤◌, 
 use Rattle.std.proofs.lemmas.Bool.Decides.{nat_tests}
 use Rattle.std.proofs.lemmas.List.Sums.{sum_by-le-sum_by}
 use Rattle.step_record.specs.Keys.{has_key}
-use Rattle.step_record.specs.declared.job.Job.{Job}
 use Rattle.step_record.specs.declared.job.Policy.TheVariants.{Lru}
-use Rattle.step_record.specs.declared.outcome.Outcome.{Outcome}
 use Rattle.step_record.specs.Stats.{is_hit, is_miss, is_eviction, is_rejection, stats_of, one_if}
-use Rattle.queue_cache.specs.Lru.{distinct_keys, is_lru_hit, lru_outcome}
-use Rattle.queue_cache.specs.QueueCache.{QueueState, queue_state_after, frequency_after, state_after, outcomes_from, outcomes_after, outcome_after}
+use Rattle.queue_cache.specs.Lru.{Outcome, distinct_keys, is_lru_hit, lru_outcome}
+use Rattle.queue_cache.specs.QueueCache.{Job, QueueState, queue_state_after, frequency_after, state_after, outcomes_from, outcomes_after, outcome_after}
 use Rattle.queue_cache.specs.Design.{design_of}
 use Rattle.policies.specs.AnyPolicy.{stats_on, outcomes_by, outcomes_on}
 use Rattle.queue_cache.proofs.Counting.{count-cons, hits-misses}

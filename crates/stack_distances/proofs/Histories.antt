@@ -12,8 +12,7 @@ use Rattle.trace_index.specs.KeyPlaces.{place_of}
 use Rattle.trace_index.specs.Uses.{last_below, number_of}
 use Rattle.stack_distances.specs.Distances.{distance, distances_after, distances}
 use Rattle.stack_distances.specs.Sums.{mark_of, sum_below}
-use Rattle.stack_distances.specs.Histogram.{is_last, is_at, IsHistogram}
-use Rattle.stack_distances.specs.declared.histogram.Histogram.{Histogram}
+use Rattle.stack_distances.specs.Histogram.{Histogram, is_last, is_at, IsHistogram}
 use Rattle.stack_distances.proofs.Bits.{put-marks}
 use Rattle.stack_distances.proofs.Places.{again-next, came-by, last_number, last-key, last-low, past-end, stack, stack-front, stack-next}
 use Rattle.stack_distances.proofs.Stack.{since-beyond, since-within}

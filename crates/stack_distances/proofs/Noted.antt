@@ -8,8 +8,7 @@ use Rattle.step_record.specs.declared.limits.TheConstants.{MAX_ACCESSES}
 use Rattle.step_record.specs.Bits.{bit_of}
 use Rattle.trace_index.specs.KeyPlaces.{place_of}
 use Rattle.stack_distances.specs.Distances.{distances}
-use Rattle.stack_distances.specs.Histogram.{count_at, is_at, IsHistogram, IsNoted}
-use Rattle.stack_distances.specs.declared.histogram.Histogram.{Histogram}
+use Rattle.stack_distances.specs.Histogram.{Histogram, count_at, is_at, IsHistogram, IsNoted}
 use Rattle.stack_distances.proofs.Histories.{distances-long}
 use Rattle.stack_distances.proofs.Prefix.{none-deeper}
 

@@ -9,8 +9,7 @@ use Rattle.step_record.specs.Places.{by_place}
 use Rattle.step_record.proofs.Places.{length-by_place, get_or-by_place}
 use Rattle.queue_cache.specs.Lru.{distinct_keys}
 use Rattle.stack_distances.specs.Distances.{distances, is_within, hits_within}
-use Rattle.stack_distances.specs.Histogram.{count_at, is_at, IsHistogram}
-use Rattle.stack_distances.specs.declared.histogram.Histogram.{Histogram}
+use Rattle.stack_distances.specs.Histogram.{Histogram, count_at, is_at, IsHistogram}
 use Rattle.stack_distances.specs.Curve.{CurveData, curve_of}
 use Rattle.stack_distances.proofs.Histories.{distances-long}
 use Rattle.stack_distances.proofs.Prefix.{within-more, no-hits, hits-held}

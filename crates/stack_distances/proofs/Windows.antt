@@ -5,15 +5,13 @@ use Rattle.std.proofs.lemmas.Bool.Decides.{nat_tests}
 use Rattle.std.proofs.lemmas.List.{take_all}
 use Rattle.step_record.specs.Keys.{has_key}
 use Rattle.step_record.specs.Bits.{bit_of}
-use Rattle.step_record.specs.declared.job.Job.{Job}
 use Rattle.step_record.specs.declared.job.Policy.TheVariants.{Lru}
 use Rattle.queue_cache.specs.Lru.{distinct_keys, keys_since}
-use Rattle.policies.specs.AnyPolicy.{stats_on}
+use Rattle.policies.specs.AnyPolicy.{Job, stats_on}
 use Rattle.queue_cache.proofs.Recency.{has-drop}
 use Rattle.stack_distances.specs.Distances.{distance, is_within, hits_within, stats_by}
 use Rattle.trace_index.specs.Uses.{last_below, number_of}
-use Rattle.stack_distances.specs.Window.{IsWindow, IsFirstClear}
-use Rattle.stack_distances.specs.declared.window.Window.{Window}
+use Rattle.stack_distances.specs.Window.{Window, IsWindow, IsFirstClear}
 use Rattle.stack_distances.proofs.Counting.{stats-read, hits-and-held}
 use Rattle.stack_distances.proofs.Histories.{count-next}
 use Rattle.stack_distances.proofs.Places.{again-next, came-by, last-low, past-end, past-length, stack, stack-front, stack-next}

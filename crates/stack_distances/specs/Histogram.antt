@@ -8,7 +8,7 @@ use Rattle.queue_cache.specs.Lru.{distinct_keys}
 use Rattle.trace_index.specs.Uses.{last_below}
 use Rattle.trace_index.specs.KeyPlaces.{place_of}
 use Rattle.stack_distances.specs.Distances.{distances}
-use Rattle.stack_distances.specs.declared.histogram.Histogram.{Histogram}
+pub use Rattle.stack_distances.specs.declared.histogram.Histogram.{Histogram}
 
 -- whether the access at q comes before a place, and its key does not come again in between
 abbrev pub is_last : List ℕ → ℕ → ℕ → Bool

@@ -6,7 +6,7 @@ use Rattle.step_record.specs.Keys.{has_key}
 use Rattle.step_record.specs.Bits.{bit_of}
 use Rattle.queue_cache.specs.Lru.{distinct_keys}
 use Rattle.stack_distances.specs.Distances.{hits_within}
-use Rattle.stack_distances.specs.declared.window.Window.{Window}
+pub use Rattle.stack_distances.specs.declared.window.Window.{Window}
 
 -- The window begins at a place of the trace and ends before another one. It has as many distinct keys as fit, and no
 -- fewer than that unless it begins where the trace does. Of each access in it one bit says whether its key came again.

@@ -1,7 +1,6 @@
 //! The hits of Lru at every capacity.
 ghost use Rattle.std.specs.Prelude.{◌≡◌, ◌+◌, ℕ, List, ◌≤◌, IfOk};
-ghost use Rattle.step_record.specs.declared.job.Job.{Job};
-ghost use Rattle.policies.specs.AnyPolicy.{stats_on};
+ghost use Rattle.policies.specs.AnyPolicy.{Job, stats_on};
 ghost use Rattle.stack_distances.specs.Curve.{curve_of};
 ghost use Rattle.stack_distances.specs.Distances.{stats_by};
 

@@ -1,7 +1,6 @@
 //! The hits of Lru at a capacity, by a window over the trace.
 ghost use Rattle.std.specs.Prelude.{◌≡◌, ◌+◌, ◌<◌, ◌≤◌, IfOk, length};
-ghost use Rattle.step_record.specs.declared.job.Job.{Job};
-ghost use Rattle.policies.specs.AnyPolicy.{stats_on};
+ghost use Rattle.policies.specs.AnyPolicy.{Job, stats_on};
 ghost use Rattle.stack_distances.specs.Window.{IsWindow};
 
 use crate::curve::stats_by;

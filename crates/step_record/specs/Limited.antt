@@ -1,7 +1,7 @@
 -- An access as a step of an engine.
 use Rattle.std.specs.Prelude.{◌≡◌, ℕ, ◌==◌, if◌then◌else◌, Option, Some, None}
 use Rattle.step_record.specs.declared.limits.TheConstants.{MAX_STEPS}
-use Rattle.step_record.specs.declared.outcome.Outcome.{Outcome}
+pub use Rattle.step_record.specs.declared.outcome.Outcome.{Outcome}
 
 -- an access to the key, where none is accepted after MAX_STEPS
 abbrev pub limited : {D : Type 0} → (D → ℕ) → (ℕ → D → Outcome × D) → D → ℕ → Option (Outcome × D)

@@ -1,11 +1,9 @@
 -- What the last call leaves of a budget.
 use Rattle.std.proofs.Common.{arith, ℕ, ◌+◌, ◌<◌, ◌≡◌, ◌∙◌, ◌≢◌, ◌⊎◌, inl, inr, refl}
 use Rattle.std.specs.IoError.{error_kind}
-use Rattle.std.specs.declared.io.Error.{Error}
 use Rattle.std.specs.declared.io.ErrorKind.TheVariants.{Interrupted}
-use Rattle.streams.specs.Tally.{CountsError, Exhausts, IsServed, Spends}
+use Rattle.streams.specs.Tally.{Tally, Error, CountsError, Exhausts, IsServed, Spends}
 use Rattle.streams.specs.declared.retry_budget.TheConstants.{INTERRUPTIONS}
-use Rattle.streams.specs.declared.tally.Tally.{Tally}
 
 -- a call that is not made again
 pub refused : (budget left : ℕ) (error : Error) (first old new : Tally)

@@ -2,10 +2,10 @@
 use Rattle.std.specs.Prelude.{◌≡◌, ◌≢◌, ◌<◌, ◌+◌, ◌⊎◌, ℕ, true, false, MatchResult}
 use Rattle.std.specs.declared.result.Result.{Result}
 use Rattle.std.specs.IoError.{error_kind}
-use Rattle.std.specs.declared.io.Error.{Error}
+pub use Rattle.std.specs.declared.io.Error.{Error}
 use Rattle.std.specs.declared.io.ErrorKind.TheVariants.{Interrupted}
 use Rattle.streams.specs.declared.retry_budget.TheConstants.{INTERRUPTIONS}
-use Rattle.streams.specs.declared.tally.Tally.{Tally}
+pub use Rattle.streams.specs.declared.tally.Tally.{Tally}
 
 abbrev pub no_calls : Tally
 no_calls = record { has_failed = false; interruptions = 0 }

@@ -2,8 +2,7 @@
 ghost use Rattle.std.specs.Prelude.{◌≡◌, ◌<◌, ℕ, List, Option, Some, IfOk, OnOk, length, true, false, Bool};
 ghost use Rattle.std.specs.Io.{ReadsAtMost, WritesAtMost};
 ghost use Rattle.std.specs.Io.KnownBytes.{Keeps, ReadConsumes, WriteAppends};
-ghost use Rattle.streams.specs.Tally.{Counts, no_calls};
-ghost use Rattle.streams.specs.declared.tally.Tally.{Tally};
+ghost use Rattle.streams.specs.Tally.{Tally, Counts, no_calls};
 
 use crate::tally::Tally;
 use std::io::{Error, ErrorKind, Read, Result, Write};

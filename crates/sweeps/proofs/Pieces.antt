@@ -5,11 +5,8 @@ use Rattle.std.specs.Int.{div_ceil}
 use Rattle.std.proofs.lemmas.Bool.{cases_lt}
 use Rattle.std.proofs.lemmas.Grind.{div_ceil_times}
 use Rattle.std.proofs.lemmas.List.{take_all, drop_all, drop-drop}
-use Rattle.step_record.specs.declared.job.Job.{Job}
-use Rattle.step_record.specs.declared.outcome.Outcome.{Outcome}
-use Rattle.step_record.specs.declared.stats.Stats.{Stats}
 use Rattle.step_record.specs.Stats.{stats_of}
-use Rattle.sweeps.specs.Intervals.{between, interval_at, IsLater}
+use Rattle.sweeps.specs.Intervals.{Stats, Outcome, Job, between, interval_at, IsLater}
 use Rattle.sweeps.proofs.Counts.{between-counts, later-counts}
 
 -- of a list that is shorter than asked for all is taken

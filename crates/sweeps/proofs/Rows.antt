@@ -6,9 +6,8 @@ use Rattle.std.proofs.lemmas.List.Elements.{All-append}
 use Rattle.std.proofs.Math.Nat.{mul-suc}
 use Rattle.std.specs.Option.{option_or}
 use Rattle.step_record.specs.Config.{config_fault}
-use Rattle.step_record.specs.declared.job.Job.{Job}
 use Rattle.policies.specs.declared.actor_fault.ActorFault.{ActorFault}
-use Rattle.policies.specs.FaultyJobs.{at_capacity, faulty_in}
+use Rattle.policies.specs.FaultyJobs.{Job, at_capacity, faulty_in}
 use Rattle.policies.specs.Reports.{report_on}
 use Rattle.policies.proofs.Accepted.{accepted}
 use Rattle.sweeps.specs.Sweep.{AreAccepted, first_config_fault, gated_jobs, is_gated_policy, jobs_over, sweep_fault}

@@ -3,15 +3,12 @@ use Rattle.std.proofs.Common.{◌≡◌, ◌∙◌, ◌+◌, ◌*◌, ◌≤◌,
 use Rattle.std.specs.Int.{div_ceil}
 use Rattle.std.proofs.lemmas.List.{take_all}
 use Rattle.std.proofs.lemmas.List.Sums.{sum_by-append, sum_by_push}
-use Rattle.step_record.specs.declared.job.Job.{Job}
-use Rattle.step_record.specs.declared.outcome.Outcome.{Outcome}
 use Rattle.step_record.specs.Stats.{is_hit, is_miss, is_eviction, is_rejection, stats_of}
-use Rattle.policies.specs.declared.report.Report.{Report}
-use Rattle.policies.specs.AnyPolicy.{outcomes_on, stats_on}
+use Rattle.policies.specs.AnyPolicy.{Outcome, Job, outcomes_on, stats_on}
 use Rattle.policies.specs.Reports.{report_of, report_on}
 use Rattle.policies.specs.Theorems.{AnyCoversTrace}
 use Rattle.sweeps.specs.Intervals.{first_intervals, interval_at, intervals_on}
-use Rattle.sweeps.specs.Theorems.{sum_over, IntervalsAddUp}
+use Rattle.sweeps.specs.Theorems.{Report, sum_over, IntervalsAddUp}
 use Rattle.sweeps.proofs.Pieces.{piece-more, pieces-cover}
 
 -- a number of a report that is counted of the outcomes, with what it counts of lists one behind the other

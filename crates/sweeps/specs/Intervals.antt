@@ -2,10 +2,10 @@
 use Rattle.std.specs.Int.{div_ceil}
 use Rattle.std.specs.Prelude.{ℕ, zero, suc, ◌+◌, ◌-◌, ◌*◌, ◌/◌, ◌%◌, ◌<◌, ◌≤◌, cond, nat_le, Option, Some}
 use Rattle.std.specs.Prelude.{List, [], ◌∷◌, ◌++◌, length, take, drop}
-use Rattle.step_record.specs.declared.job.Job.{Job}
+pub use Rattle.step_record.specs.declared.job.Job.{Job}
 use Rattle.step_record.specs.declared.limits.TheConstants.{MAX_BATCH}
-use Rattle.step_record.specs.declared.outcome.Outcome.{Outcome}
-use Rattle.step_record.specs.declared.stats.Stats.{Stats}
+pub use Rattle.step_record.specs.declared.outcome.Outcome.{Outcome}
+pub use Rattle.step_record.specs.declared.stats.Stats.{Stats}
 use Rattle.step_record.specs.Stats.{stats_of}
 use Rattle.policies.specs.declared.actor_fault.ActorFault.{ActorFault}
 use Rattle.policies.specs.declared.actor_fault.ActorFault.TheVariants.{Actors}
@@ -13,7 +13,7 @@ use Rattle.policies.specs.declared.job_checks.TheConstants.{MAX_ACTORS}
 use Rattle.policies.specs.AnyPolicy.{outcomes_on}
 use Rattle.policies.specs.FaultyJobs.{faulty_in}
 use Rattle.policies.specs.Reports.{report_of}
-use Rattle.policies.specs.declared.report.Interval.{Interval}
+pub use Rattle.policies.specs.declared.report.Interval.{Interval}
 
 -- ---- the definition
 

@@ -10,7 +10,7 @@ use Rattle.step_record.specs.declared.job.Policy.{Policy}
 use Rattle.step_record.specs.declared.job.Policy.TheVariants.{Lru}
 use Rattle.step_record.specs.declared.limits.TheConstants.{MAX_BATCH}
 use Rattle.policies.specs.declared.job_checks.TheConstants.{MAX_ACTORS}
-use Rattle.policies.specs.declared.actor_fault.ActorFault.{ActorFault}
+pub use Rattle.policies.specs.declared.actor_fault.ActorFault.{ActorFault}
 use Rattle.policies.specs.declared.actor_fault.ActorFault.TheVariants.{Actors}
 use Rattle.policies.specs.FaultyJobs.{at_capacity, faulty_in}
 

@@ -1,10 +1,8 @@
 -- What the rows of intervals promise beside their definition.
 use Rattle.std.specs.Prelude.{◌≡◌, ℕ, ◌≤◌, List, sum_by}
-use Rattle.step_record.specs.declared.job.Job.{Job}
-use Rattle.policies.specs.declared.report.Report.{Report}
-use Rattle.policies.specs.Reports.{report_on}
-use Rattle.policies.specs.declared.report.Interval.{Interval}
-use Rattle.sweeps.specs.Intervals.{intervals_on}
+pub use Rattle.policies.specs.declared.report.Report.{Report}
+use Rattle.policies.specs.Reports.{Job, report_on}
+use Rattle.sweeps.specs.Intervals.{Interval, intervals_on}
 
 -- the sum of a number over rows
 abbrev pub sum_over : (Report → ℕ) → List Interval → ℕ

@@ -5,13 +5,10 @@ use Rattle.std.proofs.lemmas.List.{append-nil, drop-append-le}
 use Rattle.streams.specs.Feeds.{lines_of}
 use Rattle.trace_read.proofs.Steps.{goes_on}
 use Rattle.trace_read.proofs.Runs.{length_run, run_fits, run_is}
-use Rattle.trace_read.specs.Lines.{line_of, run_from, run_of}
-use Rattle.trace_read.specs.ScanState.{fault_ahead, keys_ahead, AreFirst, IsHandedOn, IsLineGiven, IsPieceTaken, IsRunGiven, IsSameLine}
+use Rattle.trace_read.specs.Lines.{Format, line_of, run_from, run_of}
+use Rattle.trace_read.specs.ScanState.{Scan, BlockRun, fault_ahead, keys_ahead, AreFirst, IsHandedOn, IsLineGiven, IsPieceTaken, IsRunGiven, IsSameLine}
 use Rattle.trace_read.specs.UsualLine.{IsLongRun}
 use Rattle.trace_read.specs.TraceText.{all_keys, fault_after, first_fault, keys_or_none, line_fault, line_keys, IsRead}
-use Rattle.trace_read.specs.declared.arc.BlockRun.{BlockRun}
-use Rattle.trace_read.specs.declared.format.Format.{Format}
-use Rattle.trace_read.specs.declared.scan.Scan.{Scan}
 
 -- ---- lists
 

@@ -7,15 +7,12 @@ use Rattle.trace_read.proofs.LineFeeds.{feed_at}
 use Rattle.trace_read.specs.DigitRuns.{NoFeedBetween}
 use Rattle.streams.specs.Feeds.{feed_in}
 use Rattle.trace_read.proofs.Steps.{ended_ahead, of_line, refused_here, IsEnded}
-use Rattle.trace_read.specs.Lines.{is_feed, line_of, run_of}
+use Rattle.trace_read.specs.Lines.{Format, is_feed, line_of, run_of}
 use Rattle.trace_read.specs.UsualLine.{AreFourStars, IsStarLine}
 use Rattle.streams.specs.Blanks.{trimmed_text}
 use Rattle.trace_read.specs.declared.format.Format.TheVariants.{Lirs}
-use Rattle.trace_read.specs.TraceText.{fault_after, keys_or_none, IsRead, IsStopped, IsTraceRefused}
-use Rattle.trace_read.specs.declared.format.Format.{Format}
-use Rattle.trace_read.specs.ScanState.{fault_ahead, keys_ahead, IsRefusedFrom, IsScan, IsTakenUpTo}
-use Rattle.trace_read.specs.declared.fault.TraceFault.{TraceFault}
-use Rattle.trace_read.specs.declared.scan.Scan.{Scan}
+use Rattle.trace_read.specs.TraceText.{TraceFault, fault_after, keys_or_none, IsRead, IsStopped, IsTraceRefused}
+use Rattle.trace_read.specs.ScanState.{Scan, fault_ahead, keys_ahead, IsRefusedFrom, IsScan, IsTakenUpTo}
 
 pub taken_then : (first mid last : Scan) (bytes : List ℕ) (start middle end : ℕ) → IsTakenUpTo first bytes start middle mid → IsTakenUpTo mid bytes middle end last → IsTakenUpTo first bytes start end last
 taken_then first mid last bytes start middle end one two = record {

@@ -4,8 +4,8 @@ use Rattle.std.specs.Char.{is_ascii_digit}
 use Rattle.std.specs.Simd.Lanes.{chunk, mask_l}
 use Rattle.trace_read.specs.Lines.{is_feed}
 use Rattle.trace_read.specs.declared.digit_runs.TheConstants.{BEHIND}
-use Rattle.trace_read.specs.declared.digit_runs.DigitRun.{DigitRun}
-use Rattle.trace_read.specs.declared.digit_runs.DigitRuns.{DigitRuns}
+pub use Rattle.trace_read.specs.declared.digit_runs.DigitRun.{DigitRun}
+pub use Rattle.trace_read.specs.declared.digit_runs.DigitRuns.{DigitRuns}
 use Rattle.trace_read.specs.declared.digit_runs.LineEnd.{LineEnd}
 
 -- a byte that is not a digit

@@ -2,12 +2,10 @@
 use Rattle.std.specs.Prelude.{◌≡◌, ◌≢◌, ◌≤◌, ◌<◌, Option, Some, None, List, ℕ, Result, Err, IfErr, OnOk, IfSome, length}
 use Rattle.std.specs.Io.KnownBytes.{IsAtEnd}
 use Rattle.streams.specs.GivenBytes.{ReadAtMost}
-use Rattle.trace_read.specs.declared.format.Format.{Format}
 use Rattle.trace_read.specs.declared.limits.Limits.{Limits}
 use Rattle.trace_read.specs.declared.limits.TheConstants.Limits.{DEFAULT}
-use Rattle.trace_read.specs.declared.fault.TraceFault.{TraceFault}
 use Rattle.trace_read.specs.declared.fault.TraceFault.TheVariants.{TooLarge}
-use Rattle.trace_read.specs.TraceText.{fault_within, IsOfLine}
+use Rattle.trace_read.specs.TraceText.{TraceFault, Format, fault_within, IsOfLine}
 
 -- the bytes of a reader were read to their end and have no fault, or this is the fault: of a line that of the first
 -- faulty line, `TooLarge` where they are too many, and no other where more bytes than that were read

@@ -2,15 +2,12 @@
 use Rattle.std.specs.Prelude.{◌≡◌, ℕ, ◌+◌, ◌-◌, ◌^◌, ◌≤◌, ◌<◌, ◌⊎◌}
 use Rattle.std.specs.Prelude.{List, [], ◌++◌, Option, Some, None, IfSome, length, drop, take}
 use Rattle.streams.specs.Feeds.{lines_of, HasNoFeed}
-use Rattle.trace_read.specs.DigitRuns.{IsDigitRuns, IsNextRun}
+use Rattle.trace_read.specs.DigitRuns.{DigitRuns, DigitRun, IsDigitRuns, IsNextRun}
 use Rattle.trace_read.specs.Lines.{run_from}
-use Rattle.trace_read.specs.TraceText.{all_keys, first_fault, line_fault, line_keys, IsOfLine}
-use Rattle.trace_read.specs.declared.arc.BlockRun.{BlockRun}
-use Rattle.trace_read.specs.declared.digit_runs.DigitRun.{DigitRun}
-use Rattle.trace_read.specs.declared.digit_runs.DigitRuns.{DigitRuns}
-use Rattle.trace_read.specs.declared.fault.TraceFault.{TraceFault}
+use Rattle.trace_read.specs.TraceText.{TraceFault, all_keys, first_fault, line_fault, line_keys, IsOfLine}
+pub use Rattle.trace_read.specs.declared.arc.BlockRun.{BlockRun}
 use Rattle.trace_read.specs.declared.fault.TraceFault.TheVariants.{OutOfMemory}
-use Rattle.trace_read.specs.declared.scan.Scan.{Scan}
+pub use Rattle.trace_read.specs.declared.scan.Scan.{Scan}
 
 -- the fault of the whole file, and its accesses but for those that were handed on, where these bytes still follow
 abbrev pub fault_ahead : Scan → List ℕ → Option TraceFault

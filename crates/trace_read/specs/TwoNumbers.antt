@@ -2,10 +2,9 @@
 use Rattle.std.specs.Prelude.{◌≡◌, ◌⊎◌, ℕ, ◌+◌, ◌-◌, ◌<◌, ◌^◌, false, true, List, get_or, take, drop}
 use Rattle.std.specs.Str.{all_ascii_digits}
 use Rattle.std.specs.Str.Parse.{digits_value}
-use Rattle.trace_read.specs.DigitRuns.{IsNextRun}
+use Rattle.trace_read.specs.DigitRuns.{DigitRun, IsNextRun}
 use Rattle.trace_read.specs.Lines.{is_feed, is_gap}
 use Rattle.trace_read.specs.declared.arc.TwoNumbers.{TwoNumbers}
-use Rattle.trace_read.specs.declared.digit_runs.DigitRun.{DigitRun}
 
 -- a number that a run of digits writes
 pub record IsNumberAt (bytes : List ℕ) (run : DigitRun) (number : ℕ) : Type 0 where

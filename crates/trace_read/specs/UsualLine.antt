@@ -1,13 +1,11 @@
 -- A line of a format's usual form, which is read without a call, and one that stands for many accesses.
 use Rattle.std.specs.Prelude.{◌≡◌, ℕ, ◌+◌, ◌-◌, ◌^◌, ◌≤◌, true, List, Some, get_or, take, drop}
 use Rattle.std.specs.Char.{is_ascii_digit}
-use Rattle.trace_read.specs.DigitRuns.{HasUpTo, IsLineEnd}
-use Rattle.trace_read.specs.Lines.{line_of, run_of}
+use Rattle.trace_read.specs.DigitRuns.{DigitRun, HasUpTo, IsLineEnd}
+use Rattle.trace_read.specs.Lines.{Format, line_of, run_of}
 use Rattle.trace_read.specs.declared.arc.BlockRun.{BlockRun}
 use Rattle.trace_read.specs.declared.arc.UsualLine.{UsualLine}
-use Rattle.trace_read.specs.declared.digit_runs.DigitRun.{DigitRun}
 use Rattle.trace_read.specs.declared.digits.TheConstants.{MAX_DIGITS, SHORT_DIGITS}
-use Rattle.trace_read.specs.declared.format.Format.{Format}
 use Rattle.trace_read.specs.declared.format.Format.TheVariants.{Lirs, Arc}
 
 -- the line that begins with a run of digits, and stands for at most `room` accesses

@@ -8,10 +8,9 @@ use Rattle.std.proofs.lemmas.List.Folds.{list_any-append}
 use Rattle.std.proofs.lemmas.List.{length-append}
 use Rattle.std.proofs.lemmas.List.Filters.{length-filter_both}
 use Rattle.trace_sample.specs.Hash.{is_sampled}
-use Rattle.trace_sample.specs.Kept.{Keeps}
+use Rattle.trace_sample.specs.Kept.{Kept, Keeps}
 use Rattle.trace_sample.specs.Numbers.{numbers_text, number_line}
 use Rattle.trace_sample.specs.Sample.{sample_of}
-use Rattle.trace_sample.specs.declared.kept.Kept.{Kept}
 
 pub numbers-append : (xs ys : List ℕ) → numbers_text (xs ++ ys) ≡ numbers_text xs ++ numbers_text ys
 unfolding numbers_text

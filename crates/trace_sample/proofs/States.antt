@@ -15,21 +15,17 @@ use Rattle.std.proofs.lemmas.Bool.{cases_Bool}
 use Rattle.streams.specs.Part.{AppendsPart}
 use Rattle.streams.specs.Tally.{Exhausts, FailsWhere, IsServed}
 use Rattle.streams.specs.declared.retry_budget.TheConstants.{INTERRUPTIONS}
-use Rattle.streams.specs.declared.tally.Tally.{Tally}
 use Rattle.trace_sample.specs.Hash.{is_sampled}
 use Rattle.trace_sample.specs.Numbers.{numbers_text}
 use Rattle.trace_sample.specs.PassedOn.{IsPassedOn}
 use Rattle.trace_sample.specs.Sample.{block_count, sample_of, sample_up_to}
-use Rattle.trace_sample.specs.Written.{Counts, IsOfOutcome, IsSampleFault, fault_at}
-use Rattle.trace_sample.specs.declared.counts.SampleCounts.{SampleCounts}
-use Rattle.trace_sample.specs.declared.fault.SampleFault.{SampleFault}
+use Rattle.trace_sample.specs.Written.{Format, SampleFault, SampleCounts, Counts, IsOfOutcome, IsSampleFault, fault_at}
 use Rattle.trace_sample.specs.declared.fault.SampleFault.TheVariants.{Trace, Write}
 use Rattle.trace_read.specs.ReadTrace.{IsReadWithin}
 use Rattle.trace_read.specs.declared.fault.TraceFault.{TraceFault}
 use Rattle.trace_read.specs.declared.fault.TraceFault.TheVariants.{OutOfMemory, Read}
-use Rattle.trace_read.specs.declared.format.Format.{Format}
 use Rattle.trace_read.specs.declared.limits.TheConstants.Limits.{LONG}
-use Rattle.trace_sample.specs.Sent.{IsFailed, IsServedSo, first_since, last_of, without_last}
+use Rattle.trace_sample.specs.Sent.{Tally, IsFailed, IsServedSo, first_since, last_of, without_last}
 use Rattle.trace_sample.proofs.Parts.{Holds, Parts, front_of, grown, held_of, part_of, part_sent, parts_of, passed_on, sent_of}
 use Rattle.trace_sample.proofs.Sampling.{numbers-append}
 

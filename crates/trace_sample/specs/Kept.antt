@@ -3,7 +3,7 @@ use Rattle.std.specs.Prelude.{◌≡◌, ◌==◌, ◌||◌, ◌++◌, ◌+◌, 
 use Rattle.std.specs.HashSet.{contains}
 use Rattle.std.specs.Set.{is_member}
 use Rattle.trace_sample.specs.Numbers.{numbers_text}
-use Rattle.trace_sample.specs.declared.kept.Kept.{Kept}
+pub use Rattle.trace_sample.specs.declared.kept.Kept.{Kept}
 
 -- it counts these accesses and their blocks too
 pub record KeepsCount (old new : Kept) (more : List ℕ) : Type 0 where

@@ -2,7 +2,7 @@
 use Rattle.std.specs.Prelude.{◌≡◌, ◌-◌, ◌+◌, ℕ, false, List, Option, length, take, drop}
 use Rattle.std.specs.Option.{option_map_or}
 use Rattle.streams.specs.declared.retry_budget.TheConstants.{INTERRUPTIONS}
-use Rattle.streams.specs.declared.tally.Tally.{Tally}
+pub use Rattle.streams.specs.declared.tally.Tally.{Tally}
 
 -- the last so many of a text, and all before them
 abbrev pub last_of : ℕ → List ℕ → List ℕ

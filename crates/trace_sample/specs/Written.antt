@@ -4,13 +4,13 @@ use Rattle.std.specs.Global.{Vec}
 use Rattle.trace_read.specs.ReadTrace.{IsReadWithin}
 use Rattle.trace_read.specs.declared.fault.TraceFault.{TraceFault}
 use Rattle.trace_read.specs.declared.fault.TraceFault.TheVariants.{OutOfMemory}
-use Rattle.trace_read.specs.declared.format.Format.{Format}
+pub use Rattle.trace_read.specs.declared.format.Format.{Format}
 use Rattle.trace_read.specs.TraceText.{fault_within}
 use Rattle.trace_read.specs.declared.limits.TheConstants.{MAX_LONG_ACCESSES}
 use Rattle.trace_read.specs.declared.limits.TheConstants.Limits.{LONG}
 use Rattle.trace_sample.specs.Sample.{block_count, sample_of}
-use Rattle.trace_sample.specs.declared.counts.SampleCounts.{SampleCounts}
-use Rattle.trace_sample.specs.declared.fault.SampleFault.{SampleFault}
+pub use Rattle.trace_sample.specs.declared.counts.SampleCounts.{SampleCounts}
+pub use Rattle.trace_sample.specs.declared.fault.SampleFault.{SampleFault}
 use Rattle.trace_sample.specs.declared.fault.SampleFault.TheVariants.{Trace, Write}
 
 -- how many accesses were read, how many of them kept, and to how many blocks

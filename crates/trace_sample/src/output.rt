@@ -4,8 +4,7 @@ ghost use Rattle.std.specs.Io.{WritesAtMost};
 ghost use Rattle.std.specs.Io.KnownBytes.{Appends, Keeps, WriteAppends};
 ghost use Rattle.streams.specs.Part.{AppendsPart};
 ghost use Rattle.streams.specs.Tally.{Counts, no_calls};
-ghost use Rattle.streams.specs.declared.tally.Tally.{Tally};
-ghost use Rattle.trace_sample.specs.Sent.{IsFailed, IsServedSo};
+ghost use Rattle.trace_sample.specs.Sent.{Tally, IsFailed, IsServedSo};
 
 use std::io::Result;
 use std::marker::{Brand, PhantomData};

@@ -3,9 +3,7 @@ use Rattle.std.proofs.Common.{◌≡◌, ℕ, ◌+◌, List, [], ◌∷◌, ◌+
 use Rattle.atomic_table.specs.Table.{Me, rest, step}
 use Rattle.atomic_table.specs.Seated.{TableId}
 use mathlib.Core.Option as maybe
-use Rattle.turn_book.specs.declared.view.Part.{Part}
-use Rattle.turn_book.specs.declared.view.View.{View}
-use Rattle.turn_book.specs.Turns.{Shows, Comes, Passed}
+use Rattle.turn_book.specs.Turns.{View, Part, Shows, Comes, Passed}
 use Rattle.turn_book.specs.Views.{resting, holding, one_more, with_new, Draws, Rests}
 use Rattle.turn_book.specs.Passes.{BookId, BookState, PassState, TurnState, book_id, id_of, drawn_once, Takes, Gives}
 use Rattle.turn_book.specs.Seats.{part_of, pass_view, turn_view, pass_in, turn_in, IsPassAt, IsTurnAt}

@@ -3,9 +3,7 @@ use Rattle.std.specs.Prelude.{◌≡◌, ℕ, ◌≤◌, [], ◌∷◌, Some, No
 use Rattle.atomic_table.specs.Table.{Me}
 use Rattle.atomic_table.specs.Seated.{TableId}
 use Rattle.step_record.specs.declared.worker.TheConstants.{MAX_WORKERS}
-use Rattle.turn_book.specs.declared.view.Part.{Part}
-use Rattle.turn_book.specs.declared.view.View.{View}
-use Rattle.turn_book.specs.Views.{seat_number, own_of}
+use Rattle.turn_book.specs.Views.{View, Part, seat_number, own_of}
 use Rattle.turn_book.specs.Passes.{PassState, TurnState}
 
 -- a table of two words and one slot, for at most MAX_WORKERS workers

@@ -1,8 +1,8 @@
 -- What a seat at the table knows: the parts of workers that it has, its ticket, and the value that it took.
 use Rattle.std.specs.Prelude.{◌≡◌, ℕ, zero, suc, ◌+◌, List, [], ◌∷◌, ◌++◌, Some, None, Option}
 use Rattle.atomic_table.specs.Table.{Me}
-use Rattle.turn_book.specs.declared.view.Part.{Part}
-use Rattle.turn_book.specs.declared.view.View.{View}
+pub use Rattle.turn_book.specs.declared.view.Part.{Part}
+pub use Rattle.turn_book.specs.declared.view.View.{View}
 
 module _ {E : Type 0} where
   -- the parts of the workers from lo on, n of them, where the value has this list

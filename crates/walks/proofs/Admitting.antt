@@ -1,13 +1,12 @@
 -- The shell takes each step that walks ask of it.
 use Rattle.std.proofs.Common.{◌≡◌, ℕ, ◌<◌, ◌≤◌, true, false, eqb, Option, Some, None, List, length, refl, ◌∙◌}
 use Rattle.std.proofs.lemmas.Bool.{eq-eqb}
-use Rattle.step_record.specs.declared.step.Call.{Call}
 use Rattle.step_record.specs.History.{data_after, IsLegal, Entries}
 use Rattle.shell_model.specs.declared.holder.Holder.{Holder}
 use Rattle.shell_model.specs.Shell.{Shell, act, held_by}
 use Rattle.shell_model.specs.ReachableShell.{IsReachable}
 use Rattle.shell_model.proofs.Reached.{reached-sound}
-use Rattle.walks.specs.Walks.{step_of, AreWalks}
+use Rattle.walks.specs.Walks.{Call, step_of, AreWalks}
 use Rattle.walks.specs.WorkerEntries.{entries_of}
 use Rattle.walks.specs.AdmittedSteps.{AdmitsWalks}
 use Rattle.walks.proofs.Standing.{Standing, Stands, phase_of, standing, stands_after, taken}

@@ -2,16 +2,10 @@
 use Rattle.std.proofs.Common.{◌≡◌, ℕ, List, [], ◌∷◌, ◌++◌, sym, ap, ◌∙◌, subst}
 use Rattle.std.proofs.lemmas.List.{append_assoc}
 use Rattle.step_record.specs.declared.entry.Entry.{Entry}
-use Rattle.step_record.specs.declared.step.Act.{Act}
-use Rattle.step_record.specs.declared.step.Call.{Call}
-use Rattle.step_record.specs.declared.step.Reply.{Reply}
-use Rattle.step_record.specs.declared.step.Step.{Step}
 use Rattle.step_record.specs.History.{Entries}
-use Rattle.walks.specs.declared.place.Local.{Local}
-use Rattle.walks.specs.declared.next.Next.{Next}
 use Rattle.walks.specs.declared.next.Next.TheVariants as next_act
-use Rattle.walks.specs.Walks.{step_of, IsWalk, AreWalks}
-use Rattle.walks.specs.NextActs.{IsAheadOf, IsAskedNext}
+use Rattle.walks.specs.Walks.{Step, Reply, Call, Act, step_of, IsWalk, AreWalks}
+use Rattle.walks.specs.NextActs.{Next, Local, IsAheadOf, IsAskedNext}
 use Rattle.walks.specs.WorkerEntries.{Made}
 use Rattle.walks.specs.AdmittedSteps.{MayMake}
 use Rattle.walks.proofs.Walking.{Completes, completion, not_done, same_step, asked_of}

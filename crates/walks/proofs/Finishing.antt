@@ -2,17 +2,14 @@
 use Rattle.std.proofs.Common.{◌≡◌, ℕ, zero, suc, ◌+◌, ◌-◌, ◌<◌, ◌%◌, ◌==◌, nat_lt, Bool, true, false, List, [], ◌∷◌, ◌++◌, refl, sym, subst, arith, MatchBool}
 use Rattle.std.proofs.lemmas.Bool.{eq-eqb, ltb-true, and_parts}
 use Rattle.step_record.specs.declared.entry.Entry.{Entry}
-use Rattle.step_record.specs.declared.item.Item.{Item}
-use Rattle.step_record.specs.declared.step.Act.{Act}
 use Rattle.step_record.specs.declared.step.Act.TheVariants as act
 use Rattle.step_record.specs.declared.step.Answer.TheVariants as answer
-use Rattle.step_record.specs.declared.step.Call.{Call}
 use Rattle.step_record.specs.declared.step.Call.TheVariants as call
 use Rattle.step_record.specs.declared.step.Reply.{Reply}
 use Rattle.step_record.specs.declared.step.Reply.TheVariants as reply
 use Rattle.step_record.specs.declared.step.Step.{Step}
 use Rattle.step_record.specs.History.{Entries}
-use Rattle.walks.specs.Walks.{step_of, IsWalk, AreWalks, IsReading, IsWriting, IsEvicting, IsEnding}
+use Rattle.walks.specs.Walks.{Call, Act, Item, step_of, IsWalk, AreWalks, IsReading, IsWriting, IsEvicting, IsEnding}
 use Rattle.walks.specs.WalkPlaces.{IsWalkFrom, is_place}
 
 module _ (w : ℕ) (n : ℕ) where

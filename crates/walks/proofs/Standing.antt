@@ -3,20 +3,15 @@ use Rattle.std.proofs.Common.{◌≡◌, ℕ, ◌<◌, ◌≤◌, Bool, true, fa
 use Rattle.std.proofs.lemmas.Bool.{cases_Bool, eqb-true, eq-eqb}
 use Rattle.std.proofs.lemmas.Bool.Decides.{nat_tests}
 use Rattle.step_record.specs.declared.entry.Entry.{Entry}
-use Rattle.step_record.specs.declared.item.Item.{Item}
-use Rattle.step_record.specs.declared.step.Act.{Act}
 use Rattle.step_record.specs.declared.step.Act.TheVariants as a
-use Rattle.step_record.specs.declared.step.Reply.{Reply}
 use Rattle.step_record.specs.declared.step.Reply.TheVariants as reply
-use Rattle.step_record.specs.declared.step.Step.{Step}
-use Rattle.step_record.specs.declared.drain.Phase.{Phase}
 use Rattle.step_record.specs.declared.drain.Phase.TheVariants.{Reads, Writes, Evictions}
 use Rattle.step_record.specs.History.{next_data, data_after, IsLegal, Entries}
 use Rattle.shell_model.specs.declared.holder.Holder.{Holder}
 use Rattle.shell_model.specs.declared.record.Change.{Change}
-use Rattle.shell_model.specs.ShellState.{Shell, held_by, is_over, holder_in_phase}
+use Rattle.shell_model.specs.ShellState.{Phase, Item, Shell, held_by, is_over, holder_in_phase}
 use Rattle.shell_model.specs.Changes.{holder_after_task}
-use Rattle.shell_model.specs.Shell.{act, act_reply, with_shell, may_read, may_write, counted_reply}
+use Rattle.shell_model.specs.Shell.{Step, Reply, Act, act, act_reply, with_shell, may_read, may_write, counted_reply}
 use Rattle.shell_model.specs.ShellSteps as k
 use Rattle.shell_model.specs.ShellSteps.{Holds, Makes, Steps}
 use Rattle.shell_model.specs.Consistency.{IsConsistent}

@@ -2,17 +2,11 @@
 use Rattle.std.proofs.Common.{◌≡◌, ℕ, true, Some, [], ◌∷◌, ◌++◌, refl, sym, ap, ◌∙◌, subst, Result, Ok, Err, OnErr}
 use Rattle.std.proofs.lemmas.List.{append_assoc, append-nil}
 use Rattle.step_record.specs.declared.entry.Entry.{Entry}
-use Rattle.step_record.specs.declared.step.Act.{Act}
-use Rattle.step_record.specs.declared.step.Call.{Call}
-use Rattle.step_record.specs.declared.step.Reply.{Reply}
-use Rattle.step_record.specs.declared.step.Step.{Step}
 use Rattle.step_record.specs.Answers.{is_answer}
 use Rattle.step_record.specs.History.{Entries}
-use Rattle.walks.specs.declared.place.Local.{Local}
-use Rattle.walks.specs.declared.next.Next.{Next}
 use Rattle.walks.specs.declared.next.Next.TheVariants as next_act
-use Rattle.walks.specs.Walks.{step_of, IsWalk}
-use Rattle.walks.specs.NextActs.{IsAheadOf, AheadAfter, IsRestOfWalk, IsAskedNext}
+use Rattle.walks.specs.Walks.{Step, Reply, Call, Act, step_of, IsWalk}
+use Rattle.walks.specs.NextActs.{Next, Local, IsAheadOf, AheadAfter, IsRestOfWalk, IsAskedNext}
 use Rattle.walks.specs.WorkerEntries.{Made, IsUnfinished}
 use Rattle.walks.proofs.Asking.{not_over}
 use Rattle.walks.proofs.Finishing.{finish}

@@ -1,12 +1,11 @@
 -- When a machine takes each step that walks ask of it.
 use Rattle.std.specs.Prelude.{◌≡◌, ◌≢◌, ℕ, ◌<◌, List, ◌∷◌, ◌++◌, Option, None}
 use Rattle.step_record.specs.declared.limits.TheConstants.{MAX_STEPS}
-use Rattle.step_record.specs.declared.step.Act.{Act}
-use Rattle.step_record.specs.declared.step.Call.{Call}
-use Rattle.step_record.specs.declared.step.Reply.{Reply}
-use Rattle.step_record.specs.declared.step.Step.{Step}
+pub use Rattle.step_record.specs.declared.step.Call.{Call}
+pub use Rattle.step_record.specs.declared.step.Reply.{Reply}
+pub use Rattle.step_record.specs.declared.step.Step.{Step}
 use Rattle.step_record.specs.History.{data_after, IsLegal, Entries}
-use Rattle.walks.specs.Walks.{step_of, AreWalks}
+use Rattle.walks.specs.Walks.{Act, step_of, AreWalks}
 use Rattle.walks.specs.WorkerEntries.{entries_of}
 
 -- after its entries so far, the act may be the next of walks of worker w

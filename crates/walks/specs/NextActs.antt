@@ -1,11 +1,10 @@
 -- What a worker does next.
 use Rattle.std.specs.Prelude.{◌≡◌, ℕ, Option, Some, None, [], ◌∷◌}
-use Rattle.step_record.specs.declared.step.Reply.{Reply}
 use Rattle.step_record.specs.History.{Entries}
-use Rattle.walks.specs.declared.next.Next.{Next}
+pub use Rattle.walks.specs.declared.next.Next.{Next}
 use Rattle.walks.specs.declared.next.Next.TheVariants as next
-use Rattle.walks.specs.declared.place.Local.{Local}
-use Rattle.walks.specs.Walks.{step_of}
+pub use Rattle.walks.specs.declared.place.Local.{Local}
+use Rattle.walks.specs.Walks.{Reply, step_of}
 use Rattle.walks.specs.WalkPlaces.{IsWalkFrom}
 
 -- the entries that complete the worker's walk, from its act on

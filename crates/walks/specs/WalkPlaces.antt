@@ -2,13 +2,11 @@
 use Rattle.std.specs.Prelude.{ℕ, nat_lt, Bool, true, false, ◌&&◌}
 use Rattle.step_record.specs.declared.drain.Phase.{Phase}
 use Rattle.step_record.specs.declared.drain.Phase.TheVariants.{Reads, Writes, Evictions}
-use Rattle.step_record.specs.declared.step.Act.{Act}
 use Rattle.step_record.specs.declared.step.Act.TheVariants as act
-use Rattle.step_record.specs.declared.step.Call.{Call}
 use Rattle.step_record.specs.declared.step.Call.TheVariants as call
 use Rattle.step_record.specs.History.{Entries}
 use Rattle.shell_buffers.specs.declared.stripes.TheConstants.{MAX_ITEMS}
-use Rattle.walks.specs.Walks.{Opens, FollowsOffer, IsReport, IsPut, FollowsLook, FollowsRemove, IsRound}
+use Rattle.walks.specs.Walks.{Call, Act, Opens, FollowsOffer, IsReport, IsPut, FollowsLook, FollowsRemove, IsRound}
 use Rattle.walks.specs.Walks.{IsReading, IsWriting, IsEvicting, IsEnding}
 
 -- The entries that complete the walk, from that act on. Of the stripe of a DrainRead, j items were drained already.

@@ -4,20 +4,15 @@ use Rattle.std.specs.Prelude.{IfSome}
 use Rattle.std.specs.Option.{IsSome}
 use Rattle.std.proofs.lemmas.List.{append_assoc, append_cancel_left, append-nil}
 use Rattle.std.proofs.lemmas.List.Elements.{filter-append}
-use Rattle.step_record.specs.declared.entry.Entry.{Entry}
-use Rattle.step_record.specs.declared.step.Call.{Call}
-use Rattle.step_record.specs.declared.step.Reply.{Reply}
-use Rattle.step_record.specs.declared.step.Step.{Step}
 use Rattle.step_record.specs.History.{Entries}
-use Rattle.shell_model.specs.Shell.{Shell}
+use Rattle.shell_model.specs.Shell.{Step, Reply, Shell}
 use Rattle.turn_book.specs.Turns.{Every, Begins}
 use Rattle.turn_book.specs.Passes.{BookId, PassState, InOrder, OwnAll, Ends}
 use Rattle.workers.specs.declared.run.WorkerState.{WorkerState}
-use Rattle.workers.specs.declared.run.Cause.{Cause}
 use Rattle.workers.specs.declared.run.Cause.TheVariants.{Memory, JournalFull}
-use Rattle.workers.specs.WorkerStates.{ShellSession, HoldsPass, AreNumbered, HasWorked, entries_with}
+use Rattle.workers.specs.WorkerStates.{Call, Entry, ShellSession, HoldsPass, AreNumbered, HasWorked, entries_with}
 use Rattle.walks.specs.WorkerEntries.{entries_of}
-use Rattle.workers.specs.Runs.{IsRun, IsRunUpTo, AreWalksUpTo, IsCauseIn, first_cause}
+use Rattle.workers.specs.Runs.{Cause, IsRun, IsRunUpTo, AreWalksUpTo, IsCauseIn, first_cause}
 use Rattle.workers.specs.Walkers.{WasRefused}
 
 abbrev pub ShellPass : Type 0

@@ -2,15 +2,13 @@
 use Rattle.std.proofs.Common.{◌≡◌, ℕ, ◌<◌, ◌≤◌, nat_lt, List, [], ◌++◌, length, get_or, Option, Some, None, IfNone, refl, sym, ap, ◌∙◌, subst, arith, inl, inr}
 use Rattle.std.proofs.lemmas.Bool.{cases_Bool}
 use Rattle.std.proofs.lemmas.Bool.Decides.{nat_tests}
-use Rattle.step_record.specs.declared.step.Call.{Call}
 use Rattle.step_record.specs.History.{data_after, IsLegal, Entries}
 use Rattle.shell_model.specs.Shell.{Shell, act}
 use Rattle.shell_model.specs.ReachableShell.{IsReachable}
-use Rattle.walks.specs.Walks.{AreWalks}
+use Rattle.walks.specs.Walks.{Call, AreWalks}
 use Rattle.walks.specs.WorkerEntries.{entries_of}
 use Rattle.walks.proofs.Admitting.{shell_freed}
-use Rattle.workers.specs.Runs.{IsRun, IsRunUpTo}
-use Rattle.workers.specs.declared.run.Cause.{Cause}
+use Rattle.workers.specs.Runs.{Cause, IsRun, IsRunUpTo}
 use Rattle.workers.specs.WorkerStates.{ShellSession}
 use Rattle.workers.proofs.RunResults.{whole_run}
 use Rattle.workers.proofs.Turning.{legal_split, after_append}

@@ -3,11 +3,9 @@ use Rattle.std.proofs.Common.{◌≡◌, ℕ, ◌+◌, ◌<◌, ◌≤◌, ◌^�
 use Rattle.std.proofs.lemmas.Bool.{cases_Bool}
 use Rattle.std.proofs.lemmas.List.{append_cancel_left}
 use Rattle.step_record.specs.declared.entry.Entry.{Entry}
-use Rattle.step_record.specs.declared.step.Reply.{Reply}
-use Rattle.step_record.specs.declared.step.Step.{Step}
 use Rattle.step_record.specs.History.{next_data, data_after, IsLegal, Entries}
 use Rattle.walks.specs.WorkerEntries.{entries_of}
-use Rattle.walks.specs.AdmittedSteps.{AdmitsNext}
+use Rattle.walks.specs.AdmittedSteps.{Step, Reply, AdmitsNext}
 use Rattle.workers.specs.Draws.{IsWithin}
 use Rattle.turn_book.specs.Turns.{AddsInTurn, entries_by}
 use Rattle.turn_book.specs.Passes.{TurnState, PassState, Gives}

@@ -3,8 +3,7 @@ use Rattle.std.proofs.Common.{◌≡◌, ℕ, zero, suc, ◌+◌, ◌<◌, List,
 use Rattle.std.specs.List.{All}
 use Rattle.std.proofs.Math.Seq.{take-append_seam}
 use Rattle.turn_book.specs.Turns.{Every}
-use Rattle.workers.specs.declared.run.WorkerState.{WorkerState}
-use Rattle.workers.specs.WorkerStates.{AreNumbered}
+use Rattle.workers.specs.WorkerStates.{WorkerState, AreNumbered}
 
 module _ {X : Type 0} (P : X → Type 0) where
   pub all_of_every : (xs : List X) → Every P xs → All P xs

@@ -1,11 +1,9 @@
 -- When a run of workers ends in a fault, and what each fault leaves.
 use Rattle.std.specs.Prelude.{◌≡◌, ◌<◌, ◌≤◌, List, Some, None, length}
-use Rattle.step_record.specs.declared.step.Call.{Call}
-use Rattle.step_record.specs.declared.step.Reply.{Reply}
-use Rattle.step_record.specs.declared.step.Step.{Step}
+pub use Rattle.step_record.specs.declared.step.Call.{Call}
 use Rattle.step_record.specs.declared.worker.TheConstants.{MAX_WORKERS}
 use Rattle.step_record.specs.History.{IsLegal}
-use Rattle.shell_model.specs.Shell.{Shell, act}
+use Rattle.shell_model.specs.Shell.{Step, Reply, Shell, act}
 use Rattle.shell_model.specs.ReachableShell.{worker_of}
 use Rattle.journal.specs.Session.{SessionState}
 use Rattle.workers.specs.Runs.{IsRunUpTo}

@@ -1,13 +1,13 @@
 -- What a run of workers on threads leaves.
 use Rattle.std.specs.Prelude.{◌≡◌, ℕ, ◌<◌, ◌≤◌, List, [], ◌∷◌, ◌++◌, Option, Some, None, IfSome, length, get_or}
-use Rattle.step_record.specs.declared.step.Call.{Call}
-use Rattle.step_record.specs.declared.step.Reply.{Reply}
-use Rattle.step_record.specs.declared.step.Step.{Step}
+pub use Rattle.step_record.specs.declared.step.Call.{Call}
+pub use Rattle.step_record.specs.declared.step.Reply.{Reply}
+pub use Rattle.step_record.specs.declared.step.Step.{Step}
 use Rattle.step_record.specs.History.{Entries, tail_after}
 use Rattle.journal.specs.Session.{SessionState}
 use Rattle.walks.specs.Walks.{AreWalks}
 use Rattle.walks.specs.WorkerEntries.{entries_of, IsUnfinished}
-use Rattle.workers.specs.declared.run.Cause.{Cause}
+pub use Rattle.workers.specs.declared.run.Cause.{Cause}
 use Rattle.workers.specs.declared.run.Cause.TheVariants.{Memory, JournalFull}
 
 -- Past the old entries, the new session has those that the workers made: those of worker w, in order, are as IsMade

@@ -1,14 +1,10 @@
 -- What a worker has that walks in turns.
 use Rattle.std.specs.Prelude.{◌≡◌, ℕ, ◌<◌, ◌≤◌, ◌++◌, List, Option, length}
-use Rattle.step_record.specs.declared.entry.Entry.{Entry}
 use Rattle.step_record.specs.declared.limits.TheConstants.{MAX_STRIPES}
-use Rattle.step_record.specs.declared.step.Call.{Call}
-use Rattle.step_record.specs.declared.step.Reply.{Reply}
-use Rattle.step_record.specs.declared.step.Step.{Step}
 use Rattle.step_record.specs.History.{data_after, Entries}
-use Rattle.journal.specs.Session.{SessionState}
+use Rattle.journal.specs.Session.{Entry, SessionState}
 use Rattle.turn_book.specs.Passes.{BookState, PassState, id_of}
-use Rattle.walks.specs.AdmittedSteps.{AdmitsWalks}
+use Rattle.walks.specs.AdmittedSteps.{Step, Reply, Call, AdmitsWalks}
 use Rattle.walks.specs.Walks.{AreWalks}
 use Rattle.walks.specs.WorkerEntries.{entries_of}
 use Rattle.workers.specs.declared.run.Cause.{Cause}

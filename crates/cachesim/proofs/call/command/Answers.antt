@@ -1,22 +1,18 @@
 use Rattle.std.proofs.Common.{◌≡◌, ◌⊎◌, inl, inr, refl, subst, sym, Result, Ok, Err, ◌∙◌, ◌≢◌, ap, rules, List}
 use Rattle.std.proofs.lemmas.Result.{IfErr-at_err, IfOk-at_ok}
 use Rattle.streams.specs.Tally.{FailsWhere, IsServed}
-use Rattle.streams.specs.declared.tally.Tally.{Tally}
 use Rattle.trace_read.specs.declared.fault.TraceFault.TheVariants as trace
 use Rattle.debug_commands.specs.declared.fault.DebugFault.TheVariants as debug
 use Rattle.clap.specs.Words.{HasKind, IsAmong, Kinds, Text, kind_of}
 use Rattle.clap.specs.declared.Error.{Error}
 use Rattle.clap.specs.declared.error.ErrorKind.TheVariants as kind
 use Rattle.command_line.specs.ParseResult.{IsRefused, ParsedBy}
-use Rattle.command_line.specs.declared.arguments.Arguments.{Arguments}
-use Rattle.command_line.specs.declared.fault.ParseFault.{ParseFault}
 use Rattle.command_line.specs.declared.fault.ParseFault.TheVariants.{Incomplete, LongIntervals, Refused, Stripes, WholeTrace}
 use Rattle.streams.proofs.Tallies.{uncalled}
-use Rattle.cachesim.specs.CallFaults.{AreServed, BlamesCalls, IsOfRead, IsOfWrite}
-use Rattle.cachesim.specs.declared.fault.Fault.{Fault}
+use Rattle.cachesim.specs.CallFaults.{Fault, Tally, AreServed, BlamesCalls, IsOfRead, IsOfWrite}
 use Rattle.cachesim.specs.declared.fault.Fault.TheVariants.{Debug, Trace, Write, OutOfMemory}
 use Rattle.cachesim.specs.FaultLine.{IsReported}
-use Rattle.cachesim.specs.Outcome.{AsksHelp, RefusesWords, is_help}
+use Rattle.cachesim.specs.Outcome.{ParseFault, Arguments, AsksHelp, RefusesWords, is_help}
 use Rattle.cachesim.proofs.call.command.Goals as goal
 
 neither : {P Q : Type 0} → (P → ⊥) → (Q → ⊥) → P ⊎ Q → ⊥

@@ -2,12 +2,10 @@ use Rattle.std.proofs.Common.{◌≡◌, ap, refl, subst, false, rules, ℕ, Lis
 use Rattle.std.proofs.lemmas.Option.{IfSome_then}
 use Rattle.std.specs.Prelude.{IfSome}
 use Rattle.trace_read.specs.TraceText.{fault_in, keys_in}
-use Rattle.command_line.specs.declared.arguments.PartArguments.{PartArguments}
 use Rattle.debug_commands.specs.Timeline.{TimelineData}
-use Rattle.policies.specs.declared.actor_fault.ActorFault.{ActorFault}
-use Rattle.debug_policies.specs.ConfigFault.{ReturnsConfig}
+use Rattle.debug_policies.specs.ConfigFault.{ActorFault, ReturnsConfig}
 use Rattle.debug_policies.specs.TwoPolicies.{policies_timeline}
-use Rattle.cachesim.specs.DebugOutput.{Answering, AnsweringBegun, Debugging}
+use Rattle.cachesim.specs.DebugOutput.{PartArguments, Answering, AnsweringBegun, Debugging}
 use Rattle.cachesim.specs.FaultCauses.{IsFoundIn, IsFoundInFile, IsOfCommands}
 use Rattle.cachesim.proofs.Accepting.{pair_accepted}
 use Rattle.cachesim.proofs.Found.{answers_left, err_is, known_text, of_dialogue, of_text, past_limit}

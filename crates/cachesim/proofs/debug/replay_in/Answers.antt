@@ -2,16 +2,13 @@ use Rattle.std.proofs.Common.{◌≡◌, ◌∙◌, ap, subst, ℕ, Bool, List, 
 use Rattle.std.specs.Prelude.{IfSome}
 use Rattle.std.proofs.lemmas.List.{append-nil}
 use Rattle.std.proofs.lemmas.Option.{IfSome_then}
-use Rattle.step_record.specs.declared.config.Config.{Config}
-use Rattle.step_record.specs.declared.step.Reply.{Reply}
-use Rattle.step_record.specs.declared.step.Step.{Step}
-use Rattle.shell_model.specs.Shell.{Shell, act}
+use Rattle.shell_model.specs.Shell.{Step, Reply, Shell, act}
 use Rattle.journal.specs.Session.{SessionState}
 use Rattle.journal_text.specs.Journal.{IsJournalText}
 use Rattle.debug_commands.specs.Dialogue.{dialogue_of, WritesDialogue}
 use Rattle.debug_commands.specs.Timeline.{TimelineData}
 use Rattle.debug_replay.specs.Replay.{replay_timeline}
-use Rattle.cachesim.specs.DebugOutput.{Answering, AnsweringBegun, IsReplayed}
+use Rattle.cachesim.specs.DebugOutput.{Config, Answering, AnsweringBegun, IsReplayed}
 use Rattle.cachesim.specs.DriveOutput.{IsEmptySession}
 use Rattle.cachesim.specs.FaultCauses.{IsFoundInFile, IsOfReplay}
 use Rattle.cachesim.proofs.Found.{answers_left, err_is, known_text, of_dialogue, of_text, past_limit}

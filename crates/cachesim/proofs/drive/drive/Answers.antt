@@ -5,30 +5,21 @@ use Rattle.std.proofs.lemmas.Grind.{pieces}
 use Rattle.std.proofs.lemmas.Option.{IfSome_then}
 use Rattle.std.proofs.lemmas.Result.{IfErr-at_err, IfErr-weaker, on_ok_weaker}
 use Rattle.step_record.specs.History.{Entries, IsLegal}
-use Rattle.step_record.specs.declared.config.Config.{Config}
-use Rattle.step_record.specs.declared.step.Call.{Call}
-use Rattle.step_record.specs.declared.step.Reply.{Reply}
-use Rattle.step_record.specs.declared.step.Step.{Step}
 use Rattle.step_record.specs.declared.worker.TheConstants.{MAX_WORKERS}
-use Rattle.shell_model.specs.Shell.{Shell, act}
+use Rattle.shell_model.specs.Shell.{Step, Reply, Shell, act}
 use Rattle.shell_model.specs.ReachableShell.{worker_of}
 use Rattle.step_record.specs.declared.limits.TheConstants.{MAX_TRACE_BYTES}
 use Rattle.trace_read.specs.TraceText.{fault_in, keys_in}
-use Rattle.trace_read.specs.declared.format.Format.{Format}
 use Rattle.journal.specs.Session.{SessionState}
 use Rattle.journal_text.specs.Journal.{journal_of}
 use Rattle.journal_text.specs.declared.version.Version.TheVariants.{Two}
-use Rattle.workers.specs.DriveFaults.{LeavesFault}
+use Rattle.workers.specs.DriveFaults.{Call, LeavesFault}
 use Rattle.workers.specs.Runs.{first_cause, IsCauseIn}
-use Rattle.workers.specs.declared.driven.Driven.{Driven}
-use Rattle.workers.specs.declared.run.Cause.{Cause}
 use Rattle.workers.specs.declared.run.Cause.TheVariants as cause
-use Rattle.workers.specs.declared.run.DriveFault.{DriveFault}
 use Rattle.workers.specs.declared.run.DriveFault.TheVariants.{Workers, Held, OutOfMemory, Stopped}
-use Rattle.cachesim.specs.DriveOutput.{IsEmptySession, IsJournalOf, IsOfRun, IsStopped, IsStoppedRun, LeavesDrive, LeavesRun}
+use Rattle.cachesim.specs.DriveOutput.{Fault, DriveFault, Cause, Driven, Format, Config, IsEmptySession, IsJournalOf, IsOfRun, IsStopped, IsStoppedRun, LeavesDrive, LeavesRun}
 use Rattle.cachesim.specs.FaultCauses.{IsFoundIn, IsOfMachine}
 use Rattle.cachesim.specs.WorkerReads.{AreOfReadsUpTo, IsDealt, AreWalksOfReads}
-use Rattle.cachesim.specs.declared.fault.Fault.{Fault}
 use Rattle.cachesim.specs.declared.fault.Fault.TheVariants as fault
 use Rattle.cachesim.proofs.Dealing.{reads_made}
 use Rattle.cachesim.proofs.drive.drive.Goals as goal

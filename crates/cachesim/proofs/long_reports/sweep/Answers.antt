@@ -1,9 +1,8 @@
 use Rattle.std.proofs.Common.{◌∙◌, ap, rules, List}
 use Rattle.std.proofs.lemmas.Option.{IfSome_then}
-use Rattle.step_record.specs.declared.job.Job.{Job}
 use Rattle.trace_read.specs.TraceText.{keys_in}
 use Rattle.report.specs.Text.{reports_text}
-use Rattle.cachesim.specs.TraceOutput.{reports_on}
+use Rattle.cachesim.specs.TraceOutput.{Job, reports_on}
 use Rattle.cachesim.proofs.Accepting.{swept_rows, sweeps_long}
 use Rattle.cachesim.proofs.long_reports.sweep.Goals as goal
 

@@ -1,12 +1,10 @@
 use Rattle.std.proofs.Common.{◌≡◌, ◌∙◌, ap, arith, rules, length, List, None}
 use Rattle.std.proofs.lemmas.List.{length-map}
 use Rattle.std.proofs.lemmas.Option.{IfSome_then}
-use Rattle.step_record.specs.declared.job.Job.{Job}
-use Rattle.step_record.specs.declared.job.Policy.{Policy}
 use Rattle.trace_read.specs.TraceText.{keys_in}
-use Rattle.policy_actors.specs.Faults.{actor_fault}
+use Rattle.policy_actors.specs.Faults.{Job, actor_fault}
 use Rattle.report.specs.Text.{reports_text}
-use Rattle.cachesim.specs.TraceOutput.{reports_on}
+use Rattle.cachesim.specs.TraceOutput.{Policy, reports_on}
 use Rattle.std.proofs.lemmas.List.Elements.{All-nil}
 use Rattle.policy_actors.specs.Following.{CanFollow}
 use Rattle.cachesim.proofs.Accepting.{can_follow, can_pass, can_run}

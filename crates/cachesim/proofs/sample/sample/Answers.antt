@@ -5,11 +5,8 @@ use Rattle.std.proofs.Math.Seq.{take-length}
 use Rattle.std.proofs.lemmas.Option.{IfSome_then}
 use Rattle.streams.specs.Part.{AppendsPart}
 use Rattle.trace_sample.specs.Written.{Counts}
-use Rattle.trace_sample.specs.declared.counts.SampleCounts.{SampleCounts}
-use Rattle.command_line.specs.declared.arguments.SampleArguments.{SampleArguments}
-use Rattle.cachesim.specs.FaultLine.{WritesLine}
-use Rattle.cachesim.specs.SampleOutput.{counts_line, sample_line}
-use Rattle.cachesim.specs.declared.fault.Fault.{Fault}
+use Rattle.cachesim.specs.FaultLine.{Fault, WritesLine}
+use Rattle.cachesim.specs.SampleOutput.{SampleArguments, SampleCounts, counts_line, sample_line}
 use Rattle.cachesim.proofs.sample.sample.Goals as goal
 
 -- what holds whatever the fault is

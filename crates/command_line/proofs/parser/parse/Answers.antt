@@ -2,13 +2,10 @@ use Rattle.std.proofs.Common.{◌≡◌, ◌∙◌, ap, refl, subst, sym, true, 
 use Rattle.std.specs.Prelude.{IsErrAnd}
 use Rattle.clap.specs.Words.{App, HasKind, Text, app_of, fault_of, is_simple, is_simple_and_free, subcommand_of, subcommand_rows_of}
 use Rattle.clap.proofs.OnLiterals.{clap_on_literals}
-use Rattle.command_line.specs.Choices.{AreLists}
-use Rattle.command_line.specs.ParseResult.{IsAskedFor, ParsedBy}
+use Rattle.command_line.specs.Choices.{WordLists, AreLists}
+use Rattle.command_line.specs.ParseResult.{ParseFault, Arguments, IsAskedFor, ParsedBy}
 use Rattle.command_line.specs.Program.{program_app}
 use Rattle.command_line.specs.Values.{asked_in}
-use Rattle.command_line.specs.declared.arguments.Arguments.{Arguments}
-use Rattle.command_line.specs.declared.choices.WordLists.{WordLists}
-use Rattle.command_line.specs.declared.fault.ParseFault.{ParseFault}
 use Rattle.command_line.specs.declared.fault.ParseFault.TheVariants.{OutOfMemory, Refused}
 use Rattle.command_line.proofs.parser.parse.Goals as goal
 

@@ -1,11 +1,10 @@
 use Rattle.std.proofs.lemmas.Grind.{elements}
 use Rattle.std.proofs.Common.{rules, ◌≡◌, sym, subst, ℕ, Result, Ok, Err, arith}
 use Rattle.std.specs.Prelude.{OnOk}
-use Rattle.debug_commands.specs.Answers.{answer_to, response_to}
+use Rattle.debug_commands.specs.Answers.{InputLine, answer_to, response_to}
 use Rattle.debug_commands.specs.AnswerText.{IsAnswer}
 use Rattle.debug_commands.specs.Timeline.{TimelineData}
 use Rattle.debug_commands.specs.declared.command.Command.TheVariants as command
-use Rattle.debug_commands.specs.declared.command.InputLine.{InputLine}
 use Rattle.debug_commands.specs.declared.command.InputLine.TheVariants.{Known}
 use Rattle.debug_commands.proofs.dialogue.answer.Goals as goal
 

@@ -1,7 +1,6 @@
 use Rattle.std.proofs.Common.{Option, Some, None, map, subst, sym, vec_items}
-use Rattle.workers.specs.declared.run.Cause.{Cause}
 use Rattle.workers.specs.DriveFaults.{LeavesFault}
-use Rattle.end_to_end.specs.UndoneRun.{IsRewound}
+use Rattle.end_to_end.specs.UndoneRun.{Cause, IsRewound}
 use Rattle.end_to_end.proofs.Rewinding.{rewound, whole_up_to}
 use Rattle.end_to_end.proofs.undone_run.drive_and_undo.Goals as goal
 

@@ -1,10 +1,8 @@
 use Rattle.std.proofs.Common.{◌≡◌, ◌∙◌, Some, None, sym, ap, ℕ, List}
 use Rattle.std.specs.Prelude.{IfSome}
 use Rattle.std.specs.declared.option.Option.{Option}
-use Rattle.journal_text.specs.LineGrammar.{journal_line_in}
+use Rattle.journal_text.specs.LineGrammar.{Version, JournalLine, journal_line_in}
 use Rattle.journal_text.specs.Table.{text_of, IsLine}
-use Rattle.journal_text.specs.declared.line.JournalLine.{JournalLine}
-use Rattle.journal_text.specs.declared.version.Version.{Version}
 use Rattle.journal_text.proofs.LineLaws.{line_again, line_taken}
 use Rattle.journal_text.proofs.grammar.line.Goals as goal
 

@@ -1,6 +1,5 @@
 use Rattle.std.proofs.Common.{◌+◌, ℕ, List}
-use Rattle.step_record.specs.declared.job.Job.{Job}
-use Rattle.policies.specs.AnyPolicy.{outcomes_on}
+use Rattle.policies.specs.AnyPolicy.{Job, outcomes_on}
 use Rattle.policy_comparison.specs.Part.{AgreeBelow}
 use Rattle.long_traces.specs.Taking.{AreNext}
 use Rattle.long_traces.specs.Pairs.{HavePaired}

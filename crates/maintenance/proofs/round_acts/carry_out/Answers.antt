@@ -1,6 +1,6 @@
 use Rattle.std.proofs.Common.{ap, ◌∙◌}
 use Rattle.replacement.specs.Table.{Response}
-use Rattle.replacement.proofs.Planned.{evictions-planned}
+use Rattle.replacement.proofs.Planned.{evictions_planned}
 use Rattle.shell_model.specs.Frequency.{admits}
 use Rattle.maintenance.proofs.round_acts.carry_out.Goals as goal
 
@@ -8,7 +8,7 @@ pub returns-clause-lists : goal.returns-clause-lists
 unfolding admits
 returns-clause-lists c =
     c.evict.ensures.lists
-    ∙ ap (λ (r : Response). r.queues) (evictions-planned c.args.rules.now (admits c.args.frequency.now) c.args.queues.now.lists c.requires.distinct)
+    ∙ ap (λ (r : Response). r.queues) (evictions_planned c.args.rules.now (admits c.args.frequency.now) c.args.queues.now.lists c.requires.distinct)
 
 pub returns-clause-moves : goal.returns-clause-moves
 unfolding admits
@@ -18,4 +18,4 @@ pub returns-clause-outcome : goal.returns-clause-outcome
 unfolding admits
 returns-clause-outcome c =
     c.evict.ensures.outcome
-    ∙ ap (λ (r : Response). r.outcome) (evictions-planned c.args.rules.now (admits c.args.frequency.now) c.args.queues.now.lists c.requires.distinct)
+    ∙ ap (λ (r : Response). r.outcome) (evictions_planned c.args.rules.now (admits c.args.frequency.now) c.args.queues.now.lists c.requires.distinct)

@@ -1,12 +1,9 @@
 use Rattle.std.proofs.Common.{◌≡◌, ◌↔◌, Option, Some, None, ap, refl}
 use Rattle.std.specs.Prelude.{IfNone, IfSome}
-use Rattle.step_record.specs.declared.item.Item.{Item}
-use Rattle.segments.specs.declared.records.Queue.{Queue}
-use Rattle.segments.specs.declared.records.MoveRecord.{MoveRecord}
 use Rattle.segments.specs.Queues.{Queues, queues_without}
 use Rattle.segments.specs.Moves.{IsMoveRecord}
-use Rattle.shell_model.specs.ShellState.{cleared_from}
-use Rattle.shell_model.specs.Shell.{cleared_of}
+use Rattle.shell_model.specs.ShellState.{Queue, Item, cleared_from}
+use Rattle.shell_model.specs.Shell.{MoveRecord, cleared_of}
 use Rattle.maintenance.proofs.round_acts.clear.Goals as goal
 
 lists-by : (i : Item) (p : Option Queue) (o : Option MoveRecord) (q q' : Queues) → (o ≡ None ↔ p ≡ None)

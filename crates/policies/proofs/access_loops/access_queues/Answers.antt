@@ -1,8 +1,6 @@
 use Rattle.std.proofs.Common.{◌≡◌, true, false, ap, ◌∙◌, sym, refl}
-use Rattle.step_record.specs.declared.job.Job.{Job}
-use Rattle.step_record.specs.declared.job.Policy.{Policy}
 use Rattle.step_record.specs.declared.job.Policy.TheVariants.{Lru, SegmentedLru, TinyLfuLru, TinyLfuSegmented, WindowTinyLfu}
-use Rattle.queue_cache.specs.Design.{has_queues}
+use Rattle.queue_cache.specs.Design.{Policy, Job, has_queues}
 use Rattle.queue_cache.specs.QueueCache.{QueueState}
 use Rattle.queue_cache.proofs.Reached.{after-job}
 use Rattle.policies.proofs.access_loops.access_queues.Goals as goal

@@ -1,9 +1,7 @@
 use Rattle.std.proofs.Common.{◌≡◌, ◌++◌, ◌∷◌, [], List, Option, Some, None, IfSome, IsSome, map, ap, subst, ◌∙◌, append_assoc}
 use Rattle.std.specs.Vec.Iter.{into_iter_items}
-use Rattle.step_record.specs.declared.job.Job.{Job}
-use Rattle.policies.specs.declared.report.Report.{Report}
-use Rattle.policies.specs.Reports.{report_on}
-use Rattle.policy_actors.specs.Actors.{jobs_of}
+use Rattle.policies.specs.Reports.{Job, report_on}
+use Rattle.policy_actors.specs.Actors.{Report, jobs_of}
 use Rattle.policy_actors.proofs.run.join_all.Goals as goal
 
 pushed : (one : Option Report) (old new : List Report) (wanted : Report) → IsSome one → IfSome one (λ r. new ≡ old ++ r ∷ []) → IfSome one (λ r. r ≡ wanted)

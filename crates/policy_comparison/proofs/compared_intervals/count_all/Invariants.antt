@@ -1,6 +1,5 @@
 use Rattle.std.proofs.Common.{◌-◌, ℕ, List}
-use Rattle.step_record.specs.declared.job.Job.{Job}
-use Rattle.policy_comparison.specs.Comparison.{hits_beside}
+use Rattle.policy_comparison.specs.Comparison.{Job, hits_beside}
 use Rattle.policy_comparison.specs.ComparedRows.{HasCounted}
 use Rattle.policy_comparison.specs.TwoCaches.{AreAbreast, OnOutcomes}
 use Rattle.policy_comparison.proofs.compared_intervals.count_all.Given as goal

@@ -1,8 +1,7 @@
 use Rattle.std.proofs.Common.{◌∙◌, ◌≤◌, ◌++◌, ℕ, List, length, ap, arith, append_assoc}
 use Rattle.std.specs.List.{flat_map}
 use Rattle.std.proofs.lemmas.List.{take_all}
-use Rattle.policy_comparison.specs.ComparedIntervals.{compared_header, compared_row}
-use Rattle.policy_comparison.specs.declared.compared_rows.ComparedInterval.{ComparedInterval}
+use Rattle.policy_comparison.specs.ComparedIntervals.{ComparedInterval, compared_header, compared_row}
 use Rattle.policy_comparison.proofs.compared_intervals.push_compared_intervals.Goals as goal
 
 pub returns : goal.returns

@@ -1,6 +1,5 @@
 use Rattle.std.proofs.Common.{◌+◌, ◌-◌, ℕ, List}
-use Rattle.step_record.specs.declared.job.Job.{Job}
-use Rattle.policy_comparison.specs.Part.{AgreeBelow}
+use Rattle.policy_comparison.specs.Part.{Job, AgreeBelow}
 use Rattle.policy_comparison.specs.TwoCaches.{AreAbreast, AreAbreastOfSome, OnOutcomes}
 use Rattle.policy_comparison.proofs.divergence.find_parting.Given as goal
 

@@ -1,6 +1,5 @@
 use Rattle.std.proofs.Common.{◌≡◌, take, length}
-use Rattle.step_record.specs.declared.job.Job.{Job}
-use Rattle.policies.specs.AnyPolicy.{HasAccessed, outcomes_on}
+use Rattle.policies.specs.AnyPolicy.{Job, HasAccessed, outcomes_on}
 use Rattle.policy_comparison.specs.TwoCaches.{IsNoted}
 use Rattle.policy_comparison.proofs.two_caches.note_hits.Given as goal
 

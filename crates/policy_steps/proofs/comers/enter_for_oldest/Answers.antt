@@ -1,11 +1,10 @@
 use Rattle.std.proofs.Common.{Option, subst}
-use Rattle.queue_table.specs.declared.records.Found.{Found}
 use Rattle.queue_table.specs.Entries.{entry}
 use Rattle.queue_table.specs.Queues.{Queues}
 use Rattle.queue_table.specs.QueueTable.{queues}
 use Rattle.queue_moves.specs.Moves.{item_of, goes}
 use Rattle.queue_moves.specs.Undoing.{IsOwn}
-use Rattle.policy_steps.specs.Comers.{Comes}
+use Rattle.policy_steps.specs.Comers.{Found, Comes}
 use Rattle.policy_steps.proofs.comers.enter_for_oldest.Goals as goal
 
 pub send-own-requires-clause-at : goal.send-own-requires-clause-at

@@ -1,10 +1,9 @@
 use Rattle.std.proofs.Common.{rules, ◌≡◌, None, ap, ◌∙◌, sym, refl}
 use Rattle.queue_table.specs.Queues.{Queues}
 use Rattle.queue_table.specs.QueueTable.{queues}
-use Rattle.queue_moves.specs.declared.records.Run.{Run}
 use Rattle.queue_moves.specs.Moves.{item_of, no_run, leaving, goes}
 use Rattle.queue_moves.proofs.Carried.{no-run}
-use Rattle.policy_steps.specs.Misses.{one_leaver, leavers_for_ghost}
+use Rattle.policy_steps.specs.Misses.{Run, one_leaver, leavers_for_ghost}
 use Rattle.policy_steps.specs.S3Fifo.{SMALL, MAIN, GHOST, main_turns}
 use Rattle.policy_steps.proofs.Coming.{comes-ran}
 use Rattle.policy_steps.proofs.Leaving.{off-run}

@@ -2,10 +2,9 @@ use Rattle.std.proofs.Common.{rules, sym, ◌≡◌, ◌+◌, nat_lt, false, len
 use Rattle.std.proofs.lemmas.Bool.{lt-ltb, le-ltb}
 use Rattle.queue_table.specs.Queues.{Queues}
 use Rattle.queue_table.specs.QueueTable.{queues}
-use Rattle.queue_moves.specs.declared.records.Run.{Run}
 use Rattle.queue_moves.specs.Moves.{item_of, goes, Plan}
 use Rattle.queue_moves.specs.Undoing.{IsAccessed}
-use Rattle.policy_steps.specs.S3Fifo.{SMALL, MAIN, GHOST, eviction_plan}
+use Rattle.policy_steps.specs.S3Fifo.{Run, SMALL, MAIN, GHOST, eviction_plan}
 use Rattle.policy_steps.proofs.Coming.{outside-ran}
 use Rattle.policy_steps.proofs.S3FifoMoves.{resident-count, main-few, full-planned}
 use Rattle.policy_steps.proofs.s3_fifo.miss.Goals as goal

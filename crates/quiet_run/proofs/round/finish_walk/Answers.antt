@@ -2,17 +2,14 @@ use Rattle.std.proofs.Common.{◌≡◌, ◌≢◌, ◌≤◌, ◌<◌, ◌↔�
 use Rattle.std.specs.Prelude.{IsErrAnd}
 use Rattle.std.proofs.lemmas.Bool.{lt-ltb}
 use Rattle.step_record.specs.declared.limits.TheConstants.{MAX_STEPS}
-use Rattle.step_record.specs.declared.step.Act.{Act}
-use Rattle.step_record.specs.declared.step.Reply.{Reply}
 use Rattle.step_record.specs.Answers.{is_answer}
-use Rattle.journal.specs.declared.fault.SessionFault.{SessionFault}
 use Rattle.journal.specs.declared.fault.SessionFault.TheVariants.{OutOfMemory, JournalFull, NotNow}
 use Rattle.shell_model.specs.declared.record.Change.{Change}
-use Rattle.shell_model.specs.Shell.{Shell, act, act_reply, counted_reply, with_shell}
+use Rattle.shell_model.specs.Shell.{Reply, Act, Shell, act, act_reply, counted_reply, with_shell}
 use Rattle.shell_model.proofs.Engines.{answers_law}
 use Rattle.walks.specs.Walks.{step_of}
 use Rattle.quiet_run.specs.Outcomes.{outcome_with_reply}
-use Rattle.quiet_run.specs.Settle.{ShellSession, IsRefusalCause}
+use Rattle.quiet_run.specs.Settle.{SessionFault, ShellSession, IsRefusalCause}
 use Rattle.walks.proofs.Walking.{asked_of, asks_on, on_err, answered}
 use Rattle.quiet_run.proofs.Alone.{alone_first, alone_next, alone_takes, alone_over, holds_first, holds_next, holds_now, round_answers, goes_on, goes_over, goes_begun}
 use Rattle.quiet_run.proofs.Adding.{adds_none, adds_more, adds_same, told_last}

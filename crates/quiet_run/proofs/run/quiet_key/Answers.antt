@@ -1,10 +1,9 @@
 use Rattle.std.proofs.Common.{ℕ, Option, ◌++◌, sym, subst}
 use Rattle.std.proofs.lemmas.Result.{IfOk-weaker, on_err_weaker}
 use Rattle.step_record.specs.declared.step.Call.TheVariants as call
-use Rattle.shell_model.specs.declared.holder.Holder.{Holder}
 use Rattle.walks.specs.Walks.{IsWalk}
 use Rattle.quiet_run.specs.QuietWalks.{with_rounds}
-use Rattle.quiet_run.specs.Settle.{IsAtStart}
+use Rattle.quiet_run.specs.Settle.{Holder, IsAtStart}
 use Rattle.quiet_run.proofs.Adding.{adds_known}
 use Rattle.quiet_run.proofs.run.quiet_key.Goals as goal
 

@@ -1,8 +1,7 @@
 use Rattle.std.proofs.Common.{Option, option_map, ap, ◌∙◌, arith}
-use Rattle.segments.specs.declared.records.Queue.{Queue}
 use Rattle.replacement.specs.declared.rules.Placement.TheVariants.{Direct, Windowed}
 use Rattle.replacement.specs.Admission.{admits_in}
-use Rattle.replacement.specs.Table.{hit_in}
+use Rattle.replacement.specs.Table.{Queue, hit_in}
 use Rattle.replacement.proofs.Served.{hit-effect, miss-effect, placed-effect}
 use Rattle.replacement.proofs.accesses.access_planned.Goals as goal
 

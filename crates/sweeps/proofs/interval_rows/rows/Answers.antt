@@ -1,8 +1,6 @@
 use Rattle.std.proofs.Common.{◌∙◌, ap}
 use Rattle.std.specs.Prelude.{List, flat_map}
-use Rattle.step_record.specs.declared.job.Job.{Job}
-use Rattle.policies.specs.declared.report.Interval.{Interval}
-use Rattle.sweeps.specs.Intervals.{intervals_on}
+use Rattle.sweeps.specs.Intervals.{Interval, Job, intervals_on}
 use Rattle.policies.proofs.Accepted.{accepted}
 use Rattle.sweeps.proofs.Joined.{each_shown, flat-same, then}
 use Rattle.sweeps.proofs.interval_rows.rows.Goals as goal

@@ -3,8 +3,7 @@ use Rattle.std.specs.Int.{div_ceil}
 use Rattle.policies.proofs.StepLaws.{any_covers_trace}
 use Rattle.policies.proofs.Batches.{next-piece, taken-more}
 use Rattle.policies.specs.AnyPolicy.{HasAccessed, outcomes_on}
-use Rattle.sweeps.specs.Intervals.{first_intervals, intervals_on}
-use Rattle.policies.specs.declared.report.Interval.{Interval}
+use Rattle.sweeps.specs.Intervals.{Interval, first_intervals, intervals_on}
 use Rattle.policies.proofs.FirstAccesses.{first-counts}
 use Rattle.sweeps.proofs.Pieces.{cut-piece, cut-rest, piece-begins, next-interval, next-later}
 use Rattle.sweeps.proofs.interval_run.count_intervals.Goals.{After-stats-after}

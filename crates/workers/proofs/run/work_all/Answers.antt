@@ -4,9 +4,8 @@ use Rattle.std.specs.List.{All}
 use Rattle.std.proofs.iter.Serving.{serving}
 use Rattle.turn_book.specs.Turns.{Every}
 use Rattle.turn_book.specs.Passes.{id_of}
-use Rattle.workers.specs.declared.run.WorkerState.{WorkerState}
 use Rattle.std.specs.Prelude.{IfSome}
-use Rattle.workers.specs.WorkerStates.{AreNumbered, HoldsPass, HasWorked, calls_of}
+use Rattle.workers.specs.WorkerStates.{WorkerState, AreNumbered, HoldsPass, HasWorked, calls_of}
 use Rattle.workers.specs.Draws.{IsWithin}
 use Rattle.workers.proofs.Collecting.{every_both}
 use Rattle.workers.proofs.WorkerLists.{all_of_every, every_of_all, every_below, counts_same, take_back}

@@ -1,7 +1,6 @@
 use Rattle.std.proofs.Common.{◌≡◌, ◌++◌, List, drop}
-use Rattle.step_record.specs.declared.step.Call.{Call}
 use Rattle.step_record.specs.History.{Entries}
-use Rattle.walks.specs.Walks.{AreWalks}
+use Rattle.walks.specs.Walks.{Call, AreWalks}
 use Rattle.walks.specs.WorkerEntries.{Made}
 use Rattle.workers.specs.Draws.{IsWithin}
 use Rattle.workers.proofs.run.work_in_turns.Given as goal

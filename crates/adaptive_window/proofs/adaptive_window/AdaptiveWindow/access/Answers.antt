@@ -1,9 +1,8 @@
 use Rattle.std.proofs.Common.{Some, ap, ◌∙◌, sym, subst}
 use Rattle.replacement.specs.Admission.{admits_in}
-use Rattle.adaptive_window.specs.declared.window_record.WindowRecord.{WindowRecord}
 use Rattle.adaptive_window.specs.Climber.{climber_after}
 use Rattle.adaptive_window.specs.AdaptiveWindow.{AdaptiveState, IsAdaptive}
-use Rattle.adaptive_window.specs.WindowRecord.{window_record_of, WindowFits}
+use Rattle.adaptive_window.specs.WindowRecord.{WindowRecord, window_record_of, WindowFits}
 use Rattle.adaptive_window.proofs.Keeping.{kept-access}
 use Rattle.adaptive_window.proofs.Fitting.{state_by, still-distinct, state-is, record-is, record-fits}
 use Rattle.adaptive_window.proofs.adaptive_window.AdaptiveWindow.access.Goals as goal

@@ -1,6 +1,5 @@
 use Rattle.std.proofs.Common.{◌≡◌, ◌∙◌, ◌++◌, ap, sym, subst, List, ℕ, length}
-use Rattle.step_record.specs.declared.job.Job.{Job}
-use Rattle.policies.specs.AnyPolicy.{outcomes_on}
+use Rattle.policies.specs.AnyPolicy.{Job, outcomes_on}
 use Rattle.policy_comparison.specs.Part.{part_line, IsPart}
 use Rattle.debug_policies.specs.TwoPolicies.{first_parting}
 use Rattle.debug_policies.proofs.Facts.{part_is}

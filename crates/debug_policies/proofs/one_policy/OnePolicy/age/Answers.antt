@@ -1,6 +1,5 @@
 use Rattle.std.proofs.Common.{◌∙◌, ap, List, ℕ, take, length}
-use Rattle.step_record.specs.declared.job.Job.{Job}
-use Rattle.policies.specs.AnyPolicy.{frequency_in}
+use Rattle.policies.specs.AnyPolicy.{Job, frequency_in}
 use Rattle.debug_policies.specs.OnePolicy.{age_at, age_in, OnePolicyState}
 use Rattle.debug_policies.proofs.Shown.{shown_age}
 use Rattle.debug_policies.proofs.one_policy.OnePolicy.age.Goals as goal

@@ -1,7 +1,6 @@
 use Rattle.std.proofs.Common.{◌≡◌, ◌∙◌, ◌++◌, ap, subst, List, ℕ, length}
 use Rattle.std.specs.Prelude.{OnOk}
-use Rattle.step_record.specs.declared.job.Job.{Job}
-use Rattle.policies.specs.AnyPolicy.{any_residents, stats_in}
+use Rattle.policies.specs.AnyPolicy.{Job, any_residents, stats_in}
 use Rattle.policies.proofs.FirstAccesses.{first-counts}
 use Rattle.debug_policies.specs.OnePolicy.{counts_line, holds_line, policy_lines, residents_at, stats_at, OnePolicyState}
 use Rattle.debug_policies.proofs.Shown.{shown_keys}

@@ -1,9 +1,7 @@
 use Rattle.std.proofs.Common.{◌≡◌, ◌∙◌, ◌++◌, ap, subst, List, ℕ}
 use Rattle.std.specs.Prelude.{codes, OnOk}
-use Rattle.step_record.specs.declared.job.Job.{Job}
 use Rattle.step_record.specs.Job.{word_of}
-use Rattle.debug_policies.specs.declared.window.Window.{Window}
-use Rattle.debug_policies.specs.Window.{window_at, window_text}
+use Rattle.debug_policies.specs.Window.{Window, Job, window_at, window_text}
 use Rattle.debug_policies.specs.OnePolicy.{OnePolicyState}
 use Rattle.policy_comparison.proofs.Texts.{added_behind}
 use Rattle.debug_policies.proofs.one_policy.OnePolicy.show_window.Goals as goal

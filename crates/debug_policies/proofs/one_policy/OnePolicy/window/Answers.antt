@@ -1,7 +1,5 @@
 use Rattle.std.proofs.Common.{◌∙◌, ap, List, ℕ, take, length}
-use Rattle.step_record.specs.declared.job.Job.{Job}
-use Rattle.policies.specs.declared.any_policy.AnyPolicy.{AnyPolicy}
-use Rattle.debug_policies.specs.OnePolicy.{OnePolicyState}
+use Rattle.debug_policies.specs.OnePolicy.{AnyPolicy, Job, OnePolicyState}
 use Rattle.debug_policies.specs.Window.{window_at, window_in}
 use Rattle.debug_policies.proofs.Shown.{shown_window}
 use Rattle.debug_policies.proofs.one_policy.OnePolicy.window.Goals as goal

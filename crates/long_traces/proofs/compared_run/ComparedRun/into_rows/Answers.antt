@@ -1,14 +1,12 @@
 use Rattle.std.proofs.Common.{IfOk, List, ◌≡◌, ℕ, ap, length, subst, sym}
 use Rattle.std.specs.Int.{div_ceil}
-use Rattle.step_record.specs.declared.job.Job.{Job}
-use Rattle.policies.specs.AnyPolicy.{outcomes_on}
+use Rattle.policies.specs.AnyPolicy.{Job, outcomes_on}
 use Rattle.policy_comparison.specs.Comparison.{hits_beside}
 use Rattle.policy_comparison.specs.ComparedIntervals.{compared_intervals_on, first_compared}
 use Rattle.policy_comparison.specs.ComparedRows as rows
 use Rattle.policy_comparison.proofs.Compared.{beside-long}
 use Rattle.policy_comparison.specs.declared.compared_rows.ComparedInterval.{ComparedInterval}
-use Rattle.long_traces.specs.Pairs.{HasCompared}
-use Rattle.long_traces.specs.declared.compared_run.ComparedRun.{ComparedRun}
+use Rattle.long_traces.specs.Pairs.{ComparedRun, HasCompared}
 use Rattle.long_traces.proofs.compared_run.ComparedRun.into_rows.Goals as goal
 
 -- all hits are counted

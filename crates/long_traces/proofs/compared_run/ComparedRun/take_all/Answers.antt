@@ -1,6 +1,5 @@
 use Rattle.std.proofs.Common.{◌≡◌, ◌+◌, ℕ, List, length, subst, arith}
-use Rattle.step_record.specs.declared.job.Job.{Job}
-use Rattle.policies.specs.AnyPolicy.{outcomes_on}
+use Rattle.policies.specs.AnyPolicy.{Job, outcomes_on}
 use Rattle.policy_comparison.specs.CacheAccess.{StandsAt}
 use Rattle.policy_comparison.specs.Comparison.{hits_beside}
 use Rattle.policy_comparison.proofs.Compared.{beside-at, beside-long}

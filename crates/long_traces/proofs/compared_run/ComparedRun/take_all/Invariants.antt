@@ -1,6 +1,5 @@
 use Rattle.std.proofs.Common.{◌+◌, ℕ, List}
-use Rattle.step_record.specs.declared.job.Job.{Job}
-use Rattle.long_traces.specs.Taking.{AreNext}
+use Rattle.long_traces.specs.Taking.{Job, AreNext}
 use Rattle.long_traces.specs.Pairs.{HasCompared}
 use Rattle.long_traces.proofs.compared_run.ComparedRun.take_all.Given as goal
 

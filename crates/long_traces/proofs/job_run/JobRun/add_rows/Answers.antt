@@ -1,6 +1,5 @@
 use Rattle.std.proofs.Common.{◌≡◌, ◌∙◌, ◌++◌, ◌∷◌, [], ◌<◌, ℕ, List, ap, append_assoc, arith, subst}
-use Rattle.policies.specs.declared.report.Interval.{Interval}
-use Rattle.sweeps.specs.Intervals.{intervals_on}
+use Rattle.sweeps.specs.Intervals.{Interval, intervals_on}
 use Rattle.long_traces.proofs.Cuts.{all-whole, all-with-last, last-ends}
 use Rattle.long_traces.proofs.job_run.JobRun.add_rows.Goals as goal
 

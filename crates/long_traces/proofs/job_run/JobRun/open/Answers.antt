@@ -1,9 +1,8 @@
 use Rattle.std.proofs.Common.{◌≡◌, ◌∙◌, ◌*◌, ℕ, List, [], length, take, ap, sym, refl, arith}
 use Rattle.step_record.specs.Stats.{stats_of}
 use Rattle.policies.specs.AnyPolicy.{outcomes_on}
-use Rattle.policies.specs.declared.report.Interval.{Interval}
 use Rattle.policies.proofs.FirstAccesses.{first-counts}
-use Rattle.sweeps.specs.Intervals.{first_intervals}
+use Rattle.sweeps.specs.Intervals.{Interval, first_intervals}
 use Rattle.long_traces.proofs.Next.{free}
 use Rattle.long_traces.proofs.job_run.JobRun.open.Goals as goal
 

@@ -1,13 +1,11 @@
 use Rattle.std.proofs.lemmas.Grind.{common_steps}
 use Rattle.std.proofs.Common.{◌≡◌, Some, true, not, refl, ap, sym, ◌∙◌, arith}
 use denote.Enum.Bare.{sameb}
-use Rattle.step_record.specs.declared.drain.Phase.{Phase}
 use Rattle.step_record.specs.declared.drain.Phase.TheVariants as phase
 use Rattle.step_record.specs.contracts.drain.Phase.{the_type}
-use Rattle.step_record.specs.declared.step.Reply.{Reply}
 use Rattle.shell_model.specs.declared.record.Change.{Change}
-use Rattle.shell_model.specs.Changes.{after_change, without_task}
-use Rattle.shell_model.specs.Shell.{Shell, may_write}
+use Rattle.shell_model.specs.Changes.{Phase, after_change, without_task}
+use Rattle.shell_model.specs.Shell.{Reply, Shell, may_write}
 use Rattle.maintenance.proofs.Tasks.{held-is, has-task, task-holder, with-oldest, task-replies, task-leaves}
 use Rattle.maintenance.proofs.shell_core.ShellCore.drain_write.Goals as goal
 

@@ -1,7 +1,6 @@
 use Rattle.std.proofs.Common.{arith, ◌≡◌, ℕ, ◌+◌, true, false, ap, sym, ◌∙◌, subst}
 use Rattle.crossbeam_channel.specs.Claims.{view}
-use Rattle.policy_actors.specs.ChannelProtocol.{channel_log, IsBatch}
-use Rattle.policy_actors.specs.declared.channel_protocol.ChannelLog.{ChannelLog}
+use Rattle.policy_actors.specs.ChannelProtocol.{ChannelLog, channel_log, IsBatch}
 use Rattle.policy_actors.proofs.Moves.{gives, learns}
 use Rattle.policy_actors.proofs.mail.Outbox.send.Goals as goal
 

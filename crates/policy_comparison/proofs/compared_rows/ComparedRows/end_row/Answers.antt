@@ -1,8 +1,7 @@
 use Rattle.std.proofs.Common.{◌≡◌, ◌∙◌, ◌+◌, ◌*◌, ◌∷◌, [], ℕ, List, length, take, ap, sym, arith, length-append}
 use Rattle.policy_comparison.specs.Comparison.{counts_of}
-use Rattle.policy_comparison.specs.ComparedIntervals.{first_compared}
+use Rattle.policy_comparison.specs.ComparedIntervals.{ComparedInterval, first_compared}
 use Rattle.policy_comparison.specs.ComparedRows.{rows_in}
-use Rattle.policy_comparison.specs.declared.compared_rows.ComparedInterval.{ComparedInterval}
 use Rattle.policy_comparison.proofs.CutHits.{at-end, rows-more}
 use Rattle.policy_comparison.proofs.compared_rows.ComparedRows.end_row.Goals as goal
 

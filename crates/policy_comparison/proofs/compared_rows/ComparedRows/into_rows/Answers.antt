@@ -1,8 +1,7 @@
 use Rattle.std.proofs.Common.{◌≡◌, ◌∙◌, ◌+◌, ◌*◌, ◌≤◌, Bool, ℕ, List, length, take, ap, sym, arith}
 use Rattle.std.proofs.lemmas.List.{take_all}
 use Rattle.policy_comparison.specs.ComparedIntervals.{first_compared}
-use Rattle.policy_comparison.specs.ComparedRows.{EndsRow, HasCounted, rows_in}
-use Rattle.policy_comparison.specs.declared.compared_rows.ComparedRows.{ComparedRows}
+use Rattle.policy_comparison.specs.ComparedRows.{ComparedRows, EndsRow, HasCounted, rows_in}
 use Rattle.policy_comparison.proofs.CutHits.{covers-part, covers-whole, rows-more}
 use Rattle.policy_comparison.proofs.compared_rows.ComparedRows.into_rows.Goals as goal
 

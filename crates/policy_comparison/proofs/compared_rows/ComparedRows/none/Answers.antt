@@ -1,7 +1,6 @@
 use Rattle.std.proofs.Common.{◌≡◌, ◌∙◌, ◌*◌, ℕ, List, length, take, ap, sym, refl, arith}
 use Rattle.policy_comparison.specs.Comparison.{counts_of}
-use Rattle.policy_comparison.specs.ComparedIntervals.{first_compared}
-use Rattle.policy_comparison.specs.declared.compared_rows.ComparedInterval.{ComparedInterval}
+use Rattle.policy_comparison.specs.ComparedIntervals.{ComparedInterval, first_compared}
 use Rattle.policy_comparison.proofs.compared_rows.ComparedRows.none.Goals as goal
 
 pub returns : goal.returns

@@ -7,8 +7,7 @@ use Rattle.sketch.specs.Sketch.{IsTable}
 use Rattle.sketch.proofs.Halves.{halve_after, lost_is, table_is}
 use Rattle.sketch.proofs.Undoing.{unhalved_is, halve_fits}
 use Rattle.step_record.specs.Bits.{bits_of}
-use Rattle.sketch.specs.declared.halve_record.HalveRecord.{HalveRecord}
-use Rattle.sketch.specs.HalveRecord.{halve_record_of}
+use Rattle.sketch.specs.HalveRecord.{HalveRecord, halve_record_of}
 use Rattle.sketch.proofs.sketch.Sketch.halve.Goals as goal
 
 pub returns-clause-after : goal.returns-clause-after

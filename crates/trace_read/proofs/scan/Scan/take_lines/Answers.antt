@@ -2,8 +2,7 @@ use Rattle.std.proofs.Common.{◌≤◌, ◌+◌, arith, length, refl, subst, sy
 use Rattle.trace_read.proofs.Steps.{errs}
 use Rattle.trace_read.proofs.Taken.{line_refused, line_taken, refused_then, taken_then, whole_read, whole_stopped}
 use Rattle.trace_read.specs.DigitRuns.{IsLineEnd}
-use Rattle.trace_read.specs.ScanState.{IsTakenUpTo}
-use Rattle.trace_read.specs.declared.scan.Scan.{Scan}
+use Rattle.trace_read.specs.ScanState.{Scan, IsTakenUpTo}
 use Rattle.trace_read.proofs.scan.Scan.take_lines.Goals as goal
 
 pub lines-preserved : goal.lines-preserved

@@ -2,8 +2,7 @@ use Rattle.std.proofs.Common.{◌∙◌, ◌≤◌, ◌+◌, ◌-◌, ◌++◌, 
 use Rattle.trace_read.proofs.Runs.{run_fits}
 use Rattle.trace_read.proofs.Taken.{line_taken, run_read, taken_then}
 use Rattle.trace_read.specs.Lines.{line_of}
-use Rattle.trace_read.specs.ScanState.{IsTakenUpTo}
-use Rattle.trace_read.specs.declared.scan.Scan.{Scan}
+use Rattle.trace_read.specs.ScanState.{Scan, IsTakenUpTo}
 use Rattle.trace_read.proofs.scan.Scan.take_usual_lines.Goals as goal
 
 pub lines-preserved : goal.lines-preserved
