@@ -87,14 +87,26 @@ impl DemandCache {
         ensures memory { result ≡ Err StepFault.OutOfMemory → demand_may_ask self.old key }
         ensures err { OnErr result (self.new ≡ self.old) }
     {
+        self.access_as::<C>(self.policy, key)
+    }
+
+    /// Makes an access as `access` does, where the caller knows the policy, so that no step of another one is compiled.
+    ///
+    /// Errors: those of `access`.
+    #[inline(always)]
+    pub fn access_as<C>(&mut self, policy: DemandPolicy, key: Key) -> Result<Outcome, StepFault>
+        requires { policy ≡ self.old.queues.policy }
+        ensures accepted { IfOk result (λ o. demand_act self.old key ≡ Some (o, self.new)) }
+        ensures not_now { result ≡ Err StepFault.NotNow ↔ demand_act self.old key ≡ None }
+        ensures memory { result ≡ Err StepFault.OutOfMemory → demand_may_ask self.old key }
+        ensures err { OnErr result (self.new ≡ self.old) }
+        ensures policy { self.new.queues.policy ≡ self.old.queues.policy }
+    {
         if self.stats.accesses == MAX_STEPS {
             return Err(StepFault::NotNow);
         }
         self.queues.tabled();
-        match self
-            .policy
-            .count_out::<C>(&mut self.queues, self.capacity, self.scalar, key)
-        {
+        match policy.count_out::<C>(&mut self.queues, self.capacity, self.scalar, key) {
             Err(_) => Err(StepFault::OutOfMemory),
             Ok(done) => {
                 self.scalar = done.scalar;
@@ -102,6 +114,13 @@ impl DemandCache {
                 Ok(done.outcome)
             }
         }
+    }
+
+    /// Its policy, with the sizes of its parts.
+    pub fn policy(&self) -> DemandPolicy
+        ensures { result ≡ self.now.queues.policy }
+    {
+        self.policy
     }
 
     /// What was counted of the applied accesses.

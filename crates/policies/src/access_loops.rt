@@ -9,7 +9,7 @@ use crate::any_policy::AnyPolicy;
 use crate::theorems;
 use adaptive_window::AdaptiveCache;
 use clairvoyant::Clairvoyant;
-use demand_cache::DemandCache;
+use demand_cache::{DemandCache, DemandPolicy};
 use queue_cache::fixed_design::{
     FixedDesign, LruDesign, SegmentedLruDesign, TinyLfuLruDesign, TinyLfuSegmentedDesign,
     WindowTinyLfuDesign,
@@ -55,11 +55,53 @@ fn access_each<D: FixedDesign>(cache: &mut QueueCache, keys: &[Key]) -> Result<(
     Ok(())
 }
 
-/// The same by a cache of a policy that keeps each missed key. It is never part of its caller, so that the loops of
-/// other policies keep their registers.
-#[inline(never)]
+/// The same by a cache of a policy that keeps each missed key.
 pub(crate) fn access_demand(cache: &mut DemandCache, keys: &[Key]) -> Result<(), AllocError>
     requires { IsNext keys.now (AnyPolicy.Demand cache.old) }
+    ensures { (j : Job) (trace done : List ℕ) → HasAccessed j trace done (AnyPolicy.Demand cache.old)
+        → OnOk result (HasAccessed j trace (done ++ keys.now) (AnyPolicy.Demand cache.new)) }
+{
+    match cache.policy() {
+        DemandPolicy::Fifo => access_fifo(cache, keys),
+        policy => access_others(cache, policy, keys),
+    }
+}
+
+// FIFO has a loop of its own: an access takes so few instructions that those which tell the policies apart count.
+#[inline(never)]
+fn access_fifo(cache: &mut DemandCache, keys: &[Key]) -> Result<(), AllocError>
+    requires policy { cache.old.queues.policy ≡ DemandPolicy.Fifo }
+    requires next { IsNext keys.now (AnyPolicy.Demand cache.old) }
+    ensures { (j : Job) (trace done : List ℕ) → HasAccessed j trace done (AnyPolicy.Demand cache.old)
+        → OnOk result (HasAccessed j trace (done ++ keys.now) (AnyPolicy.Demand cache.new)) }
+{
+    access_as::<FifoLoop>(cache, DemandPolicy::Fifo, keys)
+}
+
+// The loop of the others is never part of its caller, so that those of other engines keep their registers.
+#[inline(never)]
+fn access_others(
+    cache: &mut DemandCache,
+    policy: DemandPolicy,
+    keys: &[Key],
+) -> Result<(), AllocError>
+    requires policy { cache.old.queues.policy ≡ policy }
+    requires next { IsNext keys.now (AnyPolicy.Demand cache.old) }
+    ensures { (j : Job) (trace done : List ℕ) → HasAccessed j trace done (AnyPolicy.Demand cache.old)
+        → OnOk result (HasAccessed j trace (done ++ keys.now) (AnyPolicy.Demand cache.new)) }
+{
+    access_as::<DemandLoop>(cache, policy, keys)
+}
+
+// The same by a cache of this policy: a loop for each caller.
+#[inline(always)]
+fn access_as<C>(
+    cache: &mut DemandCache,
+    policy: DemandPolicy,
+    keys: &[Key],
+) -> Result<(), AllocError>
+    requires policy { cache.old.queues.policy ≡ policy }
+    requires next { IsNext keys.now (AnyPolicy.Demand cache.old) }
     ensures { (j : Job) (trace done : List ℕ) → HasAccessed j trace done (AnyPolicy.Demand cache.old)
         → OnOk result (HasAccessed j trace (done ++ keys.now) (AnyPolicy.Demand cache.new)) }
 {
@@ -67,7 +109,7 @@ pub(crate) fn access_demand(cache: &mut DemandCache, keys: &[Key]) -> Result<(),
     theorems::any_accepts();
     for i in 0..keys.len() {
         cache.prefetch_at(keys, i);
-        match cache.access::<DemandLoop>(keys[i]) {
+        match cache.access_as::<C>(policy, keys[i]) {
             Ok(_) => {}
             Err(StepFault::OutOfMemory) => return Err(AllocError),
             Err(StepFault::NotNow) => unreachable!(),
@@ -97,6 +139,8 @@ pub(crate) fn access_adaptive(cache: &mut AdaptiveCache, keys: &[Key]) -> Result
 }
 
 // Selects the instances of accesses that are part of these loops.
+struct FifoLoop;
+
 struct DemandLoop;
 
 struct AdaptiveLoop;

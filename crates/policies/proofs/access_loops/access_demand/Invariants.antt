@@ -1,6 +1,0 @@
-use Rattle.policies.specs.declared.any_policy.AnyPolicy.TheVariants.{Demand}
-use Rattle.policies.proofs.Stretches.{HasMade}
-use Rattle.policies.proofs.access_loops.access_demand.Given as goal
-
-abbrev pub invariant-loop-i : goal.invariant-loop-i
-invariant-loop-i l = HasMade l.keys l.i (Demand l.initial.cache) (Demand l.cache)
