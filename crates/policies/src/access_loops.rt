@@ -1,5 +1,5 @@
-//! The accesses of a trace by a cache: a loop for each policy of queues, compiled for its design, one for the policies
-//! that keep each missed key, one for the adaptive window, and one for the optimal policy.
+//! The accesses of a trace by a cache: a loop for each policy of queues, compiled for its design, one for FIFO, one for the
+//! other policies that keep each missed key, one for the adaptive window, and one for the optimal policy.
 ghost use Rattle.std.specs.Prelude.{◌≡◌, ◌++◌, ◌≤◌, ℕ, List, OnOk, length};
 ghost use Rattle.queue_cache.specs.Design.{Job, design_of};
 ghost use Rattle.policies.specs.AnyPolicy.{HasAccessed};
