@@ -1,4 +1,5 @@
-//! FIFO, CLOCK, SIEVE, S3-FIFO, 2Q and ARC as one engine. They keep each missed key, and count no keys beyond a few bits.
+//! FIFO, CLOCK, SIEVE, S3-FIFO, 2Q and ARC as one engine. They keep each missed key, and count no keys beyond a few
+//! bits.
 //!
 //! Each is a plan of moves over the same queues. What they share stands here once: counts, the limit of steps, and
 //! undoing.
