@@ -1,5 +1,5 @@
 -- ARC: what an access makes of the residents, and that it keeps the invariant.
-use Rattle.std.proofs.Common.{◌≡◌, ℕ, ◌+◌, ◌*◌, ◌<◌, ◌≤◌, ◌⊎◌, Bool, true, false, cond, eqb, nat_lt, List, [], ◌∷◌, ◌++◌, length, drop, ap, ◌∙◌, sym, subst, refl, arith, inl, inr, length-append}
+use Rattle.std.proofs.Common.{◌≡◌, ℕ, ◌+◌, ◌*◌, ◌<◌, ◌≤◌, ◌⊎◌, Bool, true, false, cond, eqb, nat_lt, List, [], ◌∷◌, ◌++◌, length, drop, ap, ◌∙◌, refl, arith, inl, inr, length-append}
 use Rattle.std.proofs.lemmas.Bool.{cases_Bool, cases_eq, cases_lt, le-ltb, lt-ltb}
 use Rattle.std.proofs.lemmas.Bool.Decides.{nat_tests}
 use Rattle.step_record.specs.Keys.{has_key, keys_without}
@@ -47,10 +47,7 @@ joining f k InB1 d = record { t1 = omega arith; both = omega (arith, weight-push
 joining f k InB2 d = record { t1 = omega arith; both = omega (arith, weight-push f d.t2 k); b1 = refl; b2 = refl; p = refl }
 
 holds : (c : ℕ) (s : ArcState) → IsArc c s → AreResidents c (arc_residents s)
-holds c s i = record {
-  fits = let fits = i.fits in omega (arith, fits, length-append s.t1 s.t2);
-  distinct = λ x. omega (arith, i.distinct x, times-append x s.t1 s.t2);
-}
+holds c s i = grind (arith, nat_tests, length-append s.t1 s.t2, times-append)
 
 target-fits : (c : ℕ) (g : ArcGhost) (s : ArcState) → s.p ≤ c → arc_target c g s ≤ c
 target-fits c NoGhost s h = h
@@ -71,20 +68,7 @@ module _ (c k : ℕ) (h : 1 ≤ c) (s : ArcState) (i : IsArc c s) where
   -- the residents change their places
   hit : (t1 t2 : List ℕ) → has_key k (arc_residents s) ≡ true → length t1 ≤ length s.t1 → ((f : ℕ → ℕ) → weight f t1 + weight f t2 ≡ weight f s.t1 + weight f s.t2)
       → IsNext c k s (Hit, record s { t1 = t1; t2 = t2 })
-  hit t1 t2 e less w =
-      let fits = i.fits in let l1_fits = i.l1_fits in let all_fit = i.all_fit in
-      let n : length t1 + length t2 ≡ length s.t1 + length s.t2 = omega (arith, w (λ _. 1), length-weight) in
-      record {
-        access = hit-moves c k (arc_residents s) (t1 ++ t2) e (λ f. omega (arith, w f, weight-append f));
-        state = record {
-          fits = omega (arith, fits, n);
-          l1_fits = omega (arith, l1_fits, less);
-          all_fit = omega (arith, all_fit, n);
-          full = λ some. n ∙ i.full some;
-          p_fits = i.p_fits;
-          distinct = λ x. omega (arith, i.distinct x, w (λ y. one_if (eqb x y)), times-weight x);
-        };
-      }
+  hit t1 t2 e less w = grind (arith, nat_tests, length-weight, hit-moves, weight-append, times-weight)
 
   module _ (no_t1 : has_key k s.t1 ≡ false) (no_t2 : has_key k s.t2 ≡ false) where
     joined : (g : ArcGhost) (o : Outcome) (d : ArcState) → ((x : ℕ) → times x s.t1 + times x s.t2 + times x s.b1 + times x s.b2 + if_new g (one_if (eqb x k)) ≤ 1)
@@ -97,20 +81,7 @@ module _ (c k : ℕ) (h : 1 ≤ c) (s : ArcState) (i : IsArc c s) where
         let a = miss-moves c k (arc_residents s) (arc_residents t) o (has-append k s.t1 s.t2 ∙ rw (no_t1, no_t2) refl) r.misses r.keeps r.evicts
         (λ f. omega (arith, r.moves f, (joining f k g d).both, weight-append f)) in
         let fits = (access-keeps c k (arc_residents s) o (arc_residents t) a (holds c s i)).fits in
-        record {
-          access = a;
-          state = record {
-            fits = omega (arith, fits, length-append t.t1 t.t2);
-            l1_fits = omega (arith, l1_fits, j.t1, b1, length-weight);
-            all_fit = omega (arith, all_fit, j.both, b1, b2, length-weight);
-            full = λ some. let full = r.full (omega (arith, some, b1, b2)) in omega (arith, full, j.both, length-weight);
-            p_fits = omega (arith, p_fits, p);
-            distinct = λ x.
-                let f : ℕ → ℕ = λ y. one_if (eqb x y) in
-                let e = joining f k g d in
-                omega (arith, once x, r.grows f, e.both, ap (weight f) e.b1, ap (weight f) e.b2, times-weight x);
-          };
-        }
+        grind (arith, nat_tests, length-append t.t1 t.t2, length-weight, joining, once, times-weight)
 
     full-evicts : c ≤ length s.t1 + length s.t2 → true ≡ cond (nat_lt (length (arc_residents s)) c) false true
     full-evicts m = rw (le-ltb (length (arc_residents s)) c (omega (arith, m, length-append s.t1 s.t2))) refl
@@ -162,23 +133,18 @@ module _ (c k : ℕ) (h : 1 ≤ c) (s : ArcState) (i : IsArc c s) where
 
     module _ (no_b1 : has_key k s.b1 ≡ false) (no_b2 : has_key k s.b2 ≡ false) where
       once : (x : ℕ) → times x s.t1 + times x s.t2 + times x s.b1 + times x s.b2 + one_if (eqb x k) ≤ 1
-      once x =
-          grind (arith, nat_tests, cases_eq x k, i.distinct x, times-none k s.t1 no_t1, times-none k s.t2 no_t2, times-none k s.b1 no_b1, times-none k s.b2 no_b2)
+      once x = grind (arith, nat_tests, cases_eq, times-none)
 
       abbrev IsNew : ArcPlan → Type 0
       IsNew m = IsNext c k s (arc_outcome m.leaver, arc_after_miss c k m s)
 
       new-key : (f : ArcForgets) (v : ArcLeaver) → HasRoom c k NoGhost s (arc_outcome v) (arc_after_eviction v (arc_after_forgetting f s))
           → IsNew record { recalls = NoGhost; forgets = f; leaver = v }
-      new-key f v r =
-          let same : arc_after_recall s.p k s ≡ s = rw (without-none k s.b1 no_b1, without-none k s.b2 no_b2) refl in
-          subst (λ d. IsNext c k s (arc_outcome v, arc_after_join NoGhost k (arc_after_eviction v (arc_after_forgetting f d)))) (sym same)
-          (joined NoGhost (arc_outcome v) (arc_after_eviction v (arc_after_forgetting f s)) once r)
+      new-key f v r = search (arith, without-none, joined, once)
 
       -- where as many keys are known as fit, the cache is full
       is-full : c ≤ arc_total s → length s.t1 + length s.t2 ≡ c
-      is-full many =
-          let fits = i.fits in let full = i.full in grind (arith, nat_tests, cases_lt 0 (length s.b1 + length s.b2))
+      is-full many = grind (arith, nat_tests, cases_lt 0 (length s.b1 + length s.b2))
 
       new : IsNew (plan_of_new_key c s)
       new =

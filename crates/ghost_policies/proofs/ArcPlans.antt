@@ -1,5 +1,5 @@
 -- ARC: which key leaves, and the ways of a key that no ghost remembers.
-use Rattle.std.proofs.Common.{◌≡◌, ℕ, ◌+◌, ◌*◌, ◌<◌, ◌≤◌, Bool, true, false, eqb, nat_lt, ◌⊎◌, ◌&&◌, ◌||◌, List, ◌∷◌, length, arith, inl, inr}
+use Rattle.std.proofs.Common.{◌≡◌, ℕ, ◌+◌, ◌*◌, ◌<◌, ◌≤◌, Bool, true, false, ◌⊎◌, List, ◌∷◌, length, arith}
 use Rattle.std.proofs.lemmas.Bool.{cond_both, ltb-true, ltb-false, eqb-true, eqb-false}
 use Rattle.std.proofs.lemmas.Bool.Decides.{nat_tests}
 use Rattle.queue_policies.proofs.CountedKeys.{by-oldest}
@@ -14,27 +14,9 @@ pub new-cases : (c : ℕ) (s : ArcState) (P : ArcPlan → Type 0)
     → ((length s.t1 + length s.b1 ≡ c → ⊥) → c ≤ arc_total s → (arc_total s ≡ 2 * c → ⊥) → P record { recalls = NoGhost; forgets = NoneForgotten; leaver = arc_replace false s.p s })
     → P (plan_of_new_key c s)
 new-cases c s P drops_b1 drops_t1 joins drops_b2 replaces =
-    let l1 : ℕ = length s.t1 + length s.b1 in
-    let all : ℕ = arc_total s in
-    cond_both (eqb l1 c) _ _ P
-    (λ e. cond_both (nat_lt (length s.t1) c) _ _ P
-    (λ f. drops_b1 (eqb-true l1 c e) (ltb-true (length s.t1) c f))
-    (λ f. drops_t1 (eqb-true l1 c e) (ltb-false (length s.t1) c f)))
-    (λ e. cond_both (nat_lt all c) _ _ P (λ f. joins (eqb-false l1 c e) (ltb-true all c f))
-    (λ f. cond_both (eqb all (2 * c)) _ _ P
-    (λ h. drops_b2 (eqb-false l1 c e) (ltb-false all c f) (eqb-true all (2 * c) h))
-    (λ h. replaces (eqb-false l1 c e) (ltb-false all c f) (eqb-false all (2 * c) h))))
+    grind (arith, nat_tests, cond_both, eqb-true, ltb-true, ltb-false, eqb-false)
 
 -- In a full cache the oldest of t1 leaves, or that of t2, which has one where t1 has none, or not over p.
 pub replace-cases : (in_b2 : Bool) (c p : ℕ) (s : ArcState) (P : ArcLeaver → Type 0) → 1 ≤ c → length s.t1 + length s.t2 ≡ c → p ≤ c → (in_b2 ≡ true) ⊎ (length s.t1 < c)
     → ((v : ℕ) (l : List ℕ) → s.t1 ≡ v ∷ l → P (ToB1 v)) → ((v : ℕ) (l : List ℕ) → s.t2 ≡ v ∷ l → P (ToB2 v)) → P (arc_replace in_b2 p s)
-replace-cases in_b2 c p s P h full fits case to_b1 to_b2 =
-    let n : ℕ = length s.t1 in
-    let from_t1 = λ (some : 1 ≤ n). by-oldest (λ l. P (oldest_leaver ToB1 l)) s.t1 some to_b1 in
-    let from_t2 = λ (some : 1 ≤ length s.t2). by-oldest (λ l. P (oldest_leaver ToB2 l)) s.t2 some to_b2 in
-    let few : (in_b2 && eqb n p) ≡ false → n ≤ p → n < c = λ f low. elim case [
-      | inl b ↦ grind (arith, nat_tests)
-      | inr few ↦ few
-    ] in
-    cond_both (nat_lt 0 n && (nat_lt p n || (in_b2 && eqb n p))) _ _ P
-    (λ e. from_t1 (grind (arith, nat_tests))) (λ e. from_t2 (grind (arith, nat_tests, few)))
+replace-cases in_b2 c p s P h full fits case to_b1 to_b2 = grind (arith, nat_tests, by-oldest, cond_both)

@@ -1,4 +1,5 @@
 -- 2Q: what an access makes of the queues, and that it keeps the invariant.
+use Rattle.std.proofs.lemmas.Bool.Decides.{nat_tests}
 use Rattle.std.proofs.Common.{Bool, ◌≡◌, ℕ, ◌+◌, ◌≤◌, false, true, cond, ◌==◌, nat_lt, ◌||◌, List, [], ◌∷◌, ◌++◌, length, ◌∙◌, refl, arith, inl, inr, length-append}
 use Rattle.std.proofs.lemmas.Bool.{cond_both, or_cases, or_parts, ltb-true, ltb-false, eqb-true, eqb-false}
 use Rattle.step_record.specs.Keys.{has_key}
@@ -40,26 +41,12 @@ made a1in a1out am = record { a1in = a1in; a1out = a1out; am = am }
 a1in-leaves : (z : TwoQSizes) (c : ℕ) (a1in a1out am : List ℕ) → 1 ≤ length a1in → nat_lt (length (a1in ++ am)) c ≡ false
     → IsRoom z c (made a1in a1out am) (after_leaver z (made a1in a1out am) (leaver_of_a1in a1in))
 a1in-leaves z c [] a1out am n full = absurd (omega (arith, n))
-a1in-leaves z c (v ∷ a1in) a1out am n full = record {
-  weighs = λ f. omega arith;
-  misses = refl;
-  rejects = refl;
-  evicts = rw full refl;
-  few = with-fits z.kout v a1out;
-  grows = λ x. with-times x z.kout v a1out;
-}
+a1in-leaves z c (v ∷ a1in) a1out am n full = grind (arith, nat_tests, with-fits z.kout v a1out, with-times)
 
 am-leaves : (z : TwoQSizes) (c : ℕ) (a1in a1out am : List ℕ) → 1 ≤ length am → nat_lt (length (a1in ++ am)) c ≡ false
     → IsRoom z c (made a1in a1out am) (after_leaver z (made a1in a1out am) (leaver_of_am am))
 am-leaves z c a1in a1out [] n full = absurd (omega (arith, n))
-am-leaves z c a1in a1out (v ∷ am) n full = record {
-  weighs = λ f. omega (arith, weight-append f a1in am, weight-append f a1in (v ∷ am));
-  misses = refl;
-  rejects = refl;
-  evicts = rw full refl;
-  few = λ h. h;
-  grows = λ x. omega arith;
-}
+am-leaves z c a1in a1out (v ∷ am) n full = grind (arith, nat_tests, weight-append)
 
 room : (z : TwoQSizes) (c : ℕ) (s : TwoQState) → 1 ≤ c → IsRoom z c s (after_leaver z s (two_q_leaver z c s))
 room z c s some =
@@ -120,10 +107,7 @@ module _ (z : TwoQSizes) (c k : ℕ) (s : TwoQState) (some : 1 ≤ c) (state : I
       (missed e))
 
 holds : (z : TwoQSizes) (c : ℕ) (s : TwoQState) → IsTwoQ z c s → AreResidents c (two_q_residents s)
-holds z c s state = record {
-  fits = omega (arith, state.fits, length-append s.a1in s.am);
-  distinct = λ x. omega (arith, state.distinct x, times-append x s.a1in s.am);
-}
+holds z c s state = grind (arith, nat_tests, length-append s.a1in s.am, times-append)
 
 pub keeps : (z : TwoQSizes) (c : ℕ) → 1 ≤ c → KeepsResidents c empty_two_q (two_q_act z c) two_q_residents (IsTwoQ z c)
 keeps z c h = record {
