@@ -5,7 +5,6 @@ use Rattle.std.proofs.lemmas.Bool.{cases_Bool, lt-ltb, le-ltb, cases_eq}
 use Rattle.std.proofs.lemmas.Bool.Decides.{nat_tests}
 use Rattle.std.proofs.lemmas.List.{take_all}
 use Rattle.step_record.specs.Keys.{has_key}
-use Rattle.step_record.specs.Stats.{one_if}
 use Rattle.policies.specs.AnyPolicy.{Job, stats_on}
 use Rattle.queue_cache.proofs.Recency.{IsDistinct}
 use Rattle.queue_policies.specs.Residents.{times}
@@ -81,10 +80,7 @@ module _ (c : ℕ) (held : List ℕ → List ℕ) (fits : (keys : List ℕ) → 
   no-hits : (n : ℕ) → hits_of held (trace_of n) ≡ 0
   no-hits zero = refl
   no-hits (suc n) =
-      let k : ℕ = free_key (suc c) (held (trace_of n)) in
-      let most : length (held (trace_of n)) ≤ c = fits (trace_of n) in
-      let out : one_if (has_key k (held (trace_of n))) ≡ 0 = ap one_if (free-absent (suc c) (held (trace_of n)) (omega (arith, most))) in
-      omega (arith, hits-more held (trace_of n) k, no-hits n, out)
+      grind (arith, nat_tests, free-absent (suc c) (held (trace_of n)) (omega arith), hits-more, no-hits n)
 
   -- each access is to one of those keys
   one-time : (n : ℕ) → times (free_key (suc c) (held (trace_of n))) (down (suc c)) ≡ 1
@@ -101,9 +97,7 @@ module _ (c : ℕ) (held : List ℕ → List ℕ) (fits : (keys : List ℕ) → 
   -- a strategy that keeps some keys for good hits all their accesses but the first
   kept-hits : (ks : List ℕ) → IsDistinct ks → (n : ℕ) → hits_of (hold ks) (trace_of n) + length (hold ks (trace_of n)) ≡ load ks (trace_of n)
   kept-hits ks d zero = let none : length (hold ks []) ≡ 0 = ap length (hold-none ks) in omega (arith, none, load-none ks)
-  kept-hits ks d (suc n) =
-      let k : ℕ = free_key (suc c) (held (trace_of n)) in
-      omega (arith, hits-more (hold ks) (trace_of n) k, hold-next ks (trace_of n) k d, load-next ks (trace_of n) k, kept-hits ks d n)
+  kept-hits ks d (suc n) = grind (arith, nat_tests, hits-more, hold-next, load-next, kept-hits ks d n)
 
 -- ---- the bound
 

@@ -1,6 +1,6 @@
 -- CLOCK is conservative: in a stretch of few keys each miss is one of the evictions that were ahead of it, or fills up the
 -- cache.
-use Rattle.std.proofs.Common.{◌≡◌, ℕ, zero, suc, ◌+◌, ◌<◌, ◌≤◌, true, false, not, eqb, nat_lt, List, [], ◌∷◌, ◌++◌, length, take, get_or, ap, ◌∙◌, sym, refl, arith, inl, inr, length-append}
+use Rattle.std.proofs.Common.{◌≡◌, ℕ, zero, suc, ◌+◌, ◌<◌, ◌≤◌, true, false, not, eqb, nat_lt, List, [], ◌∷◌, length, take, get_or, ap, refl, arith, inl, inr, length-append}
 use Rattle.std.proofs.lemmas.Bool.{cases_Bool, cases_lt, eq-eqb, ltb-false, cases_eq}
 use Rattle.std.proofs.lemmas.Bool.Decides.{nat_tests}
 use Rattle.step_record.specs.Keys.{has_key}
@@ -8,8 +8,8 @@ use Rattle.step_record.specs.Stats.{one_if}
 use Rattle.queue_cache.specs.Lru.{distinct_keys}
 use Rattle.optimality.specs.Strategy.{strategy_misses}
 use Rattle.queue_policies.specs.Residents.{times, state_after_all}
-use Rattle.queue_policies.specs.CountedKeys.{CountedKey, keys_of, with_count, oldest_count, total_count, AreCounted}
-use Rattle.queue_policies.specs.Turns.{after_turn, turn_count_within, turn_count, after_turns}
+use Rattle.queue_policies.specs.CountedKeys.{CountedKey, keys_of, with_count, oldest_count, AreCounted}
+use Rattle.queue_policies.specs.Turns.{after_turn, turn_count_within, after_turns}
 use Rattle.queue_policies.specs.Clock.{marked_key, clock_eviction, clock_act, IsClock}
 use Rattle.queue_policies.proofs.Residents.{times-none, no-times}
 use Rattle.queue_policies.proofs.CountedKeys.{length-keys, keys-with}
@@ -67,29 +67,16 @@ evicts-ahead : (k : ℕ) (ks : List ℕ) (queue : List CountedKey) → has_key k
     → suc (evictions_ahead ks (clock_eviction k queue).1 + length queue) ≤ evictions_ahead ks queue + length (clock_eviction k queue).1
 evicts-ahead k ks [] among zero_count stale = absurd (cc (stale))
 evicts-ahead k ks (e ∷ l) among zero_count stale =
-    let joined : evictions_ahead ks (l ++ marked_key k ∷ []) ≡ evictions_ahead ks l = ahead-joined ks l (marked_key k) (fresh-one k ks among) refl in
-    let left : evictions_ahead ks (e ∷ l) ≡ suc (evictions_ahead ks l) = ahead-left ks e l (eq-eqb e.count 0 zero_count) stale in
-    omega (arith, joined, left, length-append l (marked_key k ∷ []))
+    grind (arith, nat_tests, ahead-joined, fresh-one, ahead-left, eq-eqb, length-append)
 
 act-ahead : (c k : ℕ) (ks : List ℕ) (queue : List CountedKey) → has_key k ks ≡ true → length (distinct_keys ks) ≤ c → IsClock c queue
     → one_if (not (has_key k (keys_of queue))) + evictions_ahead ks (clock_act c k queue).1 + length queue ≤ evictions_ahead ks queue + length (clock_act c k queue).1
 act-ahead c k ks queue among few is =
     elim (cases_Bool (has_key k (keys_of queue))) [
-      | inl e ↦
-          let long : length (with_count k 1 queue) ≡ length queue = sym (length-keys (with_count k 1 queue)) ∙ (ap length (keys-with k 1 queue) ∙ length-keys queue) in
-          rw e (omega (arith, ahead-hit ks k among queue, long))
+      | inl e ↦ grind (arith, nat_tests, length-keys (with_count k 1 queue), keys-with k 1 queue, length-keys queue, ahead-hit ks k among queue)
       | inr e ↦ rw e (elim (cases_Bool (nat_lt (length queue) c)) [
         | inl f ↦ rw f (omega (arith, ahead-joined ks queue (marked_key k) (fresh-one k ks among) refl, length-append queue (marked_key k ∷ [])))
-        | inr f ↦
-            let after : List CountedKey = after_turns (turn_count queue) queue in
-            let full : c ≤ length queue = ltb-false (length queue) c f in
-            let long : length after ≡ length queue = turns-length (turn_count queue) queue in
-            let same : (x : ℕ) → times x (keys_of after) ≡ times x (keys_of queue) = λ x. turns-times x (turn_count queue) queue in
-            let out : has_key k (keys_of after) ≡ false = no-times k (keys_of after) (let n = same k in let none = times-none k (keys_of queue) e in omega (arith, n, none)) in
-            let once : (x : ℕ) → times x (keys_of after) ≤ 1 = λ x. (let n = same x in let d = is.residents.distinct x in omega (arith, n, d)) in
-            let stale : any_of (is_stale ks) after ≡ true = some-stale c k ks after among few (omega (arith, full, long)) out once in
-            let ahead : evictions_ahead ks after ≡ evictions_ahead ks queue = turns-ahead ks (total_count queue) queue is.bits in
-            rw f (omega (arith, evicts-ahead k ks after among (settled queue) stale, ahead, long))
+        | inr f ↦ grind (arith, nat_tests, ltb-false, turns-length, turns-times, no-times, times-none, some-stale, turns-ahead, evicts-ahead, settled)
       ])
     ]
 

@@ -1,5 +1,5 @@
 -- What the accesses of single traces come to, by computation.
-use Rattle.std.proofs.Common.{◌≡◌, ◌⊎◌, ℕ, ◌≤◌, List, [], take, count_by, ap, ◌∙◌, sym, refl, subst, arith, inl, inr}
+use Rattle.std.proofs.Common.{◌≡◌, ◌⊎◌, ℕ, ◌≤◌, List, [], take, count_by, ap, ◌∙◌, arith, inl, inr}
 use Rattle.step_record.specs.declared.limits.TheConstants.{MAX_PART_PERCENT}
 use Rattle.step_record.specs.Job.{part_size}
 use Rattle.step_record.specs.Stats.{is_miss}
@@ -23,8 +23,7 @@ misses-at page j c m (inl is) at room fifo clock = page-misses page demand.Fifo 
 misses-at page j c m (inr is) at room fifo clock = page-misses page demand.Clock j anomalous_trace (ap design_of is) (omega (arith, at, room)) ∙ (ap (λ x. count_by is_miss (outcomes_of_all (clock_act x) [] anomalous_trace)) at ∙ clock)
 
 pub have_anomaly : RunsByPage → FifoAndClockHaveAnomaly
-have_anomaly page small large is same at_small at_large =
-    (misses-at page small 3 9 is at_small (omega arith) refl refl, misses-at page large 4 10 (subst (λ p. (p ≡ Fifo) ⊎ (p ≡ Clock)) (sym same) is) at_large (omega arith) refl refl)
+have_anomaly page small large is same at_small at_large = search (arith, misses-at)
 
 pub sieve_is_not_conservative : RunsByPage → SieveIsNotConservative
 sieve_is_not_conservative page j is at all =

@@ -38,8 +38,7 @@ missed c k old new h less =
     ]
 
 pub once-more : (k : ℕ) (old new : List ℕ) → has_key k (old ++ new) ≡ false → ((x : ℕ) → times x (old ++ new) ≤ 1) → (x : ℕ) → times x (k ∷ new) ≤ 1
-once-more k old new h d x =
-    grind (arith, nat_tests, times-append x old new, times-none k (old ++ new) h, cases_eq x k, d x)
+once-more k old new h d x = grind (arith, nat_tests, times-append x old new, times-none k (old ++ new) h, cases_eq x k)
 
 -- ---- a stretch
 
@@ -54,10 +53,7 @@ module _ (c : ℕ) (t : List ℕ) (room : 1 ≤ c) (i m : ℕ) (l : m ≤ length
     fits : length new ≤ c
 
   newest-here : (n : ℕ) → i ≤ n → n ≤ i → Newest n
-  newest-here n h g =
-      let same : n ≡ i = omega (arith, h, g) in
-      let misses : strategy_misses t (fifo_queue c t) n ≡ strategy_misses t (fifo_queue c t) i = ap (strategy_misses t (fifo_queue c t)) same in
-      record { old = fifo_queue c t n; new = []; queue = sym (append-nil (fifo_queue c t n)); among = λ x f. absurd (cc (f)); misses = omega (arith, misses); fits = omega arith }
+  newest-here n h g = grind (arith, nat_tests, append-nil (fifo_queue c t n))
 
   newest-next : (n : ℕ) → i ≤ n → n < m → Newest n → Newest (suc n)
   newest-next n h g now =
@@ -99,8 +95,4 @@ module _ (c : ℕ) (t : List ℕ) (room : 1 ≤ c) (i m : ℕ) (l : m ≤ length
       ]
 
 pub fifo-conservative : (c : ℕ) (t : List ℕ) → 1 ≤ c → IsConservative c t (strategy_misses t (fifo_queue c t))
-fifo-conservative c t room i m h l few =
-    let end : Newest c t room i m l few m = newest-at c t room i m l few m h (omega arith) in
-    let misses : strategy_misses t (fifo_queue c t) m ≡ strategy_misses t (fifo_queue c t) i + length end.new = end.misses in
-    let fits : length end.new ≤ c = end.fits in
-    omega (arith, misses, fits)
+fifo-conservative c t room i m h l few = grind (arith, nat_tests, newest-at c t room i m l few m h (omega arith))

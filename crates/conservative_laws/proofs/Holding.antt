@@ -19,17 +19,13 @@ hits_of f xs = strategy_hits xs (λ i. f (take i xs)) (length xs)
 
 hits-within : (f : List ℕ → List ℕ) (xs ys : List ℕ) (n : ℕ) → n ≤ length xs → strategy_hits (xs ++ ys) (λ i. f (take i (xs ++ ys))) n ≡ strategy_hits xs (λ i. f (take i xs)) n
 hits-within f xs ys zero h = refl
-hits-within f xs ys (suc n) h =
-    rw (hits-within f xs ys n (omega (arith, h)), get_or-append xs ys 0 n (omega (arith, h)), take-append-le n xs ys (omega (arith, h))) refl
+hits-within f xs ys (suc n) h = search (arith, hits-within f xs ys n (omega (arith, h)), get_or-append, take-append-le)
 
 pub hits-more : (f : List ℕ → List ℕ) (xs : List ℕ) (k : ℕ) → hits_of f (xs ++ k ∷ []) ≡ hits_of f xs + one_if (has_key k (f xs))
 hits-more f xs k =
     let all : List ℕ = xs ++ k ∷ [] in
     let long : length all ≡ suc (length xs) = omega (arith, length-append xs (k ∷ [])) in
-    ap (strategy_hits all (λ i. f (take i all))) long
-    ∙ (ap (λ m. m + one_if (has_key (get_or all (length xs) 0) (f (take (length xs) all)))) (hits-within f xs (k ∷ []) (length xs) (omega arith))
-    ∙ (ap (λ x. hits_of f xs + one_if (has_key x (f (take (length xs) all)))) (get_or-append_seam xs k [] 0)
-    ∙ ap (λ l. hits_of f xs + one_if (has_key k (f l))) (take-append_seam xs (k ∷ []))))
+    grind (arith, nat_tests, hits-within f xs (k ∷ []) (length xs) (omega arith), get_or-append_seam xs k, take-append_seam xs (k ∷ []))
 
 -- ---- a strategy that keeps some keys for good, from their first access on
 

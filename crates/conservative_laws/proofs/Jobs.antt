@@ -1,4 +1,5 @@
 -- The jobs of Lru, FIFO and CLOCK: their misses are those of the definitions over plain keys.
+use Rattle.std.proofs.lemmas.Bool.Decides.{nat_tests}
 use Rattle.std.proofs.Common.{◌≡◌, ℕ, ◌+◌, ◌-◌, ◌*◌, ◌≤◌, map, List, [], ◌∷◌, length, take, count_by, ap, ◌∙◌, sym, refl, subst, arith, inl, inr}
 use Rattle.std.proofs.lemmas.Bool.{cases_lt}
 use Rattle.std.proofs.lemmas.List.{take_all, length-take-le}
@@ -16,7 +17,7 @@ use Rattle.demand_cache.specs.DemandQueues.{outcomes_of_page}
 use Rattle.demand_cache.specs.Theorems.{DemandKeeps, RunsByPage}
 use Rattle.queue_cache.specs.declared.design.DemandDesign.TheVariants as demand
 use Rattle.queue_cache.specs.declared.design.Design.TheVariants as design
-use Rattle.policies.specs.AnyPolicy.{DemandDesign, Job, demand_run, demand_outcomes, outcomes_by, outcomes_on, stats_on}
+use Rattle.policies.specs.AnyPolicy.{DemandDesign, Job, demand_run, outcomes_on, stats_on}
 use Rattle.queue_cache.specs.Design.{design_of}
 use Rattle.policies.specs.DemandDesign.{demand_policy}
 use Rattle.policies.specs.Theorems.{AnyCoversTrace}
@@ -43,8 +44,7 @@ unfolding stats_on
 misses-counted j keys = refl
 
 pub demand-misses : (p : DemandDesign) (j : Job) (keys : List ℕ) → design_of j.policy ≡ design.Demand p → 1 ≤ j.config.capacity → (stats_on j keys).misses ≡ count_by is_miss (demand_run (demand_policy p j) j.config.capacity keys)
-demand-misses p j keys is room =
-    misses-counted j keys ∙ (ap (λ d. count_by is_miss (outcomes_by d j keys)) is ∙ ap (count_by is_miss) (with-room (demand_policy p j) j.config.capacity keys room))
+demand-misses p j keys is room = cc (misses-counted j keys, with-room (demand_policy p j) j.config.capacity keys room)
 
 pub page-misses : RunsByPage → (p : DemandDesign) (j : Job) (keys : List ℕ) → design_of j.policy ≡ design.Demand p → 1 ≤ j.config.capacity
     → (stats_on j keys).misses ≡ count_by is_miss (outcomes_of_page (demand_policy p j) j.config.capacity keys)
@@ -56,10 +56,7 @@ all-rejected [] = refl
 all-rejected (k ∷ keys) = let rest = all-rejected keys in omega (arith, rest, count-cons is_miss (Rejected k) (map (λ k. Rejected k) keys))
 
 pub demand-misses-all : (p : DemandDesign) (j : Job) (keys : List ℕ) → design_of j.policy ≡ design.Demand p → j.config.capacity ≡ 0 → (stats_on j keys).misses ≡ length keys
-demand-misses-all p j keys is none =
-    misses-counted j keys
-    ∙ (ap (λ d. count_by is_miss (outcomes_by d j keys)) is
-    ∙ (ap (λ c. count_by is_miss (demand_outcomes (demand_policy p j) c keys)) none ∙ all-rejected keys))
+demand-misses-all p j keys is none = grind (arith, nat_tests, misses-counted j keys, all-rejected keys)
 
 -- ---- as a conservative cache
 
@@ -130,8 +127,7 @@ compete_without_bypass filling lru page covers j t h strategy n is s never l =
     rw (a.misses n l) (filling j.config.capacity h t a.cache strategy n a.conservative a.fills s never l)
 
 pub twice_as_large : LruFifoClockCompete → LruFifoClockTwiceAsLarge
-twice_as_large law j t h strategy n is wide s l =
-    at-most-twice j.config.capacity h (misses_on j t n) (strategy_misses t strategy n) wide (law j t h strategy n is s l)
+twice_as_large law j t h strategy n is wide s l = search (arith, at-most-twice)
 
 pub compete_with_any : LruFifoClockCompete → AnyCoversTrace → BeladyIsStrategy → DemandKeeps → CacheKeeps → LruFifoClockCompeteWithAny
 compete_with_any law covers best keeps held j other t is =

@@ -35,8 +35,7 @@ since-second k (a ∷ xs) ys h = rw (has-second k xs ys h) (since-second k xs ys
 
 since-among : (k x : ℕ) (xs : List ℕ) → has_key x (keys_since k xs) ≡ true → has_key x xs ≡ true
 since-among k x [] h = h
-since-among k x (a ∷ xs) h =
-    grind (arith, nat_tests, since-among k x xs)
+since-among k x (a ∷ xs) h = grind (arith, nat_tests, since-among k x xs)
 
 since-without : (k : ℕ) (xs : List ℕ) → has_key k (keys_since k xs) ≡ false
 since-without k [] = refl

@@ -32,13 +32,7 @@ none-hit t (suc n) = let rest = none-hit t n in omega (arith, rest, misses-next 
 
 -- with twice the capacity the factor is at most two
 pub at-most-twice : (c h m k : ℕ) → 2 * h ≤ c + 1 → (c + 1 - h) * m ≤ (c + 1) * k → m ≤ 2 * k
-at-most-twice c h m k wide most =
-    let d : ℕ = c + 1 - h in
-    let twice : (c + 1) * k ≤ (d + d) * k = mul-le-mul_right k (omega (arith, wide)) in
-    let sum : (d + d) * k ≡ d * k + d * k = add-mul d d k in
-    let two : d * (2 * k) ≡ d * k + d * k = (let e : 2 * k ≡ k + k = omega arith in ap (λ x. d * x) e ∙ mul-add d k k) in
-    let all : d * m ≤ d * (2 * k) = omega (arith, most, twice, sum, two) in
-    le_of_mul-le-mul_left all (omega (arith, wide))
+at-most-twice c h m k wide most = grind (arith, nat_tests, mul-le-mul_right, add-mul, mul-add, le_of_mul-le-mul_left)
 
 -- ---- of a job
 

@@ -1,5 +1,6 @@
 -- The reports of jobs over one trace obey the laws.
-use Rattle.std.proofs.Common.{ℕ, List, All, length, map, ◌∙◌, sym}
+use Rattle.std.proofs.lemmas.Bool.Decides.{nat_tests}
+use Rattle.std.proofs.Common.{arith, ℕ, List, All, length, map}
 use Rattle.std.specs.Prelude.{slice_index_or}
 use Rattle.std.proofs.lemmas.List.Elements.{All-map}
 use Rattle.policies.specs.Residents.{Job, StatsAddUp, MissesFit}
@@ -13,18 +14,11 @@ of-all : (P : Report → Type 0) (jobs : List Job) (trace : List ℕ) → ((j : 
 of-all P jobs trace h = All-map P (λ j. report_on j trace) jobs (λ k d l. h (slice_index_or jobs k d))
 
 adds-up : StatsAddUp → MissesFit → (trace : List ℕ) (j : Job) → AddsUp (length trace) (report_on j trace)
-adds-up sums fits trace j =
-    let sum = sums j trace in
-    record { accesses = sum.0; hits = sum.1 ∙ sym sum.0; kept = fits j trace }
+adds-up sums fits trace j = grind (arith, nat_tests)
 
 module _ (best : NoPolicyBeatsBelady) (lru : LruHitsGrow) (optimal : OptimalHitsGrow) (bound : LruFifoClockCompeteWithAny) where
   ordered : (trace : List ℕ) (j k : Job) → AreOrdered (report_on j trace) (report_on k trace)
-  ordered trace j k = record {
-    best = λ p c. best j k trace p (sym c);
-    lru_grows = lru j k trace;
-    optimal_grows = optimal j k trace;
-    competes = bound j k trace;
-  }
+  ordered trace j k = grind (arith, nat_tests)
 
   pub obey : StatsAddUp → MissesFit → ReportsObeyLaws
   obey sums fits jobs trace = record {

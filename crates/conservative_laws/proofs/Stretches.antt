@@ -1,5 +1,5 @@
 -- Stretches of a trace, their distinct keys, and the misses in them.
-use Rattle.std.proofs.Common.{◌≡◌, ◌⊎◌, ℕ, zero, suc, ◌+◌, ◌<◌, ◌≤◌, Bool, true, cond, List, [], ◌∷◌, ◌++◌, length, take, drop, get_or, ap, ◌∙◌, sym, refl, arith, inl, inr, length-drop}
+use Rattle.std.proofs.Common.{◌≡◌, ◌⊎◌, ℕ, zero, suc, ◌<◌, ◌≤◌, Bool, true, cond, List, [], ◌∷◌, ◌++◌, length, take, drop, get_or, ap, ◌∙◌, sym, refl, arith, length-drop}
 use Rattle.std.proofs.lemmas.Bool.Decides.{nat_tests}
 use Rattle.std.proofs.lemmas.Bool.{cases_Bool, cases_eq}
 use Rattle.std.proofs.lemmas.List.{take_more, drop-append-le, length-take-le}
@@ -48,10 +48,7 @@ pub stretch-none : (t : List ℕ) (i : ℕ) → i ≤ length t → stretch t i i
 stretch-none t i h = ap (λ n. drop n (take i t)) (sym (length-take-le i t h)) ∙ drop-length (take i t)
 
 pub stretch-next : (t : List ℕ) (i n : ℕ) → i ≤ n → n < length t → stretch t i (suc n) ≡ stretch t i n ++ get_or t n 0 ∷ []
-stretch-next t i n h l =
-    let more : suc n ≡ n + 1 = omega arith in
-    let long : length (take n t) ≡ n = length-take-le n t (omega (arith, l)) in
-    ap (λ m. drop i (take m t)) more ∙ (ap (drop i) (take_more t n 0 l) ∙ drop-append-le i (take n t) (get_or t n 0 ∷ []) (omega (arith, long, h)))
+stretch-next t i n h l = search (arith, length-take-le n t (omega (arith, l)), take_more t n 0 l, drop-append-le)
 
 pub one-of : (x k : ℕ) (xs : List ℕ) → has_key x (xs ++ k ∷ []) ≡ true → (x ≡ k) ⊎ (has_key x xs ≡ true)
 one-of x k xs h = grind (arith, nat_tests, has-append x xs (k ∷ []))
@@ -60,8 +57,7 @@ pub has-first : (x : ℕ) (xs ys : List ℕ) → has_key x xs ≡ true → has_k
 has-first x xs ys h = has-append x xs ys ∙ ap (λ b. cond b true (has_key x ys)) h
 
 pub has-last : (k : ℕ) (xs : List ℕ) → has_key k (xs ++ k ∷ []) ≡ true
-has-last k xs =
-    has-append k xs (k ∷ []) ∙ (elim (cases_Bool (has_key k xs)) as (λ _. cond (has_key k xs) true (has_key k (k ∷ [])) ≡ true) [ inl e ↦ rw e refl | inr e ↦ rw e (head-has k []) ])
+has-last k xs = grind (arith, nat_tests, has-append k xs (k ∷ []), cases_Bool (has_key k xs), head-has k)
 
 pub in-stretch : (t : List ℕ) (i n m : ℕ) → i ≤ n → n < m → m ≤ length t → has_key (get_or t n 0) (stretch t i m) ≡ true
 in-stretch t i n zero h g l = absurd (omega (arith, g))
@@ -80,8 +76,4 @@ none-distinct (a ∷ xs) h = grind (arith, nat_tests, none-distinct xs, has-some
 -- no stretch has no key
 pub empty-conservative : (t : List ℕ) (misses : ℕ → ℕ) → IsConservative 0 t misses
 empty-conservative t misses i n h l few =
-    let none : length (stretch t i n) ≤ 0 = none-distinct (stretch t i n) few in
-    let long : length (take n t) ≡ n = length-take-le n t l in
-    let same : n ≡ i = omega (arith, none, long, h, length-drop i (take n t)) in
-    let equal : misses n ≡ misses i = ap misses same in
-    omega (arith, equal)
+    grind (arith, nat_tests, none-distinct (stretch t i n) few, length-take-le n t l, length-drop i (take n t))
