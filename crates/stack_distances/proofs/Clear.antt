@@ -1,4 +1,5 @@
 -- The first bit of words, from a place on, that is not set.
+use Rattle.std.proofs.lemmas.Bool.Decides.{nat_tests}
 use Rattle.std.proofs.Common.{◌≡◌, ℕ, ◌+◌, ◌-◌, ◌*◌, ◌/◌, ◌%◌, ◌^◌, ◌<◌, ◌≤◌, true, false, eqb, List, length, get_or, w64, ap, ◌∙◌, sym, arith, inl, inr}
 use Rattle.std.specs.Int.{bit_at, bit_not, trailing_zeros}
 use Rattle.std.proofs.lemmas.Nat.{shr-shr}
@@ -14,11 +15,7 @@ clear_from x at = bit_not w64 x / 2 ^ (at % 64)
 
 module _ (ws : List ℕ) (from at x : ℕ) (is : x ≡ get_or ws (at / 64) 0) (fits : x < 2 ^ 64) (order : from ≤ at) (ones : (i : ℕ) → from ≤ i → i < at → bit_of ws i ≡ true) where
   in-word : (t : ℕ) → at % 64 + t < 64 → bit_of ws (at + t) ≡ eqb (bit_at x (at % 64 + t)) 1
-  in-word t h =
-      let word : (at + t) / 64 ≡ at / 64 = omega (arith, h) in
-      let bit : (at + t) % 64 ≡ at % 64 + t = omega (arith, h) in
-      ap (λ (n : ℕ). eqb (bit_at (get_or ws n 0) ((at + t) % 64)) 1) word
-      ∙ (ap (λ (n : ℕ). eqb (bit_at (get_or ws (at / 64) 0) n) 1) bit ∙ ap (λ (y : ℕ). eqb (bit_at y (at % 64 + t)) 1) (sym is))
+  in-word t h = grind (arith, nat_tests)
 
   left : (t : ℕ) → bit_at (clear_from x at) t ≡ bit_at (bit_not w64 x) (at % 64 + t)
   left t = ap (λ (y : ℕ). y % 2) (shr-shr (bit_not w64 x) (at % 64) t)
@@ -28,14 +25,10 @@ module _ (ws : List ℕ) (from at x : ℕ) (is : x ≡ get_or ws (at / 64) 0) (f
 
   -- a bit that the inverse does not have is set, and one that it has is not
   set-there : (t : ℕ) → at % 64 + t < 64 → bit_at (clear_from x at) t ≡ 0 → bit_of ws (at + t) ≡ true
-  set-there t h none =
-      let one : bit_at x (at % 64 + t) ≡ 1 = omega (arith, turned t h, none, bit_at-lt x (at % 64 + t)) in
-      in-word t h ∙ ap (λ (b : ℕ). eqb b 1) one
+  set-there t h none = grind (arith, nat_tests, turned t h, bit_at-lt x (at % 64 + t), in-word t h)
 
   clear-there : (t : ℕ) → at % 64 + t < 64 → bit_at (clear_from x at) t ≡ 1 → bit_of ws (at + t) ≡ false
-  clear-there t h some =
-      let none : bit_at x (at % 64 + t) ≡ 0 = omega (arith, turned t h, some) in
-      in-word t h ∙ ap (λ (b : ℕ). eqb b 1) none
+  clear-there t h some = grind (arith, nat_tests, turned t h, in-word t h)
 
   set-up-to : (n : ℕ) → at % 64 + n ≤ 64 → ((t : ℕ) → t < n → bit_at (clear_from x at) t ≡ 0) → (i : ℕ) → from ≤ i → i < at + n → bit_of ws i ≡ true
   set-up-to n h none i begin end =
@@ -56,11 +49,7 @@ module _ (ws : List ℕ) (from at x : ℕ) (is : x ≡ get_or ws (at / 64) 0) (f
         | inr more ↦
             absurd (omega (arith, left t ∙ bit_at_above (bit_not w64 x) 64 (at % 64 + t) inverse (omega (arith, more)), low.1))
       ] in
-      record {
-        behind = omega (arith, order);
-        clear = clear-there t within low.1;
-        set = set-up-to t (omega (arith, within)) low.2;
-      }
+      grind (arith, nat_tests, clear-there t within low.1, set-up-to t (omega (arith, within)) low.2)
 
   pub none-found : clear_from x at ≡ 0 → (i : ℕ) → from ≤ i → i < (at / 64 + 1) * 64 → bit_of ws i ≡ true
   none-found none i begin end =

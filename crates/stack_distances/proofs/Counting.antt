@@ -1,14 +1,14 @@
 -- What Lru counts, by the distances.
-use Rattle.std.proofs.Common.{◌≡◌, ℕ, suc, ◌+◌, ◌-◌, ◌≤◌, min, false, Option, Some, None, List, [], ◌∷◌, ◌++◌, length, count_by, ap, ◌∙◌, sym, refl, arith, inl, inr, append_assoc, append-nil}
+use Rattle.std.proofs.lemmas.Grind.{common_steps}
+use Rattle.std.proofs.Common.{◌≡◌, ℕ, ◌+◌, ◌≤◌, min, false, Option, Some, None, List, [], ◌∷◌, ◌++◌, length, count_by, ap, ◌∙◌, sym, refl, arith, inl, inr, append_assoc, append-nil}
 use Rattle.std.proofs.lemmas.Bool.Decides.{nat_tests}
 use Rattle.std.proofs.lemmas.List.Sums.{sum_by-le-sum_by}
 use Rattle.step_record.specs.Keys.{has_key}
 use Rattle.step_record.specs.declared.job.Policy.TheVariants.{Lru}
 use Rattle.step_record.specs.Stats.{is_hit, is_miss, is_eviction, is_rejection, stats_of, one_if}
 use Rattle.queue_cache.specs.Lru.{Outcome, distinct_keys, is_lru_hit, lru_outcome}
-use Rattle.queue_cache.specs.QueueCache.{Job, QueueState, queue_state_after, frequency_after, state_after, outcomes_from, outcomes_after, outcome_after}
-use Rattle.queue_cache.specs.Design.{design_of}
-use Rattle.policies.specs.AnyPolicy.{stats_on, outcomes_by, outcomes_on}
+use Rattle.queue_cache.specs.QueueCache.{Job, state_after, outcomes_from, outcomes_after, outcome_after}
+use Rattle.policies.specs.AnyPolicy.{stats_on}
 use Rattle.queue_cache.proofs.Counting.{count-cons, hits-misses}
 use Rattle.queue_cache.proofs.Reached.{after-snoc, after-job}
 use Rattle.queue_cache.proofs.OneQueue.{outcome-lru}
@@ -37,9 +37,7 @@ module _ (j : Job) (is_lru : j.policy ≡ Lru) (room : 1 ≤ j.config.capacity) 
   from-outcomes : (past keys : List ℕ) → outcomes_from j past (state_after j past) keys ≡ lru_outcomes j.config.capacity past keys
   from-outcomes past [] = refl
   from-outcomes past (k ∷ ks) =
-      let head : outcome_after j past k ≡ lru_outcome j.config.capacity past k = outcome-lru j is_lru room past k (after-job j past) in
-      let next : queue_state_after (frequency_after j (past ++ k ∷ [])) k (state_after j past) ≡ state_after j (past ++ k ∷ []) = sym (after-snoc j past k) in
-      λ i. head i ∷ (ap (λ (d : QueueState). outcomes_from j (past ++ k ∷ []) d ks) next ∙ from-outcomes (past ++ k ∷ []) ks) i
+      grind (arith, nat_tests, outcome-lru, after-job, after-snoc, from-outcomes (past ++ k ∷ []) ks)
 
   all-outcomes : (keys : List ℕ) → outcomes_after j keys ≡ lru_outcomes j.config.capacity [] keys
   unfolding outcomes_after state_after
@@ -49,10 +47,7 @@ module _ (j : Job) (is_lru : j.policy ≡ Lru) (room : 1 ≤ j.config.capacity) 
 
 -- a miss without an eviction fills one place
 fills : (c : ℕ) (xs : List ℕ) (k : ℕ) → one_if (is_eviction (lru_outcome c xs k)) + min c (length (distinct_keys (xs ++ k ∷ []))) ≡ one_if (is_miss (lru_outcome c xs k)) + min c (length (distinct_keys xs))
-fills c xs k =
-    let more = grows k xs in
-    let short = since-within k 0 xs in
-    grind (arith, nat_tests, more, short)
+fills c xs k = grind (arith, nat_tests, grows k xs, since-within k 0 xs)
 
 abbrev IsCounted : ℕ → List ℕ → List ℕ → List Outcome → Type 0
 IsCounted c past keys os = (count_by is_hit os ≡ count_by (is_within c) (distances_after past keys)) × (length os ≡ length keys) × (count_by is_rejection os ≡ 0)
@@ -61,39 +56,21 @@ IsCounted c past keys os = (count_by is_hit os ≡ count_by (is_within c) (dista
 counted : (c : ℕ) (past keys : List ℕ) → IsCounted c past keys (lru_outcomes c past keys)
 counted c past [] = (refl, refl, refl, rw (append-nil past) refl)
 counted c past (k ∷ ks) =
-    let o : Outcome = lru_outcome c past k in
-    let os : List Outcome = lru_outcomes c (past ++ k ∷ []) ks in
-    let rest = counted c (past ++ k ∷ []) ks in
-    let is = outcome-is c past k in
-    let whole = ap (λ l. min c (length (distinct_keys l))) (append_assoc past (k ∷ []) ks) in (
-      omega (arith, rest.0, ap one_if (is.0 ∙ sym (within-hits c past k)), count-cons is_hit o os, count-cons (is_within c) (distance past k) (distances_after (past ++ k ∷ []) ks)),
-      ap suc rest.1,
-      omega (arith, rest.2, ap one_if is.1, count-cons is_rejection o os),
-      omega (arith, rest.3, fills c past k, whole, count-cons is_eviction o os, count-cons is_miss o os),
-    )
+    grind (arith, common_steps, counted c (past ++ k ∷ []) ks, outcome-is, append_assoc, within-hits, count-cons, fills)
 
 -- ---- the statistics
 
 stats-by : (c : ℕ) (keys : List ℕ) → stats_of (lru_outcomes c [] keys) ≡ stats_within c keys
-stats-by c keys =
-    let os : List Outcome = lru_outcomes c [] keys in
-    let n = counted c [] keys in
-    let all = hits-misses os in
-    let m : count_by is_miss os ≡ length keys - hits_within c keys = omega (arith, n.0, n.1, all) in
-    let e : count_by is_eviction os ≡ length keys - hits_within c keys - min c (length (distinct_keys keys)) = omega (arith, n.3, m) in
-    rw (n.1, n.0, m, e, n.2) refl
+stats-by c keys = grind (arith, nat_tests, counted c, hits-misses)
 
 pub lru_counts : (j : Job) (keys : List ℕ) → j.policy ≡ Lru → 1 ≤ j.config.capacity → stats_on j keys ≡ stats_within j.config.capacity keys
 unfolding stats_on
-lru_counts j keys p room =
-    let by_queues : outcomes_on j keys ≡ outcomes_after j keys = ap (λ x. outcomes_by (design_of x) j keys) p in
-    ap stats_of by_queues ∙ (ap stats_of (all-outcomes j p room keys) ∙ stats-by j.config.capacity keys)
+lru_counts j keys p room = grind (arith, nat_tests, all-outcomes j p room keys, stats-by j.config.capacity keys)
 
 -- as the misses less the keys that are left at the end
 pub stats-read : (j : Job) (keys : List ℕ) (n h held c : ℕ) → j.policy ≡ Lru → j.config.capacity ≡ c → 1 ≤ c → n ≡ length keys → h ≡ hits_within c keys → held ≡ min c (length (distinct_keys keys))
     → stats_by n h held ≡ stats_on j keys
-stats-read j keys n h held c lru cap some all hits left =
-    (λ i. stats_by (all i) (hits i) (left i)) ∙ ap (λ m. stats_within m keys) (sym cap) ∙ sym (lru_counts j keys lru (rw cap some))
+stats-read j keys n h held c lru cap some all hits left = grind (arith, nat_tests, lru_counts j keys lru (rw cap some))
 
 -- a miss fills a place of the cache, or evicts
 pub hits-and-held : (c : ℕ) (keys : List ℕ) → hits_within c keys + min c (length (distinct_keys keys)) ≤ length keys

@@ -56,15 +56,7 @@ nested-even j e =
     (omega (arith, start-above (next_of j) (j / 2) (omega (arith, next-even j e, e)), start-low (j / 2), start-even j e, e), λ k more less. absurd (omega (arith, next-even j e, more, less)))
 
 nested-odd : (j : ℕ) → j % 2 ≡ 1 → IsNested (j / 2) → IsNested j
-nested-odd j e half = (
-  omega (arith, start-above (next_of j) (next_of (j / 2)) (next-odd j e), start-odd j e, half.0),
-  λ k more less. elim (cases_eq (k % 2) 0) [
-    | inl even ↦ omega (arith, start-even k even, more)
-    | inr n ↦
-        let odd : k % 2 ≡ 1 = omega (arith, n) in
-        omega (arith, start-odd k odd, half.1 (k / 2) (omega (arith, more, e, odd)) (omega (arith, next-odd j e, less, odd)), e)
-  ],
-)
+nested-odd j e half = grind (arith, nat_tests, start-above, next-odd, start-odd, cases_eq, start-even)
 
 pub nested : (j : ℕ) → IsNested j
 nested = bin_ind IsNested (nested-even 0 (omega arith)) (λ j half. elim (cases_eq (j % 2) 0) [
@@ -77,30 +69,17 @@ nested = bin_ind IsNested (nested-even 0 (omega arith)) (λ j half. elim (cases_
 module _ (total : ℕ → ℕ) (sums : List ℕ) (tree : IsFenwickTree total sums) where
   -- what is below a place, by the stretch that ends there
   pub down : (end : ℕ) → 0 < end → end ≤ length sums → total (bit_and end (end - 1)) + get_or sums (end - 1) 0 ≡ total end
-  down end some within =
-      let e : end - 1 + 1 ≡ end = omega (arith, some) in
-      let start : start_of (end - 1) ≡ bit_and end (end - 1) = ap (bit_and (end - 1)) e ∙ and_comm (end - 1) end in
-      let is = tree.summed (end - 1) (omega (arith, some, within)) in
-      omega (arith, is, ap total start, ap total e)
+  down end some within = grind (arith, nat_tests, and_comm (end - 1) end)
 
   pub pushed : (s : ℕ) → s + total (start_of (length sums)) ≡ total (length sums + 1) → IsFenwickTree total (sums ++ s ∷ [])
   pushed s is = record {
     none = tree.none;
     grows = tree.grows;
-    summed = λ j within. elim (cases_lt j (length sums)) [
-      | inl less ↦ ap (λ n. total (start_of j) + n) (get_or_append_left sums (s ∷ []) 0 j less) ∙ tree.summed j less
-      | inr more ↦
-          let last : j ≡ length sums = omega (arith, more, within, length_push sums s) in
-          omega (arith, is, ap (λ n. get_or (sums ++ s ∷ []) n 0) last ∙ get_or_push sums s 0 (length sums) refl, ap (λ n. total (start_of n)) last, ap (λ n. total (n + 1)) last)
-    ];
+    summed = λ j within. grind (arith, nat_tests, cases_lt j (length sums), get_or_append_left, length_push sums s, get_or_push sums s 0 (length sums) refl);
   }
 
 pub same-tree : (f g : ℕ → ℕ) (sums : List ℕ) → IsFenwickTree f sums → ((n : ℕ) → n ≤ length sums → g n ≡ f n) → ((m n : ℕ) → m ≤ n → g m ≤ g n) → IsFenwickTree g sums
-same-tree f g sums tree same grows = record {
-  none = same 0 (omega arith) ∙ tree.none;
-  grows = grows;
-  summed = λ j within. omega (arith, tree.summed j within, same (start_of j) (omega (arith, start-low j, within)), same (j + 1) (omega (arith, within)));
-}
+same-tree f g sums tree same grows = grind (arith, nat_tests, grows, start-low)
 
 -- ---- one less
 
@@ -142,26 +121,7 @@ module _ (place : ℕ) (before sums : List ℕ) (at : ℕ) (h : IsTaken place be
 
     module _ (less : ℕ → ℕ) (one : (n : ℕ) → total n ≡ less n + cond (nat_lt place n) 1 0) where
       grows : (m n : ℕ) → m ≤ n → less m ≤ less n
-      grows m n order =
-          let both = tree.grows m n order in
-          let low = tree.grows m place in
-          let high = tree.grows (place + 1) n in
-          let here = one m in
-          let there = one n in
-          grind (arith, nat_tests, both, low, high, some, here, there)
+      grows m n order = grind (arith, nat_tests)
 
       pub all-taken : length before ≤ at → IsFenwickTree less sums
-      all-taken end = record {
-        none = omega (arith, tree.none, one 0);
-        grows = grows;
-        summed = λ j in_sums.
-            let within : j < length before = omega (arith, in_sums, h.long) in
-            let was = tree.summed j within in
-            let start = start-low j in
-            let low = h.low j in
-            let past = h.past j in
-            let fewer = h.taken j (omega (arith, within, end)) within in
-            let first = one (start_of j) in
-            let last = one (j + 1) in
-            grind (arith, nat_tests, was, start, low, past, fewer, first, last);
-      }
+      all-taken end = grind (arith, nat_tests, grows, start-low)

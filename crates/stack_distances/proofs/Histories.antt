@@ -1,5 +1,5 @@
 -- A histogram, one access of the trace after another.
-use Rattle.std.proofs.Common.{◌≡◌, ℕ, suc, zero, ◌+◌, ◌<◌, ◌≤◌, Bool, true, false, cond, eqb, nat_eq, nat_lt, Option, Some, None, List, [], ◌∷◌, ◌++◌, length, count_by, take, drop, get_or, ap, ◌∙◌, sym, refl, arith, inl, inr, append_assoc, append-nil}
+use Rattle.std.proofs.Common.{◌≡◌, ℕ, suc, zero, ◌+◌, ◌<◌, ◌≤◌, Bool, true, false, cond, eqb, nat_eq, nat_lt, Option, Some, None, List, [], ◌∷◌, ◌++◌, length, count_by, take, drop, get_or, ap, ◌∙◌, sym, refl, arith, append_assoc, append-nil}
 use Rattle.std.proofs.lemmas.Bool.{eqb-true, ne_eqb}
 use Rattle.std.proofs.lemmas.Bool.Decides.{nat_tests}
 use Rattle.std.proofs.lemmas.List.{take_more}
@@ -53,9 +53,7 @@ count-next p keys place in_it = ap (λ l. count_by p (distances l)) (take_more k
 
 sum-low : (ws : List ℕ) (n : ℕ) → sum_below (mark_of ws) n ≤ n
 sum-low ws zero = omega arith
-sum-low ws (suc n) =
-    let one : mark_of ws n ≤ 1 = elim (two (bit_of ws n)) [ inl e ↦ rw e (omega arith) | inr e ↦ rw e (omega arith) ] in
-    omega (arith, sum-low ws n, one)
+sum-low ws (suc n) = grind (arith, nat_tests, two (bit_of ws n), sum-low ws n)
 
 -- an access is the last one to its key, and that to the same key before it is no more
 next-last : (keys : List ℕ) (place : ℕ) (in_it : place < length keys) (before : ℕ) → before ≡ last_number keys place (get_or keys place 0) → (q : ℕ) → is_last keys (place + 1) q ≡ cond (eqb (q + 1) before) false (cond (eqb q place) true (is_last keys place q))
@@ -83,17 +81,10 @@ module _ (keys : List ℕ) (place : ℕ) (in_it : place < length keys) (h : Hist
   -- of the distinct keys, those whose last access is below p are marked there, and the others make up the stack from p
   stack-below : (p : ℕ) → p ≤ place → sum_below (mark_of words) p + stack keys place p ≡ stack keys place 0
   stack-below zero low = omega arith
-  stack-below (suc p) low =
-      let rest = stack-below p (omega (arith, low)) in
-      let front = stack-front keys place p (omega (arith, low)) (omega (arith, in_it)) in
-      let mark = c.marked p in
-      grind (arith, nat_tests, rest, front, mark, low)
+  stack-below (suc p) low = grind (arith, nat_tests, stack-below p (omega (arith, low)), low, stack-front)
 
   pub last-next : (places : ℕ → Option ℕ) → ((x : ℕ) → places x ≡ cond (nat_eq key x) (Some place) (place_of h.last x)) → (x : ℕ) → places x ≡ last_below keys (place + 1) x
-  last-next places updates x =
-      let flip : nat_eq key x ≡ eqb x key = grind (arith, nat_tests) in
-      let on : suc place ≡ place + 1 = omega arith in
-      updates x ∙ (ap (λ b. cond b (Some place) (place_of h.last x)) flip ∙ (ap (cond (eqb x key) (Some place)) (c.last x) ∙ ap (λ n. last_below keys n x) on))
+  last-next places updates x = grind (arith, nat_tests)
 
   module _ (vs : List ℕ) (puts : (q : ℕ) → bit_of vs q ≡ cond (eqb q place) true (bit_of words q)) where
     marked-next : (before : ℕ) → before ≡ last_number keys place key → (q : ℕ) → cond (eqb (q + 1) before) false (bit_of vs q) ≡ is_last keys (place + 1) q
@@ -108,9 +99,7 @@ module _ (keys : List ℕ) (place : ℕ) (in_it : place < length keys) (h : Hist
       gone = sym (came-by keys place 0 key (omega (arith, in_it))) ∙ rw never refl
 
       pub first-marked : (q : ℕ) → bit_of vs q ≡ is_last keys (place + 1) q
-      first-marked q =
-          let no : eqb (q + 1) 0 ≡ false = ne_eqb (q + 1) 0 (λ e. omega (arith, e)) in
-          sym (ap (λ b. cond b false (bit_of vs q)) no) ∙ marked-next 0 (sym (ap number_of never)) q
+      first-marked q = grind (arith, nat_tests, ne_eqb, marked-next 0 (sym (ap number_of never)) q, never)
 
       pub first-long : length h.counts.items + 1 ≡ length (distinct_keys (take (place + 1) keys))
       first-long = let more : length (distinct_keys (take (place + 1) keys)) ≡ suc (length (distinct_keys (take place keys))) = stack-next keys place 0 in_it (omega arith) ∙ rw gone refl in omega (arith, more, c.long)
@@ -127,12 +116,10 @@ module _ (keys : List ℕ) (place : ℕ) (in_it : place < length keys) (h : Hist
       low = omega (arith, number, last-low keys place key)
 
       in-stack : has_key key (drop p (take place keys)) ≡ true
-      in-stack = let yes : nat_lt p (suc p) ≡ true = grind (arith, nat_tests) in
-          sym (came-by keys place p key (omega (arith, in_it))) ∙ (ap (nat_lt p) (sym number) ∙ yes)
+      in-stack = grind (arith, nat_tests, came-by keys place p key (omega (arith, in_it)), number)
 
       behind : has_key key (drop (suc p) (take place keys)) ≡ false
-      behind = let no : nat_lt (suc p) (suc p) ≡ false = grind (arith, nat_tests) in
-          sym (came-by keys place (suc p) key (omega (arith, in_it))) ∙ (ap (nat_lt (suc p)) (sym number) ∙ no)
+      behind = grind (arith, nat_tests, came-by keys place (suc p) key (omega (arith, in_it)), number)
 
       is-key : key ≡ get_or keys p 0
       is-key = eqb-true key (get_or keys p 0) (last-key keys place key p (sym number))
@@ -164,9 +151,4 @@ module _ (keys : List ℕ) (place : ℕ) (in_it : place < length keys) (h : Hist
       again-long = c.long ∙ sym (stack-next keys place 0 in_it (omega arith) ∙ rw came refl)
 
       pub again-counted : (e : ℕ) → e + 1 + sum_below (mark_of vs) p ≡ length h.counts.items → (d : ℕ) → count_by (is_at (suc d)) (distances (take place keys)) + cond (eqb d e) 1 0 ≡ count_by (is_at (suc d)) (distances (take (place + 1) keys))
-      again-counted e deep d =
-          let is : suc (length (distinct_keys (keys_since key (take place keys)))) ≡ suc e = omega (arith, depth, deep) in
-          let here : distance (take place keys) key ≡ Some (suc e) = distance-some (take place keys) key came ∙ ap (λ n. Some n) is in
-          let same : eqb d e ≡ eqb (suc d) (suc e) = grind (arith, nat_tests) in
-          ap (λ b. count_by (is_at (suc d)) (distances (take place keys)) + cond b 1 0) same
-          ∙ sym (count-next (is_at (suc d)) keys place in_it ∙ ap (λ o. count_by (is_at (suc d)) (distances (take place keys)) + cond (is_at (suc d) o) 1 0) here)
+      again-counted e deep d = grind (arith, nat_tests, depth, distance-some, came, count-next)

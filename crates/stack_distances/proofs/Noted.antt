@@ -1,12 +1,11 @@
 -- What was noted, to be counted.
+use Rattle.std.proofs.lemmas.Bool.Decides.{nat_tests}
 use Rattle.std.proofs.Common.{◌≡◌, ℕ, suc, ◌+◌, ◌<◌, ◌≤◌, cond, eqb, List, [], ◌∷◌, ◌++◌, length, length-take, take, get_or, set, ap, ◌∙◌, refl, arith, inl, inr, get_or-set_other}
 use Rattle.std.proofs.lemmas.Bool.{cases_eq, cases_lt, eq-eqb, ne_eqb}
 use Rattle.std.proofs.lemmas.Grind.{get_or-set_at}
 use Rattle.std.proofs.lemmas.List.{get_or_past}
 use Rattle.std.proofs.lemmas.List.Sums.{sum_by_push, count_by-le-length}
 use Rattle.step_record.specs.declared.limits.TheConstants.{MAX_ACCESSES}
-use Rattle.step_record.specs.Bits.{bit_of}
-use Rattle.trace_index.specs.KeyPlaces.{place_of}
 use Rattle.stack_distances.specs.Distances.{distances}
 use Rattle.stack_distances.specs.Histogram.{Histogram, count_at, is_at, IsHistogram, IsNoted}
 use Rattle.stack_distances.proofs.Histories.{distances-long}
@@ -21,10 +20,8 @@ module _ (counts noted : List ℕ) (d : ℕ) where
 
   -- the last one is counted
   pub counted-last : d < length counts → (q : ℕ) → count_at (set counts d (get_or counts d 0 + 1)) noted q ≡ count_at counts (noted ++ d ∷ []) q
-  counted-last within q = elim (cases_eq q d) [
-    | inl e ↦ rw e (omega (arith, get_or-set_at counts d d (get_or counts d 0 + 1) 0 refl within, noted-there))
-    | inr n ↦ omega (arith, get_or-set_other counts d q (get_or counts d 0 + 1) 0 n, noted-more q, ap (λ b. cond {A = ℕ} b 1 0) (ne_eqb q d n))
-  ]
+  counted-last within q =
+      grind (arith, nat_tests, cases_eq, get_or-set_at, noted-there, get_or-set_other, noted-more, ne_eqb)
 
   module _ (first-counts first-noted : List ℕ) (may : IsNoted first-counts first-noted) (same : (q : ℕ) → count_at counts (noted ++ d ∷ []) q ≡ count_at first-counts first-noted q) where
     pub last-within : length counts ≡ length first-counts → d < length counts
@@ -44,11 +41,4 @@ may-count keys place h few c = record {
 }
 
 pub same-histogram : (keys : List ℕ) (place : ℕ) (h g : Histogram) → g.last ≡ h.last → g.marks ≡ h.marks → length g.counts.items ≡ length h.counts.items → ((d : ℕ) → count_at g.counts.items g.noted.items d ≡ count_at h.counts.items h.noted.items d) → IsHistogram keys place h → IsHistogram keys place g
-same-histogram keys place h g last marks len counts c = record {
-  last = λ k. ap (λ l. place_of l k) last ∙ c.last k;
-  marked = λ q. ap (λ m. bit_of m.words.items q) marks ∙ c.marked q;
-  room = rw marks c.room;
-  summed = rw marks c.summed;
-  long = len ∙ c.long;
-  counted = λ d. counts d ∙ c.counted d;
-}
+same-histogram keys place h g last marks len counts c = grind (arith, nat_tests)

@@ -1,5 +1,6 @@
 -- Where keys of a trace came last.
-use Rattle.std.proofs.Common.{◌≡◌, ℕ, suc, zero, ◌+◌, ◌<◌, ◌≤◌, true, false, cond, eqb, nat_lt, List, [], ◌∷◌, ◌++◌, length, take, drop, get_or, ap, ◌∙◌, sym, refl, arith, inl, inr, drop-cons}
+use Rattle.std.proofs.lemmas.Grind.{common_steps}
+use Rattle.std.proofs.Common.{◌≡◌, ℕ, suc, zero, ◌+◌, ◌<◌, ◌≤◌, true, cond, eqb, nat_lt, List, [], ◌∷◌, ◌++◌, length, take, drop, get_or, ap, ◌∙◌, sym, refl, arith, inl, inr, drop-cons}
 use Rattle.std.proofs.lemmas.Bool.{cases_lt, eq-eqb}
 use Rattle.std.proofs.lemmas.Bool.Decides.{nat_tests}
 use Rattle.std.proofs.lemmas.List.{get_or-take, drop-append-le, length-take-le, take_more}
@@ -15,33 +16,23 @@ pub past-length : (keys : List ℕ) (place : ℕ) → place < length keys → le
 past-length keys place in_it = length-take-le place keys (omega (arith, in_it))
 
 pub front-at : (keys : List ℕ) (n s : ℕ) → s < n → n ≤ length keys → drop s (take n keys) ≡ get_or keys s 0 ∷ drop (suc s) (take n keys)
-front-at keys n s h all =
-    let short : s < length (take n keys) = omega (arith, length-take-le n keys all, h) in
-    drop-cons (take n keys) s 0 short ∙ ap (λ a. a ∷ drop (suc s) (take n keys)) (get_or-take n keys s 0 h)
+front-at keys n s h all = grind (arith, nat_tests, length-take-le n keys all, drop-cons, get_or-take n keys s 0 h)
 
 -- what comes from a place on, with one access more
 pub drop-next : (keys : List ℕ) (place f : ℕ) → place < length keys → f ≤ place → drop f (take (place + 1) keys) ≡ drop f (take place keys) ++ get_or keys place 0 ∷ []
-drop-next keys place f in_it h =
-    ap (drop f) (take_more keys place 0 in_it) ∙ drop-append-le f (take place keys) (get_or keys place 0 ∷ []) (omega (arith, past-length keys place in_it, h))
+drop-next keys place f in_it h = grind (arith, common_steps, take_more, drop-append-le, past-length)
 
 pub past-end : (keys : List ℕ) (n f : ℕ) → n ≤ length keys → n ≤ f → drop f (take n keys) ≡ []
-past-end keys n f all h =
-    drop_of_length-le (take n keys) {i = f} (omega (arith, length-take-le n keys all, h))
+past-end keys n f all h = drop_of_length-le (take n keys) {i = f} (omega (arith, length-take-le n keys all, h))
 
 -- the number of the last access to a key is above f exactly where the key came at f or later
 pub came-by : (keys : List ℕ) (n f k : ℕ) → n ≤ length keys → nat_lt f (number_of (last_below keys n k)) ≡ has_key k (drop f (take n keys))
-came-by keys zero f k h =
-    let none : has_key k (drop f (take 0 keys)) ≡ false = ap (has_key k) (past-end keys 0 f h (omega arith)) in
-    let no : nat_lt f 0 ≡ false = grind (arith, nat_tests) in
-    no ∙ sym none
+came-by keys zero f k h = grind (arith, nat_tests, past-end keys 0 f h (omega arith))
 came-by keys (suc n) f k h =
     let in_it : n < length keys = omega (arith, h) in
     let rest : nat_lt f (number_of (last_below keys n k)) ≡ has_key k (drop f (take n keys)) = came-by keys n f k (omega (arith, h)) in
     elim (cases_lt n f) [
-      | inl past ↦
-          let gone : has_key k (drop f (take (suc n) keys)) ≡ false = ap (has_key k) (past-end keys (suc n) f h (omega (arith, past))) in
-          let none : has_key k (drop f (take n keys)) ≡ false = ap (has_key k) (past-end keys n f (omega (arith, h)) (omega (arith, past))) in
-          rw gone (grind (arith, nat_tests))
+      | inl past ↦ grind (arith, nat_tests, past-end keys (suc n) f h (omega (arith, past)), past-end keys n f (omega (arith, h)) (omega (arith, past)))
       | inr within ↦
           let on : n + 1 ≡ suc n = omega arith in
           let more : has_key k (drop f (take (suc n) keys)) ≡ cond (has_key k (drop f (take n keys))) true (eqb k (get_or keys n 0)) =

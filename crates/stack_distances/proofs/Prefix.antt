@@ -1,5 +1,5 @@
 -- The hits at each capacity, as sums of the counts of distances.
-use Rattle.std.proofs.Common.{◌≡◌, ℕ, suc, ◌+◌, ◌≤◌, min, false, cond, Option, Some, None, List, [], ◌∷◌, ◌++◌, length, count_by, ap, ◌∙◌, sym, refl, arith, inl, inr, append_assoc, append-nil}
+use Rattle.std.proofs.Common.{◌≡◌, ℕ, suc, ◌+◌, ◌≤◌, min, false, cond, Option, Some, None, List, [], ◌∷◌, ◌++◌, length, count_by, ap, ◌∙◌, sym, refl, arith, append_assoc, append-nil}
 use Rattle.std.proofs.lemmas.Bool.{cases_lt}
 use Rattle.std.proofs.lemmas.Bool.Decides.{nat_tests}
 use Rattle.step_record.specs.Keys.{has_key}
@@ -25,8 +25,7 @@ none-within xs k = grind (arith, nat_tests)
 
 none-after : (past keys : List ℕ) → count_by (is_within 0) (distances_after past keys) ≡ 0
 none-after past [] = refl
-none-after past (k ∷ ks) =
-    omega (arith, none-after (past ++ k ∷ []) ks, ap (λ b. cond {A = ℕ} b 1 0) (none-within past k), count-cons (is_within 0) (distance past k) (distances_after (past ++ k ∷ []) ks))
+none-after past (k ∷ ks) = grind (arith, nat_tests, none-after (past ++ k ∷ []) ks, none-within, count-cons)
 
 pub no-hits : (keys : List ℕ) → hits_within 0 keys ≡ 0
 no-hits keys = none-after [] keys
@@ -34,16 +33,14 @@ no-hits keys = none-after [] keys
 -- ---- no distance is over the number of distinct keys
 
 full : (c : ℕ) (xs : List ℕ) (k : ℕ) → length (distinct_keys xs) ≤ c → is_within c (distance xs k) ≡ has_key k xs
-full c xs k h =
-    let d = since-within k 0 xs in grind (arith, nat_tests, d, h)
+full c xs k h = let d = since-within k 0 xs in grind (arith, nat_tests, d, h)
 
 one-grows : (past : List ℕ) (k : ℕ) → length (distinct_keys past) ≤ length (distinct_keys (past ++ k ∷ []))
 one-grows past k = let more = grows k past in grind (arith, more)
 
 pub more-distinct : (past keys : List ℕ) → length (distinct_keys past) ≤ length (distinct_keys (past ++ keys))
 more-distinct past [] = rw (append-nil past) (omega arith)
-more-distinct past (k ∷ ks) =
-    omega (arith, one-grows past k, more-distinct (past ++ k ∷ []) ks, ap (λ l. length (distinct_keys l)) (append_assoc past (k ∷ []) ks))
+more-distinct past (k ∷ ks) = grind (arith, nat_tests, one-grows, more-distinct (past ++ k ∷ []) ks, append_assoc)
 
 full-after : (c d : ℕ) (past keys : List ℕ) → length (distinct_keys (past ++ keys)) ≤ c → length (distinct_keys (past ++ keys)) ≤ d → count_by (is_within c) (distances_after past keys) ≡ count_by (is_within d) (distances_after past keys)
 full-after c d past [] h g = refl
@@ -55,13 +52,8 @@ full-after c d past (k ∷ ks) h g =
 -- past the number of distinct keys the hits stay
 pub hits-held : (c : ℕ) (keys : List ℕ) → hits_within (min (length (distinct_keys keys)) c) keys ≡ hits_within c keys
 hits-held c keys =
-    elim (cases_lt c (length (distinct_keys keys))) [
-      | inl l ↦ let m : min (length (distinct_keys keys)) c ≡ c = omega arith in ap (λ n. hits_within n keys) m
-      | inr g ↦ let m : min (length (distinct_keys keys)) c ≡ length (distinct_keys keys) = omega arith in ap (λ n. hits_within n keys) m ∙ full-after (length (distinct_keys keys)) c [] keys (omega arith) g
-    ]
+    grind (arith, nat_tests, cases_lt c (length (distinct_keys keys)), full-after (length (distinct_keys keys)) c)
 
 -- no distance is over the number of distinct keys
 pub none-deeper : (keys : List ℕ) (d : ℕ) → length (distinct_keys keys) ≤ d → count_by (is_at (suc d)) (distances_after [] keys) ≡ 0
-none-deeper keys d past =
-    let same = full-after (suc d) d [] keys (omega (arith, past)) past in
-    omega (arith, same, within-more d (distances_after [] keys))
+none-deeper keys d past = grind (arith, nat_tests, full-after (suc d) d, within-more d (distances_after [] keys))

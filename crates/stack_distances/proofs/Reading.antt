@@ -1,5 +1,6 @@
 -- A curve and what is read off it.
-use Rattle.std.proofs.Common.{◌≡◌, ◌≢◌, ℕ, take, suc, ◌+◌, ◌<◌, ◌≤◌, min, List, [], length, count_by, get_or, set, ap, ◌∙◌, sym, refl, arith, inl, inr, get_or-set_other, get_or-set_same}
+use Rattle.std.proofs.lemmas.Bool.Decides.{nat_tests}
+use Rattle.std.proofs.Common.{◌≡◌, ◌≢◌, ℕ, suc, ◌+◌, ◌<◌, ◌≤◌, min, List, [], length, count_by, get_or, set, ap, ◌∙◌, sym, refl, arith, inl, inr, get_or-set_other, get_or-set_same}
 use Rattle.std.proofs.Math.ListN.{length-set}
 use Rattle.std.proofs.lemmas.Bool.{cases_eq}
 use Rattle.std.proofs.lemmas.List.{take_all}
@@ -26,13 +27,7 @@ pub record IsSummed (keys hits : List ℕ) (sum c : ℕ) : Type 0 where
 -- at the end of a pass
 pub passed-summed : (keys trace hits : List ℕ) (place : ℕ) (h : Histogram) → length keys ≤ place → keys ≡ trace → length hits ≡ length h.counts.items → ((d : ℕ) → get_or hits d 0 ≡ count_at h.counts.items h.noted.items d) → IsHistogram keys place h → IsSummed trace hits 0 0
 passed-summed keys trace hits place h all same long taken passed =
-    let whole : take place keys ≡ trace = take_all place keys all ∙ same in
-    record {
-      long = long ∙ (passed.long ∙ ap (λ l. length (distinct_keys l)) whole);
-      so_far = sym (no-hits trace);
-      below = λ d lt. absurd (omega (arith, lt));
-      ahead = λ d le. taken d ∙ (passed.counted d ∙ ap (λ l. count_by (is_at (suc d)) (distances l)) whole);
-    }
+    grind (arith, nat_tests, take_all place keys all, no-hits trace)
 
 pub next-sum : (keys hits : List ℕ) (sum c : ℕ) → IsSummed keys hits sum c → sum + get_or hits c 0 ≡ hits_within (suc c) keys
 next-sum keys hits sum c s = omega (arith, s.ahead c (omega arith), s.so_far, within-more c (distances keys))

@@ -1,5 +1,5 @@
 -- The stack of the distinct keys, one access after another.
-use Rattle.std.proofs.Common.{◌≡◌, ℕ, suc, zero, ◌≤◌, true, false, cond, eqb, List, [], ◌∷◌, ◌++◌, length, drop, refl, ap, arith}
+use Rattle.std.proofs.Common.{◌≡◌, ℕ, suc, zero, ◌≤◌, true, false, cond, eqb, List, [], ◌∷◌, ◌++◌, length, drop, refl, arith}
 use Rattle.std.proofs.lemmas.Bool.{eqb-true}
 use Rattle.std.proofs.lemmas.Bool.Decides.{nat_tests}
 use Rattle.step_record.specs.Keys.{has_key}
@@ -13,11 +13,7 @@ has-snoc a k (x ∷ xs) = let rest = has-snoc a k xs in grind (arith, rest)
 -- a first access makes the stack longer, and no other
 pub grows : (k : ℕ) (xs : List ℕ) → length (distinct_keys (xs ++ k ∷ [])) ≡ cond (has_key k xs) (length (distinct_keys xs)) (suc (length (distinct_keys xs)))
 grows k [] = refl
-grows k (a ∷ xs) =
-    let same : eqb k a ≡ true → has_key k xs ≡ has_key a xs = λ e. ap (λ x. has_key x xs) (eqb-true k a e) in
-    let more = has-snoc a k xs in
-    let rest = grows k xs in
-    grind (arith, nat_tests, same, more, rest)
+grows k (a ∷ xs) = grind (arith, nat_tests, eqb-true, has-snoc a k xs, grows k xs)
 
 -- ---- the distinct keys from a place on
 
@@ -32,11 +28,7 @@ fewer-behind (suc f) (a ∷ xs) = let r = fewer-behind f xs in let m = front-mor
 -- what came since the last access to k is within what came from a place on, where k came there
 pub since-within : (k f : ℕ) (xs : List ℕ) → has_key k (drop f xs) ≡ true → suc (length (distinct_keys (keys_since k xs))) ≤ length (distinct_keys (drop f xs))
 since-within k zero [] h = absurd (cc h)
-since-within k zero (a ∷ xs) h =
-    let same : eqb k a ≡ true → has_key k xs ≡ has_key a xs = λ e. ap (λ x. has_key x xs) (eqb-true k a e) in
-    let rest = since-within k zero xs in
-    let more = front-more a xs in
-    grind (arith, same, rest, more, h)
+since-within k zero (a ∷ xs) h = grind (arith, nat_tests, eqb-true, since-within k zero xs, front-more a xs)
 since-within k (suc f) [] h = absurd (cc h)
 since-within k (suc f) (a ∷ xs) h = rw (has-drop k f xs h) (since-within k f xs h)
 

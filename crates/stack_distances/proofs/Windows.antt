@@ -1,5 +1,5 @@
 -- The window of a trace whose keys Lru holds, one access after another.
-use Rattle.std.proofs.Common.{◌≡◌, ℕ, suc, zero, ◌+◌, ◌-◌, ◌<◌, ◌≤◌, min, Bool, true, false, ◌||◌, cond, eqb, nat_lt, List, [], length, take, drop, get_or, ap, ◌∙◌, sym, refl, arith, inl, inr}
+use Rattle.std.proofs.Common.{◌≡◌, ℕ, suc, zero, ◌+◌, ◌-◌, ◌<◌, ◌≤◌, min, Bool, true, false, ◌||◌, cond, eqb, nat_lt, List, length, take, drop, get_or, ap, ◌∙◌, sym, refl, arith, inl, inr}
 use Rattle.std.proofs.lemmas.Bool.{cases_eq, cases_lt, ne_eqb}
 use Rattle.std.proofs.lemmas.Bool.Decides.{nat_tests}
 use Rattle.std.proofs.lemmas.List.{take_all}
@@ -96,17 +96,7 @@ module _ (keys : List ℕ) (place : ℕ) (in_it : place < length keys) (before :
     more-held early = rw (missed early) at (stack-next keys place w.first in_it h.begun) ∙ ap suc (sym h.held)
 
     pub filled-window : before ≤ w.first → w.held < w.capacity → IsWindow keys (place + 1) (record { capacity = w.capacity; first = w.first; held = w.held + 1; hits = w.hits; renewed = w.renewed })
-    filled-window early room =
-        record {
-          begun = omega (arith, h.begun);
-          held = omega (arith, more-held early);
-          fits = omega (arith, room);
-          full = λ some. let all : w.held ≡ w.capacity = h.full some in absurd (omega (arith, all, room));
-          hits = same-hits early;
-          room = h.room;
-          few = h.few;
-          renewed = missed-bit early;
-        }
+    filled-window early room = grind (arith, nat_tests, more-held early, same-hits early, missed-bit early)
 
     -- ---- the oldest key leaves
     module _ (early : before ≤ w.first) (crowded : w.capacity ≤ w.held) (o : ℕ) (c : IsFirstClear w.renewed.items w.first o) where
@@ -130,18 +120,7 @@ module _ (keys : List ℕ) (place : ℕ) (in_it : place < length keys) (before :
           omega (arith, front, run, ap (stack keys (place + 1)) e, ap (stack keys (place + 1)) on)
 
       pub moved-window : IsWindow keys (place + 1) (record { capacity = w.capacity; first = o + 1; held = w.held; hits = w.hits; renewed = w.renewed })
-      moved-window =
-          let fits : w.held ≤ w.capacity = h.fits in
-          record {
-            begun = omega (arith, oldest-low);
-            held = omega (arith, more-held early, one-less);
-            fits = h.fits;
-            full = λ some. omega (arith, fits, crowded);
-            hits = same-hits early;
-            room = h.room;
-            few = h.few;
-            renewed = λ i from. missed-bit early i (omega (arith, from, c.behind));
-          }
+      moved-window = grind (arith, nat_tests, oldest-low, more-held early, one-less, same-hits early, missed-bit)
 
 -- ---- the whole trace
 
@@ -153,14 +132,7 @@ module _ (keys : List ℕ) (w : Window) (place : ℕ) (all : length keys ≤ pla
   whole-hits = h.hits ∙ ap (hits_within w.capacity) whole
 
   whole-held : w.held ≡ min w.capacity (length (distinct_keys keys))
-  whole-held =
-      let is : w.held ≡ length (distinct_keys (drop w.first keys)) = h.held ∙ ap (λ l. length (distinct_keys (drop w.first l))) whole in
-      elim (cases_eq w.first 0) [
-        | inl e ↦
-            omega (arith, is, ap (λ f. length (distinct_keys (drop f keys))) e, h.fits)
-        | inr d ↦
-            omega (arith, is, fewer-behind w.first keys, h.full (omega (arith, d)))
-      ]
+  whole-held = grind (arith, nat_tests, whole, cases_eq w.first 0, fewer-behind w.first keys)
 
   pub window-room : w.hits + w.held ≤ length keys
   window-room = omega (arith, hits-and-held w.capacity keys, whole-hits, whole-held)

@@ -1,3 +1,4 @@
+use Rattle.std.proofs.lemmas.Bool.Decides.{nat_tests}
 use Rattle.std.proofs.Common.{refl, arith}
 use Rattle.stack_distances.proofs.Clear.{found, none-found, none-past}
 use Rattle.stack_distances.proofs.window.first_clear.Goals as goal
@@ -14,8 +15,4 @@ words-preserved c = (
 )
 
 pub returns : goal.returns
-returns c = record {
-  behind = c.words.invariant.0;
-  clear = none-past c.args.words.now c.words.at (omega (arith, c.words-test.false));
-  set = c.words.invariant.1;
-}
+returns c = grind (arith, nat_tests, none-past c.args.words.now c.words.at (omega (arith, c.words-test.false)))

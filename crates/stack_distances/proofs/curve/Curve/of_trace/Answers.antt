@@ -1,3 +1,4 @@
+use Rattle.std.proofs.lemmas.Bool.Decides.{nat_tests}
 use Rattle.std.proofs.Common.{◌≡◌, ◌+◌, ◌<◌, suc, length, get_or, ap, arith}
 use Rattle.std.proofs.lemmas.List.{get_or_read}
 use Rattle.stack_distances.proofs.Noted.{may-count}
@@ -12,12 +13,7 @@ loop-c-init c =
     let inv = c.loop-place.invariant in
     let hits = c.into_counts-hits.result.items in
     let summed : IsSummed c.args.trace.now hits 0 0 = passed-summed c.keys-keys.result.now c.args.trace.now hits c.loop-place.place c.loop-place.histogram (omega arith) inv.same c.into_counts-hits.ensures.len c.into_counts-hits.ensures.counts inv.counted in
-    record {
-      same = inv.same;
-      few = inv.few;
-      end = omega (arith, summed.long, c.len-c-end.ensures);
-      summed = summed;
-    }
+    grind (arith, nat_tests)
 
 pub overflow_add-sum : goal.overflow_add-sum
 overflow_add-sum c =

@@ -1,3 +1,4 @@
+use Rattle.std.proofs.lemmas.Bool.Decides.{nat_tests}
 use Rattle.std.proofs.Common.{◌≡◌, ◌+◌, ◌-◌, ◌*◌, ◌<◌, ℕ, suc, cond, eqb, None, Some, List, length, count_by, get_or, take, ap, ◌∙◌, sym, arith}
 use Rattle.std.proofs.lemmas.List.{length_push}
 use Rattle.queue_cache.specs.Lru.{distinct_keys, keys_since}
@@ -35,9 +36,7 @@ pub below-requires-clause-tree : goal.below-requires-clause-tree
 below-requires-clause-tree c = omega (arith, below-place (goal.at.below-requires-clause-tree c).In-Some, c.in_ok-put.ensures.tree)
 
 pub below-requires-clause-few : goal.below-requires-clause-few
-below-requires-clause-few c =
-    let at = (goal.at.below-requires-clause-few c).In-Some in
-    omega (arith, below-few c.args.keys.now c.args.place c.requires.next c.args.self.now c.requires.counted c.put.new.self.words.items c.in_ok-put.ensures.puts c.in-Some.before (is-last at), c.requires.next, c.requires.few)
+below-requires-clause-few c = grind (arith, nat_tests, below-few, is-last)
 
 pub overflow_sub-distance : goal.overflow_sub-distance
 overflow_sub-distance c = omega (arith, deep (goal.at.overflow_sub-distance c).In-Some, c.below.ensures, c.len.ensures)
@@ -49,8 +48,7 @@ pub take-requires-clause-within : goal.take-requires-clause-within
 take-requires-clause-within c = inside (goal.at.take-requires-clause-within c).In-Some
 
 pub take-requires-clause-marked : goal.take-requires-clause-marked
-take-requires-clause-marked c =
-    there c.args.keys.now c.args.place c.requires.next c.args.self.now c.requires.counted c.put.new.self.words.items c.in_ok-put.ensures.puts c.in-Some.before (is-last (goal.at.take-requires-clause-marked c).In-Some)
+take-requires-clause-marked c = grind (arith, nat_tests, there, is-last)
 
 pub returns-in_ok-push-in-None : goal.returns-in_ok-push-in-None
 returns-in_ok-push-in-None c =

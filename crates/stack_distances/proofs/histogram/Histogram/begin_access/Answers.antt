@@ -1,3 +1,4 @@
+use Rattle.std.proofs.lemmas.Bool.Decides.{nat_tests}
 use Rattle.std.proofs.Common.{arith}
 use Rattle.stack_distances.proofs.Noted.{may-count, same-histogram}
 use Rattle.stack_distances.proofs.histogram.Histogram.begin_access.Goals as goal
@@ -6,7 +7,4 @@ pub count_noted-requires : goal.count_noted-requires
 count_noted-requires c = may-count c.args.keys.now c.args.place c.args.self.now c.requires.few c.requires.counted
 
 pub returns-then-place-eq0 : goal.returns-then-place-eq0
-returns-then-place-eq0 c =
-    let read = c.read_stretch.ensures in let done = c.count_noted.ensures in
-    same-histogram c.args.keys.now c.args.place c.args.self.now c.read_stretch.new.self read.last read.marks (rw read.counts done.len)
-    (λ d. rw (read.counts, read.noted, done.none) (omega (arith, done.counts d))) c.requires.counted
+returns-then-place-eq0 c = grind (arith, nat_tests, same-histogram)

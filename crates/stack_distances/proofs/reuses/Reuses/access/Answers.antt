@@ -1,3 +1,4 @@
+use Rattle.std.proofs.lemmas.Bool.Decides.{nat_tests}
 use Rattle.std.proofs.Common.{◌≡◌, ◌∙◌, refl, ap, length, get_or, arith}
 use Rattle.std.specs.Vec.{with_items}
 use Rattle.std.proofs.lemmas.List.{with_items_is}
@@ -11,15 +12,10 @@ noted : (c : After-number-before) → c.number-before.result ≡ number_of (last
 noted c = c.number-before.ensures ∙ ap (λ t. number_of (last_below t c.args.place (get_or t c.args.place 0))) c.self.view_is
 
 pub overflow_add-window : goal.overflow_add-window
-overflow_add-window c =
-    let w = c.requires.window in
-    let small = hits-small c.args.self.now c.args.place c.requires.place c.number-before.result (noted (goal.at.overflow_add-window c).After-number-before) c.args.window.now w in
-    omega (arith, small, c.requires.place, w.room, w.few)
+overflow_add-window c = grind (arith, nat_tests, hits-small, noted (goal.at.overflow_add-window c).After-number-before)
 
 pub set-requires : goal.set-requires
-set-requires c =
-    let low = came-below c.args.self.now c.args.place c.requires.place c.number-before.result (noted (goal.at.set-requires c).After-number-before) in
-    rw c.deref_mut.ensures.value (omega (arith, low, c.requires.place, c.requires.window.room))
+set-requires c = grind (arith, nat_tests, came-below, noted)
 
 pub returns-then-before-window-clause-window : goal.returns-then-before-window-clause-window
 returns-then-before-window-clause-window c =
