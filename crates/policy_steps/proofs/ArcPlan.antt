@@ -1,10 +1,11 @@
 -- ARC's plan is its definition.
-use Rattle.std.proofs.Common.{◌≡◌, ℕ, zero, suc, ◌+◌, ◌-◌, ◌*◌, ◌<◌, ◌≤◌, min, Bool, true, false, cond, eqb, ◌||◌, Option, Some, None, List, [], ◌∷◌, ◌++◌, length, take, drop, append-nil, ap, ◌∙◌, sym, subst, refl, arith, inl, inr, nat_lt, ◌⊎◌, ◌==◌, length-append}
+use Rattle.std.proofs.lemmas.Bool.Decides.{nat_tests}
+use Rattle.std.proofs.Common.{◌≡◌, ℕ, zero, suc, ◌+◌, ◌-◌, ◌*◌, ◌<◌, ◌≤◌, min, Bool, true, false, cond, eqb, ◌||◌, Option, Some, None, List, [], ◌∷◌, ◌++◌, length, take, drop, append-nil, ap, ◌∙◌, sym, subst, refl, arith, inr, nat_lt, ◌⊎◌, ◌==◌, length-append}
 use Rattle.std.proofs.lemmas.Bool.{cond_both, eq-eqb, ne_eqb, lt-ltb, le-ltb, cases_lt, eqb-true, ltb-false}
 use Rattle.step_record.specs.Keys.{has_key, keys_without}
 use Rattle.step_record.specs.declared.outcome.Outcome.TheVariants.{Hit, Evicted}
 use Rattle.queue_table.specs.Entries.{entry, oldest_of}
-use Rattle.queue_table.specs.Queues.{QUEUES, Queues, after_push, after_send}
+use Rattle.queue_table.specs.Queues.{QUEUES, Queues, after_send}
 use Rattle.queue_table.proofs.QueueLists.{IsAbsent, is_absent}
 use Rattle.ghost_policies.specs.Arc.{Outcome, ArcState, arc_residents, arc_total, oldest_forgotten, OfB1, OfB2, oldest_leaver, ToB1, ToB2, Dropped, arc_replace, plan_of_new_key, arc_after_recall, arc_after_forgetting, arc_after_eviction, arc_after_join, arc_after_miss, arc_outcome, arc_act, IsArc, ArcPlan, ArcLeaver, ArcForgets, NoGhost, InB1, NoneForgotten, NoLeaver}
 use Rattle.queue_policies.proofs.Ghost.{without-none}
@@ -127,12 +128,8 @@ module _ (k : ℕ) (s : Queues) (t : IsTabled s) where
     module _ (no_t1 : has_key k (keys T1) ≡ false) (no_t2 : has_key k (keys T2) ≡ false) where
       miss : (l : Leavers) (q p : ℕ) (o : Outcome) (d : ArcState) → AreLow l → q < QUEUES → outcome_after l.first s ≡ o
           → arc_of p (after_send (entry (item_of k) 0) q (after_leaving l.second (after_leaving l.first s))) ≡ d → IsAct (miss_plan l (goes q 0) p) o d
-      miss l q p o d low w outcome state = record {
-        outcome = outcome;
-        state = state;
-        hits = sym (has-append k (keys T1) (keys T2) ∙ rw (no_t1, no_t2) refl);
-        low = miss-low l (goes q 0) p low w;
-      }
+      miss l q p o d low w outcome state =
+          grind (arith, nat_tests, has-append k (keys T1) (keys T2), miss-low l (goes q 0) p low w)
 
       -- ---- a key that a ghost remembers
 
@@ -165,9 +162,7 @@ module _ (k : ℕ) (s : Queues) (t : IsTabled s) where
         page_plan f v = record { recalls = NoGhost; forgets = f; leaver = v }
 
         joined : (u : Queues) → IsTabled u → IsAbsent (item_of k) u → arc_of x (after_send (entry (item_of k) 0) T1 u) ≡ arc_after_join NoGhost k (arc_of x u)
-        joined u w a =
-            ap (λ (r : Queues). arc_of x (after_push T1 (entry (item_of k) 0) r)) (absent-gone u w (item_of k) (is_absent (item_of k) u a))
-            ∙ same-state (keys-append (u T1) (entry (item_of k) 0 ∷ [])) refl refl refl refl
+        joined u w a = grind (arith, nat_tests, absent-gone, is_absent, same-state, keys-append)
 
         new-by : (l : Leavers) (f : ArcForgets) (v : ArcLeaver) → new_key_leavers c x s ≡ l → AreLow l → outcome_after l.first s ≡ arc_outcome v
             → arc_of x (after_leaving l.second (after_leaving l.first s)) ≡ arc_after_eviction v (arc_after_forgetting f old) → IsNew (page_plan f v)
@@ -206,9 +201,7 @@ module _ (k : ℕ) (s : Queues) (t : IsTabled s) where
 
         new : IsNew (plan_of_new_key c old)
         new =
-            let once = i.l1_fits in
-            let fits = i.fits in
-            new-cases c old IsNew
+                        new-cases c old IsNew
             (λ same low.
             replaced-by (leaving B1 None) (oldest_forgotten OfB1 (keys B1)) (omega arith, tt) (rw (at_l1 same, lt-ltb (length (s T1)) c (omega (arith, low, lengths T1))) refl)
             (left-state _ tabled x B1 None ∙ ap less_b1 (evicted-state g x) ∙ b1-forgets (leaver g) (keys B1) old (omega (arith, same, low))))
@@ -221,7 +214,7 @@ module _ (k : ℕ) (s : Queues) (t : IsTabled s) where
             (λ other many same.
             replaced-by (leaving B2 None) (oldest_forgotten OfB2 (keys B2)) (omega arith, tt)
             (rw (off_l1 other, le-ltb (total s) c (omega (arith, many, totals)), eq-eqb (total s) (2 * c) (sym totals ∙ same)) refl)
-            (left-state _ tabled x B2 None ∙ ap less_b2 (evicted-state g x) ∙ b2-forgets (leaver g) (keys B2) old (omega (arith, same, fits, once, other))))
+            (left-state _ tabled x B2 None ∙ ap less_b2 (evicted-state g x) ∙ b2-forgets (leaver g) (keys B2) old (omega (arith, same, other))))
             (λ other many less.
             replaced-by None NoneForgotten tt
             (rw (off_l1 other, le-ltb (total s) c (omega (arith, many, totals)), ne_eqb (total s) (2 * c) (λ z. less (totals ∙ z))) refl)
@@ -284,25 +277,16 @@ module _ (c x : ℕ) (s : Queues) (i : IsArc c (arc_of x s)) where
 
   ghost-full : 1 ≤ length (s B1) + length (s B2) → IsFull
   ghost-full h =
-      is-full (
-      let all = i.full (omega (arith, h, length-keys (s B1), length-keys (s B2))) in
-      omega (arith, all, length-keys (s T1), length-keys (s T2)))
+      grind (arith, nat_tests, is-full, length-keys (s B1), length-keys (s B2), length-keys (s T1), length-keys (s T2))
 
   all-full : c ≤ total s → IsFull
-  all-full h =
-      elim (cases_lt 0 (length (s B1) + length (s B2))) [
-        | inl most ↦ ghost-full (omega (arith, most))
-        | inr none ↦ is-full (omega (arith, none, h))
-      ]
+  all-full h = grind (arith, nat_tests, cases_lt 0 (length (s B1) + length (s B2)), ghost-full, is-full)
 
   abbrev IsNoneOrFull : Leavers → Type 0
   IsNoneOrFull l = ((l.first ≡ None) × (l.second ≡ None)) ⊎ IsFull
 
   leaves-of-new : IsNoneOrFull (new_key_leavers c x s)
-  leaves-of-new =
-      cond_both (length (s T1) + length (s B1) == c) _ _ IsNoneOrFull
-      (λ e. inr (all-full (let l1 = eqb-true (length (s T1) + length (s B1)) c e in omega (arith, l1))))
-      (λ e. cond_both (nat_lt (total s) c) _ _ IsNoneOrFull (λ f. inl (refl, refl)) (λ f. inr (all-full (ltb-false (total s) c f))))
+  leaves-of-new = grind (arith, nat_tests, cond_both, all-full, eqb-true, ltb-false)
 
   leaves-at : IsTabled s → (k : ℕ) (at : Option (ℕ × ℕ)) → standing (item_of k) s ≡ at → LeavesWhere IsFull (plan_at c x at s)
   leaves-at t k None h = miss-full IsFull (new_key_leavers c x s) _ x leaves-of-new
@@ -322,8 +306,7 @@ module _ (c x : ℕ) (s : Queues) (i : IsArc c (arc_of x s)) where
 module _ (c x : ℕ) (s : Queues) where
   alone-at : (at : Option (ℕ × ℕ)) → HitsAlone (plan_at c x at s)
   alone-at None = never _ refl
-  alone-at (Some p) =
-      either (p.0 == T1 || p.0 == T2) _ _ (own-alone true _ x) (either (p.0 == B1) _ _ (never _ refl) (either (p.0 == B2) _ _ (never _ refl) (never _ refl)))
+  alone-at (Some p) = grind (arith, nat_tests, either, own-alone, never)
 
 pub arc-sound : IsSoundPage arc_page
 arc-sound = record {

@@ -1,4 +1,5 @@
 -- CLOCK's plan is its definition.
+use Rattle.std.proofs.lemmas.Bool.Decides.{nat_tests}
 use Rattle.std.proofs.Common.{◌≡◌, ℕ, ◌≤◌, false, nat_lt, None, List, [], ◌∷◌, ◌++◌, length, ap, ◌∙◌, refl, arith}
 use Rattle.step_record.specs.Keys.{has_key}
 use Rattle.queue_table.specs.Entries.{entry, oldest_of, occurrences, entries_without}
@@ -51,9 +52,7 @@ module _ (c k x : ℕ) (s : Queues) (t : IsTabled s) (first : IsWithin 1 s) (sta
   full = after_turns (turns_due c 0 0 1 1 s) 0 0 1 s
 
   few : total_count (clock_of s) ≤ c
-  few =
-      let fits = state.residents.fits in
-      omega (arith, fits, length-keys (clock_of s), counted-total (clock_of s) state.bits)
+  few = grind (arith, nat_tests, length-keys (clock_of s), counted-total (clock_of s) state.bits)
 
   turned-full : counted_keys (full 0) ≡ page_turns (turn_count (clock_of s)) (clock_of s)
   turned-full = turns-are 0 c (total_count (clock_of s)) s (omega arith) t few (omega arith)

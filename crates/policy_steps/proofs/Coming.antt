@@ -1,5 +1,6 @@
 -- The key of a miss, while others leave their queues.
-use Rattle.std.proofs.Common.{Bool, ◌<◌, ◌≡◌, ℕ, ◌≤◌, Option, Some, None, List, sym, subst}
+use Rattle.std.proofs.lemmas.Bool.Decides.{nat_tests}
+use Rattle.std.proofs.Common.{arith, Bool, ◌<◌, ◌≡◌, ℕ, ◌≤◌, Option, Some, None, List, sym, subst}
 use Rattle.queue_table.specs.Entries.{Item, entry, occurrences}
 use Rattle.queue_table.specs.Queues.{QUEUES, queue_holding}
 use Rattle.queue_table.specs.QueueTable.{queues, spare, HoldsAt}
@@ -15,8 +16,7 @@ use Rattle.policy_steps.proofs.Steps.{still-none}
 -- the oldest of a queue that it is not in has left this
 pub comes-on : (found : Option Found) (i : Item) (from : ℕ) (to : Option (ℕ × ℕ)) (old new : List Slot) (r : Left) → IsLowLeaving (leaving from to) → IsLeft (leaving from to) (queues old) (queues new) r
     → spare new ≡ spare old → ((j : ℕ) (e : Entry) → HoldsAt j e old → occurrences e.item (queues old from) ≡ 0 → HoldsAt j e new) → occurrences i (queues old from) ≡ 0 → Comes found i old → Comes found i new
-comes-on None i from to old new r low left room others off h =
-    (absent-left i (leaving from to) (queues old) (queues new) r low left h.0, subst (λ n. 1 ≤ n) (sym room) h.1)
+comes-on None i from to old new r low left room others off h = search (arith, absent-left)
 comes-on (Some f) i from to old new r low left room others off h = others f.at (entry i f.count) h off
 
 -- keys of a queue that it is not in have turned
@@ -29,9 +29,7 @@ comes-ran (Some f) i r from old new ran room others off h = others f.at (entry i
 
 pub new-outside : (r : Bool) (i : Item) (a b g : ℕ) (old new : List Slot) → a < QUEUES → b < QUEUES → g < QUEUES → queues new ≡ queues old → queue_holding i (queues old) ≡ None → 1 ≤ spare new → IsOutside r None i a b g new
 new-outside r i a b g old new la lb lg same none room =
-    let none_new = still-none i (queues old) (queues new) same none in
-    let off = absent i (queues new) none_new in
-    record { comes = (none_new, room); off_one = off a la; off_other = off b lb; new = λ f. off g lg }
+    grind (arith, nat_tests, still-none i (queues old) (queues new) same none, absent)
 
 -- once keys of the first of the queues have turned
 pub outside-ran : (r : Bool) (found : Option Found) (i : Item) (run : Run) (a b g : ℕ) (old new : List Slot) → run.from ≡ a → IsRun run (queues old) (queues new) → spare new ≡ spare old

@@ -1,10 +1,10 @@
 -- Entries as keys with counts.
-use Rattle.std.proofs.Common.{◌≡◌, ℕ, ◌+◌, ◌≤◌, true, false, cond, eqb, nat_lt, List, [], ◌∷◌, ◌++◌, length, ap, ◌∙◌, sym, refl, arith}
+use Rattle.std.proofs.Common.{◌≡◌, ℕ, ◌+◌, ◌≤◌, true, false, cond, nat_lt, List, [], ◌∷◌, ◌++◌, length, ap, ◌∙◌, sym, refl, arith}
 use Rattle.std.proofs.lemmas.Bool.{eq-eqb, ltb-false}
 use Rattle.std.proofs.lemmas.List.{length-map, map-append}
 use Rattle.std.proofs.lemmas.Bool.Decides.{nat_tests}
 use Rattle.step_record.specs.Keys.{has_key}
-use Rattle.queue_table.specs.Entries.{is_same_item, entry, oldest_of, occurrences, entries_without, entries_counted}
+use Rattle.queue_table.specs.Entries.{oldest_of, occurrences, entries_without, entries_counted}
 use Rattle.queue_table.specs.Queues.{Queues}
 use Rattle.queue_table.proofs.EntryLists.{times-append}
 use Rattle.queue_table.proofs.MoveBack.{without-none}
@@ -44,14 +44,12 @@ nodes-append (e ∷ a) b = omega (arith, nodes-append a b)
 -- keys of two queues
 pub key-both : (k : ℕ) (a b : List Entry) → nodes_of a ≡ 0 → nodes_of b ≡ 0 → has_key k (keys_of (counted_keys a ++ counted_keys b)) ≡ nat_lt 0 (occurrences (item_of k) a + occurrences (item_of k) b)
 key-both k a b za zb =
-    let nodes = nodes-append a b in
-    ap (λ l. has_key k (keys_of l)) (sym (counted-append a b)) ∙ key-counted k (a ++ b) (omega (arith, nodes, za, zb)) ∙ ap (nat_lt 0) (times-append (item_of k) a b)
+    grind (arith, nat_tests, nodes-append a b, counted-append a b, key-counted, times-append (item_of k) a b)
 
 pub counted-with : (k n : ℕ) (l : List Entry) → nodes_of l ≡ 0 → occurrences (item_of k) l ≤ 1 → counted_keys (entries_counted (item_of k) n l) ≡ with_count k n (counted_keys l)
 counted-with k n [] h few = refl
 counted-with k n (e ∷ l) h few =
-    let same : is_same_item (item_of k) e.item ≡ eqb k e.item.key = same-key k e.item (omega (arith, h)) in
-    grind (arith, nat_tests, counted-none (item_of k) n l, counted-with k n l)
+    grind (arith, nat_tests, same-key k e.item (omega (arith, h)), counted-none (item_of k) n l, counted-with k n l)
 
 pub without-counted : (k : ℕ) (l : List Entry) → nodes_of l ≡ 0 → has_key k (entry_keys l) ≡ false → counted_keys (entries_without (item_of k) l) ≡ counted_keys l
 without-counted k l z h = let none = ltb-false 0 _ (sym (has-occurs k l z) ∙ h) in ap counted_keys (without-none (item_of k) l (omega (arith, none)))
@@ -63,7 +61,4 @@ has-both k a b = ap (has_key k) (keys-append a b) ∙ has-append k (keys_of a) (
 
 -- it stands in queue q with the count n
 pub its-count : (k q n : ℕ) (s : Queues) → StandsAs k q n s → count_of k (counted_keys (s q)) ≡ n
-its-count k q n s t =
-    ap (count_of k) (ap counted_keys t.whole ∙ counted-append t.front (entry (item_of k) n ∷ t.back))
-    ∙ count-append k (counted_keys t.front) (counted_keys (entry (item_of k) n ∷ t.back))
-    ∙ rw (ap (has_key k) (keys-counted t.front) ∙ t.front_off, eq-eqb k k refl) refl
+its-count k q n s t = grind (arith, nat_tests, counted-append, count-append, keys-counted, eq-eqb)

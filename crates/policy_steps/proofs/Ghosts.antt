@@ -1,5 +1,5 @@
 -- A key leaves for a ghost, which the accessed key may leave.
-use Rattle.std.proofs.Common.{◌≡◌, ℕ, ◌<◌, ◌≤◌, Bool, true, false, cond, eqb, nat_lt, ◌||◌, Some, None, List, [], ◌∷◌, ◌++◌, length, drop, ap, ◌∙◌, sym, refl, arith}
+use Rattle.std.proofs.Common.{◌≡◌, ℕ, ◌<◌, ◌≤◌, Bool, true, false, cond, eqb, nat_lt, ◌||◌, Some, List, [], ◌∷◌, ◌++◌, length, drop, refl, arith}
 use Rattle.std.proofs.lemmas.Bool.{cond_both, lt-ltb}
 use Rattle.std.proofs.lemmas.Bool.Decides.{nat_tests}
 use Rattle.step_record.specs.Keys.{has_key, keys_without}
@@ -35,11 +35,7 @@ module _ (s : Queues) (t : IsTabled s) (from ghost size : ℕ) (r : Bool) (e : E
   leavers-gone =
       let first : Queues = after_leaving (leaving from (Some (ghost, 0))) s in
       let tabled : IsTabled first = tabled-leaving s t (leaving from (Some (ghost, 0))) (low, into) in
-      go first tabled (r || nat_lt (length (s ghost)) size) ∙ ap (λ (u : Queues). with_queue ghost (kept (r || nat_lt (length (s ghost)) size) (u ghost)) u) (oldest-sent s t from ghost e l h)
-    where
-      go : (u : Queues) → IsTabled u → (f : Bool) → after_leaving (cond f None (leaving ghost None)) u ≡ with_queue ghost (kept f (u ghost)) u
-      go u tabled true = turns-within u tabled 0 ghost 0 into
-      go u tabled false = any-out u tabled ghost
+      grind (arith, nat_tests, oldest-sent s t from ghost e l h, turns-within, any-out)
 
 -- ---- the keys of the ghost, less the accessed one
 
@@ -54,11 +50,9 @@ drop-oldest (a ∷ l) = refl
 remembered : (k size v : ℕ) (g : List ℕ) (r : Bool) → has_key k g ≡ r → eqb k v ≡ false → length g ≤ size
     → keys_without k (cond (r || nat_lt (length g) size) (g ++ v ∷ []) (drop 1 (g ++ v ∷ []))) ≡ ghost_with size v (keys_without k g)
 remembered k size v g true h other few =
-    let room : length (keys_without k g) < size = omega (arith, without-shorter k g h, few) in
-    rw (lt-ltb (length (keys_without k g)) size room) (without-push k v g other)
+    grind (arith, nat_tests, without-shorter k g h, lt-ltb, without-push k v g other)
 remembered k size v g false h other few =
-    let none : has_key k (g ++ v ∷ []) ≡ false = has-append k g (v ∷ []) ∙ rw (h, other) refl in
-    rw (without-none k g h) (without-cond k (nat_lt (length g) size) _ _ (without-none k (g ++ v ∷ []) none) (without-drop k (g ++ v ∷ []) none ∙ drop-oldest (g ++ v ∷ [])))
+    grind (arith, nat_tests, has-append, without-none, without-cond, without-drop, drop-oldest)
 
 keys-kept : (f : Bool) (g : List Entry) → keys_of (kept f g) ≡ cond f (keys_of g) (drop 1 (keys_of g))
 keys-kept true g = refl
@@ -67,7 +61,4 @@ keys-kept false (e ∷ g) = refl
 
 pub ghost-keys : (k size : ℕ) (e : Entry) (g : List Entry) (r : Bool) → has_key k (keys_of g) ≡ r → eqb k e.item.key ≡ false → length (keys_of g) ≤ size
     → keys_without k (keys_of (kept (r || nat_lt (length g) size) (g ++ entry e.item 0 ∷ []))) ≡ ghost_with size e.item.key (keys_without k (keys_of g))
-ghost-keys k size e g r h other few =
-    let f : Bool = r || nat_lt (length g) size in
-    ap (keys_without k) (keys-kept f (g ++ entry e.item 0 ∷ []) ∙ ap (λ x. cond f x (drop 1 x)) (keys-append g (entry e.item 0 ∷ [])))
-    ∙ rw (sym (length-keys g)) (remembered k size e.item.key (keys_of g) r h other few)
+ghost-keys k size e g r h other few = grind (arith, nat_tests, keys-kept, keys-append, length-keys, remembered)

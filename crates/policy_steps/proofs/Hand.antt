@@ -3,9 +3,9 @@ use Rattle.std.proofs.Common.{◌≡◌, ℕ, zero, suc, ◌+◌, ◌-◌, ◌�
 use Rattle.std.proofs.lemmas.Bool.{cases_lt, lt-ltb, le-ltb, eq-eqb, ne_eqb}
 use Rattle.std.proofs.lemmas.Bool.Decides.{nat_tests}
 use Rattle.queue_table.specs.Entries.{entry, oldest_of}
-use Rattle.queue_table.specs.Queues.{Queues, with_queue}
+use Rattle.queue_table.specs.Queues.{Queues}
 use Rattle.queue_table.proofs.QueueLists.{with-queue-same, with-queue-other}
-use Rattle.queue_policies.specs.CountedKeys.{counted_less, AreCounted, total_count, oldest_count}
+use Rattle.queue_policies.specs.CountedKeys.{AreCounted, total_count, oldest_count}
 use Rattle.queue_policies.specs.Sieve.{SieveState, after_wrap, after_pass, pass_count_within, pass_count, after_passes}
 use Rattle.queue_policies.proofs.Sieve.{whole, past-total}
 use Rattle.queue_moves.specs.Moves.{Entry, count_or, after_turn, after_turns, turns_due}
@@ -27,10 +27,7 @@ no-pass (suc n) s h = rw (eq-eqb (oldest_count s.ahead) 0 h) refl
 
 pass-within : (n : ℕ) (s : SieveState) → n ≡ total_count (whole s) → eqb (oldest_count s.ahead) 0 ≡ false → after_passes (pass_count_within n s) s ≡ stopped (after_pass s.passed s.ahead)
 pass-within zero s e h = absurd (let less = past-total s.passed s.ahead h in omega (arith, e, less))
-pass-within (suc n) s e h =
-    let less = past-total s.passed s.ahead h in
-    let same : n ≡ total_count (whole (after_pass s.passed s.ahead)) = omega (arith, e, less) in
-    rw h (ap (λ m. after_passes (pass_count_within m (after_pass s.passed s.ahead)) (after_pass s.passed s.ahead)) same)
+pass-within (suc n) s e h = grind (arith, nat_tests, past-total s.passed s.ahead h)
 
 pass-first : (s : SieveState) → eqb (oldest_count s.ahead) 0 ≡ false → stopped s ≡ stopped (after_pass s.passed s.ahead)
 pass-first s h = pass-within (total_count (whole s)) s refl h
@@ -75,10 +72,7 @@ module _ (x : ℕ) (low : x ≤ 1) where
 
   turn : (s : Queues) (e : Entry) (l : List Entry) → IsTabled s → s x ≡ e ∷ l → (turned s x ≡ l) × (turned s (passed_queue x) ≡ s (passed_queue x) ++ entry e.item (e.count - 1) ∷ [])
   turn s e l t h =
-      let is = turn-is s t x (passed_queue x) 1 e l h in (
-        ap (λ (u : Queues). u x) is ∙ with-queue-other (passed_queue x) x _ (with_queue x l s) (apart x low) ∙ with-queue-same x l s,
-        ap (λ (u : Queues). u (passed_queue x)) is ∙ with-queue-same (passed_queue x) _ (with_queue x l s) ∙ ap (λ (q : List Entry). q ++ entry e.item (e.count - 1) ∷ []) (with-queue-other x (passed_queue x) l s (λ z. apart x low (sym z))),
-      )
+      let is = turn-is s t x (passed_queue x) 1 e l h in grind (arith, nat_tests, with-queue-other, apart x low, with-queue-same x l s, with-queue-same, apart)
 
   -- a turn is a pass
   pass : (l : List Entry) (s : Queues) → IsTabled s → s x ≡ l → nat_lt (count_or 0 (oldest_of l)) 1 ≡ false → stopped (at_hand s) ≡ stopped (at_hand (turned s))
@@ -87,9 +81,7 @@ module _ (x : ℕ) (low : x ≤ 1) where
       let u = turn s e l t h in
       let lowered = ap counted_keys u.1 ∙ counted-append (s (passed_queue x)) (entry e.item (e.count - 1) ∷ []) in
       let set : eqb e.count 0 ≡ false = ne_eqb e.count 0 (λ z. let no : true ≡ false = sym (lt-ltb e.count 1 (omega (arith, z))) ∙ g in cc no) in
-      ap (λ v. stopped (after_wrap (counted_keys (s (passed_queue x))) (counted_keys v))) h
-      ∙ pass-first (record { passed = counted_keys (s (passed_queue x)); ahead = counted_key e ∷ counted_keys l }) set
-      ∙ sym (ap (λ v. stopped (after_wrap v (counted_keys (turned s x)))) lowered ∙ ap (λ v. stopped (after_wrap (counted_keys (s (passed_queue x)) ++ counted_less (counted_key e) ∷ []) (counted_keys v))) u.0)
+      grind (arith, nat_tests, pass-first (record { passed = counted_keys (s (passed_queue x)); ahead = counted_key e ∷ counted_keys l }) set)
 
   pub passes : (m : ℕ) (s : Queues) → IsTabled s → stopped (at_hand s) ≡ stopped (at_hand (passed m s))
   passes zero s t = refl

@@ -1,4 +1,5 @@
 -- When keys leave the queues by a plan.
+use Rattle.std.proofs.lemmas.Bool.Decides.{nat_tests}
 use Rattle.std.proofs.Common.{◌≡◌, ℕ, ◌+◌, ◌⊎◌, Bool, true, false, if◌then◌else◌, nat_lt, Option, Some, None, List, ◌++◌, length, ap, ◌∙◌, sym, refl, arith, inl, inr, length-append}
 use Rattle.std.proofs.lemmas.List.{length-map}
 use Rattle.queue_policies.specs.CountedKeys as counted
@@ -54,16 +55,10 @@ pub counted-length : (l : List Entry) → length (counted.keys_of (counted_keys 
 counted-length l = length-keys (counted_keys l) ∙ length-counted l
 
 pub both-length : (l m : List Entry) → length (counted.keys_of (counted_keys l ++ counted_keys m)) ≡ length l + length m
-both-length l m =
-    let a = length-counted l in
-    let b = length-counted m in
-    length-keys (counted_keys l ++ counted_keys m) ∙ length-append (counted_keys l) (counted_keys m) ∙ omega (arith, a, b)
+both-length l m = grind (arith, nat_tests, length-counted, length-keys, length-append)
 
 pub keys-length : (l m : List Entry) → length (keys_of l ++ keys_of m) ≡ length l + length m
-keys-length l m =
-    let a = length-map l (λ (e : Entry). e.item.key) in
-    let b = length-map m (λ (e : Entry). e.item.key) in
-    length-append (keys_of l) (keys_of m) ∙ omega (arith, a, b)
+keys-length l m = grind (arith, nat_tests, length-map, length-append (keys_of l) (keys_of m))
 
 pub not-less : (n m c : ℕ) → n ≡ m → nat_lt m c ≡ false → nat_lt n c ≡ false
 not-less n m c e h = ap (λ y. nat_lt y c) e ∙ h

@@ -23,10 +23,7 @@ without-keys k l h = sym (keys-taken k l h)
 
 pub keys-sent : (k m q : ℕ) (s : Queues) → HasKeys s → (j : ℕ)
     → keys_of (after_send (entry (item_of k) m) q s j) ≡ cond (eqb j q) (keys_without k (keys_of (s q)) ++ k ∷ []) (keys_without k (keys_of (s j)))
-keys-sent k m q s z j =
-    let joined = keys-append (entries_without (item_of k) (s q)) (entry (item_of k) m ∷ []) in
-    let rest = without-keys k (s q) (z q) in
-    grind (arith, nat_tests, without-keys k (s j) (z j))
+keys-sent k m q s z j = grind (arith, nat_tests, keys-append, without-keys)
 
 -- ---- a queue's oldest key leaves it
 

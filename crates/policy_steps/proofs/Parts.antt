@@ -48,6 +48,4 @@ held k s t at h = ltb-true 0 _ (sym (has-occurs k (s at.0) (t.keys at.0)) ∙ (s
 
 -- it is one of the first n queues
 pub held-first : (n k : ℕ) (s : Queues) → IsTabled s → (at : ℕ × ℕ) → IsWithin n s → standing (item_of k) s ≡ Some at → at.0 < n
-held-first n k s t at first h =
-    let some = held k s t at h in
-    grind (arith, nat_tests, cases_lt at.0 n, first at.0)
+held-first n k s t at first h = grind (arith, nat_tests, held k s t at h, cases_lt at.0 n)

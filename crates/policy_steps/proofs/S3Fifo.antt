@@ -1,10 +1,10 @@
 -- The plan of an access to an S3-FIFO cache comes to what the definition says.
-use Rattle.std.proofs.Common.{◌≡◌, ℕ, ◌+◌, ◌-◌, ◌<◌, ◌≤◌, Bool, true, false, eqb, ◌==◌, nat_lt, Option, Some, None, List, [], ◌∷◌, ◌++◌, length, ap, sym, subst, ◌∙◌, refl, arith, inl, inr}
-use Rattle.std.proofs.lemmas.Bool.{cases_Bool, cond_both, or_parts, eq-eqb, eqb-true, eqb-false}
+use Rattle.std.proofs.lemmas.Bool.Decides.{nat_tests}
+use Rattle.std.proofs.Common.{◌≡◌, ℕ, ◌+◌, ◌-◌, ◌<◌, ◌≤◌, Bool, true, false, eqb, ◌==◌, nat_lt, Option, Some, None, List, ◌++◌, length, ap, sym, subst, ◌∙◌, refl, arith, inl, inr}
+use Rattle.std.proofs.lemmas.Bool.{cases_Bool, cond_both, or_parts, eqb-true, eqb-false}
 use Rattle.step_record.specs.Keys.{has_key, keys_without}
-use Rattle.step_record.specs.Stats.{one_if}
 use Rattle.step_record.specs.declared.outcome.Outcome.TheVariants as outcome
-use Rattle.queue_table.specs.Entries.{entry, entries_without, entries_counted}
+use Rattle.queue_table.specs.Entries.{entry, entries_counted}
 use Rattle.queue_table.specs.Queues.{QUEUES, Queues, after_send}
 use Rattle.queue_table.proofs.QueueLists.{queue-few}
 use Rattle.queue_policies.specs.Residents.{Outcome, times}
@@ -33,10 +33,8 @@ use Rattle.policy_steps.proofs.Leavers.{HitsAlone, own-alone, never, either, one
 
 joined : (r : Bool) (k : ℕ) (ghost : List ℕ) (u : Queues) (o : Outcome) (e : Outcome × S3FifoState) → has_key k ghost ≡ r → HasKeys u → has_key k (keys_of (u SMALL)) ≡ false → has_key k (keys_of (u MAIN)) ≡ false → IsLeft k u o e
     → s3_fifo_of (after_send (entry (item_of k) 0) (joins r) u) ≡ s3_fifo_with_key (has_key k ghost) k e.1
-joined true k ghost u o e is z small main left =
-    rw (is, without-counted k (u SMALL) (z SMALL) small, counted-append (entries_without (item_of k) (u MAIN)) (entry (item_of k) 0 ∷ []), without-counted k (u MAIN) (z MAIN) main, without-keys k (u GHOST) (z GHOST), left.small, left.main, left.ghost) refl
-joined false k ghost u o e is z small main left =
-    rw (is, counted-append (entries_without (item_of k) (u SMALL)) (entry (item_of k) 0 ∷ []), without-counted k (u SMALL) (z SMALL) small, without-counted k (u MAIN) (z MAIN) main, without-keys k (u GHOST) (z GHOST), left.small, left.main, left.ghost) refl
+joined true k ghost u o e is z small main left = grind (arith, nat_tests, without-counted, counted-append, without-keys)
+joined false k ghost u o e is z small main left = search (arith, counted-append, without-counted, without-keys)
 
 -- ---- which queues the plan names
 
@@ -64,8 +62,7 @@ module _ (part c k x : ℕ) (r : Bool) (s : Queues) (t : IsTabled s) (some : 1 �
   none-after =
       let moves = (room-made part c k (has_key k v.ghost) w some absent state.counts).access.moves k in
       let before : times k (s3_fifo_residents w) ≡ 0 = times-none k (s3_fifo_residents w) absent in
-      let self : one_if (eqb k k) ≡ 1 = ap one_if (eq-eqb k k refl) in
-      omega (arith, moves, before, self, brought-few k k room.0, join-times k k (has_key k v.ghost) room.1)
+      omega (arith, moves, before, brought-few k k room.0, join-times k k (has_key k v.ghost) room.1)
 
   none-in : (l : List Entry) (m : List CountedKey) → counted_keys l ≡ m → times k (counted.keys_of m) ≤ 0 → has_key k (keys_of l) ≡ false
   none-in l m h n = ap (has_key k) (sym (keys-counted l) ∙ ap counted.keys_of h) ∙ no-times k (counted.keys_of m) n
@@ -133,8 +130,7 @@ module _ (part c k x : ℕ) (r : Bool) (s : Queues) (t : IsTabled s) (some : 1 �
         (subst (λ l. length l ≤ size) (sym ghost) state.ghost_fits))
 
   missed : IsPlannedBy (s3_fifo_miss part c r x s) k s (λ x. s3_fifo_of) (s3_fifo_act part c k v) (has_key k (s3_fifo_residents v))
-  missed = rw absent (
-      cond_both (nat_lt (length (s SMALL) + length (s MAIN)) c) _ _ IsMiss fits (λ f. cond_both (gives_main size a) _ _ IsMiss (main-evicts f) (small-evicts f)))
+  missed = grind (arith, nat_tests, cond_both, fits, main-evicts, small-evicts)
 
 -- ---- an access
 
@@ -201,29 +197,19 @@ module _ (part c x : ℕ) (s : Queues) where
   IsFull = nat_lt (length (s3_fifo_residents (s3_fifo_of s))) c ≡ false
 
   leaves-of-miss : (r : Bool) → LeavesWhere IsFull (s3_fifo_miss part c r x s)
-  leaves-of-miss r =
-      one-of IsFull (nat_lt (length (s SMALL) + length (s MAIN)) c) _ _ (λ e. own-none IsFull false _ x) (λ e. inr (not-less _ _ c (both-length (s SMALL) (s MAIN)) e))
+  leaves-of-miss r = grind (arith, nat_tests, one-of, own-none, not-less, both-length (s SMALL) (s MAIN))
 
   leaves-at : (at : Option (ℕ × ℕ)) → LeavesWhere IsFull (plan_at part c x at s)
   leaves-at None = leaves-of-miss false
   leaves-at (Some p) = one-of IsFull (is_resident p.0) _ _ (λ e. own-none IsFull true _ x) (λ e. leaves-of-miss _)
 
   alone-of-miss : (r : Bool) → HitsAlone (s3_fifo_miss part c r x s)
-  alone-of-miss r =
-      let m : ℕ = s3_fifo_main_size part c in
-      either (nat_lt (length (s SMALL) + length (s MAIN)) c) _ _ (own-alone false _ x)
-      (either (gives_main m (after_run (promotions m s) s)) _ _ (never _ refl) (never _ refl))
+  alone-of-miss r = grind (arith, nat_tests, either, own-alone, never)
 
   alone-at : (at : Option (ℕ × ℕ)) → HitsAlone (plan_at part c x at s)
   alone-at None = alone-of-miss false
   alone-at (Some p) = either (is_resident p.0) _ _ (own-alone true _ x) (alone-of-miss _)
 
 pub s3-fifo-sound : (part : ℕ) → IsSoundPage (s3_fifo_page part)
-s3-fifo-sound part = record {
-  keeps = keeps part;
-  starts = (tt, refl);
-  planned = planned part;
-  residents = λ x s. both-counted (s SMALL) (s MAIN);
-  hits = λ c k x s. alone-at part c x s (standing (item_of k) s);
-  leaves = λ c k x s t shown state. leaves-at part c x s (standing (item_of k) s);
-}
+s3-fifo-sound part =
+    grind (arith, nat_tests, keeps, keeps part, planned, planned part, both-counted, alone-at, leaves-at)

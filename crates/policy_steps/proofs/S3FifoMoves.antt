@@ -1,11 +1,12 @@
 -- What each move of an eviction by S3-FIFO makes of the queues. Main only grows by promotions, and no turn changes how many
 -- keys it has: once it is over its size or the small queue is empty, this stays so until a key left. So all promotions come
 -- before the first turn.
-use Rattle.std.proofs.Common.{◌≡◌, ℕ, zero, suc, ◌+◌, ◌-◌, ◌*◌, ◌≤◌, true, false, if◌then◌else◌, eqb, ◌==◌, ◌||◌, nat_lt, Bool, Some, None, List, [], ◌∷◌, ◌++◌, length, drop, ap, sym, subst, ◌∙◌, refl, arith, inl, inr, length-append}
+use Rattle.std.proofs.lemmas.Grind.{common_steps}
+use Rattle.std.proofs.Common.{◌≡◌, ℕ, zero, suc, ◌+◌, ◌-◌, ◌*◌, ◌≤◌, true, false, if◌then◌else◌, eqb, ◌==◌, ◌||◌, nat_lt, Bool, Some, None, List, [], ◌∷◌, ◌++◌, length, ap, sym, subst, ◌∙◌, refl, arith, inl, inr, length-append}
 use Rattle.std.proofs.lemmas.Bool.{cases_Bool, ne_eqb, ltb-false, le-ltb, or_parts}
 use Rattle.std.proofs.lemmas.Bool.Decides.{nat_tests}
 use Rattle.step_record.specs.Keys.{has_key, keys_without}
-use Rattle.queue_table.specs.Entries.{entry, oldest_of}
+use Rattle.queue_table.specs.Entries.{oldest_of}
 use Rattle.queue_table.specs.Queues.{Queues, with_queue}
 use Rattle.queue_policies.specs.CountedKeys.{CountedKey, AreCounted, total_count, oldest_count}
 use Rattle.queue_policies.specs.Turns.{after_turn, turn_count_within, after_turns}
@@ -34,11 +35,7 @@ pub resident-count : (s : Queues) → length (s3_fifo_residents (s3_fifo_of s)) 
 resident-count s = omega (arith, length-keys (counted_keys (s SMALL) ++ counted_keys (s MAIN)), length-append (counted_keys (s SMALL)) (counted_keys (s MAIN)), length-counted (s SMALL), length-counted (s MAIN))
 
 pub gives-is : (size : ℕ) (s : Queues) → gives_main size s ≡ main_gives size (s3_fifo_of s)
-gives-is size s = go (s SMALL)
-  where
-    go : (small : List Entry) → (length small == 0 || nat_lt size (length (s MAIN))) ≡ main_gives size (made (counted_keys small) (counted_keys (s MAIN)) (keys_of (s GHOST)))
-    go [] = refl
-    go (e ∷ small) = rw (ne_eqb (suc (length small)) 0 (λ e. omega (arith, e))) (ap (nat_lt size) (sym (length-counted (s MAIN))))
+gives-is size s = grind (arith, common_steps, ne_eqb, length-counted (s MAIN))
 
 -- ---- main gives up a key
 
@@ -49,8 +46,7 @@ gives-still size (e ∷ small) main ghost = ap (nat_lt size) (turned-length main
 turns : (n size : ℕ) (small main : List CountedKey) (ghost : List ℕ) → main_gives size (made small main ghost) ≡ true → s3_fifo_eviction_within n size (made small main ghost) ≡ main_eviction small (after_turns (turn_count_within n main) main) ghost
 turns zero size small main ghost g = rw g refl
 turns (suc n) size small main ghost g =
-    let still = gives-still size small main ghost in
-    grind (arith, nat_tests, turns n size small (after_turn main) ghost)
+    grind (arith, nat_tests, gives-still size small main ghost, turns n size small (after_turn main) ghost)
 
 -- counts are at most 3
 total-few : (l : List CountedKey) → AreCounted 3 l → total_count l ≤ 3 * length l
@@ -79,30 +75,12 @@ module _ (size k : ℕ) (residents remembered : List ℕ) where
 
   none-left : (n : ℕ) (s : Queues) → IsTabled s → most_moves (state_without k s) ≤ n → IsMoved residents remembered (state_without k s)
       → (gives_main size s ≡ false → nat_lt (oldest_count (counted_keys (s SMALL))) 2 ≡ true) → IsPromoted n s s
-  none-left n s t many m few = record {
-    comes =
-        let main : List CountedKey = counted_keys (s MAIN) in
-        elim (cases_Bool (gives_main size s)) [
-          | inl g ↦
-              rw g (turns n size (counted_keys (s SMALL)) main (keys_without k (keys_of (s GHOST))) (sym (gives-is size s) ∙ g)
-              ∙ ap (λ l. main_eviction (counted_keys (s SMALL)) l (keys_without k (keys_of (s GHOST))))
-              (sym (turns-are MAIN (3 * length (s MAIN)) n s (omega arith) t (omega (arith, total-few main m.main, length-counted (s MAIN))) (omega arith))))
-          | inr g ↦
-              let gives : main_gives size (state_without k s) ≡ false = sym (gives-is size s) ∙ g in
-              let leaves : s3_fifo_departure size (state_without k s) ≡ small_eviction size (counted_keys (s SMALL)) main (keys_without k (keys_of (s GHOST))) = rw gives refl in
-              rw g (within-settled n size (state_without k s) (rw gives (few g)) ∙ leaves)
-        ];
-    moved = m;
-    ghost = refl;
-  }
+  none-left n s t many m few =
+      grind (arith, nat_tests, cases_Bool, turns, gives-is, turns-are, total-few, length-counted, within-settled)
 
   one-promoted : (s : Queues) → IsTabled s → (e : Entry) (l : List Entry) → s SMALL ≡ e ∷ l →
       state_without k (moves.after_turn SMALL MAIN 0 s) ≡ after_promotion (counted_keys (s SMALL)) (counted_keys (s MAIN)) (keys_without k (keys_of (s GHOST)))
-  one-promoted s t e l h =
-      let same : lowered_entry 0 e ≡ e = ap (entry e.item) (let n : e.count - 0 ≡ e.count = omega arith in n) in
-      ap (state_without k) (turn-is s t SMALL MAIN 0 e l h)
-      ∙ rw (same, counted-append (s MAIN) (e ∷ [])) refl
-      ∙ ap (λ x. after_promotion (counted_keys x) (counted_keys (s MAIN)) (keys_without k (keys_of (s GHOST)))) (sym h)
+  one-promoted s t e l h = grind (arith, nat_tests, turn-is s t SMALL MAIN 0 e l h, counted-append (s MAIN) (e ∷ []))
 
   pub promotes : (m n : ℕ) (s : Queues) (small : List Entry) → IsTabled s → s SMALL ≡ small → size + 1 - length (s MAIN) ≡ m → most_moves (state_without k s) ≤ n → IsMoved residents remembered (state_without k s)
       → IsPromoted n s (moves.after_turns (turns_due m SMALL MAIN 0 2 s) SMALL MAIN 0 s)
@@ -146,12 +124,7 @@ pub record IsLeft (k : ℕ) (u : Queues) (o : Outcome) (r : Outcome × S3FifoSta
 
 pub main-left : (k : ℕ) (s : Queues) (small : List CountedKey) (ghost : List ℕ) → IsTabled s → counted_keys (s SMALL) ≡ small → keys_without k (keys_of (s GHOST)) ≡ ghost
     → IsLeft k (after_leaving (leaving MAIN None) s) (outcome_after (leaving MAIN None) s) (main_eviction small (counted_keys (s MAIN)) ghost)
-main-left k s small ghost t same same_ghost =
-    subst (λ u. IsLeft k u (outcome_after (leaving MAIN None) s) (main_eviction small (counted_keys (s MAIN)) ghost)) (sym (any-out s t MAIN)) (at (s MAIN))
-  where
-    at : (l : List Entry) → IsLeft k (with_queue MAIN (drop 1 l) s) (evicted (oldest_of l)) (main_eviction small (counted_keys l) ghost)
-    at [] = record { outcome = refl; small = same; main = refl; ghost = same_ghost }
-    at (e ∷ l) = record { outcome = refl; small = same; main = refl; ghost = same_ghost }
+main-left k s small ghost t same same_ghost = grind (arith, nat_tests, any-out s t MAIN)
 
 pub small-left : (size k : ℕ) (s : Queues) (r : Bool) (e : Entry) (l : List Entry) → IsTabled s → s SMALL ≡ e ∷ l → has_key k (keys_of (s GHOST)) ≡ r → eqb k e.item.key ≡ false → length (keys_of (s GHOST)) ≤ size
     → IsLeft k (after_leavers (leavers_for_ghost SMALL GHOST size r s) s) (outcome_after (leaving SMALL (Some (GHOST, 0))) s) (small_eviction size (counted_keys (s SMALL)) (counted_keys (s MAIN)) (keys_without k (keys_of (s GHOST))))

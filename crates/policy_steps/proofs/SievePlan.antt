@@ -1,5 +1,7 @@
 -- SIEVE's plan is its definition.
-use Rattle.std.proofs.Common.{◌≡◌, ℕ, zero, suc, ◌+◌, ◌≤◌, ◌⊎◌, true, false, if◌then◌else◌, nat_lt, Option, Some, None, List, [], ◌∷◌, ◌++◌, length, ap, ◌∙◌, sym, subst, refl, arith, inl, inr, length-append, Bool}
+use Rattle.std.proofs.lemmas.Bool.Decides.{nat_tests}
+use Rattle.std.proofs.lemmas.Grind.{common_steps}
+use Rattle.std.proofs.Common.{◌≡◌, ℕ, zero, suc, ◌+◌, ◌≤◌, ◌⊎◌, true, false, if◌then◌else◌, nat_lt, Option, Some, None, List, [], ◌∷◌, length, ap, ◌∙◌, sym, subst, refl, arith, inl, inr, length-append, Bool}
 use Rattle.std.proofs.lemmas.Bool.{ltb-false}
 use Rattle.step_record.specs.Keys.{has_key}
 use Rattle.queue_table.specs.Entries.{Item, entry, oldest_of, occurrences}
@@ -43,9 +45,7 @@ abbrev IsAhead : List Entry → Type 0
 IsAhead l = 1 ≤ length l
 
 not-wrapped : (x : ℕ) (s : Queues) → IsAhead (s x) → after_wrap (counted_keys (s (passed_queue x))) (counted_keys (s x)) ≡ sieve_of x s
-not-wrapped x s some =
-    let passed = counted_keys (s (passed_queue x)) in
-    by-oldest (λ l. after_wrap passed (counted_keys l) ≡ record { passed = passed; ahead = counted_keys l }) (s x) some (λ e l h. refl)
+not-wrapped x s some = grind (arith, common_steps, by-oldest, some)
 
 clear-ahead : (l : List Entry) → HasClear l → IsAhead l
 clear-ahead [] h = absurd h
@@ -70,12 +70,7 @@ module _ (k : ℕ) where
   new = entry (item_of k) 0
 
   joined : (x : ℕ) (w : Queues) → x ≤ 1 → IsAbsent (item_of k) w → sieve_of x (after_send new x w) ≡ sieve_with_key k (sieve_of x w)
-  joined x w low none =
-      let gone : (q : ℕ) → q ≤ 1 → after_removal (item_of k) w q ≡ w q = λ q b. without-none (item_of k) (w q) (none q (omega (arith, b))) in
-      let its = with-queue-same x (after_removal (item_of k) w x ++ new ∷ []) (after_removal (item_of k) w) ∙ ap (λ l. l ++ new ∷ []) (gone x low) in
-      let others = with-queue-other x (passed_queue x) (after_removal (item_of k) w x ++ new ∷ []) (after_removal (item_of k) w) (λ z. apart x low (sym z)) ∙ gone (passed_queue x) (omega arith) in
-      ap (λ l. record { passed = counted_keys l; ahead = counted_keys (after_send new x w x) }) others
-      ∙ ap (λ l. record { passed = counted_keys (w (passed_queue x)); ahead = l }) (ap counted_keys its ∙ counted-append (w x) (new ∷ []))
+  joined x w low none = grind (arith, nat_tests, without-none, with-queue-same, with-queue-other, apart, counted-append)
 
   left : (h : ℕ) (l : List Entry) (v : Queues) → h ≤ 1 → IsTabled v → IsAbsent (item_of k) v → v h ≡ l → IsClear l
       → (evicted (oldest_of l) ≡ (sieve_eviction k (counted_keys (v (passed_queue h))) (counted_keys l)).0)
@@ -102,17 +97,13 @@ full-ahead (e ∷ a) b c hand some full = omega arith
 
 module _ (c k x : ℕ) (s : Queues) (c_some : 1 ≤ c) (t : IsTabled s) (first : IsWithin 2 s) (low : x ≤ 1) (state : IsSieve c (sieve_of x s)) where
   size : length (sieve_residents (sieve_of x s)) ≡ length (s 0) + length (s 1)
-  size =
-      let all = (both (item_of k) x s low).1 in
-      omega (arith, all, length-keys (counted_keys (s (passed_queue x)) ++ counted_keys (s x)), length-append (counted_keys (s (passed_queue x))) (counted_keys (s x)), length-counted (s (passed_queue x)), length-counted (s x))
+  size = grind (arith, nat_tests, both, length-keys, length-append, length-counted)
 
   key : has_key k (sieve_residents (sieve_of x s)) ≡ nat_lt 0 (times_below 2 (item_of k) s)
   key = key-both k (s (passed_queue x)) (s x) (t.keys (passed_queue x)) (t.keys x) ∙ ap (nat_lt 0) (both (item_of k) x s low).0
 
   hit : sieve_of x (after_count (item_of k) 1 s) ≡ sieve_with_count k 1 (sieve_of x s)
-  hit =
-      let counted : (q : ℕ) → q ≤ 1 → _ = λ q b. counted-with k 1 (s q) (t.keys q) (queue-few q s (omega (arith, b)) t.distinct (item_of k)) in
-      rw (counted (passed_queue x) (omega arith), counted x low) refl
+  hit = grind (arith, nat_tests, counted-with, queue-few)
 
   module _ (none : IsAbsent (item_of k) s) (f : nat_lt (length (s 0) + length (s 1)) c ≡ false) where
     abbrev early : Queues
@@ -138,10 +129,9 @@ module _ (c k x : ℕ) (s : Queues) (c_some : 1 ≤ c) (t : IsTabled s) (first :
 
     waits : Waits c (early mid)
     waits =
-        let fits = state.residents.fits in
-        let all = (both (item_of k) x s low).1 in
+                let all = (both (item_of k) x s low).1 in
         wrapped-clear c x early (early x) refl (stops x low c c (s x) s t refl (counted-second 1 (counted_keys (s (passed_queue x))) (counted_keys (s x)) state.bits)
-        (λ z. absurd (let empty = ap length z in let a = some in omega (arith, a, empty))) (omega (arith, size, fits, all)) (omega (arith, size, fits, all)))
+        (λ z. absurd (let empty = ap length z in let a = some in omega (arith, a, empty))) (omega (arith, size, all)) (omega (arith, size, all)))
 
     clear : IsClear (late mid)
     clear = ends mid mid_low c (early mid) early t-early refl waits
@@ -167,15 +157,7 @@ module _ (c k x : ℕ) (s : Queues) (c_some : 1 ≤ c) (t : IsTabled s) (first :
         let within = first-turns 2 n2 mid (passed_queue mid) 1 early (omega arith) (first-turns 2 n1 x (passed_queue x) 1 s (omega arith) first) in
         let r = left k mid (late mid) late mid_low t-late absent refl clear in
         let m = mid_low in
-        let n = new_low in (
-          record {
-            outcome = r.0 ∙ ap (λ v. (leaves v).0) (sym stop);
-            state = r.1 ∙ ap (λ v. (leaves v).1) (sym stop);
-            hits = refl;
-            low = record { early = (omega (arith, low), omega arith); late = (omega (arith, m), omega arith); first = (omega (arith, m), tt); second = tt; own = omega (arith, n) };
-          },
-          first-send 2 (new k) (ahead_new c x s) (after_leaver c x s) (omega (arith, n)) (first-out 2 mid late within),
-        )
+        let n = new_low in grind (arith, nat_tests, stop, first-send 2 (new k) (ahead_new c x s) (after_leaver c x s) (omega (arith, n)) (first-out 2 mid late within), first-out 2 mid late within)
 
   number : (o : Option (ℕ × ℕ)) (room : Bool) → (resident_plan o room (counts 1) (goes x 0) x (sieve_eviction_plan c x s)).scalar ≤ 1
   number (Some at) room = low

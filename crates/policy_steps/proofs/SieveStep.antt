@@ -1,13 +1,14 @@
 -- The plan of a miss of a full cache by SIEVE, from what the calls that carry it out ensure.
-use Rattle.std.proofs.Common.{◌≡◌, ℕ, ◌<◌, ◌≤◌, true, false, nat_lt, None, List, [], ◌∷◌, length, drop, ap, ◌∙◌, sym, subst, refl, arith}
+use Rattle.std.proofs.lemmas.Bool.Decides.{nat_tests}
+use Rattle.std.proofs.Common.{◌≡◌, ℕ, ◌<◌, ◌≤◌, true, nat_lt, None, length, arith}
 use Rattle.std.proofs.lemmas.Bool.{le-ltb}
 use Rattle.queue_table.specs.Entries.{oldest_of}
 use Rattle.queue_table.proofs.QueueLists.{with-queue-same}
 use Rattle.queue_policies.specs.Queues.{is_empty}
-use Rattle.queue_moves.specs.Tabled.{Entry, IsTabled}
+use Rattle.queue_moves.specs.Tabled.{IsTabled}
 use Rattle.queue_table.specs.Queues.{Queues}
-use Rattle.queue_moves.specs.Moves.{leaving, goes, Plan, after_run, turns_due, count_or, after_leaving}
-use Rattle.policy_steps.specs.Sieve.{Run, queue_ahead, passed_queue, pass_run, sieve_eviction_plan}
+use Rattle.queue_moves.specs.Moves.{leaving, goes, Plan, after_run, count_or, after_leaving}
+use Rattle.policy_steps.specs.Sieve.{Run, queue_ahead, pass_run, sieve_eviction_plan}
 use Rattle.policy_steps.specs.Planned.{leaver_plan}
 use Rattle.queue_policies.proofs.CountedKeys.{by-oldest}
 use Rattle.queue_moves.proofs.Runs.{turns-stop}
@@ -23,16 +24,8 @@ module _ (c x : ℕ) (s a b d : Queues) (early late : Run) (mid new y : ℕ) whe
 
 pub stops : (c x : ℕ) (s a : Queues) (early : Run) → early ≡ pass_run c x s → a ≡ after_run early s → 1 ≤ length (a x) → early.times < c
     → nat_lt (count_or 0 (oldest_of (a (queue_ahead x a)))) 1 ≡ true
-stops c x s a early he ha some few =
-    let due : turns_due c x (passed_queue x) 1 1 s < c = subst (λ (r : Run). r.times < c) he few in
-    rw (by-oldest (λ l. is_empty l ≡ false) (a x) some (λ e l h. refl))
-    (subst (λ (b : Queues). nat_lt (count_or 0 (oldest_of (b x))) 1 ≡ true) (sym (ha ∙ ap (λ r. after_run r s) he)) (turns-stop c x (passed_queue x) 1 1 s due))
+stops c x s a early he ha some few = grind (arith, nat_tests, by-oldest, turns-stop)
 
 -- whether a queue is empty once its oldest key has left
 pub left-empty : (q : ℕ) (s : Queues) → IsTabled s → is_empty (after_leaving (leaving q None) s q) ≡ nat_lt (length (s q)) 2
-left-empty q s t = ap (λ (u : Queues). is_empty (u q)) (any-out s t q) ∙ ap is_empty (with-queue-same q (drop 1 (s q)) s) ∙ few (s q)
-  where
-    few : (l : List Entry) → is_empty (drop 1 l) ≡ nat_lt (length l) 2
-    few [] = refl
-    few (e ∷ []) = refl
-    few (e ∷ x ∷ l) = sym (le-ltb (length (e ∷ x ∷ l)) 2 (omega arith))
+left-empty q s t = grind (arith, nat_tests, any-out, with-queue-same, le-ltb)

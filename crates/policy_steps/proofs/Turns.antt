@@ -1,9 +1,9 @@
 -- The turns of a queue, by its keys and counts.
-use Rattle.std.proofs.Common.{◌≡◌, ℕ, zero, suc, ◌-◌, ◌<◌, ◌≤◌, eqb, nat_lt, List, [], ◌∷◌, ◌++◌, ap, ◌∙◌, refl, arith}
+use Rattle.std.proofs.Common.{◌≡◌, ℕ, zero, suc, ◌<◌, ◌≤◌, eqb, nat_lt, List, [], ◌∷◌, ap, ◌∙◌, refl, arith}
 use Rattle.std.proofs.lemmas.Bool.{eq-eqb}
 use Rattle.std.proofs.lemmas.Bool.Decides.{nat_tests}
-use Rattle.queue_table.specs.Entries.{entry, oldest_of}
-use Rattle.queue_table.specs.Queues.{QUEUES, Queues, with_queue}
+use Rattle.queue_table.specs.Entries.{oldest_of}
+use Rattle.queue_table.specs.Queues.{QUEUES, Queues}
 use Rattle.queue_table.proofs.QueueLists.{with-queue-same, with-queue-other}
 use Rattle.queue_policies.specs.CountedKeys.{total_count, oldest_count}
 use Rattle.queue_policies.specs.Turns as page
@@ -20,10 +20,7 @@ no-count l = grind (arith, nat_tests, oldest-counted l)
 turned : (q : ℕ) (s : Queues) → IsTabled s → (l : List Entry) → s q ≡ l → counted_keys (after_turn q q 1 s q) ≡ page.after_turn (counted_keys l)
 turned q s t [] h = ap (λ (u : Queues). counted_keys (u q)) (turn-none s q q 1 h) ∙ ap counted_keys h
 turned q s t (e ∷ l) h =
-    let last : Entry = entry e.item (e.count - 1) in
-    ap (λ (u : Queues). counted_keys (u q)) (turn-is s t q q 1 e l h)
-    ∙ ap counted_keys (with-queue-same q (with_queue q l s q ++ last ∷ []) (with_queue q l s) ∙ ap (λ x. x ++ last ∷ []) (with-queue-same q l s))
-    ∙ counted-append l (last ∷ [])
+    grind (arith, nat_tests, turn-is s t q q 1 e l h, with-queue-same, with-queue-same q l s, counted-append)
 
 -- n and m turns suffice
 pub turns-are : (q n m : ℕ) (s : Queues) → q < QUEUES → IsTabled s → total_count (counted_keys (s q)) ≤ n → total_count (counted_keys (s q)) ≤ m
@@ -32,8 +29,7 @@ turns-are q zero zero s w t f g = refl
 turns-are q zero (suc m) s w t f g = rw (eq-eqb (oldest_count (counted_keys (s q))) 0 (omega (arith, oldest-few (counted_keys (s q))))) refl
 turns-are q (suc n) zero s w t f g = rw (no-count (s q) ∙ eq-eqb (oldest_count (counted_keys (s q))) 0 (omega (arith, oldest-few (counted_keys (s q))))) refl
 turns-are q (suc n) (suc m) s w t f g =
-    let clear = no-count (s q) in
-    let less = turned-total (counted_keys (s q)) in
+        let less = turned-total (counted_keys (s q)) in
     let view = turned q s t (s q) refl in
     let next = turns-are q n m (after_turn q q 1 s) w (tabled-turn s t q q 1 w) in
     grind (arith, nat_tests)

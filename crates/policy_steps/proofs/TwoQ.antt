@@ -13,7 +13,7 @@ use Rattle.queue_moves.specs.Tabled.{HasKeys, IsTabled, keys_of, StandsAs}
 use Rattle.queue_moves.proofs.Tabled.{stands, stands-nowhere}
 use Rattle.policy_steps.specs.Planned.{IsPlannedBy}
 use Rattle.policy_steps.specs.Misses.{Leavers, no_leavers, one_leaver, leavers_for_ghost, after_leavers, miss_plan}
-use Rattle.policy_steps.specs.TwoQ.{TwoQSizes, A1IN, A1OUT, AM, two_q_of, gives_a1in, joins, two_q_miss, plan_at, two_q_leavers, two_q_page}
+use Rattle.policy_steps.specs.TwoQ.{TwoQSizes, A1IN, A1OUT, AM, two_q_of, gives_a1in, joins, two_q_miss, plan_at, two_q_page}
 use Rattle.policy_steps.proofs.Ghosts.{leavers-low, sent, kept, leavers-gone, ghost-keys}
 use Rattle.policy_steps.proofs.Leaving.{oldest-out}
 use Rattle.policy_steps.proofs.Moving.{length-keys, keys-sent, without-rest, first-of, apart-first, own-low, AreLow, miss-low, tabled-leavers}
@@ -102,18 +102,7 @@ module _ (z : TwoQSizes) (c k x : ℕ) (r : Bool) (s : Queues) (some : 1 ≤ c) 
       let a : length (keys_of (s A1IN)) ≡ length (s A1IN) = length-keys (s A1IN) in
       let m : length (keys_of (s AM)) ≡ length (s AM) = length-keys (s AM) in
       let all : length (two_q_residents (two_q_of s)) ≡ length (s A1IN) + length (s AM) = length-append (keys_of (s A1IN)) (keys_of (s AM)) ∙ rw (a, m) refl in
-      rw (no_am, no_a1in, absent, all, a, m) (elim (cases_Bool (nat_lt (length (s A1IN) + length (s AM)) c)) [
-        | inl e ↦ rw e none-leaves
-        | inr e ↦ rw e (elim (cases_Bool (gives_a1in z.kin s)) [
-          | inl f ↦
-              let first = first-of (s A1IN) (a1in-some (ltb-false (length (s A1IN) + length (s AM)) c e) f) in
-              rw f (a1in-leaves first.0 first.1.0 first.1.1)
-          | inr f ↦
-              let some_am = eqb-false (length (s AM)) 0 (or_parts (nat_lt z.kin (length (s A1IN))) (length (s AM) == 0) f).1 in
-              let first = first-of (s AM) (omega (arith, some_am)) in
-              rw f (am-leaves first.0 first.1.0 first.1.1)
-        ])
-      ])
+      grind (arith, nat_tests, cases_Bool, none-leaves, first-of, a1in-some, ltb-false, a1in-leaves, eqb-false, or_parts, am-leaves)
 
 -- ---- an access
 
@@ -128,12 +117,7 @@ module _ (z : TwoQSizes) (c k x n : ℕ) (s : Queues) (t : IsTabled s) where
   }
 
   unmoved : StandsAs k A1IN n s → IsPlannedBy (own_plan true stays x) k s (λ y. two_q_of) (two_q_act z c k (two_q_of s)) (has_key k (two_q_residents (two_q_of s)))
-  unmoved a = rw (a.off AM (λ e. omega (arith, e)), a.here) record {
-    outcome = refl;
-    state = refl;
-    hits = sym (has-append k (keys_of (s A1IN)) (keys_of (s AM)) ∙ rw a.here refl);
-    low = own-low stays tt;
-  }
+  unmoved a = grind (arith, nat_tests, has-append k (keys_of (s A1IN)) (keys_of (s AM)), own-low stays tt)
 
 module _ (z : TwoQSizes) (c k x : ℕ) (s : Queues) (some : 1 ≤ c) (t : IsTabled s) (i : IsTwoQ z c (two_q_of s)) where
   abbrev Planned : Option (ℕ × ℕ) → Type 0
@@ -169,27 +153,15 @@ module _ (z : TwoQSizes) (c x : ℕ) (s : Queues) where
   IsFull = nat_lt (length (two_q_residents (two_q_of s))) c ≡ false
 
   leaves-of-miss : (r : Bool) → LeavesWhere IsFull (two_q_miss z c r x s)
-  leaves-of-miss r =
-      miss-full IsFull (two_q_leavers z c r s) _ x (elim (cases_Bool (nat_lt (length (s A1IN) + length (s AM)) c)) [
-        | inl e ↦ inl (rw e (refl, refl))
-        | inr e ↦ inr (not-less _ _ c (keys-length (s A1IN) (s AM)) e)
-      ])
+  leaves-of-miss r = grind (arith, nat_tests, miss-full, cases_Bool, not-less, keys-length)
 
   leaves-at : (at : Option (ℕ × ℕ)) → LeavesWhere IsFull (plan_at z c x at s)
   leaves-at None = leaves-of-miss false
-  leaves-at (Some p) =
-      one-of IsFull (p.0 == AM) _ _ (λ e. own-none IsFull true _ x) (λ e. one-of IsFull (p.0 == A1IN) _ _ (λ f. own-none IsFull true _ x) (λ f. leaves-of-miss _))
+  leaves-at (Some p) = grind (arith, nat_tests, one-of, own-none, leaves-of-miss)
 
   alone-at : (at : Option (ℕ × ℕ)) → HitsAlone (plan_at z c x at s)
   alone-at None = never _ refl
   alone-at (Some p) = either (p.0 == AM) _ _ (own-alone true _ x) (either (p.0 == A1IN) _ _ (own-alone true _ x) (never _ refl))
 
 pub two-q-sound : (z : TwoQSizes) → IsSoundPage (two_q_page z)
-two-q-sound z = record {
-  keeps = keeps z;
-  starts = (tt, refl);
-  planned = planned z;
-  residents = λ x s. refl;
-  hits = λ c k x s. alone-at z c x s (standing (item_of k) s);
-  leaves = λ c k x s t shown state. leaves-at z c x s (standing (item_of k) s);
-}
+two-q-sound z = grind (arith, nat_tests, keeps, keeps z, planned, planned z, alone-at, leaves-at)

@@ -8,20 +8,17 @@ use Rattle.policy_steps.proofs.Leaving.{absent-left}
 use Rattle.policy_steps.proofs.arc.join_full_l1.Goals as goal
 
 pub renew_oldest-requires-clause-absent : goal.renew_oldest-requires-clause-absent
-renew_oldest-requires-clause-absent g c =
-    absent-left (item_of c.args.key) (replaced false c.args.target (queues c.args.table.now)) _ _ _ (leaver-low false c.args.target (queues c.args.table.now)) c.replace-first.ensures.left c.requires.absent
+renew_oldest-requires-clause-absent g c = search (arith, absent-left, leaver-low)
 
 pub returns-then-len-capacity : goal.returns-then-len-capacity
 returns-then-len-capacity g c =
-    let stays = c.replace-first.ensures.stays in
-    let out = c.renew_oldest.ensures.out in
-    rw (lt-ltb (length (queues c.args.table.now T1)) c.args.capacity (omega (arith, c.len.ensures, c.if-len-capacity.true)))
+        rw (lt-ltb (length (queues c.args.table.now T1)) c.args.capacity (omega (arith, c.len.ensures, c.if-len-capacity.true)))
     (c.missed.ensures record { first = replaced false c.args.target (queues c.args.table.now); second = leaving B1 None } (goes T1 0) (item_of c.args.key) _ _ _
     record {
       between = queues c.replace-first.new.table;
       first = c.replace-first.ensures.left;
       second = c.renew_oldest.ensures.left;
-      few = omega (arith, stays, out);
+      few = omega arith;
     }
     c.renew_oldest.ensures.own)
 

@@ -11,12 +11,10 @@ use Rattle.policy_steps.proofs.Leaving.{absent-left}
 use Rattle.policy_steps.proofs.arc.join_open_l1.Goals as goal
 
 pub renew_oldest-requires-clause-absent : goal.renew_oldest-requires-clause-absent
-renew_oldest-requires-clause-absent g c =
-    absent-left (item_of c.args.key) (replaced false c.args.target (queues c.args.table.now)) _ _ _ (leaver-low false c.args.target (queues c.args.table.now)) c.replace-first.ensures.left c.requires.absent
+renew_oldest-requires-clause-absent g c = search (arith, absent-left, leaver-low)
 
 pub join-own-requires-clause-absent : goal.join-own-requires-clause-absent
-join-own-requires-clause-absent g c =
-    absent-left (item_of c.args.key) (replaced false c.args.target (queues c.args.table.now)) _ _ _ (leaver-low false c.args.target (queues c.args.table.now)) c.replace-first.ensures.left c.requires.absent
+join-own-requires-clause-absent g c = search (arith, absent-left, leaver-low)
 
 pub returns-then-all-room : goal.returns-then-all-room
 returns-then-all-room g c =
@@ -27,15 +25,13 @@ returns-then-all-room g c =
 pub returns-then-all-room-2 : goal.returns-then-all-room-2
 returns-then-all-room-2 g c =
     let s : Queues = queues c.args.table.now in
-    let stays = c.replace-first.ensures.stays in
-    let out = c.renew_oldest.ensures.out in
     rw (le-ltb (total s) c.args.capacity (omega (arith, c.requires.all, c.if-all-room.false)), eq-eqb (total s) (2 * c.args.capacity) (omega (arith, c.requires.all, c.if-all-room-2.true)))
     (c.missed-then-all-room-2.ensures record { first = replaced false c.args.target s; second = leaving B2 None } (goes T1 0) (item_of c.args.key) _ _ _
     record {
       between = queues c.replace-first.new.table;
       first = c.replace-first.ensures.left;
       second = c.renew_oldest.ensures.left;
-      few = omega (arith, stays, out);
+      few = omega arith;
     }
     c.renew_oldest.ensures.own)
 

@@ -13,5 +13,4 @@ send-own-requires-clause-at g c =
 pub returns : goal.returns
 returns g c =
     let l = replaced c.args.in_b2 c.args.target (queues c.args.table.now) in
-    let stays = c.replace-first.ensures.stays in
-    c.missed.ensures (one_leaver l) (goes T2 0) (item_of c.args.key) _ _ _ (c.one.ensures l _ _ c.replace-first.ensures.left (omega (arith, stays))) c.send-own.ensures.own
+    c.missed.ensures (one_leaver l) (goes T2 0) (item_of c.args.key) _ _ _ (c.one.ensures l _ _ c.replace-first.ensures.left (omega arith)) c.send-own.ensures.own

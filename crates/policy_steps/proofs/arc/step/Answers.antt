@@ -1,9 +1,8 @@
-use Rattle.std.proofs.Common.{◌∙◌, sym, subst}
+use Rattle.std.proofs.Common.{arith, ◌∙◌, sym}
 use Rattle.std.proofs.lemmas.Bool.{ne_eqb}
 use Rattle.queue_table.specs.QueueTable.{queues}
 use Rattle.queue_moves.specs.Moves.{item_of, goes}
-use Rattle.queue_moves.specs.Undoing.{IsAccessed}
-use Rattle.policy_steps.specs.Arc.{T2, B2, plan_at}
+use Rattle.policy_steps.specs.Arc.{T2, plan_at}
 use Rattle.policy_steps.proofs.Steps.{found-accessed}
 use Rattle.policy_steps.proofs.ArcPlan.{ghost-plan}
 use Rattle.policy_steps.proofs.arc.step.Goals.{then-in_b2, else-in_b2}
@@ -16,12 +15,4 @@ returns-then-is_resident-clause-accessed g c =
     (rw (sym c.is_resident.ensures ∙ c.if-is_resident.true) (c.hit.ensures (goes T2 0) (item_of c.args.key) s _ c.send.ensures.own))
 
 pub returns-clause-accessed : goal.returns-clause-accessed
-returns-clause-accessed g c =
-    let s = queues c.args.table.now in
-    found-accessed (λ at. plan_at c.args.capacity c.args.scalar at s) (item_of c.args.key) c.args.scalar s _ _ _ c.in-Some.ensures.stands
-    (subst (λ p. IsAccessed p (item_of c.args.key) c.args.scalar s (queues c.recalled.new.table) c.recalled.result)
-    (sym (ghost-plan c.args.capacity c.args.scalar c.in-Some.found.queue c.if-in_b2.target s c.in-Some.ensures.low (sym c.is_resident.ensures ∙ c.if-is_resident.false) (elim c.if-in_b2.branch [
-      | then-in_b2 w ↦ rw w.if-in_b2.true (w.target-is ∙ w.lowered-target.ensures)
-      | else-in_b2 w ↦ rw (ne_eqb c.in-Some.found.queue B2 w.if-in_b2.false) (w.target-is ∙ w.raised-target.ensures)
-    ])))
-    c.recalled.ensures)
+returns-clause-accessed g c = search (arith, found-accessed, ghost-plan, ne_eqb)

@@ -1,14 +1,13 @@
-use Rattle.std.proofs.Common.{None, refl}
+use Rattle.std.proofs.Common.{arith, None, refl}
 use Rattle.queue_table.specs.QueueTable.{queues}
-use Rattle.queue_moves.specs.Moves.{item_of, leaving, no_run, goes}
+use Rattle.queue_moves.specs.Moves.{leaving, no_run, goes}
 use Rattle.queue_moves.proofs.Carried.{no-run}
 use Rattle.policy_steps.specs.Clock.{clock_eviction_plan}
 use Rattle.policy_steps.proofs.Leaving.{absent-run}
 use Rattle.policy_steps.proofs.clock.evict.Goals as goal
 
 pub renew_oldest-requires-clause-absent : goal.renew_oldest-requires-clause-absent
-renew_oldest-requires-clause-absent c =
-    absent-run (item_of c.args.key) c.run-early.result (queues c.args.table.now) (queues c.run-early.new.self) c.run-early.ensures.made c.requires.absent
+renew_oldest-requires-clause-absent c = search (arith, absent-run)
 
 pub returns : goal.returns
 returns c =

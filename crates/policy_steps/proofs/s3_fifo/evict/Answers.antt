@@ -1,4 +1,4 @@
-use Rattle.std.proofs.Common.{rules, ◌≡◌, None, ap, ◌∙◌, sym, refl}
+use Rattle.std.proofs.Common.{arith, rules, ◌≡◌, None, ap, ◌∙◌, sym, refl}
 use Rattle.queue_table.specs.Queues.{Queues}
 use Rattle.queue_table.specs.QueueTable.{queues}
 use Rattle.queue_moves.specs.Moves.{item_of, no_run, leaving, goes}
@@ -10,9 +10,7 @@ use Rattle.policy_steps.proofs.Leaving.{off-run}
 use Rattle.policy_steps.proofs.s3_fifo.evict.Goals as goal
 
 pub enter_for_oldest-requires-clause-comes : goal.enter_for_oldest-requires-clause-comes
-enter_for_oldest-requires-clause-comes g c =
-    let late = c.run-late.ensures in
-    comes-ran c.args.found (item_of c.args.key) c.run-late.result MAIN _ _ late.made late.spare late.others c.requires.outside.off_other c.requires.outside.comes
+enter_for_oldest-requires-clause-comes g c = search (arith, comes-ran)
 
 pub enter_for_oldest-requires-clause-off : goal.enter_for_oldest-requires-clause-off
 enter_for_oldest-requires-clause-off g c =

@@ -1,10 +1,10 @@
-use Rattle.std.proofs.Common.{rules, sym, ◌≡◌, ◌+◌, nat_lt, false, length, ap, subst, arith}
+use Rattle.std.proofs.lemmas.Bool.Decides.{nat_tests}
+use Rattle.std.proofs.Common.{rules, sym, ◌+◌, length, ap, arith}
 use Rattle.std.proofs.lemmas.Bool.{lt-ltb, le-ltb}
 use Rattle.queue_table.specs.Queues.{Queues}
 use Rattle.queue_table.specs.QueueTable.{queues}
-use Rattle.queue_moves.specs.Moves.{item_of, goes, Plan}
-use Rattle.queue_moves.specs.Undoing.{IsAccessed}
-use Rattle.policy_steps.specs.S3Fifo.{Run, SMALL, MAIN, GHOST, eviction_plan}
+use Rattle.queue_moves.specs.Moves.{item_of, goes}
+use Rattle.policy_steps.specs.S3Fifo.{Run, SMALL, MAIN, GHOST}
 use Rattle.policy_steps.proofs.Coming.{outside-ran}
 use Rattle.policy_steps.proofs.S3FifoMoves.{resident-count, main-few, full-planned}
 use Rattle.policy_steps.proofs.s3_fifo.miss.Goals as goal
@@ -31,9 +31,4 @@ evict-requires-clause-outside g c =
     outside-ran c.args.remembered c.args.found (item_of c.args.key) c.run-early.result SMALL MAIN GHOST _ _ (ap (λ (r : Run). r.from) early.run) early.made early.spare early.others c.requires.outside
 
 pub returns : goal.returns
-returns g c =
-    let s : Queues = queues c.args.table.now in
-    let full : nat_lt (length (s SMALL) + length (s MAIN)) c.args.capacity ≡ false = le-ltb _ c.args.capacity (omega (arith, c.len.ensures, c.len-2.ensures, c.if-len-capacity.false)) in
-    let evicted = subst (λ m. IsAccessed (eviction_plan m c.run-early.result c.args.remembered c.args.scalar (queues c.run-early.new.self)) (item_of c.args.key) c.args.scalar s (queues c.evict.new.table) c.evict.result) c.main_size-main.ensures (c.evict.ensures s c.run-early.ensures.made) in
-    full-planned c.args.part c.args.capacity s (queues c.run-early.new.self) c.run-early.result (search rules) c.run-early.ensures.made.after
-    (λ (p : Plan). IsAccessed p (item_of c.args.key) c.args.scalar s (queues c.evict.new.table) c.evict.result) c.args.remembered c.args.scalar full evicted
+returns g c = grind (arith, nat_tests, le-ltb, full-planned)

@@ -1,6 +1,5 @@
 use Rattle.std.proofs.Common.{◌≤◌, length, arith}
 use Rattle.queue_table.specs.QueueTable.{queues}
-use Rattle.queue_moves.specs.Moves.{item_of}
 use Rattle.policy_steps.proofs.SieveStep.{stops}
 use Rattle.policy_steps.proofs.Leaving.{absent-run}
 use Rattle.policy_steps.proofs.sieve.evict.Goals as goal
@@ -12,9 +11,7 @@ evict_late-requires-clause-stopped g c = λ t.
     stops c.args.capacity c.args.ahead (queues c.args.table.now) a c.run-early.result c.run-early.ensures.run c.run-early.ensures.made.after some c.if-early-capacity.true
 
 pub evict_late-requires-clause-absent : goal.evict_late-requires-clause-absent
-evict_late-requires-clause-absent g c =
-    absent-run (item_of c.args.key) c.run-early.result (queues c.args.table.now) (queues c.run-early.new.self) c.run-early.ensures.made c.requires.absent
+evict_late-requires-clause-absent g c = search (arith, absent-run)
 
 pub evict_late-requires-else-len-gt0-clause-absent : goal.evict_late-requires-else-len-gt0-clause-absent
-evict_late-requires-else-len-gt0-clause-absent g c =
-    absent-run (item_of c.args.key) c.run-early.result (queues c.args.table.now) (queues c.run-early.new.self) c.run-early.ensures.made c.requires.absent
+evict_late-requires-else-len-gt0-clause-absent g c = search (arith, absent-run)

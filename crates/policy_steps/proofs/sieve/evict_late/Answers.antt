@@ -1,4 +1,4 @@
-use Rattle.std.proofs.Common.{None, refl, subst}
+use Rattle.std.proofs.Common.{arith, None, refl, subst}
 use Rattle.queue_table.specs.QueueTable.{queues}
 use Rattle.queue_moves.specs.Moves.{item_of, leaving, after_leaving, goes}
 use Rattle.queue_moves.specs.Undoing.{IsAccessed}
@@ -8,8 +8,7 @@ use Rattle.policy_steps.proofs.Leaving.{absent-run}
 use Rattle.policy_steps.proofs.sieve.evict_late.Goals as goal
 
 pub renew_oldest-requires-clause-absent : goal.renew_oldest-requires-clause-absent
-renew_oldest-requires-clause-absent g c =
-    absent-run (item_of c.args.key) c.pass-late.result (queues c.args.table.now) (queues c.pass-late.new.table) c.pass-late.ensures.made c.requires.absent
+renew_oldest-requires-clause-absent g c = search (arith, absent-run)
 
 pub returns : goal.returns
 returns g c = λ s is_early ran.

@@ -1,3 +1,4 @@
+use Rattle.std.proofs.lemmas.Grind.{common_steps}
 use Rattle.std.proofs.Common.{if◌then◌else◌, ℕ, Bool, ap, ◌∙◌, sym, arith}
 use Rattle.std.proofs.lemmas.Bool.{lt-ltb, le-ltb}
 use Rattle.queue_table.specs.QueueTable.{queues}
@@ -6,10 +7,7 @@ use Rattle.policy_steps.proofs.SieveStep.{left-empty}
 use Rattle.policy_steps.proofs.sieve.wrap_after.Goals as goal
 
 pub returns-then-len-le1-clause-is : goal.returns-then-len-le1-clause-is
-returns-then-len-le1-clause-is c =
-    let ahead : Bool → ℕ = λ b. if b then passed_queue c.args.ahead else c.args.ahead in
-    let few = c.if-len-le1.true in
-    sym (ap ahead (left-empty c.args.ahead (queues c.args.table.now) c.tabled.ensures ∙ lt-ltb _ 2 (omega (arith, c.len.ensures, few))))
+returns-then-len-le1-clause-is c = grind (arith, common_steps, left-empty, lt-ltb)
 
 pub returns-else-len-le1-clause-is : goal.returns-else-len-le1-clause-is
 returns-else-len-le1-clause-is c =
