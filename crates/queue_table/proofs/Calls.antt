@@ -1,5 +1,5 @@
 -- How long the sections are once a slot moved, and the lists without it.
-use Rattle.std.proofs.Common.{◌≡◌, ℕ, suc, ◌+◌, ◌<◌, ◌≤◌, cond, eqb, get_or, List, [], ◌∷◌, length, ap, refl, arith}
+use Rattle.std.proofs.Common.{◌≡◌, ℕ, suc, ◌+◌, ◌<◌, ◌≤◌, cond, eqb, get_or, List, [], ◌∷◌, length, refl, arith}
 use Rattle.std.proofs.lemmas.Bool.{cases_eq}
 use Rattle.std.proofs.lemmas.Bool.Decides.{nat_tests}
 use Rattle.queue_table.specs.Queues.{after_removal}
@@ -25,12 +25,7 @@ length-sent k s b t o = grind (arith, nat_tests, length-put k b (keys_without k 
 -- one slot fewer where it stood, one more where it goes
 pub lengths-sent : (k s b from t : ℕ) (o : Order) → from < SECTIONS → t < SECTIONS → IsOnce o → 1 ≤ count k (o from) → length (sent k s b o t) + cond (eqb t from) 1 0 ≡ length (o t) + cond (eqb t s) 1 0
 lengths-sent k s b from t o w v u n =
-    let a = length-sent k s b t o in
-    let c = length-without k (o t) in
-    let few = section-few t o k v u in
-    let alone = section-alone from t k o w v in
-    let e = cases_eq t from in
-    grind (arith, nat_tests)
+    grind (arith, nat_tests, length-sent, length-without, section-few, section-alone, cases_eq)
 
 pub counted-sent : (lengths lengths2 : Lengths) (k s b from here to : ℕ) (o : Order) → IsCounted lengths o → from < SECTIONS → IsOnce o → 1 ≤ count k (o from) → here ≡ from → to ≡ s →
     ((t : ℕ) → t < SECTIONS → get_or lengths2.at t 0 + cond (eqb t here) 1 0 ≡ get_or lengths.at t 0 + cond (eqb t to) 1 0) → IsCounted lengths2 (sent k s b o)
@@ -45,15 +40,10 @@ pub some-counted : (lengths : Lengths) (o : Order) (s k : ℕ) → IsCounted len
 some-counted lengths o s k c w n = let a = c s w in let b = count-length k (o s) in omega (arith, a, b, n)
 
 pub spare-sent : (k q b : ℕ) (o : Order) → length (sent k (suc q) b o 0) + count k (o 0) ≡ length (o 0)
-spare-sent k q b o =
-    let a = ap length (with-other (suc q) 0 (put_before k b (keys_without k (o (suc q)))) (order_without k o) (λ e. omega (arith, e))) in
-    omega (arith, a, length-without)
+spare-sent k q b o = grind (arith, nat_tests, with-other, length-without)
 
 pub spare-freed : (k b : ℕ) (o : Order) → count k (o 0) ≡ 0 → length (sent k 0 b o 0) ≡ length (o 0) + 1
-spare-freed k b o n =
-    let a = ap length (with-same 0 (put_before k b (keys_without k (o 0))) (order_without k o)) in
-    let d = length-put k b (keys_without k (o 0)) in
-    omega (arith, a, length-without, d, n)
+spare-freed k b o n = grind (arith, nat_tests, with-same, length-put, length-without)
 
 pub used-not-free : (k : ℕ) (o : Order) → IsOnce o → 1 ≤ count k (used o) → count k (o 0) ≡ 0
 used-not-free k o u n = let a = count-parts-ring k o in let b = u k in omega (arith, a, b, n)

@@ -1,5 +1,5 @@
 -- The entries of slots.
-use Rattle.std.proofs.Common.{◌≡◌, ℕ, suc, zero, ◌+◌, ◌<◌, ◌≤◌, true, false, cond, eqb, Option, Some, None, List, [], ◌∷◌, ◌++◌, get_or, set, map, ap, ◌∙◌, sym, refl, subst, arith, inl, inr, get_or-set_other}
+use Rattle.std.proofs.Common.{◌≡◌, ℕ, suc, ◌+◌, ◌<◌, ◌≤◌, true, false, cond, eqb, Option, Some, None, List, [], ◌∷◌, ◌++◌, get_or, set, map, ap, ◌∙◌, sym, refl, subst, arith, inl, inr, get_or-set_other}
 use Rattle.std.proofs.Common.{append-nil, append_assoc}
 use Rattle.std.specs.List.{Contains}
 use Rattle.std.proofs.Math.Path.{fun_ext}
@@ -7,10 +7,10 @@ use Rattle.std.proofs.lemmas.Bool.{cases_Bool, cases_eq, cases_lt, eqb-true}
 use Rattle.std.proofs.lemmas.List.{map-append}
 use Rattle.std.proofs.lemmas.Bool.Decides.{nat_tests}
 use Rattle.queue_table.specs.Entries.{Entry, Item, is_same_item, occurrences, last_from, last_item, before, put_behind, entries_without}
-use Rattle.queue_table.specs.Queues.{QUEUES, Queues, with_queue, queue_holding, times_below, after_push, after_removal, after_return, IsDistinct}
+use Rattle.queue_table.specs.Queues.{QUEUES, with_queue, queue_holding, times_below, after_push, after_removal, after_return, IsDistinct}
 use Rattle.queue_table.proofs.EntryLists.{same-true, same-refl, times-append, put_behind-at}
 use Rattle.queue_table.proofs.QueueLists.{IsAbsent, is_absent, placed, queue-few, times-none, times-with}
-use Rattle.queue_table.specs.Ring.{slot_entry, slot_item, count, put_before, FIRST, Order, used, used_below, with_section, order_without, sent, lists_of, item_or, IsShort}
+use Rattle.queue_table.specs.Ring.{slot_entry, slot_item, count, put_before, FIRST, Order, used, with_section, order_without, sent, lists_of, item_or, IsShort}
 use Rattle.queue_table.specs.QueueTable.{IsBehind}
 use Rattle.step_record.specs.Keys.{keys_without}
 use Rattle.queue_table.proofs.Splices.{count-append, count-here, end_of}
@@ -41,27 +41,16 @@ map-same f g (x ∷ l) h =
     rw e (ap (λ t. g x ∷ t) (map-same f g l (λ k n. h k (omega arith))))
 
 pub times-used : (i : Item) (o : Order) (es : List Entry) → occurrences i (map (λ k. slot_entry es k) (used o)) ≡ times_below QUEUES i (lists_of o es)
-times-used i o es = below QUEUES
-  where
-    below : (n : ℕ) → occurrences i (map (λ k. slot_entry es k) (used_below n o)) ≡ times_below n i (lists_of o es)
-    below zero = refl
-    below (suc n) =
-        let f : ℕ → Entry = λ k. slot_entry es k in
-        omega (arith, ap (occurrences i) (map-append f (o (suc n)) (used_below n o)), times-append, below n)
+times-used i o es = grind (arith, nat_tests, map-append, times-append)
 
 -- two slots in use hold different items
 pub alone : (o : Order) (es : List Entry) (k j : ℕ) → IsDistinct (lists_of o es) → 1 ≤ count k (used o) → 1 ≤ count j (used o) → is_same_item (slot_item es k) (slot_item es j) ≡ eqb k j
 alone o es k j d a b =
-    let own = same-refl (slot_item es k) in
-    let two = times-two (λ x. slot_entry es x) (slot_item es k) k j (used o) in
-    grind (arith, nat_tests, times-used (slot_item es k) o es, d (slot_item es k), cases_eq k j)
+    grind (arith, nat_tests, same-refl (slot_item es k), times-two, times-used (slot_item es k) o es, cases_eq k j)
 
 -- two orders with the same entries in each queue
 pub by-queue : (o p : Order) (es fs : List Entry) → IsShort o → IsShort p → ((q : ℕ) → q < QUEUES → lists_of o es q ≡ lists_of p fs q) → lists_of o es ≡ lists_of p fs
-by-queue o p es fs a b h = fun_ext (λ q. elim (cases_lt q QUEUES) [
-  | inl w ↦ h q w
-  | inr w ↦ ap (map (λ k. slot_entry es k)) (a (suc q) (omega (arith, w))) ∙ sym (ap (map (λ k. slot_entry fs k)) (b (suc q) (omega (arith, w))))
-])
+by-queue o p es fs a b h = grind (arith, nat_tests, cases_lt)
 
 -- the item of a slot taken out
 
@@ -95,11 +84,7 @@ pub lists-with : (q : ℕ) (l : List ℕ) (o : Order) (es : List Entry) → list
 lists-with q l o es = fun_ext (λ j. grind (arith, nat_tests))
 
 pub lists-recent : (q k b : ℕ) (o : Order) (es : List Entry) → count b (order_without k o (suc q)) ≡ 0 → lists_of (sent k (suc q) b o) es ≡ after_push q (slot_entry es k) (lists_of (order_without k o) es)
-lists-recent q k b o es h =
-    let f : ℕ → Entry = λ j. slot_entry es j in
-    let l : List ℕ = keys_without k (o (suc q)) in
-    lists-with q (put_before k b l) (order_without k o) es
-    ∙ ap (λ (m : List Entry). with_queue q m (lists_of (order_without k o) es)) (ap (map f) (put-end k b l h) ∙ map-append f l (k ∷ []))
+lists-recent q k b o es h = grind (arith, nat_tests, lists-with, put-end, map-append)
 
 -- a list cut where what a function makes of it is
 pub record IsCutAt {X Y : Type 0} (f : X → Y) (l : List X) (xs ys : List Y) : Type 0 where
@@ -125,8 +110,7 @@ put-cut f k b c us [] u n e = ap (λ x. put_before k x (us ++ [])) (sym e) ∙ (
 put-cut f k b c us (v ∷ vs) u n e =
     let none : count v us ≡ 0 = (
     let t = times-map f (f v).item v (us ++ v ∷ vs) (same-refl (f v).item) in
-    let w = u (f v).item in
-    omega (arith, t, count-append, count-here v vs, w)) in
+    omega (arith, t, count-append, count-here v vs)) in
     ap (λ x. put_before k x (us ++ v ∷ vs)) (sym e) ∙ (put-sentinel k v us vs none ∙ append_assoc us (k ∷ []) (v ∷ vs))
 
 pub map-put : (q k b : ℕ) (older : Option Item) (es : List Entry) (l : List ℕ) → ((j : Item) → occurrences j (map (λ x. slot_entry es x) l) ≤ 1) → count (suc (suc q)) l ≡ 0 → IsBehind b q older es l →
@@ -146,10 +130,7 @@ pub lists-back : (q k b : ℕ) (o : Order) (es : List Entry) (older : Option Ite
     count (suc (suc q)) (order_without k o (suc q)) ≡ 0 → IsBehind b q older es (order_without k o (suc q)) →
     lists_of (sent k (suc q) b o) es ≡ after_return q older (slot_entry es k) (lists_of (order_without k o) es)
 lists-back q k b o es older w d n c =
-    let f : ℕ → Entry = λ j. slot_entry es j in
-    let l : List ℕ = keys_without k (o (suc q)) in
-    lists-with q (put_before k b l) (order_without k o) es
-    ∙ ap (λ (m : List Entry). with_queue q m (lists_of (order_without k o) es)) (map-put q k b older es l (queue-few q (lists_of (order_without k o) es) w d) n c)
+    grind (arith, nat_tests, lists-with, map-put, queue-few q (lists_of (order_without k o) es) w d)
 
 -- distinct items
 
@@ -158,17 +139,7 @@ times-put f i k b [] = refl
 times-put f i k b (x ∷ l) = let r = times-put f i k b l in grind (arith, nat_tests)
 
 pub distinct-sent : (q k b : ℕ) (o : Order) (es : List Entry) → q < QUEUES → IsDistinct (lists_of (order_without k o) es) → IsAbsent (slot_item es k) (lists_of (order_without k o) es) → IsDistinct (lists_of (sent k (suc q) b o) es)
-distinct-sent q k b o es w d a i =
-    let f : ℕ → Entry = λ j. slot_entry es j in
-    let s : Queues = lists_of (order_without k o) es in
-    let l : List ℕ = keys_without k (o (suc q)) in
-    let e = ap (λ (t : Queues). times_below QUEUES i t) (lists-with q (put_before k b l) (order_without k o) es) in
-    let m = times-with QUEUES q i (map f (put_before k b l)) s w in
-    let p = times-put f i k b l in
-    let n = d i in
-    let same = same-true i (f k).item in
-    let none = times-none QUEUES (f k).item s a in
-    grind (arith, nat_tests)
+distinct-sent q k b o es w d a i = grind (arith, nat_tests, lists-with, times-with, times-put, same-true, times-none)
 
 -- neighbours
 
@@ -194,14 +165,10 @@ item-end es a (x ∷ us) s h = item-last es x us (h x (let n = count-here x us i
 
 -- where a slot's item stands
 pub placed-at : (q k : ℕ) (o : Order) (es : List Entry) → q < QUEUES → IsDistinct (lists_of o es) → 1 ≤ count k (o (suc q)) → queue_holding (slot_item es k) (lists_of o es) ≡ Some q
-placed-at q k o es w d h =
-    placed q (slot_item es k) (lists_of o es) w d (
-    let t = times-map (λ j. slot_entry es j) (slot_item es k) k (o (suc q)) (same-refl (slot_item es k)) in
-    omega (arith, t, h))
+placed-at q k o es w d h = grind (arith, nat_tests, placed, times-map, same-refl (slot_item es k))
 
 pub unplaced-at : (i : Item) (o : Order) (es : List Entry) → ((k : ℕ) → 1 ≤ count k (used o) → is_same_item i (slot_item es k) ≡ false) → queue_holding i (lists_of o es) ≡ None
-unplaced-at i o es h =
-    is_absent i (lists_of o es) (λ q w. times-map-none (λ j. slot_entry es j) i (o (suc q)) (λ k n. h k (section-used q k o w n)))
+unplaced-at i o es h = search (arith, is_absent, times-map-none, section-used)
 
 -- the entry of a slot that stands in the list
 pub has-entry : (f : ℕ → Entry) (k : ℕ) (l : List ℕ) → 1 ≤ count k l → Contains (map f l) (f k)

@@ -1,5 +1,5 @@
 -- What a search of the index says of the slots.
-use Rattle.std.proofs.Common.{◌≡◌, ℕ, suc, zero, ◌+◌, ◌-◌, ◌≤◌, cond, eqb, None, List, length, ap, sym, refl, arith, inl, inr}
+use Rattle.std.proofs.Common.{◌≡◌, ℕ, suc, zero, ◌+◌, ◌-◌, ◌≤◌, cond, eqb, None, List, length, sym, refl, arith, inl, inr}
 use Rattle.std.proofs.lemmas.Bool.{cases_Bool}
 use Rattle.std.proofs.lemmas.List.{length-map}
 use Rattle.std.proofs.lemmas.Bool.Decides.{nat_tests}
@@ -31,7 +31,4 @@ count-from_first zero k h = refl
 count-from_first (suc n) k h = let r = count-from_first n k (omega arith) in grind (arith, nat_tests)
 
 pub from_first-next : (at n m : ℕ) → FIRST ≤ at → n ≡ at - FIRST → m ≡ at + 1 - FIRST → (j : ℕ) → count j (from_first m) ≡ cond (eqb j at) 1 0 + count j (from_first n)
-from_first-next at n m r e f j =
-    let s : m ≡ suc n = omega (arith, r, e, f) in
-    let t : n + FIRST ≡ at = omega (arith, r, e) in
-    rw s (ap (λ x. cond (eqb j x) 1 0 + count j (from_first n)) t)
+from_first-next at n m r e f j = grind (arith, nat_tests)

@@ -1,11 +1,11 @@
 -- What growth leaves.
-use Rattle.std.proofs.Common.{◌≡◌, ℕ, ◌+◌, ◌-◌, ◌*◌, ◌^◌, ◌≤◌, suc, cond, eqb, Result, Ok, Err, List, [], ◌∷◌, ◌++◌, length, ap, ◌∙◌, sym, subst, arith, length-append}
+use Rattle.std.proofs.Common.{◌≡◌, ℕ, ◌+◌, ◌*◌, ◌^◌, ◌≤◌, suc, cond, eqb, Result, Ok, Err, List, [], ◌∷◌, ◌++◌, length, ap, ◌∙◌, sym, subst, arith, length-append}
 use Rattle.std.specs.Result.{OnOk, OnErr}
 use Rattle.std.specs.declared.alloc.AllocError.{AllocError}
 use Rattle.std.proofs.Math.Path.{fun_ext}
 use Rattle.std.proofs.lemmas.Bool.{cases_eq}
 use Rattle.queue_table.specs.Entries.{entry}
-use Rattle.queue_table.specs.Ring.{Slot, entries, olders, newers, tags, FIRST, until, past, IsRing, Order, ring, order_of, more_free, no_slots, lists_of, lists, IsQueued}
+use Rattle.queue_table.specs.Ring.{Slot, entries, olders, newers, tags, FIRST, until, past, IsRing, Order, ring, order_of, more_free, no_slots, lists, IsQueued}
 use Rattle.queue_table.specs.Index.{SlotIndex, capacity}
 use Rattle.queue_table.specs.QueueTable.{IsIndexOf, IsLoaded, IsInSlots, IsSound, IsSame}
 use Rattle.std.proofs.lemmas.Nat.{pow-add}
@@ -39,17 +39,10 @@ grown (Ok u) s0 s3 s4 index s room x it tg e =
       ok = λ t. (let a = ap (λ (p : Order). length (p t)) o in let b = more (length s3) t (order_of s3) in let c = s.same.lengths t in omega (arith, a, b, c));
       err = tt;
     }
-grown (Err f) s0 s3 s4 index s room x it tg e = record {
-  sound = λ _. subst (λ (t : List Slot). IsInSlots t index (order_of t)) (sym e) s.held;
-  lists = ap lists e ∙ s.same.lists;
-  ok = tt;
-  err = λ t. ap (λ (z : List Slot). length (order_of z t)) e ∙ s.same.lengths t;
-}
+grown (Err f) s0 s3 s4 index s room x it tg e = grind (arith, nat_tests)
 
 pub held-first : (slots : List Slot) (index : SlotIndex) → IsQueued slots no_slots → IsIndexOf index (entries slots) [] → length slots ≤ capacity index.bits → IsInSlots slots index (order_of slots)
-held-first slots index q x room =
-    let o : order_of slots ≡ no_slots = queued-order slots no_slots q in
-    subst (IsInSlots slots index) (sym o) record { queued = q; indexed = x; room = room }
+held-first slots index q x room = grind (arith, nat_tests, queued-order slots no_slots q)
 
 -- no slots have no sections
 
@@ -64,13 +57,7 @@ no-order = fun_ext none
 
 -- the first slots hold nothing, as no slots do
 pub same-first : (slots : List Slot) → IsQueued slots no_slots → IsSame [] slots
-same-first slots q =
-    let o : order_of slots ≡ no_slots = queued-order slots no_slots q in
-    let n = no-order in
-    record {
-      lists = ap (λ (p : Order). lists_of p (entries slots)) o ∙ sym (ap (λ (p : Order). lists_of p (entries [])) n);
-      lengths = λ s. ap (λ (p : Order). length (p s)) (o ∙ sym n);
-    }
+same-first slots q = grind (arith, nat_tests, queued-order slots no_slots q, no-order)
 
 pub sixteen : (bits : ℕ) → 4 ≤ bits → 16 ≤ 2 ^ bits
 sixteen bits h = let p : 2 ^ 4 ≤ 2 ^ bits = pow-le-pow_right (omega arith) h in p
@@ -85,6 +72,4 @@ room_for n bits r = omega (arith, r)
 
 -- an index of twice as many buckets has room for as many
 pub wider_room : (n bits more : ℕ) → more ≡ bits + 1 → n ≤ capacity bits → n ≤ capacity more
-wider_room n bits more e h =
-    let p : 2 ^ more ≡ 2 * 2 ^ bits = ap (λ k. 2 ^ k) (e ∙ (let c : bits + 1 ≡ 1 + bits = omega arith in c)) ∙ pow-add 2 1 bits in
-    omega (arith, p, h)
+wider_room n bits more e h = grind (arith, nat_tests, more, pow-add 2 1 bits)

@@ -5,7 +5,6 @@ use Rattle.std.proofs.lemmas.Bool.Decides.{nat_tests}
 use Rattle.queue_table.specs.Entries.{Entry, Item, is_same_item, last_item, before}
 use Rattle.queue_table.specs.Queues.{QUEUES, queue_holding, place_in}
 use Rattle.queue_table.specs.Ring.{Slot, entries, olders, newers, tags, slot_entry, slot_item, count, IsLinked, SECTIONS, FIRST, Order, ring, ring_from, used, used_below, order_of, sent, lists_of, tag_at, item_or, IsQueued}
-use Rattle.step_record.specs.Keys.{keys_without}
 use Rattle.queue_table.proofs.Trees.{some_or_none}
 use Rattle.queue_table.proofs.Splices.{count-append, linked-split, older-end, end_of}
 use Rattle.queue_table.proofs.Turning.{IsSplit, split_at, turned}
@@ -77,16 +76,10 @@ stands_in k o h = stands-below QUEUES k o h
 -- what the fields of a slot in use say of its place
 module _ (slots : List Slot) (o : Order) (h : IsQueued slots o) (k : ℕ) (n : 1 ≤ count k (used o)) where
   pub tag-low : tag_at (tags slots) k < QUEUES
-  tag-low = at_queue (stands_in k o n)
-    where
-      at_queue : StandsIn k QUEUES o → tag_at (tags slots) k < QUEUES
-      at_queue (stands q w m) = let t = h.tagged q k m in omega (arith, t, w)
+  tag-low = grind (arith, nat_tests, stands_in k o n)
 
   pub tag-stands : 1 ≤ count k (o (suc (tag_at (tags slots) k)))
-  tag-stands = at_queue (stands_in k o n)
-    where
-      at_queue : StandsIn k QUEUES o → 1 ≤ count k (o (suc (tag_at (tags slots) k)))
-      at_queue (stands q w m) = subst (λ r. 1 ≤ count k (o (suc r))) (sym (h.tagged q k m)) m
+  tag-stands = grind (arith, nat_tests, stands_in k o n)
 
   pub older-within : get_or (olders slots) k 0 < length (newers slots)
   older-within =
@@ -101,10 +94,4 @@ module _ (slots : List Slot) (o : Order) (h : IsQueued slots o) (k : ℕ) (n : 1
 -- which slots stand in a section once one was sent
 
 pub sent-in : (k b s r j : ℕ) (o : Order) → 1 ≤ count j (sent k s b o r) → ((j ≡ k) × (r ≡ s)) ⊎ ((j ≡ k → ⊥) × (1 ≤ count j (o r)))
-sent-in k b s r j o n =
-    let put = count-put j k b (keys_without k (o s)) in
-    let out = gone k (o r) in
-    let less = count-without k j (o r) in
-    let e = cases_eq j k in
-    let f = cases_eq r s in
-    grind (arith, nat_tests)
+sent-in k b s r j o n = grind (arith, nat_tests, count-put, gone, count-without, cases_eq)

@@ -29,24 +29,14 @@ module _ (links : List ℕ) (bits : ℕ) (item_of : ℕ → Item) (used : ℕ �
 
   -- a slot stands in one tree at most
   placed-apart : (b c k : ℕ) → b < 2 ^ bits → c < 2 ^ bits → (c ≡ b → ⊥) → 1 ≤ tally k (x.trees c) → tally k (x.trees b) ≡ 0
-  placed-apart b c k v u d m =
-      placed-past b k v (λ e. let z = placed-past c k u (λ f. d (sym f ∙ e)) in omega (arith, m, z))
+  placed-apart b c k v u d m = grind (arith, nat_tests, placed-past)
 
   pub root-whole : (b : ℕ) → b < 2 ^ bits → IsWhole links (2 ^ bits) b (x.trees b)
-  root-whole b w = record {
-    tree = x.rooted b w;
-    once = λ k. placed-once b k w;
-    outside = λ k side m e. omega (arith, w, e);
-    within = (let s = x.size in omega (arith, s, w));
-  }
+  root-whole b w = grind (arith, nat_tests, placed-once)
 
   -- a slot that is not in use can be put into the tree of a bucket
   pub free : (at b : ℕ) → used at ≡ 0 → b < 2 ^ bits → IsFree links (2 ^ bits) b at (x.trees b)
-  free at b z v = record {
-    fresh = (let p = placed-used b at v in omega (arith, p, z));
-    bare = x.bare at z;
-    apart = λ side q. omega (arith, v, q);
-  }
+  free at b z v = grind (arith, nat_tests, placed-used b at v)
 
   -- another tree in one bucket
   module _ (links2 : List ℕ) (b : ℕ) (t2 : Tree) (v : b < 2 ^ bits) (p : Replaces (2 ^ bits) links links2 b (x.trees b) t2) where
@@ -61,10 +51,7 @@ module _ (links : List ℕ) (bits : ℕ) (item_of : ℕ → Item) (used : ℕ �
 
     -- a slot that is not in use has no branches still
     bared : (k : ℕ) → used k ≡ 0 → IsBare links2 (2 ^ bits) k
-    bared k z side =
-        p.others (branch (2 ^ bits) k side) (λ q. omega (arith, v, q))
-        (λ j other n q. let s = same-slot (2 ^ bits) k j side other q in let a = ap used s in let m = placed-used b j v in omega (arith, a, z, n, m))
-        ∙ x.bare k z side
+    bared k z side = grind (arith, nat_tests, same-slot, placed-used)
 
     -- the slot k is in this tree as often as it is in use, and in no other, and nothing else has changed
     changed : (item_of2 : ℕ → Item) (used2 : ℕ → ℕ) (k : ℕ) → bucket bits (item_of2 k) ≡ b →
@@ -122,11 +109,7 @@ module _ (links : List ℕ) (bits : ℕ) (item_of : ℕ → Item) (used : ℕ �
     here = ap (bucket bits) j.its ∙ sym bk
 
     pub stands : IsThere item_of at item 0 (x.trees b)
-    stands = record {
-      stands = (let h = placed-here b at v here in let m = j.there in omega (arith, h, m));
-      its = j.its;
-      sorted = x.sorted b v;
-    }
+    stands = grind (arith, nat_tests, placed-here b at v here, here)
 
     pub removed : (links2 : List ℕ) → Replaces (2 ^ bits) links links2 b (x.trees b) (detached 0 item at (x.trees b)) → IsBare links2 (2 ^ bits) at → IsMapped links2 bits item_of used2
     removed links2 p bare =
@@ -143,20 +126,14 @@ module _ (links : List ℕ) (bits : ℕ) (item_of : ℕ → Item) (used : ℕ �
 
   -- what is found in the tree of the item's bucket
   pub found-root : (b : ℕ) (item : Item) (r : ℕ) → b ≡ bucket bits item → (v : b < 2 ^ bits) → IsFound item item_of (λ k. tally k (x.trees b)) r → IsFound item item_of used r
-  found-root b item r bk v f = record {
-    there = λ n. (let t = f.there n in ((let m = t.0 in let p = placed-used b r v in omega (arith, m, p)), t.1));
-    missing = λ z k m e. f.missing z k (let h = placed-here b k v (ap (bucket bits) e ∙ sym bk) in omega (arith, h, m)) e;
-  }
+  found-root b item r bk v f = grind (arith, nat_tests, placed-used b r v, placed-here)
 
   -- the first slot of the item's bucket
   pub first-in-bucket : (b : ℕ) (item : Item) (r : ℕ) → b ≡ bucket bits item → b < 2 ^ bits → r ≡ get_or links b 0 → IsInBucket item bits item_of used r
   first-in-bucket b item r bk v n = record {
     there = λ m.
         let h = (step links (2 ^ bits) b r (branch (2 ^ bits) r true) true (x.trees b) (root-whole b v) n (λ z. omega (arith, m, z)) refl).here in
-        elim (cases_eq (bucket bits (item_of r)) b) [
-          | inl e ↦ ((let p = placed-used b r v in omega (arith, p, h)), e ∙ bk)
-          | inr d ↦ absurd (let z = placed-past b r v d in omega (arith, z, h))
-        ];
+        grind (arith, nat_tests, cases_eq (bucket bits (item_of r)) b, placed-used b r v, placed-past);
     missing = λ z k m e.
         let p = placed-here b k v (e ∙ sym bk) in
         no-slots links (2 ^ bits) b (x.trees b) k (sym n ∙ z) (x.rooted b v) (omega (arith, p, m));
@@ -164,16 +141,7 @@ module _ (links : List ℕ) (bits : ℕ) (item_of : ℕ → Item) (used : ℕ �
 
 -- the same map in other words
 pub same-map : (links : List ℕ) (bits : ℕ) (item_of item_of2 : ℕ → Item) (used used2 : ℕ → ℕ) → ((k : ℕ) → item_of2 k ≡ item_of k) → ((k : ℕ) → used2 k ≡ used k) → IsMapped links bits item_of used → IsMapped links bits item_of2 used2
-same-map links bits item_of item_of2 used used2 f g x = record {
-  size = x.size;
-  some = x.some;
-  trees = x.trees;
-  rooted = x.rooted;
-  placed = λ b k w. x.placed b k w ∙ (ap (λ i. cond (eqb (bucket bits i) b) (used k) 0) (sym (f k)) ∙ ap (λ n. cond (eqb (bucket bits (item_of2 k)) b) n 0) (sym (g k)));
-  sorted = λ b w. sorted-same item_of item_of2 0 (x.trees b) (λ k m. f k) (x.sorted b w);
-  once = λ k. (let o = x.once k in let e = g k in omega (arith, o, e));
-  bare = λ k z. x.bare k (sym (g k) ∙ z);
-}
+same-map links bits item_of item_of2 used used2 f g x = grind (arith, nat_tests, sorted-same)
 
 -- what the walks begin with
 abbrev pub root-has : (index : SlotIndex) (item_of : ℕ → Item) (used : ℕ → ℕ) (x : IsIndexed index item_of used) (b : ℕ) → b < 2 ^ index.bits → HasTree index b 0

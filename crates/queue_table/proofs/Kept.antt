@@ -1,4 +1,6 @@
 -- What holds of a table while one of its calls works on the slots.
+use Rattle.std.proofs.lemmas.Bool.Decides.{nat_tests}
+use Rattle.std.proofs.lemmas.Grind.{common_steps}
 use Rattle.std.proofs.Common.{◌≡◌, ℕ, suc, ◌<◌, ◌≤◌, ◌+◌, ◌^◌, List, [], ◌∷◌, ◌++◌, get_or, take, length, length-append, map, ap, ◌∙◌, sym, subst, arith, refl}
 use Rattle.std.proofs.lemmas.List.{length-map, take_at}
 use Rattle.std.proofs.lemmas.Simd.{map-map}
@@ -6,7 +8,7 @@ use Rattle.queue_table.specs.Entries.{Entry, Item, items_of}
 use Rattle.queue_table.specs.Queues.{QUEUES, items_below, IsDistinct}
 use Rattle.queue_table.specs.Ring.{Slot, entries, newers, olders, slot_entry, slot_item, count, walk, used, SECTIONS, FIRST, Order, ring, order_of, lists_of, lists, IsQueued, HasItems}
 use Rattle.queue_table.specs.Index.{SlotIndex, HasSlot}
-use Rattle.queue_table.specs.QueueTable.{Lengths, IsLoaded, IsCounted, IsIndexOf, IsInSlots, IsKept}
+use Rattle.queue_table.specs.QueueTable.{Lengths, IsCounted, IsIndexOf, IsInSlots, IsKept}
 use Rattle.queue_table.proofs.Splices.{walked}
 use Rattle.queue_table.proofs.Orders.{used-real, ring-at, cut_at_section}
 use Rattle.queue_table.proofs.Growing.{no-order}
@@ -27,22 +29,11 @@ some-used (x ∷ slots) k n = omega arith
 pub kept-on : (slots slots2 : List Slot) (index index2 : SlotIndex) (n n2 : Lengths) → IsKept slots index n → IsInSlots slots index (order_of slots) → IsQueued slots2 (order_of slots2) → IsIndexOf index2 (entries slots2) (used (order_of slots2)) → IsCounted n2 (order_of slots2) →
     length (entries slots2) ≡ length (entries slots) → index2.bits ≡ index.bits → IsKept slots2 index2 n2
 kept-on slots slots2 index index2 n n2 k h q x c e b =
-    let s = entries-length slots in
-    let t = entries-length slots2 in
-    let l : length slots2 ≡ length slots = omega (arith, e, s, t) in
-    record {
-      held = λ _. record { queued = q; indexed = x; room = (let r = h.room in rw b (omega (arith, r, l))) };
-      counted = c;
-      few = (let f = k.few in omega (arith, f, l));
-      load = subst (IsLoaded (length slots2)) (sym b) (subst (λ m. IsLoaded m index.bits) (sym l) k.load);
-    }
+    grind (arith, nat_tests, entries-length slots, entries-length slots2)
 
 -- a queue that is not of length 0
 pub has-items : (slots : List Slot) (index : SlotIndex) (n : Lengths) → IsKept slots index n → (q m : ℕ) → q < QUEUES → m ≡ get_or n.at (suc q) 0 → (m ≡ 0 → ⊥) → HasItems q slots
-has-items slots index n k q m low e z =
-    let c = k.counted (suc q) (omega (arith, low)) in
-    let some : 1 ≤ length (order_of slots (suc q)) = omega (arith, c, e, z) in
-    record { low = low; queued = (k.held (some-slots slots (suc q) some)).queued; some = some }
+has-items slots index n k q m low e z = grind (arith, nat_tests, some-slots)
 
 pub none-distinct : IsDistinct (lists [])
 none-distinct = subst (λ (o : Order). IsDistinct (lists_of o [])) (sym no-order) (λ (i : Item). omega arith)
@@ -64,20 +55,11 @@ ring-few [] index n k = let none = ap (λ (o : Order). length (ring o)) no-order
 ring-few (x ∷ slots) index n k = omega (arith, (k.held (omega arith)).queued.linked.long, slots-length (x ∷ slots), k.few)
 
 pub items-few : (slots : List Slot) (index : SlotIndex) (n : Lengths) → IsKept slots index n → get_or n.at 1 0 + get_or n.at 2 0 + get_or n.at 3 0 + get_or n.at 4 0 < 2 ^ 64
-items-few slots index n k =
-    let f = ring-few slots index n k in
-    let parts = ring-length (order_of slots) in
-    let a = k.counted 1 (omega arith) in
-    let b = k.counted 2 (omega arith) in
-    let c = k.counted 3 (omega arith) in
-    let d = k.counted 4 (omega arith) in
-    omega (arith, f, parts, a, b, c, d)
+items-few slots index n k = grind (arith, nat_tests, ring-few slots index n k, ring-length (order_of slots))
 
 pub section-few : (slots : List Slot) (index : SlotIndex) (n : Lengths) → IsKept slots index n → (s : ℕ) → s < SECTIONS → get_or n.at s 0 + 1 < 2 ^ 64
 section-few slots index n k s w =
-    let o : Order = order_of slots in
-    let parts = ap length (ring-at s o (cut_at_section s o w)) in
-    omega (arith, k.counted s w, ring-few slots index n k, parts, length-append {A = ℕ})
+    grind (arith, nat_tests, ring-at, cut_at_section, ring-few slots index n k, length-append {A = ℕ})
 
 length-lists : (o : Order) (es : List Entry) (q : ℕ) → length (lists_of o es q) ≡ length (o (suc q))
 length-lists o es q = length-map (o (suc q)) (λ j. slot_entry es j)
@@ -86,12 +68,7 @@ pub length-queue : (slots : List Slot) (index : SlotIndex) (n : Lengths) (q : �
 length-queue slots index n q k w = k.counted (suc q) (omega (arith, w)) ∙ sym (length-lists (order_of slots) (entries slots) q)
 
 pub all-items : (slots : List Slot) (index : SlotIndex) (n : Lengths) → IsKept slots index n → get_or n.at 1 0 + get_or n.at 2 0 + get_or n.at 3 0 + get_or n.at 4 0 ≡ items_below QUEUES (lists slots)
-all-items slots index n k =
-    let a = length-queue slots index n 0 k (omega arith) in
-    let b = length-queue slots index n 1 k (omega arith) in
-    let c = length-queue slots index n 2 k (omega arith) in
-    let d = length-queue slots index n 3 k (omega arith) in
-    omega (arith, a, b, c, d)
+all-items slots index n k = grind (arith, common_steps, length-queue)
 
 -- a slot in use is behind those between the sections, and within the slots
 pub used-slot : (slots : List Slot) (k : ℕ) → IsQueued slots (order_of slots) → 1 ≤ count k (used (order_of slots)) → (FIRST ≤ k) × (k < length slots)
@@ -99,13 +76,7 @@ used-slot slots k h u = (used-real (order_of slots) k h.linked.once u, slot-with
 
 -- and the index knows it, with its item
 pub known : (slots : List Slot) (index : SlotIndex) (k : ℕ) → IsInSlots slots index (order_of slots) → 1 ≤ count k (used (order_of slots)) → HasSlot k (get_or slots k no_slot).item index
-known slots index k h u = record {
-  item_of = slot_item (entries slots);
-  used = λ j. count j (used (order_of slots));
-  indexed = h.indexed;
-  there = u;
-  its = item_at slots k;
-}
+known slots index k h u = grind (arith, nat_tests, item_at slots k)
 
 -- the items of a queue, slot by slot
 

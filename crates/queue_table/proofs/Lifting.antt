@@ -9,9 +9,7 @@ use Rattle.queue_table.proofs.Sorting.{plucked-tally, lifted-tally}
 -- the lowest slot has branches
 pub lowest-real : (links : List ℕ) (roots place at last : ℕ) (t : Tree) → IsWhole links roots place t → get_or links place 0 ≡ at → 1 ≤ at → last ≡ lowest 0 t → (1 ≤ last) × (branch roots last true < length links)
 lowest-real links roots place at last leaf w e s z = absurd (let x = w.tree in omega (arith, x, e, s))
-lowest-real links roots place at last (fork i l r) w e s z =
-    let there : 1 ≤ tally last (fork i l r) = (let p = plucked-tally last i l r in grind (arith, nat_tests)) in
-    members links roots place (fork i l r) last w.tree there
+lowest-real links roots place at last (fork i l r) w e s z = grind (arith, nat_tests, plucked-tally last i l r, members)
 
 -- the slot above branches is not the lowest one
 above : (i k : ℕ) (l r l2 r2 : Tree) → k ≡ i → tally i (fork i l r) ≡ cond (eqb i k) 1 0 + tally i (fork i l2 r2) → tally i (fork i l r) ≤ 1 → ⊥
@@ -22,10 +20,8 @@ pub lift-one : (roots : ℕ) (links links2 : List ℕ) (place at last : ℕ) (t 
     Replaces roots links links2 place t (plucked t) → Replaces roots links links2 place t (lifted t)
 lift-one roots links links2 place at last leaf w e s n z p = p
 lift-one roots links links2 place at last (fork i leaf leaf) w e s n z p = p
-lift-one roots links links2 place at last (fork i (fork j a b) r) w e s n z p =
-    absurd (above i _ (fork j a b) r (plucked (fork j a b)) r (sym z ∙ (n ∙ (sym e ∙ w.tree.0))) (plucked-tally i i (fork j a b) r) (w.once i))
-lift-one roots links links2 place at last (fork i leaf (fork j a b)) w e s n z p =
-    absurd (above i _ leaf (fork j a b) leaf (plucked (fork j a b)) (sym z ∙ (n ∙ (sym e ∙ w.tree.0))) (plucked-tally i i leaf (fork j a b)) (w.once i))
+lift-one roots links links2 place at last (fork i (fork j a b) r) w e s n z p = search (arith, above, plucked-tally)
+lift-one roots links links2 place at last (fork i leaf (fork j a b)) w e s n z p = search (arith, above, plucked-tally)
 
 -- the links after the slot `last` took the place of another one
 abbrev pub links_moved : ℕ → List ℕ → ℕ → ℕ → ℕ → List ℕ
@@ -70,9 +66,7 @@ module _ (roots : ℕ) (links links1 : List ℕ) (place i last : ℕ) (l r a b :
   long3 = length-set second place last ∙ long2
 
   left : get_or links2 (branch roots last false) 0 ≡ get_or links1 (branch roots i false) 0
-  left = get_or-set_other second place (branch roots last false) last 0 (apart false)
-      ∙ (get_or-set_other first (branch roots last false + 1) (branch roots last false) _ 0 (λ e. omega (arith, e))
-      ∙ get_or-set_same links1 (branch roots last false) _ 0 (let m = room in omega (arith, m)))
+  left = grind (arith, nat_tests, get_or-set_other, apart, get_or-set_same, room)
 
   right : get_or links2 (branch roots last true) 0 ≡ get_or links1 (branch roots i true) 0
   right =
@@ -91,8 +85,7 @@ module _ (roots : ℕ) (links links1 : List ℕ) (place i last : ℕ) (l r a b :
 
   below : (k : ℕ) (side : Bool) → 1 ≤ tally k a + tally k b → get_or links2 (branch roots k side) 0 ≡ get_or links1 (branch roots k side) 0
   below k side m =
-      let c = counted k in
-      stays (branch roots k side) (λ e. w.outside k side (omega (arith, c, m)) (sym e))
+            stays (branch roots k side) (λ e. w.outside k side (omega (arith, m)) (sym e))
       (λ side2 e. let s = same-slot roots k last side side2 e in let q = ap (λ j. tally j (fork i a b)) s in let z = gone in omega (arith, q, z, m))
 
   pub lift-put : Replaces roots links links2 place (fork i l r) (fork last a b)
@@ -117,11 +110,8 @@ module _ (roots : ℕ) (links links1 : List ℕ) (place i last : ℕ) (l r a b :
 -- a first slot without branches is the whole tree
 pub lift-bare : (roots : ℕ) (links : List ℕ) (place at : ℕ) (t : Tree) → IsWhole links roots place t → get_or links place 0 ≡ at → 1 ≤ at → IsBare links roots at → Replaces roots links (set links place 0) place t (lifted t)
 lift-bare roots links place at leaf w e s bare = absurd (let x = w.tree in omega (arith, x, e, s))
-lift-bare roots links place at (fork i leaf leaf) w e s bare = record {
-  tree = get_or-set_same links place 0 0 w.within;
-  others = λ q d o. get_or-set_other links place q 0 0 d;
-  size = length-set links place 0;
-}
+lift-bare roots links place at (fork i leaf leaf) w e s bare =
+    grind (arith, nat_tests, get_or-set_same links place 0 0 w.within, get_or-set_other, length-set links place 0)
 lift-bare roots links place at (fork i (fork j a b) r) w e s bare = absurd (
     let z = subst (λ k. get_or links (branch roots k false) 0 ≡ 0) (sym e ∙ w.tree.0) (bare false) in let c = w.tree.3.0 in let d = w.tree.3.1 in omega (arith, z, c, d))
 lift-bare roots links place at (fork i leaf (fork j a b)) w e s bare = absurd (
@@ -163,8 +153,4 @@ module _ (roots : ℕ) (links : List ℕ) (at left : ℕ) (e : left ≡ branch r
 -- the first slot of a tree stands in it, and not in what is left without it
 pub first-gone : (links : List ℕ) (roots place at : ℕ) (t : Tree) → IsWhole links roots place t → get_or links place 0 ≡ at → 1 ≤ at → (1 ≤ tally at t) × (tally at (lifted t) ≡ 0)
 first-gone links roots place at leaf w e s = absurd (let x = w.tree in omega (arith, x, e, s))
-first-gone links roots place at (fork i l r) w e s =
-    let is : at ≡ i = sym e ∙ w.tree.0 in
-    let less = lifted-tally i i l r in
-    let o = w.once i in
-    subst (λ k. (1 ≤ tally k (fork i l r)) × (tally k (lifted (fork i l r)) ≡ 0)) (sym is) (grind (arith, nat_tests), grind (arith, nat_tests))
+first-gone links roots place at (fork i l r) w e s = grind (arith, nat_tests, lifted-tally i i l r)

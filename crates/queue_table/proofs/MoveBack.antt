@@ -1,11 +1,10 @@
 -- The way back of one entry, from where it stood: whatever queue and count it was sent with, or out.
-use Rattle.std.proofs.Common.{◌≡◌, ℕ, suc, ◌+◌, ◌<◌, ◌≤◌, true, Option, None, List, [], ◌∷◌, ◌++◌, map, ap, ◌∙◌, sym, refl, arith, inl, inr, append-nil}
+use Rattle.std.proofs.Common.{◌≡◌, ℕ, suc, ◌+◌, ◌<◌, ◌≤◌, Option, None, List, [], ◌∷◌, ◌++◌, map, ap, ◌∙◌, refl, arith, append-nil}
 use Rattle.std.proofs.lemmas.Bool.{cases_eq, cases_lt}
-use Rattle.std.proofs.Math.Path.{fun_ext}
 use Rattle.std.proofs.lemmas.Bool.Decides.{nat_tests}
 use Rattle.step_record.specs.declared.item.Item.{Item}
 use Rattle.queue_table.specs.declared.records.Entry.{Entry}
-use Rattle.queue_table.specs.Entries.{is_same_item, entry, occurrences, entries_without, last_item, put_behind, IsGap}
+use Rattle.queue_table.specs.Entries.{entry, occurrences, entries_without, last_item, put_behind, IsGap}
 use Rattle.queue_table.specs.Queues.{QUEUES, Queues, queue_holding, IsDistinct, after_push, after_removal, after_send, after_return}
 use Rattle.queue_table.specs.Ring.{Slot, newers, ring_of, entries, slot_entry, lists}
 use Rattle.queue_table.proofs.Orders.{order-short}
@@ -32,9 +31,7 @@ pub record StandsIn (p : ℕ) (e : Entry) (s : Queues) : Type 0 where
 
 module _ (p : ℕ) (e : Entry) (s : Queues) (d : IsDistinct s) (at : StandsIn p e s) where
   sum : occurrences e.item (s p) ≡ occurrences e.item at.front + (1 + occurrences e.item at.back)
-  sum =
-      let own : is_same_item e.item e.item ≡ true = same-refl e.item in
-      ap (occurrences e.item) at.whole ∙ times-append e.item at.front (e ∷ at.back) ∙ rw own refl
+  sum = grind (arith, nat_tests, same-refl e.item, times-append e.item at.front (e ∷ at.back))
 
   pub front-none : occurrences e.item at.front ≡ 0
   front-none = let a = queue-few p s at.low d e.item in let b = sum in omega (arith, a, b)
@@ -43,43 +40,29 @@ module _ (p : ℕ) (e : Entry) (s : Queues) (d : IsDistinct s) (at : StandsIn p 
   back-none = let a = queue-few p s at.low d e.item in let b = sum in omega (arith, a, b)
 
   pub rest : entries_without e.item (s p) ≡ at.front ++ at.back
-  rest =
-      ap (entries_without e.item) at.whole
-      ∙ without-append e.item at.front (e ∷ at.back)
-      ∙ ap (λ l. entries_without e.item at.front ++ l) (without-own e at.back)
-      ∙ rw (without-none e.item at.front front-none, without-none e.item at.back back-none) refl
+  rest = grind (arith, nat_tests, without-append, without-own, without-none, front-none, back-none)
 
   front-few : (j : Item) → occurrences j at.front ≤ 1
-  front-few j =
-      omega (arith, queue-few p s at.low d j, ap (occurrences j) at.whole ∙ times-append j at.front (e ∷ at.back))
+  front-few j = grind (arith, nat_tests, queue-few p s at.low d j, times-append j at.front (e ∷ at.back))
 
   -- the gap that it leaves
   pub gap : IsGap (last_item at.front) (after_removal e.item s p)
   gap = record { before = at.front; behind = at.back; whole = rest; older_last = refl }
 
   back-here : put_behind (last_item at.front) e (after_removal e.item s p) ≡ s p
-  back-here =
-      ap (put_behind (last_item at.front) e) rest ∙ put_behind-at (last_item at.front) e at.front at.back front-few refl ∙ sym at.whole
+  back-here = grind (arith, nat_tests, rest, put_behind-at, front-few)
 
 -- what is out of a queue that gets it back
 pub restored : (p : ℕ) (e : Entry) (s : Queues) (d : IsDistinct s) (at : StandsIn p e s) (none : (j : ℕ) → (j ≡ p → ⊥) → occurrences e.item (s j) ≡ 0)
     → (j : ℕ) → after_return p (last_item at.front) e (after_removal e.item s) j ≡ s j
-restored p e s d at none j =
-    grind (arith, nat_tests, back-here p e s d at, none j, without-none e.item (s j), cases_eq j p)
+restored p e s d at none j = grind (arith, nat_tests, back-here p e s d at, without-none e.item (s j), cases_eq j p)
 
 pub twice : (i : Item) (l : List Entry) → entries_without i (entries_without i l) ≡ entries_without i l
 twice i l = without-none i (entries_without i l) (times-gone i l)
 
 -- a move with another count is taken out as the entry itself is
 pub taken-sent : (e : Entry) (n q : ℕ) (s : Queues) (j : ℕ) → after_removal e.item (after_send (entry e.item n) q s) j ≡ after_removal e.item s j
-taken-sent e n q s j =
-    let own = same-refl e.item in
-    let a = without-append e.item (entries_without e.item (s q)) (entry e.item n ∷ []) in
-    let z = append-nil (entries_without e.item (s q)) in
-    let t = twice e.item (s q) in
-    let u = twice e.item (s j) in
-    let c = cases_eq j q in
-    grind (arith, nat_tests)
+taken-sent e n q s j = grind (arith, nat_tests, same-refl, without-append, append-nil, twice, cases_eq)
 
 -- queues that are the same one by one
 abbrev pub AreSame : Queues → Queues → Type 0
@@ -91,24 +74,15 @@ return-same p older e s t h j = let a = h p in let b = h j in grind (arith, nat_
 -- whatever queue and count the entry was sent with, its queue and its older neighbour lead back
 pub move-back : (p q n : ℕ) (e : Entry) (s : Queues) (d : IsDistinct s) (at : StandsIn p e s) (none : (j : ℕ) → (j ≡ p → ⊥) → occurrences e.item (s j) ≡ 0)
     → AreSame (after_return p (last_item at.front) e (after_removal e.item (after_send (entry e.item n) q s))) s
-move-back p q n e s d at none j =
-    return-same p (last_item at.front) e _ _ (taken-sent e n q s) j ∙ restored p e s d at none j
+move-back p q n e s d at none j = grind (arith, nat_tests, return-same, taken-sent e n q s, restored p e s d at none j)
 
 -- what joined is out again
 pub pushed-back : (q : ℕ) (e : Entry) (s : Queues) → ((j : ℕ) → occurrences e.item (s j) ≡ 0) → AreSame (after_removal e.item (after_push q e s)) s
-pushed-back q e s h j =
-    let own = same-refl e.item in
-    let a = without-append e.item (s q) (e ∷ []) in
-    let z = append-nil (s q) in
-    let t = without-none e.item (s q) (h q) in
-    let u = without-none e.item (s j) (h j) in
-    let c = cases_eq j q in
-    grind (arith, nat_tests)
+pushed-back q e s h j = grind (arith, nat_tests, same-refl, without-append, append-nil, without-none, cases_eq)
 
 pub out-back : (p : ℕ) (e : Entry) (s : Queues) (d : IsDistinct s) (at : StandsIn p e s) (h : (j : ℕ) → (j ≡ p → ⊥) → occurrences e.item (s j) ≡ 0)
     → AreSame (after_return p (last_item at.front) e (after_removal e.item (after_removal e.item s))) s
-out-back p e s d at h j =
-    return-same p (last_item at.front) e _ _ (λ x. twice e.item (s x)) j ∙ restored p e s d at h j
+out-back p e s d at h j = return-same p (last_item at.front) e _ _ (λ x. twice e.item (s x)) j ∙ restored p e s d at h j
 
 -- a table has no queue from QUEUES on
 pub high-empty : (slots : List Slot) (j : ℕ) → QUEUES ≤ j → lists slots j ≡ []
@@ -116,8 +90,4 @@ high-empty slots j w = ap (map (λ k. slot_entry (entries slots) k)) (order-shor
 
 -- what stands nowhere is not taken out
 pub out-none : (i : Item) (slots : List Slot) → queue_holding i (lists slots) ≡ None → after_removal i (lists slots) ≡ lists slots
-out-none i slots h =
-    fun_ext (λ j. elim (cases_lt j QUEUES) [
-      | inl w ↦ without-none i (lists slots j) (absent i (lists slots) h j w)
-      | inr w ↦ let e = high-empty slots j (omega (arith, w)) in ap (entries_without i) e ∙ sym e
-    ])
+out-none i slots h = grind (arith, nat_tests, cases_lt, without-none, absent, high-empty)

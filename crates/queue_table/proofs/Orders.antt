@@ -24,8 +24,7 @@ ring-same : (n k : ℕ) (o p : Order) → ((j : ℕ) → k ≤ j → o j ≡ p j
 ring-same zero k o p h = refl
 ring-same (suc n) k o p h =
     let a : o k ≡ p k = h k (omega arith) in
-    let r = ring-same n (suc k) o p (λ j m. h j (omega (arith, m))) in
-    rw (a, r) refl
+    rw (a, ring-same n (suc k) o p (λ j m. h j (omega (arith, m)))) refl
 
 pub with-same : (s : ℕ) (l : List ℕ) (o : Order) → with_section s l o s ≡ l
 with-same s l o = grind (arith, nat_tests)
@@ -130,8 +129,7 @@ in_sections j (suc n) k o = count j (o k) + in_sections j n (suc k) o
 
 count-from : (j n k : ℕ) (o : Order) → count j (ring_from n k o) ≡ in_sections j n k o + marks n k j
 count-from j zero k o = refl
-count-from j (suc n) k o =
-    omega (arith, count-append j (o k) (suc k ∷ ring_from n (suc k) o), count-from j n (suc k) o)
+count-from j (suc n) k o = omega (arith, count-append j (o k) (suc k ∷ ring_from n (suc k) o), count-from j n (suc k) o)
 
 marks-some : (n k j : ℕ) → k < j → j ≤ k + n → 1 ≤ marks n k j
 marks-some zero k j a b = absurd (omega (arith, a, b))
@@ -142,8 +140,7 @@ marks-none zero k j a = refl
 marks-none (suc n) k j a = let r = marks-none n (suc k) j (omega arith) in grind (arith, nat_tests)
 
 in-used : (j : ℕ) (o : Order) → in_sections j SECTIONS 0 o ≡ count j (o 0) + count j (used o)
-in-used j o =
-    omega (arith, count-append)
+in-used j o = omega (arith, count-append)
 
 -- the sections that the ring shows
 
@@ -151,10 +148,7 @@ section-at : (n k s : ℕ) (o : Order) → k ≤ s → s < k + n → ((j : ℕ) 
 section-at zero k s o a b u = absurd (omega (arith, a, b))
 section-at (suc n) k s o a b u =
     elim (cases_eq s k) as (λ _. until (suc s) (cond (eqb s k) (o k ++ suc k ∷ ring_from n (suc k) o) (past s (o k ++ suc k ∷ ring_from n (suc k) o))) ≡ o s) [
-      | inl e ↦
-          let f : eqb s k ≡ true = eq-eqb s k e in
-          let w = u (suc k) in
-          rw (f, e) (until-at (suc k) (o k) (ring_from n (suc k) o) (omega (arith, w, count-append (suc k) (o k) (suc k ∷ ring_from n (suc k) o), count-here (suc k) (ring_from n (suc k) o))))
+      | inl e ↦ grind (arith, nat_tests, eq-eqb s k e, until-at, count-append (suc k) (o k) (suc k ∷ ring_from n (suc k) o), count-here (suc k) (ring_from n (suc k) o))
       | inr d ↦
           let f : eqb s k ≡ false = ne_eqb s k d in
           let none : count s (o k) ≡ 0 = omega (arith, u s, count-from s (suc n) k o, marks-some (suc n) k s (omega arith) (omega arith)) in
@@ -174,16 +168,14 @@ order-is ns os o h r = ap order_in (ring-is ns os (ring o) r) ∙ order-ring o h
 -- how often a slot stands in it
 
 pub count-ring : (j : ℕ) (o : Order) → FIRST ≤ j → count j (ring o) ≡ count j (o 0) + count j (used o)
-count-ring j o h =
-    omega (arith, count-from j SECTIONS 0 o, in-used j o, marks-none SECTIONS 0 j (omega (arith, h)))
+count-ring j o h = omega (arith, count-from j SECTIONS 0 o, in-used j o, marks-none SECTIONS 0 j (omega (arith, h)))
 
 pub count-parts-ring : (j : ℕ) (o : Order) → count j (o 0) + count j (used o) ≤ count j (ring o)
 count-parts-ring j o = omega (arith, count-from j SECTIONS 0 o, in-used j o)
 
 -- the slots in use and the free ones are none of those between the sections
 pub real : (k : ℕ) (o : Order) → IsOnce o → 1 ≤ count k (used o) + count k (o 0) → FIRST ≤ k
-real k o u h =
-    grind (arith, nat_tests, count-from k SECTIONS 0 o, in-used k o, u k, marks-some SECTIONS 0 k, cases_eq k 0)
+real k o u h = grind (arith, nat_tests, count-from k SECTIONS 0 o, in-used k o, marks-some SECTIONS 0 k, cases_eq k 0)
 
 pub used-few : (o : Order) (k : ℕ) → IsOnce o → count k (used o) ≤ 1
 used-few o k u = let c = count-parts-ring k o in let n = u k in omega (arith, c, n)
@@ -193,8 +185,7 @@ used-real o k u h = real k o u (omega (arith, h))
 
 section-below : (n q k : ℕ) (o : Order) → q < n → count k (o (suc q)) ≤ count k (used_below n o)
 section-below zero q k o h = absurd (omega (arith, h))
-section-below (suc n) q k o h =
-    grind (arith, nat_tests, count-append k (o (suc n)) (used_below n o), section-below n q k o, cases_eq q n)
+section-below (suc n) q k o h = grind (arith, nat_tests, count-append, section-below n q k o, cases_eq)
 
 pub section-in : (q k : ℕ) (o : Order) → q < QUEUES → count k (o (suc q)) ≤ count k (used o)
 section-in q k o h = section-below QUEUES q k o h
@@ -222,16 +213,10 @@ closing-none s t o h g u =
 pub ring-without : (x n k : ℕ) (o : Order) → k + n < x → keys_without x (ring_from n k o) ≡ ring_from n k (order_without x o)
 ring-without x zero k o h = refl
 ring-without x (suc n) k o h =
-    let a = without-append x (o k) (suc k ∷ ring_from n (suc k) o) in
-    let r = ring-without x n (suc k) o (omega arith) in
-    grind (arith, nat_tests)
+    search (arith, without-append x (o k) (suc k ∷ ring_from n (suc k) o), ring-without x n (suc k) o (omega arith))
 
 pub once-without : (k : ℕ) (o : Order) → IsOnce o → IsOnce (order_without k o)
-once-without k o u j = let a = less SECTIONS 0 in let n = u j in omega (arith, a, n)
-  where
-    less : (n m : ℕ) → count j (ring_from n m (order_without k o)) ≤ count j (ring_from n m o)
-    less zero m = omega arith
-    less (suc n) m = omega (arith, count-append, count-without, less n (suc m))
+once-without k o u j = grind (arith, nat_tests, count-append, count-without)
 
 -- put in place
 
@@ -241,20 +226,11 @@ put-end k b (x ∷ l) h = let r = put-end k b l in grind (arith, nat_tests)
 
 put-in : (k b e : ℕ) (l m : List ℕ) → (1 ≤ count b l) ⊎ ((b ≡ e) × (count b l ≡ 0)) → put_before k b (l ++ e ∷ m) ≡ put_before k b l ++ e ∷ m
 put-in k b e l m (inl h) = put-there k b l (e ∷ m) h
-put-in k b e l m (inr h) =
-    let s : put_before k b (l ++ b ∷ m) ≡ (l ++ k ∷ []) ++ b ∷ m = put-sentinel k b l m h.1 in
-    let t : put_before k b l ≡ l ++ k ∷ [] = put-end k b l h.1 in
-    rw (t, ← h.0) s
+put-in k b e l m (inr h) = grind (arith, nat_tests, put-sentinel k b l m h.1, put-end k b l h.1)
 
 place-parts : (b s : ℕ) (o : Order) (c : IsCut SECTIONS 0 s o) → IsOnce o → IsPlace b s o → (count b c.pre ≡ 0) × ((1 ≤ count b (o s)) ⊎ ((b ≡ suc s) × (count b (o s) ≡ 0)))
-place-parts b s o c u (inl h) =
-    let a = count-cut b s o c in
-    let n = u b in
-    (omega (arith, a, n, h), inl h)
-place-parts b s o c u (inr h) =
-    let a = count-cut b s o c in
-    let n = u b in
-    (grind (arith, nat_tests), inr (h, grind (arith, nat_tests)))
+place-parts b s o c u (inl h) = grind (arith, nat_tests, count-cut b s o c)
+place-parts b s o c u (inr h) = grind (arith, nat_tests, count-cut b s o c)
 
 put-ring : (k b s : ℕ) (o : Order) → s < SECTIONS → IsOnce o → IsPlace b s o → put_before k b (ring o) ≡ ring (with_section s (put_before k b (o s)) o)
 put-ring k b s o w u h =
@@ -278,32 +254,16 @@ pub used-same : (n : ℕ) (o p : Order) → ((q : ℕ) → q < n → o (suc q) �
 used-same zero o p h = refl
 used-same (suc n) o p h =
     let a = h n (omega arith) in
-    let r = used-same n o p (λ q w. h q (omega (arith, w))) in
-    rw (a, r) refl
+    rw (a, used-same n o p (λ q w. h q (omega (arith, w)))) refl
 
 count-with : (n j q : ℕ) (l : List ℕ) (o : Order) → q < n → count j (used_below n (with_section (suc q) l o)) + count j (o (suc q)) ≡ count j (used_below n o) + count j l
 count-with zero j q l o h = absurd (omega (arith, h))
 count-with (suc n) j q l o h =
-    let p : Order = with_section (suc q) l o in
-    let a = count-append j (o (suc n)) (used_below n o) in
-    let b = count-append j (p (suc n)) (used_below n p) in
-    let past : n ≤ q → count j (used_below n p) ≡ count j (used_below n o) = λ m. ap (count j) (used-same n p o (λ r w. with-other (suc q) (suc r) l o (λ z. omega arith))) in
-    grind (arith, nat_tests, count-with n j q l o, cases_eq q n)
+    grind (arith, nat_tests, count-append, used-same, with-other, count-with n j q l o, cases_eq)
 
 -- without a slot the others are in use that were
 pub used-without : (j k : ℕ) (o : Order) → count j (used (order_without k o)) ≡ cond (eqb j k) 0 (count j (used o))
-used-without j k o = below QUEUES
-  where
-    below : (n : ℕ) → count j (used_below n (order_without k o)) ≡ cond (eqb j k) 0 (count j (used_below n o))
-    below zero = grind (arith, nat_tests)
-    below (suc n) =
-        let a = count-append j (o (suc n)) (used_below n o) in
-        let b = count-append j (keys_without k (o (suc n))) (used_below n (order_without k o)) in
-        let c = gone k (o (suc n)) in
-        let d = count-left k j (o (suc n)) in
-        let r = below n in
-        let e = cases_eq j k in
-        grind (arith, nat_tests)
+used-without j k o = grind (arith, nat_tests, count-append, gone, count-left, cases_eq)
 
 pub used-gone : (k : ℕ) (o : Order) → count k (used (order_without k o)) ≡ 0
 used-gone k o = let a = used-without k k o in grind (arith, nat_tests)
@@ -312,10 +272,7 @@ pub used-other : (j k : ℕ) (o : Order) → (j ≡ k → ⊥) → count j (used
 used-other j k o d = let a = used-without j k o in grind (arith, nat_tests)
 
 pub used-sent : (j k b q : ℕ) (o : Order) → q < QUEUES → count j (used (sent k (suc q) b o)) ≡ cond (eqb j k) 1 0 + count j (used (order_without k o))
-used-sent j k b q o w =
-    let a = count-with QUEUES j q (put_before k b (keys_without k (o (suc q)))) (order_without k o) w in
-    let c = count-put j k b (keys_without k (o (suc q))) in
-    omega (arith, a, c)
+used-sent j k b q o w = search (arith, count-with, count-put)
 
 pub used-freed : (k b : ℕ) (o : Order) → used (sent k 0 b o) ≡ used (order_without k o)
 used-freed k b o = used-same QUEUES (sent k 0 b o) (order_without k o) (λ q w. with-other 0 (suc q) (put_before k b (keys_without k (o 0))) (order_without k o) (λ z. omega (arith, z)))

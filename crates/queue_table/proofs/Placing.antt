@@ -17,12 +17,7 @@ module _ (roots : ℕ) (links : List ℕ) (place i : ℕ) (l r : Tree) (w : IsWh
   not-here k m e = let a = ap (λ j. tally j l + tally j r) e in let z = lone in omega (arith, a, z, m)
 
   pub branch-whole : (right : Bool) → IsWhole links roots (branch roots i right) (on_side right l r)
-  branch-whole right = record {
-    tree = cond_both right r l (IsTree links roots (branch roots i right)) (λ e. rw e w.tree.4) (λ e. rw e w.tree.3);
-    once = λ k. (let o = w.once k in let m = side-tally right k l r in omega (arith, o, m));
-    outside = λ k side m e. not-here k (let n = side-tally right k l r in omega (arith, m, n)) (same-slot roots i k right side e);
-    within = (let p = w.tree.2 in grind (arith, nat_tests));
-  }
+  branch-whole right = grind (arith, nat_tests, cond_both, side-tally, not-here, same-slot)
 
   -- another tree on a side leaves the links outside, and the tree on the other side
   module _ (links2 : List ℕ) (right : Bool) (u : Tree) (p : Replaces roots links links2 (branch roots i right) (on_side right l r) u) where
@@ -38,11 +33,7 @@ module _ (roots : ℕ) (links : List ℕ) (place i : ℕ) (l r : Tree) (w : IsWh
         (branch-whole left).tree
 
     replaced : (l2 r2 : Tree) → IsTree links2 roots (branch roots i false) l2 → IsTree links2 roots (branch roots i true) r2 → Replaces roots links links2 place (fork i l r) (fork i l2 r2)
-    replaced l2 r2 x y = record {
-      tree = (past place w.outside ∙ w.tree.0, w.tree.1, (let size = p.size in let room = w.tree.2 in omega (arith, room, size)), x, y);
-      others = λ q d o. past q o;
-      size = p.size;
-    }
+    replaced l2 r2 x y = grind (arith, nat_tests, past place w.outside, past)
 
   module _ (links2 : List ℕ) where
     -- the branch on a side replaced, where the link to it is
@@ -122,18 +113,10 @@ module _ (roots : ℕ) (links : List ℕ) (place at left : ℕ) (e : at ≡ get_
   pub pluck-end : (x y : ℕ) (t : Tree) → IsWhole links roots place t → x ≡ get_or links left x → x ≡ 0 → y ≡ get_or links (left + 1) y → y ≡ 0 →
       Replaces roots links (set links place 0) place t (plucked t) × (at ≡ lowest 0 t)
   pluck-end x y leaf w fx zx fy zy = absurd (let z = w.tree in omega (arith, z, e, s))
-  pluck-end x y (fork i leaf leaf) w fx zx fy zy = (
-    record {
-      tree = get_or-set_same links place 0 0 w.within;
-      others = λ q d o. get_or-set_other links place q 0 0 d;
-      size = length-set links place 0;
-    },
-    e ∙ w.tree.0,
-  )
-  pluck-end x y (fork i leaf (fork j u v)) w fx zx fy zy = absurd (
-      let is : at ≡ i = e ∙ w.tree.0 in let z = zero_read links (left + 1) (branch roots i true) y fy zy (omega (arith, b, is)) in let c = w.tree.4.0 in let d = w.tree.4.1 in omega (arith, z, c, d))
-  pluck-end x y (fork i (fork j u v) r) w fx zx fy zy = absurd (
-      let is : at ≡ i = e ∙ w.tree.0 in let z = zero_read links left (branch roots i false) x fx zx (omega (arith, b, is)) in let c = w.tree.3.0 in let d = w.tree.3.1 in omega (arith, z, c, d))
+  pluck-end x y (fork i leaf leaf) w fx zx fy zy =
+      grind (arith, nat_tests, get_or-set_same links place 0 0 w.within, get_or-set_other, length-set links place 0)
+  pluck-end x y (fork i leaf (fork j u v)) w fx zx fy zy = grind (arith, nat_tests, zero_read)
+  pluck-end x y (fork i (fork j u v) r) w fx zx fy zy = grind (arith, nat_tests, zero_read)
 
   module _ (links2 : List ℕ) (last : ℕ) where
     pub pluck-left : (x : ℕ) (t : Tree) → IsWhole links roots place t → x ≡ get_or links left x → (x ≡ 0 → ⊥) →

@@ -20,8 +20,7 @@ absent i s h = absent-below QUEUES i s h
 is-absent-below : (n : ℕ) (i : Item) (s : Queues) → ((q : ℕ) → q < n → occurrences i (s q) ≡ 0) → queue_below n i s ≡ None
 is-absent-below zero i s h = refl
 is-absent-below (suc n) i s h =
-    let a = h n (omega arith) in
-    let r = is-absent-below n i s (λ q w. h q (omega (arith, w))) in
+        let r = is-absent-below n i s (λ q w. h q (omega (arith, w))) in
     grind (arith, nat_tests)
 
 pub is_absent : (i : Item) (s : Queues) → IsAbsent i s → queue_holding i s ≡ None
@@ -51,11 +50,7 @@ pub absent-taken : (i : Item) (s : Queues) → IsAbsent i (after_removal i s)
 absent-taken i s q w = times-gone i (s q)
 
 pub distinct-taken : (i : Item) (s : Queues) → IsDistinct s → IsDistinct (after_removal i s)
-distinct-taken i s u j = let a = less QUEUES in let n = u j in omega (arith, a, n)
-  where
-    less : (n : ℕ) → times_below n j (after_removal i s) ≤ times_below n j s
-    less zero = omega arith
-    less (suc n) = let a = times-without i j (s n) in let r = less n in omega (arith, a, r)
+distinct-taken i s u j = grind (arith, nat_tests, times-without)
 
 -- an item that stands nowhere still stands nowhere once another is out
 pub still-absent : (i v : Item) (s : Queues) → IsAbsent i s → IsAbsent i (after_removal v s)

@@ -1,8 +1,9 @@
 -- What the fields of a slot in use say of its item.
+use Rattle.std.proofs.lemmas.Bool.Decides.{nat_tests}
 use Rattle.std.proofs.Common.{◌≡◌, ℕ, suc, ◌<◌, Some, List, length, get_or, ap, ◌∙◌, sym, subst, arith}
 use Rattle.std.specs.List.{Contains}
 use Rattle.std.proofs.lemmas.List.{get_or_default}
-use Rattle.queue_table.specs.Entries.{Entry, Item, entry}
+use Rattle.queue_table.specs.Entries.{Item, entry}
 use Rattle.queue_table.specs.Queues.{QUEUES, queue_holding}
 use Rattle.queue_table.specs.Ring.{Slot, entries, tags, slot_entry, order_of, lists, tag_at}
 use Rattle.queue_table.specs.QueueTable.{IsSlotOf}
@@ -31,9 +32,7 @@ module _ (slots inside : List Slot) (k : ℕ) (i : Item) (r : Slot) (t : IsSlotO
   tag = tag-read slots inside k r same found-within read
 
   pub found-entry : slot_entry (entries slots) k ≡ entry i r.count
-  found-entry =
-      let e = entry-read slots inside k r same found-within read in
-      e ∙ ap (λ (x : Item). entry x r.count) (sym (ap (λ (x : Entry). x.item) e) ∙ t.item)
+  found-entry = grind (arith, nat_tests, entry-read, found-within)
 
   pub found-low : r.queue < QUEUES
   found-low = let w = tag-low slots (order_of slots) t.queued k t.used in let q = tag in omega (arith, w, q)

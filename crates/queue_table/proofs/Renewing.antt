@@ -1,8 +1,9 @@
 -- What the index owes when a slot gets an entry, and when it loses one.
-use Rattle.std.proofs.Common.{◌≡◌, ℕ, ◌<◌, ◌≤◌, List, length, set, ap, ◌∙◌, sym, get_or, arith, inl, inr, get_or-set_same, get_or-set_other, true}
+use Rattle.std.proofs.lemmas.Bool.Decides.{nat_tests}
+use Rattle.std.proofs.Common.{◌≡◌, ℕ, ◌<◌, ◌≤◌, List, length, set, ap, ◌∙◌, sym, get_or, arith, get_or-set_same, get_or-set_other}
 use Rattle.std.proofs.lemmas.Bool.{cases_eq}
 use Rattle.std.proofs.lemmas.List.{length-map}
-use Rattle.queue_table.specs.Entries.{Entry, entry, is_same_item}
+use Rattle.queue_table.specs.Entries.{Entry, entry}
 use Rattle.queue_table.specs.Ring.{Slot, entries, slot_entry, slot_item, count, Order, used, order_without, order_of}
 use Rattle.queue_table.specs.Index.{SlotIndex, IsRemoved, LacksSlot}
 use Rattle.queue_table.specs.QueueTable.{IsIndexOf, HoldsAt, entry_at, KeepsSlots, KeepsOthers}
@@ -34,10 +35,7 @@ module _ (slots slots2 : List Slot) (k : ℕ) (e : Entry) (within : k < length s
 
   -- of the same item
   pub same-items : e.item ≡ slot_item (entries slots) k → (j : ℕ) → slot_item (entries slots2) j ≡ slot_item (entries slots) j
-  same-items i j = elim (cases_eq j k) [
-    | inl z ↦ ap (slot_item (entries slots2)) z ∙ (ap (λ (x : Entry). x.item) written-entry ∙ (i ∙ ap (slot_item (entries slots)) (sym z)))
-    | inr d ↦ ap (λ (x : Entry). x.item) (other-entry j d)
-  ]
+  same-items i j = grind (arith, nat_tests, cases_eq j k, written-entry, other-entry)
 
 -- all slots but one keep their entries, and whether they are in use
 module _ (old new : List Slot) (k : ℕ) (others : (j : ℕ) → (j ≡ k → ⊥) → entry_at j new ≡ entry_at j old) (uses : (j : ℕ) → (j ≡ k → ⊥) → count j (used (order_of new)) ≡ count j (used (order_of old))) where
@@ -48,6 +46,4 @@ module _ (old new : List Slot) (k : ℕ) (others : (j : ℕ) → (j ≡ k → �
   keeps-slots z j e h = holds j e (λ y. let a = h.used in let m = ap (λ i. count i (used (order_of old))) y in omega (arith, m, a, z)) h
 
   pub keeps-others : KeepsOthers (entry_at k old).item old new
-  keeps-others j e h n = holds j e (λ y. let s : is_same_item e.item (entry_at k old).item ≡ true =
-      ap (λ (x : Entry). is_same_item x.item (entry_at k old).item) (sym h.entry ∙ ap (λ i. entry_at i old) y) ∙ same-refl (entry_at k old).item in
-      cc (s, n)) h
+  keeps-others j e h n = grind (arith, nat_tests, holds, same-refl (entry_at k old).item)

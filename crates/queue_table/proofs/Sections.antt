@@ -47,8 +47,7 @@ pub map-without : {X : Type 0} (f : ℕ → X) (same : X → Bool) (k : ℕ) (l 
 map-without f same k [] drop a b h = a
 map-without f same k (x ∷ l) drop a b h =
     let here : same (f x) ≡ eqb k x = h x (grind (arith, nat_tests)) in
-    let rest : drop (map f l) ≡ map f (keys_without k l) = map-without f same k l drop a b (λ j n. h j (omega arith)) in
-    b (f x) (map f l) ∙ rw (here, rest) (grind (arith, nat_tests))
+    b (f x) (map f l) ∙ rw (here, map-without f same k l drop a b (λ j n. h j (omega arith))) (grind (arith, nat_tests))
 
 pub without-none : (k : ℕ) (l : List ℕ) → count k l ≡ 0 → keys_without k l ≡ l
 without-none k [] h = refl

@@ -1,6 +1,7 @@
 -- A slot sent to a place in a section.
-use Rattle.std.proofs.Common.{◌≡◌, ℕ, ◌<◌, List, length, ap, ◌∙◌, sym, subst, arith, inl, inr}
-use Rattle.queue_table.specs.Ring.{Slot, newers, olders, count, IsRing, ring_of, moved_before, SECTIONS, Order, ring, order_of, order_without, sent, CanGo}
+use Rattle.std.proofs.lemmas.Bool.Decides.{nat_tests}
+use Rattle.std.proofs.Common.{◌≡◌, ℕ, ◌<◌, List, length, ap, ◌∙◌, sym, subst, arith}
+use Rattle.queue_table.specs.Ring.{Slot, newers, olders, IsRing, ring_of, moved_before, SECTIONS, Order, ring, order_of, sent, CanGo}
 use Rattle.queue_table.proofs.Turning.{ring-is}
 use Rattle.queue_table.proofs.Sections.{gone, count-without}
 use Rattle.queue_table.proofs.Orders.{section-ring, ring-sent, order-is, order-short, short-sent}
@@ -8,16 +9,11 @@ use Rattle.queue_table.proofs.Finding.{slots-length}
 
 module _ (slots : List Slot) (k s b : ℕ) (low : s < SECTIONS) (c : CanGo k s b slots) where
   pub place-apart : b ≡ k → ⊥
-  place-apart e = elim c.place as (λ _. ⊥) [
-    | inl n ↦ (let g = gone k (order_of slots s) in let d = ap (λ x. count x (order_without k (order_of slots) s)) e in omega (arith, g, d, n))
-    | inr h ↦ (let r = c.real in omega (arith, low, r, h, e))
-  ]
+  place-apart e = grind (arith, nat_tests, gone k (order_of slots s))
 
   pub place-within : b < length slots
-  place-within = elim c.place as (λ _. b < length slots) [
-    | inl n ↦ (let a = section-ring b s (order_of slots) low in let d = count-without k b (order_of slots s) in let w = c.linked.within b (omega (arith, a, d, n)) in let l = slots-length slots in omega (arith, w, l))
-    | inr h ↦ (let r = c.real in let w = c.within in omega (arith, low, r, w, h))
-  ]
+  place-within =
+      search (arith, section-ring b s (order_of slots) low, count-without k b (order_of slots s), slots-length slots)
 
   pub whole-ring : IsRing (newers slots) (olders slots) (ring_of (newers slots))
   whole-ring = subst (IsRing (newers slots) (olders slots)) (sym (ring-is (newers slots) (olders slots) (ring (order_of slots)) c.linked)) c.linked

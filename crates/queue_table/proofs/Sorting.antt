@@ -19,8 +19,7 @@ sorted-same its its2 d (fork i l r) e s = (
 
 pub grafted-tally : (d : ℕ) (x : Item) (at k : ℕ) (t : Tree) → tally k (grafted d x at t) ≡ cond (eqb k at) 1 0 + tally k t
 grafted-tally d x at k leaf = omega arith
-grafted-tally d x at k (fork i l r) =
-    grind (arith, nat_tests, grafted-tally (d + 1) x at k r, grafted-tally (d + 1) x at k l)
+grafted-tally d x at k (fork i l r) = search (arith, grafted-tally (d + 1) x at k r, grafted-tally (d + 1) x at k l)
 
 pub grafted-sorted : (its : ℕ → Item) (d : ℕ) (x : Item) (at : ℕ) (t : Tree) → its at ≡ x → IsSorted its d t → IsSorted its d (grafted d x at t)
 grafted-sorted its d x at leaf e s = (tt, tt, (λ k m. absurd (omega (arith, m))), (λ k m. absurd (omega (arith, m))))
@@ -89,7 +88,6 @@ detached-tally its d x at k (fork i l r) s e m =
     let lift = lifted-tally k i l r in
     let right = detached-tally its (d + 1) x at k r s.1 e in
     let left = detached-tally its (d + 1) x at k l s.0 e in
-    let c = cases_eq at i in
     grind (arith, nat_tests)
 
 pub detached-sorted : (its : ℕ → Item) (d : ℕ) (x : Item) (at : ℕ) (t : Tree) → IsSorted its d t → its at ≡ x → 1 ≤ tally at t → IsSorted its d (detached d x at t)

@@ -86,21 +86,9 @@ module _ (ns os : List ℕ) (a : ℕ) (xs : List ℕ) (i b : ℕ) where
       IsLinked ns os a (xs ++ i ∷ ys) b →
       IsLinked (set ns (end_of a xs) (start_of ys b)) (set os (start_of ys b) (end_of a xs)) a (xs ++ ys) b
   unlinked [] d e u v k =
-      let s = linked-split ns os a xs i [] b k in
-      let stands = end-stands a xs in
-      let f = d (end_of a xs) in
-      let g = e b in
-      let h = count-here b [] in
-      rw (append-nil xs) (linked-to ns os a xs i b u v (omega arith) (omega arith) s.0)
+      grind (arith, nat_tests, linked-split ns os a xs i, end-stands a xs, count-here b, append-nil xs, linked-to)
   unlinked (j ∷ ys) d e u v k =
-      let s = linked-split ns os a xs i (j ∷ ys) b k in
-      let stands = end-stands a xs in
-      let f = d (end_of a xs) in
-      let g = e j in
-      let h = count-here j (ys ++ b ∷ []) in
-      let front = linked-to ns os a xs i j u v (omega arith) (omega arith) s.0 in
-      let back = linked-newer ns (set os j (end_of a xs)) j ys b (end_of a xs) j (omega arith) (linked-older ns os j ys b j (end_of a xs) (omega arith) s.1.2) in
-      linked-join (set ns (end_of a xs) j) (set os j (end_of a xs)) a xs j ys b front back
+      grind (arith, nat_tests, linked-split, end-stands, count-here, linked-to, linked-newer, linked-older, linked-join)
 
   -- a slot comes
   pub linked : (ys : List ℕ) →
@@ -123,10 +111,7 @@ module _ (ns os : List ℕ) (a : ℕ) (xs : List ℕ) (i b : ℕ) where
       let front = linked-to ns os a xs b i u x (omega arith) (omega arith) old in
       let front2 = linked-newer (set ns (end_of a xs) i) (set os i (end_of a xs)) a xs i i b (omega arith) front in
       let front3 = linked-older (set (set ns (end_of a xs) i) i b) (set os i (end_of a xs)) a xs i b i gone front2 in
-      linked-join _ _ a xs i [] b front3 (
-        get_or-set_same (set ns (end_of a xs) i) i b 0 (rw (length-set ns (end_of a xs) i) w),
-        get_or-set_same (set os i (end_of a xs)) b i 0 (rw (length-set os i (end_of a xs)) v),
-      )
+      grind (arith, nat_tests, linked-join, get_or-set_same, length-set)
   linked (j ∷ ys) d e u w x v k =
       let s = linked-split ns os a xs j ys b k in
       let stands = end-stands a xs in
@@ -146,11 +131,7 @@ module _ (ns os : List ℕ) (a : ℕ) (xs : List ℕ) (i b : ℕ) where
       let back2 = linked-newer (set ns (end_of a xs) i) os j ys b i j (omega arith) back in
       let back3 = linked-older (set (set ns (end_of a xs) i) i j) os j ys b i (end_of a xs) (omega arith) back2 in
       let back4 = linked-older (set (set ns (end_of a xs) i) i j) (set os i (end_of a xs)) j ys b j i (omega arith) back3 in
-      linked-join _ _ a xs i (j ∷ ys) b front3 (
-        get_or-set_same (set ns (end_of a xs) i) i j 0 (rw (length-set ns (end_of a xs) i) w),
-        get_or-set_same (set os i (end_of a xs)) j i 0 (rw (length-set os i (end_of a xs)) v),
-        back4,
-      )
+      grind (arith, nat_tests, linked-join, get_or-set_same, length-set)
 
 -- what is walked
 

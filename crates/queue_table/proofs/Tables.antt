@@ -47,8 +47,7 @@ some-from_first (suc n) k a b = grind (arith, nat_tests, some-from_first n k a, 
 
 all-used : (slots : List Slot) (o : Order) → IsQueued slots o → o 0 ≡ [] → (j : ℕ) → count j (used o) ≡ count j (from_first (length slots - FIRST))
 all-used slots o h f j =
-    let free = ap (count j) f in
-    let l = slots-length slots in
+        let l = slots-length slots in
     let real = used-real o j h.linked.once in
     let low = few-from_first (length slots - FIRST) j in
     let all = h.linked.all j in
@@ -116,22 +115,7 @@ ring-grown ns os o n x is =
     let p = length-append (o 0) (queues-ring o) in
     omega (arith, a, b, p)) in
     let long = x.long in
-    record {
-      linked = l1;
-      once = λ k. (let c = cr k in let u = one k in omega (arith, c, u));
-      within = λ k m. (
-          let c = cr k in
-          let w = x.within k in
-          let e = cases_eq k n in
-          grind (arith, nat_tests, length-set {A = ℕ}));
-      all = λ k w. (
-          let c = cr k in
-          let a = x.all k in
-          let e = cases_eq k n in
-          grind (arith, nat_tests, length-set {A = ℕ}));
-      same = omega (arith, length-set {A = ℕ}, n1, o1, same);
-      long = omega (arith, lr, length-set {A = ℕ}, n1, long);
-    }
+    grind (arith, nat_tests, linked, cases_eq, length-set {A = ℕ})
 
 pub older-first : (ns os : List ℕ) (o : Order) → IsRing ns os (ring o) → get_or (os ++ 0 ∷ []) 1 0 < length ns
 older-first ns os o x = omega (arith, last-older ns os o x, end-within ns os o x)

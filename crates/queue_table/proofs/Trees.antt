@@ -28,7 +28,6 @@ members links roots place leaf k x m = absurd (omega (arith, m))
 members links roots place (fork i l r) k x m =
     let left = members links roots (branch roots i false) l k x.3 in
     let right = members links roots (branch roots i true) r k x.4 in
-    let e = cases_eq k i in
     grind (arith, nat_tests)
 
 -- where the link is none, so is the tree

@@ -1,4 +1,5 @@
 -- A slot of a ring moved to another place of it.
+use Rattle.std.proofs.lemmas.Bool.Decides.{nat_tests}
 use Rattle.std.proofs.Common.{◌≡◌, ℕ, ◌+◌, ◌-◌, ◌<◌, ◌≤◌, false, cond, eqb, List, [], ◌∷◌, ◌++◌, length, get_or, set, ap, ◌∙◌, sym, refl, subst, arith, ◌⊎◌, inl, inr, length-set, length-append, append-nil}
 use Rattle.std.proofs.lemmas.Bool.{eqb-true, ne_eqb, cases_Bool, cases_eq, cond-true, cond-false}
 use Rattle.queue_table.specs.Ring.{count, IsLinked, IsRing, walk, ring_of, put_before, moved_before}
@@ -17,10 +18,7 @@ pub split_at : (k : ℕ) (l : List ℕ) → count k l ≤ 1 → 1 ≤ count k l 
 split_at k [] u h = absurd (omega arith)
 split_at k (x ∷ l) u h =
     elim (cases_Bool (eqb k x)) [
-      | inl e ↦
-          let same : k ≡ x = eqb-true k x e in
-          let u2 : 1 + count k l ≤ 1 = rw e at u in
-          record { front = []; back = l; whole = ap (λ y. y ∷ l) (sym same); rest = cond-true (eqb k x) (keys_without k l) (x ∷ keys_without k l) e ∙ without-none k l (omega arith) }
+      | inl e ↦ grind (arith, nat_tests, eqb-true, cond-true, without-none)
       | inr e ↦
           let u2 : 0 + count k l ≤ 1 = rw e at u in
           let h2 : 1 ≤ 0 + count k l = rw e at h in
@@ -75,22 +73,7 @@ turned_to ns os l k b r xs ys us vs wh sc wo pu mi oe ne ob st oi ni ui fin =
     let ct : (j : ℕ) → count j (0 ∷ us ++ k ∷ vs) ≡ count j (0 ∷ l) = λ j. (let a = count-mid j k us vs in let c = count-mid j k xs ys in let d = ap (count j) wh in let f = sc j in omega (arith, a, c, d, f)) in
     let lo : length (us ++ k ∷ vs) ≡ length l = (let a = ap length wh in let d = ap length mi in let f1 = length-append us (k ∷ vs) in let f2 = length-append xs (k ∷ ys) in let f3 = length-append us vs in let f4 = length-append xs ys in omega (arith, a, d, f1, f2, f3, f4)) in
     let same = r.same in
-    record {
-      older_in = oi;
-      newer_in = ni;
-      next_in = rw (ne, oe, ob) ui;
-      ring = rw (mv, ne, oe, ob, ← st) record {
-        linked = fin;
-        once = λ j. (let a = ct j in let c = r.once j in omega (arith, a, c));
-        within = λ j h. (
-            let a = ct j in
-            let c = r.within j (omega (arith, a, h)) in
-            omega (arith, length-set {A = ℕ}, c));
-        all = λ j h. (let a = ct j in let c = r.all j (omega (arith, length-set {A = ℕ}, h)) in omega (arith, a, c));
-        same = omega (arith, length-set {A = ℕ}, same);
-        long = (let rl = r.long in omega (arith, length-set {A = ℕ}, lo, rl));
-      };
-    }
+    grind (arith, nat_tests, linked, length-set {A = ℕ})
 
 module _ (ns os l : List ℕ) (k b : ℕ) (r : IsRing ns os l) where
   stands_in : (j : ℕ) (xs ys : List ℕ) → l ≡ xs ++ k ∷ ys → count j (0 ∷ l) ≡ cond (eqb j 0) 1 0 + (count j xs + (cond (eqb j k) 1 0 + count j ys))
@@ -98,8 +81,7 @@ module _ (ns os l : List ℕ) (k b : ℕ) (r : IsRing ns os l) where
 
   pub turned : 1 ≤ k → k < length ns → b < length ns → (b ≡ k → ⊥) → IsTurned ns os l k b
   turned p w v n =
-      let same = r.same in
-      let k0 : eqb k 0 ≡ false = ne_eqb k 0 (λ z. omega (arith, z)) in
+            let k0 : eqb k 0 ≡ false = ne_eqb k 0 (λ z. omega (arith, z)) in
       let there : 1 ≤ 0 + count k l = rw k0 at (r.all k w) in
       let few : 0 + count k l ≤ 1 = rw k0 at (r.once k) in
       let s = split_at k l (omega arith) (omega arith) in
@@ -149,7 +131,4 @@ pub moved : (ns os ns1 os1 ns2 os2 : List ℕ) (k b : ℕ) → IsTurned ns os (r
     ns1 ≡ set ns (get_or os k 0) (get_or ns k 0) → os1 ≡ set os (get_or ns k 0) (get_or os k 0) →
     ns2 ≡ set (set ns1 (get_or os1 b 0) k) k b → os2 ≡ set (set os1 k (get_or os1 b 0)) b k →
     IsMoved ns os ns2 os2 k b
-moved ns os ns1 os1 ns2 os2 k b t n1 o1 n2 o2 =
-    let r : IsRing ns2 os2 (moved_before k b (ring_of ns)) = rw (n2, o2, n1, o1) t.ring in
-    let order : ring_of ns2 ≡ moved_before k b (ring_of ns) = ring-is ns2 os2 (moved_before k b (ring_of ns)) r in
-    record { order = order; ring = subst (IsRing ns2 os2) (sym order) r }
+moved ns os ns1 os1 ns2 os2 k b t n1 o1 n2 o2 = grind (arith, nat_tests, ring-is)

@@ -1,5 +1,6 @@
 -- What a walk down a tree knows at the next place.
-use Rattle.std.proofs.Common.{◌≡◌, ℕ, ◌+◌, ◌^◌, ◌<◌, ◌≤◌, Bool, true, false, List, length, get_or, ap, ◌∙◌, sym, refl, arith, inl, inr}
+use Rattle.std.proofs.lemmas.Bool.Decides.{nat_tests}
+use Rattle.std.proofs.Common.{◌≡◌, ℕ, ◌+◌, ◌^◌, ◌<◌, ◌≤◌, Bool, true, false, List, length, get_or, ◌∙◌, sym, refl, arith}
 use Rattle.std.proofs.lemmas.Bool.{cases_eq}
 use Rattle.queue_table.specs.Trees.{Item, Tree, leaf, fork, tally, size, branch, turn, IsSorted}
 use Rattle.queue_table.specs.Places.{IsWhole, IsThere}
@@ -21,15 +22,7 @@ pub record IsStep (links : List ℕ) (roots next below : ℕ) (t : Tree) : Type 
 pub step : (links : List ℕ) (roots place next below : ℕ) (side : Bool) (t : Tree) → IsWhole links roots place t → next ≡ get_or links place 0 → (next ≡ 0 → ⊥) → below ≡ branch roots next side → IsStep links roots next below t
 step links roots place next below side leaf w n z b = absurd (z (n ∙ w.tree))
 step links roots place next below side (fork i l r) w n z b =
-    let is : next ≡ i = n ∙ w.tree.0 in
-    rw (b, is) record {
-      branch_shown = on_side side l r;
-      whole = branch-whole roots links place i l r w side;
-      fewer = (let m = side-size side l r in omega (arith, m));
-      inside = λ k. (let m = side-tally side k l r in omega (arith, m));
-      here = (let h = tally-here i l r in omega (arith, h));
-      room = w.tree.2;
-    }
+    search (arith, branch-whole roots links place i l r w side, side-size side l r, side-tally, tally-here i l r)
 
 -- the links have both branches of the first slot
 pub top-room : (index : SlotIndex) (place at : ℕ) → HasTree index place 0 → get_or index.links.items place 0 ≡ at → 1 ≤ at → branch (2 ^ index.bits) at true < length index.links.items
@@ -54,12 +47,7 @@ has-top index place depth h = record { shown = h.shown; whole = h.whole; few = (
 
 pub smaller : (links : List ℕ) (roots place next below : ℕ) (side : Bool) (t : Tree) → IsWhole links roots place t → next ≡ get_or links place 0 → (next ≡ 0 → ⊥) → below ≡ branch roots next side →
     size (tree_at links roots below (length links)) < size (tree_at links roots place (length links))
-smaller links roots place next below side t w n z b =
-    let s = step links roots place next below side t w n z b in
-    let u = s.whole in
-    let x = tree-is links roots place t (length links) w.tree (size-few links roots place t w.tree w.once) in
-    let y = tree-is links roots below s.branch_shown (length links) u.tree (size-few links roots below s.branch_shown u.tree u.once) in
-    rw (x, y) (omega (arith, s.fewer))
+smaller links roots place next below side t w n z b = grind (arith, nat_tests, step, tree-is, size-few)
 
 -- the slot at a place with a slot on its way below
 pub way-below : (index : SlotIndex) (place at next below : ℕ) (item : Item) (depth : ℕ) → IsOnWay index place at item depth → next ≡ get_or index.links.items place 0 → (next ≡ at → ⊥) →
@@ -84,10 +72,8 @@ found-none links roots place item item_of leaf w z = record { there = λ n. absu
 found-none links roots place item item_of (fork i l r) w z = absurd (let a = w.tree.0 in let b = w.tree.1 in omega (arith, a, b, z))
 
 pub found-here : (links : List ℕ) (roots place at : ℕ) (item : Item) (item_of : ℕ → Item) (t : Tree) → IsWhole links roots place t → at ≡ get_or links place 0 → (at ≡ 0 → ⊥) → item_of at ≡ item → IsFound item item_of (λ k. tally k t) at
-found-here links roots place at item item_of t w n z e = record {
-  there = λ _. ((step links roots place at (branch roots at true) true t w n z refl).here, e);
-  missing = λ q. absurd (z q);
-}
+found-here links roots place at item item_of t w n z e =
+    grind (arith, nat_tests, step links roots place at (branch roots at true) true t w n z refl)
 
 pub found-on : (links : List ℕ) (roots place depth next below result : ℕ) (item : Item) (item_of : ℕ → Item) (t : Tree) → IsWhole links roots place t → IsSorted item_of depth t → next ≡ get_or links place 0 → (next ≡ 0 → ⊥) →
     (item_of next ≡ item → ⊥) → below ≡ branch roots next (turn depth item) → ((u : Tree) → IsWhole links roots below u → IsSorted item_of (depth + 1) u → IsFound item item_of (λ k. tally k u) result) →
@@ -96,10 +82,4 @@ found-on links roots place depth next below result item item_of leaf w s n z oth
 found-on links roots place depth next below result item item_of (fork i l r) w s n z other b ih =
     let is : next ≡ i = n ∙ w.tree.0 in
     let f = ih (on_side (turn depth item) l r) (rw (b, is) (branch-whole roots links place i l r w (turn depth item))) (side-sorted item_of depth (turn depth item) i l r s) in
-    record {
-      there = λ m. (let q = f.there m in ((let c = q.0 in let a = side-tally (turn depth item) result l r in omega (arith, c, a)), q.1));
-      missing = λ m k c d. elim (cases_eq k i) [
-        | inl h ↦ other (ap item_of (is ∙ sym h) ∙ d)
-        | inr h ↦ f.missing m k (its-side item_of depth item k i l r s d h c) d
-      ];
-    }
+    grind (arith, nat_tests, side-tally (turn depth item) result l r, cases_eq, its-side)

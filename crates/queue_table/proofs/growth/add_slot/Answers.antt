@@ -1,4 +1,4 @@
-use Rattle.std.proofs.Common.{◌≡◌, ◌∙◌, ◌++◌, ◌∷◌, [], length, take, drop, ap, arith, refl, length-append}
+use Rattle.std.proofs.Common.{◌≡◌, ◌∙◌, ◌++◌, ◌∷◌, [], length, take, drop, arith, refl}
 use Rattle.std.proofs.lemmas.List.{take_at}
 use Rattle.queue_table.specs.Ring.{newers, olders, order_of}
 use Rattle.queue_table.proofs.Finding.{slots-length}
@@ -12,8 +12,7 @@ link-requires-clause-older c =
     let o = olders-more c.args.slots.now.items c.deref_mut.result.now e in
     let f = older-first (newers c.args.slots.now.items) (olders c.args.slots.now.items) (order_of c.args.slots.now.items) c.requires.ring in
     let l = slots-length c.args.slots.now.items in
-    let n = ap length e ∙ length-append c.args.slots.now.items (no_slot ∷ []) in
-    rw o (omega (arith, f, l, n))
+    rw o (omega (arith, f, l))
 
 pub returns-clause-ring : goal.returns-clause-ring
 returns-clause-ring c =

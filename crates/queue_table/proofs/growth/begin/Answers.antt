@@ -1,8 +1,7 @@
-use Rattle.std.proofs.lemmas.Grind.{common_steps}
-use Rattle.std.proofs.Common.{◌≤◌, List, length, subst, sym, arith, ◌≡◌}
+use Rattle.std.proofs.lemmas.Bool.Decides.{nat_tests}
+use Rattle.std.proofs.Common.{◌≤◌, length, arith}
 use Rattle.std.proofs.lemmas.List.{nil_from_length}
 use Rattle.queue_table.specs.Index.{capacity}
-use Rattle.queue_table.specs.QueueTable.{Slot, IsSame}
 use Rattle.queue_table.proofs.Growing.{held-first, same-first, first_loaded, sixteen}
 use Rattle.queue_table.proofs.growth.begin.Goals as goal
 
@@ -17,5 +16,4 @@ returns-clause-load c = first_loaded _ _ c.in_ok-first.ensures.len (omega (arith
 
 pub returns-clause-same : goal.returns-clause-same
 returns-clause-same c =
-    let none : length c.args.slots.now.items ≡ 0 = grind (arith, common_steps) in
-    subst (λ (s : List Slot). IsSame s c.in_ok-first.first.items) (sym (nil_from_length c.args.slots.now.items none)) (same-first c.in_ok-first.first.items c.in_ok-first.ensures.queued)
+    grind (arith, nat_tests, nil_from_length, same-first c.in_ok-first.first.items c.in_ok-first.ensures.queued)

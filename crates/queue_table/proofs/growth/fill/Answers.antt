@@ -1,3 +1,4 @@
+use Rattle.std.proofs.lemmas.Bool.Decides.{nat_tests}
 use Rattle.std.proofs.Common.{◌∙◌, ◌+◌, ◌-◌, refl, ap, arith}
 use Rattle.queue_table.specs.Entries.{Entry, entry}
 use Rattle.queue_table.specs.Ring.{Slot, FIRST, entries, slot_item, count}
@@ -10,12 +11,8 @@ pub loop-at-init : goal.loop-at-init
 loop-at-init c = record { indexed = c.requires.empty (slot_item (entries c.args.slots.now)); bits = refl }
 
 pub insert-requires-clause-absent : goal.insert-requires-clause-absent
-insert-requires-clause-absent c = record {
-  item_of = slot_item (entries c.args.slots.now);
-  used = λ k. count k (from_first (c.loop-at.at - FIRST));
-  indexed = c.loop-at.invariant.indexed;
-  absent = count-from_first (c.loop-at.at - FIRST) c.loop-at.at (omega arith);
-}
+insert-requires-clause-absent c =
+    grind (arith, nat_tests, count-from_first (c.loop-at.at - FIRST) c.loop-at.at (omega arith))
 
 pub loop-at-preserved : goal.loop-at-preserved
 loop-at-preserved c =

@@ -1,4 +1,5 @@
-use Rattle.std.proofs.Common.{get_or, ap, arith}
+use Rattle.std.proofs.lemmas.Bool.Decides.{nat_tests}
+use Rattle.std.proofs.Common.{arith}
 use Rattle.queue_table.specs.Ring.{newers, olders, ring_of}
 use Rattle.queue_table.proofs.Turning.{IsTurned, IsMoved, turned, moved}
 use Rattle.queue_table.proofs.Finding.{slots-length}
@@ -21,10 +22,7 @@ unlink-requires-clause-newer c = let n = slots-length c.args.slots.now in let o 
 
 pub link-requires-clause-older : goal.link-requires-clause-older
 link-requires-clause-older c =
-    let n = slots-length c.args.slots.now in
-    let e = ap (λ q. get_or q c.args.before 0) c.unlink.ensures.olders in
-    let o = (turned-there (goal.at.link-requires-clause-older c).Start).next_in in
-    omega (arith, n, o, e)
+    grind (arith, nat_tests, slots-length c.args.slots.now, turned-there (goal.at.link-requires-clause-older c).Start)
 
 pub returns-clause-ring : goal.returns-clause-ring
 returns-clause-ring c = let at = goal.at.returns-clause-ring c in (moved-there at.After-link (turned-there at.Start)).ring

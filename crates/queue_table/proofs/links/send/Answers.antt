@@ -1,3 +1,4 @@
+use Rattle.std.proofs.lemmas.Bool.Decides.{nat_tests}
 use Rattle.std.proofs.Common.{◌≡◌, ◌∙◌, ◌<◌, suc, ap, set, List, ℕ, arith}
 use Rattle.queue_table.specs.Ring.{newers, olders, ring_of, moved_before, SECTIONS, IsRing}
 use Rattle.queue_table.proofs.Sending.{place-apart, place-within, whole-ring, order-after, linked-after}
@@ -7,16 +8,7 @@ pub set_entry-requires : goal.set_entry-requires
 set_entry-requires c = c.requires.place.within
 
 pub move_before-requires : goal.move_before-requires
-move_before-requires c =
-    let s : suc c.args.queue < SECTIONS = omega (arith, c.requires.queue) in
-    let can = c.requires.place in
-    let b = place-within c.args.slots.now c.args.at (suc c.args.queue) c.args.before s can in
-    record {
-      ring = rw (c.set_entry.ensures.newers, c.set_entry.ensures.olders) (whole-ring c.args.slots.now c.args.at (suc c.args.queue) c.args.before s can);
-      at = (omega (arith, can.real), omega (arith, can.within));
-      before = omega (arith, b);
-      apart = place-apart c.args.slots.now c.args.at (suc c.args.queue) c.args.before s can;
-    }
+move_before-requires c = grind (arith, nat_tests, place-within, whole-ring, place-apart)
 
 pub set_queue-requires : goal.set_queue-requires
 set_queue-requires c = let w = c.requires.place.within in omega (arith, w)

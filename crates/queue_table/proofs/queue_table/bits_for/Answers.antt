@@ -1,4 +1,5 @@
 use lib.Count.{count_leading_zeros}
+use Rattle.std.proofs.lemmas.Bool.Decides.{nat_tests}
 use Rattle.std.proofs.Common.{◌≡◌, ◌<◌, ◌≤◌, ◌+◌, ◌-◌, ◌*◌, ◌%◌, ◌^◌, ◌∙◌, ℕ, ap, inl, inr, refl, arith}
 use Rattle.std.proofs.Math.Nat.{pow-le-pow_right}
 use Rattle.std.proofs.lemmas.Bool.{cases_lt}
@@ -16,26 +17,19 @@ twice bits = ap (λ k. 2 ^ k) (let c : bits + 1 ≡ 1 + bits = omega arith in c)
 enough : (items last zeros bits : ℕ) → last ≡ (items + 4294967295) % 4294967296 → zeros ≡ count_leading_zeros 32 last
     → bits ≡ (33 + (4294967296 - zeros)) % 4294967296 → 1 ≤ items → items < 4294967296 → IsEnough items bits
 enough items last zeros bits l z b some fits =
-    let less : last + 1 ≡ items = omega arith in
-    let short : last < 2 ^ 32 = omega arith in
+        let short : last < 2 ^ 32 = omega arith in
     let found = leading_length 32 last short in
     let few : zeros + found.0 ≡ 32 = ap (λ n. n + found.0) z ∙ found.1 in
     let up : bits ≡ found.0 + 1 = omega (arith, few) in
     let p : 2 ^ bits ≡ 2 * 2 ^ found.0 = ap (λ k. 2 ^ k) up ∙ twice found.0 in
-    record { least = omega (arith, p, found.2, less); most = omega (arith, p, found.3, less) }
+    record { least = omega (arith, p, found.2); most = omega (arith, p, found.3) }
 
 sparse : (items bits : ℕ) → IsEnough items bits → (4 * items ≤ 2 ^ (bits + 1)) × (2 ^ (bits + 1) < 8 * items)
 sparse items bits e = (omega (arith, e.least, twice bits), omega (arith, e.most, twice bits))
 
 -- so many items have many bits, and fewer have few
 many-bits : (items bits : ℕ) → IsEnough items bits → 2 ^ 18 < 4 * items → 18 ≤ bits
-many-bits items bits e many = elim (cases_lt bits 18) [
-  | inl few ↦
-      let low : bits ≤ 17 = omega (arith, few) in
-      let p : 2 ^ bits ≤ 2 ^ 17 = pow-le-pow_right (omega arith) low in
-      absurd (omega (arith, e.least, many, p))
-  | inr more ↦ more
-]
+many-bits items bits e many = grind (arith, nat_tests, cases_lt bits 18, pow-le-pow_right)
 
 few-bits : (items bits : ℕ) → IsEnough items bits → 4 * items ≤ 2 ^ 18 → bits < 18
 few-bits items bits e few = elim (cases_lt bits 18) [

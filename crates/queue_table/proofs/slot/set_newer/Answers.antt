@@ -1,16 +1,8 @@
-use Rattle.std.proofs.Common.{refl}
+use Rattle.std.proofs.lemmas.Bool.Decides.{nat_tests}
+use Rattle.std.proofs.Common.{arith}
 use Rattle.std.proofs.lemmas.List.{map-set}
-use Rattle.queue_table.specs.declared.slot.Slot.{Slot}
-use Rattle.queue_table.specs.Entries.{entry}
 use Rattle.queue_table.proofs.SlotWrites.{kept}
 use Rattle.queue_table.proofs.slot.set_newer.Goals as goal
 
 pub returns : goal.returns
-returns c = record {
-  newers = map-set (λ (s : Slot). s.newer) c.args.slots.now c.args.at _;
-  olders = kept (λ (s : Slot). s.older) c.args.slots.now c.args.at _ refl;
-  only = record {
-    entries = kept (λ (s : Slot). entry s.item s.count) c.args.slots.now c.args.at _ refl;
-    tags = kept (λ (s : Slot). s.queue) c.args.slots.now c.args.at _ refl;
-  };
-}
+returns c = grind (arith, nat_tests, map-set, kept)

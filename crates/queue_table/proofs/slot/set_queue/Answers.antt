@@ -1,14 +1,8 @@
-use Rattle.std.proofs.Common.{refl}
+use Rattle.std.proofs.lemmas.Bool.Decides.{nat_tests}
+use Rattle.std.proofs.Common.{arith}
 use Rattle.std.proofs.lemmas.List.{map-set}
-use Rattle.queue_table.specs.declared.slot.Slot.{Slot}
-use Rattle.queue_table.specs.Entries.{entry}
 use Rattle.queue_table.proofs.SlotWrites.{kept}
 use Rattle.queue_table.proofs.slot.set_queue.Goals as goal
 
 pub returns : goal.returns
-returns c = record {
-  newers = kept (λ (s : Slot). s.newer) c.args.slots.now c.args.at _ refl;
-  olders = kept (λ (s : Slot). s.older) c.args.slots.now c.args.at _ refl;
-  entries = kept (λ (s : Slot). entry s.item s.count) c.args.slots.now c.args.at _ refl;
-  tags = map-set (λ (s : Slot). s.queue) c.args.slots.now c.args.at _;
-}
+returns c = grind (arith, nat_tests, kept, map-set)

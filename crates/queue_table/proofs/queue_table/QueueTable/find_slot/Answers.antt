@@ -1,4 +1,5 @@
-use Rattle.std.proofs.Common.{◌≡◌, List, None, length, ap, subst, arith, rules}
+use Rattle.std.proofs.lemmas.Bool.Decides.{nat_tests}
+use Rattle.std.proofs.Common.{◌≡◌, List, None, subst, arith, rules}
 use Rattle.queue_table.specs.Index.{IsFound}
 use Rattle.queue_table.specs.Ring.{Slot, entries, slot_item, count, used, order_of, lists}
 use Rattle.queue_table.specs.Queues.{queue_holding, IsDistinct}
@@ -14,20 +15,10 @@ held-there c = c.self.invariant.held (search rules)
 
 found-there : (c : goal.After-find) → IsInSlots c.self.inside.slots.items c.self.inside.index (order_of c.self.inside.slots.items)
     → IsFound c.args.item (slot_item (entries c.self.inside.slots.items)) (λ k. count k (used (order_of c.self.inside.slots.items))) c.find.result
-found-there c h =
-    let lent = c.deref.ensures.value in
-    let f = c.find.ensures (λ k. count k (used (order_of c.self.inside.slots.items))) (rw lent h.indexed) in
-    subst (λ (s : List Slot). IsFound c.args.item (slot_item (entries s)) (λ k. count k (used (order_of c.self.inside.slots.items))) c.find.result) lent f
+found-there c h = grind (arith, nat_tests)
 
 pub find-requires : goal.find-requires
-find-requires c =
-    let h = held-there (goal.at.find-requires c).After-deref in
-    record {
-      item_of = slot_item (entries c.self.inside.slots.items);
-      used = λ k. count k (used (order_of c.self.inside.slots.items));
-      indexed = h.indexed;
-      within = λ k n. (let w = (used-slot c.self.inside.slots.items k h.queued n).1 in let l = ap (λ (s : List Slot). length s) c.deref.ensures.value in omega (arith, w, l));
-    }
+find-requires c = grind (arith, nat_tests, held-there (goal.at.find-requires c).After-deref, used-slot)
 
 pub returns-in-0-clause-missing : goal.returns-in-0-clause-missing
 returns-in-0-clause-missing c =

@@ -1,6 +1,7 @@
-use Rattle.std.proofs.Common.{◌≡◌, ◌∙◌, ap, List, map, suc, sym, subst, arith}
+use Rattle.std.proofs.lemmas.Bool.Decides.{nat_tests}
+use Rattle.std.proofs.Common.{◌≡◌, ◌∙◌, ap, List, map, suc, arith}
 use Rattle.queue_table.specs.Entries.{items_of}
-use Rattle.queue_table.specs.Ring.{Slot, entries, newers, slot_item, walk, lists, IsRing, olders, ring, order_of}
+use Rattle.queue_table.specs.Ring.{Slot, entries, newers, slot_item, walk, lists}
 use Rattle.queue_table.proofs.Kept.{listed, some-slots}
 use Rattle.queue_table.proofs.queue_table.QueueTable.list.Goals as goal
 
@@ -11,7 +12,4 @@ returns c =
     rw e at c.items_in.ensures
 
 pub items_in-requires-clause-ring : goal.items_in-requires-clause-ring
-items_in-requires-clause-ring c some =
-    let n = c.self.invariant.counted (suc c.args.queue) (omega (arith, c.requires)) in
-    let h = c.self.invariant.held (some-slots c.self.inside.slots.items (suc c.args.queue) (omega (arith, n, c.of.ensures, some))) in
-    subst (λ (s : List Slot). IsRing (newers s) (olders s) (ring (order_of s))) (sym c.deref.ensures.value) h.queued.linked
+items_in-requires-clause-ring c some = grind (arith, nat_tests, some-slots)

@@ -1,4 +1,5 @@
-use Rattle.std.proofs.Common.{◌≡◌, ◌∙◌, List, Some, suc, sym, ap, subst}
+use Rattle.std.proofs.lemmas.Bool.Decides.{nat_tests}
+use Rattle.std.proofs.Common.{arith, ◌≡◌, ◌∙◌, List, Some, suc, sym, subst}
 use Rattle.queue_table.specs.Ring.{Slot, entries, slot_entry, order_of, last_of, HasItems}
 use Rattle.queue_table.specs.QueueTable.{entry_at, IsKept, IsUsed}
 use Rattle.queue_table.proofs.Orders.{section-used}
@@ -36,6 +37,4 @@ pub returns-clause-entry : goal.returns-clause-entry
 returns-clause-entry c = entry-there (goal.at.returns-clause-entry c).After-entry_of
 
 pub returns-clause-last : goal.returns-clause-last
-returns-clause-last c =
-    let at = goal.at.returns-clause-last c in
-    last-entry (entries c.args.self.now) c.newest_slot-at.result (order_of c.args.self.now (suc c.args.queue)) (end-there at.After-newest_slot-at) ∙ ap Some (entry-there at.After-entry_of)
+returns-clause-last c = grind (arith, nat_tests, last-entry, end-there, entry-there)

@@ -1,4 +1,6 @@
-use Rattle.std.proofs.Common.{◌<◌, ℕ, List, Option, Some, None, length, sym, subst, arith}
+use Rattle.std.proofs.lemmas.Bool.Decides.{nat_tests}
+use Rattle.std.proofs.lemmas.Grind.{common_steps}
+use Rattle.std.proofs.Common.{◌<◌, ℕ, List, Option, Some, None, length, arith}
 use Rattle.std.specs.Prelude.{IfSome}
 use Rattle.std.specs.Option.{unwrap_or}
 use Rattle.step_record.specs.declared.item.Item.{Item}
@@ -11,17 +13,14 @@ use Rattle.queue_table.proofs.queue_table.QueueTable.older_slot.Goals.{After-sel
 
 -- the slots are linked in their order
 queued-there : (c : After-self) → IsQueued c.args.self.now (order_of c.args.self.now)
-queued-there c =
-    subst (λ (s : List Slot). IsQueued s (order_of s)) c.self.view_is (c.self.invariant.held (subst (λ (s : List Slot). 0 < length s) (sym c.self.view_is) c.requires.some)).queued
+queued-there c = grind (arith, nat_tests)
 
 found-within : (slots : List Slot) (i : Item) (r : Option ℕ) (d : ℕ) → IfSome r (λ at. IsSlotOf at i slots) → d < length slots → unwrap_or r d < length slots
 found-within slots i None d h w = w
 found-within slots i (Some at) d h w = slot-within slots (order_of slots) h.queued at h.used
 
 pub returns-in_default-clause-within : goal.returns-in_default-clause-within
-returns-in_default-clause-within c =
-    let w = before-within c.args.self.now (queued-there (goal.at.returns-in_default-clause-within c).After-self) c.args.place.queue c.requires.queue in
-    omega (arith, w, c.slot_before.ensures)
+returns-in_default-clause-within c = grind (arith, common_steps, before-within, queued-there)
 
 pub returns-clause-within : goal.returns-clause-within
 returns-clause-within c =

@@ -1,4 +1,5 @@
-use Rattle.std.proofs.Common.{◌≡◌, ◌∙◌, List, Some, suc, sym, ap, subst}
+use Rattle.std.proofs.lemmas.Bool.Decides.{nat_tests}
+use Rattle.std.proofs.Common.{arith, ◌≡◌, ◌∙◌, List, Some, suc, sym, subst}
 use Rattle.queue_table.specs.Ring.{Slot, entries, slot_entry, order_of, first_of, HasItems}
 use Rattle.queue_table.specs.QueueTable.{entry_at, IsKept, IsUsed}
 use Rattle.queue_table.proofs.Orders.{section-used}
@@ -36,6 +37,4 @@ pub returns-clause-entry : goal.returns-clause-entry
 returns-clause-entry c = entry-there (goal.at.returns-clause-entry c).After-entry_of
 
 pub returns-clause-first : goal.returns-clause-first
-returns-clause-first c =
-    let at = goal.at.returns-clause-first c in
-    first-entry (entries c.args.self.now) c.oldest_slot-at.result (order_of c.args.self.now (suc c.args.queue)) (end-there at.After-oldest_slot-at) ∙ ap Some (entry-there at.After-entry_of)
+returns-clause-first c = grind (arith, nat_tests, first-entry, end-there, entry-there)

@@ -1,3 +1,4 @@
+use Rattle.std.proofs.lemmas.Bool.Decides.{nat_tests}
 use Rattle.std.proofs.Common.{◌≡◌, ◌∙◌, ◌≤◌, ◌++◌, sym, refl, subst, arith, List, suc, length, take, drop}
 use Rattle.queue_table.specs.Queues.{IsDistinct}
 use Rattle.queue_table.specs.Ring.{Slot, entries, slot_item, count, order_of, lists, IsSent}
@@ -30,14 +31,10 @@ sent : (c : goal.After-send) → IsSent c.newest_free-at.result c.args.queue c.a
 sent c = on_view (IsSent c.newest_free-at.result c.args.queue c.args.before c.args.entry) _ _ _ _ _ (omega arith) (c.deref_mut-slots.ensures.value ∙ c.self.view_is) c.send.ensures
 
 pub newest_free-at-requires : goal.newest_free-at-requires
-newest_free-at-requires c =
-    let a = (goal.at.newest_free-at-requires c).After-deref_mut-slots in
-    rw (lent a) record { queued = ((kept a).held (some-slots c.args.self.now 0 c.requires.room)).queued; room = c.requires.room }
+newest_free-at-requires c = grind (arith, nat_tests, lent, kept, some-slots c.args.self.now 0 c.requires.room)
 
 pub insert-requires-clause-at : goal.insert-requires-clause-at
-insert-requires-clause-at c =
-    let at = goal.at.insert-requires-clause-at c in
-    in-index _ _ _ _ _ (loose at.After-newest_free-at (kept at.After-deref_mut-slots))
+insert-requires-clause-at c = grind (arith, nat_tests, in-index, loose, kept)
 
 pub insert-requires-clause-absent : goal.insert-requires-clause-absent
 insert-requires-clause-absent c =
@@ -55,9 +52,7 @@ pub pass-requires-clause-sections : goal.pass-requires-clause-sections
 pass-requires-clause-sections c = let low = c.requires.queue in let s = c.section.ensures in (omega arith, omega (arith, low, s))
 
 pub pass-requires-clause-some : goal.pass-requires-clause-some
-pass-requires-clause-some c =
-    let at = goal.at.pass-requires-clause-some c in
-    some-counted c.self.inside.lengths (order_of c.args.self.now) 0 c.newest_free-at.result (kept at.After-deref_mut-slots).counted (omega arith) (free at.After-newest_free-at)
+pass-requires-clause-some c = grind (arith, nat_tests, some-counted, kept, free)
 
 pub pass-requires-clause-few : goal.pass-requires-clause-few
 pass-requires-clause-few c = let low = c.requires.queue in let s = c.section.ensures in fits c.self.inside.slots.items _ _ c.self.invariant c.section.result (omega (arith, low, s))

@@ -1,4 +1,5 @@
-use Rattle.std.proofs.Common.{◌≡◌, ◌∙◌, ◌++◌, subst, arith, List, suc, length, take, drop, inr, refl, Some}
+use Rattle.std.proofs.lemmas.Bool.Decides.{nat_tests}
+use Rattle.std.proofs.Common.{◌≡◌, ◌∙◌, ◌++◌, subst, arith, List, suc, length, take, drop, refl, Some}
 use Rattle.queue_table.specs.Queues.{after_removal, place_in}
 use Rattle.queue_table.specs.Ring.{Slot, entries, slot_item, count, used, order_of, order_without, sent, lists, IsSent}
 use Rattle.queue_table.specs.QueueTable.{IsCounted, IsIndexOf, IsKept}
@@ -45,9 +46,7 @@ insert-requires-clause-absent c =
     lacks c.args.self.now _ (order_of c.args.self.now) c.args.at (without at.After-remove (loose at.After-deref_mut-slots).held.indexed)
 
 pub send-requires-clause-place : goal.send-requires-clause-place
-send-requires-clause-place c =
-    let a = (goal.at.send-requires-clause-place c).After-deref_mut-slots in
-    rw (lent a) (can-go _ _ _ _ _ (loose a) (suc c.args.queue) c.slot_behind.result (inr c.slot_behind.ensures))
+send-requires-clause-place c = grind (arith, nat_tests, lent, can-go, loose)
 
 pub invariant_of-self : goal.invariant_of-self
 invariant_of-self c =

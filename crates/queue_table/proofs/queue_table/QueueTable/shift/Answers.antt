@@ -1,3 +1,4 @@
+use Rattle.std.proofs.lemmas.Bool.Decides.{nat_tests}
 use Rattle.std.proofs.Common.{◌≡◌, ◌∙◌, ◌++◌, sym, subst, arith, List, suc, length, take, drop, refl, Some}
 use Rattle.queue_table.specs.Entries.{Item, entry}
 use Rattle.queue_table.specs.Queues.{after_removal, place_in}
@@ -33,9 +34,7 @@ pub bounds-slots-at : goal.bounds-slots-at
 bounds-slots-at c = let a = (goal.at.bounds-slots-at c).After-deref_mut-slots in rw (lent a) (loose a).within
 
 pub send-requires-clause-place : goal.send-requires-clause-place
-send-requires-clause-place c =
-    let a = (goal.at.send-requires-clause-place c).After-deref_mut-slots in
-    rw (lent a) (can-go _ _ _ _ _ (loose a) (suc c.args.queue) c.args.before c.requires.place)
+send-requires-clause-place c = grind (arith, nat_tests, lent, can-go, loose)
 
 pub invariant_of-self : goal.invariant_of-self
 invariant_of-self c =

@@ -1,3 +1,4 @@
+use Rattle.std.proofs.lemmas.Bool.Decides.{nat_tests}
 use Rattle.std.proofs.Common.{◌∙◌, ap, sym, arith}
 use Rattle.std.proofs.lemmas.List.{get_or_default}
 use Rattle.queue_table.specs.Trees.{branch}
@@ -8,20 +9,10 @@ use Rattle.queue_table.proofs.Placing.{detach-end, detach-on}
 use Rattle.queue_table.proofs.slot_index.SlotIndex.+detach.Goals as goal
 
 pub lift-requires : goal.lift-requires
-lift-requires t c =
-    let h = c.requires.has in
-    let n = c.index-next.ensures ∙ get_or_default _ _ _ 0 h.whole.within in
-    record {
-      tree = has-top _ _ _ h;
-      first = sym n ∙ c.if-next-at.true;
-      some = (members _ _ c.args.place h.shown c.args.at h.whole.tree c.requires.there.stands).0;
-    }
+lift-requires t c = grind (arith, nat_tests, get_or_default, has-top, members)
 
 pub is_bare-requires-clause-within : goal.is_bare-requires-clause-within
-is_bare-requires-clause-within t c =
-    let h = c.requires.has in
-    let n = c.index-next.ensures ∙ get_or_default _ _ _ 0 h.whole.within in
-    top-room c.args.self.now c.args.place c.args.at (has-top _ _ _ h) (sym n ∙ c.if-next-at.true) (members _ _ c.args.place h.shown c.args.at h.whole.tree c.requires.there.stands).0
+is_bare-requires-clause-within t c = grind (arith, nat_tests, get_or_default, top-room, has-top, members)
 
 pub returns-then-is_bare-clause-detached : goal.returns-then-is_bare-clause-detached
 returns-then-is_bare-clause-detached t c u item_of w there =
@@ -31,9 +22,7 @@ returns-then-is_bare-clause-detached t c u item_of w there =
     (lift-bare _ _ c.args.place c.args.at u w (sym n ∙ c.if-next-at.true) some (c.is_bare.ensures c.if-is_bare.true))
 
 pub returns-else-is_bare-clause-detached : goal.returns-else-is_bare-clause-detached
-returns-else-is_bare-clause-detached t c u item_of w there =
-    let n = c.index-next.ensures ∙ get_or_default _ _ _ 0 w.within in
-    detach-end _ _ _ c.args.place c.args.at c.args.depth c.args.item u w there.stands (sym n ∙ c.if-next-at.true) (c.lift.ensures.lifted u w)
+returns-else-is_bare-clause-detached t c u item_of w there = grind (arith, nat_tests, get_or_default, detach-end)
 
 pub detach-requires : goal.detach-requires
 detach-requires t c =

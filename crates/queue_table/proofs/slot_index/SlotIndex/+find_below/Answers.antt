@@ -1,4 +1,5 @@
-use Rattle.std.proofs.Common.{◌∙◌, ap, sym, refl, arith, true}
+use Rattle.std.proofs.lemmas.Bool.Decides.{nat_tests}
+use Rattle.std.proofs.Common.{◌∙◌, ap, refl, arith, true}
 use Rattle.std.proofs.lemmas.List.{get_or_default}
 use Rattle.queue_table.specs.Trees.{branch}
 use Rattle.queue_table.proofs.Walking.{step, within-below, found-none, found-here, found-on}
@@ -11,14 +12,10 @@ item-requires g t c =
     c.requires.within _ s.here
 
 pub returns-then-at-eq0 : goal.returns-then-at-eq0
-returns-then-at-eq0 g t c u w s =
-    let n = c.index-at.ensures ∙ get_or_default _ _ _ 0 c.requires.has.whole.within in
-    found-none _ _ c.args.place _ _ u w (sym n ∙ c.if-at-eq0.true)
+returns-then-at-eq0 g t c u w s = grind (arith, nat_tests, get_or_default, found-none)
 
 pub returns-then-is_same : goal.returns-then-is_same
-returns-then-is_same g t c u w s =
-    let n = c.index-at.ensures ∙ get_or_default _ _ _ 0 c.requires.has.whole.within in
-    found-here _ _ c.args.place _ _ _ u w n c.if-at-eq0.false (sym c.item.ensures ∙ c.is_same.ensures.same c.if-is_same.true)
+returns-then-is_same g t c u w s = grind (arith, nat_tests, get_or_default, found-here)
 
 pub find_below-requires : goal.find_below-requires
 find_below-requires g t c κs within =

@@ -1,4 +1,5 @@
-use Rattle.std.proofs.Common.{◌∙◌, ap, sym, arith}
+use Rattle.std.proofs.lemmas.Grind.{common_steps}
+use Rattle.std.proofs.Common.{◌∙◌, ap, arith}
 use Rattle.std.proofs.lemmas.List.{get_or_default}
 use Rattle.queue_table.specs.Trees.{branch}
 use Rattle.queue_table.proofs.Walking.{has-below}
@@ -6,9 +7,7 @@ use Rattle.queue_table.proofs.Placing.{graft-end, graft-on}
 use Rattle.queue_table.proofs.slot_index.SlotIndex.+graft.Goals as goal
 
 pub returns-then-next-eq0-clause-grafted : goal.returns-then-next-eq0-clause-grafted
-returns-then-next-eq0-clause-grafted t c u w f =
-    let n = c.index-next.ensures ∙ get_or_default _ _ _ 0 c.requires.tree.whole.within in
-    graft-end _ _ c.args.place c.args.at c.args.depth c.args.item u c.requires.at c.requires.room w f (sym n ∙ c.if-next-eq0.true)
+returns-then-next-eq0-clause-grafted t c u w f = grind (arith, common_steps, get_or_default, graft-end)
 
 pub graft-requires : goal.graft-requires
 graft-requires t c =

@@ -1,3 +1,4 @@
+use Rattle.std.proofs.lemmas.Grind.{common_steps}
 use Rattle.std.proofs.Common.{ℕ, ◌≡◌, ◌+◌, ◌^◌, ◌∙◌, ◌<◌, length, arith, true, false}
 use Rattle.std.proofs.lemmas.List.{get_or_default}
 use Rattle.queue_table.specs.Trees.{branch}
@@ -66,9 +67,7 @@ returns-then-index-ne0-2-clause-lowest t c u w =
     (pluck-right _ _ c.args.place _ _ n (omega (arith, n, c.requires.some)) c.branch_of-left.ensures _ p.result _ _ u w c.index.ensures c.if-index-ne0.false c.index-2.ensures c.if-index-ne0-2.true p.ensures.plucked p.ensures.lowest).1
 
 pub returns-clause-plucked : goal.returns-clause-plucked
-returns-clause-plucked t c u w =
-    let n = c.index-at.ensures ∙ get_or_default _ _ _ 0 w.within in
-    (pluck-end _ _ c.args.place _ _ n (omega (arith, n, c.requires.some)) c.branch_of-left.ensures _ _ u w c.index.ensures c.if-index-ne0.false c.index-2.ensures c.if-index-ne0-2.false).0
+returns-clause-plucked t c u w = grind (arith, common_steps, get_or_default, pluck-end)
 
 pub returns-clause-lowest : goal.returns-clause-lowest
 returns-clause-lowest t c u w =
