@@ -6,17 +6,12 @@ use Rattle.std.proofs.lemmas.List.{get_or-set_same, get_or-set_other}
 use Rattle.sketch.specs.Counters.{nibble}
 
 pub four_more : (n : ℕ) → 2 ^ (4 * suc n) ≡ 16 * 2 ^ (4 * n)
-four_more n =
-    let e : 4 * suc n ≡ 4 + 4 * n = omega arith in
-    rw (e, pow-add 2 4 (4 * n)) refl
+four_more n = grind (arith, nat_tests, pow-add 2 4 (4 * n))
 
 pub nibble_is : (n x : ℕ) → x / 2 ^ (4 * n) % 16 ≡ nibble x n
 unfolding nibble
 nibble_is zero x = let e : x / 1 ≡ x = omega arith in ap (λ y. y % 16) e
-nibble_is (suc n) x =
-    let e : 4 * suc n ≡ 4 + 4 * n = omega arith in
-    let s : x / 2 ^ 4 / 2 ^ (4 * n) ≡ x / 2 ^ (4 + 4 * n) = shr-shr x 4 (4 * n) in
-    rw (e, ← s) (nibble_is n (x / 16))
+nibble_is (suc n) x = grind (arith, nat_tests, shr-shr x 4 (4 * n), nibble_is n (x / 16))
 
 -- as it is read
 pub seen : (n x : ℕ) → bit_and (x / 2 ^ (4 * n)) 15 ≡ nibble x n
@@ -30,9 +25,7 @@ nibble_lt (suc n) x = nibble_lt n (x / 16)
 pub add_same : (n x : ℕ) → nibble x n < 15 → nibble (x + 2 ^ (4 * n)) n ≡ nibble x n + 1
 unfolding nibble
 add_same zero x h = omega arith
-add_same (suc n) x h =
-    let e : (x + 2 ^ (4 * suc n)) / 16 ≡ x / 16 + 2 ^ (4 * n) = rw (four_more n) (omega arith) in
-    rw e (add_same n (x / 16) h)
+add_same (suc n) x h = grind (arith, nat_tests, four_more n, add_same n (x / 16) h)
 
 pub add_other : (n m x : ℕ) → nibble x n < 15 → m ≢ n → nibble (x + 2 ^ (4 * n)) m ≡ nibble x m
 unfolding nibble
@@ -52,18 +45,13 @@ some_le (suc n) x h = rw (four_more n) (let r : 2 ^ (4 * n) ≤ x / 16 = some_le
 pub sub_same : (n x : ℕ) → 0 < nibble x n → nibble (x - 2 ^ (4 * n)) n ≡ nibble x n - 1
 unfolding nibble
 sub_same zero x h = omega arith
-sub_same (suc n) x h =
-    let r : 2 ^ (4 * n) ≤ x / 16 = some_le n (x / 16) h in
-    let e : (x - 2 ^ (4 * suc n)) / 16 ≡ x / 16 - 2 ^ (4 * n) = rw (four_more n) (omega arith) in
-    rw e (sub_same n (x / 16) h)
+sub_same (suc n) x h = grind (arith, nat_tests, some_le n (x / 16) h, four_more n, sub_same n (x / 16) h)
 
 pub sub_other : (n m x : ℕ) → 0 < nibble x n → m ≢ n → nibble (x - 2 ^ (4 * n)) m ≡ nibble x m
 unfolding nibble
 sub_other zero zero x h d = absurd (d refl)
 sub_other zero (suc m) x h d = let e : (x - 1) / 16 ≡ x / 16 = omega arith in ap (λ y. nibble y m) e
-sub_other (suc n) zero x h d =
-    let r : 2 ^ (4 * n) ≤ x / 16 = some_le n (x / 16) h in
-    rw (four_more n) (omega arith)
+sub_other (suc n) zero x h d = grind (arith, nat_tests, some_le n (x / 16) h, four_more n)
 sub_other (suc n) (suc m) x h d =
     let r : 2 ^ (4 * n) ≤ x / 16 = some_le n (x / 16) h in
     let e : (x - 2 ^ (4 * suc n)) / 16 ≡ x / 16 - 2 ^ (4 * n) = rw (four_more n) (omega arith) in
@@ -91,8 +79,7 @@ module _ (ws : List ℕ) (at : ℕ) (within : at < 16 * length ws) where
   set_here y = let w : at / 16 < length ws = word_within in rw get_or-set_same refl
 
   pub set_other : (y : ℕ) → ((m : ℕ) → m ≢ at % 16 → nibble y m ≡ nibble (get_or ws (at / 16) 0) m) → (i : ℕ) → i ≢ at → nibble (get_or (set ws (at / 16) y) (i / 16) 0) (i % 16) ≡ nibble (get_or ws (i / 16) 0) (i % 16)
-  set_other y h i d =
-      grind (arith, nat_tests, word_within, get_or-set_same, get_or-set_other)
+  set_other y h i d = grind (arith, nat_tests, word_within, get_or-set_same, get_or-set_other)
 
   module _ (some : 0 < nibble (get_or ws (at / 16) 0) (at % 16)) where
     pub lowered_here : nibble (get_or (set ws (at / 16) (get_or ws (at / 16) 0 - 1 * 2 ^ (4 * (at % 16)) % 2 ^ 64)) (at / 16) 0) (at % 16) ≡ nibble (get_or ws (at / 16) 0) (at % 16) - 1

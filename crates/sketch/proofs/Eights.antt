@@ -22,8 +22,7 @@ lane x p h = let l : odd_bits x ≤ 1229782938247303441 = and_le_r x 12297829382
 
 pub quad : (a b c d : ℕ) → bit_or (bit_or (bit_or (odd_bits a * 1 % 2 ^ 64) (odd_bits b * 2 % 2 ^ 64)) (odd_bits c * 4 % 2 ^ 64)) (odd_bits d * 8 % 2 ^ 64) ≡ bit_or (bit_or (bit_or (odd_bits a) (odd_bits b * 2)) (odd_bits c * 4)) (odd_bits d * 8)
 quad a b c d =
-    let o : odd_bits a * 1 % 2 ^ 64 ≡ odd_bits a = lane a 1 (omega arith) ∙ omega arith in
-    rw (o, lane b 2 (omega arith), lane c 4 (omega arith), lane d 8 (omega arith)) refl
+    search (arith, lane a 1 (omega arith), lane b 2 (omega arith), lane c 4 (omega arith), lane d 8 (omega arith))
 
 pub two_same : (a b c d : ℕ) → a ≡ c → b ≡ d → ◌≡◌ {A = List ℕ} (a ∷ b ∷ []) (c ∷ d ∷ [])
 two_same a b c d p q = rw (p, q) refl
@@ -41,8 +40,7 @@ block_at ws at k w lo hi =
 
 pub block_past : (ws : List ℕ) (at k : ℕ) → at + 8 ≤ length ws → at + 8 ≤ k → get_or (put_chunk at ws (map halved_word (chunk at 8 ws))) k 0 ≡ get_or ws k 0
 block_past ws at k w hi =
-    let n : length (map halved_word (chunk at 8 ws)) ≡ 8 = length-map (chunk at 8 ws) halved_word ∙ length-chunk at 8 ws w in
-    get_or-put_chunk_above at ws (map halved_word (chunk at 8 ws)) k 0 (omega (arith, n))
+    grind (arith, nat_tests, length-map (chunk at 8 ws) halved_word, length-chunk at 8 ws w, get_or-put_chunk_above)
 
 -- the lost words depend on four words alone
 pub lost_same : (ws vs : List ℕ) (j : ℕ) → ((k : ℕ) → 4 * j ≤ k → get_or ws k 0 ≡ get_or vs k 0) → lost_word ws j ≡ lost_word vs j
@@ -50,23 +48,17 @@ lost_same ws vs j h = rw (h (4 * j + 0) (omega arith), h (4 * j + 1) (omega arit
 
 -- a lane of counters of at most 7, doubled, has room for its lost bits
 pub lane_doubled : (x b : ℕ) → x < 2 ^ 64 → ((n : ℕ) → n < 16 → nibble x n ≤ 7) → (x * 2 % 2 ^ 64 + odd_bits b) % 2 ^ 64 ≡ 2 * x + odd_bits b
-lane_doubled x b lt low =
-    let l : 15 * x + 7 ≤ 7 * 2 ^ 64 = low_word 16 x low lt in
-    let m : odd_bits b ≤ 1229782938247303441 = and_le_r b 1229782938247303441 in
-    omega (arith, l, m)
+lane_doubled x b lt low = grind (arith, nat_tests, low_word 16 x low lt, and_le_r b 1229782938247303441)
 
 -- where the lost bits of a word of a block are
 pub lost_in_block : (lost : List ℕ) (b t : ℕ) → t < 8 → odd_bits (cond (nat_lt t 4) (get_or lost (2 * b) 0) (get_or lost (2 * b + 1) 0) / 2 ^ (t % 4)) ≡ lost_of_word lost (8 * b + t)
-lost_in_block lost b t h =
-    let m : (8 * b + t) % 4 ≡ t % 4 = omega arith in
-    grind (arith, nat_tests)
+lost_in_block lost b t h = grind (arith, nat_tests)
 
 -- two words written side by side
 pub two_more : (f : ℕ → ℕ) (xs : List ℕ) (at a b : ℕ) → at + 1 < length xs → ((j : ℕ) → j < at → get_or xs j 0 ≡ f j) → a ≡ f at → b ≡ f (at + 1)
     → (j : ℕ) → j < at + 2 → get_or (set (set xs at a) (at + 1) b) j 0 ≡ f j
 two_more f xs at a b w before here next j h =
-    let n : length (set xs at a) ≡ length xs = length-set xs at a in
-    grind (arith, nat_tests, get_or-set_same, get_or-set_other)
+    grind (arith, nat_tests, length-set xs at a, get_or-set_same, get_or-set_other)
 
 -- eight words doubled, with the lost bits of the first four and of the others
 abbrev pub doubled_eight : List ℕ → ℕ → ℕ → ℕ → List ℕ
@@ -74,6 +66,4 @@ doubled_eight ws at low high = by_place 8 (λ t. (get_or ws (at + t) 0 * 2 % 2 ^
 
 pub doubled_at : (ws : List ℕ) (at low high : ℕ) → ((k : ℕ) → get_or ws k 0 < 2 ^ 64) → ((t : ℕ) → t < 8 → (n : ℕ) → n < 16 → nibble (get_or ws (at + t) 0) n ≤ 7)
     → (t : ℕ) → t < 8 → get_or (doubled_eight ws at low high) t 0 ≡ 2 * get_or ws (at + t) 0 + odd_bits (cond (nat_lt t 4) low high / 2 ^ (t % 4))
-doubled_at ws at low high fits small t h =
-    get_or-by_place 8 (λ t. (get_or ws (at + t) 0 * 2 % 2 ^ 64 + odd_bits (cond (nat_lt t 4) low high / 2 ^ (t % 4))) % 2 ^ 64) t 0 h
-    ∙ lane_doubled (get_or ws (at + t) 0) (cond (nat_lt t 4) low high / 2 ^ (t % 4)) (fits (at + t)) (small t h)
+doubled_at ws at low high fits small t h = search (arith, get_or-by_place, lane_doubled)

@@ -1,5 +1,5 @@
 -- A halving of a whole table, and its undoing.
-use Rattle.std.proofs.Common.{◌≡◌, ℕ, suc, zero, ◌+◌, ◌*◌, ◌/◌, ◌%◌, ◌<◌, ◌≤◌, ◌^◌, Bool, false, cond, eqb, List, length, get_or, map, refl, ap, ◌∙◌, sym, arith}
+use Rattle.std.proofs.Common.{◌≡◌, ℕ, suc, zero, ◌+◌, ◌*◌, ◌/◌, ◌%◌, ◌<◌, ◌≤◌, ◌^◌, false, cond, eqb, List, length, get_or, map, refl, ap, ◌∙◌, sym, arith}
 use Rattle.std.proofs.lemmas.Bool.Decides.{nat_tests}
 use Rattle.std.proofs.lemmas.List.{get_or-map, get_or_past, length-map}
 use Rattle.std.specs.Int.{bit_at}
@@ -19,17 +19,11 @@ use Rattle.sketch.proofs.Tables.{table}
 
 module _ (ws : List ℕ) where
   pub halved_at : (i : ℕ) → i < 16 * length ws → counter_at (map halved_word ws) i ≡ counter_at ws i / 2
-  halved_at i h =
-      let w : i / 16 < length ws = omega arith in
-      ap (λ x. nibble x (i % 16)) (get_or-map halved_word ws (i / 16) 0 0 w) ∙ nibble_halved (i % 16) (get_or ws (i / 16) 0) (omega arith)
+  halved_at i h = grind (arith, nat_tests, get_or-map, nibble_halved (i % 16) (get_or ws (i / 16) 0) (omega arith))
 
 -- bit t of digit n of a word
 bit_digit : (n t x : ℕ) → bit_at x (4 * n + t) ≡ nibble (x / 2 ^ t) n % 2
-bit_digit n t x =
-    let e : 4 * n + t ≡ t + 4 * n = omega arith in
-    let s : x / 2 ^ t / 2 ^ (4 * n) ≡ x / 2 ^ (t + 4 * n) = shr-shr x t (4 * n) in
-    let d : x / 2 ^ t / 2 ^ (4 * n) % 16 ≡ nibble (x / 2 ^ t) n = nibble_is n (x / 2 ^ t) in
-    rw (e, ← s) (omega (arith, d))
+bit_digit n t x = grind (arith, nat_tests, shr-shr x t (4 * n), nibble_is n (x / 2 ^ t))
 
 one_or_none : (v : ℕ) → v < 2 → v ≡ cond (eqb v 1) 1 0
 one_or_none zero h = refl
@@ -65,8 +59,7 @@ pub low_past : (ws : List ℕ) (i : ℕ) → length ws ≤ i / 16 → counter_at
 low_past ws i h = ap (λ x. nibble x (i % 16)) (get_or_past ws (i / 16) 0 h) ∙ zero_nibble (i % 16)
 
 pub low_everywhere : (ws : List ℕ) (w : ℕ) → w ≡ 4 * length ws → ((i : ℕ) → i < 4 * w → counter_at ws i ≤ 7) → (i : ℕ) → counter_at ws i ≤ 7
-low_everywhere ws w e h i =
-    grind (arith, nat_tests, low_past)
+low_everywhere ws w e h i = grind (arith, nat_tests, low_past)
 
 -- digit n of a word of digits below 8, from the digits of all the words
 pub low_digit : (ws : List ℕ) (j n : ℕ) → n < 16 → ((i : ℕ) → counter_at ws i ≤ 7) → nibble (get_or ws j 0) n ≤ 7
@@ -77,18 +70,11 @@ low_digit ws j n w h =
 
 module _ (w : ℕ) (s : Spread) (some : 0 < w) (ws : List ℕ) (whole : w ≡ 4 * length ws) where
   pub halve_after : table w s some (counter_at (map halved_word ws)) ≡ halved_table (table w s some (counter_at ws))
-  halve_after = ap (λ (cs : List ℕ). let t : Table = record { width = w; spread = s; counters = cs } in t)
-      (by_place_same (4 * w) (counter_at (map halved_word ws)) _ 0 (λ i h. halved_at ws i (omega (arith, whole)) ∙ ap (λ x. x / 2) (sym (get_or-by_place (4 * w) (counter_at ws) i 0 h))))
+  halve_after = grind (arith, nat_tests, by_place_same, halved_at, get_or-by_place)
 
   -- the bits of the lost words are the halving's record
   pub lost_is : (n : ℕ) → 4 * n ≡ length ws → ◌≡◌ {A = HalveRecord} record { lost = bits_of (by_place n (lost_word ws)) } (halve_record_of (table w s some (counter_at ws)))
-  lost_is n few =
-      let ls = by_place n (lost_word ws) in
-      let e : 64 * length ls ≡ 4 * w = let k = length-by_place n (lost_word ws) in omega (arith, whole, few, k) in
-      ap (λ (bs : List Bool). let r : HalveRecord = record { lost = bs } in r)
-      (ap (λ (k : ℕ). by_place k (bit_of ls)) e
-      ∙ by_place_same (4 * w) (bit_of ls) (λ p. eqb (get_or (by_place (4 * w) (counter_at ws)) (counter_kept p) 0 % 2) 1) false (λ p h.
-      ap (λ x. eqb x 1) (bit_lost ws n p few (omega (arith, whole)) ∙ ap (λ x. x % 2) (sym (get_or-by_place (4 * w) (counter_at ws) (counter_kept p) 0 (omega (arith, whole, few)))))))
+  lost_is n few = grind (arith, nat_tests, length-by_place n (lost_word ws), by_place_same, bit_lost, get_or-by_place)
 
   pub unhalve_after : (lost : List ℕ) → ((i : ℕ) → counter_at ws i ≤ 7) → length ws ≡ 4 * length lost
       → table w s some (counter_at (by_place (length ws) (λ i. 2 * get_or ws i 0 + lost_of_word lost i))) ≡ table_before_halving record { lost = bits_of lost } (table w s some (counter_at ws))
@@ -106,17 +92,11 @@ module _ (w : ℕ) (s : Spread) (some : 0 < w) (ws : List ℕ) (whole : w ≡ 4 
 
 -- the counters of any words make a table
 pub table_is : (w : ℕ) (s : Spread) (ws : List ℕ) → 16 ≤ w → w ≡ 16 * (w / 16) → IsTable record { width = w; spread = s; counters = by_place (4 * w) (counter_at ws) }
-table_is w s ws wide even = record {
-  some = omega arith;
-  words = even;
-  whole = length-by_place (4 * w) (counter_at ws);
-  small = λ i. small_by_place (4 * w) (counter_at ws) (λ i h. let l : counter_at ws i < 16 = nibble_lt (i % 16) (get_or ws (i / 16) 0) in omega (arith, l)) i;
-}
+table_is w s ws wide even = grind (arith, nat_tests, length-by_place (4 * w) (counter_at ws), small_by_place, nibble_lt)
 
 -- no counter is over 7 once it is halved
 pub low_halved : (ws : List ℕ) (i : ℕ) → counter_at (map halved_word ws) i ≤ 7
-low_halved ws i =
-    grind (arith, nat_tests, halved_at, nibble_lt, low_past, length-map)
+low_halved ws i = grind (arith, nat_tests, halved_at, nibble_lt, low_past, length-map)
 
 -- a word halved, and unhalved by the bits that it lost
 word_undone : (ws : List ℕ) (m i : ℕ) → i / 4 < m → get_or ws i 0 < 2 ^ 64 → 2 * halved_word (get_or ws i 0) + lost_of_word (by_place m (lost_word ws)) i ≡ get_or ws i 0
@@ -141,7 +121,4 @@ pub words_undone : (ws new lost : List ℕ) (m : ℕ) → m ≡ (length ws + 3) 
     → unhalved_words new lost ≡ ws
 words_undone ws new lost m few e f fits =
     let n : length (map halved_word ws) ≡ length ws = length-map ws halved_word in
-    ap (λ v. unhalved_words v lost) e ∙ ap (λ v. unhalved_words (map halved_word ws) v) f
-    ∙ ap (λ k. by_place k (λ i. 2 * get_or (map halved_word ws) i 0 + lost_of_word (by_place m (lost_word ws)) i)) n
-    ∙ by_place_same (length ws) _ (λ i. get_or ws i 0) 0 (λ i h. rw (get_or-map halved_word ws i 0 0 h) (word_undone ws m i (omega (arith, few)) (fits i h)))
-    ∙ by_place_whole ws (length ws) 0 refl
+    grind (arith, nat_tests, by_place_same, get_or-map, word_undone, by_place_whole ws (length ws) 0 refl)

@@ -1,5 +1,6 @@
 -- What a halving does to a word's digits.
-use Rattle.std.proofs.Common.{◌≡◌, ℕ, suc, zero, ◌+◌, ◌*◌, ◌/◌, ◌%◌, ◌<◌, ◌≤◌, ◌^◌, List, get_or, bit_and, bit_or, ap, ◌∙◌, sym, arith}
+use Rattle.std.proofs.lemmas.Bool.Decides.{nat_tests}
+use Rattle.std.proofs.Common.{◌≡◌, ℕ, suc, zero, ◌+◌, ◌*◌, ◌/◌, ◌%◌, ◌<◌, ◌≤◌, ◌^◌, List, get_or, bit_and, bit_or, ap, ◌∙◌, arith}
 use Rattle.std.proofs.lemmas.Nat.{and_mask, and_shr, and_mod, or_shr, or_mod, or_comm, or_shifted, shr-shr, mul-le}
 use Rattle.std.proofs.Math.Nat.{add-mul}
 use Rattle.sketch.specs.Counters.{nibble}
@@ -26,9 +27,7 @@ shifted zero (suc zero) x h = omega arith
 shifted zero (suc (suc zero)) x h = omega arith
 shifted zero (suc (suc (suc zero))) x h = omega arith
 shifted zero (suc (suc (suc (suc t)))) x h = absurd (omega arith)
-shifted (suc n) t x h =
-    let swap : x / 2 ^ t / 16 ≡ x / 16 / 2 ^ t = shr-shr x t 4 ∙ (let e : t + 4 ≡ 4 + t = omega arith in ap (λ k. x / 2 ^ k) e) ∙ sym (shr-shr x 4 t) in
-    rw swap (shifted n t (x / 16) h)
+shifted (suc n) t x h = grind (arith, nat_tests, shr-shr x t 4, shr-shr x 4 t, shifted n t (x / 16) h)
 
 -- ---- masks that are the same in each digit
 
@@ -40,9 +39,7 @@ mask_digit : (d k n : ℕ) → d < 16 → n < k → nibble (mask d k) n ≡ d
 unfolding nibble mask
 mask_digit d zero n h w = absurd (omega arith)
 mask_digit d (suc k) zero h w = omega arith
-mask_digit d (suc k) (suc n) h w =
-    let e : (mask d k * 16 + d) / 16 ≡ mask d k = omega arith in
-    rw e (mask_digit d k n h (omega arith))
+mask_digit d (suc k) (suc n) h w = grind (arith, nat_tests, mask d k, mask_digit d k n h (omega arith))
 
 halved : (n x : ℕ) → nibble (x / 2) n % 8 ≡ nibble x n / 2
 unfolding nibble
@@ -84,12 +81,7 @@ nibble_doubled (suc k) (suc n) x b w h g =
 
 -- a word whose digits are one bit, moved left within them
 parts : (x p : ℕ) → x % 16 ≤ 1 → p ≤ 8 → (x * p % 16 ≡ x % 16 * p) × (x * p / 16 ≡ x / 16 * p)
-parts x p b h =
-    let few : x % 16 * p ≤ 1 * 8 = mul-le (x % 16) p 1 8 b h in
-    let whole : x ≡ x / 16 * 16 + x % 16 = omega arith in
-    let e : x * p ≡ x / 16 * 16 * p + x % 16 * p = ap (λ y. y * p) whole ∙ add-mul (x / 16 * 16) (x % 16) p in
-    let f : x / 16 * 16 * p ≡ x / 16 * p * 16 = grind arith in
-    (omega (arith, few, e, f), omega (arith, few, e, f))
+parts x p b h = grind (arith, nat_tests, mul-le (x % 16) p 1 8 b h, add-mul (x / 16 * 16) (x % 16) p)
 
 moved : (k n p x : ℕ) → n < k → p ≤ 8 → ((m : ℕ) → m < k → nibble x m ≤ 1) → nibble (x * p) n ≡ nibble x n * p
 unfolding nibble
@@ -98,11 +90,7 @@ moved (suc k) zero p x w h b = (parts x p (b 0 (omega arith)) h).0
 moved (suc k) (suc n) p x w h b = rw ((parts x p (b 0 (omega arith)) h).1) (moved k n p (x / 16) (omega arith) h (λ m v. b (suc m) (omega arith)))
 
 union_low : (a b c d : ℕ) → a < 2 → b < 2 → c < 2 → d < 2 → bit_or (bit_or (bit_or a (b * 2)) (c * 4)) (d * 8) ≡ a + 2 * b + 4 * c + 8 * d
-union_low a b c d p q r s =
-    let x : bit_or a (b * 2) ≡ b * 2 + a = or_comm a (b * 2) ∙ or_shifted b 1 a p in
-    let y : bit_or (b * 2 + a) (c * 4) ≡ c * 4 + (b * 2 + a) = or_comm (b * 2 + a) (c * 4) ∙ or_shifted c 2 (b * 2 + a) (omega arith) in
-    let z : bit_or (c * 4 + (b * 2 + a)) (d * 8) ≡ d * 8 + (c * 4 + (b * 2 + a)) = or_comm (c * 4 + (b * 2 + a)) (d * 8) ∙ or_shifted d 3 (c * 4 + (b * 2 + a)) (omega arith) in
-    rw (x, y, z) (omega arith)
+union_low a b c d p q r s = search (arith, or_comm, or_shifted)
 
 module _ (ws : List ℕ) (j n : ℕ) (w : n < 16) where
   -- what one of the four words loses in a digit
@@ -110,16 +98,10 @@ module _ (ws : List ℕ) (j n : ℕ) (w : n < 16) where
   lost t = nibble (get_or ws (4 * j + t) 0) n % 2
 
   moved_bit : (t p : ℕ) → p ≤ 8 → nibble (odd_bits (get_or ws (4 * j + t) 0) * p) n ≡ lost t * p
-  moved_bit t p h =
-      let x = get_or ws (4 * j + t) 0 in
-      moved 16 n p (odd_bits x) w h (λ m v. let e = nibble_odd m x v in omega (arith, e)) ∙ ap (λ y. y * p) (nibble_odd n x w)
+  moved_bit t p h = grind (arith, nat_tests, moved, nibble_odd)
 
   all_lost : nibble (lost_word ws j) n ≡ lost 0 + 2 * lost 1 + 4 * lost 2 + 8 * lost 3
-  all_lost =
-      let x : ℕ → ℕ = λ t. odd_bits (get_or ws (4 * j + t) 0) in
-      or_digit n (bit_or (bit_or (x 0) (x 1 * 2)) (x 2 * 4)) (x 3 * 8)
-      ∙ rw (or_digit n (bit_or (x 0) (x 1 * 2)) (x 2 * 4), or_digit n (x 0) (x 1 * 2), nibble_odd n (get_or ws (4 * j + 0) 0) w, moved_bit 1 2 (omega arith), moved_bit 2 4 (omega arith), moved_bit 3 8 (omega arith))
-      (union_low (lost 0) (lost 1) (lost 2) (lost 3) (omega arith) (omega arith) (omega arith) (omega arith))
+  all_lost = grind (arith, nat_tests, or_digit, nibble_odd, moved_bit, union_low)
 
   picked : (t : ℕ) → t < 4 → (lost 0 + 2 * lost 1 + 4 * lost 2 + 8 * lost 3) / 2 ^ t % 2 ≡ lost t
   picked zero h = omega arith

@@ -6,7 +6,7 @@ use Rattle.std.specs.Int.RustNames.{count_ones}
 use Rattle.std.proofs.lemmas.Nat.{and_mask, pow_pos, pow-add, pow_below, shl-shr, zero_from_ones, ones_le_self}
 use Rattle.std.proofs.lemmas.Nat.Bits.{bit_at-trailing_zeros, bit_at-pow_other}
 use Rattle.std.proofs.lemmas.Bool.{cases_eq, cases_lt}
-use Rattle.std.proofs.Math.Nat.{pow-suc, mul_comm}
+use Rattle.std.proofs.Math.Nat.{mul_comm}
 use lib.Count.{ones_step}
 
 one_bit : (d n : ℕ) → n ≤ d → count_ones n ≡ 1 → IsPowerOfTwo n
@@ -17,8 +17,7 @@ one_bit (suc d) n h e =
       | inl odd ↦ let z : n / 2 ≡ 0 = zero_from_ones (n / 2) (omega arith) in (0, omega arith)
       | inr even ↦
           let p = one_bit d (n / 2) (omega (arith, ones_le_self n)) (omega arith) in
-          let q = pow-suc 2 p.0 in
-          (suc p.0, omega (arith, p.1, q))
+          (suc p.0, omega (arith, p.1))
     ]
 
 pub power_of : (w : ℕ) → count_ones w ≡ 1 → IsPowerOfTwo w

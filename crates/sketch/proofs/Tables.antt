@@ -48,8 +48,7 @@ module _ (w : ℕ) (s : Spread) (some : 0 < w) where
   -- a change of a key's counters, and one that takes it back
   module _ (key : ℕ) (g : ℕ → ℕ → ℕ) (f : ℕ → ℕ) where
     pub keyed : (f' : ℕ → ℕ) → ((i : ℕ) → f' i ≡ cond (nat_lt (i / w) 4 && is_of s w key i) (g (i / w) (f i)) (f i)) → table f' ≡ at_key key g (table f)
-    keyed f' after = ap (λ (cs : List ℕ). let t : Table = record { width = w; spread = s; counters = cs } in t)
-        (by_place_same (4 * w) f' _ 0 (λ i h. rw (get_or-by_place (4 * w) f i 0 h) (after i ∙ rw (in_rows i h) refl)))
+    keyed f' after = grind (arith, nat_tests, by_place_same, get_or-by_place, in_rows)
 
     changed_at : (i : ℕ) → i < 4 * w → get_or (at_key key g (table f)).counters i 0 ≡ cond (is_of s w key i) (g (i / w) (f i)) (f i)
     changed_at i h = get_or-by_place (4 * w) (λ i. cond (is_of s w key i) (g (i / w) (get_or (by_place (4 * w) f) i 0)) (get_or (by_place (4 * w) f) i 0)) i 0 h ∙ rw (get_or-by_place (4 * w) f i 0 h) refl
@@ -71,19 +70,12 @@ module _ (w : ℕ) (s : Spread) (some : 0 < w) where
 
     -- the least of a key rises with its counters
     pub touched_least : least_counter key (touched_table key (table f)) ≡ min 15 (least_counter key (table f) + 1)
-    touched_least =
-        let up : ℕ → ℕ → ℕ = λ row x. min 15 (x + 1) in
-        let rises : (row : ℕ) → row < 4 → counter_of key (touched_table key (table f)) row ≡ min 15 (counter_of key (table f) row + 1) = λ row h.
-        own_counter key up f row h ∙ ap (up row) (sym (own_before row h)) in
-        let at = counter_of key (table f) in
-        rw (rises 0 (omega arith), rises 1 (omega arith), rises 2 (omega arith), rises 3 (omega arith))
-        (rw (up_min (at 0) (at 1), up_min (at 2) (at 3)) (up_min (min (at 0) (at 1)) (min (at 2) (at 3))))
+    touched_least = grind (arith, nat_tests, own_counter, own_before, up_min)
 
     -- the counters that a touch met at the key's columns, and what is kept of them
     module _ (cs : List ℕ) (columns_are : cs ≡ by_place 4 (λ row. column s key row w)) (were : List ℕ) (were_are : were ≡ by_place 4 (λ row. f (row * w + get_or cs row 0))) where
       met : were ≡ by_place 4 (counter_of key (table f))
-      met = were_are ∙ by_place_same 4 (λ row. f (row * w + get_or cs row 0)) (counter_of key (table f)) 0
-          (λ row h. ap (λ n. f (row * w + n)) (column_is key cs columns_are row h) ∙ sym (own_before row h))
+      met = grind (arith, nat_tests, by_place_same, column_is, own_before)
 
       pub flags_are : ◌≡◌ {A = RaisedRows} record {
         row_0 = nat_lt (get_or were 0 0) 15;
@@ -106,8 +98,7 @@ module _ (w : ℕ) (s : Spread) (some : 0 < w) where
     pub touch_undone : ((i : ℕ) → f i ≤ 15) → table_before_touch (touch_record_of key (table f)) (touched_table key (table f)) ≡ table f
     touch_undone small = unkeyed key (λ row x. min 15 (x + 1)) f (λ row x. cond (rose (touch_record_of key (table f)) row) (x - 1) x) (λ i lt e.
         let d : i / w < 4 = div_below i w 4 some lt in
-        let p : f (i / w * w + column s key (i / w) w) ≡ f i = ap f (sym (own_place key i e)) in
-        rw (flag (i / w) d, p) (grind (arith, nat_tests)))
+        rw (flag (i / w) d) (grind (arith, nat_tests)))
 
     pub touch_fits : FitsTouch (touch_record_of key (table f)) (touched_table key (table f))
     touch_fits = record {
@@ -118,9 +109,7 @@ module _ (w : ℕ) (s : Spread) (some : 0 < w) where
     }
 
   pub fits_some : (r : TouchRecord) (f : ℕ → ℕ) → FitsTouch r (table f) → (row : ℕ) → row < 4 → rose r row ≡ true → 0 < f (row * w + column s r.key row w)
-  fits_some r f fit row h e =
-      let c : get_or (by_place (4 * w) f) (row * w + column s r.key row w) 0 ≡ f (row * w + column s r.key row w) = get_or-by_place (4 * w) f (row * w + column s r.key row w) 0 (place_within r.key row h) in
-      let a : 0 < get_or (by_place (4 * w) f) (row * w + column s r.key row w) 0 = fit.raised row h e in omega (arith, c, a)
+  fits_some r f fit row h e = grind (arith, nat_tests, get_or-by_place, place_within)
 
 pub cell_within : (w row col : ℕ) → row < 4 → col < w → row * w + col < 4 * w
 cell_within w row col r c = let m : row * w ≤ 3 * w = grind arith in omega arith

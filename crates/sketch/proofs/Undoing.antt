@@ -2,7 +2,7 @@
 use Rattle.std.proofs.Common.{◌≡◌, ◌≢◌, ℕ, suc, zero, ◌+◌, ◌*◌, ◌/◌, ◌%◌, ◌<◌, ◌≤◌, min, Bool, true, false, cond, eqb, List, get_or, ap, ◌∙◌, refl, subst, arith}
 use Rattle.std.proofs.lemmas.Bool.Decides.{nat_tests}
 use Rattle.sketch.specs.declared.halve_record.HalveRecord.{HalveRecord}
-use Rattle.sketch.specs.Sketch.{Table, counter_of, is_of, touched_table, halved_table, least_counter, IsTable}
+use Rattle.sketch.specs.Sketch.{Table, counter_of, touched_table, halved_table, least_counter, IsTable}
 use Rattle.sketch.specs.Columns.{column}
 use Rattle.sketch.specs.TouchRecord.{TouchRecord, touch_record_of, table_before_touch, FitsTouch}
 use Rattle.sketch.specs.HalveRecord.{counter_kept, kept_at, halve_record_of, table_before_halving, FitsHalve}
@@ -49,12 +49,7 @@ module _ (t : Table) (is : IsTable t) where
       ∙ rebuilt
 
   pub halve_fits : FitsHalve (halve_record_of t) (halved_table t)
-  halve_fits = record {
-    whole = length-by_place (4 * t.width) (λ p. eqb (get_or t.counters (counter_kept p) 0 % 2) 1);
-    low = λ i h.
-        let e = get_or-by_place (4 * t.width) (λ i. get_or t.counters i 0 / 2) i 0 h in
-        omega (arith, e, is.small i);
-  }
+  halve_fits = grind (arith, nat_tests, length-by_place, get_or-by_place)
 
   -- the same of a record and a table that are known by equations
   pub untouched_is : (key : ℕ) (r : TouchRecord) (u : Table) → r ≡ touch_record_of key t → u ≡ touched_table key t → table_before_touch r u ≡ t
@@ -68,17 +63,7 @@ module _ (t : Table) (is : IsTable t) where
 
   -- what a touch or a halving leaves is a table again
   pub touched_is : (key : ℕ) → IsTable (touched_table key t)
-  touched_is key = record {
-    some = is.some;
-    words = is.words;
-    whole = length-by_place (4 * t.width) (λ i. cond (is_of t.spread t.width key i) (min 15 (get_or t.counters i 0 + 1)) (get_or t.counters i 0));
-    small = small_by_place (4 * t.width) (λ i. cond (is_of t.spread t.width key i) (min 15 (get_or t.counters i 0 + 1)) (get_or t.counters i 0)) (λ i h. one_of (is_of t.spread t.width key i) (get_or t.counters i 0) (is.small i));
-  }
+  touched_is key = grind (arith, nat_tests, length-by_place, small_by_place, one_of)
 
   pub halved_is : IsTable (halved_table t)
-  halved_is = record {
-    some = is.some;
-    words = is.words;
-    whole = length-by_place (4 * t.width) (λ i. get_or t.counters i 0 / 2);
-    small = small_by_place (4 * t.width) (λ i. get_or t.counters i 0 / 2) (λ i h. let s = is.small i in omega arith);
-  }
+  halved_is = grind (arith, nat_tests, length-by_place, small_by_place)

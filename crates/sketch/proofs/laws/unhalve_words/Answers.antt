@@ -1,3 +1,4 @@
+use Rattle.std.proofs.lemmas.Bool.Decides.{nat_tests}
 use Rattle.std.proofs.Common.{◌≡◌, ◌+◌, ◌-◌, ◌*◌, ◌/◌, ◌<◌, length, get_or, arith, ◌∙◌, ap, inl, inr}
 use Rattle.std.proofs.lemmas.Bool.{cases_lt}
 use Rattle.std.proofs.lemmas.List.FromFn.{fill_by_all}
@@ -7,8 +8,7 @@ use Rattle.sketch.proofs.Halves.{low_digit}
 use Rattle.sketch.proofs.laws.unhalve_words.Goals as goal
 
 pub unhalve_block-requires-clause-low : goal.unhalve_block-requires-clause-low
-unhalve_block-requires-clause-low c = λ t h n v.
-    rw (c.loop-block.invariant.1 (8 * c.loop-block.block + t) (omega arith)) (low_digit c.args.words.now (8 * c.loop-block.block + t) n v c.requires.low)
+unhalve_block-requires-clause-low c = grind (arith, nat_tests, low_digit)
 
 pub loop-block-preserved : goal.loop-block-preserved
 loop-block-preserved c = (
@@ -25,9 +25,7 @@ loop-block-preserved c = (
 )
 
 pub unhalve_rest-requires-clause-low : goal.unhalve_rest-requires-clause-low
-unhalve_rest-requires-clause-low c = λ k h n v.
-    let b : c.loop-block.block ≡ length c.args.words.now / 8 = omega (arith, c.loop-block-test.false, c.loop-block.auto.block-end) in
-    rw (c.loop-block.invariant.1 k (omega (arith, b))) (low_digit c.args.words.now k n v c.requires.low)
+unhalve_rest-requires-clause-low c = grind (arith, nat_tests, low_digit)
 
 pub returns : goal.returns
 returns c =

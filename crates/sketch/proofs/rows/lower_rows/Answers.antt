@@ -1,3 +1,4 @@
+use Rattle.std.proofs.lemmas.Bool.Decides.{nat_tests}
 use Rattle.std.proofs.lemmas.Grind.{common_steps, elements}
 use Rattle.std.proofs.Common.{ℕ, ◌-◌, ◌<◌, cond, arith}
 use Rattle.sketch.specs.Counters.{counter_at}
@@ -7,12 +8,7 @@ use Rattle.sketch.proofs.RowLists.{row_more, row_same}
 use Rattle.sketch.proofs.rows.lower_rows.Goals as goal
 
 pub lower-requires-clause-some : goal.lower-requires-clause-some
-lower-requires-clause-some c = λ e.
-    let cols : ℕ → ℕ = λ row. column c.args.spread c.args.done.now.key row c.args.width in
-    let down : ℕ → ℕ → ℕ = λ row x. cond (rose c.args.done.now row) (x - 1) x in
-    let below : cols c.loop-row.row < c.args.width = column_below c.args.spread c.args.done.now.key c.loop-row.row c.args.width c.requires.low in
-    let old = row_same c.args.width cols down (counter_at c.args.words.now) (counter_at c.loop-row.words) (counter_at c.loop-row.words) c.loop-row.row below c.loop-row.invariant in
-    rw (c.column.ensures.value, old) (c.requires.some c.loop-row.row c.loop-row-test.true (rw (← c.rose_in-rose.ensures) e))
+lower-requires-clause-some c = grind (arith, nat_tests, row_same)
 
 pub loop-row-preserved : goal.loop-row-preserved
 loop-row-preserved c =

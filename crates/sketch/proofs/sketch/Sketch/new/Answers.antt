@@ -1,6 +1,5 @@
-use Rattle.std.proofs.Common.{arith, rules, replicate, ap, ◌≡◌, ◌*◌, ◌/◌, length, List, ℕ}
-use Rattle.sketch.specs.Counters.{counter_at}
-use Rattle.sketch.specs.Sketch.{Table}
+use Rattle.std.proofs.lemmas.Bool.Decides.{nat_tests}
+use Rattle.std.proofs.Common.{arith, ◌≡◌, ◌*◌, ◌/◌, length}
 use Rattle.step_record.proofs.Places.{by_place_same}
 use Rattle.sketch.proofs.Digits.{nibble_zero}
 use Rattle.sketch.proofs.Masks.{whole_parts}
@@ -14,7 +13,4 @@ invariant_of-result c =
     (c.requires.low, c.requires.high, omega (arith, n, m), m, p, tt, c.columns.ensures.value)
 
 pub returns : goal.returns
-returns c =
-    let e : c.in_ok-words.words.items ≡ replicate (c.args.width / 4) 0 = search rules in
-    ap (λ (cs : List ℕ). let t : Table = record { width = c.args.width; spread = c.args.spread; counters = cs } in t)
-    (by_place_same (4 * c.args.width) (counter_at c.in_ok-words.words.items) (λ i. 0) 0 (λ i h. rw e (nibble_zero (c.args.width / 4) i)))
+returns c = grind (arith, nat_tests, by_place_same, nibble_zero)

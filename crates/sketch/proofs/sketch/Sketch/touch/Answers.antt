@@ -1,8 +1,7 @@
-use Rattle.std.proofs.Common.{◌≡◌, arith, ◌∙◌, ap, sym, cond, ◌+◌, ◌<◌, min, length}
+use Rattle.std.proofs.lemmas.Bool.Decides.{nat_tests}
+use Rattle.std.proofs.Common.{◌≡◌, arith, ◌∙◌, ap, sym, ◌+◌, ◌<◌, length}
 use Rattle.std.specs.Vec.{with_items}
 use Rattle.std.proofs.lemmas.List.{with_items_is}
-use Rattle.sketch.specs.declared.touch_record.TouchRecord.{TouchRecord}
-use Rattle.sketch.specs.declared.touch_record.RaisedRows.{RaisedRows}
 use Rattle.sketch.specs.Counters.{counter_at}
 use Rattle.sketch.specs.Sketch.{touched_table, IsTable}
 use Rattle.sketch.proofs.Halves.{table_is}
@@ -11,21 +10,10 @@ use Rattle.sketch.proofs.Undoing.{untouched_is, touch_fits}
 use Rattle.sketch.proofs.sketch.Sketch.touch.Goals as goal
 
 pub returns-clause-after : goal.returns-clause-after
-returns-clause-after c =
-    let some : 0 < c.self.inside.width = omega (arith, c.self.invariant.0) in
-    let n : length c.raise_rows-were.new.words ≡ c.self.inside.words.len = omega (arith, c.raise_rows-were.auto.words, c.deref_mut.ensures.len) in
-    let items : (with_items c.self.inside.words c.raise_rows-were.new.words).items ≡ c.raise_rows-were.new.words = with_items_is c.self.inside.words c.raise_rows-were.new.words n in
-    let counters = rw c.deref_mut.ensures.value at c.raise_rows-were.ensures.counters in
-    let own = own_column c.self.inside.width c.self.inside.spread some c.args.key c.columns-columns.result c.columns-columns.ensures.value in
-    rw (← c.self.view_is, items) (keyed c.self.inside.width c.self.inside.spread some c.args.key (λ row x. min 15 (x + 1)) (counter_at c.self.inside.words.items) (counter_at c.raise_rows-were.new.words)
-    (λ i. counters i ∙ ap (λ b. cond b (min 15 (counter_at c.self.inside.words.items i + 1)) (counter_at c.self.inside.words.items i)) (own i)))
+returns-clause-after c = search (arith, with_items_is, own_column, keyed)
 
 pub returns-clause-record_is : goal.returns-clause-record_is
-returns-clause-record_is c =
-    let some : 0 < c.self.inside.width = omega (arith, c.self.invariant.0) in
-    let were = rw c.deref_mut.ensures.value at c.raise_rows-were.ensures.were in
-    rw (← c.self.view_is) (ap (λ (rows : RaisedRows). let r : TouchRecord = record { key = c.args.key; rose = rows } in r)
-    (flags_are c.self.inside.width c.self.inside.spread some c.args.key (counter_at c.self.inside.words.items) c.columns-columns.result c.columns-columns.ensures.value c.raise_rows-were.result were))
+returns-clause-record_is c = grind (arith, nat_tests, flags_are)
 
 pub invariant_of-self : goal.invariant_of-self
 invariant_of-self c =

@@ -1,20 +1,16 @@
-use Rattle.std.proofs.Common.{◌≡◌, ◌∙◌, Bool, List, ap, arith, ◌*◌, ◌<◌, length}
+use Rattle.std.proofs.lemmas.Bool.Decides.{nat_tests}
+use Rattle.std.proofs.Common.{◌≡◌, ap, arith, ◌*◌, ◌<◌, length}
 use Rattle.std.specs.Vec.{with_items}
 use Rattle.std.proofs.lemmas.List.{with_items_is}
-use Rattle.step_record.specs.Places.{by_place}
 use Rattle.step_record.specs.Bits.{bit_of}
 use Rattle.step_record.proofs.Places.{length-by_place, get_or-by_place}
 use Rattle.sketch.specs.Counters.{counter_at}
-use Rattle.sketch.specs.HalveRecord.{table_before_halving}
 use Rattle.sketch.proofs.Halves.{unhalve_after, low_everywhere}
 use Rattle.sketch.proofs.sketch.Sketch.unhalve.Goals as goal
 
 pub unhalve_words-requires-clause-whole : goal.unhalve_words-requires-clause-whole
 unhalve_words-requires-clause-whole c =
-    let fit = rw (← c.self.view_is) at c.requires.whole in
-    let e = ap length c.as_words.ensures in
-    let n = length-by_place (64 * length c.as_words.result.now) (bit_of c.as_words.result.now) in
-    rw c.deref_mut.ensures.value (omega (arith, fit, e, n, c.self.invariant.2))
+    grind (arith, nat_tests, length-by_place (64 * length c.as_words.result.now) (bit_of c.as_words.result.now))
 
 pub unhalve_words-requires-clause-low : goal.unhalve_words-requires-clause-low
 unhalve_words-requires-clause-low c =
@@ -34,6 +30,4 @@ returns c =
     let fit = rw (← c.self.view_is) at c.requires.low in
     let low = low_everywhere c.self.inside.words.items c.self.inside.width c.self.invariant.2
     (λ i h. let e = get_or-by_place (4 * c.self.inside.width) (counter_at c.self.inside.words.items) i 0 h in let f = fit i h in omega (arith, e, f)) in
-    rw (← c.self.view_is, items, words)
-    (unhalve_after c.self.inside.width c.self.inside.spread some c.self.inside.words.items c.self.invariant.2 c.as_words.result.now low (omega (arith, whole, e, count, c.self.invariant.2))
-    ∙ ap (λ (bs : List Bool). table_before_halving record { lost = bs } record { width = c.self.inside.width; spread = c.self.inside.spread; counters = by_place (4 * c.self.inside.width) (counter_at c.self.inside.words.items) }) c.as_words.ensures)
+    grind (arith, nat_tests, unhalve_after c.self.inside.width c.self.inside.spread some c.self.inside.words.items c.self.invariant.2 c.as_words.result.now low (omega (arith, whole, e, count, c.self.invariant.2)))
