@@ -67,17 +67,14 @@ gap-numbered q older s g =
 -- the queues
 
 pub push-named : (q : Queue) (e : Entry) (s : ByNumber.Queues) → named (ByNumber.after_push (number_of q) e s) ≡ queues_after_push q e.item (named s)
-push-named q e s =
-    with-named q (s (number_of q) ++ e ∷ []) s
-    ∙ ap (λ (l : List Item). with_queue q l (named s)) (map-append (λ (x : Entry). x.item) (s (number_of q)) (e ∷ []) ∙ ap (λ (l : List Item). l ++ e.item ∷ []) (queue-named q s))
+push-named q e s = grind (arith, nat_tests, with-named q (s (number_of q) ++ e ∷ []) s, map-append, queue-named q s)
 
 pub without-named : (i : Item) (s : ByNumber.Queues) → named (ByNumber.after_removal i s) ≡ queues_without i (named s)
 without-named i s = rw (items-without i (s 0), items-without i (s 1), items-without i (s 2)) refl
 
 pub return-named : (q : Queue) (o : Option Item) (e : Entry) (s : ByNumber.Queues) → named (ByNumber.after_return (number_of q) o e s) ≡ with_queue q (put_behind o e.item (queue_of q (named s))) (named s)
 return-named q o e s =
-    with-named q (Entries.put_behind o e (s (number_of q))) s
-    ∙ ap (λ (l : List Item). with_queue q l (named s)) (items-put o e (s (number_of q)) ∙ ap (put_behind o e.item) (queue-named q s))
+    cc (with-named q (Entries.put_behind o e (s (number_of q))) s, items-put o e (s (number_of q)), queue-named q s)
 
 pub with-kept : (q : Queue) (l : List Entry) (s : ByNumber.Queues) → IsNamed s → IsNamed (ByNumber.with_queue (number_of q) l s)
 with-kept Window l s h = record { fourth = h.fourth }
@@ -98,12 +95,7 @@ pub data IsShown : Option ℕ → Option Queue → Type 0 where
 
 pub missing-numbered : (i : Item) (s : ByNumber.Queues) → IsNamed s → queue_holding i (named s) ≡ None → ByNumber.queue_holding i s ≡ None
 missing-numbered i s h e =
-    let a = absent i (named s) e in
-    let w = times-is i (s 0) in
-    let p = times-is i (s 1) in
-    let r = times-is i (s 2) in
-    let z = ap (Entries.occurrences i) h.fourth in
-    grind (arith, nat_tests)
+    grind (arith, nat_tests, absent i (named s) e, times-is i (s 0), times-is i (s 1), times-is i (s 2))
 
 pub holding-shown : (i : Item) (s : ByNumber.Queues) → ByNumber.IsDistinct s → IsNamed s → IsShown (ByNumber.queue_holding i s) (queue_holding i (named s))
 holding-shown i s d h = at _ (stands i (named s) (distinct-named s d))
@@ -134,11 +126,7 @@ shown-none o q (in_queue x) h = absurd (cc h)
 
 place-at : (i : Item) (p : Place) (o : Option ℕ) (q : Option Queue) (s : ByNumber.Queues) → IsShown o q → Some p ≡ ByNumber.place_at i o s → Some (named_place p) ≡ item_place i q (named s)
 place-at i p o q s in_none h = absurd (cc h)
-place-at i p o q s (in_queue x) h =
-    let here : Place = record { queue = number_of x; older = Entries.last_item (Entries.before i (s (number_of x))) } in
-    let same : p ≡ here = cc in
-    let older : here.older ≡ last_item (before i (queue_of x (named s))) = last-is None (Entries.before i (s (number_of x))) ∙ ap last_item (items-before i (s (number_of x)) ∙ ap (before i) (queue-named x s)) in
-    ap (λ (y : Place). Some (named_place y)) same ∙ rw (name-number x, older) refl
+place-at i p o q s (in_queue x) h = grind (arith, nat_tests, last-is, items-before, queue-named, name-number)
 
 module _ (i : Item) (s : ByNumber.Queues) (d : ByNumber.IsDistinct s) (h : IsNamed s) where
   pub holding-named : (n : ℕ) → ByNumber.queue_holding i s ≡ Some n → queue_holding i (named s) ≡ Some (name_of n)

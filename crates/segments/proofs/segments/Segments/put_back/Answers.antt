@@ -1,8 +1,8 @@
+use Rattle.std.proofs.lemmas.Bool.Decides.{nat_tests}
 use Rattle.std.proofs.Common.{◌≡◌, ◌∙◌, None, ap, sym, arith}
 use Rattle.queue_table.specs.declared.records.Entry.{Entry}
 use Rattle.queue_table.specs.Queues as ByNumber
 use Rattle.queue_table.specs.QueueTable.{queues}
-use Rattle.segments.specs.Queues.{Shown}
 use Rattle.segments.specs.Moves.{room_needed}
 use Rattle.segments.proofs.QueueLists.{needs-room}
 use Rattle.segments.proofs.Calls.{IsUndone, missing-is, gap-without, put-back, room-after}
@@ -17,19 +17,14 @@ one c none =
     (ap (λ (x : Entry). ByNumber.queue_holding x.item (queues c.self.inside.table)) (sym c.entry_for.ensures) ∙ none))
 
 undone : (c : After-put_back) → IsUndone c.args.done c.args.self.now.lists (queues c.put_back.new.self)
-undone c =
-    put-back _ _ _ c.self.view_is c.self.invariant c.args.done _ _ c.in-Some.is c.table_place.ensures.place c.requires.fits.place
-    _ c.entry_for.ensures _ c.put_back.ensures.queues
+undone c = search (arith, put-back)
 
 pub put_back-requires-clause-room : goal.put_back-requires-clause-room
 put_back-requires-clause-room c none =
-    let needed = one (goal.at.put_back-requires-clause-room c).After-entry_for none in
-    let spare = ap (λ (x : Shown). x.spare) c.self.view_is in
-    omega (arith, needed, spare, c.requires.room)
+    grind (arith, nat_tests, one (goal.at.put_back-requires-clause-room c).After-entry_for none)
 
 pub put_back-requires-clause-gap : goal.put_back-requires-clause-gap
-put_back-requires-clause-gap c =
-    gap-without _ _ _ c.self.view_is c.self.invariant c.args.done _ _ c.in-Some.is c.table_place.ensures.place c.requires.fits.place _ c.entry_for.ensures
+put_back-requires-clause-gap c = search (arith, gap-without)
 
 pub invariant_of-self : goal.invariant_of-self
 invariant_of-self c = (undone (goal.at.invariant_of-self c).After-put_back).kept
@@ -38,7 +33,4 @@ pub returns-clause-lists : goal.returns-clause-lists
 returns-clause-lists c = (undone (goal.at.returns-clause-lists c).After-put_back).lists
 
 pub returns-clause-spare : goal.returns-clause-spare
-returns-clause-spare c =
-    let spare = ap (λ (x : Shown). x.spare) c.self.view_is in
-    let r = room-after _ _ _ _ (one (goal.at.returns-clause-spare c).After-entry_for) c.put_back.ensures.spare c.put_back.ensures.stood in
-    omega (arith, spare, r)
+returns-clause-spare c = grind (arith, nat_tests, room-after, one (goal.at.returns-clause-spare c).After-entry_for)

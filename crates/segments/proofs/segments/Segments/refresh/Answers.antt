@@ -1,7 +1,7 @@
-use Rattle.std.proofs.Common.{rules, Some, ◌∙◌, ap, sym}
+use Rattle.std.proofs.lemmas.Bool.Decides.{nat_tests}
+use Rattle.std.proofs.Common.{arith, rules, Some, ◌∙◌, ap, sym}
 use Rattle.queue_table.specs.QueueTable.{queues}
 use Rattle.segments.specs.Queues.{Queue, queues_after_move}
-use Rattle.segments.specs.Moves.{move_record}
 use Rattle.segments.proofs.Calls.{IsMade, distinct-shown, holding-is, missing-is, sent}
 use Rattle.segments.proofs.segments.Segments.refresh.Goals as goal
 use Rattle.segments.proofs.segments.Segments.refresh.Goals.{After-queue_place}
@@ -35,9 +35,7 @@ pub returns-clause-lists : goal.returns-clause-lists
 returns-clause-lists c = (made (goal.at.returns-clause-lists c).After-queue_place).lists ∙ ap (λ (q : Queue). queues_after_move c.args.item q c.args.self.now.lists) c.queue_after_hit-to.ensures
 
 pub returns-clause-record : goal.returns-clause-record
-returns-clause-record c =
-    let m = (made (goal.at.returns-clause-record c).After-queue_place).recorded in
-    record { is = m.is ∙ ap (λ (q : Queue). move_record c.args.item (Some q) c.args.self.now.lists) c.queue_after_hit-to.ensures; fits = m.fits; undone = m.undone }
+returns-clause-record c = grind (arith, nat_tests, made (goal.at.returns-clause-record c).After-queue_place)
 
 pub returns-clause-distinct : goal.returns-clause-distinct
 returns-clause-distinct c = distinct-shown _ _ _ c.self.view_is c.self.invariant c.find.ensures.distinct
