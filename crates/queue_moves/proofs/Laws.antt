@@ -4,7 +4,7 @@ use Rattle.std.proofs.lemmas.Bool.{cases_eq}
 use Rattle.std.proofs.Math.Path.{fun_ext}
 use Rattle.std.proofs.lemmas.Bool.Decides.{nat_tests}
 use Rattle.queue_table.specs.Ring.{lists}
-use Rattle.queue_table.specs.Entries.{Item, is_same_item, entry, occurrences, entries_without, entries_counted, last_from, last_item, oldest_of, newest_of, newest_from, before, put_behind, IsGap}
+use Rattle.queue_table.specs.Entries.{Item, is_same_item, entry, occurrences, entries_counted, last_from, last_item, oldest_of, newest_of, newest_from, before, put_behind, IsGap}
 use Rattle.queue_table.specs.Queues.{QUEUES, Queues, queue_holding, place_at, place_in, IsDistinct, after_push, after_removal, after_send, after_count, after_return}
 use Rattle.queue_table.proofs.EntryLists.{same-refl, times-append, times-without}
 use Rattle.queue_table.proofs.QueueLists.{absent, is_absent, still-absent}
@@ -42,10 +42,7 @@ nodes-put (Some a) e (x ∷ l) = let r = nodes-put (Some a) e l in grind (arith,
 
 -- an entry that comes back
 pub keys-back : (q : ℕ) (older : Option Item) (e : Entry) (s : Queues) → e.item.node ≡ 0 → HasKeys s → HasKeys (after_return q older e (after_removal e.item s))
-keys-back q older e s n k j =
-    let put = nodes-put older e (entries_without e.item (s q)) in
-    let less = λ (x : ℕ). nodes-without e.item (s x) in
-    grind (arith, nat_tests, cases_eq j q)
+keys-back q older e s n k j = grind (arith, nat_tests, nodes-put, nodes-without, cases_eq)
 
 -- ---- what stands elsewhere
 
@@ -54,22 +51,13 @@ first-other e o [] h z = absurd (cc h)
 first-other e o (x ∷ l) h z = grind (arith, nat_tests)
 
 pub off-after-send : (i : Item) (e : Entry) (to q : ℕ) (s : Queues) → is_same_item i e.item ≡ false → occurrences i (s q) ≡ 0 → occurrences i (after_send e to s q) ≡ 0
-off-after-send i e to q s h z =
-    let less = times-without e.item i (s q) in
-    let less_to = times-without e.item i (s to) in
-    let put = times-append i (entries_without e.item (s to)) (e ∷ []) in
-    let c = cases_eq q to in
-    grind (arith, nat_tests)
+off-after-send i e to q s h z = grind (arith, nat_tests, times-without, times-append, cases_eq)
 
 -- ---- one move of a table's entry
 
 -- an entry that was put into a queue stands there
 there-pushed : (i : Item) (to n : ℕ) (s : Queues) → to < QUEUES → queue_holding i (after_push to (entry i n) s) ≢ None
-there-pushed i to n s w none =
-    let own = same-refl i in
-    let zero_of = absent i (after_push to (entry i n) s) none to w in
-    let put = times-append i (s to) (entry i n ∷ []) in
-    grind (arith, nat_tests)
+there-pushed i to n s w none = grind (arith, nat_tests, same-refl, absent, times-append)
 
 module _ (e : Entry) (s : Queues) (t : IsTabled s) (at : Stands e s) where
   abbrev pub front : List Entry
@@ -164,18 +152,12 @@ module _ (k n : ℕ) (s : Queues) (t : IsTabled s) (at : Stands (entry (item_of 
 module _ (k : ℕ) (s : Queues) (t : IsTabled s) (none : queue_holding (item_of k) s ≡ None) where
   pub own-joined : (to m : ℕ) → to < QUEUES → (u : Queues) → u ≡ after_push to (entry (item_of k) m) s
       → IsOwn (goes to m) (item_of k) s u record { key = k; older = None; count = 0; queue = 0; by = change.Joined }
-  own-joined to m w u hu = record {
-    after = hu ∙ ap (after_push to (entry (item_of k) m)) (sym (absent-gone s t (item_of k) none));
-    is = sym (ap (λ h. move_from (item_of k) (place_at (item_of k) h s) s) none);
-    fits = subst (λ x. queue_holding (item_of k) x ≢ None) (sym hu) (there-pushed (item_of k) to m s w);
-    undone = ap (after_removal (item_of k)) hu ∙ fun_ext (pushed-back to (entry (item_of k) m) s (nowhere s t (item_of k) none));
-  }
+  own-joined to m w u hu = grind (arith, nat_tests, absent-gone, there-pushed, pushed-back, nowhere)
 
 -- once another has gone
 pub own-renewed : (k : ℕ) (s : Queues) → IsTabled s → queue_holding (item_of k) s ≡ None → (i : Item) (to m : ℕ) → to < QUEUES → (u : Queues) → u ≡ after_push to (entry (item_of k) m) (after_removal i s)
     → IsOwn (goes to m) (item_of k) (after_removal i s) u record { key = k; older = None; count = 0; queue = 0; by = change.Joined }
-own-renewed k s t none i =
-    own-joined k (after_removal i s) (tabled-removal s t i) (is_absent (item_of k) _ (still-absent (item_of k) i s (absent (item_of k) s none)))
+own-renewed k s t none i = search (arith, own-joined, tabled-removal, is_absent, still-absent, absent)
 
 -- ---- the oldest key of a queue
 
@@ -204,15 +186,7 @@ module _ (e : Entry) (q : ℕ) (s : Queues) (t : IsTabled s) (w : q < QUEUES) (f
 
   pub left-out : (u : Queues) → u ≡ after_removal e.item s
       → IsLeft (leaving q None) s u record { key = e.item.key; count = e.count; queue = q; by = departure.Out }
-  left-out u hu = record {
-    after = hu ∙ sym (ap (λ x. departed None x s) first);
-    is = sym (ap (left_by None q) first);
-    fits = w;
-    undone = ap (λ i. after_return q None (entry i e.count) (after_removal i u)) own-key
-        ∙ ap (λ x. after_return q None e (after_removal e.item x)) hu
-        ∙ ap (λ o. after_return q o e (after_removal e.item (after_removal e.item s))) (sym (no-front e (s q) first))
-        ∙ taken-back e s t at_end;
-  }
+  left-out u hu = grind (arith, nat_tests, own-key, no-front e (s q) first, taken-back e s t at_end)
 
 pub nothing-left : (s : Queues) → IsLeft None s s nothing_left
 nothing-left s = record { after = refl; is = refl; fits = tt; undone = refl }

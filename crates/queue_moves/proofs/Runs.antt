@@ -1,4 +1,5 @@
 -- Runs: a turn, and any number of them.
+use Rattle.std.proofs.lemmas.Bool.Decides.{nat_tests}
 use Rattle.std.proofs.Common.{◌≡◌, ℕ, suc, zero, ◌+◌, ◌-◌, ◌<◌, ◌≤◌, true, false, nat_lt, Option, Some, None, List, [], ◌∷◌, ◌++◌, ap, ◌∙◌, sym, subst, refl, arith, inl, inr}
 use Rattle.std.proofs.lemmas.Bool.{cases_Bool}
 use Rattle.queue_table.specs.declared.records.Entry.{Entry}
@@ -20,10 +21,7 @@ newest-append found (x ∷ l) e = newest-append (Some x) l e
 module _ (e : Entry) (from to less m : ℕ) (s : Queues) (t : IsTabled s) (w : from < QUEUES) (first : oldest_of (s from) ≡ Some e)
     (lower : m + less ≡ e.count) (bound : e.count < 256) (u : Queues) (hu : u ≡ after_send (entry e.item m) to s) where
   newest-is : newest_of (u to) ≡ Some (entry e.item m)
-  newest-is =
-      ap (λ (x : Queues). newest_of (x to)) hu
-      ∙ ap newest_of (with-queue-same to _ (after_removal e.item s))
-      ∙ newest-append None (entries_without e.item (s to)) (entry e.item m)
+  newest-is = search (arith, with-queue-same, newest-append None (entries_without e.item (s to)) (entry e.item m))
 
   pub turn-made : IsTurn from to less s u
   turn-made =
@@ -70,9 +68,7 @@ turns-stop (suc n) from to less least s w =
     ]
 
 pub none-left-due : (from to less least n times : ℕ) (u : Queues) → n ≤ times → turns_due (n - times) from to less least u ≡ 0
-none-left-due from to less least n times u h =
-    let e : n - times ≡ 0 = omega (arith, h) in
-    ap (λ x. turns_due x from to less least u) e
+none-left-due from to less least n times u h = grind (arith, nat_tests)
 
 pub runs-on : (from to less least n times : ℕ) (s u v : Queues) → IsRunning from to less least n times s u → times < n
     → nat_lt (count_or 0 (oldest_of (u from))) least ≡ false → IsTurn from to less u v → IsRunning from to less least n (times + 1) s v

@@ -40,8 +40,7 @@ at-times e (suc k) (x ∷ l) w h = let r : 1 ≤ occurrences e.item l = at-times
 count-at : (e : Entry) (k : ℕ) (l : List Entry) → k < length l → slice_index_or l k e ≡ e → occurrences e.item l ≤ 1 → count_of e.item l ≡ e.count
 count-at e k [] w h few = absurd (omega (arith, w))
 count-at e zero (x ∷ l) w h few = grind (arith, nat_tests, same-refl e.item)
-count-at e (suc k) (x ∷ l) w h few =
-    grind (arith, nat_tests, at-times e k l (omega arith) h, count-at e k l (omega arith) h)
+count-at e (suc k) (x ∷ l) w h few = search (arith, at-times e k l (omega arith) h, count-at e k l (omega arith) h)
 
 pub first-in : (e : Entry) (l : List Entry) → oldest_of l ≡ Some e → Contains l e
 first-in e [] h = absurd (cc h)

@@ -1,5 +1,5 @@
 -- What the calls make of the queues of a table of keys.
-use Rattle.std.proofs.Common.{◌≡◌, ℕ, suc, zero, ◌+◌, ◌-◌, ◌<◌, ◌≤◌, true, false, cond, eqb, nat_lt, Option, Some, None, List, [], ◌∷◌, ◌++◌, ap, ◌∙◌, sym, refl, arith, ◌⊎◌, inl, inr}
+use Rattle.std.proofs.Common.{◌≡◌, ℕ, suc, zero, ◌+◌, ◌-◌, ◌<◌, ◌≤◌, true, false, cond, eqb, nat_lt, Option, Some, None, List, [], ◌∷◌, ◌++◌, ap, ◌∙◌, sym, refl, arith, ◌⊎◌, inr}
 use Rattle.std.proofs.Math.Path.{fun_ext}
 use Rattle.std.proofs.lemmas.Bool.{cases_eq, cases_lt, lt-ltb, le-ltb}
 use Rattle.std.proofs.lemmas.List as ListLemmas
@@ -82,11 +82,7 @@ held-below (suc n) i s q h = let r = held-below n i s q in grind (arith, nat_tes
 
 standing-parts : (i : Item) (h : Option ℕ) (s : Queues) (q n : ℕ) → standing_at i h s ≡ Some (q, n) → (h ≡ Some q) × (count_of i (s q) ≡ n)
 standing-parts i None s q n e = absurd (cc e)
-standing-parts i (Some p) s q n e =
-    let f : Option (ℕ × ℕ) → ℕ × ℕ = λ o. elim o [ None ↦ (0, 0) | Some x ↦ x ] in
-    let z : p ≡ q = ap (λ o. (f o).0) e in
-    let c : count_of i (s p) ≡ n = ap (λ o. (f o).1) e in
-    (ap Some z, ap (λ x. count_of i (s x)) (sym z) ∙ c)
+standing-parts i (Some p) s q n e = grind (arith, nat_tests)
 
 nowhere-at : (i : Item) (h : Option ℕ) (s : Queues) → standing_at i h s ≡ None → h ≡ None
 nowhere-at i None s e = refl
@@ -99,38 +95,23 @@ nowhere-standing i s h = nowhere-at i (queue_holding i s) s h
 
 module _ (s : Queues) (t : IsTabled s) where
   pub few : (q : ℕ) (i : Item) → occurrences i (s q) ≤ 1
-  few q i =
-      let low = λ (w : q < QUEUES). queue-few q s w t.distinct i in
-      let high = λ (w : QUEUES ≤ q). ap (occurrences i) (t.high q w) in
-      grind arith
+  few q i = grind (arith, nat_tests, queue-few)
 
   low : (q : ℕ) (i : Item) → 1 ≤ occurrences i (s q) → q < QUEUES
   low q i h = let high = λ (w : QUEUES ≤ q). ap (occurrences i) (t.high q w) in grind arith
 
   -- an item that stands in one queue stands in no other one
   pub elsewhere : (q : ℕ) (i : Item) → 1 ≤ occurrences i (s q) → (j : ℕ) → (j ≡ q → ⊥) → occurrences i (s j) ≡ 0
-  elsewhere q i h j d = elim (cases_lt 0 (occurrences i (s j))) [
-    | inl m ↦ absurd (d (
-        let two : Some j ≡ Some q = sym (placed j i s (low j i m) t.distinct m) ∙ placed q i s (low q i h) t.distinct h in
-        cc two))
-    | inr m ↦ omega (arith, m)
-  ]
+  elsewhere q i h j d = grind (arith, nat_tests, cases_lt, placed, low)
 
   pub nowhere : (i : Item) → queue_holding i s ≡ None → (j : ℕ) → occurrences i (s j) ≡ 0
-  nowhere i h j =
-      let low = absent i s h j in
-      let high = λ (w : QUEUES ≤ j). ap (occurrences i) (t.high j w) in
-      grind arith
+  nowhere i h j = grind (arith, nat_tests, absent)
 
   pub counts-absent : (i : Item) (n : ℕ) → queue_holding i s ≡ None → after_count i n s ≡ s
   counts-absent i n h = fun_ext (λ j. counted-none i n (s j) (nowhere i h j))
 
   at-once : (q : ℕ) (e : Entry) (a b : List Entry) → s q ≡ a ++ e ∷ b → 1 ≤ occurrences e.item (s q)
-  at-once q e a b h =
-      let own : is_same_item e.item e.item ≡ true = same-refl e.item in
-      let p : occurrences e.item (s q) ≡ occurrences e.item a + (1 + occurrences e.item b) =
-      ap (occurrences e.item) h ∙ times-append e.item a (e ∷ b) ∙ rw own refl in
-      omega (arith, p)
+  at-once q e a b h = grind (arith, nat_tests, same-refl e.item, times-append e.item a (e ∷ b))
 
   abbrev cut : (q : ℕ) (e : Entry) (a b : List Entry) → s q ≡ a ++ e ∷ b → StandsIn q e s
   cut q e a b h = record { low = low q e.item (at-once q e a b h); front = a; back = b; whole = h }
@@ -139,8 +120,7 @@ module _ (s : Queues) (t : IsTabled s) where
   gone-at q e a b h = rest q e s t.distinct (cut q e a b h)
 
   pub standing-gone : (q : ℕ) (e : Entry) (a b : List Entry) → s q ≡ a ++ e ∷ b → after_removal e.item s ≡ with_queue q (a ++ b) s
-  standing-gone q e a b h = with-queue-is q (a ++ b) s (after_removal e.item s) (gone-at q e a b h)
-      (λ j d. without-none e.item (s j) (elsewhere q e.item (at-once q e a b h) j d))
+  standing-gone q e a b h = search (arith, with-queue-is, gone-at q e a b h, without-none, elsewhere, at-once q e a b h)
 
   pub oldest-gone : (q : ℕ) (e : Entry) (l : List Entry) → s q ≡ e ∷ l → after_removal e.item s ≡ with_queue q l s
   oldest-gone q e l h = standing-gone q e [] l h
@@ -173,50 +153,23 @@ module _ (s : Queues) (t : IsTabled s) where
         }
 
     pub stands : (q n : ℕ) → standing (item_of k) s ≡ Some (q, n) → StandsAs k q n s
-    stands q n h =
-        let p = standing-parts (item_of k) (queue_holding (item_of k) s) s q n h in
-        stands-in q n (held-below QUEUES (item_of k) s q p.0).1 p.1
+    stands q n h = grind (arith, nat_tests, standing-parts, stands-in, held-below)
 
     pub stands-nowhere : standing (item_of k) s ≡ None → (j : ℕ) → (has_key k (keys_of (s j)) ≡ false) × (keys_without k (keys_of (s j)) ≡ keys_of (s j))
-    stands-nowhere h j =
-        let none = nowhere (item_of k) (nowhere-standing (item_of k) s h) j in (
-          has-key-none k (s j) (t.keys j) none,
-          keys-taken k (s j) (t.keys j) ∙ ap keys_of (without-none (item_of k) (s j) none),
-        )
+    stands-nowhere h j = grind (arith, nat_tests, nowhere, nowhere-standing, has-key-none, keys-taken, without-none)
 
 -- ---- they stay tabled
 
 pub tabled-push : (s : Queues) → IsTabled s → (q : ℕ) (e : Entry) → q < QUEUES → e.item.node ≡ 0 → IsAbsent e.item s → IsTabled (after_push q e s)
-tabled-push s t q e w node none = record {
-  keys = λ j. (
-      let a = nodes-append (s q) (e ∷ []) in
-      let b = t.keys j in
-      let c = cases_eq j q in
-      grind (arith, nat_tests));
-  distinct = λ i. (
-      let a = times-with QUEUES q i (s q ++ e ∷ []) s w in
-      let b = times-append i (s q) (e ∷ []) in
-      let c = t.distinct i in
-      let z = times-none QUEUES e.item s none in
-      let same = same-true i e.item in
-      grind (arith, nat_tests));
-  high = λ j h. with-queue-other q j (s q ++ e ∷ []) s (λ z. omega (arith, z, h, w)) ∙ t.high j h;
-}
+tabled-push s t q e w node none =
+    grind (arith, nat_tests, nodes-append, cases_eq, times-with, times-append, times-none, same-true, with-queue-other)
 
 module _ (s : Queues) (t : IsTabled s) where
   pub tabled-removal : (i : Item) → IsTabled (after_removal i s)
-  tabled-removal i = record {
-    keys = λ q. (let a = nodes-without i (s q) in let b = t.keys q in omega (arith, a, b));
-    distinct = distinct-taken i s t.distinct;
-    high = λ q h. ap (entries_without i) (t.high q h);
-  }
+  tabled-removal i = grind (arith, nat_tests, nodes-without, distinct-taken i s t.distinct)
 
   pub tabled-count : (i : Item) (n : ℕ) → IsTabled (after_count i n s)
-  tabled-count i n = record {
-    keys = λ q. nodes-counted i n (s q) ∙ t.keys q;
-    distinct = distinct-counted i n s t.distinct;
-    high = λ q h. ap (entries_counted i n) (t.high q h);
-  }
+  tabled-count i n = grind (arith, nat_tests, nodes-counted, distinct-counted i n s t.distinct)
 
   pub tabled-send : (e : Entry) (to : ℕ) → to < QUEUES → e.item.node ≡ 0 → IsTabled (after_send e to s)
   tabled-send e to w node = tabled-push (after_removal e.item s) (tabled-removal e.item) to e w node (absent-taken e.item s)
@@ -247,8 +200,7 @@ tabled-turns s t zero from to less w = t
 tabled-turns s t (suc n) from to less w = tabled-turns (after_turn from to less s) (tabled-turn s t from to less w) n from to less w
 
 pub tabled-runs : (s : Queues) → IsTabled s → (p : Plan) → IsLowPlan p → IsTabled (after_runs p s)
-tabled-runs s t p w =
-    tabled-turns _ (tabled-turns s t p.early.times p.early.from p.early.to p.early.less w.early.1) p.late.times p.late.from p.late.to p.late.less w.late.1
+tabled-runs s t p w = search (arith, tabled-turns)
 
 pub tabled-all : (s : Queues) → IsTabled s → (p : Plan) → IsLowPlan p → (k : ℕ) → IsTabled (after_all p (item_of k) s)
 tabled-all s t p w k =
@@ -261,8 +213,7 @@ tabled-all s t p w k =
 -- what a turn of the oldest makes of the queues
 pub turn-is : (s : Queues) → IsTabled s → (from to less : ℕ) (e : Entry) (l : List Entry) → s from ≡ e ∷ l
     → after_turn from to less s ≡ after_push to (lowered_entry less e) (with_queue from l s)
-turn-is s t from to less e l h =
-    ap (λ (v : List Entry). turned to less (oldest_of v) s) h ∙ ap (after_push to (lowered_entry less e)) (oldest-gone s t from e l h)
+turn-is s t from to less e l h = cc (oldest-gone s t from e l h)
 
 pub turn-none : (s : Queues) (from to less : ℕ) → s from ≡ [] → after_turn from to less s ≡ s
 turn-none s from to less h = ap (λ (v : List Entry). turned to less (oldest_of v) s) h
@@ -277,26 +228,13 @@ turned-none (suc n) less = refl
 within-none : (n : ℕ) (s : Queues) (q less : ℕ) → s q ≡ []
     → after_turns n q q less (after_turn q q less s) ≡ with_queue q (turned_list n less (after_turn q q less s q)) (after_turn q q less s)
     → after_turns n q q less (after_turn q q less s) ≡ with_queue q (turned_list (suc n) less (s q)) s
-within-none n s q less e rest =
-    let is : after_turn q q less s ≡ s = ap (λ (v : List Entry). turned q less (oldest_of v) s) e in
-    let none : turned_list n less (s q) ≡ turned_list (suc n) less (s q) =
-    ap (turned_list n less) e ∙ turned-none n less ∙ ap (turned_list (suc n) less) (sym e) in
-    rest ∙ ap (λ (v : Queues). with_queue q (turned_list n less (v q)) v) is ∙ ap (λ (v : List Entry). with_queue q v s) none
+within-none n s q less e rest = grind (arith, nat_tests, turned-none n less, rest)
 
 within-more : (n : ℕ) (s : Queues) → IsTabled s → (q less : ℕ) (x : Entry) (l : List Entry) → s q ≡ x ∷ l
     → after_turns n q q less (after_turn q q less s) ≡ with_queue q (turned_list n less (after_turn q q less s q)) (after_turn q q less s)
     → after_turns n q q less (after_turn q q less s) ≡ with_queue q (turned_list (suc n) less (s q)) s
 within-more n s t q less x l e rest =
-    let m : List Entry = l ++ lowered_entry less x ∷ [] in
-    let is : after_turn q q less s ≡ with_queue q m s =
-    turn-is s t q q less x l e
-    ∙ ap (λ (v : List Entry). with_queue q (v ++ lowered_entry less x ∷ []) (with_queue q l s)) (with-queue-same q l s)
-    ∙ twice-with q m l s in
-    rest
-    ∙ ap (λ (v : Queues). with_queue q (turned_list n less (v q)) v) is
-    ∙ ap (λ (v : List Entry). with_queue q (turned_list n less v) (with_queue q m s)) (with-queue-same q m s)
-    ∙ twice-with q (turned_list n less m) m s
-    ∙ ap (λ (v : List Entry). with_queue q (turned_list (suc n) less v) s) (sym e)
+    grind (arith, nat_tests, turn-is s t q q less x l e, with-queue-same q l s, twice-with, rest, with-queue-same)
 
 within-step : (n : ℕ) (s : Queues) → IsTabled s → (q less : ℕ) (v : List Entry) → s q ≡ v
     → after_turns n q q less (after_turn q q less s) ≡ with_queue q (turned_list n less (after_turn q q less s q)) (after_turn q q less s)

@@ -1,8 +1,6 @@
-use Rattle.std.proofs.Common.{◌∙◌, List, sym, subst, arith}
-use Rattle.queue_table.specs.declared.slot.Slot.{Slot}
-use Rattle.queue_table.specs.QueueTable.{queues, HoldsAt}
-use Rattle.queue_moves.specs.Moves.{run}
-use Rattle.queue_moves.specs.Undoing.{IsRun}
+use Rattle.std.proofs.lemmas.Bool.Decides.{nat_tests}
+use Rattle.std.proofs.Common.{◌∙◌, sym, subst, arith}
+use Rattle.queue_table.specs.QueueTable.{HoldsAt}
 use Rattle.queue_moves.proofs.Runs.{runs-on, run-ends, no-due, none-left-due}
 use Rattle.queue_moves.proofs.key_queues.KeyQueues.run.Goals as goal
 
@@ -14,23 +12,16 @@ loop-times-preserved c =
     )
 
 pub returns-after-loop-times-clause-made : goal.returns-after-loop-times-clause-made
-returns-after-loop-times-clause-made c =
-    (run-ends c.args.from c.args.to c.args.less c.args.least c.args.most c.loop-times.times _ _ c.requires.from c.requires.to c.loop-times.invariant.0
-    (none-left-due c.args.from c.args.to c.args.less c.args.least c.args.most c.loop-times.times _ (let end = c.loop-times-test.false in omega (arith, end)))).1
+returns-after-loop-times-clause-made c = grind (arith, nat_tests, run-ends, none-left-due)
 
 pub returns-after-loop-times-clause-others : goal.returns-after-loop-times-clause-others
 returns-after-loop-times-clause-others c j e h z = (c.loop-times.invariant.1.1 j e h z).0
 
 pub returns-then-not-turn-clause-run : goal.returns-then-not-turn-clause-run
-returns-then-not-turn-clause-run c =
-    (run-ends c.args.from c.args.to c.args.less c.args.least c.args.most c.loop-times.times _ _ c.requires.from c.requires.to c.loop-times.invariant.0
-    (no-due _ c.args.from c.args.to c.args.less c.args.least _ (c.turn.ensures.none c.if-not-turn.true))).0
+returns-then-not-turn-clause-run c = grind (arith, nat_tests, run-ends, no-due)
 
 pub returns-then-not-turn-clause-made : goal.returns-then-not-turn-clause-made
-returns-then-not-turn-clause-made c =
-    subst (λ (x : List Slot). IsRun (run c.args.from c.args.to c.args.less c.loop-times.times) (queues c.args.self.now) (queues x)) (sym (c.turn.ensures.same c.if-not-turn.true))
-    (run-ends c.args.from c.args.to c.args.less c.args.least c.args.most c.loop-times.times _ _ c.requires.from c.requires.to c.loop-times.invariant.0
-    (no-due _ c.args.from c.args.to c.args.less c.args.least _ (c.turn.ensures.none c.if-not-turn.true))).1
+returns-then-not-turn-clause-made c = grind (arith, nat_tests, run-ends, no-due)
 
 pub returns-then-not-turn-clause-others : goal.returns-then-not-turn-clause-others
 returns-then-not-turn-clause-others c j e h z =
