@@ -1,11 +1,12 @@
 -- A step of the engine, from what serving the access left.
-use Rattle.std.proofs.Common.{◌≡◌, ℕ, suc, ◌-◌, ◌<◌, Some, Bool, List, length, get_or, ap, ◌∙◌, sym, subst, arith, add-one}
-use Rattle.step_record.specs.Stats.{stats_with, stats_without}
+use Rattle.std.proofs.lemmas.Bool.Decides.{nat_tests}
+use Rattle.std.proofs.Common.{◌≡◌, ℕ, suc, ◌-◌, ◌<◌, Some, Bool, List, length, get_or, ap, ◌∙◌, arith, add-one}
+use Rattle.step_record.specs.Stats.{stats_with}
 use Rattle.clairvoyant.specs.declared.optimal_record.OptimalRecord.{OptimalRecord}
 use Rattle.clairvoyant.specs.Belady.{Outcome, belady_residents, belady_outcome}
 use Rattle.clairvoyant.specs.RankSet.{IsTied}
 use Rattle.clairvoyant.specs.Clairvoyant.{Stats, ClairvoyantState, IsBeladyReached, clairvoyant_act}
-use Rattle.clairvoyant.specs.OptimalRecord.{record_at, outcome_of, undone_keys, clairvoyant_undone, ClairvoyantFits}
+use Rattle.clairvoyant.specs.OptimalRecord.{record_at, outcome_of, clairvoyant_undone, ClairvoyantFits}
 use Rattle.clairvoyant.specs.Representation.{shown, IsRepresented}
 use Rattle.clairvoyant.proofs.Records.{outcome-is, keys-back}
 use Rattle.clairvoyant.proofs.Reached.{reached-next, act-next, uncount}
@@ -22,25 +23,14 @@ module _ (c : ℕ) (t : List ℕ) (s u : Stats) (d : OptimalRecord) (lt : s.acce
   down = omega (arith, up)
 
   pub next-keeping : (h : List Bool) → IsTied t (suc s.accesses) (belady_residents c t (suc s.accesses)) h → IsRepresented c t u h
-  next-keeping h tied = record {
-    reached = subst (λ x. IsBeladyReached (shown c t x)) (sym (more ∙ ap (λ o. stats_with o s) by)) (reached-next c t s lt r);
-    tied = subst (λ n. IsTied t n (belady_residents c t n) h) (sym up) tied;
-  }
+  next-keeping h tied = grind (arith, nat_tests, by, reached-next c t s lt r, up)
 
   pub next-accepted : (k : ℕ) (o : Outcome) (e : ClairvoyantState) → shown c t s ≡ e → k ≡ get_or t s.accesses 0 → o ≡ outcome_of d → clairvoyant_act e k ≡ Some (o, shown c t u)
   next-accepted k o e is same answer =
-      ap (λ x. clairvoyant_act x k) (sym is) ∙ act-next c t s k o lt (omega (arith, r.short)) same (answer ∙ by)
-      ∙ (λ i. Some (o, shown c t (stats_with (answer i) s))) ∙ ap (λ x. Some (o, shown c t x)) (sym more)
+      grind (arith, nat_tests, act-next c t s k o lt (omega (arith, r.short)) same (answer ∙ by), by)
 
   pub next-undone : clairvoyant_undone d (shown c t u) ≡ shown c t s
-  next-undone =
-      let back : undone_keys d (get_or t (u.accesses - 1) 0) (belady_residents c t u.accesses) ≡ belady_residents c t s.accesses =
-      (λ i. undone_keys (last i) (get_or t (down i) 0) (belady_residents c t (up i))) ∙ keys-back c t s.accesses in
-      let counts : stats_without (outcome_of d) u ≡ s = ap (stats_without (outcome_of d)) more ∙ uncount (outcome_of d) s in
-      λ i. record { trace = t; capacity = c; residents = back i; stats = counts i }
+  next-undone = grind (arith, nat_tests, down, up, keys-back c t s.accesses, uncount (outcome_of d) s)
 
   pub next-fits : ClairvoyantFits d (shown c t u)
-  next-fits = record {
-    applied = omega (arith, up);
-    last = last ∙ ap (record_at c t) (sym down);
-  }
+  next-fits = grind (arith, nat_tests, up, down)

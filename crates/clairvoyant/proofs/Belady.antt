@@ -1,6 +1,6 @@
 -- The residents and what leaves.
 use Rattle.std.proofs.Common.{◌≡◌, ℕ, suc, zero, ◌+◌, ◌<◌, ◌≤◌, true, false, eqb, nat_lt, ◌⊎◌, inl, inr, List, [], ◌∷◌, length, get_or, ap, ◌∙◌, sym, refl, arith}
-use Rattle.std.proofs.lemmas.Bool.{cases_Bool, cases_eq, eqb-true, eq-eqb, ne_eqb, ltb-true}
+use Rattle.std.proofs.lemmas.Bool.{cases_Bool, cases_eq, eq-eqb, ne_eqb, ltb-true}
 use Rattle.std.proofs.lemmas.Bool.Decides.{nat_tests}
 use Rattle.step_record.specs.declared.outcome.Outcome.{Outcome}
 use Rattle.step_record.specs.declared.outcome.Outcome.TheVariants as outcome
@@ -23,17 +23,14 @@ pub soon : (x a : ℕ) (l : List ℕ) → (x ≡ a) ⊎ (has_key x l ≡ true) �
 soon x a l h = elim h [ inl f ↦ rw (eq-eqb x a f) refl | inr f ↦ later x a l f ]
 
 pub put-has : (x k : ℕ) (r : List ℕ) → has_key x (residents_with k r) ≡ true → (x ≡ k) ⊎ (has_key x r ≡ true)
-put-has x k r h =
-    let is = has-put x k r in
-    elim (cases_eq x k) [ inl e ↦ inl e | inr ne ↦ inr (grind (arith, nat_tests, is, h)) ]
+put-has x k r h = grind (arith, nat_tests, has-put x k r, cases_eq x k)
 
 pub without-has : (x v : ℕ) (r : List ℕ) → has_key x (keys_without v r) ≡ true → has_key x r ≡ true
 without-has x v r h = let is = has-without x v r in grind (arith, is, h)
 
 farthest-among : (t : List ℕ) (i b : ℕ) (l : List ℕ) → has_key (farthest t i b l) (b ∷ l) ≡ true
 farthest-among t i b [] = rw (eq-eqb b b refl) refl
-farthest-among t i b (a ∷ l) =
-    grind (arith, farthest-among t i a l, farthest-among t i b l, cases_Bool (leaves_first t i a b))
+farthest-among t i b (a ∷ l) = search (arith, farthest-among t i a l, farthest-among t i b l, cases_Bool)
 
 pub farthest-in : (t : List ℕ) (i k : ℕ) (r : List ℕ) → has_key (farthest t i k r) (residents_with k r) ≡ true
 farthest-in t i k r = has-put (farthest t i k r) k r ∙ farthest-among t i k r

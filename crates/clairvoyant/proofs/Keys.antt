@@ -1,5 +1,5 @@
 -- Edits of ascending lists.
-use Rattle.std.proofs.Common.{◌≡◌, ℕ, suc, ◌<◌, ◌≤◌, true, false, cond, eqb, nat_lt, List, [], ◌∷◌, length, ap, ◌∙◌, refl, arith}
+use Rattle.std.proofs.Common.{◌≡◌, ℕ, suc, ◌<◌, ◌≤◌, true, false, cond, eqb, nat_lt, List, [], ◌∷◌, length, refl, arith}
 use Rattle.std.proofs.lemmas.Bool.{cond_both, eqb-true, eq-eqb, ltb-true, lt-ltb, cases_eq}
 use Rattle.std.proofs.lemmas.Bool.Decides.{nat_tests}
 use Rattle.step_record.specs.Keys.{has_key, keys_without}
@@ -47,9 +47,7 @@ ascending-put k [] s h = (tt, tt)
 ascending-put k (a ∷ l) s h =
     let apart : eqb k a ≡ false = grind arith in
     let rest : has_key k l ≡ false = grind arith in
-    cond_both (nat_lt k a) _ _ IsAscendingKeys
-    (λ f. let n : k < a = ltb-true k a f in ((n, below-all k a l (omega arith) s.0), s))
-    (λ f. (below-put a k l (grind (arith, nat_tests)) s.0, ascending-put k l s.1 rest))
+    grind (arith, nat_tests, cond_both, ltb-true, below-all, below-put, ascending-put k l s.1 rest)
 
 below-without : (a k : ℕ) (l : List ℕ) → IsBelowAll a l → IsBelowAll a (keys_without k l)
 below-without a k [] w = tt
@@ -67,8 +65,7 @@ put-below k (a ∷ l) w = rw (lt-ltb k a w.0) refl
 pub put-without : (k : ℕ) (l : List ℕ) → IsAscendingKeys l → has_key k l ≡ true → residents_with k (keys_without k l) ≡ l
 put-without k [] s h = absurd (cc (h))
 put-without k (a ∷ l) s h =
-    let none = without-none a l (below-none a l s.0) in
-    grind (arith, nat_tests, put-without k l s.1, below-has a k l s.0, none, put-below a l s.0, cases_eq k a)
+    grind (arith, nat_tests, without-none, below-none, put-without k l s.1, below-has, put-below, cases_eq)
 
 pub length-put : (k : ℕ) (l : List ℕ) → length (residents_with k l) ≡ suc (length l)
 length-put k [] = refl
@@ -77,5 +74,4 @@ length-put k (a ∷ l) = grind (arith, length-put k l)
 pub length-without : (k : ℕ) (l : List ℕ) → IsAscendingKeys l → has_key k l ≡ true → suc (length (keys_without k l)) ≡ length l
 length-without k [] s h = absurd (cc (h))
 length-without k (a ∷ l) s h =
-    let alone : eqb k a ≡ true → keys_without k l ≡ l = λ e. without-none k l (ap (λ x. has_key x l) (eqb-true k a e) ∙ below-none a l s.0) in
-    grind (arith, alone, length-without k l s.1)
+    grind (arith, nat_tests, without-none, eqb-true, below-none a l s.0, length-without k l s.1)

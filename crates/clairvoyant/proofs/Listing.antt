@@ -35,9 +35,7 @@ times-snoc k a (x ∷ xs) = omega (arith, times-snoc k a xs)
 
 pub times-has : (k : ℕ) (rs : List ℕ) → IsAscendingKeys rs → times k rs ≡ one_if (has_key k rs)
 times-has k [] s = refl
-times-has k (a ∷ rs) s =
-    let alone : eqb k a ≡ true → has_key k rs ≡ false = λ e. ap (λ x. has_key x rs) (eqb-true k a e) ∙ below-none a rs s.0 in
-    grind (arith, alone, times-has k rs s.1)
+times-has k (a ∷ rs) s = grind (arith, nat_tests, eqb-true, below-none a rs s.0, times-has k rs s.1)
 
 -- what holds of each element holds of what is in the list
 found : (k : ℕ) (xs : List ℕ) → 0 < times k xs → (P : ℕ → Type 0) → ((j : ℕ) → j < length xs → P (get_or xs j 0)) → P k
@@ -83,9 +81,7 @@ module _ (t : List ℕ) (i : ℕ) (r : List ℕ) (le : i ≤ length t) (seen : (
   module _ (h : List Bool) (tied : IsTied t i r h) (q : ℕ) (lt : q < 2 * length t) where
     -- the rank q is of its key
     own-rank : (k : ℕ) → (has_key k r && eqb (rank t i k) q) ≡ (eqb k (key_at t q) && is_in_set h q)
-    own-rank k =
-        let key : has_key k r ≡ true → key_at t (rank t i k) ≡ k = λ e. (named t i k le (seen k e)).key in
-        grind (arith, nat_tests, key, tied.ranks q lt, cases_eq k (key_at t q), cases_eq (rank t i k) q)
+    own-rank k = grind (arith, nat_tests, named, cases_eq k (key_at t q), cases_eq (rank t i k) q)
 
     listed-next : (k : ℕ) → one_if (is_listed t i r (q + 1) k) ≡ one_if (is_listed t i r q k) + one_if (eqb k (key_at t q) && is_in_set h q)
     listed-next k = grind (arith, nat_tests, own-rank k)
@@ -95,14 +91,8 @@ module _ (t : List ℕ) (i : ℕ) (r : List ℕ) (le : i ≤ length t) (seen : (
       listed-other none k = let before = all k in let next = listed-next k in grind (arith, before, next, none)
 
       pub listed-held : (a : ℕ) → a ≡ key_at t q → is_in_set h q ≡ true → (k : ℕ) → times k (keys ++ a ∷ []) ≡ one_if (is_listed t i r (q + 1) k)
-      listed-held a is held k =
-          let before = all k in
-          let next = listed-next k in
-          let more = times-snoc k a keys in
-          let here = ap (λ x. one_if (eqb k x)) is in
-          grind (arith, before, next, more, here, held)
+      listed-held a is held k = grind (arith, nat_tests, listed-next k, times-snoc k a keys)
 
 pub listed-residents : (c : ℕ) (t : List ℕ) (i : ℕ) (keys sorted : List ℕ) → i ≤ length t → ((k : ℕ) → times k keys ≡ one_if (is_listed t i (belady_residents c t i) (2 * length t) k)) → IsPermutation keys sorted → IsNonDecreasing sorted → sorted ≡ belady_residents c t i
 listed-residents c t i keys sorted le all moved up =
-    let s : IsAscendingKeys (belady_residents c t i) = residents-ascending c t i in
-    same-list sorted (belady_residents c t i) up s (λ k. times-moved k keys sorted moved ∙ all k ∙ ap one_if (listed-all t i (belady_residents c t i) le (residents-seen c t i) k) ∙ sym (times-has k (belady_residents c t i) s))
+    search (arith, residents-ascending c t i, same-list, times-moved, listed-all, residents-seen c t i, times-has)

@@ -1,5 +1,5 @@
 -- The ranks of the residents, one key more or less, and one access further or back.
-use Rattle.std.proofs.Common.{◌≡◌, ℕ, suc, ◌<◌, Bool, true, false, cond, ◌&&◌, eqb, List, length, get_or, ap, ◌∙◌, sym, refl, arith}
+use Rattle.std.proofs.Common.{◌≡◌, ℕ, suc, ◌<◌, Bool, true, false, cond, eqb, List, length, get_or, ap, ◌∙◌, sym, refl, arith}
 use Rattle.std.proofs.lemmas.Bool.{cases_eq, eq-eqb, ne_eqb}
 use Rattle.std.proofs.lemmas.Bool.Decides.{nat_tests}
 use Rattle.step_record.specs.Keys.{has_key, keys_without}
@@ -21,8 +21,7 @@ pub more-there : (m : List ℕ) (k : ℕ) (s : List ℕ) → IsMore m k s → ha
 more-there m k s more = more.has k ∙ ap (λ b. cond b true (has_key k m)) (eq-eqb k k refl)
 
 fewer : (m : List ℕ) (k : ℕ) (s : List ℕ) → IsMore m k s → (x : ℕ) → has_key x m ≡ cond (eqb x k) false (has_key x s)
-fewer m k s more x =
-    grind (arith, nat_tests, more.has x, more.new, cases_eq x k)
+fewer m k s more x = grind (arith, nat_tests, more.has x, more.new, cases_eq x k)
 
 gone : (k : ℕ) (r : List ℕ) → has_key k (keys_without k r) ≡ false
 gone k r = has-without k k r ∙ ap (λ b. cond b false (has_key k r)) (eq-eqb k k refl)
@@ -31,21 +30,11 @@ pub with-more : (k : ℕ) (r : List ℕ) → has_key k r ≡ false → IsMore r 
 with-more k r none = record { new = none; has = λ x. has-put x k r }
 
 pub without-more : (k : ℕ) (r : List ℕ) → has_key k r ≡ true → IsMore (keys_without k r) k r
-without-more k r there = record {
-  new = gone k r;
-  has = λ x. grind (arith, nat_tests, has-without x k r, there, cases_eq x k);
-}
+without-more k r there = grind (arith, nat_tests, gone k r, has-without, cases_eq)
 
 -- k came and v left
 pub swap-more : (k v : ℕ) (r : List ℕ) → has_key k r ≡ false → has_key v r ≡ true → IsMore (keys_without v r) k (keys_without v (residents_with k r))
-swap-more k v r none there =
-    let apart : eqb k v ≡ false = ne_eqb k v (λ e. absurd (cc (none, there, ap (λ x. has_key x r) e))) in
-    record {
-      new = has-without k v r ∙ rw (apart, none) refl;
-      has = λ x.
-          let out = has-without x v (residents_with k r) in
-          grind (arith, nat_tests, out, has-put x k r, has-without x v r, apart, cases_eq x k);
-    }
+swap-more k v r none there = grind (arith, nat_tests, ne_eqb, has-without k v r, has-without, has-put, cases_eq)
 
 -- ---- the ranks that are held
 
@@ -56,14 +45,10 @@ pub record IsEdited (h : List Bool) (a : ℕ) (b : Bool) (g : List Bool) : Type 
 
 module _ (t : List ℕ) (i v : ℕ) (key : key_at t (rank t i v) ≡ v) (b : Bool) (r s : List ℕ) (has : (x : ℕ) → has_key x s ≡ cond (eqb x v) b (has_key x r)) where
   ranked-edited : (q : ℕ) → is_ranked t i s q ≡ cond (eqb q (rank t i v)) b (is_ranked t i r q)
-  ranked-edited q =
-      grind (arith, nat_tests, cases_eq q (rank t i v), cases_eq (key_at t q) v, has (key_at t q), key)
+  ranked-edited q = grind (arith, nat_tests, cases_eq q (rank t i v), cases_eq (key_at t q) v, has (key_at t q), key)
 
   tied-edited : (h g : List Bool) (a : ℕ) → a ≡ rank t i v → IsEdited h a b g → IsTied t i r h → IsTied t i s g
-  tied-edited h g a is edit tied = record {
-    size = edit.size ∙ tied.size;
-    ranks = λ q w. edit.tests q ∙ (λ j. cond (eqb q (is j)) b (tied.ranks q w j)) ∙ sym (ranked-edited q);
-  }
+  tied-edited h g a is edit tied = grind (arith, nat_tests, ranked-edited)
 
 module _ (t : List ℕ) (i v : ℕ) (key : key_at t (rank t i v) ≡ v) (m s : List ℕ) (more : IsMore m v s) (h g : List Bool) (a : ℕ) (is : a ≡ rank t i v) where
   pub tied-put : IsEdited h a true g → IsTied t i m h → IsTied t i s g
@@ -75,8 +60,7 @@ module _ (t : List ℕ) (i v : ℕ) (key : key_at t (rank t i v) ≡ v) (m s : L
 -- one access further and one back, where its key is no resident
 module _ (t : List ℕ) (i : ℕ) (lt : i < length t) (r : List ℕ) (none : has_key (get_or t i 0) r ≡ false) where
   ranked-on : (q : ℕ) → is_ranked t (suc i) r q ≡ is_ranked t i r q
-  ranked-on q =
-      grind (arith, nat_tests, cases_eq (key_at t q) (get_or t i 0), none, rank-other t i (key_at t q) lt)
+  ranked-on q = grind (arith, nat_tests, cases_eq (key_at t q) (get_or t i 0), none, rank-other t i (key_at t q) lt)
 
   pub tied-on : (h : List Bool) → IsTied t i r h → IsTied t (suc i) r h
   tied-on h tied = record { size = tied.size; ranks = λ q w. tied.ranks q w ∙ sym (ranked-on q) }

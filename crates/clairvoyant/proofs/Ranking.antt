@@ -1,5 +1,5 @@
 -- Ranks from one access to the next.
-use Rattle.std.proofs.Common.{◌≡◌, ℕ, suc, ◌-◌, ◌*◌, ◌<◌, ◌≤◌, true, false, eqb, nat_lt, Option, Some, None, IfSome, List, length, get_or, refl, arith, inl, inr}
+use Rattle.std.proofs.Common.{◌≡◌, ℕ, suc, ◌-◌, ◌*◌, ◌<◌, ◌≤◌, false, eqb, nat_lt, Option, Some, None, IfSome, List, length, get_or, refl, arith}
 use Rattle.std.proofs.lemmas.Bool.{cases_Bool, eqb-true, eq-eqb, le-ltb, lt-ltb}
 use Rattle.std.proofs.lemmas.Bool.Decides.{nat_tests}
 use Rattle.trace_index.specs.Uses.{next_from}
@@ -11,10 +11,7 @@ pub rank-own : (t : List ℕ) (i : ℕ) → i < length t → rank t i (get_or t 
 rank-own t i h = rw (next-own t i h) refl
 
 pub key-own : (t : List ℕ) (i : ℕ) → i < length t → key_at t (2 * length t - 1 - i) ≡ get_or t i 0
-key-own t i lt =
-    let high : nat_lt (2 * length t - 1 - i) (length t) ≡ false = le-ltb (2 * length t - 1 - i) (length t) (omega arith) in
-    let back : 2 * length t - 1 - (2 * length t - 1 - i) ≡ i = omega arith in
-    rw (high, back) refl
+key-own t i lt = grind (arith, nat_tests, le-ltb (2 * length t - 1 - i) (length t) (omega arith))
 
 pub rank-other : (t : List ℕ) (i x : ℕ) → i < length t → eqb x (get_or t i 0) ≡ false → rank t (suc i) x ≡ rank t i x
 rank-other t i x h e = rw (e, next-other t i x h e) refl
@@ -25,16 +22,10 @@ pub record IsSeen (t : List ℕ) (i x : ℕ) : Type 0 where
   pub there : get_or t (last_before t i x) 0 ≡ x
 
 pub seen-own : (t : List ℕ) (i : ℕ) → IsSeen t (suc i) (get_or t i 0)
-seen-own t i =
-    let e : eqb (get_or t i 0) (get_or t i 0) ≡ true = eq-eqb (get_or t i 0) (get_or t i 0) refl in
-    record { below = rw e (omega arith); there = rw e refl }
+seen-own t i = grind (arith, nat_tests, eq-eqb (get_or t i 0) (get_or t i 0) refl)
 
 pub seen-more : (t : List ℕ) (i x : ℕ) → IsSeen t i x → IsSeen t (suc i) x
-seen-more t i x s =
-    elim (cases_Bool (eqb x (get_or t i 0))) [
-      | inl e ↦ let same : x ≡ get_or t i 0 = eqb-true x (get_or t i 0) e in rw same (seen-own t i)
-      | inr e ↦ record { below = rw e (omega (arith, s.below)); there = rw e s.there }
-    ]
+seen-more t i x s = grind (arith, nat_tests, cases_Bool (eqb x (get_or t i 0)), eqb-true, seen-own t i)
 
 -- a rank names its key
 pub record IsNamed (t : List ℕ) (i x : ℕ) : Type 0 where
@@ -42,17 +33,8 @@ pub record IsNamed (t : List ℕ) (i x : ℕ) : Type 0 where
   pub key : key_at t (rank t i x) ≡ x
 
 named-by : (t : List ℕ) (i x : ℕ) (o : Option ℕ) → i ≤ length t → IsSeen t i x → next_from t i x ≡ o → IsNamed t i x
-named-by t i x None h s e = record {
-  within = rw e (omega (arith, s.below));
-  key = rw (e, lt-ltb (last_before t i x) (length t) (omega (arith, s.below))) s.there;
-}
-named-by t i x (Some n) h s e =
-    let p = next-found t i x n h e in
-    let back : 2 * length t - 1 - (2 * length t - 1 - n) ≡ n = omega (arith, p.within) in
-    record {
-      within = rw e (omega (arith, p.within));
-      key = rw (e, le-ltb (2 * length t - 1 - n) (length t) (omega (arith, p.within)), back) p.there;
-    }
+named-by t i x None h s e = grind (arith, nat_tests, lt-ltb (last_before t i x) (length t) (omega (arith, s.below)))
+named-by t i x (Some n) h s e = grind (arith, nat_tests, next-found t i x n h e, le-ltb)
 
 pub named : (t : List ℕ) (i x : ℕ) → i ≤ length t → IsSeen t i x → IsNamed t i x
 named t i x h s = named-by t i x (next_from t i x) h s refl

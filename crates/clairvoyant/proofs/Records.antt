@@ -1,5 +1,6 @@
 -- What the record of an access says of it, and how it leads back.
-use Rattle.std.proofs.Common.{◌≡◌, ℕ, suc, ◌<◌, ◌≤◌, true, false, eqb, List, length, get_or, ap, ◌∙◌, sym, subst, refl}
+use Rattle.std.proofs.lemmas.Bool.Decides.{nat_tests}
+use Rattle.std.proofs.Common.{arith, ◌≡◌, ℕ, suc, ◌<◌, ◌≤◌, true, false, eqb, List, length, get_or, ap, ◌∙◌, sym, subst, refl}
 use Rattle.std.proofs.lemmas.Bool.{lt-ltb, le-ltb, eq-eqb, ne_eqb}
 use Rattle.step_record.specs.Keys.{has_key, keys_without}
 use Rattle.clairvoyant.specs.declared.optimal_record.EvictedKey.{EvictedKey}
@@ -34,9 +35,7 @@ module _ (c : ℕ) (t : List ℕ) (i : ℕ) where
 
       pub record-evicted : (v n : ℕ) → farthest t i (get_or t i 0) (belady_residents c t i) ≡ v → has_key v (belady_residents c t i) ≡ true
           → rank t (suc i) v ≡ n → Evicted record { key = v; rank = n } ≡ record_at c t i
-      record-evicted v n e there r =
-          let apart : eqb (get_or t i 0) v ≡ false = ne_eqb (get_or t i 0) v (λ s. absurd (cc (h, there, ap (λ x. has_key x (belady_residents c t i)) s))) in
-          rw (h, le-ltb (length (belady_residents c t i)) c full, e, apart, r) refl
+      record-evicted v n e there r = grind (arith, nat_tests, ne_eqb, le-ltb (length (belady_residents c t i)) c full)
 
 -- ---- by the ways of an access
 

@@ -1,5 +1,5 @@
 -- What serving an access changes of the ranks that are held, and undoing it changes back.
-use Rattle.std.proofs.Common.{◌≡◌, ℕ, suc, ◌-◌, ◌*◌, ◌<◌, ◌≤◌, Bool, true, false, eqb, inl, inr, List, ◌∷◌, length, get_or, ap, ◌∙◌, sym, subst, refl, arith}
+use Rattle.std.proofs.Common.{◌≡◌, ℕ, suc, ◌-◌, ◌*◌, ◌<◌, ◌≤◌, Bool, true, false, eqb, List, ◌∷◌, length, get_or, ap, ◌∙◌, sym, subst, refl, arith}
 use Rattle.std.proofs.lemmas.Bool.{cases_eq, and_parts, eqb-true, eq-eqb, ne_eqb}
 use Rattle.std.proofs.lemmas.Bool.Decides.{nat_tests}
 use Rattle.step_record.specs.Keys.{has_key}
@@ -88,8 +88,7 @@ module _ (c : ℕ) (t : List ℕ) (i : ℕ) (lt : i < length t) where
 
     -- the key is a resident where the rank that it has now is held
     pub tested : (b : Bool) (own : ℕ) → own ≡ 2 * length t - 1 - i → b ≡ is_in_set h own → has_key key before ≡ b
-    tested b own e f =
-        sym (f ∙ ap (is_in_set h) e ∙ held-at key (2 * length t - 1 - i) (omega arith) (key-own t i lt) (rank-own t i lt))
+    tested b own e f = grind (arith, nat_tests, held-at, key-own, rank-own)
 
     module _ (none : has_key key before ≡ false) (new : ℕ) (is : new ≡ rank t (suc i) key) where
       -- none of the residents and the key ranks below m where nothing below m is held
@@ -102,11 +101,7 @@ module _ (c : ℕ) (t : List ℕ) (i : ℕ) (lt : i < length t) where
           grind (arith, nat_tests, cases_eq a key, is, le, old, held, empty (rank t i a), rank-other t i a lt)
 
       soon-seen : (a : ℕ) → has_key a (key ∷ before) ≡ true → IsSeen t (suc i) a
-      soon-seen a g =
-          elim (cases_eq a key) [
-            | inl e ↦ rw e (seen-own t i)
-            | inr ne ↦ seen-more t i a (residents-seen c t i a (rw (ne_eqb a key ne) at g))
-          ]
+      soon-seen a g = grind (arith, nat_tests, cases_eq a key, seen-own t i, seen-more, residents-seen, ne_eqb)
 
       -- the key itself leaves, or the one that the least rank is of
       pub none-out : ((q : ℕ) → q < new → is_in_set h q ≡ false) → farthest t i key before ≡ key

@@ -1,5 +1,5 @@
 -- One bit of a layer of words, and the layer above.
-use Rattle.std.proofs.Common.{◌≡◌, ℕ, ◌+◌, ◌*◌, ◌/◌, ◌%◌, ◌^◌, ◌<◌, ◌≤◌, Bool, true, false, not, eqb, List, length, get_or, set, ap, ◌∙◌, sym, arith, bit_or, w64}
+use Rattle.std.proofs.Common.{◌≡◌, ℕ, ◌+◌, ◌*◌, ◌/◌, ◌%◌, ◌^◌, ◌<◌, Bool, true, false, not, eqb, List, length, get_or, set, arith, bit_or, w64}
 use Rattle.std.specs.Int.{bit_at}
 use Rattle.std.proofs.Math.ListN.{length-set}
 use Rattle.std.proofs.lemmas.Bool.{cases_eq, eq-eqb, ne_eqb}
@@ -11,8 +11,7 @@ use Rattle.clairvoyant.specs.Bits.{IsBitLayer}
 
 -- a word with a bit is not 0
 pub set-some : (y q : ℕ) → eqb (bit_or y (1 * 2 ^ (q % 64) % 2 ^ 64)) 0 ≡ false
-set-some y q = ne_eqb (bit_or y (1 * 2 ^ (q % 64) % 2 ^ 64)) 0
-    (λ h. let no : 1 ≡ 0 = sym (bit_at_set_same w64 y (q % 64) (omega arith)) ∙ ap (λ z. bit_at z (q % 64)) h ∙ bit_at-zero (q % 64) in omega arith)
+set-some y q = grind (arith, nat_tests, ne_eqb, bit_at_set_same w64 y (q % 64) (omega arith), bit_at-zero (q % 64))
 
 -- where a layer above holds a word, that is not 0; where it holds none, it is
 pub above-some : (b : Bool) (x : ℕ) → b ≡ true → b ≡ not (eqb x 0) → 0 < x
@@ -29,23 +28,15 @@ module _ (ws : List ℕ) (w x tz : ℕ) (in_it : w < length ws) (read : x ≡ ge
   place-bit = omega arith
 
   pub least-held : bit_at x tz ≡ 1 → bit_of ws (64 * w + tz) ≡ true
-  least-held one =
-      ap (λ n. eqb (bit_at (get_or ws n 0) ((64 * w + tz) % 64)) 1) place-word ∙ ap (λ n. eqb (bit_at (get_or ws w 0) n) 1) place-bit ∙ ap (λ y. eqb (bit_at y tz) 1) (sym read) ∙ eq-eqb (bit_at x tz) 1 one
+  least-held one = grind (arith, nat_tests, place-word, place-bit, eq-eqb (bit_at x tz) 1 one)
 
   pub none-held : ((i : ℕ) → i < tz → bit_at x i ≡ 0) → ((v : ℕ) → v < w → get_or ws v 0 ≡ 0) → (q : ℕ) → q < 64 * w + tz → bit_of ws q ≡ false
-  none-held low past q lt =
-      grind (arith, nat_tests, cases_eq (q / 64) w, read, low (q % 64), past (q / 64), bit_at-zero (q % 64))
+  none-held low past q lt = grind (arith, nat_tests, cases_eq (q / 64) w, bit_at-zero (q % 64))
 
 pub above-still : (ws : List ℕ) (n : ℕ) (held : ℕ → Bool) (j x : ℕ) → IsBitLayer ws n held → j < length ws → eqb x 0 ≡ eqb (get_or ws j 0) 0 → IsBitLayer (set ws j x) n held
-above-still ws n held j x up within same = record {
-  long = omega (arith, up.long, length-set ws j x);
-  some = λ w.
-      let own = get_or-set_same ws j x 0 within in
-      grind (arith, nat_tests, up.some w, own, get_or-set_other ws j w x 0, same, cases_eq w j);
-}
+above-still ws n held j x up within same =
+    grind (arith, nat_tests, length-set ws j x, get_or-set_same ws j x 0 within, get_or-set_other, cases_eq)
 
 -- where the layer above holds a place, there is a word there
 pub word-there : (ws : List ℕ) (n : ℕ) (held : ℕ → Bool) (w : ℕ) → IsBitLayer ws n held → held w ≡ true → w < length ws
-word-there ws n held w up h =
-    let past : length ws ≤ w → get_or ws w 0 ≡ 0 = get_or_past ws w 0 in
-    grind (arith, nat_tests, past, h, up.some w)
+word-there ws n held w up h = grind (arith, nat_tests, get_or_past ws w 0)

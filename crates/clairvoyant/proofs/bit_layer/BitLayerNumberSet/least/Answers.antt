@@ -1,6 +1,6 @@
+use Rattle.std.proofs.lemmas.Bool.Decides.{nat_tests}
 use Rattle.std.proofs.lemmas.Grind.{common_steps}
 use Rattle.std.proofs.Common.{◌≡◌, ◌<◌, ◌^◌, length, get_or, arith, w64}
-use Rattle.std.specs.Int.{trailing_zeros}
 use Rattle.std.proofs.lemmas.List.{get_or_read}
 use Rattle.std.proofs.lemmas.Nat.Bits.{bit_at-trailing_zeros}
 use Rattle.clairvoyant.proofs.Words.{above-some, above-none, word-there, least-held, none-held}
@@ -17,11 +17,7 @@ returns-in-Some g c =
     let read : x ≡ get_or ws w 0 = get_or_read ws _ _ in_it c.index.ensures 0 in
     let fits : x < 2 ^ 64 = omega arith in
     let some : 0 < x = rw read (above-some _ (get_or ws w 0) e.1 (up.some w)) in
-    let low = bit_at-trailing_zeros w64 x some fits in (
-      omega (arith, low.0, in_it),
-      least-held ws w x (trailing_zeros w64 x) in_it read low.0 low.1,
-      none-held ws w x (trailing_zeros w64 x) in_it read low.0 low.2 (λ v lt. above-none _ (get_or ws v 0) (e.2 v lt) (up.some v)),
-    )
+    let low = bit_at-trailing_zeros w64 x some fits in grind (arith, nat_tests, least-held, none-held, above-none)
 
 pub index-requires : goal.index-requires
 index-requires g c = grind (arith, common_steps)

@@ -1,8 +1,7 @@
+use Rattle.std.proofs.lemmas.Bool.Decides.{nat_tests}
 use Rattle.std.proofs.lemmas.Grind.{common_steps}
 use Rattle.std.proofs.Common.{◌∙◌, sym, ap, arith}
 use Rattle.step_record.specs.Stats.{stats_with}
-use Rattle.clairvoyant.specs.Clairvoyant.{ClairvoyantState}
-use Rattle.clairvoyant.specs.OptimalRecord.{record_at}
 use Rattle.clairvoyant.proofs.Reached.{reached-held}
 use Rattle.clairvoyant.proofs.Applying.{next-keeping, next-accepted, next-undone, next-fits}
 use Rattle.clairvoyant.proofs.clairvoyant.ClairvoyantEngine.apply.Goals as goal
@@ -24,19 +23,13 @@ returns-clause-accepted c =
     next-accepted s.core.capacity s.core.uses s.stats c.count.new.self c.serve-record.result (omega (arith, c.if-place-len.false, c.len.ensures.len)) c.self.invariant.reached c.serve-record.ensures.record (c.count.ensures ∙ ap (λ o. stats_with o s.stats) c.outcome-outcome.ensures) _ _ c.args.self.now c.self.view_is (sym c.if-key-step.false ∙ c.key.ensures) c.outcome-outcome.ensures
 
 pub returns-clause-fits : goal.returns-clause-fits
-returns-clause-fits c =
-    let s = c.self.inside in
-    next-fits s.core.capacity s.core.uses s.stats c.count.new.self c.serve-record.result (omega (arith, c.if-place-len.false, c.len.ensures.len)) c.self.invariant.reached c.serve-record.ensures.record (c.count.ensures ∙ ap (λ o. stats_with o s.stats) c.outcome-outcome.ensures)
+returns-clause-fits c = search (arith, next-fits)
 
 pub returns-clause-undone : goal.returns-clause-undone
-returns-clause-undone c =
-    let s = c.self.inside in
-    next-undone s.core.capacity s.core.uses s.stats c.count.new.self c.serve-record.result (omega (arith, c.if-place-len.false, c.len.ensures.len)) c.self.invariant.reached c.serve-record.ensures.record (c.count.ensures ∙ ap (λ o. stats_with o s.stats) c.outcome-outcome.ensures) ∙ c.self.view_is
+returns-clause-undone c = grind (arith, nat_tests, next-undone)
 
 pub returns-clause-record_is : goal.returns-clause-record_is
-returns-clause-record_is c =
-    c.serve-record.ensures.record
-    ∙ ap (λ (x : ClairvoyantState). record_at x.capacity x.trace x.stats.accesses) c.self.view_is
+returns-clause-record_is c = grind (arith, nat_tests)
 
 pub count-requires : goal.count-requires
 count-requires c = grind (arith, common_steps)

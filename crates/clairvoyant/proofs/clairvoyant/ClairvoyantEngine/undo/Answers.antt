@@ -1,7 +1,8 @@
-use Rattle.std.proofs.Common.{◌∙◌, arith, subst, sym, ap}
+use Rattle.std.proofs.lemmas.Bool.Decides.{nat_tests}
+use Rattle.std.proofs.Common.{arith, subst, sym}
 use Rattle.clairvoyant.specs.RankSet.{IsTied}
 use Rattle.clairvoyant.specs.Belady.{belady_residents}
-use Rattle.step_record.specs.Stats.{IsCounted, stats_without}
+use Rattle.step_record.specs.Stats.{IsCounted}
 use Rattle.clairvoyant.proofs.Undoing.{fitting, up, back-counted, back-shown, back-keeping}
 use Rattle.clairvoyant.proofs.clairvoyant.ClairvoyantEngine.undo.Goals as goal
 
@@ -23,11 +24,7 @@ pub uncount-requires : goal.uncount-requires
 uncount-requires c = let s = c.self.inside in subst (λ o. IsCounted o s.stats) (sym c.outcome.ensures) (back-counted s.core.capacity s.core.uses s.stats c.args.done c.args.self.now c.self.view_is c.self.invariant.reached c.requires)
 
 pub invariant_of-self : goal.invariant_of-self
-invariant_of-self c =
-    let s = c.self.inside in
-    back-keeping s.core.capacity s.core.uses s.stats c.args.done c.args.self.now c.self.view_is c.self.invariant.reached c.requires _ (c.uncount.ensures ∙ ap (λ o. stats_without o s.stats) c.outcome.ensures) _ c.unserve.ensures
+invariant_of-self c = grind (arith, nat_tests, back-keeping)
 
 pub returns-clause-ok : goal.returns-clause-ok
-returns-clause-ok c =
-    let s = c.self.inside in
-    back-shown s.core.capacity s.core.uses s.stats c.args.done c.args.self.now c.self.view_is c.self.invariant.reached c.requires _ (c.uncount.ensures ∙ ap (λ o. stats_without o s.stats) c.outcome.ensures)
+returns-clause-ok c = grind (arith, nat_tests, back-shown)
