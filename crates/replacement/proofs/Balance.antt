@@ -78,8 +78,7 @@ demoted-renewed size s u = grind (arith, nat_tests, by, renewed-none)
 pub hit-renewed : (size : ℕ) (i : Item) (p : Option Queue) (s : Queues) → IsDistinct s → Stands i s p → IsRenewed s (hit_in size i p s)
 hit-renewed size i p s u (in_window a b c) = window-renewed i s a b c
 hit-renewed size i p s u (in_probation a b c) =
-    let moved : IsRenewed s (queues_after_move i Protected s) = protected-renewed i s a (omega (arith, b, c)) in
-    renewed-both s (queues_after_move i Protected s) (queues_after_demotion size (queues_after_move i Protected s)) moved (demoted-renewed size (queues_after_move i Protected s) (renewed-distinct s (queues_after_move i Protected s) moved u))
+    search (arith, protected-renewed i s a (omega (arith, b, c)), renewed-both, demoted-renewed, renewed-distinct)
 hit-renewed size i p s u (in_protected a b c) = protected-renewed i s a (omega (arith, b, c))
 hit-renewed size i p s u (nowhere a b c) = renewed-none s
 
@@ -100,11 +99,7 @@ record IsShed (s t : Queues) : Type 0 where
   window : length t.window ≡ length s.window
 
 shed : (x : Item) (s : Queues) → queue_occurrences x s ≡ 1 → occurrences x s.window ≡ 0 → IsShed s (queues_without x s)
-shed x s a b = record {
-  came = λ j. taken-less j x s;
-  total = omega (arith, a, taken-total x s);
-  window = omega (arith, b, length-without x s.window);
-}
+shed x s a b = grind (arith, nat_tests, taken-less, taken-total x s, length-without x s.window)
 
 module _ (r : Rules) (admits : ℕ → ℕ → Bool) (s : Queues) (c : Item) (t : Queues)
     (same : (j : Item) → queue_occurrences j t ≡ queue_occurrences j s) (once : queue_occurrences c t ≡ 1) (out : occurrences c t.window ≡ 0)
@@ -113,18 +108,7 @@ module _ (r : Rules) (admits : ℕ → ℕ → Bool) (s : Queues) (c : Item) (t 
   shed-came x h j = let a = h.came j in let b = same j in omega (arith, a, b)
 
   rejected : IsEvicted r s (rejection c t)
-  rejected =
-      let h : IsShed t (queues_without c t) = shed c t once out in
-      let n = h.total in
-      let w = h.window in
-      record {
-        came = shed-came (queues_without c t) h;
-        counted = omega (arith, n, total);
-        missed = refl;
-        hit = refl;
-        window = omega (arith, w, window);
-        main = omega (arith, w, n, main);
-      }
+  rejected = grind (arith, nat_tests, shed c t once out, shed-came)
 
   contested : (o : Option Item) → oldest_of t.probation ≡ o → IsEvicted r s (contest admits c o t)
   contested None h = rejected
@@ -209,13 +193,7 @@ no-hit i s none = sym (le-ltb 0 (queue_occurrences i s) (omega (arith, none)))
 
 module _ (r : Rules) (admits : ℕ → ℕ → Bool) (i : Item) (s : Queues) (u : IsDistinct s) (none : queue_occurrences i s ≡ 0) where
   replaced : (q : Queue) (o : Option Item) → oldest_of (queue_of q s) ≡ o → total_items s ≤ r.capacity → r.placement ≡ Direct q → IsBalanced r i s (response_with_victim admits q i o s)
-  replaced q None h f p = record {
-    came = λ j. omega arith;
-    once = u;
-    counted = omega arith;
-    hit = no-hit i s none;
-    sizes = rw p f;
-  }
+  replaced q None h f p = grind (arith, nat_tests, no-hit i s none)
   replaced q (Some v) h f p =
       elim (cases_Bool (admits i.key v.key)) as (λ _. IsBalanced r i s (response_with_victim admits q i (Some v) s)) [
         | inl e ↦
@@ -245,16 +223,7 @@ module _ (r : Rules) (admits : ℕ → ℕ → Bool) (i : Item) (s : Queues) (u 
   direct : (q : Queue) → r.placement ≡ Direct q → total_items s ≤ r.capacity → IsBalanced r i s (response_without_trial r admits q i s)
   direct q p f =
       elim (cases_Bool (nat_lt (total_items s) r.capacity)) as (λ _. IsBalanced r i s (response_without_trial r admits q i s)) [
-        | inl e ↦
-            let room : total_items s < r.capacity = ltb-true (total_items s) r.capacity e in
-            let more : total_items (queues_after_push q i s) ≡ total_items s + 1 = pushed-total q i s in
-            rw e record {
-              came = λ j. (let b = queued-pushed j i q s in omega (arith, b));
-              once = λ j. (let a = joined-once i j s u none in let b = queued-pushed j i q s in omega (arith, a, b));
-              counted = omega (arith, more);
-              hit = no-hit i s none;
-              sizes = rw p (omega (arith, room, more));
-            }
+        | inl e ↦ grind (arith, nat_tests, ltb-true, pushed-total, queued-pushed, joined-once, no-hit)
         | inr e ↦ rw e (replaced q (oldest_of (queue_of q s)) refl f p)
       ]
 
@@ -268,13 +237,7 @@ module _ (r : Rules) (admits : ℕ → ℕ → Bool) (i : Item) (s : Queues) (u 
       let e : IsEvicted r t (eviction r admits t) = evicted r admits t apart (omega (arith, w, longer)) m in
       let counted = e.counted in
       let missed = e.missed in
-      record {
-        came = λ j. (let a = e.came j in let b = same j in omega (arith, a, b));
-        once = λ j. (let a = e.came j in let b = apart j in omega (arith, a, b));
-        counted = omega (arith, counted, missed, more);
-        hit = e.hit ∙ no-hit i s none;
-        sizes = rw p (e.window, e.main);
-      }
+      grind (arith, nat_tests, no-hit i s none)
 
   missed-by : (p : Placement) → r.placement ≡ p → FitsBy p r s → IsBalanced r i s (miss_by p r admits i s)
   missed-by (Direct q) h f = direct q h f
@@ -299,13 +262,7 @@ balanced-at r admits i s (Some q) at u f =
     let one : queue_occurrences i s ≡ 1 = elim (stands-once i s (Some q) at) [ inl e ↦ absurd (cc (e)) | inr e ↦ e ] in
     let w = h.window in
     let m = h.main in
-    record {
-      came = λ j. (let a = h.same j in omega (arith, a));
-      once = renewed-distinct s (hit_in r.protected i (Some q) s) h u;
-      counted = omega (arith, w, m);
-      hit = sym (lt-ltb 0 (queue_occurrences i s) (omega (arith, one)));
-      sizes = renewed-fits r.placement r s (hit_in r.protected i (Some q) s) h f;
-    }
+    grind (arith, nat_tests, renewed-distinct, lt-ltb, renewed-fits)
 
 pub balanced : (r : Rules) (admits : ℕ → ℕ → Bool) (i : Item) (s : Queues) → IsDistinct s → FitsBy r.placement r s → IsBalanced r i s (access r admits i s)
 balanced r admits i s u f = rw (access-at r admits i s (queue_holding i s) refl) (balanced-at r admits i s (queue_holding i s) (stands i s u) u f)

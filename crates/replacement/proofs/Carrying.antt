@@ -1,5 +1,6 @@
 -- Carrying a plan out is undone by its record.
-use Rattle.std.proofs.Common.{◌≡◌, Option, Some, None, refl}
+use Rattle.std.proofs.lemmas.Bool.Decides.{nat_tests}
+use Rattle.std.proofs.Common.{arith, ◌≡◌, Option, Some, None, refl}
 use Rattle.segments.specs.Queues.{Queues, queues_without, queues_after_move, IsDistinct}
 use Rattle.segments.specs.Moves.{move_record}
 use Rattle.segments.proofs.MoveLaws.{move-recorded, out-recorded}
@@ -32,10 +33,7 @@ transfer-stays (Some t) s = refl
 
 moves-undone : (m : Moves) (s a b e : Queues) → UndoesMove s a m.first → UndoesMove a b m.out → UndoesMove b e m.last → needed_by m.last ≡ 0 → needed_by m.first ≡ 0
     → UndoesMoves s e m
-moves-undone m s a b e f o l sl sf = record {
-  fits = record { last = l.fits; out = rw l.undone o.fits; first = rw (l.undone, o.undone) f.fits; stays = (sl, sf) };
-  undone = rw (l.undone, o.undone) f.undone;
-}
+moves-undone m s a b e f o l sl sf = grind (arith, nat_tests)
 
 -- the record of a plan that was carried out
 pub plan-undone : (p : Plan) (s t : Queues) (m : Moves) → IsDistinct s → t ≡ queues_after p s → m ≡ moves_of p s → UndoesMoves s t m

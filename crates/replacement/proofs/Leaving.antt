@@ -1,15 +1,16 @@
 -- Which item the record of an access moves out.
-use Rattle.std.proofs.Common.{◌≡◌, ℕ, Bool, true, false, nat_lt, Option, Some, None, option_map, length, ap, ◌∙◌, sym, refl}
+use Rattle.std.proofs.lemmas.Bool.Decides.{nat_tests}
+use Rattle.std.proofs.Common.{arith, ◌≡◌, ℕ, Bool, true, false, nat_lt, Option, Some, None, option_map, length, refl}
 use Rattle.std.proofs.lemmas.Bool.{cond_both}
 use Rattle.step_record.specs.declared.outcome.Outcome.TheVariants.{Hit}
 use Rattle.step_record.specs.Stats.{is_eviction, is_hit}
-use Rattle.segments.specs.declared.records.Queue.TheVariants.{Window, Probation}
-use Rattle.segments.specs.Items.{Item, is_same_item, oldest_of}
-use Rattle.segments.specs.Queues.{Queues, queue_of, queue_holding, queues_after_push, queues_after_move, total_items, IsDistinct}
+use Rattle.segments.specs.declared.records.Queue.TheVariants.{Window}
+use Rattle.segments.specs.Items.{Item, oldest_of}
+use Rattle.segments.specs.Queues.{Queues, queue_holding, queues_after_push, IsDistinct}
 use Rattle.replacement.specs.declared.rules.Placement.TheVariants.{Direct, Windowed}
 use Rattle.replacement.specs.Table.{Rules, Placement, Queue, Response, kept_in, contest, trial_of, eviction, response_with_victim, miss_by, access_in, access}
-use Rattle.replacement.specs.Plan.{Plan, plan}
-use Rattle.replacement.specs.PlanMoves.{MoveRecord, removal_record, moves_of, queues_after_transfer}
+use Rattle.replacement.specs.Plan.{plan}
+use Rattle.replacement.specs.PlanMoves.{MoveRecord, removal_record, moves_of}
 use Rattle.replacement.proofs.Planned.{plan-at, access-at, accesses_planned}
 
 -- ---- no miss is a hit, and an item leaves only by an eviction
@@ -25,14 +26,11 @@ kept-missed s = (refl, λ h. absurd (h refl))
 
 contest-missed : (a : ℕ → ℕ → Bool) (c : Item) (v : Option Item) (s : Queues) → IsMissed (contest a c v s)
 contest-missed a c None s = (refl, λ h. refl)
-contest-missed a c (Some v) s =
-    cond_both (is_same_item c v) _ _ IsMissed (λ e. (refl, λ h. refl)) (λ e. cond_both (a c.key v.key) _ _ IsMissed (λ f. (refl, λ h. refl)) (λ f. (refl, λ h. refl)))
+contest-missed a c (Some v) s = grind (arith, nat_tests, cond_both)
 
 trial-missed : (r : Rules) (a : ℕ → ℕ → Bool) (c : Option Item) (s : Queues) → IsMissed (trial_of r a c s)
 trial-missed r a None s = kept-missed s
-trial-missed r a (Some c) s =
-    let t : Queues = queues_after_move c Probation s in
-    cond_both (nat_lt r.capacity (total_items t)) _ _ IsMissed (λ e. contest-missed a c (oldest_of t.probation) t) (λ e. kept-missed t)
+trial-missed r a (Some c) s = grind (arith, nat_tests, cond_both, contest-missed, kept-missed)
 
 eviction-missed : (r : Rules) (a : ℕ → ℕ → Bool) (s : Queues) → IsMissed (eviction r a s)
 eviction-missed r a s = cond_both (nat_lt r.window (length s.window)) _ _ IsMissed (λ e. trial-missed r a (oldest_of s.window) s) (λ e. kept-missed s)
@@ -42,8 +40,7 @@ replacing-missed a q i None s = (refl, λ h. refl)
 replacing-missed a q i (Some v) s = cond_both (a i.key v.key) _ _ IsMissed (λ e. (refl, λ h. refl)) (λ e. (refl, λ h. refl))
 
 miss-missed : (p : Placement) (r : Rules) (a : ℕ → ℕ → Bool) (i : Item) (s : Queues) → IsMissed (miss_by p r a i s)
-miss-missed (Direct q) r a i s =
-    cond_both (nat_lt (total_items s) r.capacity) _ _ IsMissed (λ e. kept-missed (queues_after_push q i s)) (λ e. replacing-missed a q i (oldest_of (queue_of q s)) s)
+miss-missed (Direct q) r a i s = grind (arith, nat_tests, cond_both, kept-missed, replacing-missed)
 miss-missed Windowed r a i s = eviction-missed r a (queues_after_push Window i s)
 
 -- ---- a hit
@@ -51,9 +48,7 @@ miss-missed Windowed r a i s = eviction-missed r a (queues_after_push Window i s
 pub hit-keeps : (r : Rules) (a : ℕ → ℕ → Bool) (i : Item) (s : Queues) (p : Option Queue) → queue_holding i s ≡ p
     → (access r a i s).outcome ≡ Hit → (moves_of (plan r a i s) s).out ≡ None
 hit-keeps r a i s (Some q) h o = rw (plan-at r a i s (Some q) h) refl
-hit-keeps r a i s None h o =
-    let hits : is_hit (access_in r a i None s).outcome ≡ true = ap (λ (x : Response). is_hit x.outcome) (sym (access-at r a i s None h)) ∙ ap is_hit o in
-    absurd (let no : true ≡ false = sym hits ∙ (miss-missed r.placement r a i s).0 in cc (no))
+hit-keeps r a i s None h o = grind (arith, nat_tests, access-at r a i s None h, miss-missed r.placement r a i s)
 
 -- ---- any access
 
@@ -64,9 +59,7 @@ removed-item (Some i) s = refl
 -- the item that the record moves out is the one that left
 pub leaver-shown : (r : Rules) (a : ℕ → ℕ → Bool) (i : Item) (s : Queues) → IsDistinct s
     → option_map (λ m. m.item) (moves_of (plan r a i s) s).out ≡ (access r a i s).left
-leaver-shown r a i s u =
-    let p : Plan = plan r a i s in
-    removed-item p.leaves (queues_after_transfer p.first s) ∙ ap (λ (x : Response). x.left) (sym (accesses_planned r a i s u))
+leaver-shown r a i s u = grind (arith, nat_tests, removed-item, accesses_planned r a i s u)
 
 pub access-evicts : (r : Rules) (a : ℕ → ℕ → Bool) (i : Item) (s : Queues) → Evicts (access r a i s)
 unfolding access
@@ -83,5 +76,4 @@ no-item (Some m) h = absurd (cc (h))
 -- a record that asks for memory is of an access by which an item left
 pub asks-evicts : (r : Rules) (a : ℕ → ℕ → Bool) (i : Item) (s : Queues) → IsDistinct s → ((moves_of (plan r a i s) s).out ≡ None → ⊥)
     → is_eviction (access r a i s).outcome ≡ true
-asks-evicts r a i s u asks =
-    access-evicts r a i s (λ none. asks (no-item (moves_of (plan r a i s) s).out (leaver-shown r a i s u ∙ none)))
+asks-evicts r a i s u asks = grind (arith, nat_tests, access-evicts, no-item, leaver-shown r a i s u)

@@ -1,5 +1,5 @@
 -- The plans carry out the table of moves.
-use Rattle.std.proofs.Common.{◌≡◌, ℕ, ◌+◌, ◌≤◌, Bool, true, false, Option, Some, None, List, [], ◌∷◌, ◌++◌, ap, ◌∙◌, sym, refl, arith, inl, inr, length-append}
+use Rattle.std.proofs.Common.{◌≡◌, ℕ, ◌≤◌, Bool, true, false, Option, Some, None, List, [], ◌∷◌, ◌++◌, ap, ◌∙◌, sym, refl, arith, inl, inr, length-append}
 use Rattle.std.proofs.lemmas.Bool.Decides.{nat_tests}
 use Rattle.std.proofs.lemmas.Bool.{cases_Bool}
 use Rattle.segments.specs.declared.records.Queue.TheVariants.{Window, Probation, Protected}
@@ -38,8 +38,7 @@ swapped v c (x ∷ l) = grind (arith, nat_tests, swapped v c l)
 
 -- another item is taken out before or after the candidate goes to probation
 taken-past : (v c : Item) (q : Queues) → is_same_item v c ≡ false → queues_without v (queues_after_move c Probation q) ≡ queues_after_move c Probation (queues_without v q)
-taken-past v c q h =
-    rw (without-append v (items_without c q.probation) (c ∷ []), h, swapped v c q.window, swapped v c q.probation, swapped v c q.protected) refl
+taken-past v c q h = grind (arith, nat_tests, without-append, swapped)
 
 first_or : Item → Option Item → Option Item
 first_or c None = Some c
@@ -70,8 +69,7 @@ contest-planned : (a : ℕ → ℕ → Bool) (c : Item) (o : Option Item) (s : Q
 unfolding first_or
 contest-planned a c None s f h = let e = same-refl c in rw (e, taken-moved c Probation s) refl
 contest-planned a c (Some v) s f h =
-    let e : is_same_item c v ≡ false = apart c v s.probation h f in
-    rw e (grind (arith, nat_tests, taken-past v c s (same-sym c v e), same-sym c v e, taken-moved c Probation s))
+    grind (arith, nat_tests, apart c v s.probation h f, taken-past, same-sym, taken-moved c Probation s)
 
 -- the candidate's way to probation adds no item
 total-shifted : (c : Item) (q : Queues) → IsDistinct q → 1 ≤ occurrences c q.window → total_items (queues_after_move c Probation q) ≡ total_items q
@@ -109,8 +107,7 @@ evicts-first r a s = first-none r a (candidate_of r s) s
 replacing-planned : (a : ℕ → ℕ → Bool) (q : Queue) (i : Item) (o : Option Item) (s : Queues) → queue_holding i s ≡ None
     → response_with_victim a q i o s ≡ response_of_plan (contest_plan q a i None o) s
 replacing-planned a q i None s h = refl
-replacing-planned a q i (Some v) s h =
-    grind (arith, nat_tests, pushed-moved i q (queues_without v s) (still-absent i v s h), still-absent i v s h)
+replacing-planned a q i (Some v) s h = search (arith, pushed-moved, still-absent)
 
 direct-planned : (r : Rules) (a : ℕ → ℕ → Bool) (q : Queue) (i : Item) (s : Queues) → queue_holding i s ≡ None → response_without_trial r a q i s ≡ response_of_plan (direct_plan r a q i s) s
 direct-planned r a q i s h = grind (arith, nat_tests, pushed-moved, replacing-planned)

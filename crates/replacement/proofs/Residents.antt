@@ -22,8 +22,7 @@ length-keys [] = refl
 length-keys (x ∷ l) = ap suc (length-keys l)
 
 pub residents-length : (s : Queues) → length (residents_in s) ≡ total_items s
-residents-length s =
-    omega (arith, length-append (keys_of s.window ++ keys_of s.probation) (keys_of s.protected), length-append (keys_of s.window) (keys_of s.probation), length-keys s.window, length-keys s.probation, length-keys s.protected)
+residents-length s = grind (arith, nat_tests, length-append, length-keys)
 
 pub has-append : (k : ℕ) (xs ys : List ℕ) → has_key k (xs ++ ys) ≡ cond (has_key k xs) true (has_key k ys)
 has-append k [] ys = refl
@@ -45,17 +44,7 @@ some-there a b = grind (arith, nat_tests)
 
 -- a key is resident where its item stands
 pub resident-queued : (k : ℕ) (s : Queues) → AreNodeless s → has_key k (residents_in s) ≡ nat_lt 0 (queue_occurrences (nodeless_item k) s)
-resident-queued k s h =
-    let i : Item = nodeless_item k in
-    let w : has_key k (keys_of s.window) ≡ nat_lt 0 (occurrences i s.window) = key-there k s.window (λ x g. h x (omega (arith, g))) in
-    let p : has_key k (keys_of s.probation) ≡ nat_lt 0 (occurrences i s.probation) = key-there k s.probation (λ x g. h x (omega (arith, g))) in
-    let t : has_key k (keys_of s.protected) ≡ nat_lt 0 (occurrences i s.protected) = key-there k s.protected (λ x g. h x (omega (arith, g))) in
-    let front : has_key k (keys_of s.window ++ keys_of s.probation) ≡ nat_lt 0 (occurrences i s.window + occurrences i s.probation) =
-    has-append k (keys_of s.window) (keys_of s.probation) ∙ (ap (λ b. cond b true (has_key k (keys_of s.probation))) w ∙ (ap (λ b. cond (nat_lt 0 (occurrences i s.window)) true b) p ∙ some-there (occurrences i s.window) (occurrences i s.probation))) in
-    has-append k (keys_of s.window ++ keys_of s.probation) (keys_of s.protected)
-    ∙ (ap (λ b. cond b true (has_key k (keys_of s.protected))) front
-    ∙ (ap (λ b. cond (nat_lt 0 (occurrences i s.window + occurrences i s.probation)) true b) t
-    ∙ some-there (occurrences i s.window + occurrences i s.probation) (occurrences i s.protected)))
+resident-queued k s h = grind (arith, nat_tests, key-there, has-append, some-there)
 
 key-times : (k : ℕ) (l : List Item) → ((i : Item) → 1 ≤ occurrences i l → i.node ≡ 0) → count_by (eqb k) (keys_of l) ≡ occurrences (nodeless_item k) l
 key-times k [] h = refl

@@ -1,5 +1,6 @@
 -- What the calls leave is what the plan of an access says.
-use Rattle.std.proofs.Common.{◌≡◌, ℕ, Bool, Option, Some, None, ap, ◌∙◌, sym, refl, subst}
+use Rattle.std.proofs.lemmas.Bool.Decides.{nat_tests}
+use Rattle.std.proofs.Common.{arith, ◌≡◌, ℕ, Bool, Option, Some, None, ap, ◌∙◌, sym, subst}
 use Rattle.step_record.specs.declared.outcome.Outcome.TheVariants.{Hit}
 use Rattle.segments.specs.declared.records.Queue.TheVariants.{Window}
 use Rattle.segments.specs.Queues.{Queues, queue_holding, queues_after_move}
@@ -14,16 +15,13 @@ use Rattle.replacement.proofs.Planned.{plan-at, evicts-first}
 
 pub hit-effect : (r : Rules) (a : ℕ → ℕ → Bool) (i : Item) (s t : Queues) (m : Moves) → IsHit r.protected i s t m
     → IsEffect (plan r a i s) s t record { outcome = Hit; moves = m }
-hit-effect r a i s t m h =
-    subst (λ (p : Plan). IsEffect p s t record { outcome = Hit; moves = m }) (sym (plan-at r a i s (Some h.queue) h.place))
-    record { lists = h.lists; moves = h.moves; outcome = refl }
+hit-effect r a i s t m h = grind (arith, nat_tests, plan-at r a i s (Some h.queue) h.place)
 
 -- a miss, which the search for the item left as it was
 
 pub miss-effect : (r : Rules) (a : ℕ → ℕ → Bool) (i : Item) (s p t : Queues) (e : Effect) → queue_holding i s ≡ None → p ≡ s
     → IsEffect (miss_plan r a i p) p t e → IsEffect (plan r a i s) s t e
-miss-effect r a i s p t e h same f =
-    subst (λ (x : Plan). IsEffect x s t e) (sym (plan-at r a i s None h)) (subst (λ (x : Queues). IsEffect (miss_plan r a i x) x t e) same f)
+miss-effect r a i s p t e h same f = grind (arith, nat_tests, plan-at r a i s None h)
 
 pub placed-effect : (p : Placement) (r : Rules) (a : ℕ → ℕ → Bool) (i : Item) (s t : Queues) (e : Effect) → r.placement ≡ p
     → IsEffect (miss_plan_by p r a i s) s t e → IsEffect (miss_plan r a i s) s t e
@@ -54,11 +52,4 @@ pub joined-effect : (r : Rules) (a : ℕ → ℕ → Bool) (i : Item) (s p t : Q
       outcome = e.outcome;
       moves = record { first = (moves_of (joining_first i (eviction_plan r a (queues_after_move i Window s))) s).first; out = e.moves.out; last = e.moves.last };
     }
-joined-effect r a i s p t e same f =
-    let g : IsEffect (eviction_plan r a (queues_after_move i Window s)) (queues_after_move i Window s) t e = subst (λ (x : Queues). IsEffect (eviction_plan r a x) x t e) same f in
-    let n = evicts-first r a (queues_after_move i Window s) in
-    record {
-      lists = joined-lists i (eviction_plan r a (queues_after_move i Window s)) s t n g.lists;
-      moves = joined-moves i (eviction_plan r a (queues_after_move i Window s)) s e.moves n g.moves;
-      outcome = g.outcome;
-    }
+joined-effect r a i s p t e same f = grind (arith, nat_tests, evicts-first, joined-lists, joined-moves)

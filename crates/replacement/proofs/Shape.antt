@@ -1,5 +1,6 @@
 -- A configuration's frequency has one shape.
-use Rattle.std.proofs.Common.{◌≡◌, ℕ, zero, suc, ◌+◌, ◌*◌, ◌/◌, ◌^◌, ◌≤◌, ◌<◌, inl, inr, max, List, ap, sym, ◌∙◌, refl, arith, subst}
+use Rattle.std.proofs.lemmas.Bool.Decides.{nat_tests}
+use Rattle.std.proofs.Common.{◌≡◌, ℕ, zero, suc, ◌+◌, ◌*◌, ◌/◌, ◌^◌, ◌≤◌, ◌<◌, inl, inr, max, List, ap, sym, ◌∙◌, refl, arith}
 use Rattle.std.proofs.lemmas.Nat.{pow-add}
 use Rattle.std.proofs.lemmas.Bool.Decides.{leb_tells}
 use Rattle.std.specs.Int.{IsPowerOfTwo, IsNextPowerOfTwo}
@@ -24,14 +25,7 @@ unfolding least_power
 least n = doubled-is n 1 n (0, refl) (omega arith) (omega arith) (omega arith)
 
 next-one : (n p q : ℕ) → 1 ≤ n → IsNextPowerOfTwo n p → IsNextPowerOfTwo n q → p ≡ q
-next-one n p q h a b =
-    let ka = a.0 in
-    let kb = b.0 in
-    let up : p ≤ 2 ^ kb.0 = next_within n p kb.0 a (subst (λ x. n ≤ x) kb.1 b.1) h in
-    let down : q ≤ 2 ^ ka.0 = next_within n q ka.0 b (subst (λ x. n ≤ x) ka.1 a.1) h in
-    let e = ka.1 in
-    let f = kb.1 in
-    omega arith
+next-one n p q h a b = grind (arith, nat_tests, next_within)
 
 pub shape-is : (c : Config) → 1 ≤ c.capacity → IsShape (shape_of c)
 shape-is c some = record { some = some; width = least (max 16 c.capacity); size = least (max 64 (8 * c.capacity)) }
@@ -41,22 +35,14 @@ shape_by c p w d = record { capacity = c; spread = p; width = w; size = d }
 
 shape-one : (c : Config) (s : Shape) → IsShape s → s.capacity ≡ c.capacity → s.spread ≡ c.spread → s ≡ shape_of c
 unfolding shape_by
-shape-one c s is cap spread =
-    let w : s.width ≡ least_power (max 16 c.capacity) = next-one (max 16 c.capacity) s.width (least_power (max 16 c.capacity)) (omega arith) (subst (λ n. IsNextPowerOfTwo (max 16 n) s.width) cap is.width) (least (max 16 c.capacity)) in
-    let d : s.size ≡ least_power (max 64 (8 * c.capacity)) = next-one (max 64 (8 * c.capacity)) s.size (least_power (max 64 (8 * c.capacity))) (omega arith) (subst (λ n. IsNextPowerOfTwo (max 64 (8 * n)) s.size) cap is.size) (least (max 64 (8 * c.capacity))) in
-    ap (λ x. shape_by x s.spread s.width s.size) cap
-    ∙ (ap (λ x. shape_by c.capacity x s.width s.size) spread ∙ (ap (λ x. shape_by c.capacity c.spread x s.size) w ∙ ap (λ x. shape_by c.capacity c.spread (least_power (max 16 c.capacity)) x) d))
+shape-one c s is cap spread = grind (arith, nat_tests, next-one, least, shape_by)
 
 pub own-shape : (c : Config) (keys : List ℕ) (f : FrequencyData) → IsFrequencyOf c.capacity c.spread keys f → f ≡ frequency_of (shape_of c) keys
 own-shape c keys f h = h.stands ∙ ap (λ s. frequency_of s keys) (shape-one c h.shape h.is h.capacity_is h.spread_is)
 
 open-shape-one : (columns : ℕ) (c : Config) (s : Shape) → IsOpenShape columns s → s.capacity ≡ c.capacity → s.spread ≡ c.spread → s ≡ open_shape_of columns c
 unfolding shape_by
-open-shape-one columns c s is cap spread =
-    let e : is.entries ≡ least_power (max 16 c.capacity) = next-one (max 16 c.capacity) is.entries (least_power (max 16 c.capacity)) (omega arith) (subst (λ n. IsNextPowerOfTwo (max 16 n) is.entries) cap is.is) (least (max 16 c.capacity)) in
-    let w : s.width ≡ columns * least_power (max 16 c.capacity) = is.width ∙ ap (λ x. columns * x) e in
-    ap (λ x. shape_by x s.spread s.width s.size) cap
-    ∙ (ap (λ x. shape_by c.capacity x s.width s.size) spread ∙ (ap (λ x. shape_by c.capacity c.spread x s.size) w ∙ ap (λ x. shape_by c.capacity c.spread (columns * least_power (max 16 c.capacity)) x) is.size))
+open-shape-one columns c s is cap spread = grind (arith, nat_tests, next-one, least (max 16 c.capacity), shape_by)
 
 pub own-open-shape : (columns : ℕ) (c : Config) (keys : List ℕ) (f : FrequencyData) → IsOpenFrequencyOf columns c.capacity c.spread keys f → f ≡ frequency_of (open_shape_of columns c) keys
 own-open-shape columns c keys f h = h.stands ∙ ap (λ s. frequency_of s keys) (open-shape-one columns c h.shape h.is h.capacity_is h.spread_is)

@@ -1,5 +1,4 @@
-use Rattle.std.proofs.Common.{◌∙◌, sym, subst}
-use Rattle.segments.specs.Queues.{IsDistinct}
+use Rattle.std.proofs.Common.{arith, ◌∙◌}
 use Rattle.segments.proofs.QueueLists.{pushed-moved}
 use Rattle.replacement.proofs.Counting.{distinct-moved}
 use Rattle.replacement.proofs.queue_moves.join.Goals as goal
@@ -8,5 +7,4 @@ pub returns-clause-lists : goal.returns-clause-lists
 returns-clause-lists c = c.push_recent.ensures.lists ∙ pushed-moved c.args.item c.args.queue c.args.segments.now.lists c.requires.absent
 
 pub returns-clause-distinct : goal.returns-clause-distinct
-returns-clause-distinct c =
-    subst IsDistinct (sym (returns-clause-lists c)) (distinct-moved c.args.item c.args.queue c.args.segments.now.lists c.requires.distinct)
+returns-clause-distinct c = search (arith, returns-clause-lists, distinct-moved)
