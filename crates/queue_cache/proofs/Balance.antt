@@ -1,5 +1,6 @@
 -- What holds of every cache of queues that made some accesses.
-use Rattle.std.proofs.Common.{◌≡◌, ◌⊎◌, ℕ, ◌+◌, ◌≤◌, true, Option, List, [], ◌∷◌, ◌++◌, length, ap, ◌∙◌, refl, arith}
+use Rattle.std.proofs.lemmas.Bool.Decides.{nat_tests}
+use Rattle.std.proofs.Common.{◌≡◌, ◌⊎◌, ℕ, ◌+◌, ◌≤◌, true, Option, List, [], ◌∷◌, ◌++◌, length, refl, arith}
 use Rattle.step_record.specs.declared.job.Policy.TheVariants.{Lru, WindowTinyLfu}
 use Rattle.step_record.specs.Keys.{has_key}
 use Rattle.segments.specs.Items.{nodeless_item}
@@ -22,14 +23,7 @@ pub step-balanced : (f : Option FrequencyData) (k : ℕ) (d : QueueState) → Is
 step-balanced f k d s = balanced (rules_of d.job) (admits_in f) (nodeless_item k) d.queues s.once s.sizes
 
 pub next-balanced : (f : Option FrequencyData) (k : ℕ) (d : QueueState) → IsBalancedCache d → IsBalancedCache (queue_state_after f k d)
-next-balanced f k d s =
-    let v : IsBalanced (rules_of d.job) (nodeless_item k) d.queues (access_response f k d) = step-balanced f k d s in
-    record {
-      once = v.once;
-      nodeless = still-nodeless k d.queues (access_response f k d).queues s.nodeless v.came;
-      sizes = v.sizes;
-      counted = (let before = s.counted in let now = v.counted in omega (arith, before, now));
-    }
+next-balanced f k d s = grind (arith, nat_tests, step-balanced f k d s, still-nodeless)
 
 empty-fits : (p : Policy) (c : Config) → FitsBy (rules_in (design_of p) c).placement (rules_in (design_of p) c) empty_queues
 empty-fits WindowTinyLfu c = (omega arith, omega arith)
@@ -55,11 +49,7 @@ after-balanced j keys = from-balanced j [] (empty_queue_state j) keys (empty-bal
 
 pub residents-fit : (j : Job) (keys : List ℕ) → length (residents_in (state_after j keys).queues) ≤ j.config.capacity
 residents-fit j keys =
-    let s : IsBalancedCache (state_after j keys) = after-balanced j keys in
-    let d : QueueState = state_after j keys in
-    let within : total_items d.queues ≤ (rules_of d.job).capacity = fits-total (rules_of d.job).placement (rules_of d.job) d.queues s.sizes in
-    let own : (rules_of d.job).capacity ≡ j.config.capacity = own-capacity d.job.policy d.job.config ∙ ap (λ (x : Job). x.config.capacity) (after-job j keys) in
-    omega (arith, within, own, residents-length d.queues)
+    grind (arith, nat_tests, after-balanced j keys, fits-total, own-capacity, after-job j keys, residents-length)
 
 -- a key that is resident after an access came in with it or was resident before
 pub came-from : (f : Option FrequencyData) (k x : ℕ) (d : QueueState) → IsBalancedCache d → has_key x (residents_in (queue_state_after f k d).queues) ≡ true → (x ≡ k) ⊎ (has_key x (residents_in d.queues) ≡ true)

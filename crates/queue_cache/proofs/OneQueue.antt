@@ -1,5 +1,5 @@
 -- The table of moves without counting, in one queue: an access is one to the last distinct keys.
-use Rattle.std.proofs.Common.{◌≡◌, ℕ, suc, zero, ◌+◌, ◌-◌, ◌≤◌, true, false, eqb, nat_lt, Some, None, List, [], ◌∷◌, ◌++◌, length, map, drop, ap, ◌∙◌, sym, refl, arith, subst, inl, inr, append-nil}
+use Rattle.std.proofs.Common.{◌≡◌, ℕ, suc, zero, ◌+◌, ◌-◌, ◌≤◌, true, false, nat_lt, Some, None, List, [], ◌∷◌, ◌++◌, length, map, drop, ap, ◌∙◌, sym, refl, arith, subst, inl, inr, append-nil}
 use Rattle.std.proofs.lemmas.List.{append_assoc, length-map, map-append}
 use Rattle.std.proofs.lemmas.Bool.{eq-eqb}
 use Rattle.std.proofs.lemmas.Bool.Decides.{nat_tests}
@@ -49,12 +49,7 @@ module _ (c k : ℕ) where
   one-full : (l : List ℕ) → has_key k l ≡ false → nat_lt (length l) c ≡ false → IsDistinct l → 1 ≤ c
       → IsAccess c k l (response_with_victim (admits_in None) Window (nodeless_item k) (oldest_of (map nodeless_item l)) (single_queue l))
   one-full [] e f d w = absurd (let t : nat_lt 0 c ≡ true = grind (arith, nat_tests) in let no : true ≡ false = sym t ∙ f in cc (no))
-  one-full (a ∷ l) e f d w =
-      let self : eqb a a ≡ true = eq-eqb a a refl in
-      record {
-        lists = rw (e, f, self, without-map a l, without-none a l d.0, map-append nodeless_item l (k ∷ [])) refl;
-        outcome = rw (e, f) refl;
-      }
+  one-full (a ∷ l) e f d w = grind (arith, nat_tests, eq-eqb, without-map, without-none, map-append)
 
   one-direct : (l : List ℕ) → has_key k l ≡ false → IsDistinct l → 1 ≤ c → IsAccess c k l (response_without_trial (one c) (admits_in None) Window (nodeless_item k) (single_queue l))
   one-direct l e d w = grind (arith, nat_tests, total-in, one-room, one-full)

@@ -6,7 +6,7 @@ use Rattle.std.proofs.lemmas.Bool.Decides.{nat_tests}
 use Rattle.step_record.specs.declared.limits.TheConstants.{MAX_STEPS}
 use Rattle.step_record.specs.Config.{config_fault}
 use Rattle.step_record.specs.Pace.{words_of_halvings}
-use Rattle.step_record.specs.Stats.{stats_of, stats_with, is_hit, is_miss, is_eviction, is_rejection, IsSmall}
+use Rattle.step_record.specs.Stats.{stats_of, stats_with, IsSmall}
 use Rattle.segments.specs.Queues.{Queues, empty_queues}
 use Rattle.step_record.proofs.Limited.{accepted}
 use Rattle.admission.specs.Shape.{Shape}
@@ -21,7 +21,7 @@ use Rattle.replacement.proofs.Shape.{shape-is}
 use Rattle.segments.specs.Items.{nodeless_item}
 use Rattle.queue_cache.specs.Design.{Rules, Job, is_counting, rules_of}
 use Rattle.queue_cache.specs.QueueCache.{Stats, QueueState, access_response, queue_state_after, frequency_by, frequency_after, state_from, empty_queue_state, state_after, outcomes_after, outcome_after, StandsFor}
-use Rattle.queue_cache.specs.QueueStep.{FreqRecord, IsReached, recorded_in, queue_access, queue_count, queue_act, FitsCounting, unrecorded, pace_by}
+use Rattle.queue_cache.specs.QueueStep.{FreqRecord, IsReached, recorded_in, queue_act, FitsCounting, unrecorded, pace_by}
 use Rattle.admission.specs.FreqRecord.{size_of}
 use Rattle.queue_cache.specs.QueueFields.{FewHalvings}
 use Rattle.queue_cache.proofs.Answered.{after-length}
@@ -64,13 +64,7 @@ pub stands-accesses : (j : Job) (keys : List ℕ) (d : QueueState) → StandsFor
 stands-accesses j keys d s = ap (λ (x : Stats). x.accesses) (stands-counts j keys d s) ∙ after-length j keys
 
 small-of : (os : List Outcome) → length os ≤ MAX_STEPS → IsSmall (stats_of os)
-small-of os few = record {
-  accesses = few;
-  hits = omega (arith, few, count_by-le-length is_hit os);
-  misses = omega (arith, few, count_by-le-length is_miss os);
-  evictions = omega (arith, few, count_by-le-length is_eviction os);
-  rejections = omega (arith, few, count_by-le-length is_rejection os);
-}
+small-of os few = grind (arith, nat_tests, count_by-le-length)
 
 pub reached-small : (d : QueueState) → IsReached d → IsSmall d.stats
 reached-small d r =
@@ -86,42 +80,28 @@ pub has-room : (c : Config) → config_fault c ≡ Ok tt → 1 ≤ c.capacity
 has-room c h = grind (arith, nat_tests)
 
 pub reached-halvings : (d : QueueState) → IsReached d → FewHalvings d.frequency
-reached-halvings d r =
-    subst FewHalvings (sym (ap (λ (e : QueueState). e.frequency) r.stands.gives ∙ after-frequency d.job r.keys))
-    (by-few (is_counting d.job.policy) d.job.config r.keys (has-room d.job.config r.stands.checked) r.few)
+reached-halvings d r = grind (arith, nat_tests, after-frequency, by-few, has-room)
 
 -- recording the key in the frequency of the accesses gives that of one more
 recorded-by : (b : Bool) (c : Config) (keys : List ℕ) (k : ℕ) → 1 ≤ c.capacity → recorded_in k (frequency_by b (shape_of c) keys) ≡ frequency_by b (shape_of c) (keys ++ k ∷ [])
 recorded-by false c keys k some = refl
-recorded-by true c keys k some =
-    let is = shape-is c some in
-    ap Some (recorded_freq (shape_of c) is.some (omega (arith, is.width.1)) keys k)
+recorded-by true c keys k some = grind (arith, nat_tests, shape-is c some, recorded_freq)
 
 -- for a cache that stands for some accesses: the frequency with the key
 stands-frequency : (j : Job) (keys : List ℕ) (k : ℕ) (d : QueueState) → StandsFor j keys d → recorded_in k d.frequency ≡ frequency_after j (keys ++ k ∷ [])
-stands-frequency j keys k d s =
-    ap (recorded_in k) (ap (λ (x : QueueState). x.frequency) s.gives ∙ after-frequency j keys)
-    ∙ recorded-by (is_counting j.policy) j.config keys k (has-room j.config s.checked)
+stands-frequency j keys k d s = grind (arith, nat_tests, after-frequency, recorded-by, has-room)
 
 -- it stands for one access more after a step
 pub stands-step : (j : Job) (keys : List ℕ) (k : ℕ) (d : QueueState) → StandsFor j keys d → queue_state_after (recorded_in k d.frequency) k d ≡ state_after j (keys ++ k ∷ [])
-stands-step j keys k d s =
-    ap (λ f. queue_state_after f k d) (stands-frequency j keys k d s)
-    ∙ (ap (queue_state_after (frequency_after j (keys ++ k ∷ [])) k) s.gives ∙ sym (after-snoc j keys k))
+stands-step j keys k d s = grind (arith, nat_tests, stands-frequency j keys k d s, after-snoc j keys k)
 
 pub stands-outcome : (j : Job) (keys : List ℕ) (k : ℕ) (d : QueueState) → StandsFor j keys d → (access_response (recorded_in k d.frequency) k d).outcome ≡ outcome_after j keys k
-stands-outcome j keys k d s =
-    ap (λ f. (access_response f k d).outcome) (stands-frequency j keys k d s)
-    ∙ ap (λ x. (access_response (frequency_after j (keys ++ k ∷ [])) k x).outcome) s.gives
+stands-outcome j keys k d s = grind (arith, nat_tests, stands-frequency j keys k d s)
 
 reached-step : (d : QueueState) (k : ℕ) → IsReached d → d.stats.accesses ≢ 4294967296 → IsReached (queue_state_after (recorded_in k d.frequency) k d)
 reached-step d k r below =
     let less : length r.keys ≢ 4294967296 = λ h. below (stands-accesses d.job r.keys d r.stands ∙ h) in
-    record {
-      keys = r.keys ++ k ∷ [];
-      stands = record { checked = r.stands.checked; gives = stands-step d.job r.keys k d r.stands };
-      few = omega (arith, r.few, less, length-append r.keys (k ∷ []));
-    }
+    grind (arith, nat_tests, stands-step d.job r.keys k d r.stands, length-append r.keys (k ∷ []))
 
 -- a cache that made no access
 pub first-stands : (j : Job) (f : Option FrequencyData) (q : Queues) → config_fault j.config ≡ Ok tt → f ≡ frequency_after j [] → q ≡ empty_queues
@@ -154,9 +134,7 @@ counting-weighs r (Some f) h = weight_falls f r h
 -- what an accepted step does is what the list of accesses says
 pub act_stands : (j : Job) (keys : List ℕ) (d : QueueState) (k : ℕ) (o : Outcome) (e : QueueState) → StandsFor j keys d
     → queue_act d k ≡ Some (o, e) → (o ≡ outcome_after j keys k) × StandsFor j (keys ++ k ∷ []) e
-act_stands j keys d k o e s h =
-    let a = accepted queue_count queue_access d k o e h in
-    (a.outcome ∙ stands-outcome j keys k d s, record { checked = s.checked; gives = a.next ∙ stands-step j keys k d s })
+act_stands j keys d k o e s h = grind (arith, nat_tests, accepted, stands-outcome, stands-step)
 
 uncounted-by : (b : Bool) (s : Shape) (keys : List ℕ) → b ≡ false → frequency_by b s keys ≡ None
 uncounted-by false s keys h = refl
@@ -164,6 +142,4 @@ uncounted-by true s keys h = cc (h)
 
 -- where the policy counts no keys, there is no frequency
 pub reached-uncounted : (d : QueueState) → IsReached d → is_counting d.job.policy ≡ false → d.frequency ≡ None
-reached-uncounted d r h =
-    ap (λ (e : QueueState). e.frequency) r.stands.gives ∙ after-frequency d.job r.keys
-    ∙ uncounted-by (is_counting d.job.policy) (shape_of d.job.config) r.keys h
+reached-uncounted d r h = grind (arith, nat_tests, after-frequency, uncounted-by)

@@ -68,8 +68,7 @@ last-fewer c (x ∷ l) h = grind (arith, nat_tests, last-long, last-fewer c l, l
 pub has-drop : (k n : ℕ) (l : List ℕ) → has_key k (drop n l) ≡ true → has_key k l ≡ true
 has-drop k zero l h = h
 has-drop k (suc n) [] h = absurd (cc (h))
-has-drop k (suc n) (a ∷ l) h =
-    elim (two (eqb k a)) as (λ _. cond (eqb k a) true (has_key k l) ≡ true) [ inl e ↦ rw e refl | inr e ↦ rw e (has-drop k n l h) ]
+has-drop k (suc n) (a ∷ l) h = grind (arith, nat_tests, two (eqb k a), has-drop k n l h)
 
 -- k is among the last, and goes to the end
 last-hit : (c k : ℕ) (l : List ℕ) → IsDistinct l → has_key k (last (suc c) l) ≡ true → last c (keys_without k l) ≡ keys_without k (last (suc c) l)
@@ -88,8 +87,7 @@ last-snoc c k l = grind (arith, nat_tests, length-append, drop-append-le)
 
 has-snoc : (a k : ℕ) (xs : List ℕ) → has_key a (xs ++ k ∷ []) ≡ cond (has_key a xs) true (eqb a k)
 has-snoc a k [] = elim (two (eqb a k)) as (λ _. cond (eqb a k) true false ≡ eqb a k) [ inl e ↦ rw e refl | inr e ↦ rw e refl ]
-has-snoc a k (x ∷ xs) =
-    elim (two (eqb a x)) as (λ _. cond (eqb a x) true (has_key a (xs ++ k ∷ [])) ≡ cond (cond (eqb a x) true (has_key a xs)) true (eqb a k)) [ inl e ↦ rw e refl | inr e ↦ rw e (has-snoc a k xs) ]
+has-snoc a k (x ∷ xs) = grind (arith, nat_tests, two (eqb a x), has-snoc a k xs)
 
 eqb-sym : (a b : ℕ) → eqb a b ≡ eqb b a
 eqb-sym a b = grind (arith, nat_tests)
@@ -103,14 +101,12 @@ since-short k [] = omega arith
 since-short k (a ∷ xs) = grind (arith, nat_tests, since-short k xs)
 
 pub not-drop : (k n : ℕ) (l : List ℕ) → has_key k l ≡ false → has_key k (drop n l) ≡ false
-not-drop k n l h =
-    elim (two (has_key k (drop n l))) as (λ _. has_key k (drop n l) ≡ false) [ inl e ↦ absurd (let no : has_key k l ≡ true = has-drop k n l e in cc (no, h)) | inr e ↦ e ]
+not-drop k n l h = grind (arith, nat_tests, two (has_key k (drop n l)), has-drop)
 
 -- a key is a resident where it is a hit
 has-last : (c k : ℕ) (xs : List ℕ) → has_key k (lru_residents c xs) ≡ is_lru_hit c xs k
 has-last c k [] = let none : last c [] ≡ [] = last-short c [] (omega arith) in rw none refl
-has-last c k (a ∷ xs) =
-    grind (arith, nat_tests, has-last c k xs, last-long, since-short, last-short, has-distinct, not-drop)
+has-last c k (a ∷ xs) = search (arith, has-last c k xs, last-long, since-short, last-short, has-distinct, not-drop)
 
 full-last : (c : ℕ) (l : List ℕ) → nat_lt (length (last c l)) c ≡ nat_lt (length l) c
 full-last c l = grind (arith, nat_tests, last-length, last-short)
@@ -119,11 +115,7 @@ full-last c l = grind (arith, nat_tests, last-length, last-short)
 pub residents-snoc : (c k : ℕ) (xs : List ℕ) → lru_residents (suc c) (xs ++ k ∷ []) ≡ moved (suc c) (lru_residents (suc c) xs) k
 residents-snoc c k xs =
     rw (distinct-snoc k xs, last-snoc c k (keys_without k (distinct_keys xs)))
-    (elim (two (has_key k (last (suc c) (distinct_keys xs)))) as (λ _. last c (keys_without k (distinct_keys xs)) ++ k ∷ [] ≡ moved (suc c) (last (suc c) (distinct_keys xs)) k) [
-      | inl h ↦ rw (h, last-hit c k (distinct_keys xs) (distinct-distinct xs) h) refl
-      | inr h ↦ rw (h, last-miss c k (distinct_keys xs) (distinct-distinct xs) h, full-last (suc c) (distinct_keys xs))
-          (grind (arith, nat_tests, last-short))
-    ])
+    (grind (arith, nat_tests, two (has_key k (last (suc c) (distinct_keys xs))), last-hit, distinct-distinct xs, last-miss, full-last (suc c) (distinct_keys xs), last-short))
 
 -- the outcome is the one that the residents show
 pub outcome-residents : (c k : ℕ) (xs : List ℕ) → lru_outcome c xs k ≡ answer c (lru_residents c xs) k
