@@ -1,14 +1,13 @@
 -- The climber: undone from its record, and its invariant.
-use Rattle.std.proofs.Common.{◌≡◌, ℕ, ◌+◌, ◌-◌, ◌*◌, ◌<◌, ◌≤◌, Bool, true, false, eqb, Option, Some, None, arith}
+use Rattle.std.proofs.Common.{◌≡◌, ℕ, ◌+◌, ◌-◌, ◌<◌, ◌≤◌, Bool, true, false, eqb, Option, Some, None, arith}
 use Rattle.std.proofs.lemmas.Bool.Decides.{nat_tests}
 use Rattle.std.proofs.Math.Nat.{mul-le-mul_left, max-le, min-le_left, le-min, le-max_left}
 use Rattle.step_record.specs.Stats.{one_if}
-use Rattle.adaptive_window.specs.Climber.{Climber, ClimbRules, AreClimbRules, first_window, period_of, next_step, moved_target, climber_after, first_climber, period_record, climber_before, IsClimber}
+use Rattle.adaptive_window.specs.Climber.{Climber, ClimbRules, AreClimbRules, period_of, next_step, moved_target, climber_after, first_climber, period_record, climber_before, IsClimber}
 use Rattle.adaptive_window.specs.Theorems.{RulesFit}
 
 pub climbed-back : (r : ClimbRules) (hit : Bool) (s : Climber) → climber_before (period_record r s) hit (climber_after r hit s) ≡ s
-climbed-back r hit s =
-    grind (arith, nat_tests)
+climbed-back r hit s = grind (arith, nat_tests)
 
 -- ---- its invariant
 
@@ -24,8 +23,7 @@ one-most true = omega arith
 one-most false = omega arith
 
 step-kept : (r : ClimbRules) (s : Climber) → s.step ≤ r.step → next_step r s ≤ r.step
-step-kept r s h =
-    grind (arith, nat_tests)
+step-kept r s h = grind (arith, nat_tests)
 
 pub climber-kept : (r : ClimbRules) (hit : Bool) (s : Climber) → AreClimbRules r → IsClimber r s → IsClimber r (climber_after r hit s)
 climber-kept r hit s are h =
@@ -46,9 +44,4 @@ long-enough c None some = omega (arith, some)
 long-enough c (Some n) some = omega arith
 
 pub rules_fit : RulesFit
-rules_fit c main period some few =
-    let part : c * main ≤ c * 99 = mul-le-mul_left c few in
-    let w : ℕ = first_window c main in
-    let first : 1 ≤ w = omega (arith, some, part) in
-    let fits : w ≤ c = omega arith in
-    (record { some = omega (arith, first); fits = omega (arith, fits); long = long-enough c period some }, (first, omega arith))
+rules_fit c main period some few = grind (arith, nat_tests, mul-le-mul_left c few, long-enough c period some)

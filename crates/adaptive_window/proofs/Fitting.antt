@@ -50,8 +50,7 @@ all-stay : (r : ClimbRules) (target size : ℕ) (s : Queues) → (moves_of (adju
 all-stay r target size s = grind (arith, nat_tests)
 
 size-back : (target size : ℕ) → 1 ≤ size → size_before (size_change target size) (size_towards target size) ≡ size
-size-back target size h =
-    grind (arith, nat_tests)
+size-back target size h = grind (arith, nat_tests)
 
 module _ (p : ClimbRules) (admits : ℕ → ℕ → Bool) (i : Item) (s : AdaptiveState) (h : IsAdaptive p s) where
   abbrev rules : Rules

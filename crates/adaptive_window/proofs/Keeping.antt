@@ -92,11 +92,7 @@ demotes size s d most =
         }
 
 adjusted-moved : (c size p : ℕ) (s t : Queues) (w m : ℕ) → IsMoved s t w m → w + m ≡ total_items s → w ≤ size → size + m ≤ c → length s.protected ≤ p → IsAdjusted c size p s t
-adjusted-moved c size p s t w m h all few main most =
-    let a = h.window in
-    let b = h.main in
-    let less = h.protected in
-    record { same = h.same; total = omega (arith, a, b, all); window = omega (arith, a, few); main = omega (arith, b, main); protected = omega (arith, less, most) }
+adjusted-moved c size p s t w m h all few main most = grind (arith, nat_tests)
 
 lent : (c size p : ℕ) (s : Queues) → IsDistinct s → length s.window + 1 ≤ size → size + main_length s ≤ c + 1 → (c < size + main_length s → 1 ≤ length s.probation) → length s.protected ≤ p
     → IsAdjusted c size p s (queues_after_transfer (loan c size s) s)
@@ -146,38 +142,7 @@ module _ (r : ClimbRules) (fits : r.largest ≤ r.capacity) (size : ℕ) (s : Qu
       nearer : distance target (size_towards target size) ≤ distance target size - 1
 
     settled : (target : ℕ) → (1 ≤ target) × (target ≤ r.largest) → IsSettled target
-    settled target t =
-        elim (cases_Bool (nat_lt size target)) as (λ _. IsSettled target) [
-          | inl e ↦
-              let less : size < target = ltb-true size target e in
-              let high = t.1 in
-              record {
-                queues = rw e (grown (omega (arith, less, high, fits)));
-                least = rw e (omega arith);
-                most = λ few. rw e (omega (arith, less, high));
-                near = rw e (omega arith, omega arith);
-                nearer = rw e (omega (arith, less));
-              }
-          | inr e ↦ elim (cases_Bool (nat_lt target size)) as (λ _. IsSettled target) [
-            | inl f ↦
-                let more : target < size = ltb-true target size f in
-                let low = t.0 in
-                record {
-                  queues = rw (e, f) shrunk;
-                  least = rw (e, f) (omega (arith, more, low));
-                  most = λ few. rw (e, f) (omega (arith, few));
-                  near = rw (e, f) (omega arith, omega arith);
-                  nearer = rw (e, f) (omega (arith, more));
-                }
-            | inr f ↦ record {
-              queues = rw (e, f) (adjusted-moved r.capacity size (r.largest - size) s s (length s.window) (main_length s) (unmoved s) (omega arith) few main short);
-              least = rw (e, f) some;
-              most = λ few. rw (e, f) few;
-              near = rw (e, f) (omega arith, omega arith);
-              nearer = (let a = ltb-false size target e in let b = ltb-false target size f in rw (e, f) (omega (arith, a, b)));
-            }
-          ]
-        ]
+    settled target t = search (arith, cases_Bool, ltb-true, grown, shrunk, adjusted-moved, unmoved, ltb-false)
 
 -- ---- an access
 
@@ -221,25 +186,10 @@ module _ (r : ClimbRules) (are : AreClimbRules r) (admits : ℕ → ℕ → Bool
   }
 
 pub starts : (r : ClimbRules) (size : ℕ) → AreClimbRules r → 1 ≤ size → size ≤ r.largest → IsAdaptive r (empty_adaptive r size)
-starts r size are low high = record {
-  distinct = λ j. omega arith;
-  window = omega arith;
-  main = (let fits = are.fits in omega (arith, high, fits));
-  protected = omega arith;
-  least = low;
-  most = high;
-  climber = climber-starts r size are low high;
-  near = omega arith;
-}
+starts r size are low high = grind (arith, nat_tests, climber-starts r size are low high)
 
 pub keeps : AdaptiveKeeps
-keeps r size are low high = record {
-  starts = starts r size are low high;
-  keeps = λ admits i s h. kept-access r are admits i s h;
-  accesses = λ admits i s h. access-is r are admits i s h;
-  fits = λ s h. (let w = h.window in let m = h.main in omega (arith, w, m));
-  reached = λ s h late. (let near = h.near in omega (arith, near, late));
-}
+keeps r size are low high = grind (arith, nat_tests, starts, starts r size are low high, kept-access, access-is)
 
 count-cons : (p : Outcome → Bool) (o : Outcome) (os : List Outcome) → count_by p (o ∷ os) ≡ one_if (p o) + count_by p os
 count-cons p o os = sum_by-append (λ x. cond (p x) 1 0) (o ∷ []) os ∙ omega arith
@@ -257,6 +207,4 @@ counts-from r are (a ∷ accesses) s h =
     omega (arith, one, rest, evictions, misses)
 
 pub counts : AdaptiveCounts
-counts r size accesses are low high =
-    let all = counts-from r are accesses (empty_adaptive r size) (starts r size are low high) in
-    omega (arith, all)
+counts r size accesses are low high = grind (arith, nat_tests, counts-from, starts)

@@ -2,9 +2,9 @@
 use Rattle.std.proofs.Common.{◌≡◌, ℕ, ◌+◌, ◌-◌, ◌<◌, ◌≤◌, Bool, Option, Some, None, List, [], ◌∷◌, length, refl, arith, length-append}
 use Rattle.std.proofs.lemmas.Bool.Decides.{nat_tests}
 use Rattle.segments.specs.declared.records.Queue.{Queue}
-use Rattle.segments.specs.declared.records.Queue.TheVariants.{Window, Probation, Protected}
+use Rattle.segments.specs.declared.records.Queue.TheVariants.{Window, Probation}
 use Rattle.segments.specs.Items.{Item, items_without, oldest_of}
-use Rattle.segments.specs.Queues.{Queues, queue_holding, queues_after_push, queues_after_move, IsDistinct}
+use Rattle.segments.specs.Queues.{Queues, queue_holding, queues_after_push, IsDistinct}
 use Rattle.segments.proofs.ItemLists.{length-without}
 use Rattle.segments.proofs.MoveLaws.{Stands, in_window, in_probation, in_protected, nowhere, stands}
 use Rattle.segments.proofs.QueueLists.{first-stands}
@@ -25,19 +25,14 @@ one-less x l h = let there = first-stands x l h in omega (arith, there, length-w
 
 contested : (admits : ℕ → ℕ → Bool) (x : Item) (o : Option Item) (s : Queues) → length (contest admits x o s).queues.protected ≤ length s.protected
 contested admits x None s = shorter x s.protected
-contested admits x (Some v) s =
-    grind (arith, nat_tests, shorter)
+contested admits x (Some v) s = grind (arith, nat_tests, shorter)
 
 tried : (r : Rules) (admits : ℕ → ℕ → Bool) (o : Option Item) (s : Queues) → length (trial_of r admits o s).queues.protected ≤ length s.protected
 tried r admits None s = omega arith
-tried r admits (Some x) s =
-    let t : Queues = queues_after_move x Probation s in
-    let less = shorter x s.protected in
-    grind (arith, nat_tests, contested)
+tried r admits (Some x) s = grind (arith, nat_tests, shorter x s.protected, contested)
 
 evicted : (r : Rules) (admits : ℕ → ℕ → Bool) (s : Queues) → length (eviction r admits s).queues.protected ≤ length s.protected
-evicted r admits s =
-    grind (arith, nat_tests, tried)
+evicted r admits s = grind (arith, nat_tests, tried)
 
 demoted : (size : ℕ) (s : Queues) → length s.protected ≤ size + 1 → length (queues_after_demotion size s).protected ≤ size
 demoted size s few =
@@ -50,8 +45,7 @@ demoted size s few =
 module _ (r : ClimbRules) (size : ℕ) (admits : ℕ → ℕ → Bool) (i : Item) (s : Queues) (few : length s.protected ≤ r.largest - size) where
   stays-at : (p : Option Queue) → Stands i s p → length (access_in (rules_at r size) admits i p s).queues.protected ≤ (r.largest - size)
   stays-at p (in_window a b d) = let less = shorter i s.protected in omega (arith, less, few)
-  stays-at p (in_probation a b d) = let less = shorter i s.protected in
-      demoted ((r.largest - size)) (queues_after_move i Protected s) (omega (arith, less, few, length-append (items_without i s.protected) (i ∷ [])))
+  stays-at p (in_probation a b d) = grind (arith, nat_tests, shorter, demoted, length-append)
   stays-at p (in_protected a b d) = omega (arith, d, few, length-without i s.protected, length-append (items_without i s.protected) (i ∷ []))
   stays-at p (nowhere a b d) = let less = evicted (rules_at r size) admits (queues_after_push Window i s) in omega (arith, less, few)
 

@@ -1,13 +1,12 @@
 -- What the cache keeps of its residents.
+use Rattle.std.proofs.lemmas.Bool.Decides.{nat_tests}
 use Rattle.std.proofs.Common.{ℕ, Bool, Some, ◌∙◌, sym, refl, arith}
 use Rattle.segments.specs.Items.{nodeless_item}
-use Rattle.segments.specs.Queues.{queue_holding}
 use Rattle.admission.specs.Frequency.{frequency_with}
 use Rattle.replacement.specs.Admission.{admits_in}
 use Rattle.replacement.proofs.Residents.{residents-length, resident-queued, resident-once, still-nodeless, queued-from}
 use Rattle.replacement.proofs.Leaving.{hit-keeps, asks-evicts}
 use Rattle.adaptive_window.specs.Climber.{caffeine_rules, first_window}
-use Rattle.adaptive_window.specs.AdaptiveWindow.{rules_at}
 use Rattle.adaptive_window.specs.AdaptiveCache.{AdaptiveCacheState, cache_access, response_to}
 use Rattle.adaptive_window.specs.Residents.{cache_residents, IsServed, IsCache, CacheKeeps, CacheHitsAskNothing, CacheAsksWhereOneLeft}
 use Rattle.adaptive_window.specs.Theorems.{IsAdaptiveAccess}
@@ -34,8 +33,7 @@ module _ (c k : ℕ) (d : AdaptiveCacheState) (h : IsCache c d) where
   served = record {
     hits = access-to.hits ∙ sym (resident-queued k d.window.queues h.nodeless);
     counts =
-        let counts = access-to.counts in
-        omega (arith, counts, residents-length d.window.queues, residents-length (response_to k d).1.queues);
+        omega (arith, access-to.counts, residents-length d.window.queues, residents-length (response_to k d).1.queues);
     came = queued-from k d.window.queues (response_to k d).1.queues h.nodeless access-to.came;
   }
 
@@ -56,10 +54,7 @@ cache_keeps c period ok =
     }
 
 pub hits_ask_nothing : CacheHitsAskNothing
-hits_ask_nothing k d hit asks =
-    let i = nodeless_item k in
-    asks (hit-keeps (rules_at d.rules d.window.size) (admitted k d) i d.window.queues (queue_holding i d.window.queues) refl hit)
+hits_ask_nothing k d hit asks = grind (arith, nat_tests, hit-keeps)
 
 pub asks_where_one_left : CacheAsksWhereOneLeft
-asks_where_one_left c k d h asks =
-    asks-evicts (rules_at d.rules d.window.size) (admitted k d) (nodeless_item k) d.window.queues h.window.distinct asks
+asks_where_one_left c k d h asks = grind (arith, nat_tests, asks-evicts)

@@ -14,8 +14,7 @@ use Rattle.adaptive_window.specs.AdaptiveCache.{Stats, Config, AdaptiveCacheStat
 
 -- an accepted configuration has room
 pub has-room : (c : Config) → config_fault c ≡ Ok tt → 1 ≤ c.capacity
-has-room c h =
-    grind (arith, nat_tests)
+has-room c h = grind (arith, nat_tests)
 
 -- its main part is not the whole cache
 pub main-few : (c : Config) → config_fault c ≡ Ok tt → c.main_percent ≤ 99

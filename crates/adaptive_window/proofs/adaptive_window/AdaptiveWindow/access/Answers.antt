@@ -1,8 +1,8 @@
-use Rattle.std.proofs.Common.{Some, ap, ◌∙◌, sym, subst}
+use Rattle.std.proofs.lemmas.Bool.Decides.{nat_tests}
+use Rattle.std.proofs.Common.{arith, Some, ap, ◌∙◌, sym, subst}
 use Rattle.replacement.specs.Admission.{admits_in}
 use Rattle.adaptive_window.specs.Climber.{climber_after}
-use Rattle.adaptive_window.specs.AdaptiveWindow.{AdaptiveState, IsAdaptive}
-use Rattle.adaptive_window.specs.WindowRecord.{WindowRecord, window_record_of, WindowFits}
+use Rattle.adaptive_window.specs.AdaptiveWindow.{IsAdaptive}
 use Rattle.adaptive_window.proofs.Keeping.{kept-access}
 use Rattle.adaptive_window.proofs.Fitting.{state_by, still-distinct, state-is, record-is, record-fits}
 use Rattle.adaptive_window.proofs.adaptive_window.AdaptiveWindow.access.Goals as goal
@@ -14,9 +14,7 @@ pub adjust-adjusted-requires-clause-size : goal.adjust-adjusted-requires-clause-
 adjust-adjusted-requires-clause-size g c = c.self.invariant.2.most
 
 pub adjust-adjusted-requires-clause-distinct : goal.adjust-adjusted-requires-clause-distinct
-adjust-adjusted-requires-clause-distinct g c =
-    still-distinct c.self.inside.rules (admits_in (Some c.args.frequency.now)) c.args.item c.self.inside.segments.lists c.self.inside.size c.self.inside.climber
-    c.at-rules.result c.access-effect.new.segments.lists c.at-rules.ensures c.access-effect.ensures.lists c.self.invariant.2
+adjust-adjusted-requires-clause-distinct g c = grind (arith, nat_tests, still-distinct)
 
 pub invariant_of-self : goal.invariant_of-self
 invariant_of-self g c =
@@ -42,5 +40,4 @@ returns-clause-fits g c =
     c.of.result c.of-2.result c.adjust-adjusted.result.change c.count-period.result
     (c.of.ensures ∙ c.access-effect.ensures.record) (c.of-2.ensures ∙ c.adjust-adjusted.ensures.moves) c.adjust-adjusted.ensures.change c.count-period.ensures.record in
     let fits = record-fits c.self.inside.rules (admits_in (Some c.args.frequency.now)) c.args.item (state_by c.self.inside.segments.lists c.self.inside.size c.self.inside.climber) c.self.invariant.2 in
-    rw (← c.self.view_is) (subst (λ (x : WindowRecord). WindowFits c.self.inside.rules x (state_by c.adjust-adjusted.new.segments.lists c.adjust-adjusted.result.size c.count-period.new.self)) (sym recorded)
-    (subst (λ (x : AdaptiveState). WindowFits c.self.inside.rules (window_record_of c.self.inside.rules (admits_in (Some c.args.frequency.now)) c.args.item (state_by c.self.inside.segments.lists c.self.inside.size c.self.inside.climber)) x) (sym state) fits))
+    grind (arith, nat_tests)
