@@ -14,8 +14,6 @@ abbrev pub clear_from : ℕ → ℕ → ℕ
 clear_from x at = bit_not w64 x / 2 ^ (at % 64)
 
 module _ (ws : List ℕ) (from at x : ℕ) (is : x ≡ get_or ws (at / 64) 0) (fits : x < 2 ^ 64) (order : from ≤ at) (ones : (i : ℕ) → from ≤ i → i < at → bit_of ws i ≡ true) where
-  in-word : (t : ℕ) → at % 64 + t < 64 → bit_of ws (at + t) ≡ eqb (bit_at x (at % 64 + t)) 1
-  in-word t h = grind (arith, nat_tests)
 
   left : (t : ℕ) → bit_at (clear_from x at) t ≡ bit_at (bit_not w64 x) (at % 64 + t)
   left t = ap (λ (y : ℕ). y % 2) (shr-shr (bit_not w64 x) (at % 64) t)
@@ -25,10 +23,10 @@ module _ (ws : List ℕ) (from at x : ℕ) (is : x ≡ get_or ws (at / 64) 0) (f
 
   -- a bit that the inverse does not have is set, and one that it has is not
   set-there : (t : ℕ) → at % 64 + t < 64 → bit_at (clear_from x at) t ≡ 0 → bit_of ws (at + t) ≡ true
-  set-there t h none = grind (arith, nat_tests, turned t h, bit_at-lt x (at % 64 + t), in-word t h)
+  set-there t h none = grind (arith, nat_tests, turned t h, bit_at-lt x (at % 64 + t))
 
   clear-there : (t : ℕ) → at % 64 + t < 64 → bit_at (clear_from x at) t ≡ 1 → bit_of ws (at + t) ≡ false
-  clear-there t h some = grind (arith, nat_tests, turned t h, in-word t h)
+  clear-there t h some = grind (arith, nat_tests, turned t h)
 
   set-up-to : (n : ℕ) → at % 64 + n ≤ 64 → ((t : ℕ) → t < n → bit_at (clear_from x at) t ≡ 0) → (i : ℕ) → from ≤ i → i < at + n → bit_of ws i ≡ true
   set-up-to n h none i begin end =

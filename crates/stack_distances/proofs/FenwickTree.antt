@@ -55,13 +55,10 @@ nested-even : (j : ℕ) → j % 2 ≡ 0 → IsNested j
 nested-even j e =
     (omega (arith, start-above (next_of j) (j / 2) (omega (arith, next-even j e, e)), start-low (j / 2), start-even j e, e), λ k more less. absurd (omega (arith, next-even j e, more, less)))
 
-nested-odd : (j : ℕ) → j % 2 ≡ 1 → IsNested (j / 2) → IsNested j
-nested-odd j e half = grind (arith, nat_tests, start-above, next-odd, start-odd, cases_eq, start-even)
-
 pub nested : (j : ℕ) → IsNested j
 nested = bin_ind IsNested (nested-even 0 (omega arith)) (λ j half. elim (cases_eq (j % 2) 0) [
   | inl e ↦ nested-even j e
-  | inr n ↦ nested-odd j (omega (arith, n)) half
+  | inr n ↦ (grind (arith, nat_tests, start-above, next-odd, start-odd, cases_eq, start-even))
 ])
 
 -- ---- sums

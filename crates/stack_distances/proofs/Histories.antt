@@ -23,21 +23,15 @@ snoc-after : (past xs : List ℕ) (k : ℕ) → distances_after past (xs ++ k �
 snoc-after past [] k = rw (append-nil past) refl
 snoc-after past (a ∷ xs) k = ap (λ (ds : List (Option ℕ)). distance past a ∷ ds) (snoc-after (past ++ a ∷ []) xs k ∙ ap (λ (l : List ℕ). distances_after (past ++ a ∷ []) xs ++ distance l k ∷ []) (append_assoc past (a ∷ []) xs))
 
-pub distances-snoc : (xs : List ℕ) (k : ℕ) → distances (xs ++ k ∷ []) ≡ distances xs ++ distance xs k ∷ []
-distances-snoc xs k = snoc-after [] xs k
-
 pub distances-long : (past xs : List ℕ) → length (distances_after past xs) ≡ length xs
 distances-long past [] = refl
 distances-long past (a ∷ xs) = ap suc (distances-long (past ++ a ∷ []) xs)
 
 pub count-snoc : (p : Option ℕ → Bool) (xs : List ℕ) (k : ℕ) → count_by p (distances (xs ++ k ∷ [])) ≡ count_by p (distances xs) + cond (p (distance xs k)) 1 0
-count-snoc p xs k = ap (λ (ds : List (Option ℕ)). count_by p ds) (distances-snoc xs k) ∙ sum_by_push (λ x. cond (p x) 1 0) (distances xs) (distance xs k)
+count-snoc p xs k = ap (λ (ds : List (Option ℕ)). count_by p ds) (snoc-after [] xs k) ∙ sum_by_push (λ x. cond (p x) 1 0) (distances xs) (distance xs k)
 
 distance-none : (xs : List ℕ) (k : ℕ) → has_key k xs ≡ false → distance xs k ≡ None
 distance-none xs k h = rw h refl
-
-distance-some : (xs : List ℕ) (k : ℕ) → has_key k xs ≡ true → distance xs k ≡ Some (suc (length (distinct_keys (keys_since k xs))))
-distance-some xs k h = rw h refl
 
 pub push-zero : (cs : List ℕ) (d : ℕ) → get_or (cs ++ 0 ∷ []) d 0 ≡ get_or cs d 0
 push-zero [] zero = refl
@@ -151,4 +145,4 @@ module _ (keys : List ℕ) (place : ℕ) (in_it : place < length keys) (h : Hist
       again-long = c.long ∙ sym (stack-next keys place 0 in_it (omega arith) ∙ rw came refl)
 
       pub again-counted : (e : ℕ) → e + 1 + sum_below (mark_of vs) p ≡ length h.counts.items → (d : ℕ) → count_by (is_at (suc d)) (distances (take place keys)) + cond (eqb d e) 1 0 ≡ count_by (is_at (suc d)) (distances (take (place + 1) keys))
-      again-counted e deep d = grind (arith, nat_tests, depth, distance-some, came, count-next)
+      again-counted e deep d = grind (arith, nat_tests, depth, came, count-next)

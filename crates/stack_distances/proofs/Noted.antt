@@ -30,15 +30,9 @@ module _ (counts noted : List ℕ) (d : ℕ) where
       | inr past ↦ absurd (omega (arith, same d, noted-there, may.within d (omega (arith, past, long)), get_or_past first-counts d 0 (omega (arith, past, long))))
     ]
 
-    pub last-few : get_or counts d 0 + 1 ≤ MAX_ACCESSES
-    last-few = omega (arith, same d, noted-there, may.few d)
-
 -- what a histogram noted may be counted
 pub may-count : (keys : List ℕ) (place : ℕ) (h : Histogram) → length keys ≤ MAX_ACCESSES → IsHistogram keys place h → IsNoted h.counts.items h.noted.items
 may-count keys place h few c = record {
   within = λ d past. omega (arith, c.counted d, none-deeper (take place keys) d (omega (arith, past, c.long)));
   few = λ d. omega (arith, c.counted d, count_by-le-length (is_at (suc d)) (distances (take place keys)), distances-long [] (take place keys), length-take place keys, few);
 }
-
-pub same-histogram : (keys : List ℕ) (place : ℕ) (h g : Histogram) → g.last ≡ h.last → g.marks ≡ h.marks → length g.counts.items ≡ length h.counts.items → ((d : ℕ) → count_at g.counts.items g.noted.items d ≡ count_at h.counts.items h.noted.items d) → IsHistogram keys place h → IsHistogram keys place g
-same-histogram keys place h g last marks len counts c = grind (arith, nat_tests)

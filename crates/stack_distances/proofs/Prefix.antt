@@ -1,5 +1,5 @@
 -- The hits at each capacity, as sums of the counts of distances.
-use Rattle.std.proofs.Common.{◌≡◌, ℕ, suc, ◌+◌, ◌≤◌, min, false, cond, Option, Some, None, List, [], ◌∷◌, ◌++◌, length, count_by, ap, ◌∙◌, sym, refl, arith, append_assoc, append-nil}
+use Rattle.std.proofs.Common.{◌≡◌, ℕ, suc, ◌+◌, ◌≤◌, min, cond, Option, Some, None, List, [], ◌∷◌, ◌++◌, length, count_by, ap, ◌∙◌, sym, refl, arith, append_assoc, append-nil}
 use Rattle.std.proofs.lemmas.Bool.{cases_lt}
 use Rattle.std.proofs.lemmas.Bool.Decides.{nat_tests}
 use Rattle.step_record.specs.Keys.{has_key}
@@ -19,13 +19,9 @@ pub within-more : (d : ℕ) (ds : List (Option ℕ)) → count_by (is_within (su
 within-more d [] = omega arith
 within-more d (x ∷ ds) = omega (arith, within-more d ds, one-more d x, count-cons (is_within (suc d)) x ds, count-cons (is_within d) x ds, count-cons (is_at (suc d)) x ds)
 
--- no distance is 0
-none-within : (xs : List ℕ) (k : ℕ) → is_within 0 (distance xs k) ≡ false
-none-within xs k = grind (arith, nat_tests)
-
 none-after : (past keys : List ℕ) → count_by (is_within 0) (distances_after past keys) ≡ 0
 none-after past [] = refl
-none-after past (k ∷ ks) = grind (arith, nat_tests, none-after (past ++ k ∷ []) ks, none-within, count-cons)
+none-after past (k ∷ ks) = grind (arith, nat_tests, none-after (past ++ k ∷ []) ks, count-cons)
 
 pub no-hits : (keys : List ℕ) → hits_within 0 keys ≡ 0
 no-hits keys = none-after [] keys

@@ -3,7 +3,7 @@ use Rattle.std.proofs.Common.{rules, ◌≡◌, ◌<◌, ◌++◌, ◌∷◌, []
 use Rattle.std.proofs.Math.ListN.{length-set}
 use Rattle.std.proofs.lemmas.List.{get_or_read}
 use Rattle.stack_distances.specs.Histogram.{count_at}
-use Rattle.stack_distances.proofs.Noted.{counted-last, last-within, last-few}
+use Rattle.stack_distances.proofs.Noted.{counted-last, last-within}
 use Rattle.stack_distances.proofs.histogram.count_noted.Goals as goal
 use Rattle.stack_distances.proofs.histogram.count_noted.Goals.{In-Some}
 
@@ -17,7 +17,7 @@ pub index_mut-requires : goal.index_mut-requires
 index_mut-requires c = let low = within (goal.at.index_mut-requires c).In-Some in search rules
 
 pub overflow_add-index_mut : goal.overflow_add-index_mut
-overflow_add-index_mut c = grind (arith, nat_tests, get_or_read, within, last-few, same)
+overflow_add-index_mut c = grind (arith, nat_tests, get_or_read, within, same)
 
 pub loop-place-preserved : goal.loop-place-preserved
 loop-place-preserved c = grind (arith, nat_tests, get_or_read, within, length-set, counted-last, same)
