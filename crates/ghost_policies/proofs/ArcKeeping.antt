@@ -1,5 +1,5 @@
 -- ARC: what an access makes of the residents, and that it keeps the invariant.
-use Rattle.std.proofs.Common.{◌≡◌, ℕ, ◌+◌, ◌*◌, ◌<◌, ◌≤◌, ◌⊎◌, Bool, true, false, cond, eqb, nat_lt, List, [], ◌∷◌, ◌++◌, length, drop, ap, ◌∙◌, refl, arith, inl, inr, length-append}
+use Rattle.std.proofs.Common.{◌≡◌, ℕ, ◌+◌, ◌*◌, ◌<◌, ◌≤◌, ◌⊎◌, Bool, true, false, cond, eqb, nat_lt, List, [], ◌∷◌, ◌++◌, length, drop, ◌∙◌, refl, arith, inl, inr, length-append}
 use Rattle.std.proofs.lemmas.Bool.{cases_Bool, cases_eq, cases_lt, le-ltb, lt-ltb}
 use Rattle.std.proofs.lemmas.Bool.Decides.{nat_tests}
 use Rattle.step_record.specs.Keys.{has_key, keys_without}
@@ -7,7 +7,7 @@ use Rattle.step_record.specs.Stats.{is_hit, is_eviction, is_rejection, one_if}
 use Rattle.step_record.specs.declared.outcome.Outcome.TheVariants.{Hit, Evicted}
 use Rattle.queue_policies.specs.Residents.{Outcome, times, keys_evicted, IsAccess, AreResidents, KeepsResidents}
 use Rattle.ghost_policies.specs.Arc.{ArcState, arc_residents, arc_total, arc_target, arc_replace, arc_plan, plan_of_new_key, oldest_forgotten, OfB1, OfB2, oldest_leaver, Dropped, arc_after_recall, arc_after_forgetting, arc_after_eviction, arc_after_join, arc_after_miss, arc_outcome, arc_act, IsArc, ArcForgets, ArcGhost, ArcLeaver, ArcPlan, NoLeaver, InB1, InB2, NoGhost, NoneForgotten, empty_arc}
-use Rattle.queue_policies.proofs.Residents.{times-append, times-none, access-keeps}
+use Rattle.queue_policies.proofs.Residents.{times-append, times-none}
 use Rattle.queue_policies.proofs.CountedKeys.{by-oldest}
 use Rattle.ghost_policies.proofs.Weights.{weight, length-weight, times-weight, weight-append, weight-push, weight-first, weight-without, weight-out, weight-renewed, hit-moves, miss-moves, has-append}
 use Rattle.queue_policies.proofs.Ghost.{without-none}
@@ -76,11 +76,8 @@ module _ (c k : ℕ) (h : 1 ≤ c) (s : ArcState) (i : IsArc c s) where
     joined g o d once r =
         let t : ArcState = arc_after_join g k d in
         let j = joining (λ _. 1) k g d in
-        let b1 = ap length j.b1 in let b2 = ap length j.b2 in
-        let l1_fits = r.l1_fits in let all_fit = r.all_fit in let p_fits = r.p_fits in let p = j.p in
         let a = miss-moves c k (arc_residents s) (arc_residents t) o (has-append k s.t1 s.t2 ∙ rw (no_t1, no_t2) refl) r.misses r.keeps r.evicts
         (λ f. omega (arith, r.moves f, (joining f k g d).both, weight-append f)) in
-        let fits = (access-keeps c k (arc_residents s) o (arc_residents t) a (holds c s i)).fits in
         grind (arith, nat_tests, length-append t.t1 t.t2, length-weight, joining, once, times-weight)
 
     full-evicts : c ≤ length s.t1 + length s.t2 → true ≡ cond (nat_lt (length (arc_residents s)) c) false true
