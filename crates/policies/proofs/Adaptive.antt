@@ -1,4 +1,5 @@
 -- What a cache with an adaptive window stands for.
+use Rattle.std.proofs.lemmas.Bool.Decides.{nat_tests}
 use Rattle.std.proofs.Common.{◌≡◌, ℕ, ◌+◌, ◌≤◌, Result, Ok, Err, List, [], ◌∷◌, ◌++◌, length, ap, ◌∙◌, sym, refl, subst, arith, append-nil, append_assoc}
 use Rattle.std.proofs.lemmas.List.{length-map}
 use Rattle.step_record.specs.Config.{config_fault}
@@ -6,7 +7,7 @@ use Rattle.step_record.specs.declared.outcome.Outcome.TheVariants.{Rejected}
 use Rattle.step_record.specs.Stats.{stats_of, stats_with}
 use Rattle.step_record.proofs.Counting.{stats-snoc}
 use Rattle.queue_policies.specs.Residents.{Outcome, state_after_all, outcomes_of_all}
-use Rattle.adaptive_window.specs.AdaptiveCache.{Stats, AdaptiveCacheState, cache_access}
+use Rattle.adaptive_window.specs.AdaptiveCache.{AdaptiveCacheState, cache_access}
 use Rattle.adaptive_window.specs.Residents.{cache_residents, IsCache, CacheKeeps}
 use Rattle.policies.specs.AnyPolicy.{Job, ConfigFault, IsAdaptiveAfter, adaptive_start, adaptive_outcomes}
 use Rattle.policies.proofs.Demand.{state-push, outcomes-long, kept-from}
@@ -14,11 +15,7 @@ use Rattle.policies.proofs.Demand.{state-push, outcomes-long, kept-from}
 -- ---- the accesses that it made
 
 pub adaptive_stands : (j : Job) (keys : List ℕ) (d : AdaptiveCacheState) (k : ℕ) → IsAdaptiveAfter j keys d → IsAdaptiveAfter j (keys ++ k ∷ []) (cache_access k d).1
-adaptive_stands j keys d k s = record {
-  design = s.design;
-  checked = s.checked;
-  gives = ap (λ q. (cache_access k q).1) s.gives ∙ sym (state-push cache_access (adaptive_start j) keys k);
-}
+adaptive_stands j keys d k s = search (arith, state-push cache_access (adaptive_start j) keys k)
 
 from-counts : (d : AdaptiveCacheState) (os : List Outcome) (keys : List ℕ) → d.stats ≡ stats_of os
     → (state_after_all cache_access d keys).stats ≡ stats_of (os ++ outcomes_of_all cache_access d keys)
@@ -37,8 +34,7 @@ pub adaptive-stats : (j : Job) (keys : List ℕ) (d : AdaptiveCacheState) → Is
 adaptive-stats j keys d s = ap (λ (x : AdaptiveCacheState). x.stats) s.gives ∙ adaptive-counts j keys
 
 pub adaptive-accesses : (j : Job) (keys : List ℕ) (d : AdaptiveCacheState) → IsAdaptiveAfter j keys d → d.stats.accesses ≡ length keys
-adaptive-accesses j keys d s =
-    ap (λ (x : Stats). x.accesses) (adaptive-stats j keys d s) ∙ outcomes-long cache_access (adaptive_start j) keys
+adaptive-accesses j keys d s = cc (adaptive-stats j keys d s, outcomes-long cache_access (adaptive_start j) keys)
 
 -- ---- the residents
 
@@ -80,10 +76,4 @@ adaptive-long (Err e) j trace = length-map trace (λ k. Rejected k)
 pub adaptive-fit : CacheKeeps → (j : Job) (trace : List ℕ) → config_fault j.config ≡ Ok tt
     → (stats_of (outcomes_of_all cache_access (adaptive_start j) trace)).misses
     ≤ (stats_of (outcomes_of_all cache_access (adaptive_start j) trace)).evictions + j.config.capacity
-adaptive-fit law j trace ok =
-    let all = law j.config j.tuning.period ok in
-    let d : AdaptiveCacheState = state_after_all cache_access (adaptive_start j) trace in
-    let h : IsCounted j.config.capacity d = kept-after law j ok trace in
-    let counted = h.counted in
-    let few = all.fits d h.cache in
-    subst (λ (x : Stats). x.misses ≤ x.evictions + j.config.capacity) (adaptive-counts j trace) (omega (arith, counted, few))
+adaptive-fit law j trace ok = grind (arith, nat_tests, kept-after law j ok trace, adaptive-counts j trace)

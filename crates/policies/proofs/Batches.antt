@@ -1,12 +1,11 @@
 -- The batches of a trace, as accesses of a cache.
+use Rattle.std.proofs.lemmas.Bool.Decides.{nat_tests}
 use Rattle.std.proofs.Common.{◌≡◌, ℕ, ◌+◌, ◌*◌, ◌≤◌, List, ◌++◌, length, take, drop, sym, ap, ◌∙◌, arith, take-append-drop, append_assoc}
 use Rattle.std.proofs.Math.Seq.{take-add}
 use Rattle.std.proofs.lemmas.List.{take_all, drop-drop}
 
 pub taken-more : (size k : ℕ) (keys piece : List ℕ) → piece ≡ take size (drop (k * size) keys) → take (k * size) keys ++ piece ≡ take ((k + 1) * size) keys
-taken-more size k keys piece is =
-    let e : (k + 1) * size ≡ k * size + size = omega arith in
-    ap (λ l. take (k * size) keys ++ l) is ∙ sym (take-add (k * size) size keys) ∙ ap (λ n. take n keys) (sym e)
+taken-more size k keys piece is = grind (arith, nat_tests, take-add (k * size) size keys)
 
 -- after the last batch the keys are all there
 pub all-taken : (size k : ℕ) (keys : List ℕ) → length keys ≤ k * size + size → take ((k + 1) * size) keys ≡ keys
@@ -14,8 +13,7 @@ all-taken size k keys h = let e : length keys ≤ (k + 1) * size = omega arith i
 
 -- what is left behind one more of them
 pub next_rest : (keys rest : List ℕ) (size k : ℕ) → rest ≡ drop (k * size) keys → drop size rest ≡ drop ((k + 1) * size) keys
-next_rest keys rest size k is = let e : (k + 1) * size ≡ k * size + size = omega arith in
-    ap (λ (l : List ℕ). drop size l) is ∙ drop-drop size (k * size) keys ∙ ap (λ (n : ℕ). drop n keys) (sym e)
+next_rest keys rest size k is = grind (arith, nat_tests, drop-drop size (k * size) keys)
 
 -- what stands behind the first m of the keys begins with the next piece
 pub next-piece : (trace done keys rest piece : List ℕ) (m size : ℕ) → piece ≡ take size (drop m keys) → trace ≡ done ++ (keys ++ rest)

@@ -1,4 +1,5 @@
 -- What a cache of a policy that keeps each missed key stands for.
+use Rattle.std.proofs.lemmas.Bool.Decides.{nat_tests}
 use Rattle.std.proofs.Common.{◌≡◌, ◌⊎◌, ℕ, suc, ◌+◌, ◌≤◌, true, cond, eqb, List, [], ◌∷◌, ◌++◌, length, take, zero, get_or, ap, ◌∙◌, sym, refl, subst, arith, inl, inr}
 use Rattle.std.specs.List.{count_by}
 use Rattle.std.proofs.lemmas.Bool.{cases_Bool, eqb-true}
@@ -129,10 +130,5 @@ pub demand-came-from : (c k x : ℕ) (old : List ℕ) (o : Outcome) (new : List 
 demand-came-from c k x old o new a h =
     elim (cases_Bool (eqb x k)) [
       | inl e ↦ inl (eqb-true x k e)
-      | inr e ↦ inr (elim (cases_Bool (has_key x old)) [
-        | inl f ↦ f
-        | inr f ↦
-            let none : one_if (eqb x k) ≡ 0 = ap one_if e in
-            absurd (omega (arith, times-some x new h, a.moves x, brought-once x k o, none, times-none x old f))
-      ])
+      | inr e ↦ grind (arith, nat_tests, cases_Bool (has_key x old), times-some x new h, brought-once x k o, times-none)
     ]

@@ -1,20 +1,18 @@
 -- What a cache has counted of the first accesses of a trace.
+use Rattle.std.proofs.lemmas.Bool.Decides.{nat_tests}
 use Rattle.std.proofs.Common.{◌≡◌, ◌∙◌, ◌≤◌, ℕ, zero, suc, List, [], ◌∷◌, ◌++◌, inl, inr, length, take, refl, ap, subst, sym, arith}
 use Rattle.std.proofs.lemmas.Bool.{cases_lt}
 use Rattle.std.proofs.lemmas.List.{take_all, take-append-le, length-take-le}
 use Rattle.step_record.specs.Stats.{stats_of}
-use Rattle.clairvoyant.specs.Belady.{belady_outcomes, belady_outcome}
-use Rattle.clairvoyant.specs.Clairvoyant.{ClairvoyantState}
+use Rattle.clairvoyant.specs.Belady.{belady_outcomes}
 use Rattle.policies.specs.declared.any_policy.AnyPolicy.{AnyPolicy}
 use Rattle.policies.specs.declared.any_policy.AnyPolicy.TheVariants.{Queues, Optimal, Demand, Adaptive}
 use Rattle.policies.specs.AnyPolicy.{Job, stats_in, stats_on, outcomes_on, HasAccessed, outcomes_by, adaptive_start}
 use Rattle.queue_cache.specs.QueueCache.{QueueState, queue_state_after, frequency_after, empty_queue_state, outcomes_after, outcomes_from, access_response}
 use Rattle.policies.specs.Theorems.{AnyReports}
 use Rattle.policies.proofs.OptimalOutcomes.{outcomes-length}
-use Rattle.demand_cache.specs.DemandQueues.{queues_act, empty_cache}
 use Rattle.adaptive_window.specs.AdaptiveCache.{cache_access}
 use Rattle.queue_cache.specs.Design.{design_of}
-use Rattle.policies.specs.DemandDesign.{demand_policy}
 use Rattle.policies.proofs.Demand.{outcomes-first, with-room, demand-room}
 use Rattle.policies.proofs.Adaptive.{adaptive-stats, when-checked}
 use Rattle.policies.proofs.StepLaws.{any_covers_trace, outcomes-of-queues, outcomes-of-optimal}
@@ -31,13 +29,11 @@ unfolding outcomes_after
 queues_first j n keys = from_first j [] (empty_queue_state j) n keys
 
 optimal_first : (c : ℕ) (t : List ℕ) (n m : ℕ) → n ≤ m → belady_outcomes c t n ≡ take n (belady_outcomes c t m)
-optimal_first c t n zero le =
-    let none : n ≡ 0 = omega arith in ap (belady_outcomes c t) none ∙ ap (λ k. take k (belady_outcomes c t zero)) (sym none)
+optimal_first c t n zero le = grind (arith, nat_tests)
 optimal_first c t n (suc m) le =
     let long = outcomes-length c t m in
     elim (cases_lt n (suc m)) [
-      | inl below ↦
-          optimal_first c t n m (omega arith) ∙ sym (take-append-le n (belady_outcomes c t m) (belady_outcome c t m ∷ []) (omega (arith, long)))
+      | inl below ↦ grind (arith, nat_tests, optimal_first c t n m (omega arith), take-append-le)
       | inr above ↦
           let same : n ≡ suc m = omega arith in
           ap (belady_outcomes c t) same ∙ sym (take_all n (belady_outcomes c t (suc m)) (omega (arith, same, outcomes-length c t (suc m))))
@@ -46,18 +42,9 @@ optimal_first c t n (suc m) le =
 within_trace : (j : Job) (trace : List ℕ) (n : ℕ) (d : AnyPolicy) → n ≤ length trace → HasAccessed j trace (take n trace) d
     → stats_in d ≡ stats_of (take n (outcomes_on j trace))
 within_trace j trace n (Queues d) le s =
-    ap (λ (x : QueueState). x.stats) s.1.gives
-    ∙ (after-counts j (take n trace) ∙ ap stats_of (queues_first j n trace))
-    ∙ ap (λ os. stats_of (take n os)) (sym (outcomes-of-queues (design_of j.policy) j trace s.0))
-within_trace j trace n (Optimal d) le s =
-    ap (λ (x : ClairvoyantState). x.stats) s.gives
-    ∙ ap (λ k. stats_of (belady_outcomes j.config.capacity trace k)) (length-take-le n trace le)
-    ∙ ap stats_of (optimal_first j.config.capacity trace n (length trace) le)
-    ∙ ap (λ os. stats_of (take n os)) (sym (outcomes-of-optimal (design_of j.policy) j trace s.policy))
-within_trace j trace n (Demand d) le s =
-    s.stats ∙ ap stats_of (outcomes-first queues_act (empty_cache (demand_policy s.kind j) j.config.capacity) n trace)
-    ∙ ap (λ os. stats_of (take n os)) (sym (with-room (demand_policy s.kind j) j.config.capacity trace (demand-room j (take n trace) d s)))
-    ∙ ap (λ z. stats_of (take n (outcomes_by z j trace))) (sym s.design)
+    cc (after-counts j (take n trace), queues_first j n trace, outcomes-of-queues (design_of j.policy) j trace s.0)
+within_trace j trace n (Optimal d) le s = grind (arith, nat_tests, length-take-le, optimal_first, outcomes-of-optimal)
+within_trace j trace n (Demand d) le s = grind (arith, nat_tests, outcomes-first, with-room, demand-room)
 within_trace j trace n (Adaptive d) le s =
     adaptive-stats j (take n trace) d s ∙ ap stats_of (outcomes-first cache_access (adaptive_start j) n trace)
     ∙ ap (λ os. stats_of (take n os)) (sym (when-checked j trace s.checked))
@@ -67,14 +54,7 @@ within_trace j trace n (Adaptive d) le s =
 pub first-counts : (j : Job) (trace : List ℕ) (n : ℕ) (d : AnyPolicy) → HasAccessed j trace (take n trace) d
     → stats_in d ≡ stats_of (take n (outcomes_on j trace))
 first-counts j trace n d s =
-    elim (cases_lt n (length trace)) [
-      | inl below ↦ within_trace j trace n d (omega (arith, below)) s
-      | inr past ↦
-          let whole : take n trace ≡ take (length trace) trace = take_all n trace (omega (arith, past)) ∙ sym (take_all (length trace) trace (omega arith)) in
-          let long = any_covers_trace j trace in
-          within_trace j trace (length trace) d (omega arith) (subst (λ l. HasAccessed j trace l d) whole s)
-          ∙ ap stats_of (take_all (length trace) (outcomes_on j trace) (omega (arith, long)) ∙ sym (take_all n (outcomes_on j trace) (omega (arith, past, long))))
-    ]
+    grind (arith, nat_tests, cases_lt n (length trace), within_trace, take_all, take_all (length trace) trace (omega arith), any_covers_trace j trace)
 
 -- one that made all of them has the statistics of the job
 pub any_reports : AnyReports

@@ -1,5 +1,6 @@
 -- The outcomes of Belady's optimal policy, by place.
-use Rattle.std.proofs.Common.{◌≡◌, ℕ, zero, suc, ◌<◌, inl, inr, List, [], ◌∷◌, ◌++◌, length, get_or, ap, ◌∙◌, sym, refl, arith, length-append}
+use Rattle.std.proofs.lemmas.Bool.Decides.{nat_tests}
+use Rattle.std.proofs.Common.{◌≡◌, ℕ, zero, suc, ◌<◌, inl, inr, List, [], ◌∷◌, length, get_or, ◌∙◌, refl, arith, length-append}
 use Rattle.std.proofs.lemmas.Bool.{cases_lt}
 use Rattle.std.proofs.lemmas.List.{get_or_append_left}
 use Rattle.std.proofs.Math.Seq.{get_or-append_seam}
@@ -15,8 +16,5 @@ at-answers c t (suc n) i x lt =
     let len : length (belady_outcomes c t n) ≡ n = outcomes-length c t n in
     elim (cases_lt i n) [
       | inl below ↦ get_or_append_left (belady_outcomes c t n) (outcome_at c t n ∷ []) x i (omega (arith, len)) ∙ at-answers c t n i x below
-      | inr above ↦
-          let same : i ≡ n = omega arith in
-          ap (λ m. get_or (belady_outcomes c t n ++ outcome_at c t n ∷ []) m x) (same ∙ sym len)
-          ∙ (get_or-append_seam (belady_outcomes c t n) (outcome_at c t n) [] x ∙ ap (outcome_at c t) (sym same))
+      | inr above ↦ grind (arith, nat_tests, get_or-append_seam (belady_outcomes c t n) (outcome_at c t n))
     ]

@@ -1,7 +1,8 @@
 -- How many keys are resident in a cache of any policy.
-use Rattle.std.proofs.Common.{◌≡◌, ℕ, zero, suc, ◌+◌, ◌≤◌, eqb, true, cond, map, Result, Ok, Err, List, [], ◌∷◌, length, ap, ◌∙◌, sym, refl, subst, arith}
+use Rattle.std.proofs.lemmas.Bool.Decides.{nat_tests}
+use Rattle.std.proofs.Common.{◌≡◌, ℕ, zero, suc, ◌+◌, ◌≤◌, eqb, true, map, Result, Ok, Err, List, [], ◌∷◌, length, ap, ◌∙◌, sym, refl, subst, arith}
 use Rattle.std.specs.List.{count_by}
-use Rattle.clairvoyant.specs.Clairvoyant.{Stats, ClairvoyantState, is_next, clairvoyant_access, clairvoyant_after, clairvoyant_act}
+use Rattle.clairvoyant.specs.Clairvoyant.{Stats, ClairvoyantState}
 use Rattle.segments.specs.Queues.{residents_in}
 use Rattle.step_record.proofs.Limited.{accepted-in, accepted-where}
 use Rattle.queue_cache.specs.QueueStep.{recorded_in, queue_access, queue_count}
@@ -23,9 +24,8 @@ use Rattle.adaptive_window.specs.Residents.{CacheKeeps}
 use Rattle.policies.proofs.Adaptive.{adaptive-sound, adaptive-counted, adaptive-fit}
 use Rattle.policies.specs.Theorems.{AnyCoversTrace}
 use Rattle.queue_cache.proofs.Counting.{after-counts, hits-misses}
-use Rattle.policies.specs.AnyCounts.{IsOptimalStep, optimal_step}
 use Rattle.step_record.specs.Keys.{has_key}
-use Rattle.step_record.specs.Stats.{is_hit, is_miss, is_eviction, one_if, stats_of}
+use Rattle.step_record.specs.Stats.{is_hit, one_if, stats_of}
 use Rattle.clairvoyant.specs.Belady.{belady_residents, belady_outcomes}
 use Rattle.clairvoyant.specs.Keys.{IsAscendingKeys}
 use Rattle.clairvoyant.proofs.Belady.{residents-ascending, served-has, hit-resident, residents-fit as belady-residents-fit}
@@ -39,8 +39,7 @@ use Rattle.replacement.proofs.Residents.{residents-length, resident-queued, resi
 use Rattle.queue_cache.proofs.Balance.{IsBalancedCache, step-balanced, after-balanced, residents-fit, came-from}
 
 pub residents_fit : DemandKeeps → CacheKeeps → ResidentsFit
-residents_fit law own j trace keys (Queues d) s =
-    subst (λ (x : QueueState). length (residents_in x.queues) ≤ j.config.capacity) (sym s.1.gives) (residents-fit j keys)
+residents_fit law own j trace keys (Queues d) s = grind (arith, nat_tests, residents-fit j keys)
 residents_fit law own j trace keys (Optimal d) s =
     subst (λ (x : ClairvoyantState). length x.residents ≤ j.config.capacity) (sym s.gives)
     (belady-residents-fit j.config.capacity trace (length keys))
@@ -52,8 +51,7 @@ queues-counted d s = let counted = s.counted in omega (arith, counted, residents
 
 pub residents_counted : DemandKeeps → CacheKeeps → ResidentsCounted
 residents_counted law own j trace keys (Queues d) s = queues-counted d (subst IsBalancedCache (sym s.1.gives) (after-balanced j keys))
-residents_counted law own j trace keys (Optimal d) s =
-    subst (λ (x : ClairvoyantState). length x.residents + x.stats.evictions ≡ x.stats.misses) (sym s.gives) (held-count j.config.capacity trace (length keys))
+residents_counted law own j trace keys (Optimal d) s = cc (held-count j.config.capacity trace (length keys))
 residents_counted law own j trace keys (Demand d) s = demand-counted law j keys d s
 residents_counted law own j trace keys (Adaptive d) s = adaptive-counted own j keys d s
 
@@ -74,11 +72,7 @@ optimal-fit c t i = let counted = held-count c t i in let few = belady-residents
 
 none-kept : (t : List ℕ) → (stats_of (map (λ k. Rejected k) t)).misses ≤ (stats_of (map (λ k. Rejected k) t)).evictions
 none-kept [] = omega arith
-none-kept (k ∷ t) =
-    let rest = none-kept t in
-    let misses = sum_by-cons (λ x. cond (is_miss x) 1 0) (Rejected k) (map (λ k. Rejected k) t) in
-    let evictions = sum_by-cons (λ x. cond (is_eviction x) 1 0) (Rejected k) (map (λ k. Rejected k) t) in
-    omega (arith, rest, misses, evictions)
+none-kept (k ∷ t) = omega (arith, none-kept t, sum_by-cons)
 
 demand-fit : DemandKeeps → (p : DemandPolicy) (c : ℕ) (t : List ℕ)
     → (stats_of (demand_outcomes p c t)).misses ≤ (stats_of (demand_outcomes p c t)).evictions + c
@@ -121,8 +115,7 @@ residents_distinct law own j trace keys (Optimal d) k s =
     let once : count_by (eqb k) r ≤ 1 = omega (arith, ascending-once k r (residents-ascending j.config.capacity trace (length keys)), one-few (has_key k r)) in
     subst (λ (x : ClairvoyantState). count_by (eqb k) x.residents ≤ 1) (sym s.gives) once
 residents_distinct law own j trace keys (Demand d) k s =
-    let once = (demand-holds law j keys d s).distinct k in
-    omega (arith, once, times-by k (queues_residents d.queues))
+    grind (arith, nat_tests, demand-holds law j keys d s, times-by k (queues_residents d.queues))
 residents_distinct law own j trace keys (Adaptive d) k s = (own j.config j.tuning.period s.checked).distinct d k (adaptive-sound own j keys d s)
 
 -- ---- an accepted step
@@ -132,25 +125,20 @@ hits_are_residents law own j trace keys (Queues d) k o e s h =
     let sound : IsBalancedCache d = subst IsBalancedCache (sym s.1.gives) (after-balanced j keys) in
     ap is_hit (accepted-in queue_count queue_access Queues d k o e h).outcome ∙ ((step-balanced (recorded_in k d.frequency) k d sound).hit ∙ sym (resident-queued k d.queues sound.nodeless))
 hits_are_residents law own j trace keys (Optimal d) k o e s h =
-    let q : IsOptimalStep (clairvoyant_act d k) o e = optimal_step (clairvoyant_act d k) o e h in
-    ap is_hit (accepted-where (is_next d k) (clairvoyant_access k d) o q.next q.steps).outcome ∙ hit-resident d.capacity d.trace d.stats.accesses k d.residents
+    grind (arith, nat_tests, accepted-where, hit-resident d.capacity d.trace d.stats.accesses k d.residents)
 hits_are_residents law own j trace keys (Demand d) k o e s h =
     ap is_hit (accepted-in demand_count demand_access Demand d k o e h).outcome ∙ (demand-is-access law j keys d k s).hits
 hits_are_residents law own j trace keys (Adaptive d) k o e s h =
-    ap is_hit (accepted-in cache_count cache_access Adaptive d k o e h).outcome
-    ∙ ((own j.config j.tuning.period s.checked).accesses k d (adaptive-sound own j keys d s)).hits
+    grind (arith, nat_tests, accepted-in cache_count cache_access Adaptive d k o e h, adaptive-sound own j keys d s)
 
 there-in : (x : ℕ) {d e : AnyPolicy} → d ≡ e → has_key x (any_residents e) ≡ true → has_key x (any_residents d) ≡ true
 there-in x same there = ap (λ y. has_key x (any_residents y)) same ∙ there
 
 pub fetches_on_demand : DemandKeeps → CacheKeeps → FetchesOnDemand
 fetches_on_demand law own j trace keys (Queues d) k o e x s h there =
-    let sound : IsBalancedCache d = subst IsBalancedCache (sym s.1.gives) (after-balanced j keys) in
-    came-from (recorded_in k d.frequency) k x d sound (there-in x (sym (accepted-in queue_count queue_access Queues d k o e h).next) there)
+    grind (arith, nat_tests, after-balanced, came-from, there-in, accepted-in)
 fetches_on_demand law own j trace keys (Optimal d) k o e x s h there =
-    let q : IsOptimalStep (clairvoyant_act d k) o e = optimal_step (clairvoyant_act d k) o e h in
-    let next : e ≡ Optimal (clairvoyant_after d k) = q.is ∙ ap Optimal (accepted-where (is_next d k) (clairvoyant_access k d) o q.next q.steps).next in
-    served-has d.capacity d.trace d.stats.accesses k x d.residents (there-in x (sym next) there)
+    grind (arith, nat_tests, accepted-where, served-has, there-in)
 fetches_on_demand law own j trace keys (Demand d) k o e x s h there =
     demand-came-from j.config.capacity k x (queues_residents d.queues) (queues_act k d.queues).0 (queues_residents (queues_act k d.queues).1)
     (demand-is-access law j keys d k s) (there-in x (sym (accepted-in demand_count demand_access Demand d k o e h).next) there)

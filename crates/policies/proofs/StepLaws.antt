@@ -1,11 +1,12 @@
 -- What a cache of any policy stands for.
-use Rattle.std.proofs.Common.{◌≡◌, ℕ, true, suc, ◌+◌, ◌<◌, ◌≤◌, Option, Some, None, List, [], ◌∷◌, ◌++◌, length, take, get_or, ap, ◌∙◌, sym, refl, arith, subst, length-append}
+use Rattle.std.proofs.lemmas.Bool.Decides.{nat_tests}
+use Rattle.std.proofs.Common.{◌≡◌, ℕ, true, ◌+◌, ◌≤◌, Option, Some, None, List, [], ◌∷◌, ◌++◌, length, get_or, ap, ◌∙◌, sym, refl, arith, subst, length-append}
 use Rattle.std.proofs.lemmas.List.{take_more}
 use Rattle.step_record.specs.Config.{config_fault}
 use Rattle.step_record.specs.declared.limits.TheConstants.{MAX_STEPS}
 use Rattle.step_record.specs.declared.outcome.Outcome.TheVariants.{Hit}
 use Rattle.step_record.specs.Stats.{is_eviction, stats_of}
-use Rattle.clairvoyant.specs.Belady.{Outcome, belady_outcomes, belady_outcome as outcome_at}
+use Rattle.clairvoyant.specs.Belady.{Outcome, belady_outcomes}
 use Rattle.clairvoyant.specs.Theorems.{ClairvoyantStepLaw, ClairvoyantAccepts}
 use Rattle.clairvoyant.specs.Clairvoyant.{ClairvoyantState, clairvoyant_at, clairvoyant_act}
 use Rattle.policies.specs.declared.any_policy.AnyPolicy.TheVariants.{Queues, Optimal, Demand, Adaptive}
@@ -24,7 +25,6 @@ use Rattle.queue_cache.specs.declared.design.Design.TheVariants as design
 use Rattle.queue_cache.specs.Design.{design_of, is_of_queues, is_optimal}
 use Rattle.policies.specs.DemandDesign.{demand_policy}
 use Rattle.policies.specs.AnyPolicy.{AnyPolicy, outcomes_by, adaptive_start, demand_run, IsBeladyAt, HasAccessed}
-use Rattle.policies.specs.AnyCounts.{IsOptimalStep, optimal_step}
 use Rattle.policies.specs.Theorems.{AnyStepLaw, AnyAccepts, AnyIsOne, AnyAnswers, AnyCoversTrace, AnyHitsKeepAll, AnyRecordsShowOutcome, AnyAsksWhereOneLeft}
 use Rattle.clairvoyant.proofs.Records.{outcome-is}
 use Rattle.queue_cache.proofs.Leaving.{hit-keeps-all, queue-asks-evicts}
@@ -42,47 +42,18 @@ record IsAtPlace (j : Job) (trace keys : List ℕ) (d : ClairvoyantState) : Type
   here : d ≡ clairvoyant_at d.capacity d.trace d.stats.accesses
 
 at_place : (j : Job) (trace keys : List ℕ) (d : ClairvoyantState) → IsBeladyAt j trace keys d → IsAtPlace j trace keys d
-at_place j trace keys d s =
-    let n : d.stats.accesses ≡ length keys = ap (λ (x : ClairvoyantState). x.stats.accesses) s.gives ∙ outcomes-length j.config.capacity trace (length keys) in
-    let t : d.trace ≡ trace = ap (λ (x : ClairvoyantState). x.trace) s.gives in
-    let c : d.capacity ≡ j.config.capacity = ap (λ (x : ClairvoyantState). x.capacity) s.gives in
-    record {
-      place = n;
-      trace_is = t;
-      capacity = c;
-      here = s.gives ∙ (ap (λ x. clairvoyant_at x trace (length keys)) (sym c) ∙ (ap (λ x. clairvoyant_at d.capacity x (length keys)) (sym t) ∙ ap (λ x. clairvoyant_at d.capacity d.trace x) (sym n)));
-    }
+at_place j trace keys d s = grind (arith, nat_tests, outcomes-length j.config.capacity trace (length keys))
 
 optimal_stands : ClairvoyantStepLaw → (j : Job) (trace keys : List ℕ) (d : ClairvoyantState) (k : ℕ) (o : Outcome) (e : ClairvoyantState)
     → IsBeladyAt j trace keys d → clairvoyant_act d k ≡ Some (o, e) → IsBeladyAt j trace (keys ++ k ∷ []) e
-optimal_stands law j trace keys d k o e s h =
-    let p : IsAtPlace j trace keys d = at_place j trace keys d s in
-    let l = law d k o e p.here h in
-    let len : length (keys ++ k ∷ []) ≡ length keys + 1 = length-append keys (k ∷ []) in
-    let long : length d.trace ≡ length trace = ap length p.trace_is in
-    let below : d.stats.accesses < length d.trace = l.0 in
-    let place : d.stats.accesses ≡ length keys = p.place in
-    let lt : length keys < length trace = omega (arith, long, below, place) in
-    let key : k ≡ get_or trace (length keys) 0 = l.1 ∙ (ap (λ x. get_or x d.stats.accesses 0) p.trace_is ∙ ap (λ x. get_or trace x 0) place) in
-    let next : suc d.stats.accesses ≡ length (keys ++ k ∷ []) = omega (arith, len, place) in
-    record {
-      policy = s.policy;
-      first = ap (λ l. l ++ k ∷ []) s.first ∙ (ap (λ x. take (length keys) trace ++ x ∷ []) key ∙ (sym (take_more trace (length keys) 0 lt) ∙ ap (λ n. take n trace) (sym len)));
-      within = omega (arith, len, lt);
-      gives = l.3 ∙ (ap (λ x. clairvoyant_at x d.trace (suc d.stats.accesses)) p.capacity ∙ (ap (λ x. clairvoyant_at j.config.capacity x (suc d.stats.accesses)) p.trace_is ∙ ap (λ x. clairvoyant_at j.config.capacity trace x) next));
-    }
+optimal_stands law j trace keys d k o e s h = grind (arith, nat_tests, at_place, length-append, take_more)
 
 pub any_step_law : ClairvoyantStepLaw → AnyStepLaw
 any_step_law law j trace keys (Queues d) k o e s h =
-    let a = accepted-in queue_count queue_access Queues d k o e h in
-    rw a.next (s.0, record { checked = s.1.checked; gives = stands-step j keys k d s.1 })
-any_step_law law j trace keys (Optimal d) k o e s h =
-    let q : IsOptimalStep (clairvoyant_act d k) o e = optimal_step (clairvoyant_act d k) o e h in
-    rw q.is (optimal_stands law j trace keys d k o q.next s q.steps)
-any_step_law law j trace keys (Demand d) k o e s h =
-    let a = accepted-in demand_count demand_access Demand d k o e h in rw a.next (demand_stands j keys d k s)
-any_step_law law j trace keys (Adaptive d) k o e s h =
-    let a = accepted-in cache_count cache_access Adaptive d k o e h in rw a.next (adaptive_stands j keys d k s)
+    grind (arith, nat_tests, accepted-in queue_count queue_access Queues d k o e h, stands-step j keys k d s.1)
+any_step_law law j trace keys (Optimal d) k o e s h = grind (arith, nat_tests, optimal_stands)
+any_step_law law j trace keys (Demand d) k o e s h = grind (arith, nat_tests, accepted-in, demand_stands)
+any_step_law law j trace keys (Adaptive d) k o e s h = grind (arith, nat_tests, accepted-in, adaptive_stands)
 
 at-length : (keys rest : List ℕ) (k : ℕ) → get_or (keys ++ k ∷ rest) (length keys) 0 ≡ k
 at-length [] rest k = refl
@@ -94,13 +65,10 @@ no-optimal (Some p) h = absurd (cc (h))
 
 -- a cache that made fewer accesses than the trace has is not at its last
 has-left : (trace keys rest : List ℕ) (k n : ℕ) → trace ≡ keys ++ k ∷ rest → length trace ≤ MAX_STEPS → n ≡ length keys → n ≡ MAX_STEPS → ⊥
-has-left trace keys rest k n t few made all =
-    let l : length trace ≡ length keys + length (k ∷ rest) = ap length t ∙ length-append keys (k ∷ rest) in
-    omega (arith, made, all, l, few)
+has-left trace keys rest k n t few made all = grind (arith, nat_tests, length-append keys (k ∷ rest))
 
 pub any_accepts : ClairvoyantAccepts → AnyAccepts
-any_accepts law j trace keys rest k (Queues d) t few s h =
-    has-left trace keys rest k d.stats.accesses t few (stands-accesses j keys d s.1) (refused-in queue_count queue_access Queues d k h)
+any_accepts law j trace keys rest k (Queues d) t few s h = search (arith, has-left, stands-accesses, refused-in)
 any_accepts law j trace keys rest k (Optimal d) t few s h =
     let p : IsAtPlace j trace keys d = at_place j trace keys d s in
     let l : length trace ≡ length keys + length (k ∷ rest) = ap length t ∙ length-append keys (k ∷ rest) in
@@ -110,10 +78,8 @@ any_accepts law j trace keys rest k (Optimal d) t few s h =
     ap (λ x. get_or x d.stats.accesses 0) (p.trace_is ∙ t) ∙ (ap (λ x. get_or (keys ++ k ∷ rest) x 0) place ∙ at-length keys rest k) in
     let none : clairvoyant_act d k ≡ None = no-optimal (clairvoyant_act d k) h in
     law d (omega (arith, l, long, place)) (omega (arith, long, few)) (subst (λ x. clairvoyant_act d x ≡ None) (sym key) none)
-any_accepts law j trace keys rest k (Demand d) t few s h =
-    has-left trace keys rest k d.stats.accesses t few (demand-accesses j keys d s) (refused-in demand_count demand_access Demand d k h)
-any_accepts law j trace keys rest k (Adaptive d) t few s h =
-    has-left trace keys rest k d.stats.accesses t few (adaptive-accesses j keys d s) (refused-in cache_count cache_access Adaptive d k h)
+any_accepts law j trace keys rest k (Demand d) t few s h = search (arith, has-left, demand-accesses, refused-in)
+any_accepts law j trace keys rest k (Adaptive d) t few s h = search (arith, has-left, adaptive-accesses, refused-in)
 
 -- the cache of a design after the accesses to the keys
 abbrev cache_by : Design → Job → List ℕ → List ℕ → AnyPolicy
@@ -173,19 +139,9 @@ any_covers_trace j trace = covers-by (design_of j.policy) j trace
 
 pub any_answers : ClairvoyantStepLaw → AnyAnswers
 any_answers law j trace keys rest k (Queues d) o e x t s h =
-    (accepted-in queue_count queue_access Queues d k o e h).outcome ∙ stands-outcome j keys k d s.1
-    ∙ sym (after-answers j keys rest k x)
-    ∙ ap (λ l. get_or (outcomes_after j l) (length keys) x) (sym t)
-    ∙ ap (λ os. get_or os (length keys) x) (sym (outcomes-of-queues (design_of j.policy) j trace s.0))
+    grind (arith, nat_tests, accepted-in, stands-outcome, after-answers, outcomes-of-queues)
 any_answers law j trace keys rest k (Optimal d) o e x t s h =
-    let q : IsOptimalStep (clairvoyant_act d k) o e = optimal_step (clairvoyant_act d k) o e h in
-    let p : IsAtPlace j trace keys d = at_place j trace keys d s in
-    let l : length trace ≡ length keys + length (k ∷ rest) = ap length t ∙ length-append keys (k ∷ rest) in
-    let here : o ≡ outcome_at d.capacity d.trace d.stats.accesses = (law d k o q.next p.here q.steps).2 in
-    let place : o ≡ outcome_at j.config.capacity trace (length keys) = here ∙ (ap (λ c. outcome_at c d.trace d.stats.accesses) p.capacity
-    ∙ (ap (λ y. outcome_at j.config.capacity y d.stats.accesses) p.trace_is ∙ ap (λ i. outcome_at j.config.capacity trace i) p.place)) in
-    place ∙ sym (at-answers j.config.capacity trace (length trace) (length keys) x (omega (arith, l)))
-    ∙ ap (λ os. get_or os (length keys) x) (sym (outcomes-of-optimal (design_of j.policy) j trace s.policy))
+    search (arith, at_place, length-append, at-answers, outcomes-of-optimal)
 any_answers law j trace keys rest k (Demand d) o e x t s h =
     let start = empty_cache (demand_policy s.kind j) j.config.capacity in
     (accepted-in demand_count demand_access Demand d k o e h).outcome
@@ -205,25 +161,18 @@ any_answers law j trace keys rest k (Adaptive d) o e x t s h =
 -- a record has the outcome
 
 pub any_records_show_outcome : ClairvoyantStepLaw → AnyRecordsShowOutcome
-any_records_show_outcome law j trace keys (Queues d) k o e s h =
-    sym (accepted-in queue_count queue_access Queues d k o e h).outcome
+any_records_show_outcome law j trace keys (Queues d) k o e s h = grind (arith, nat_tests, accepted-in)
 any_records_show_outcome law j trace keys (Optimal d) k o e s h =
-    let q : IsOptimalStep (clairvoyant_act d k) o e = optimal_step (clairvoyant_act d k) o e h in
-    let p : IsAtPlace j trace keys d = at_place j trace keys d s in
-    outcome-is d.capacity d.trace d.stats.accesses ∙ sym (law d k o q.next p.here q.steps).2
-any_records_show_outcome law j trace keys (Demand d) k o e s h =
-    sym (accepted-in demand_count demand_access Demand d k o e h).outcome
-any_records_show_outcome law j trace keys (Adaptive d) k o e s h =
-    sym (accepted-in cache_count cache_access Adaptive d k o e h).outcome
+    grind (arith, nat_tests, at_place j trace keys d s, outcome-is d.capacity d.trace d.stats.accesses)
+any_records_show_outcome law j trace keys (Demand d) k o e s h = grind (arith, nat_tests, accepted-in)
+any_records_show_outcome law j trace keys (Adaptive d) k o e s h = grind (arith, nat_tests, accepted-in)
 
 -- undoing a hit asks for no room
 
 pub any_hits_keep_all : HitsAskNothing → CacheHitsAskNothing → AnyHitsKeepAll
-any_hits_keep_all law own (Queues d) k e h = λ asks.
-    asks (hit-keeps-all d k (sym (accepted-in queue_count queue_access Queues d k Hit e h).outcome))
+any_hits_keep_all law own (Queues d) k e h = grind (arith, nat_tests, hit-keeps-all, accepted-in)
 any_hits_keep_all law own (Optimal d) k e h = λ asks. asks
-any_hits_keep_all law own (Demand d) k e h =
-    law k d.queues (sym (accepted-in demand_count demand_access Demand d k Hit e h).outcome)
+any_hits_keep_all law own (Demand d) k e h = search (arith, accepted-in demand_count demand_access Demand d k Hit e h)
 any_hits_keep_all law own (Adaptive d) k e h =
     own k d (sym (accepted-in cache_count cache_access Adaptive d k Hit e h).outcome)
 
@@ -232,8 +181,7 @@ any_asks_where_one_left keeps law kept own j trace keys (Queues d) k o e s h ask
     ap is_eviction (accepted-in queue_count queue_access Queues d k o e h).outcome ∙ queue-asks-evicts j keys d k s.1 asks
 any_asks_where_one_left keeps law kept own j trace keys (Optimal d) k o e s h asks = absurd asks
 any_asks_where_one_left keeps law kept own j trace keys (Demand d) k o e s h asks =
-    ap is_eviction (accepted-in demand_count demand_access Demand d k o e h).outcome
-    ∙ law j.config.capacity k d.queues (demand-sound keeps j keys d s) asks
+    grind (arith, nat_tests, accepted-in demand_count demand_access Demand d k o e h, demand-sound keeps j keys d s)
 any_asks_where_one_left keeps law kept own j trace keys (Adaptive d) k o e s h asks =
     ap is_eviction (accepted-in cache_count cache_access Adaptive d k o e h).outcome
     ∙ own j.config.capacity k d (adaptive-sound kept j keys d s) asks

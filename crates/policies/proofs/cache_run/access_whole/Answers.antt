@@ -1,3 +1,4 @@
+use Rattle.std.proofs.lemmas.Bool.Decides.{nat_tests}
 use Rattle.std.proofs.Common.{ℕ, ap, ◌∙◌, sym, arith, Err}
 use Rattle.policies.specs.AnyStep.{any_act}
 use Rattle.policies.proofs.Stretches.{has-made-all, next-made, next-accepted}
@@ -10,9 +11,7 @@ unreachable-requires c =
     (ap (λ (k : ℕ). any_act c.loop-i.cache k) (sym c.key.ensures) ∙ c.access.ensures.not_now.0 (c.in-Err-NotNow.is ∙ ap Err c.in-Err-NotNow.field-0-is))
 
 pub loop-i-preserved : goal.loop-i-preserved
-loop-i-preserved c =
-    next-made c.args.uses.now c.loop-i.i c.args.cache.now c.loop-i.cache (omega (arith, c.len-i-end.ensures.len, c.loop-i-test.true)) c.loop-i.invariant
-    c.any_step_law.ensures _ _ (ap (λ (k : ℕ). any_act c.loop-i.cache k) (sym c.key.ensures) ∙ c.in-Ok.ensures.accepted)
+loop-i-preserved c = grind (arith, nat_tests, next-made)
 
 pub returns : goal.returns
 returns c = has-made-all c.args.uses.now c.loop-i.i c.args.cache.now c.loop-i.cache (omega (arith, c.len-i-end.ensures.len)) c.loop-i.invariant
