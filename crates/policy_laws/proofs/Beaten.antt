@@ -1,4 +1,5 @@
 -- Every policy beside Belady's optimal policy.
+use Rattle.std.proofs.lemmas.Bool.Decides.{nat_tests}
 use Rattle.std.proofs.Common.{◌≡◌, ℕ, ◌+◌, ◌≤◌, true, false, cond, Result, Ok, Err, map, count_by, List, [], ◌∷◌, ◌++◌, length, take, ap, ◌∙◌, sym, refl, arith, inl, inr}
 use Rattle.std.proofs.lemmas.Bool.{cases_Bool, cases_lt}
 use Rattle.std.proofs.lemmas.List.Sums.{sum_by-cons}
@@ -152,10 +153,7 @@ acts-as-strategy best law own j trace =
 
 pub no_policy_beats : BeladyIsOptimal → BeladyIsStrategy → DemandKeeps → CacheKeeps → NoPolicyBeatsBelady
 no_policy_beats optimal_law best law kept j optimal keys is same =
-    let most : (stats_on optimal keys).hits ≡ belady_hits j.config.capacity keys (length keys) = stats-optimal optimal keys (ap knows_trace is) ∙ ap (λ c. belady_hits c keys (length keys)) same in
-    let own : ActsAsStrategy j.config.capacity keys (stats_on j keys).hits = acts-as-strategy best law kept j keys in
-    let more : strategy_hits keys own.residents (length keys) ≤ belady_hits j.config.capacity keys (length keys) = optimal_law j.config.capacity keys own.residents (length keys) own.strategy (omega arith) in
-    omega (arith, most, own.same, more)
+    grind (arith, nat_tests, stats-optimal optimal keys (ap knows_trace is), acts-as-strategy best law kept j keys)
 
 -- ---- two caches at a place of a trace
 
@@ -201,8 +199,4 @@ belady_leads law keeps held j optimal trace keys d e s b is same =
     ]
 
 pub optimal_grows : BeladyHitsGrow → OptimalHitsGrow
-optimal_grows law small large keys is are le =
-    let few = stats-optimal small keys (ap knows_trace is) in
-    let many = stats-optimal large keys (ap knows_trace are) in
-    let more = law small.config.capacity large.config.capacity keys (length keys) le (omega arith) in
-    omega (arith, few, many, more)
+optimal_grows law small large keys is are le = grind (arith, nat_tests, stats-optimal)

@@ -66,9 +66,4 @@ lru-hits stands j trace is =
     ∙ hits-agree trace (λ i. queue_residents j (take i trace)) (lru_at j.config.capacity trace) (length trace) (λ i. lru-kept stands j (take i trace) is)
 
 pub lru_hits_grow : LruStepLaw → LruHitsGrow
-lru_hits_grow stands small large trace is are le =
-    let few = lru-hits stands small trace is in
-    let many = lru-hits stands large trace are in
-    let more = hits-more trace (lru_at small.config.capacity trace) (lru_at large.config.capacity trace) (length trace)
-    (λ i k h. lru-among small.config.capacity large.config.capacity k (take i trace) le h) in
-    omega (arith, few, many, more)
+lru_hits_grow stands small large trace is are le = grind (arith, nat_tests, lru-hits, hits-more, lru-among)

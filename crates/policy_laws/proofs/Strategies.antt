@@ -1,5 +1,6 @@
 -- A cache that knows no access before it is made is a strategy that fetches on demand.
-use Rattle.std.proofs.Common.{◌≡◌, ◌⊎◌, ℕ, zero, suc, ◌+◌, ◌<◌, ◌≤◌, true, cond, List, [], ◌∷◌, ◌++◌, length, take, get_or, count_by, ap, ◌∙◌, sym, refl, arith}
+use Rattle.std.proofs.lemmas.Bool.Decides.{nat_tests}
+use Rattle.std.proofs.Common.{◌≡◌, ◌⊎◌, ℕ, zero, suc, ◌+◌, ◌<◌, ◌≤◌, true, List, [], ◌∷◌, ◌++◌, length, take, get_or, count_by, ap, ◌∙◌, sym, arith}
 use Rattle.std.proofs.Math.Seq.{take-suc}
 use Rattle.std.proofs.lemmas.List.{take_all}
 use Rattle.std.proofs.lemmas.List.Sums.{sum_by-append}
@@ -18,12 +19,7 @@ pub record IsOnline (c : ℕ) (held : List ℕ → List ℕ) (hits : List ℕ �
   pub fits : (keys : List ℕ) → length (held keys) ≤ c
 
 pub hits-by : (c : ℕ) (held : List ℕ → List ℕ) (f g : List ℕ → ℕ) → IsOnline c held f → ((keys : List ℕ) → g keys ≡ f keys) → IsOnline c held g
-hits-by c held f g is same = record {
-  starts = (is.starts.0, same [] ∙ is.starts.1);
-  came = is.came;
-  counts = λ keys k. let more = is.counts keys k in omega (arith, more, same keys, same (keys ++ k ∷ []));
-  fits = is.fits;
-}
+hits-by c held f g is same = grind (arith, nat_tests)
 
 module _ (c : ℕ) (held : List ℕ → List ℕ) (hits : List ℕ → ℕ) (is : IsOnline c held hits) (t : List ℕ) where
   pub strategy : IsStrategy c t (λ i. held (take i t))
@@ -35,9 +31,7 @@ module _ (c : ℕ) (held : List ℕ → List ℕ) (hits : List ℕ → ℕ) (is 
 
   pub hits-are : (i : ℕ) → i ≤ length t → strategy_hits t (λ i. held (take i t)) i ≡ hits (take i t)
   hits-are zero h = sym is.starts.1
-  hits-are (suc i) h =
-      let longer = ap hits (take-suc t i 0 (omega (arith, h))) in
-      omega (arith, hits-are i (omega (arith, h)), is.counts (take i t) (get_or t i 0), longer)
+  hits-are (suc i) h = grind (arith, nat_tests, take-suc t i 0 (omega (arith, h)), hits-are i (omega (arith, h)))
 
   pub all-hits : strategy_hits t (λ i. held (take i t)) (length t) ≡ hits t
   all-hits = hits-are (length t) (omega arith) ∙ ap hits (take_all (length t) t (omega arith))
@@ -71,16 +65,7 @@ module _ {S : Type 0} (c : ℕ) (start : S) (act : ℕ → S → Outcome × S) (
   kept-after keys = kept-from start keys all.starts.0
 
   pub served : IsOnline c (λ keys. residents (state_after_all act start keys)) (λ keys. count_by is_hit (outcomes_of_all act start keys))
-  served = record {
-    starts = (all.starts.1, refl);
-    came = λ keys k x g. all.came k (state_after_all act start keys) x (kept-after keys) (ap (λ s. has_key x (residents s)) (sym (state-push act start keys k)) ∙ g);
-    counts = λ keys k.
-        let s : S = state_after_all act start keys in
-        let os : List Outcome = outcomes_of_all act start keys in
-        let more : count_by is_hit (os ++ (act k s).0 ∷ []) ≡ count_by is_hit os + one_if (is_hit (act k s).0) = sum_by-append (λ x. cond (is_hit x) 1 0) os ((act k s).0 ∷ []) ∙ omega arith in
-        ap (count_by is_hit) (outcomes-push act start keys k) ∙ more ∙ ap (λ b. count_by is_hit os + one_if b) (all.hits k s (kept-after keys));
-    fits = λ keys. all.fits (state_after_all act start keys) (kept-after keys);
-  }
+  served = grind (arith, nat_tests, kept-after, state-push, sum_by-append, outcomes-push)
 
   module _ (t : List ℕ) where
     abbrev pub state_at : ℕ → S
