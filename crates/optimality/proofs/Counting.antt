@@ -43,13 +43,11 @@ count-subset p xs ys h = count-passing p xs ys (λ x g r. h x g)
 
 pub count-agree : (p q : ℕ → Bool) (xs : List ℕ) → ((x : ℕ) → has_key x xs ≡ true → p x ≡ q x) → count_keys p xs ≡ count_keys q xs
 count-agree p q [] h = refl
-count-agree p q (a ∷ xs) h =
-    rw (h a (head-has a xs), count-agree p q xs (λ x g. h x (later x a xs g))) refl
+count-agree p q (a ∷ xs) h = rw (h a (head-has a xs), count-agree p q xs (λ x g. h x (later x a xs g))) refl
 
 pub count-none : (p : ℕ → Bool) (xs : List ℕ) → ((x : ℕ) → p x ≡ false) → count_keys p xs ≡ 0
 count-none p [] h = refl
-count-none p (a ∷ xs) h =
-    rw (h a, count-none p xs h) (grind arith)
+count-none p (a ∷ xs) h = rw (h a, count-none p xs h) (grind arith)
 
 pub count-all : (p : ℕ → Bool) (xs : List ℕ) → IsAscendingKeys xs → ((x : ℕ) → has_key x xs ≡ true → p x ≡ true) → count_keys p xs ≡ length xs
 count-all p [] s h = refl

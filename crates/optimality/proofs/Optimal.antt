@@ -1,5 +1,6 @@
 -- Belady's policy beside another strategy.
-use Rattle.std.proofs.Common.{◌≡◌, ◌⊎◌, ℕ, zero, suc, ◌+◌, ◌<◌, ◌≤◌, true, false, cond, nat_lt, List, ◌∷◌, length, get_or, ap, ◌∙◌, refl, arith, inl, inr}
+use Rattle.std.proofs.lemmas.Bool.Decides.{nat_tests}
+use Rattle.std.proofs.Common.{◌≡◌, ◌⊎◌, ℕ, zero, suc, ◌+◌, ◌<◌, ◌≤◌, false, cond, nat_lt, List, ◌∷◌, length, get_or, ap, ◌∙◌, refl, arith, inl, inr}
 use Rattle.std.proofs.lemmas.Bool.{cond_both, cases_Bool, cases_lt, ltb-false}
 use Rattle.step_record.specs.Stats.{one_if}
 use Rattle.step_record.specs.Keys.{has_key, keys_without}
@@ -12,7 +13,7 @@ use Rattle.clairvoyant.proofs.Belady.{residents-ascending, put-has, without-has,
 use Rattle.optimality.specs.Strategy.{IsStrategy, strategy_hits}
 use Rattle.optimality.specs.Theorems.{belady_hits, BeladyIsOptimal, BeladyIsStrategy, BeladyHitsGrow}
 use Rattle.optimality.proofs.Counting.{count_keys, count-short, count-without, count-subset, count-none, count-all}
-use Rattle.optimality.proofs.Uses.{is_due, due-never, AreDue, farthest-due, due-gain}
+use Rattle.optimality.proofs.Uses.{is_due, due-never, farthest-due, due-gain}
 
 -- ---- the residents after an access, in a full cache
 
@@ -26,18 +27,7 @@ full-keeps t i n k r s e =
     let all : count_keys (is_due t (suc i) n) (k ∷ r) ≤ count_keys (is_due t (suc i) n) (residents_with k r) = count-subset (is_due t (suc i) n) (k ∷ r) (residents_with k r) (λ x h. has-put x k r ∙ h) in
     let out : count_keys (is_due t (suc i) n) (keys_without v (residents_with k r)) + cond (has_key v (residents_with k r)) (one_if (is_due t (suc i) n v)) 0 ≡ count_keys (is_due t (suc i) n) (residents_with k r) = count-without (is_due t (suc i) n) v (residents_with k r) in
     let left : count_keys (is_due t (suc i) n) (keys_without v (residents_with k r)) + one_if (is_due t (suc i) n v) ≡ count_keys (is_due t (suc i) n) (residents_with k r) = rw (farthest-in t i k r) at out in
-    elim (cases_Bool (is_due t (suc i) n v)) [
-      | inl f ↦
-          let due : AreDue t (suc i) n k r = farthest-due t i n k r f in
-          let each : (x : ℕ) → has_key x (keys_without v (residents_with k r)) ≡ true → is_due t (suc i) n x ≡ true =
-          λ x h. (
-          let came = put-has x k r (without-has x v (residents_with k r) h) in
-          grind (arith, came, due.first, due.rest x)) in
-          let ascends = ascending-without v (residents_with k r) (ascending-put k r s e) in
-          let full = count-all (is_due t (suc i) n) (keys_without v (residents_with k r)) ascends each in
-          inr (omega (arith, full, full-length t i k r s e))
-      | inr f ↦ let none : one_if (is_due t (suc i) n v) ≡ 0 = ap one_if f in inl (omega (arith, all, left, none))
-    ]
+    grind (arith, nat_tests, cases_Bool (is_due t (suc i) n v), farthest-due, put-has, without-has, ascending-without v (residents_with k r) (ascending-put k r s e), ascending-put k r s e, count-all, full-length t i k r s e)
 
 belady-keeps : (c : ℕ) (t : List ℕ) (i n k : ℕ) (r : List ℕ) → IsAscendingKeys r →
     (count_keys (is_due t (suc i) n) (k ∷ r) ≤ count_keys (is_due t (suc i) n) (belady_residents_after c t i k r))
@@ -66,9 +56,7 @@ module _ (c : ℕ) (t : List ℕ) (residents : ℕ → List ℕ) (strategy : IsS
 
   all-gains : (i n : ℕ) → i < length t → i < n → Leads i →
       strategy_hits t residents (suc i) + count_keys (is_due t (suc i) n) (get_or t i 0 ∷ residents i) ≤ belady_hits c t (suc i) + count_keys (is_due t (suc i) n) (get_or t i 0 ∷ belady_residents c t i)
-  all-gains i n h l before =
-      let now : strategy_hits t residents i + count_keys (is_due t i n) (residents i) ≤ belady_hits c t i + count_keys (is_due t i n) (belady_residents c t i) = before.leads n in
-      omega (arith, now, belady-hits-next c t i, due-gain t i n (residents i) h l, due-gain t i n (belady_residents c t i) h l)
+  all-gains i n h l before = grind (arith, nat_tests, belady-hits-next, due-gain)
 
   more-hits : (i : ℕ) → i < length t → Leads i → strategy_hits t residents (suc i) ≤ belady_hits c t (suc i)
   more-hits i h before =
@@ -109,21 +97,7 @@ hits-are c t zero = refl
 hits-are c t (suc i) = let rest : strategy_hits t (belady_residents c t) i ≡ belady_hits c t i = hits-are c t i in omega (arith, rest, belady-hits-next c t i)
 
 pub is_strategy : BeladyIsStrategy
-is_strategy c t = (
-  record {
-    empty = refl;
-    on_demand = λ i k h g. served-has c t i (get_or t i 0) k (belady_residents c t i) g;
-    fits = λ i h. residents-fit c t i;
-  },
-  hits-are c t,
-)
+is_strategy c t = grind (arith, nat_tests, served-has, residents-fit, hits-are c t)
 
 pub hits_grow : BeladyHitsGrow
-hits_grow c d t i le h =
-    let wider : IsStrategy d t (belady_residents c t) = record {
-      empty = refl;
-      on_demand = (is_strategy c t).0.on_demand;
-      fits = λ j g. (let fit = residents-fit c t j in omega (arith, fit, le));
-    } in
-    let more : strategy_hits t (belady_residents c t) i ≤ belady_hits d t i = optimal d t (belady_residents c t) i wider h in
-    omega (arith, more, hits-are c t i)
+hits_grow c d t i le h = grind (arith, nat_tests, is_strategy c t, residents-fit, optimal, hits-are c t i)
