@@ -42,13 +42,11 @@ taken-set (suc x ∷ ns) (suc p) n lt some = omega (arith, taken-set ns p n (ome
 -- the count after a number came into a cell, which fits 32 bits
 pub taken-after : (homes count before : ℕ) (keys ns : List ℕ) (p n : ℕ) → AreCells homes count keys ns → p < length ns → n ≢ 0
     → before ≡ get_or ns p 0 → count + bool_byte (eqb before 0) ≡ taken (set ns p n)
-taken-after homes count before keys ns p n cells lt some is =
-    rw is (ap (λ m. m + bool_byte (eqb (get_or ns p 0) 0)) cells.counted ∙ sym (taken-set ns p n lt some))
+taken-after homes count before keys ns p n cells lt some is = grind (arith, nat_tests, taken-set ns p n lt some)
 
 pub count-fits : (homes count before : ℕ) (keys ns : List ℕ) (p n : ℕ) → AreCells homes count keys ns → p < length ns → n ≢ 0
     → before ≡ get_or ns p 0 → count + bool_byte (eqb before 0) < 2 ^ 32
-count-fits homes count before keys ns p n cells lt some is =
-    omega (arith, taken-after homes count before keys ns p n cells lt some is, taken-few (set ns p n), length-set ns p n, cells.long, cells.few)
+count-fits homes count before keys ns p n cells lt some is = search (arith, taken-after, before, taken-few, length-set)
 
 taken-zeros : (n : ℕ) → taken (replicate n 0) ≡ 0
 taken-zeros zero = refl
@@ -77,10 +75,7 @@ cells-empty homes len keys numbers k n l few =
 -- no cell has a number for the key
 pub none-below : (keys numbers : List ℕ) (n k : ℕ) → ((q : ℕ) → get_or numbers q 0 ≢ 0 → get_or keys q 0 ≢ k) → number_below keys numbers n k ≡ 0
 none-below keys numbers zero k h = refl
-none-below keys numbers (suc n) k h =
-    let rest = none-below keys numbers n k h in
-    let here = h n in
-    grind (arith, nat_tests, or-tells, rest, here)
+none-below keys numbers (suc n) k h = grind (arith, nat_tests, none-below keys numbers n k h, or-tells)
 
 -- a cell has it, and no other cell has the key
 pub one-below : (keys numbers : List ℕ) (n k p : ℕ) → p < n → get_or numbers p 0 ≢ 0 → get_or keys p 0 ≡ k
@@ -108,11 +103,7 @@ chosen b n other ne = grind (arith, or-tells, ne)
 pub moved-on : (keys numbers : List ℕ) (p k key n new old rest : ℕ) → key ≡ get_or keys p 0 → n ≡ get_or numbers p 0
     → new ≡ number_or (cond (eqb key k) n 0) old → old ≡ number_or (number_below keys numbers p k) rest
     → new ≡ number_or (number_below keys numbers (p + 1) k) rest
-moved-on keys numbers p k key n new old rest its number is before =
-    let on : p + 1 ≡ suc p = omega arith in
-    let at : cond (eqb key k) n 0 ≡ number_at keys numbers p k = λ i. cond (eqb (its i) k) (number i) 0 in
-    is ∙ (λ i. number_or (at i) (before i)) ∙ or-assoc (number_at keys numbers p k) (number_below keys numbers p k) rest
-    ∙ ap (λ m. number_or (number_below keys numbers m k) rest) (sym on)
+moved-on keys numbers p k key n new old rest its number is before = grind (arith, nat_tests, before, or-assoc)
 
 -- ---- where a search ends
 
@@ -123,10 +114,7 @@ pub record IsSearched (homes : ℕ) (keys numbers : List ℕ) (key end place : �
 
 pub searched : (homes : ℕ) (keys numbers ks ns : List ℕ) (key from end place len : ℕ) → ks ≡ keys → ns ≡ numbers → len ≡ length keys
     → from ≡ home homes key → end ≡ min len (from + WINDOW) → IsPlace ks ns from end key place → IsSearched homes keys numbers key end place
-searched homes keys numbers ks ns key from end place len k n l h e f = record {
-  ends = e ∙ (λ i. min (l i) (h i + WINDOW));
-  found = subst (λ x. IsPlace keys numbers x end key place) h (subst (λ x. IsPlace keys x from end key place) n (subst (λ x. IsPlace x ns from end key place) k f));
-}
+searched homes keys numbers ks ns key from end place len k n l h e f = grind (arith, nat_tests, f)
 
 module _ (homes : ℕ) (keys numbers : List ℕ) (key end place : ℕ) (t : IsTable homes keys numbers) (s : IsSearched homes keys numbers key end place) where
   f : IsPlace keys numbers (home homes key) end key place
@@ -137,19 +125,7 @@ module _ (homes : ℕ) (keys numbers : List ℕ) (key end place : ℕ) (t : IsTa
 
   -- the key is in no cell, where the search ended at an empty one or at the end
   pub absent : (place < end → get_or numbers place 0 ≡ 0) → (q : ℕ) → get_or numbers q 0 ≢ 0 → get_or keys q 0 ≢ key
-  absent empty q ne e =
-      let from : home homes key ≤ q = subst (λ x. home homes x ≤ q) e (t.behind q ne) in
-      let near : q < home homes key + WINDOW = subst (λ x. q < home homes x + WINDOW) e (t.near q ne) in
-      let in_it : q < end = least q (omega (arith, within numbers q ne, t.each)) near in
-      elim (cases_lt q place) [
-        | inl less ↦ f.others q from less e
-        | inr le ↦ elim (cases_eq q place) [
-          | inl same ↦ ne (ap (λ i. get_or numbers i 0) same ∙ empty (omega (arith, same, in_it)))
-          | inr other ↦
-              let here : place < end = omega (arith, le, in_it) in
-              t.joined q place ne (subst (λ x. home homes x ≤ place) (sym e) (f.behind here)) (omega (arith, le, other)) (empty here)
-        ]
-      ]
+  absent empty q ne e = grind (arith, nat_tests, least, within numbers q ne, cases_lt q place, cases_eq q place)
 
 -- ---- a key is put where the search ended
 
@@ -181,16 +157,10 @@ module _ (homes : ℕ) (keys numbers : List ℕ) (key number end place : ℕ) (t
 
   -- a cell with the key, before
   alone : (q : ℕ) → get_or numbers q 0 ≢ 0 → get_or keys q 0 ≡ key → q ≡ place
-  alone q ne e =
-      let none = absent homes keys numbers key end place t s in
-      grind (arith, nat_tests, cases_eq (get_or numbers place 0) 0, none, t.once q place ne, g.stops here, ne, e)
+  alone q ne e = search (arith, absent homes keys numbers key end place t s, cases_eq (get_or numbers place 0) 0)
 
   pub before : number_below keys numbers (length keys) key ≡ get_or numbers place 0
-  before =
-      elim (cases_eq (get_or numbers place 0) 0) [
-        | inl z ↦ none-below keys numbers (length keys) key (absent homes keys numbers key end place t s (λ _. z)) ∙ sym z
-        | inr taken ↦ one-below keys numbers (length keys) key place (omega (arith, here, long)) taken (g.stops here taken) alone
-      ]
+  before = grind (arith, nat_tests, cases_eq (get_or numbers place 0) 0, none-below, absent, one-below, long, alone)
 
   taken-still : (q : ℕ) → number ≢ 0 → get_or numbers q 0 ≢ 0 → get_or (set numbers place number) q 0 ≢ 0
   taken-still q some ne e = grind (arith, nat_tests, its-number, other-number q, some, ne, e, cases_eq q place)
@@ -201,11 +171,7 @@ module _ (homes : ℕ) (keys numbers : List ℕ) (key number end place : ℕ) (t
     old : q ≢ place → get_or (set keys place key) q 0 ≡ get_or keys q 0 → get_or numbers q 0 ≢ 0 → Was q
 
   was : (q : ℕ) → get_or (set numbers place number) q 0 ≢ 0 → Was q
-  was q ne =
-      elim (cases_eq q place) [
-        | inl same ↦ its same (ap (λ i. get_or (set keys place key) i 0) same ∙ its-key)
-        | inr other ↦ old other (other-key q other) (λ z. ne (other-number q other ∙ z))
-      ]
+  was q ne = grind (arith, nat_tests, cases_eq q place, its-key, other-key, other-number)
 
   behind2 : (q : ℕ) → Was q → home homes (get_or (set keys place key) q 0) ≤ q
   behind2 q (its same k) = subst (λ x. home homes x ≤ q) (sym k) (subst (λ x. home homes key ≤ x) (sym same) (g.behind here))
@@ -228,29 +194,16 @@ module _ (homes : ℕ) (keys numbers : List ℕ) (key number end place : ℕ) (t
   once2 q r (old a k ne) (old b l ne2) e = t.once q r ne ne2 (sym k ∙ e ∙ l)
 
   pub put-table : number ≢ 0 → IsTable homes (set keys place key) (set numbers place number)
-  put-table some = record {
-    each = length-set numbers place number ∙ t.each ∙ sym (length-set keys place key);
-    behind = λ q ne. behind2 q (was q ne);
-    near = λ q ne. near2 q (was q ne);
-    joined = λ q r ne. joined2 q r some (was q ne);
-    once = λ q r ne ne2. once2 q r (was q ne) (was r ne2);
-  }
+  put-table some = grind (arith, nat_tests, length-set, behind2, was, near, near2, joined2, once2)
 
   at-other : (k : ℕ) → eqb key k ≡ false → (q : ℕ) → number_at (set keys place key) (set numbers place number) q k ≡ number_at keys numbers q k
-  at-other k apart q =
-      let stops : get_or numbers place 0 ≢ 0 → get_or keys place 0 ≡ key = g.stops here in
-      grind (arith, nat_tests, its-key, its-number, other-key q, other-number q, stops, apart, cases_eq q place)
+  at-other k apart q = grind (arith, nat_tests, its-key, its-number, other-key q, other-number q, cases_eq q place)
 
   pub put-updates : number ≢ 0 → (k : ℕ) → number_below (set keys place key) (set numbers place number) (length (set keys place key)) k
       ≡ cond (eqb key k) number (number_below keys numbers (length keys) k)
   put-updates some k =
       let len : length (set keys place key) ≡ length keys = length-set keys place key in
       elim (cases_Bool (eqb key k)) [
-        | inl e ↦
-            let is : key ≡ k = eqb-true key k e in
-            let new = put-table some in
-            rw e (one-below (set keys place key) (set numbers place number) (length (set keys place key)) k place (omega (arith, here, long, len))
-            (λ z. some (sym its-number ∙ z)) (its-key ∙ is)
-            (λ q ne there. new.once q place ne (λ z. some (sym its-number ∙ z)) (there ∙ sym is ∙ sym its-key)) ∙ its-number)
+        | inl e ↦ grind (arith, nat_tests, eqb-true key k e, put-table some, one-below, long, its-number, its-key)
         | inr e ↦ rw (e, len) (same-below keys numbers (set keys place key) (set numbers place number) (length keys) k (at-other k e))
       ]

@@ -1,6 +1,6 @@
 -- A pass over a trace that notes the uses of its keys, from its end or from its start.
 use Rattle.std.proofs.Math.ListN.{length-set}
-use Rattle.std.proofs.Common.{◌≡◌, ◌≢◌, ℕ, suc, ◌+◌, ◌-◌, ◌<◌, Bool, true, false, cond, eqb, nat_eq, Option, Some, List, length, set, get_or, ap, ◌∙◌, sym, refl, arith, inl, inr, get_or-set_other, get_or-set_same}
+use Rattle.std.proofs.Common.{◌≡◌, ◌≢◌, ℕ, suc, ◌+◌, ◌-◌, ◌<◌, Bool, true, false, cond, eqb, nat_eq, Option, Some, List, length, set, get_or, ap, ◌∙◌, sym, refl, arith, get_or-set_other, get_or-set_same}
 use Rattle.std.proofs.lemmas.Bool.{cases_eq}
 use Rattle.std.proofs.lemmas.Bool.Decides.{nat_tests}
 use Rattle.trace_index.specs.Uses.{next_from, next, last_below, number_of}
@@ -13,11 +13,7 @@ set-long rs i r len h = simp length-set h
 
 -- what one place is set to, and what each other has
 pub set-place : (P : ℕ → ℕ → Type 0) (rs : List ℕ) (place r : ℕ) → place < length rs → P place r → (i : ℕ) → (i ≢ place → P i (get_or rs i 0)) → P i (get_or (set rs place r) i 0)
-set-place P rs place r lt p i other =
-    elim (cases_eq i place) [
-      | inl e ↦ rw (e, get_or-set_same) p
-      | inr ne ↦ let n : i ≢ place = ne in rw get_or-set_other (other ne)
-    ]
+set-place P rs place r lt p i other = grind (arith, nat_tests, cases_eq i place, get_or-set_same, get_or-set_other)
 
 -- ---- the numbers of the keys
 
@@ -37,7 +33,4 @@ pub number-back : (t : List ℕ) (len back key r : ℕ) → back < len → key �
 number-back t len back key r b e h = let after : len - back ≡ suc (len - 1 - back) = omega arith in h ∙ rw (after, e) refl
 
 pub last-onward : (t : List ℕ) (place k key v w : ℕ) → key ≡ get_or t place 0 → v ≡ cond (nat_eq key k) (suc place) w → w ≡ number_of (last_below t place k) → v ≡ number_of (last_below t (place + 1) k)
-last-onward t place k key v w e h g =
-    let on : place + 1 ≡ suc place = omega arith in
-    let flip : nat_eq key k ≡ eqb k (get_or t place 0) = rw (← e) (grind (arith, nat_tests)) in
-    rw (h, on, flip, g) (numbered (eqb k (get_or t place 0)) place (last_below t place k))
+last-onward t place k key v w e h g = search (arith, numbered (eqb k (get_or t place 0)) place (last_below t place k))

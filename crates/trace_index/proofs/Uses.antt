@@ -1,5 +1,5 @@
 -- Next uses, from one place to the next.
-use Rattle.std.proofs.Common.{◌≡◌, ℕ, suc, ◌+◌, ◌-◌, ◌<◌, ◌≤◌, true, false, cond, eqb, Option, Some, None, IfSome, List, [], ◌∷◌, length, drop, get_or, ap, ◌∙◌, sym, refl, arith, inl, inr, length-drop, drop-cons}
+use Rattle.std.proofs.Common.{◌≡◌, ℕ, suc, ◌+◌, ◌-◌, ◌<◌, ◌≤◌, true, false, cond, eqb, Option, Some, None, IfSome, List, [], ◌∷◌, length, drop, get_or, ◌∙◌, sym, refl, arith, inl, inr, length-drop, drop-cons}
 use Rattle.std.proofs.lemmas.Bool.{cases_Bool, eqb-true, eq-eqb}
 use Rattle.std.proofs.lemmas.List.{get_or-drop}
 use Rattle.trace_index.specs.Uses.{next_place_in, next_from}
@@ -44,12 +44,7 @@ pub record IsNext (t : List ℕ) (i k n : ℕ) : Type 0 where
   pub there : get_or t n 0 ≡ k
 
 pub next-found : (t : List ℕ) (i k n : ℕ) → i ≤ length t → next_from t i k ≡ Some n → IsNext t i k n
-next-found t i k n le h =
-    let p : IsPlaced i k (drop i t) n = placed i k n (drop i t) h in
-    let f : i ≤ n = p.from in
-    let w : n < i + length (drop i t) = p.to in
-    let at : i + (n - i) ≡ n = omega arith in
-    record { from = f; within = omega (arith, length-drop i t); there = ap (λ j. get_or t j 0) (sym at) ∙ sym (get_or-drop i t (n - i) 0) ∙ p.there }
+next-found t i k n le h = search (arith, placed i k n (drop i t) h, length-drop i t, get_or-drop i t (n - i) 0)
 
 pub next-within : (t : List ℕ) (i k : ℕ) (o : Option ℕ) → i ≤ length t → o ≡ next_from t i k → IfSome o (λ n. n < length t)
 next-within t i k None h e = tt

@@ -1,3 +1,5 @@
+use Rattle.std.proofs.lemmas.Bool.Decides.{nat_tests}
+use Rattle.std.proofs.lemmas.Grind.{common_steps}
 use Rattle.std.proofs.Common.{◌≡◌, ◌≢◌, ◌+◌, ◌<◌, ◌∙◌, ap, sym, arith, length, cond, eqb, subst, set, get_or}
 use Rattle.std.proofs.lemmas.Grind.{get_or_default_zero}
 use mir.Val.{bool_byte}
@@ -8,9 +10,7 @@ use Rattle.trace_index.proofs.key_cells.KeyCells.put.Goals as goal
 use Rattle.trace_index.proofs.key_cells.KeyCells.put.Goals.{After-search-place, After-replace-before}
 
 found : (c : goal.After-search-place) → IsSearched c.self.inside.homes c.self.inside.keys.items c.self.inside.numbers.items c.args.key c.min-end.result c.search-place.result
-found c =
-    searched _ _ _ _ _ _ _ _ _ _ c.deref.ensures.value c.deref-2.ensures.value (omega (arith, c.len.ensures, c.deref.ensures.len, ap length c.deref.ensures.value))
-    c.home_of-home.ensures.home c.min-end.ensures c.search-place.ensures
+found c = grind (arith, nat_tests, searched)
 
 -- the cell that was found, and what it had
 abbrev IsFound : goal.After-replace-before → Type 0
@@ -23,10 +23,7 @@ its-number : (c : goal.After-replace-before) → IsFound c → c.replace-before.
 its-number c its = c.replace-before.ensures.value ∙ c.index_mut-2.ensures.value ∙ get_or_default_zero _ _ _ (here c its)
 
 pub returns-then-place-end-clause-none : goal.returns-then-place-end-clause-none
-returns-then-place-end-clause-none c _ =
-    ap (λ v. number_among v c.args.key) (sym c.self.view_is)
-    ∙ none-below _ _ _ c.args.key (absent _ _ _ _ _ _ c.self.invariant.table (found (goal.at.returns-then-place-end-clause-none c).After-search-place)
-    (λ here. absurd (omega (arith, here, c.if-place-end.true))))
+returns-then-place-end-clause-none c _ = grind (arith, common_steps, none-below, absent, found)
 
 pub invariant_of-self : goal.invariant_of-self
 invariant_of-self c =
@@ -51,10 +48,7 @@ overflow_add-self c =
     record { fits = count-fits _ _ _ _ _ _ _ c.self.invariant (here at its) c.requires (its-number at its) }
 
 pub returns-clause-old : goal.returns-clause-old
-returns-clause-old c =
-    let its = found (goal.at.returns-clause-old c).After-search-place in
-    its-number (goal.at.returns-clause-old c).After-replace-before its
-    ∙ sym (ap (λ v. number_among v c.args.key) (sym c.self.view_is) ∙ before _ _ _ _ 0 _ _ c.self.invariant.table its c.if-place-end.false)
+returns-clause-old c = search (arith, found (goal.at.returns-clause-old c).After-search-place, its-number, before)
 
 pub returns-clause-updates : goal.returns-clause-updates
 returns-clause-updates c k =
