@@ -1,5 +1,6 @@
 -- What an access came to that was accepted, and where it is not.
-use Rattle.std.proofs.Common.{◌≡◌, ℕ, ◌==◌, Bool, true, false, if◌then◌else◌, Option, Some, None, ap, sym, subst, refl}
+use Rattle.std.proofs.lemmas.Bool.Decides.{nat_tests}
+use Rattle.std.proofs.Common.{arith, ◌≡◌, ℕ, ◌==◌, Bool, true, false, if◌then◌else◌, Option, Some, None, ap, sym, subst, refl}
 use Rattle.std.proofs.lemmas.Bool.{eqb-true, eq-eqb}
 use Rattle.step_record.specs.declared.limits.TheConstants.{MAX_STEPS}
 use Rattle.step_record.specs.Limited.{Outcome, limited, lifted, IsAccepted}
@@ -11,9 +12,7 @@ value_or a None = a
 value_or a (Some b) = b
 
 pub accepted-where : {D : Type 0} (taken : Bool) (p : Outcome × D) (o : Outcome) (e : D) → (if taken then Some p else None) ≡ Some (o, e) → IsAccepted p o e
-accepted-where true p o e h =
-    let same : p ≡ (o, e) = ap (value_or p) h in
-    record { outcome = sym (ap (λ x. x.0) same); next = sym (ap (λ x. x.1) same) }
+accepted-where true p o e h = grind (arith, nat_tests)
 accepted-where false p o e h = absurd (cc (h))
 
 accepted-by : {D : Type 0} (refused : Bool) (p : Outcome × D) (o : Outcome) (e : D) → (if refused then None else Some p) ≡ Some (o, e) → IsAccepted p o e

@@ -1,5 +1,5 @@
 -- One bit of a list of words.
-use Rattle.std.proofs.Common.{◌≡◌, ◌≢◌, ℕ, suc, zero, ◌*◌, ◌/◌, ◌%◌, ◌^◌, ◌<◌, Bool, true, false, not, cond, eqb, ◌&&◌, ◌||◌, List, length, get_or, set, replicate, bit_and, bit_or, w64, refl, ap, ◌∙◌, arith, inl, inr}
+use Rattle.std.proofs.Common.{◌≡◌, ◌≢◌, ℕ, suc, zero, ◌*◌, ◌/◌, ◌%◌, ◌^◌, ◌<◌, Bool, true, false, not, cond, eqb, ◌&&◌, ◌||◌, List, length, get_or, set, replicate, bit_and, bit_or, w64, refl, ap, ◌∙◌, arith}
 use Rattle.std.specs.Int.{bit_at, bit_not}
 use Rattle.std.proofs.lemmas.List.{get_or-set_same, get_or-set_other}
 use Rattle.std.proofs.lemmas.Nat.Bits.{bit_at_set_same, bit_at_set_other, bit_at_clear_same, bit_at_clear_other, bit_at-zero}
@@ -11,17 +11,7 @@ use Rattle.step_record.specs.Bits.{bit_of}
 written : (ws : List ℕ) (at y i : ℕ) (v : Bool) → at < 64 * length ws → eqb (bit_at y (at % 64)) 1 ≡ v
     → ((m : ℕ) → m < 64 → m ≢ at % 64 → bit_at y m ≡ bit_at (get_or ws (at / 64) 0) m)
     → bit_of (set ws (at / 64) y) i ≡ cond (eqb i at) v (bit_of ws i)
-written ws at y i v w here other =
-    let in_list : at / 64 < length ws = omega arith in
-    elim (cases_eq i at) as (λ _. bit_of (set ws (at / 64) y) i ≡ cond (eqb i at) v (bit_of ws i)) [
-      | inl e ↦ rw (e, eq-eqb at at refl, get_or-set_same ws (at / 64) y 0 in_list) here
-      | inr d ↦ rw (ne_eqb i at d) (elim (cases_eq (i / 64) (at / 64)) as (λ _. bit_of (set ws (at / 64) y) i ≡ bit_of ws i) [
-        | inl e ↦
-            let m : i % 64 ≢ at % 64 = λ q. d (omega arith) in
-            rw (e, get_or-set_same ws (at / 64) y 0 in_list) (ap (λ b. eqb b 1) (other (i % 64) (omega arith) m))
-        | inr n ↦ rw (get_or-set_other ws (at / 64) (i / 64) y 0 n) refl
-      ])
-    ]
+written ws at y i v w here other = grind (arith, nat_tests, cases_eq, eq-eqb, get_or-set_same, ne_eqb, get_or-set_other)
 
 -- by cases, as sets of numbers say it, of a word that was read
 pub bit_put : (ws : List ℕ) (at x : ℕ) → at < 64 * length ws → x ≡ get_or ws (at / 64) 0 → (i : ℕ)
