@@ -1,5 +1,6 @@
 -- One access to a cache, and undoing it, from what the step and the queues ensure.
-use Rattle.std.proofs.Common.{◌≡◌, ℕ, ◌≤◌, ◌==◌, false, Some, ap, ◌∙◌, sym, subst}
+use Rattle.std.proofs.lemmas.Bool.Decides.{nat_tests}
+use Rattle.std.proofs.Common.{arith, ◌≡◌, ℕ, ◌≤◌, false, Some, ap, ◌∙◌, sym, subst}
 use Rattle.std.proofs.lemmas.Bool.{ne_eqb}
 use Rattle.step_record.specs.declared.limits.TheConstants.{MAX_STEPS}
 use Rattle.step_record.specs.Keys.{has_key}
@@ -13,7 +14,7 @@ use Rattle.queue_moves.specs.Lists.{lists_of, queues_in}
 use Rattle.queue_moves.proofs.Lists.{lists-shown}
 use Rattle.queue_moves.proofs.Tabled.{tabled-all}
 use Rattle.demand_cache.specs.DemandQueues.{DemandPolicy, Moves, DemandQueues, plan_by, residents_by, queues_residents, IsStateOf, IsQueues, QueuesFits, queues_act, queues_record_of, queues_undone}
-use Rattle.demand_cache.specs.DemandCache.{Stats, DemandState, state_with, demand_act, IsCountedBy}
+use Rattle.demand_cache.specs.DemandCache.{Stats, DemandState, demand_act, IsCountedBy}
 use Rattle.demand_cache.specs.Theorems.{PagesAreSound}
 use Rattle.demand_cache.proofs.Keeping.{IsKept, kept, is-cache, cache_of}
 
@@ -41,11 +42,7 @@ module _ (all : PagesAreSound) (p : DemandPolicy) (c x : ℕ) (s : Queues) (t : 
       act_on v = (outcome_of (plan_by p c k x v) v, cache_of p c (plan_by p c k x v).scalar (after_all (plan_by p c k x v) (item_of k) v))
 
       pub act-is : queues_act k (cache_of p c x s) ≡ (o, cache_of p c y u)
-      act-is =
-          ap act_on (lists-shown s t)
-          ∙ ap (λ o. (o, cache_of p c (plan_by p c k x s).scalar (after_all (plan_by p c k x s) (item_of k) s))) (sym a.outcome)
-          ∙ ap (λ y. (o, cache_of p c y (after_all (plan_by p c k x s) (item_of k) s))) (sym a.scalar)
-          ∙ ap (λ v. (o, cache_of p c y v)) (sym a.after)
+      act-is = cc (lists-shown s t)
 
     module _ (u : Queues) (r : Accessed) (a : IsAccessed (plan_by p c k x s) (item_of k) x s u r) where
       counted : IsCountedBy (plan_by p c k x s) (item_of k) s u r.outcome r.scalar
@@ -64,10 +61,7 @@ module _ (all : PagesAreSound) (p : DemandPolicy) (c x : ℕ) (s : Queues) (t : 
       record-is = a.carried.is ∙ sym (ap (λ v. record_of (plan_by p c k x v) (item_of k) x v) (lists-shown s t))
 
       pub undone-is : queues_undone r.moves (cache_of p c r.scalar u) ≡ cache_of p c x s
-      undone-is =
-          ap (λ v. cache_of p c r.moves.scalar (before_all r.moves v)) (lists-shown u next-tabled)
-          ∙ ap (cache_of p c r.moves.scalar) a.carried.undone
-          ∙ ap (λ y. cache_of p c y s) (ap (λ (m : Moves). m.scalar) a.carried.is)
+      undone-is = search (arith, lists-shown u next-tabled, next-tabled)
 
       pub record-fits : QueuesFits r.moves (cache_of p c r.scalar u)
       record-fits = record {
@@ -79,9 +73,7 @@ module _ (all : PagesAreSound) (p : DemandPolicy) (c x : ℕ) (s : Queues) (t : 
 
 pub accepts : (d : DemandState) (k : ℕ) (o : Outcome) (q : DemandQueues) (stats : Stats) → (d.stats.accesses ≡ MAX_STEPS → ⊥) → queues_act k d.queues ≡ (o, q)
     → stats ≡ stats_with o d.stats → demand_act d k ≡ Some (o, record { queues = q; stats = stats })
-accepts d k o q stats h a e =
-    let f : (d.stats.accesses == MAX_STEPS) ≡ false = ne_eqb d.stats.accesses MAX_STEPS h in
-    rw f (ap (λ v. Some (v.0, state_with d.stats v)) a ∙ ap (λ (y : Stats). Some (o, record { queues = q; stats = y })) (sym e))
+accepts d k o q stats h a e = grind (arith, nat_tests, ne_eqb d.stats.accesses MAX_STEPS h)
 
 -- undoing, from the queues that a table has
 module _ (p : DemandPolicy) (c x : ℕ) (s u : Queues) (t : IsTabled s) (r : Moves) (done : u ≡ before_all r s) where

@@ -1,4 +1,5 @@
 -- An access by any policy's plan is that of its definition, so what holds of the definition holds of it.
+use Rattle.std.proofs.lemmas.Bool.Decides.{nat_tests}
 use Rattle.std.proofs.Common.{◌≡◌, ℕ, ◌≤◌, Option, [], List, ◌∷◌, ap, ◌∙◌, sym, subst, refl, arith}
 use Rattle.step_record.specs.Keys.{has_key}
 use Rattle.queue_table.specs.Queues.{Queues, empty_queues}
@@ -54,29 +55,20 @@ abbrev pub cache_of : DemandPolicy → ℕ → ℕ → Queues → DemandQueues
 cache_of p c x s = record { policy = p; capacity = c; scalar = x; lists = lists_of s }
 
 pub is-cache : (p : DemandPolicy) (c x : ℕ) (s : Queues) → 1 ≤ c → IsTabled s → IsStateOf p c x s → IsQueues c (cache_of p c x s)
-is-cache p c x s h t i =
-    let same = sym (lists-shown s t) in
-    record { least = h; capacity = refl; tabled = subst IsTabled same t; state = subst (IsStateOf p c x) same i }
+is-cache p c x s h t i = search (arith, lists-shown s t)
 
 pub kept-of : PagesAreSound → (c k : ℕ) (d : DemandQueues) → 1 ≤ c → IsQueues c d → IsKept d.policy d.capacity k d.scalar (queues_of d) (plan_of k d)
-kept-of all c k d h i =
-    let same : d.capacity ≡ c = i.capacity in
-    kept all d.policy d.capacity k d.scalar (queues_of d) (omega (arith, h, same)) i.tabled (subst (λ y. IsStateOf d.policy y d.scalar (queues_of d)) (sym same) i.state)
+kept-of all c k d h i = grind (arith, nat_tests, kept)
 
 next-tabled : PagesAreSound → (c k : ℕ) (d : DemandQueues) → 1 ≤ c → IsQueues c d → IsTabled (after_all (plan_of k d) (item_of k) (queues_of d))
 next-tabled all c k d h i = tabled-all (queues_of d) i.tabled (plan_of k d) (kept-of all c k d h i).low k
 
 pub next-keeps : PagesAreSound → (c : ℕ) → 1 ≤ c → (k : ℕ) (d : DemandQueues) → IsQueues c d → IsQueues c (queues_act k d).1
-next-keeps all c h k d i =
-    subst (λ y. IsQueues y (queues_act k d).1) i.capacity
-    (is-cache d.policy d.capacity (plan_of k d).scalar (after_all (plan_of k d) (item_of k) (queues_of d)) (let same = i.capacity in omega (arith, h, same)) (next-tabled all c k d h i) (kept-of all c k d h i).state)
+next-keeps all c h k d i = search (arith, is-cache, next-tabled all c k d h i, kept-of all c k d h i)
 
 next-accesses : PagesAreSound → (c : ℕ) → 1 ≤ c → (k : ℕ) (d : DemandQueues) → IsQueues c d
     → IsAccess c k (queues_residents d) (queues_act k d).0 (queues_residents (queues_act k d).1)
-next-accesses all c h k d i =
-    subst (λ y. IsAccess y k (queues_residents d) (queues_act k d).0 (queues_residents (queues_act k d).1)) i.capacity
-    (subst (λ s. IsAccess d.capacity k (queues_residents d) (queues_act k d).0 (residents_by d.policy (plan_of k d).scalar s)) (sym (lists-shown _ (next-tabled all c k d h i)))
-    (kept-of all c k d h i).access)
+next-accesses all c h k d i = search (arith, lists-shown, next-tabled all c k d h i, kept-of all c k d h i)
 
 empty-tabled : IsTabled empty_queues
 empty-tabled = record { keys = λ q. refl; distinct = λ i. omega arith; high = λ q w. refl }
@@ -103,8 +95,7 @@ demand-keeps all p c h = record {
 
 pub residents-shown : (p : DemandPolicy) (c x : ℕ) (s : Queues) → IsTabled s → (r : ℕ × Option ℕ) → r ≡ (page_of p).resident_queues x
     → queues_residents (cache_of p c x s) ≡ keys_with (keys_of (s r.0)) r.1 s
-residents-shown p c x s t r h =
-    ap (residents_by p x) (lists-shown s t) ∙ (pages-sound p).residents x s ∙ ap (λ q. keys_with (keys_of (s q.0)) q.1 s) (sym h)
+residents-shown p c x s t r h = grind (arith, nat_tests, lists-shown s t, pages-sound p)
 
 -- ---- the outcomes are those of the definition
 

@@ -1,7 +1,8 @@
-use Rattle.std.proofs.Common.{◌∙◌, rules, ap, sym, subst}
+use Rattle.std.proofs.lemmas.Bool.Decides.{nat_tests}
+use Rattle.std.proofs.Common.{arith, ◌∙◌, ap, sym, subst}
 use Rattle.queue_table.specs.QueueTable.{queues}
 use Rattle.queue_moves.specs.Lists.{lists_of}
-use Rattle.demand_cache.specs.DemandQueues.{DemandQueues, IsQueues, queues_undone}
+use Rattle.demand_cache.specs.DemandQueues.{DemandQueues, queues_undone}
 use Rattle.demand_cache.specs.DemandCache.{DemandState, IsDemand, state_of, demand_undone, DemandFits}
 use Rattle.demand_cache.proofs.Engine.{undone-shown, moves-fit}
 use Rattle.demand_cache.proofs.demand_cache.DemandCacheEngine.undo.Goals as goal
@@ -19,12 +20,7 @@ pub invariant_of-self-in-Ok : goal.invariant_of-self-in-Ok
 invariant_of-self-in-Ok c =
     let f : DemandFits c.args.done (state_of c.self.inside.policy c.self.inside.capacity c.self.inside.scalar (lists_of (queues c.self.inside.queues)) c.self.inside.stats) =
     subst (λ (d : DemandState). DemandFits c.args.done d) (sym c.self.view_is) c.requires in
-    record {
-      least = c.self.invariant.least;
-      most = c.self.invariant.most;
-      queues = subst (IsQueues c.self.inside.capacity) (sym (undone-shown c.self.inside.policy c.self.inside.capacity c.self.inside.scalar (queues c.self.inside.queues) (queues c.undo.new.self) c.tabled.ensures c.args.done.moves c.in-Ok.ensures.ok)) f.queues.before;
-      counts = (let t = f.counts in search rules);
-    }
+    grind (arith, nat_tests, undone-shown c.self.inside.policy c.self.inside.capacity c.self.inside.scalar (queues c.self.inside.queues) (queues c.undo.new.self) c.tabled.ensures c.args.done.moves c.in-Ok.ensures.ok)
 
 pub returns-in-Err-clause-err : goal.returns-in-Err-clause-err
 returns-in-Err-clause-err c =
