@@ -74,11 +74,7 @@ module _ (c k : ℕ) (h : 1 ≤ c) (s : ArcState) (i : IsArc c s) where
     joined : (g : ArcGhost) (o : Outcome) (d : ArcState) → ((x : ℕ) → times x s.t1 + times x s.t2 + times x s.b1 + times x s.b2 + if_new g (one_if (eqb x k)) ≤ 1)
         → HasRoom c k g s o d → IsNext c k s (o, arc_after_join g k d)
     joined g o d once r =
-        let t : ArcState = arc_after_join g k d in
-        let j = joining (λ _. 1) k g d in
-        let a = miss-moves c k (arc_residents s) (arc_residents t) o (has-append k s.t1 s.t2 ∙ rw (no_t1, no_t2) refl) r.misses r.keeps r.evicts
-        (λ f. omega (arith, r.moves f, (joining f k g d).both, weight-append f)) in
-        grind (arith, nat_tests, length-append t.t1 t.t2, length-weight, joining, once, times-weight)
+        search (arith, joining, miss-moves, has-append, weight-append, length-append, length-weight, once, times-weight)
 
     full-evicts : c ≤ length s.t1 + length s.t2 → true ≡ cond (nat_lt (length (arc_residents s)) c) false true
     full-evicts m = rw (le-ltb (length (arc_residents s)) c (omega (arith, m, length-append s.t1 s.t2))) refl
