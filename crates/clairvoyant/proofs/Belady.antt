@@ -66,9 +66,6 @@ evicted-length k v r s e there = omega (arith, length-without v (residents_with 
 pub full-length : (t : List ℕ) (i k : ℕ) (r : List ℕ) → IsAscendingKeys r → has_key k r ≡ false → length (keys_without (farthest t i k r) (residents_with k r)) ≡ length r
 full-length t i k r s e = evicted-length k (farthest t i k r) r s e (farthest-in t i k r)
 
-in-full : (k v : ℕ) (r : List ℕ) → has_key v r ≡ true → has_key v (residents_with k r) ≡ true
-in-full k v r g = has-put v k r ∙ later v k r g
-
 module _ {c : ℕ} {t : List ℕ} {i k : ℕ} {r : List ℕ} where
   stays-ascending : {d : OptimalRecord} {o : Outcome} {l : List ℕ} → Accesses c t i k r d o l → IsAscendingKeys r → IsAscendingKeys l
   stays-ascending (hit e) s = s
@@ -86,13 +83,13 @@ module _ {c : ℕ} {t : List ℕ} {i k : ℕ} {r : List ℕ} where
   access-counts (hit e) s = refl
   access-counts (kept e f) s = omega (arith, length-put k r)
   access-counts (rejected e) s = refl
-  access-counts (evicted v e g) s = omega (arith, evicted-length k v r s e (in-full k v r g))
+  access-counts (evicted v e g) s = omega (arith, evicted-length k v r s e (has-put v k r ∙ later v k r g))
 
   stays-within : {d : OptimalRecord} {o : Outcome} {l : List ℕ} → Accesses c t i k r d o l → IsAscendingKeys r → length r ≤ c → length l ≤ c
   stays-within (hit e) s h = h
   stays-within (kept e f) s h = omega (arith, f, length-put k r)
   stays-within (rejected e) s h = h
-  stays-within (evicted v e g) s h = omega (arith, h, evicted-length k v r s e (in-full k v r g))
+  stays-within (evicted v e g) s h = omega (arith, h, evicted-length k v r s e (has-put v k r ∙ later v k r g))
 
   hits-by : {d : OptimalRecord} {o : Outcome} {l : List ℕ} → Accesses c t i k r d o l → is_hit o ≡ has_key k r
   hits-by (hit e) = sym e
@@ -128,12 +125,11 @@ module _ (c : ℕ) (t : List ℕ) where
 farthest-least : (t : List ℕ) (i b : ℕ) (l : List ℕ) → i < length t → ((a : ℕ) → has_key a (b ∷ l) ≡ true → IsSeen t (suc i) a) → (x : ℕ) → has_key x (b ∷ l) ≡ true → rank t (suc i) (farthest t i b l) ≤ rank t (suc i) x
 farthest-least t i b [] h seen x g = let same : b ≡ x = grind (arith, nat_tests, g) in rw same (omega arith)
 farthest-least t i b (a ∷ l) h seen x g =
-    let here : eqb a a ≡ true = eq-eqb a a refl in
-    let own : eqb b b ≡ true = eq-eqb b b refl in
-    let test : leaves_first t i a b ≡ nat_lt (rank t (suc i) a) (rank t (suc i) b) = leaves-rank t i a b h (seen a (grind (arith, here))) (seen b (grind (arith, own))) in
+        let own : eqb b b ≡ true = eq-eqb b b refl in
+    let test : leaves_first t i a b ≡ nat_lt (rank t (suc i) a) (rank t (suc i) b) = leaves-rank t i a b h (seen a (grind arith)) (seen b (grind (arith, own))) in
     let one = farthest-least t i a l h (λ y k. seen y (later y b (a ∷ l) k)) in
     let other = farthest-least t i b l h (λ y k. seen y (grind (arith, k))) in
-    let near = one a (grind (arith, here)) in
+    let near = one a (grind arith) in
     let far = other b (grind (arith, own)) in
     grind (arith, nat_tests, test, near, far, one x, other x, g, cases_eq x a, cases_eq x b)
 

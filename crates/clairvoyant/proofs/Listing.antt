@@ -49,9 +49,6 @@ found k (x ∷ xs) h P all =
 own : (x : ℕ) (xs : List ℕ) → 0 < times x (x ∷ xs)
 own x xs = omega (arith, ap one_if (eq-eqb x x refl))
 
-low-sorted : (x : ℕ) (xs : List ℕ) → IsNonDecreasing (x ∷ xs) → (k : ℕ) → 0 < times k (x ∷ xs) → x ≤ k
-low-sorted x xs up k h = found k (x ∷ xs) h (λ y. x ≤ y) (λ j lt. up 0 j 0 (omega arith) lt)
-
 low-ascending : (r : ℕ) (rs : List ℕ) → IsAscendingKeys (r ∷ rs) → (k : ℕ) → 0 < times k (r ∷ rs) → r ≤ k
 low-ascending r rs s k h = grind (arith, nat_tests, times-has k rs s.1, below-has r k rs s.0)
 
@@ -62,7 +59,7 @@ same-list [] (r ∷ rs) up s e = absurd (omega (arith, own r rs, e r))
 same-list (x ∷ xs) [] up s e = absurd (omega (arith, own x xs, e x))
 same-list (x ∷ xs) (r ∷ rs) up s e =
     let down : r ≤ x = low-ascending r rs s x (omega (arith, own x xs, e x)) in
-    let high : x ≤ r = low-sorted x xs up r (omega (arith, own r rs, e r)) in
+    let high : x ≤ r = (found r (x ∷ xs) (omega (arith, own r rs, e r)) (λ y. x ≤ y) (λ j lt. up 0 j 0 (omega arith) lt)) in
     let head : x ≡ r = omega (arith, down, high) in
     let rest : (k : ℕ) → times k xs ≡ times k rs = λ k. omega (arith, e k, ap (λ y. one_if (eqb k y)) head) in
     let tail : xs ≡ rs = same-list xs rs (λ i j d le lt. up (suc i) (suc j) d (omega (arith, le)) (omega (arith, lt))) s.1 rest in
@@ -75,9 +72,6 @@ abbrev pub is_listed : List ℕ → ℕ → List ℕ → ℕ → ℕ → Bool
 is_listed t i r q k = has_key k r && nat_lt (rank t i k) q
 
 module _ (t : List ℕ) (i : ℕ) (r : List ℕ) (le : i ≤ length t) (seen : (x : ℕ) → has_key x r ≡ true → IsSeen t i x) where
-  listed-all : (k : ℕ) → is_listed t i r (2 * length t) k ≡ has_key k r
-  listed-all k = let within : has_key k r ≡ true → rank t i k < 2 * length t = λ e. (named t i k le (seen k e)).within in grind (arith, nat_tests, within)
-
   module _ (h : List Bool) (tied : IsTied t i r h) (q : ℕ) (lt : q < 2 * length t) where
     -- the rank q is of its key
     own-rank : (k : ℕ) → (has_key k r && eqb (rank t i k) q) ≡ (eqb k (key_at t q) && is_in_set h q)
@@ -95,4 +89,4 @@ module _ (t : List ℕ) (i : ℕ) (r : List ℕ) (le : i ≤ length t) (seen : (
 
 pub listed-residents : (c : ℕ) (t : List ℕ) (i : ℕ) (keys sorted : List ℕ) → i ≤ length t → ((k : ℕ) → times k keys ≡ one_if (is_listed t i (belady_residents c t i) (2 * length t) k)) → IsPermutation keys sorted → IsNonDecreasing sorted → sorted ≡ belady_residents c t i
 listed-residents c t i keys sorted le all moved up =
-    search (arith, residents-ascending c t i, same-list, times-moved, listed-all, residents-seen c t i, times-has)
+    search (arith, residents-ascending c t i, same-list, times-moved, residents-seen c t i, times-has)

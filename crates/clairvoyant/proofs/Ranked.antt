@@ -23,14 +23,11 @@ more-there m k s more = more.has k ∙ ap (λ b. cond b true (has_key k m)) (eq-
 fewer : (m : List ℕ) (k : ℕ) (s : List ℕ) → IsMore m k s → (x : ℕ) → has_key x m ≡ cond (eqb x k) false (has_key x s)
 fewer m k s more x = grind (arith, nat_tests, more.has x, more.new, cases_eq x k)
 
-gone : (k : ℕ) (r : List ℕ) → has_key k (keys_without k r) ≡ false
-gone k r = has-without k k r ∙ ap (λ b. cond b false (has_key k r)) (eq-eqb k k refl)
-
 pub with-more : (k : ℕ) (r : List ℕ) → has_key k r ≡ false → IsMore r k (residents_with k r)
 with-more k r none = record { new = none; has = λ x. has-put x k r }
 
 pub without-more : (k : ℕ) (r : List ℕ) → has_key k r ≡ true → IsMore (keys_without k r) k r
-without-more k r there = grind (arith, nat_tests, gone k r, has-without, cases_eq)
+without-more k r there = grind (arith, nat_tests, has-without, cases_eq)
 
 -- k came and v left
 pub swap-more : (k v : ℕ) (r : List ℕ) → has_key k r ≡ false → has_key v r ≡ true → IsMore (keys_without v r) k (keys_without v (residents_with k r))

@@ -10,9 +10,6 @@ use Rattle.trace_index.proofs.Uses.{next-found, next-own, next-other, next-withi
 pub rank-own : (t : List ℕ) (i : ℕ) → i < length t → rank t i (get_or t i 0) ≡ 2 * length t - 1 - i
 rank-own t i h = rw (next-own t i h) refl
 
-pub key-own : (t : List ℕ) (i : ℕ) → i < length t → key_at t (2 * length t - 1 - i) ≡ get_or t i 0
-key-own t i lt = grind (arith, nat_tests, le-ltb (2 * length t - 1 - i) (length t) (omega arith))
-
 pub rank-other : (t : List ℕ) (i x : ℕ) → i < length t → eqb x (get_or t i 0) ≡ false → rank t (suc i) x ≡ rank t i x
 rank-other t i x h e = rw (e, next-other t i x h e) refl
 

@@ -1,21 +1,16 @@
 -- What the first accesses of a trace give, one access further.
 use Rattle.std.proofs.lemmas.Bool.Decides.{nat_tests}
-use Rattle.std.proofs.Common.{◌≡◌, ℕ, suc, zero, ◌+◌, ◌<◌, ◌≤◌, true, Some, List, length, get_or, ap, refl, arith, add-one}
-use Rattle.std.proofs.lemmas.Bool.{eq-eqb, lt-ltb}
+use Rattle.std.proofs.Common.{◌≡◌, ℕ, suc, zero, ◌+◌, ◌<◌, ◌≤◌, Some, List, length, get_or, ap, refl, arith, add-one}
 use Rattle.step_record.specs.declared.limits.TheConstants.{MAX_STEPS}
-use Rattle.step_record.specs.Stats.{stats_with, stats_without, IsCounted, stats_of}
+use Rattle.step_record.specs.Stats.{stats_with, IsCounted, stats_of}
 use Rattle.step_record.proofs.Counting.{stats-snoc}
 use Rattle.clairvoyant.specs.Belady.{Outcome, belady_residents, belady_outcome, belady_outcomes}
-use Rattle.clairvoyant.specs.Clairvoyant.{Stats, IsBeladyReached, clairvoyant_act, is_next}
+use Rattle.clairvoyant.specs.Clairvoyant.{Stats, IsBeladyReached, clairvoyant_act}
 use Rattle.clairvoyant.specs.Representation.{shown}
 use Rattle.clairvoyant.proofs.Belady.{accesses, access-counts, residents-ascending}
 
--- the counts after one access more
-pub stats-next : (c : ℕ) (t : List ℕ) (s : Stats) → s ≡ stats_of (belady_outcomes c t s.accesses) → stats_with (belady_outcome c t s.accesses) s ≡ stats_of (belady_outcomes c t (s.accesses + 1))
-stats-next c t s e = grind (arith, nat_tests, stats-snoc, add-one)
-
 pub reached-next : (c : ℕ) (t : List ℕ) (s : Stats) → s.accesses < length t → IsBeladyReached (shown c t s) → IsBeladyReached (shown c t (stats_with (belady_outcome c t s.accesses) s))
-reached-next c t s lt r = grind (arith, nat_tests, stats-next)
+reached-next c t s lt r = grind (arith, nat_tests, stats-snoc, add-one)
 
 -- ---- residents are the misses minus the evictions
 
@@ -31,15 +26,8 @@ reached-held c t s r = grind (arith, nat_tests, held-count c t s.accesses)
 
 -- ---- steps
 
-now-holds : (c : ℕ) (t : List ℕ) (s : Stats) (k : ℕ) → s.accesses < length t → length t ≤ MAX_STEPS → k ≡ get_or t s.accesses 0 → is_next (shown c t s) k ≡ true
-now-holds c t s k lt few e =
-    cc (lt-ltb s.accesses MAX_STEPS (omega arith), lt-ltb s.accesses (length t) lt, eq-eqb k (get_or t s.accesses 0) e)
-
 pub act-next : (c : ℕ) (t : List ℕ) (s : Stats) (k : ℕ) (o : Outcome) → s.accesses < length t → length t ≤ MAX_STEPS → k ≡ get_or t s.accesses 0 → o ≡ belady_outcome c t s.accesses → clairvoyant_act (shown c t s) k ≡ Some (o, shown c t (stats_with o s))
-act-next c t s k o lt few e f = grind (arith, nat_tests, now-holds c t s k lt few e, add-one s.accesses)
-
-pub uncount : (o : Outcome) (s : Stats) → stats_without o (stats_with o s) ≡ s
-uncount o s = grind (arith, nat_tests)
+act-next c t s k o lt few e f = grind (arith, nat_tests, add-one s.accesses)
 
 pub is-counted : (o : Outcome) (s : Stats) → IsCounted o (stats_with o s)
 is-counted o s = record { accesses = omega arith; hits = omega arith; misses = omega arith; evictions = omega arith; rejections = omega arith }

@@ -9,7 +9,7 @@ use Rattle.clairvoyant.specs.Ranks.{rank, key_at}
 use Rattle.clairvoyant.specs.Belady.{farthest, belady_residents}
 use Rattle.clairvoyant.specs.Bits.{is_in_set}
 use Rattle.clairvoyant.specs.RankSet.{IsTied}
-use Rattle.clairvoyant.proofs.Ranking.{IsSeen, seen-own, seen-more, IsNamed, named, key-own, rank-own, rank-other}
+use Rattle.clairvoyant.proofs.Ranking.{IsSeen, seen-own, seen-more, IsNamed, named, rank-own, rank-other}
 use Rattle.clairvoyant.proofs.Belady.{residents-seen, farthest-is}
 use Rattle.clairvoyant.proofs.Records.{Stands, hit-mores, kept-more, evicted-mores, rejected-same}
 use Rattle.clairvoyant.proofs.Ranked.{IsMore, IsEdited, more-there, tied-put, tied-taken, tied-on, tied-back}
@@ -88,7 +88,7 @@ module _ (c : ℕ) (t : List ℕ) (i : ℕ) (lt : i < length t) where
 
     -- the key is a resident where the rank that it has now is held
     pub tested : (b : Bool) (own : ℕ) → own ≡ 2 * length t - 1 - i → b ≡ is_in_set h own → has_key key before ≡ b
-    tested b own e f = grind (arith, nat_tests, held-at, key-own, rank-own)
+    tested b own e f = grind (arith, nat_tests, held-at, rank-own)
 
     module _ (none : has_key key before ≡ false) (new : ℕ) (is : new ≡ rank t (suc i) key) where
       -- none of the residents and the key ranks below m where nothing below m is held

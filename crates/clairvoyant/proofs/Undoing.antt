@@ -9,7 +9,7 @@ use Rattle.clairvoyant.specs.Clairvoyant.{Stats, ClairvoyantState, IsBeladyReach
 use Rattle.clairvoyant.specs.OptimalRecord.{OptimalRecord, outcome_of, clairvoyant_undone, ClairvoyantFits}
 use Rattle.clairvoyant.specs.Representation.{shown, IsRepresented}
 use Rattle.clairvoyant.proofs.Records.{outcome-is}
-use Rattle.clairvoyant.proofs.Reached.{uncount, is-counted}
+use Rattle.clairvoyant.proofs.Reached.{is-counted}
 use Rattle.clairvoyant.proofs.Applying.{next-undone}
 
 module _ (c : ℕ) (t : List ℕ) (s : Stats) (r : OptimalRecord) (d : ClairvoyantState) (view : shown c t s ≡ d) (reached : IsBeladyReached (shown c t s)) (fits : ClairvoyantFits r d) where
@@ -29,18 +29,15 @@ module _ (c : ℕ) (t : List ℕ) (s : Stats) (r : OptimalRecord) (d : Clairvoya
   place : past.accesses ≡ s.accesses - 1
   place = omega (arith, ap (λ x. x.accesses) now)
 
-  before : IsBeladyReached (shown c t past)
-  before = grind (arith, nat_tests, place)
-
   pub back-counted : IsCounted (outcome_of r) s
   back-counted = subst (IsCounted (outcome_of r)) (sym now) (is-counted (outcome_of r) past)
 
   module _ (u : Stats) (is : u ≡ stats_without (outcome_of r) s) where
     same : u ≡ past
-    same = is ∙ ap (stats_without (outcome_of r)) now ∙ uncount (outcome_of r) past
+    same = is ∙ ap (stats_without (outcome_of r)) now ∙ (grind (arith, nat_tests))
 
     pub back-shown : shown c t u ≡ clairvoyant_undone r d
-    back-shown = grind (arith, nat_tests, same, next-undone, place, up, before, now)
+    back-shown = grind (arith, nat_tests, same, next-undone, place, up, now)
 
     pub back-keeping : (h : List Bool) → IsTied t (s.accesses - 1) (belady_residents c t (s.accesses - 1)) h → IsRepresented c t u h
-    back-keeping h tied = grind (arith, nat_tests, same, before, place)
+    back-keeping h tied = grind (arith, nat_tests, same, place)

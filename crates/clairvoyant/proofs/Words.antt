@@ -1,11 +1,10 @@
 -- One bit of a layer of words, and the layer above.
-use Rattle.std.proofs.Common.{◌≡◌, ℕ, ◌+◌, ◌*◌, ◌/◌, ◌%◌, ◌^◌, ◌<◌, Bool, true, false, not, eqb, List, length, get_or, set, arith, bit_or, w64}
+use Rattle.std.proofs.Common.{◌≡◌, ℕ, ◌+◌, ◌*◌, ◌%◌, ◌^◌, ◌<◌, Bool, true, false, not, eqb, List, length, get_or, arith, bit_or, w64}
 use Rattle.std.specs.Int.{bit_at}
-use Rattle.std.proofs.Math.ListN.{length-set}
-use Rattle.std.proofs.lemmas.Bool.{cases_eq, eq-eqb, ne_eqb}
+use Rattle.std.proofs.lemmas.Bool.{eq-eqb, ne_eqb}
 use Rattle.std.proofs.lemmas.Bool.Decides.{nat_tests}
 use Rattle.std.proofs.lemmas.Nat.Bits.{bit_at_set_same, bit_at-zero}
-use Rattle.std.proofs.lemmas.List.{get_or_past, get_or-set_other, get_or-set_same}
+use Rattle.std.proofs.lemmas.List.{get_or_past}
 use Rattle.step_record.specs.Bits.{bit_of}
 use Rattle.clairvoyant.specs.Bits.{IsBitLayer}
 
@@ -17,25 +16,12 @@ set-some y q = grind (arith, nat_tests, ne_eqb, bit_at_set_same w64 y (q % 64) (
 pub above-some : (b : Bool) (x : ℕ) → b ≡ true → b ≡ not (eqb x 0) → 0 < x
 above-some b x e f = grind (arith, nat_tests)
 
-pub above-none : (b : Bool) (x : ℕ) → b ≡ false → b ≡ not (eqb x 0) → x ≡ 0
-above-none b x e f = grind (arith, nat_tests)
-
 module _ (ws : List ℕ) (w x tz : ℕ) (in_it : w < length ws) (read : x ≡ get_or ws w 0) (small : tz < 64) where
-  place-word : (64 * w + tz) / 64 ≡ w
-  place-word = omega arith
-
   place-bit : (64 * w + tz) % 64 ≡ tz
   place-bit = omega arith
 
   pub least-held : bit_at x tz ≡ 1 → bit_of ws (64 * w + tz) ≡ true
-  least-held one = grind (arith, nat_tests, place-word, place-bit, eq-eqb (bit_at x tz) 1 one)
-
-  pub none-held : ((i : ℕ) → i < tz → bit_at x i ≡ 0) → ((v : ℕ) → v < w → get_or ws v 0 ≡ 0) → (q : ℕ) → q < 64 * w + tz → bit_of ws q ≡ false
-  none-held low past q lt = grind (arith, nat_tests, cases_eq (q / 64) w, bit_at-zero (q % 64))
-
-pub above-still : (ws : List ℕ) (n : ℕ) (held : ℕ → Bool) (j x : ℕ) → IsBitLayer ws n held → j < length ws → eqb x 0 ≡ eqb (get_or ws j 0) 0 → IsBitLayer (set ws j x) n held
-above-still ws n held j x up within same =
-    grind (arith, nat_tests, length-set ws j x, get_or-set_same ws j x 0 within, get_or-set_other, cases_eq)
+  least-held one = grind (arith, nat_tests, place-bit, eq-eqb (bit_at x tz) 1 one)
 
 -- where the layer above holds a place, there is a word there
 pub word-there : (ws : List ℕ) (n : ℕ) (held : ℕ → Bool) (w : ℕ) → IsBitLayer ws n held → held w ≡ true → w < length ws

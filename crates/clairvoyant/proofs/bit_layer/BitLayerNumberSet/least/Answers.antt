@@ -2,9 +2,10 @@ use Rattle.std.proofs.lemmas.Bool.Decides.{nat_tests}
 use Rattle.std.proofs.lemmas.Grind.{common_steps}
 use Rattle.std.proofs.Common.{◌≡◌, ◌<◌, ◌^◌, length, get_or, arith, w64}
 use Rattle.std.proofs.lemmas.List.{get_or_read}
-use Rattle.std.proofs.lemmas.Nat.Bits.{bit_at-trailing_zeros}
-use Rattle.clairvoyant.proofs.Words.{above-some, above-none, word-there, least-held, none-held}
+use Rattle.std.proofs.lemmas.Nat.Bits.{bit_at-trailing_zeros, bit_at-zero}
+use Rattle.clairvoyant.proofs.Words.{above-some, word-there, least-held}
 use Rattle.clairvoyant.proofs.bit_layer.BitLayerNumberSet.least.Goals as goal
+use Rattle.std.proofs.lemmas.Bool.{cases_eq}
 
 pub returns-in-Some : goal.returns-in-Some
 returns-in-Some g c =
@@ -17,7 +18,7 @@ returns-in-Some g c =
     let read : x ≡ get_or ws w 0 = get_or_read ws _ _ in_it c.index.ensures 0 in
     let fits : x < 2 ^ 64 = omega arith in
     let some : 0 < x = rw read (above-some _ (get_or ws w 0) e.1 (up.some w)) in
-    let low = bit_at-trailing_zeros w64 x some fits in grind (arith, nat_tests, least-held, none-held, above-none)
+    let low = bit_at-trailing_zeros w64 x some fits in grind (arith, nat_tests, least-held, cases_eq, bit_at-zero)
 
 pub index-requires : goal.index-requires
 index-requires g c = grind (arith, common_steps)

@@ -3,7 +3,7 @@ use Rattle.std.proofs.lemmas.Grind.{common_steps}
 use Rattle.std.proofs.Common.{◌∙◌, sym, ap, arith}
 use Rattle.step_record.specs.Stats.{stats_with}
 use Rattle.clairvoyant.proofs.Reached.{reached-held}
-use Rattle.clairvoyant.proofs.Applying.{next-keeping, next-accepted, next-undone, next-fits}
+use Rattle.clairvoyant.proofs.Applying.{next-keeping, next-accepted, next-undone}
 use Rattle.clairvoyant.proofs.clairvoyant.ClairvoyantEngine.apply.Goals as goal
 
 pub overflow_sub-held : goal.overflow_sub-held
@@ -23,7 +23,7 @@ returns-clause-accepted c =
     next-accepted s.core.capacity s.core.uses s.stats c.count.new.self c.serve-record.result (omega (arith, c.if-place-len.false, c.len.ensures.len)) c.self.invariant.reached c.serve-record.ensures.record (c.count.ensures ∙ ap (λ o. stats_with o s.stats) c.outcome-outcome.ensures) _ _ c.args.self.now c.self.view_is (sym c.if-key-step.false ∙ c.key.ensures) c.outcome-outcome.ensures
 
 pub returns-clause-fits : goal.returns-clause-fits
-returns-clause-fits c = search (arith, next-fits)
+returns-clause-fits c = search arith
 
 pub returns-clause-undone : goal.returns-clause-undone
 returns-clause-undone c = grind (arith, nat_tests, next-undone)
