@@ -1,17 +1,17 @@
 -- A scan leaves protected as it was.
-use Rattle.std.proofs.Common.{◌≡◌, ◌⊎◌, ℕ, Bool, true, false, eqb, Option, Some, None, List, [], ◌∷◌, ◌++◌, ap, ◌∙◌, sym, refl, arith, inl, inr, append-nil, append_assoc}
+use Rattle.std.proofs.Common.{◌≡◌, ◌⊎◌, ℕ, Bool, true, false, eqb, None, List, [], ◌∷◌, ◌++◌, ap, ◌∙◌, sym, arith, inl, inr, append-nil, append_assoc}
 use Rattle.std.proofs.lemmas.Bool.Decides.{nat_tests}
 use Rattle.std.proofs.lemmas.Bool.{lt-ltb, cases_eq}
 use Rattle.step_record.specs.Keys.{has_key}
 use Rattle.step_record.specs.declared.job.Policy.TheVariants.{SegmentedLru, TinyLfuSegmented}
 use Rattle.segments.specs.declared.records.Queue.TheVariants.{Probation}
-use Rattle.segments.specs.Items.{Item, oldest_of, nodeless_item}
+use Rattle.segments.specs.Items.{Item, nodeless_item}
 use Rattle.segments.specs.Queues.{Queues, queue_holding, IsDistinct, residents_in}
 use Rattle.segments.proofs.ItemLists.{without-none}
 use Rattle.segments.proofs.MoveLaws.{stands}
 use Rattle.segments.proofs.QueueLists.{first-stands}
 use Rattle.replacement.specs.declared.rules.Placement.TheVariants.{Direct}
-use Rattle.replacement.specs.Table.{response_with_victim, response_without_trial, access}
+use Rattle.replacement.specs.Table.{response_without_trial, access}
 use Rattle.replacement.proofs.Planned.{access-at}
 use Rattle.replacement.proofs.Balance.{stands-once}
 use Rattle.replacement.proofs.Residents.{resident-queued}
@@ -25,12 +25,8 @@ use Rattle.policy_laws.specs.Scans.{IsScan, ScansSpareProtected}
 -- ---- a miss of a policy whose new keys join probation
 
 module _ (r : Rules) (admits : ℕ → ℕ → Bool) (i : Item) (s : Queues) (u : IsDistinct s) where
-  replaced-spares : (o : Option Item) → oldest_of s.probation ≡ o → (response_with_victim admits Probation i o s).queues.protected ≡ s.protected
-  replaced-spares None h = refl
-  replaced-spares (Some v) h = grind (arith, nat_tests, first-stands, without-none)
-
   miss-spares : (response_without_trial r admits Probation i s).queues.protected ≡ s.protected
-  miss-spares = grind (arith, nat_tests, replaced-spares)
+  miss-spares = grind (arith, nat_tests, first-stands, without-none)
 
   access-spares : r.placement ≡ Direct Probation → queue_holding i s ≡ None → (access r admits i s).queues.protected ≡ s.protected
   access-spares p none = grind (arith, nat_tests, access-at r admits i s None none, miss-spares)
@@ -51,20 +47,14 @@ scan-on k r after (a ∷ ks) came apart scan =
 -- ---- the scan
 
 module _ (j : Job) (places : (rules_of j).placement ≡ Direct Probation) where
-  after-placement : (keys : List ℕ) → (rules_of (state_after j keys).job).placement ≡ Direct Probation
-  after-placement keys = ap (λ (x : Job). (rules_of x).placement) (after-job j keys) ∙ places
-
   one-spared : (keys : List ℕ) (k : ℕ) → has_key k (residents_in (state_after j keys).queues) ≡ false → (state_after j (keys ++ k ∷ [])).queues.protected ≡ (state_after j keys).queues.protected
-  one-spared keys k h = grind (arith, nat_tests, after-balanced, after-snoc, access-spares, after-placement, not-held)
-
-  scan-after : (keys : List ℕ) (k : ℕ) (ks : List ℕ) → has_key k ks ≡ false → IsScan (residents_in (state_after j keys).queues) ks → IsScan (residents_in (state_after j (keys ++ k ∷ [])).queues) ks
-  scan-after keys k ks apart scan = search (arith, scan-on, came-from, after-balanced j keys, after-snoc j keys k)
+  one-spared keys k h = grind (arith, nat_tests, after-balanced, after-snoc, access-spares, after-job, not-held)
 
   all-spared : (keys scan : List ℕ) → IsScan (residents_in (state_after j keys).queues) scan → (state_after j (keys ++ scan)).queues.protected ≡ (state_after j keys).queues.protected
   all-spared keys [] scan = ap (λ l. (state_after j l).queues.protected) (append-nil keys)
   all-spared keys (k ∷ ks) scan =
       ap (λ l. (state_after j l).queues.protected) (sym (append_assoc keys (k ∷ []) ks))
-      ∙ (all-spared (keys ++ k ∷ []) ks (scan-after keys k ks scan.1 scan.2) ∙ one-spared keys k scan.0)
+      ∙ (all-spared (keys ++ k ∷ []) ks (search (arith, scan-on, came-from, after-balanced j keys, after-snoc j keys k)) ∙ one-spared keys k scan.0)
 
 segmented-places : (j : Job) → (j.policy ≡ SegmentedLru) ⊎ (j.policy ≡ TinyLfuSegmented) → (rules_of j).placement ≡ Direct Probation
 segmented-places j (inl e) = ap (λ p. (rules_in (design_of p) j.config).placement) e

@@ -61,11 +61,8 @@ module _ {S : Type 0} (c : ℕ) (start : S) (act : ℕ → S → Outcome × S) (
   kept-from s [] h = h
   kept-from s (k ∷ keys) h = kept-from (act k s).1 keys (all.keeps k s h)
 
-  kept-after : (keys : List ℕ) → IsState (state_after_all act start keys)
-  kept-after keys = kept-from start keys all.starts.0
-
   pub served : IsOnline c (λ keys. residents (state_after_all act start keys)) (λ keys. count_by is_hit (outcomes_of_all act start keys))
-  served = grind (arith, nat_tests, kept-after, state-push, sum_by-append, outcomes-push)
+  served = grind (arith, nat_tests, kept-from, state-push, sum_by-append, outcomes-push)
 
   module _ (t : List ℕ) where
     abbrev pub state_at : ℕ → S
@@ -78,4 +75,4 @@ module _ {S : Type 0} (c : ℕ) (start : S) (act : ℕ → S → Outcome × S) (
     next-is i h = ap (state_after_all act start) (take-suc t i 0 h) ∙ state-push act start (take i t) (get_or t i 0)
 
     pub kept-at : (i : ℕ) → IsState (state_at i)
-    kept-at i = kept-after (take i t)
+    kept-at i = (kept-from start (take i t) all.starts.0)
