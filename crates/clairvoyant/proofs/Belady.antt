@@ -125,7 +125,7 @@ module _ (c : ℕ) (t : List ℕ) where
 farthest-least : (t : List ℕ) (i b : ℕ) (l : List ℕ) → i < length t → ((a : ℕ) → has_key a (b ∷ l) ≡ true → IsSeen t (suc i) a) → (x : ℕ) → has_key x (b ∷ l) ≡ true → rank t (suc i) (farthest t i b l) ≤ rank t (suc i) x
 farthest-least t i b [] h seen x g = let same : b ≡ x = grind (arith, nat_tests, g) in rw same (omega arith)
 farthest-least t i b (a ∷ l) h seen x g =
-        let own : eqb b b ≡ true = eq-eqb b b refl in
+    let own : eqb b b ≡ true = eq-eqb b b refl in
     let test : leaves_first t i a b ≡ nat_lt (rank t (suc i) a) (rank t (suc i) b) = leaves-rank t i a b h (seen a (grind arith)) (seen b (grind (arith, own))) in
     let one = farthest-least t i a l h (λ y k. seen y (later y b (a ∷ l) k)) in
     let other = farthest-least t i b l h (λ y k. seen y (grind (arith, k))) in

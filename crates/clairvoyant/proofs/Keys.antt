@@ -45,7 +45,7 @@ below-put a k (x ∷ l) h w = cond_both (nat_lt k x) _ _ (IsBelowAll a) (λ e. (
 pub ascending-put : (k : ℕ) (l : List ℕ) → IsAscendingKeys l → has_key k l ≡ false → IsAscendingKeys (residents_with k l)
 ascending-put k [] s h = (tt, tt)
 ascending-put k (a ∷ l) s h =
-        let rest : has_key k l ≡ false = grind arith in
+    let rest : has_key k l ≡ false = grind arith in
     grind (arith, nat_tests, cond_both, ltb-true, below-all, below-put, ascending-put k l s.1 rest)
 
 below-without : (a k : ℕ) (l : List ℕ) → IsBelowAll a l → IsBelowAll a (keys_without k l)

@@ -1,5 +1,5 @@
 -- A trace that misses always, whatever the cache: each access is to a key that is not resident, of one more than fit.
-use Rattle.std.proofs.Common.{◌≡◌, ℕ, zero, suc, ◌+◌, ◌-◌, ◌*◌, ◌<◌, ◌≤◌, true, false, cond, nat_lt, List, [], ◌∷◌, ◌++◌, length, take, ap, ◌∙◌, sym, refl, subst, arith, inl, inr, length-append}
+use Rattle.std.proofs.Common.{◌≡◌, ℕ, zero, suc, ◌+◌, ◌-◌, ◌*◌, ◌<◌, ◌≤◌, true, false, cond, nat_lt, List, [], ◌∷◌, ◌++◌, length, take, ap, ◌∙◌, sym, refl, arith, inl, inr, length-append}
 use Rattle.std.proofs.Math.Nat.{mul-add, add-mul, mul-le-mul_left}
 use Rattle.std.proofs.lemmas.Bool.{cases_Bool, lt-ltb, le-ltb, cases_eq}
 use Rattle.std.proofs.lemmas.Bool.Decides.{nat_tests}
@@ -9,7 +9,7 @@ use Rattle.policies.specs.AnyPolicy.{Job, stats_on}
 use Rattle.queue_cache.proofs.Recency.{IsDistinct}
 use Rattle.queue_policies.specs.Residents.{times}
 use Rattle.queue_policies.proofs.Residents.{times-none, times-some}
-use Rattle.optimality.specs.Strategy.{IsStrategy, strategy_misses}
+use Rattle.optimality.specs.Strategy.{strategy_misses}
 use Rattle.conservative_laws.specs.Conservative.{misses_on}
 use Rattle.conservative_laws.specs.Theorems.{IsWorstFor}
 use Rattle.conservative_laws.proofs.Misses.{hits-few}
@@ -79,8 +79,7 @@ module _ (c : ℕ) (held : List ℕ → List ℕ) (fits : (keys : List ℕ) → 
 
   no-hits : (n : ℕ) → hits_of held (trace_of n) ≡ 0
   no-hits zero = refl
-  no-hits (suc n) =
-      grind (arith, nat_tests, free-absent (suc c) (held (trace_of n)) (omega arith), hits-more, no-hits n)
+  no-hits (suc n) = search (arith, free-absent (suc c) (held (trace_of n)) (omega arith), hits-more, no-hits n)
 
   -- each access is to one of those keys
   one-time : (n : ℕ) → times (free_key (suc c) (held (trace_of n))) (down (suc c)) ≡ 1
@@ -130,12 +129,4 @@ worst j held fits counts h n le =
     let hits : hits_of (hold ks) t + length (hold ks t) ≡ load ks t = kept-hits c held fits ks best.distinct n in
     let within : hits_of (hold ks) t ≤ length t = hits-few t residents (length t) in
     let misses : (stats_on j t).misses ≡ n = ap (λ l. (stats_on j l).misses) (sym (take_all (length t) t (omega arith))) ∙ (counts t (length t) (omega arith) ∙ (ap (λ m. length t - m) (no-hits c held fits n) ∙ omega (arith, long))) in
-    let few = few-misses c h n (load ks t) (hits_of (hold ks) t) le (omega (arith, share, whole, wide)) (omega (arith, hits, hold-length ks t, kept)) (omega (arith, within, long)) in (
-      t,
-      residents,
-      record {
-        strategy = subst (λ x. IsStrategy x t residents) kept (hold-strategy ks t);
-        many = omega (arith, misses);
-        few = rw misses (subst (λ m. (c + 1) * (m - hits_of (hold ks) t) ≤ (c + 1 - h) * n + (c + 1) * (c + 1)) (sym long) few);
-      },
-    )
+    let few = few-misses c h n (load ks t) (hits_of (hold ks) t) le (omega (arith, share, whole, wide)) (omega (arith, hits, hold-length ks t, kept)) (omega (arith, within, long)) in grind (arith, nat_tests, hold-strategy ks t)

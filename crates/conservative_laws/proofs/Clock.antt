@@ -1,6 +1,6 @@
 -- CLOCK is conservative: in a stretch of few keys each miss is one of the evictions that were ahead of it, or fills up the
 -- cache.
-use Rattle.std.proofs.Common.{◌≡◌, ℕ, zero, suc, ◌+◌, ◌<◌, ◌≤◌, true, false, not, eqb, nat_lt, List, [], ◌∷◌, length, take, get_or, ap, refl, arith, inl, inr, length-append}
+use Rattle.std.proofs.Common.{◌≡◌, ℕ, zero, suc, ◌+◌, ◌<◌, ◌≤◌, true, false, not, nat_lt, List, [], ◌∷◌, length, take, get_or, ap, refl, arith, inl, inr, length-append}
 use Rattle.std.proofs.lemmas.Bool.{cases_Bool, cases_lt, eq-eqb, ltb-false, cases_eq}
 use Rattle.std.proofs.lemmas.Bool.Decides.{nat_tests}
 use Rattle.step_record.specs.Keys.{has_key}
@@ -20,7 +20,7 @@ use Rattle.conservative_laws.specs.Conservative.{stretch, IsConservative}
 use Rattle.conservative_laws.proofs.Misses.{misses-next}
 use Rattle.conservative_laws.proofs.Stretches.{once-few, in-stretch}
 use Rattle.conservative_laws.proofs.Fifo.{once-more}
-use Rattle.conservative_laws.proofs.Evictions.{any_of, is_stale, evictions_ahead, ahead-few, ahead-joined, ahead-left, ahead-turned, ahead-hit}
+use Rattle.conservative_laws.proofs.Evictions.{any_of, is_stale, evictions_ahead, ahead-few, ahead-joined, ahead-turned, ahead-hit}
 
 -- the queue before the access at each place, and its keys
 abbrev clock_queue : ℕ → List ℕ → ℕ → List CountedKey
@@ -31,14 +31,10 @@ clock_keys c t n = keys_of (clock_queue c t n)
 
 -- ---- turns
 
-turn-ahead : (ks : List ℕ) (queue : List CountedKey) → eqb (oldest_count queue) 0 ≡ false → AreCounted 1 queue → evictions_ahead ks (after_turn queue) ≡ evictions_ahead ks queue
-turn-ahead ks [] h bits = absurd (cc (h))
-turn-ahead ks (e ∷ l) h bits = ahead-turned ks e l h bits.0
-
 turns-ahead : (ks : List ℕ) (n : ℕ) (queue : List CountedKey) → AreCounted 1 queue → evictions_ahead ks (after_turns (turn_count_within n queue) queue) ≡ evictions_ahead ks queue
 turns-ahead ks zero queue bits = refl
 turns-ahead ks (suc n) queue bits =
-    grind (arith, nat_tests, turns-ahead ks n (after_turn queue) (turns-counted 1 1 queue bits), turn-ahead ks queue)
+    grind (arith, nat_tests, turns-ahead ks n (after_turn queue) (turns-counted 1 1 queue bits), ahead-turned)
 
 -- ---- a full cache has a stale key
 
@@ -65,9 +61,7 @@ fresh-one k ks among = ap not among
 
 evicts-ahead : (k : ℕ) (ks : List ℕ) (queue : List CountedKey) → has_key k ks ≡ true → oldest_count queue ≡ 0 → any_of (is_stale ks) queue ≡ true
     → suc (evictions_ahead ks (clock_eviction k queue).1 + length queue) ≤ evictions_ahead ks queue + length (clock_eviction k queue).1
-evicts-ahead k ks [] among zero_count stale = absurd (cc (stale))
-evicts-ahead k ks (e ∷ l) among zero_count stale =
-    grind (arith, nat_tests, ahead-joined, fresh-one, ahead-left, eq-eqb, length-append)
+evicts-ahead k ks v among zero_count stale = grind (arith, nat_tests, ahead-joined, fresh-one, eq-eqb, length-append)
 
 act-ahead : (c k : ℕ) (ks : List ℕ) (queue : List CountedKey) → has_key k ks ≡ true → length (distinct_keys ks) ≤ c → IsClock c queue
     → one_if (not (has_key k (keys_of queue))) + evictions_ahead ks (clock_act c k queue).1 + length queue ≤ evictions_ahead ks queue + length (clock_act c k queue).1

@@ -61,15 +61,7 @@ module _ (h : ℕ) (t : List ℕ) (other : ℕ → List ℕ) (is : IsStrategy h 
 
   -- or at the access before, whose key is resident
   cover-behind : (n : ℕ) → n < length t → has_key (get_or t n 0) (other (suc n)) ≡ true → Cover h n (suc n) (suc n)
-  cover-behind n l kept =
-      let fits : length (other (suc n)) ≤ h = is.fits (suc n) (omega (arith, l)) in
-      let one : stretch t n (suc n) ≡ get_or t n 0 ∷ [] = stretch-next t n n (omega arith) l ∙ ap (λ s. s ++ get_or t n 0 ∷ []) (stretch-none t n (omega (arith, l))) in
-      record {
-        keys = other (suc n);
-        few = omega (arith, fits);
-        resident = λ x g. g;
-        accessed = λ x g. elim (one-of x (get_or t n 0) [] (ap (has_key x) (sym one) ∙ g)) [ inl s ↦ ap (λ y. has_key y (other (suc n))) s ∙ kept | inr r ↦ absurd (cc (r)) ];
-      }
+  cover-behind n l kept = grind (arith, nat_tests, stretch-next, stretch-none, one-of)
 
   cover-up : (room from start n : ℕ) → from ≤ start → start ≤ n → n ≤ length t → Cover room from start start → Cover room from start n
   cover-up room from start zero w g l first = let same : 0 ≡ start = omega (arith, g) in rw same first
@@ -84,8 +76,7 @@ module _ (h : ℕ) (t : List ℕ) (other : ℕ → List ℕ) (is : IsStrategy h 
   misses-all n l =
       let none : Cover 0 0 0 0 = record { keys = []; few = omega arith; resident = λ x g. absurd (let no : false ≡ true = ap (has_key x) (sym is.empty) ∙ g in cc (no)); accessed = λ x g. absurd (cc (g)) } in
       let all : Cover 0 0 0 n = cover-up 0 0 0 n (omega arith) (omega arith) l none in
-      let few = all.few in
-      omega (arith, distinct-few (take n t) all.keys all.accessed, few)
+      omega (arith, distinct-few (take n t) all.keys all.accessed)
 
   -- ---- beside a conservative cache
 
@@ -170,17 +161,13 @@ module _ (c h : ℕ) (t : List ℕ) (cache other : ℕ → List ℕ) (conservati
         | inr more ↦ too-large _ _ more
       ]
 
-  -- a strategy that never bypasses has room for a key, where there is an access
-  has-room : NeverBypasses t other → 0 < length t → 1 ≤ h
-  has-room never some = omega (arith, is.fits 1 (omega (arith, some)), has-some (get_or t 0 0) (other 1) (never 0 some))
-
   competes-without-bypass : (e : ℕ) → NeverBypasses t other → (1 ≤ h → (n : ℕ) → n ≤ length t → strategy_misses t cache n ≤ c → (c + 1 - h) * strategy_misses t cache n ≤ c * strategy_misses t other n + e)
       → (n : ℕ) → n ≤ length t → (c + 1 - h) * strategy_misses t cache n ≤ c * strategy_misses t other n + e
   competes-without-bypass e never few n l =
       elim (cases_lt 0 (length t)) [
         | inr none ↦ let first : n ≡ 0 = omega (arith, none, l) in rw first (omega arith)
         | inl some ↦
-            let room : 1 ≤ h = has-room never some in
+            let room : 1 ≤ h = (omega (arith, is.fits 1 (omega (arith, some)), has-some (get_or t 0 0) (other 1) (never 0 some))) in
             elim (cases_lt h (c + 1)) [
               | inl less ↦
                   let wide : (c + 1 - h) + h ≤ c + 1 = omega (arith, less) in
@@ -194,10 +181,7 @@ module _ (c h : ℕ) (t : List ℕ) (cache other : ℕ → List ℕ) (conservati
   -- a cache that fills up first: its first c misses are misses of the strategy too
   filling : FillsFirst c t (strategy_misses t cache) → (w : ℕ) → c + 1 - h ≤ w → (n : ℕ) → n ≤ length t → strategy_misses t cache n ≤ c → (c + 1 - h) * strategy_misses t cache n ≤ w * strategy_misses t other n + 0
   filling fills w wide n l few =
-      let all : strategy_misses t cache n ≤ strategy_misses t other n = omega (arith, fills n l few, misses-all h t other is n l) in
-      let left : (c + 1 - h) * strategy_misses t cache n ≤ w * strategy_misses t cache n = mul-le-mul_right (strategy_misses t cache n) wide in
-      let right : w * strategy_misses t cache n ≤ w * strategy_misses t other n = mul-le-mul_left w all in
-      omega (arith, left, right)
+      search (arith, misses-all h t other is n l, mul-le-mul_right (strategy_misses t cache n) wide, mul-le-mul_left)
 
 pub conservative_competes : ConservativeCompetes
 conservative_competes c h t cache other n conservative is l =

@@ -1,6 +1,5 @@
 -- What the accesses of single traces come to, by computation.
 use Rattle.std.proofs.Common.{◌≡◌, ◌⊎◌, ℕ, ◌≤◌, List, [], take, count_by, ap, ◌∙◌, arith, inl, inr}
-use Rattle.step_record.specs.declared.limits.TheConstants.{MAX_PART_PERCENT}
 use Rattle.step_record.specs.Job.{part_size}
 use Rattle.step_record.specs.Stats.{is_miss}
 use Rattle.step_record.specs.declared.job.Policy.TheVariants.{Fifo, Clock}
@@ -35,13 +34,9 @@ sieve_is_not_conservative page j is at all =
     let most = all 2 5 (omega arith) (omega arith) (omega arith) in
     absurd (omega (arith, most, before, after))
 
--- of two keys a small queue that is not to have all of them has one
-one-key : (percent : ℕ) → percent ≤ MAX_PART_PERCENT → part_size percent 2 ≡ 1
-one-key percent few = omega (arith, few)
-
 pub s3_fifo_is_not_conservative : RunsByPage → S3FifoIsNotConservative
 s3_fifo_is_not_conservative page j is at few all =
-    let one : part_size j.tuning.small j.config.capacity ≡ 1 = ap (part_size j.tuning.small) at ∙ one-key j.tuning.small few in
+    let one : part_size j.tuning.small j.config.capacity ≡ 1 = ap (part_size j.tuning.small) at ∙ (omega (arith, few)) in
     let misses : (keys : List ℕ) → (stats_on j keys).misses ≡ count_by is_miss (outcomes_of_page (sized.S3Fifo 1) 2 keys) =
     λ keys. demand-misses demand.S3Fifo j keys (ap design_of is) (omega (arith, at)) ∙ ap (λ n. count_by is_miss (demand_run (sized.S3Fifo n) j.config.capacity keys)) one
     ∙ ap (λ c. count_by is_miss (demand_run (sized.S3Fifo 1) c keys)) at ∙ ap (count_by is_miss) (page (sized.S3Fifo 1) 2 keys (omega arith)) in

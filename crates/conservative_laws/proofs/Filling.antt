@@ -1,5 +1,5 @@
 -- A policy that keeps every missed key: its misses are those by its residents, and it fills up before it evicts.
-use Rattle.std.proofs.Common.{◌≡◌, ℕ, zero, suc, ◌+◌, ◌<◌, ◌≤◌, true, false, not, List, [], ◌∷◌, ◌++◌, length, take, get_or, count_by, ap, ◌∙◌, sym, refl, arith}
+use Rattle.std.proofs.Common.{◌≡◌, ℕ, zero, suc, ◌+◌, ◌<◌, ◌≤◌, true, false, not, List, [], ◌∷◌, ◌++◌, length, take, get_or, count_by, ap, ◌∙◌, sym, arith}
 use Rattle.std.proofs.lemmas.Bool.{cases_eq}
 use Rattle.std.proofs.lemmas.List.{length-take-le}
 use Rattle.std.proofs.lemmas.Bool.Decides.{nat_tests}
@@ -7,7 +7,6 @@ use Rattle.replacement.proofs.Residents.{has-append}
 use Rattle.step_record.specs.Keys.{has_key}
 use Rattle.step_record.specs.Stats.{is_hit, is_miss, is_eviction, one_if}
 use Rattle.step_record.specs.declared.outcome.Outcome.{Outcome}
-use Rattle.step_record.specs.declared.outcome.Outcome.TheVariants.{Hit, Kept, Evicted, Rejected}
 use Rattle.optimality.specs.Strategy.{IsStrategy, strategy_misses}
 use Rattle.queue_policies.specs.Residents.{IsAccess, AreResidents, KeepsResidents, state_after_all, outcomes_of_all}
 use Rattle.queue_cache.proofs.Counting.{hits-misses}
@@ -18,10 +17,7 @@ use Rattle.conservative_laws.proofs.Misses.{misses-next}
 use Rattle.conservative_laws.proofs.Stretches.{once-few, stretch-next}
 
 miss-is : (o : Outcome) → is_miss o ≡ not (is_hit o)
-miss-is Hit = refl
-miss-is Kept = refl
-miss-is (Evicted v) = refl
-miss-is (Rejected v) = refl
+miss-is v = grind (arith, nat_tests)
 
 -- the residents of a strategy came before
 among : (h : ℕ) (t : List ℕ) (residents : ℕ → List ℕ) → IsStrategy h t residents → (n : ℕ) → n ≤ length t → (x : ℕ) → has_key x (residents n) ≡ true → has_key x (take n t) ≡ true
@@ -30,8 +26,7 @@ among h t residents is (suc n) l x g =
     let k : ℕ = get_or t n 0 in
     let longer : take (suc n) t ≡ take n t ++ k ∷ [] = stretch-next t 0 n (omega arith) (omega (arith, l)) in
     let rest = among h t residents is n (omega (arith, l)) x in
-    let came = is.on_demand n x (omega (arith, l)) g in
-    rw longer (grind (arith, nat_tests, rest, came, has-append x (take n t) (k ∷ []), cases_eq x k))
+    rw longer (grind (arith, nat_tests, rest, has-append x (take n t) (k ∷ []), cases_eq x k))
 
 module _ {S : Type 0} (c : ℕ) (start : S) (act : ℕ → S → Outcome × S) (residents : S → List ℕ) (IsState : S → Type 0) (all : KeepsResidents c start act residents IsState) (t : List ℕ) where
   abbrev held : ℕ → List ℕ

@@ -55,9 +55,6 @@ pub all-rejected : (keys : List ℕ) → count_by is_miss (map (λ k. Rejected k
 all-rejected [] = refl
 all-rejected (k ∷ keys) = let rest = all-rejected keys in omega (arith, rest, count-cons is_miss (Rejected k) (map (λ k. Rejected k) keys))
 
-pub demand-misses-all : (p : DemandDesign) (j : Job) (keys : List ℕ) → design_of j.policy ≡ design.Demand p → j.config.capacity ≡ 0 → (stats_on j keys).misses ≡ length keys
-demand-misses-all p j keys is none = grind (arith, nat_tests, misses-counted j keys, all-rejected keys)
-
 -- ---- as a conservative cache
 
 -- residents before each place of a trace, with the misses of the job
@@ -99,7 +96,7 @@ module _ {S : Type 0} (law : RunsByPage) (p : DemandDesign) (j : Job) (t : List 
           conservative = conservative c room;
           fills = fills-first c start (act c) residents (IsState c) (keeps c room) t;
         }
-        | inr less ↦ let none : c ≡ 0 = omega (arith, less) in acts-empty j t none (λ keys. demand-misses-all p j keys is none)
+        | inr less ↦ let none : c ≡ 0 = omega (arith, less) in acts-empty j t none (λ keys. (grind (arith, nat_tests, misses-counted j keys, all-rejected keys)))
       ]
 
 acts-conservatively : LruStepLaw → RunsByPage → AnyCoversTrace → (j : Job) (t : List ℕ) → IsLruFifoOrClock j.policy → ActsConservatively j t
@@ -112,19 +109,14 @@ acts-conservatively lru page covers j t (inr (inr is)) =
 -- ---- the laws
 
 pub are_conservative : LruStepLaw → RunsByPage → AnyCoversTrace → LruFifoClockAreConservative
-are_conservative lru page covers j t is i n h l few =
-    let a : ActsConservatively j t = acts-conservatively lru page covers j t is in
-    omega (arith, a.conservative i n h l few, a.misses n l, a.misses i (omega (arith, h, l)))
+are_conservative lru page covers j t is i n h l few = search (arith, acts-conservatively lru page covers j t is)
 
 pub compete : FillingCompetes → LruStepLaw → RunsByPage → AnyCoversTrace → LruFifoClockCompete
-compete filling lru page covers j t h strategy n is s l =
-    let a : ActsConservatively j t = acts-conservatively lru page covers j t is in
-    rw (a.misses n l) (filling j.config.capacity h t a.cache strategy n a.conservative a.fills s l)
+compete filling lru page covers j t h strategy n is s l = search (arith, acts-conservatively lru page covers j t is)
 
 pub compete_without_bypass : FillingCompetesWithoutBypass → LruStepLaw → RunsByPage → AnyCoversTrace → LruFifoClockCompeteWithoutBypass
 compete_without_bypass filling lru page covers j t h strategy n is s never l =
-    let a : ActsConservatively j t = acts-conservatively lru page covers j t is in
-    rw (a.misses n l) (filling j.config.capacity h t a.cache strategy n a.conservative a.fills s never l)
+    grind (arith, nat_tests, acts-conservatively lru page covers j t is)
 
 pub twice_as_large : LruFifoClockCompete → LruFifoClockTwiceAsLarge
 twice_as_large law j t h strategy n is wide s l = search (arith, at-most-twice)

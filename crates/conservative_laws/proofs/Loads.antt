@@ -83,18 +83,15 @@ shared h zero f rest kept le least share = let none : h ≡ 0 = omega (arith, le
 shared h (suc m) f rest kept le least share =
     let r : ℕ = suc m in
     let more : suc r ≡ r + 1 = omega arith in
-    let left : r * (h * (f + rest)) ≡ h * (r * f + r * rest) = mul_left_comm r h (f + rest) ∙ ap (λ x. h * x) (mul-add r f rest) in
     let light : h * (r * f + r * rest) ≤ h * (rest + r * rest) = mul-le-mul_left h (omega (arith, least)) in
     let once : h * (rest + r * rest) ≡ h * rest + r * (h * rest) = mul-add h rest (r * rest) ∙ ap (λ x. h * rest + x) (mul_left_comm h r rest) in
     let scaled : r * (h * rest) ≤ r * (r * kept) = mul-le-mul_left r share in
     let right : r * (suc r * kept) ≡ r * (r * kept) + r * kept = ap (λ x. r * x) (ap (λ n. n * kept) more ∙ add-mul r 1 kept) ∙ (mul-add r (r * kept) (1 * kept) ∙ ap (λ x. r * (r * kept) + r * x) (omega arith)) in
-    let all : r * (h * (f + rest)) ≤ r * (suc r * kept) = omega (arith, left, light, once, scaled, right, share) in
+    let all : r * (h * (f + rest)) ≤ r * (suc r * kept) = omega (arith, light, once, scaled, right, share) in
     le_of_mul-le-mul_left all (omega arith)
 
 pub heaviest : (xs : List ℕ) (h d : ℕ) (ws : List ℕ) → IsDistinct ws → length ws ≡ h + d → Heaviest xs ws h
-heaviest xs h zero ws e n =
-    let same : length ws ≡ h = omega (arith, n) in
-    record { keys = ws; distinct = e; size = same; share = rw same (omega arith) }
+heaviest xs h zero ws e n = grind (arith, nat_tests)
 heaviest xs h (suc d) [] e n = absurd (omega (arith, n))
 heaviest xs h (suc d) (w ∷ ws) e n =
     let l : Lightest xs (w ∷ ws) = lightest xs w ws e in

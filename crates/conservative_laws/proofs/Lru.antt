@@ -7,21 +7,17 @@ use Rattle.step_record.specs.Keys.{has_key}
 use Rattle.step_record.specs.Stats.{is_hit}
 use Rattle.step_record.specs.declared.outcome.Outcome.TheVariants.{Hit, Kept, Evicted}
 use Rattle.clairvoyant.proofs.Belady.{later}
-use Rattle.queue_cache.specs.Lru.{distinct_keys, keys_since, lru_residents, is_lru_hit}
+use Rattle.queue_cache.specs.Lru.{distinct_keys, keys_since}
 use Rattle.queue_cache.proofs.Recency.{outcome-residents}
 use Rattle.optimality.specs.Strategy.{strategy_misses}
 use Rattle.policy_laws.proofs.Lru.{lru_at}
 use Rattle.conservative_laws.specs.Conservative.{stretch, IsConservative, FillsFirst}
 use Rattle.conservative_laws.proofs.Misses.{misses-next}
-use Rattle.conservative_laws.proofs.Stretches.{distinct-subset, stretch-next, has-first, has-last}
+use Rattle.conservative_laws.proofs.Stretches.{distinct-subset, stretch-next, has-last}
+use Rattle.replacement.proofs.Residents.{has-append}
 
 hit-of : (b room : Bool) (v : ℕ) → is_hit (cond b Hit (cond room Kept (Evicted v))) ≡ b
-hit-of true room v = refl
-hit-of false true v = refl
-hit-of false false v = refl
-
-resident-hit : (c k : ℕ) (xs : List ℕ) → has_key k (lru_residents c xs) ≡ is_lru_hit c xs k
-resident-hit c k xs = sym (hit-of _ _ _) ∙ (ap is_hit (sym (outcome-residents c k xs)) ∙ hit-of _ _ _)
+hit-of w room v = grind (arith, nat_tests)
 
 -- ---- what came after the last access to k
 
@@ -59,7 +55,7 @@ module _ (c : ℕ) (t : List ℕ) (i : ℕ) where
       let since : keys_since k (take n t) ≡ keys_since k (stretch t i n) = ap (keys_since k) (sym parts) ∙ since-second k (take i (take n t)) (stretch t i n) h in
       let long : length (distinct_keys (keys_since k (take n t))) ≡ length (distinct_keys (keys_since k (stretch t i n))) = ap (λ l. length (distinct_keys l)) since in
       let less : nat_lt (length (distinct_keys (keys_since k (take n t)))) c ≡ true = lt-ltb _ c (omega (arith, long, since-fewer k (stretch t i n) h, few)) in
-      resident-hit c k (take n t) ∙ rw (there, less) refl
+      (sym (hit-of _ _ _) ∙ (ap is_hit (sym (outcome-residents c k (take n t))) ∙ hit-of _ _ _)) ∙ rw (there, less) refl
 
   -- it misses each key once
   few-misses : (n : ℕ) → i ≤ n → n ≤ length t → length (distinct_keys (stretch t i n)) ≤ c
@@ -73,12 +69,12 @@ module _ (c : ℕ) (t : List ℕ) (i : ℕ) where
             let s : List ℕ = stretch t i n in
             let longer : stretch t i (suc n) ≡ s ++ k ∷ [] = stretch-next t i n (omega (arith, f)) (omega (arith, l)) in
             let size : length (distinct_keys (stretch t i (suc n))) ≡ length (distinct_keys (s ++ k ∷ [])) = ap (λ x. length (distinct_keys x)) longer in
-            let grows : length (distinct_keys s) ≤ length (distinct_keys (s ++ k ∷ [])) = distinct-subset s (s ++ k ∷ []) (λ x g. has-first x s (k ∷ []) g) in
+            let grows : length (distinct_keys s) ≤ length (distinct_keys (s ++ k ∷ [])) = distinct-subset s (s ++ k ∷ []) (λ x g. (has-append x s (k ∷ []) ∙ ap (λ b. cond b true (has_key x (k ∷ []))) g)) in
             let rest = few-misses n (omega (arith, f)) (omega (arith, l)) (omega (arith, few, size, grows)) in
             let next = misses-next t (lru_at c t) n in
             let again = λ (e : has_key k s ≡ true). came-again n e (omega (arith, few, size, grows)) in
             let more = distinct-subset (k ∷ s) (s ++ k ∷ [])
-            (λ x g. grind (arith, nat_tests, has-last k s, has-first x s (k ∷ []), cases_eq x k)) in
+            (λ x g. grind (arith, nat_tests, has-last k s, has-append, cases_eq x k)) in
             grind (arith, nat_tests, rest, next, again, more, size, grows)
       ]
 

@@ -1,5 +1,5 @@
 -- Stretches of a trace, their distinct keys, and the misses in them.
-use Rattle.std.proofs.Common.{◌≡◌, ◌⊎◌, ℕ, zero, suc, ◌<◌, ◌≤◌, Bool, true, cond, List, [], ◌∷◌, ◌++◌, length, take, drop, get_or, ap, ◌∙◌, sym, refl, arith, length-drop}
+use Rattle.std.proofs.Common.{◌≡◌, ◌⊎◌, ℕ, zero, suc, ◌<◌, ◌≤◌, Bool, true, List, [], ◌∷◌, ◌++◌, length, take, drop, get_or, ap, ◌∙◌, sym, refl, arith, length-drop}
 use Rattle.std.proofs.lemmas.Bool.Decides.{nat_tests}
 use Rattle.std.proofs.lemmas.Bool.{cases_Bool, cases_eq}
 use Rattle.std.proofs.lemmas.List.{take_more, drop-append-le, length-take-le}
@@ -52,9 +52,6 @@ stretch-next t i n h l = search (arith, length-take-le n t (omega (arith, l)), t
 
 pub one-of : (x k : ℕ) (xs : List ℕ) → has_key x (xs ++ k ∷ []) ≡ true → (x ≡ k) ⊎ (has_key x xs ≡ true)
 one-of x k xs h = grind (arith, nat_tests, has-append x xs (k ∷ []))
-
-pub has-first : (x : ℕ) (xs ys : List ℕ) → has_key x xs ≡ true → has_key x (xs ++ ys) ≡ true
-has-first x xs ys h = has-append x xs ys ∙ ap (λ b. cond b true (has_key x ys)) h
 
 pub has-last : (k : ℕ) (xs : List ℕ) → has_key k (xs ++ k ∷ []) ≡ true
 has-last k xs = grind (arith, nat_tests, has-append k xs (k ∷ []), cases_Bool (has_key k xs), head-has k)

@@ -42,17 +42,13 @@ record IsJoined (f : ℕ → ℕ) (k : ℕ) (g : ArcGhost) (d t : ArcState) : Ty
   p : t.p ≡ d.p
 
 joining : (f : ℕ → ℕ) (k : ℕ) (g : ArcGhost) (d : ArcState) → IsJoined f k g d (arc_after_join g k d)
-joining f k NoGhost d = record { t1 = weight-push f d.t1 k; both = omega (arith, weight-push f d.t1 k); b1 = refl; b2 = refl; p = refl }
-joining f k InB1 d = record { t1 = omega arith; both = omega (arith, weight-push f d.t2 k); b1 = refl; b2 = refl; p = refl }
-joining f k InB2 d = record { t1 = omega arith; both = omega (arith, weight-push f d.t2 k); b1 = refl; b2 = refl; p = refl }
+joining f k v d = grind (arith, nat_tests, weight-push)
 
 holds : (c : ℕ) (s : ArcState) → IsArc c s → AreResidents c (arc_residents s)
 holds c s i = grind (arith, nat_tests, length-append s.t1 s.t2, times-append)
 
 target-fits : (c : ℕ) (g : ArcGhost) (s : ArcState) → s.p ≤ c → arc_target c g s ≤ c
-target-fits c NoGhost s h = h
-target-fits c InB1 s h = omega arith
-target-fits c InB2 s h = omega (arith, h)
+target-fits c v s h = grind (arith, nat_tests)
 
 has-length : (k : ℕ) (l : List ℕ) → has_key k l ≡ true → 1 ≤ length l
 has-length k [] h = absurd (cc (h))

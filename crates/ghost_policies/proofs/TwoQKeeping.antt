@@ -1,6 +1,6 @@
 -- 2Q: what an access makes of the queues, and that it keeps the invariant.
 use Rattle.std.proofs.lemmas.Bool.Decides.{nat_tests}
-use Rattle.std.proofs.Common.{Bool, ◌≡◌, ℕ, ◌+◌, ◌≤◌, false, true, cond, ◌==◌, nat_lt, ◌||◌, List, [], ◌∷◌, ◌++◌, length, ◌∙◌, refl, arith, inl, inr, length-append}
+use Rattle.std.proofs.Common.{Bool, ◌≡◌, ℕ, ◌+◌, ◌≤◌, false, true, cond, ◌==◌, nat_lt, ◌||◌, List, ◌++◌, length, ◌∙◌, refl, arith, inl, inr, length-append}
 use Rattle.std.proofs.lemmas.Bool.{cond_both, or_cases, or_parts, ltb-true, ltb-false, eqb-true, eqb-false}
 use Rattle.step_record.specs.Keys.{has_key}
 use Rattle.step_record.specs.Stats.{is_hit, is_eviction, is_rejection}
@@ -14,12 +14,10 @@ use Rattle.ghost_policies.proofs.Weights.{weight, weight-append, weight-push, we
 -- ---- the key comes in
 
 join-weight : (f : ℕ → ℕ) (k : ℕ) (remembered : Bool) (s : TwoQState) → weight f (two_q_residents (two_q_after_join remembered k s)) ≡ weight f (two_q_residents s) + f k
-join-weight f k false s = omega (arith, weight-push f s.a1in k, weight-append f (s.a1in ++ k ∷ []) s.am, weight-append f s.a1in s.am)
-join-weight f k true s = omega (arith, weight-push f s.am k, weight-append f s.a1in (s.am ++ k ∷ []), weight-append f s.a1in s.am)
+join-weight f k v s = grind (arith, nat_tests, weight-push, weight-append)
 
 join-ghost : (k : ℕ) (remembered : Bool) (s : TwoQState) → (two_q_after_join remembered k s).a1out ≡ s.a1out
-join-ghost k false s = refl
-join-ghost k true s = refl
+join-ghost k v s = grind (arith, nat_tests)
 
 -- ---- room for it
 
@@ -40,13 +38,11 @@ made a1in a1out am = record { a1in = a1in; a1out = a1out; am = am }
 
 a1in-leaves : (z : TwoQSizes) (c : ℕ) (a1in a1out am : List ℕ) → 1 ≤ length a1in → nat_lt (length (a1in ++ am)) c ≡ false
     → IsRoom z c (made a1in a1out am) (after_leaver z (made a1in a1out am) (leaver_of_a1in a1in))
-a1in-leaves z c [] a1out am n full = absurd (omega (arith, n))
-a1in-leaves z c (v ∷ a1in) a1out am n full = grind (arith, nat_tests, with-fits z.kout v a1out, with-times)
+a1in-leaves z c v a1out am n full = grind (arith, nat_tests, with-fits, with-times)
 
 am-leaves : (z : TwoQSizes) (c : ℕ) (a1in a1out am : List ℕ) → 1 ≤ length am → nat_lt (length (a1in ++ am)) c ≡ false
     → IsRoom z c (made a1in a1out am) (after_leaver z (made a1in a1out am) (leaver_of_am am))
-am-leaves z c a1in a1out [] n full = absurd (omega (arith, n))
-am-leaves z c a1in a1out (v ∷ am) n full = grind (arith, nat_tests, weight-append)
+am-leaves z c a1in a1out v n full = grind (arith, nat_tests, weight-append)
 
 room : (z : TwoQSizes) (c : ℕ) (s : TwoQState) → 1 ≤ c → IsRoom z c s (after_leaver z s (two_q_leaver z c s))
 room z c s some =

@@ -1,9 +1,8 @@
 -- What a cache with an adaptive window stands for.
 use Rattle.std.proofs.lemmas.Bool.Decides.{nat_tests}
-use Rattle.std.proofs.Common.{◌≡◌, ℕ, ◌+◌, ◌≤◌, Result, Ok, Err, List, [], ◌∷◌, ◌++◌, length, ap, ◌∙◌, sym, refl, subst, arith, append-nil, append_assoc}
+use Rattle.std.proofs.Common.{◌≡◌, ℕ, ◌+◌, ◌≤◌, Result, Ok, List, [], ◌∷◌, ◌++◌, length, ap, ◌∙◌, sym, refl, subst, arith, append-nil, append_assoc}
 use Rattle.std.proofs.lemmas.List.{length-map}
 use Rattle.step_record.specs.Config.{config_fault}
-use Rattle.step_record.specs.declared.outcome.Outcome.TheVariants.{Rejected}
 use Rattle.step_record.specs.Stats.{stats_of, stats_with}
 use Rattle.step_record.proofs.Counting.{stats-snoc}
 use Rattle.queue_policies.specs.Residents.{Outcome, state_after_all, outcomes_of_all}
@@ -65,13 +64,8 @@ adaptive-counted law j keys d s = (kept law j keys d s).counted
 
 -- ---- with a configuration that is accepted
 
-pub when-checked : (j : Job) (trace : List ℕ) → config_fault j.config ≡ Ok tt
-    → adaptive_outcomes (config_fault j.config) j trace ≡ outcomes_of_all cache_access (adaptive_start j) trace
-when-checked j trace ok = ap (λ f. adaptive_outcomes f j trace) ok
-
 pub adaptive-long : (f : Result (Unit {0}) ConfigFault) (j : Job) (trace : List ℕ) → length (adaptive_outcomes f j trace) ≡ length trace
-adaptive-long (Ok u) j trace = outcomes-long cache_access (adaptive_start j) trace
-adaptive-long (Err e) j trace = length-map trace (λ k. Rejected k)
+adaptive-long v j trace = grind (arith, nat_tests, outcomes-long, length-map)
 
 pub adaptive-fit : CacheKeeps → (j : Job) (trace : List ℕ) → config_fault j.config ≡ Ok tt
     → (stats_of (outcomes_of_all cache_access (adaptive_start j) trace)).misses

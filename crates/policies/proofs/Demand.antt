@@ -1,15 +1,14 @@
 -- What a cache of a policy that keeps each missed key stands for.
 use Rattle.std.proofs.lemmas.Bool.Decides.{nat_tests}
-use Rattle.std.proofs.Common.{◌≡◌, ◌⊎◌, ℕ, suc, ◌+◌, ◌≤◌, true, cond, eqb, List, [], ◌∷◌, ◌++◌, length, take, zero, get_or, ap, ◌∙◌, sym, refl, subst, arith, inl, inr}
+use Rattle.std.proofs.Common.{◌≡◌, ◌⊎◌, ℕ, suc, ◌+◌, ◌≤◌, true, cond, eqb, List, [], ◌∷◌, ◌++◌, length, take, zero, get_or, ap, ◌∙◌, sym, refl, subst, arith}
 use Rattle.std.specs.List.{count_by}
 use Rattle.std.proofs.lemmas.Bool.{cases_Bool, eqb-true}
 use Rattle.std.proofs.lemmas.List.{length-map}
 use Rattle.std.proofs.lemmas.List.Sums.{sum_by-cons}
-use Rattle.step_record.specs.declared.outcome.Outcome.TheVariants.{Hit, Kept, Evicted, Rejected}
 use Rattle.step_record.specs.Keys.{has_key}
 use Rattle.step_record.specs.Stats.{stats_of, stats_with, one_if}
 use Rattle.step_record.proofs.Counting.{stats-snoc}
-use Rattle.queue_policies.specs.Residents.{Outcome, times, keys_brought, IsAccess, AreResidents, KeepsResidents, state_after_all, outcomes_of_all}
+use Rattle.queue_policies.specs.Residents.{Outcome, times, IsAccess, AreResidents, KeepsResidents, state_after_all, outcomes_of_all}
 use Rattle.queue_policies.proofs.Residents.{times-none, times-some, counts-residents}
 use Rattle.demand_cache.specs.DemandQueues.{DemandQueues, empty_cache, queues_act, queues_residents, IsQueues}
 use Rattle.demand_cache.specs.DemandCache.{Stats, DemandState, demand_access}
@@ -56,15 +55,13 @@ kept-after c start act residents IsState all keys = kept-from act IsState all.ke
 -- ---- with room for a key
 
 pub with-room : (p : DemandPolicy) (c : ℕ) (keys : List ℕ) → 1 ≤ c → demand_outcomes p c keys ≡ demand_run p c keys
-with-room p zero keys h = absurd (omega arith)
-with-room p (suc c) keys h = sym (page-outcomes p (suc c) keys h)
+with-room p v keys h = grind (arith, nat_tests, page-outcomes)
 
 pub demand-room : (j : Job) (keys : List ℕ) (d : DemandState) → IsDemandAfter j keys d → 1 ≤ j.config.capacity
 demand-room j keys d s = has-room j.config s.checked
 
 pub demand-long : (p : DemandPolicy) (c : ℕ) (keys : List ℕ) → length (demand_outcomes p c keys) ≡ length keys
-demand-long p zero keys = length-map keys (λ k. Rejected k)
-demand-long p (suc c) keys = ap length (with-room p (suc c) keys (omega arith)) ∙ outcomes-long queues_act (empty_cache p (suc c)) keys
+demand-long p v keys = grind (arith, nat_tests, length-map, with-room, outcomes-long)
 
 -- ---- the accesses that it made
 
@@ -120,15 +117,6 @@ pub times-by : (x : ℕ) (l : List ℕ) → count_by (eqb x) l ≡ times x l
 times-by x [] = refl
 times-by x (a ∷ l) = sum_by-cons (λ y. cond (eqb x y) 1 0) a l ∙ ap (λ n. one_if (eqb x a) + n) (times-by x l)
 
-brought-once : (x k : ℕ) (o : Outcome) → times x (keys_brought k o) ≤ one_if (eqb x k)
-brought-once x k Hit = omega arith
-brought-once x k Kept = omega arith
-brought-once x k (Evicted v) = omega arith
-brought-once x k (Rejected v) = omega arith
-
 pub demand-came-from : (c k x : ℕ) (old : List ℕ) (o : Outcome) (new : List ℕ) → IsAccess c k old o new → has_key x new ≡ true → (x ≡ k) ⊎ (has_key x old ≡ true)
 demand-came-from c k x old o new a h =
-    elim (cases_Bool (eqb x k)) [
-      | inl e ↦ inl (eqb-true x k e)
-      | inr e ↦ grind (arith, nat_tests, cases_Bool (has_key x old), times-some x new h, brought-once x k o, times-none)
-    ]
+    grind (arith, nat_tests, cases_Bool (eqb x k), eqb-true, cases_Bool (has_key x old), times-some x new h, times-none)

@@ -7,14 +7,14 @@ use Rattle.step_record.specs.Stats.{stats_of}
 use Rattle.clairvoyant.specs.Belady.{belady_outcomes}
 use Rattle.policies.specs.declared.any_policy.AnyPolicy.{AnyPolicy}
 use Rattle.policies.specs.declared.any_policy.AnyPolicy.TheVariants.{Queues, Optimal, Demand, Adaptive}
-use Rattle.policies.specs.AnyPolicy.{Job, stats_in, stats_on, outcomes_on, HasAccessed, outcomes_by, adaptive_start}
+use Rattle.policies.specs.AnyPolicy.{Job, stats_in, stats_on, outcomes_on, HasAccessed, outcomes_by, adaptive_start, adaptive_outcomes}
 use Rattle.queue_cache.specs.QueueCache.{QueueState, queue_state_after, frequency_after, empty_queue_state, outcomes_after, outcomes_from, access_response}
 use Rattle.policies.specs.Theorems.{AnyReports}
 use Rattle.policies.proofs.OptimalOutcomes.{outcomes-length}
 use Rattle.adaptive_window.specs.AdaptiveCache.{cache_access}
 use Rattle.queue_cache.specs.Design.{design_of}
 use Rattle.policies.proofs.Demand.{outcomes-first, with-room, demand-room}
-use Rattle.policies.proofs.Adaptive.{adaptive-stats, when-checked}
+use Rattle.policies.proofs.Adaptive.{adaptive-stats}
 use Rattle.policies.proofs.StepLaws.{any_covers_trace, outcomes-of-queues, outcomes-of-optimal}
 use Rattle.queue_cache.proofs.Counting.{after-counts}
 
@@ -47,7 +47,7 @@ within_trace j trace n (Optimal d) le s = grind (arith, nat_tests, length-take-l
 within_trace j trace n (Demand d) le s = grind (arith, nat_tests, outcomes-first, with-room, demand-room)
 within_trace j trace n (Adaptive d) le s =
     adaptive-stats j (take n trace) d s ∙ ap stats_of (outcomes-first cache_access (adaptive_start j) n trace)
-    ∙ ap (λ os. stats_of (take n os)) (sym (when-checked j trace s.checked))
+    ∙ ap (λ os. stats_of (take n os)) (sym (ap (λ f. adaptive_outcomes f j trace) s.checked))
     ∙ ap (λ z. stats_of (take n (outcomes_by z j trace))) (sym s.design)
 
 -- a cache that made the first accesses has counted their outcomes, of which there may be fewer

@@ -1,6 +1,6 @@
 -- How many keys are resident in a cache of any policy.
 use Rattle.std.proofs.lemmas.Bool.Decides.{nat_tests}
-use Rattle.std.proofs.Common.{◌≡◌, ℕ, zero, suc, ◌+◌, ◌≤◌, eqb, true, map, Result, Ok, Err, List, [], ◌∷◌, length, ap, ◌∙◌, sym, refl, subst, arith}
+use Rattle.std.proofs.Common.{◌≡◌, ℕ, zero, suc, ◌+◌, ◌≤◌, eqb, true, map, Result, List, [], ◌∷◌, length, ap, ◌∙◌, sym, refl, subst, arith}
 use Rattle.std.specs.List.{count_by}
 use Rattle.clairvoyant.specs.Clairvoyant.{Stats, ClairvoyantState}
 use Rattle.segments.specs.Queues.{residents_in}
@@ -50,10 +50,8 @@ queues-counted : (d : QueueState) → IsBalancedCache d → length (residents_in
 queues-counted d s = let counted = s.counted in omega (arith, counted, residents-length d.queues)
 
 pub residents_counted : DemandKeeps → CacheKeeps → ResidentsCounted
-residents_counted law own j trace keys (Queues d) s = queues-counted d (subst IsBalancedCache (sym s.1.gives) (after-balanced j keys))
-residents_counted law own j trace keys (Optimal d) s = cc (held-count j.config.capacity trace (length keys))
-residents_counted law own j trace keys (Demand d) s = demand-counted law j keys d s
-residents_counted law own j trace keys (Adaptive d) s = adaptive-counted own j keys d s
+residents_counted law own j trace keys v s =
+    grind (arith, nat_tests, queues-counted, after-balanced, held-count, demand-counted, adaptive-counted)
 
 -- ---- the statistics of a job over a trace
 
@@ -63,9 +61,8 @@ stats_add_up covers j trace = (covers j trace, hits-misses (outcomes_on j trace)
 
 queues-fit : (j : Job) (trace : List ℕ) → (state_after j trace).stats.misses ≤ (state_after j trace).stats.evictions + j.config.capacity
 queues-fit j trace =
-    let counted = queues-counted (state_after j trace) (after-balanced j trace) in
     let few = residents-fit j trace in
-    omega (arith, counted, few)
+    omega (arith, queues-counted (state_after j trace) (after-balanced j trace), few)
 
 optimal-fit : (c : ℕ) (t : List ℕ) (i : ℕ) → (stats_of (belady_outcomes c t i)).misses ≤ (stats_of (belady_outcomes c t i)).evictions + c
 optimal-fit c t i = let counted = held-count c t i in let few = belady-residents-fit c t i in omega (arith, counted, few)
@@ -87,8 +84,7 @@ demand-fit law p (suc c) t =
 
 unopened-fit : CacheKeeps → (f : Result (Unit {0}) ConfigFault) (j : Job) (trace : List ℕ) → config_fault j.config ≡ f
     → (stats_of (adaptive_outcomes f j trace)).misses ≤ (stats_of (adaptive_outcomes f j trace)).evictions + j.config.capacity
-unopened-fit law (Ok u) j trace ok = adaptive-fit law j trace ok
-unopened-fit law (Err e) j trace ok = let few = none-kept trace in omega (arith, few)
+unopened-fit law v j trace ok = grind (arith, nat_tests, adaptive-fit, none-kept)
 
 fit-by : DemandKeeps → CacheKeeps → (x : Design) (j : Job) (trace : List ℕ)
     → (stats_of (outcomes_by x j trace)).misses ≤ (stats_of (outcomes_by x j trace)).evictions + j.config.capacity

@@ -2,7 +2,6 @@
 use Rattle.std.proofs.lemmas.Bool.Decides.{nat_tests}
 use Rattle.std.proofs.Common.{◌≡◌, ℕ, true, ◌+◌, ◌≤◌, Option, Some, None, List, [], ◌∷◌, ◌++◌, length, get_or, ap, ◌∙◌, sym, refl, arith, subst, length-append}
 use Rattle.std.proofs.lemmas.List.{take_more}
-use Rattle.step_record.specs.Config.{config_fault}
 use Rattle.step_record.specs.declared.limits.TheConstants.{MAX_STEPS}
 use Rattle.step_record.specs.declared.outcome.Outcome.TheVariants.{Hit}
 use Rattle.step_record.specs.Stats.{is_eviction, stats_of}
@@ -24,14 +23,14 @@ use Rattle.queue_cache.specs.declared.design.Design.{Design}
 use Rattle.queue_cache.specs.declared.design.Design.TheVariants as design
 use Rattle.queue_cache.specs.Design.{design_of, is_of_queues, is_optimal}
 use Rattle.policies.specs.DemandDesign.{demand_policy}
-use Rattle.policies.specs.AnyPolicy.{AnyPolicy, outcomes_by, adaptive_start, demand_run, IsBeladyAt, HasAccessed}
+use Rattle.policies.specs.AnyPolicy.{AnyPolicy, outcomes_by, adaptive_start, demand_run, IsBeladyAt, HasAccessed, adaptive_outcomes}
 use Rattle.policies.specs.Theorems.{AnyStepLaw, AnyAccepts, AnyIsOne, AnyAnswers, AnyCoversTrace, AnyHitsKeepAll, AnyRecordsShowOutcome, AnyAsksWhereOneLeft}
 use Rattle.clairvoyant.proofs.Records.{outcome-is}
 use Rattle.queue_cache.proofs.Leaving.{hit-keeps-all, queue-asks-evicts}
 use Rattle.queue_cache.proofs.Answered.{after-answers, after-length}
 use Rattle.policies.proofs.OptimalOutcomes.{at-answers, outcomes-length}
 use Rattle.policies.proofs.Demand.{demand_stands, demand-accesses, outcomes-at, with-room, demand-room, demand-long, demand-sound}
-use Rattle.policies.proofs.Adaptive.{adaptive_stands, adaptive-accesses, adaptive-sound, when-checked, adaptive-long}
+use Rattle.policies.proofs.Adaptive.{adaptive_stands, adaptive-accesses, adaptive-sound, adaptive-long}
 use Rattle.queue_cache.proofs.Reached.{stands-step, stands-outcome, stands-accesses}
 
 -- a cache that knows the trace, at its place
@@ -60,8 +59,7 @@ at-length [] rest k = refl
 at-length (a ∷ keys) rest k = at-length keys rest k
 
 no-optimal : (x : Option (Outcome × ClairvoyantState)) → lifted Optimal x ≡ None → x ≡ None
-no-optimal None h = refl
-no-optimal (Some p) h = absurd (cc (h))
+no-optimal v h = grind (arith, nat_tests)
 
 -- a cache that made fewer accesses than the trace has is not at its last
 has-left : (trace keys rest : List ℕ) (k n : ℕ) → trace ≡ keys ++ k ∷ rest → length trace ≤ MAX_STEPS → n ≡ length keys → n ≡ MAX_STEPS → ⊥
@@ -93,22 +91,13 @@ cache_by design.Adaptive j trace keys = Adaptive (state_after_all cache_access (
 
 module _ (j : Job) (trace keys : List ℕ) where
   by-queues : (x : Design) → is_of_queues x ≡ true → Queues (state_after j keys) ≡ cache_by x j trace keys
-  by-queues (design.Queues q) h = refl
-  by-queues design.KnowsTrace h = absurd (cc h)
-  by-queues (design.Demand p) h = absurd (cc h)
-  by-queues design.Adaptive h = absurd (cc h)
+  by-queues v h = grind (arith, nat_tests)
 
   by-trace : (x : Design) → is_optimal x ≡ true → Optimal (clairvoyant_at j.config.capacity trace (length keys)) ≡ cache_by x j trace keys
-  by-trace (design.Queues q) h = absurd (cc h)
-  by-trace design.KnowsTrace h = refl
-  by-trace (design.Demand p) h = absurd (cc h)
-  by-trace design.Adaptive h = absurd (cc h)
+  by-trace v h = grind (arith, nat_tests)
 
   is-cache : (d : AnyPolicy) → HasAccessed j trace keys d → d ≡ cache_by (design_of j.policy) j trace keys
-  is-cache (Queues d) s = ap Queues s.1.gives ∙ by-queues (design_of j.policy) s.0
-  is-cache (Optimal d) s = ap Optimal s.gives ∙ by-trace (design_of j.policy) s.policy
-  is-cache (Demand d) s = (λ i. Demand record { queues = s.queues i; stats = s.stats i }) ∙ ap (λ x. cache_by x j trace keys) (sym s.design)
-  is-cache (Adaptive d) s = ap Adaptive s.gives ∙ ap (λ x. cache_by x j trace keys) (sym s.design)
+  is-cache v s = grind (arith, nat_tests, by-queues, by-trace)
 
 pub any_one : AnyIsOne
 any_one j trace keys d e a b = is-cache j trace keys d a ∙ sym (is-cache j trace keys e b)
@@ -116,23 +105,14 @@ any_one j trace keys d e a b = is-cache j trace keys d a ∙ sym (is-cache j tra
 -- the outcomes over the whole trace
 
 pub outcomes-of-queues : (x : Design) (j : Job) (trace : List ℕ) → is_of_queues x ≡ true → outcomes_by x j trace ≡ outcomes_after j trace
-outcomes-of-queues (design.Queues q) j trace h = refl
-outcomes-of-queues design.KnowsTrace j trace h = absurd (cc (h))
-outcomes-of-queues (design.Demand p) j trace h = absurd (cc (h))
-outcomes-of-queues design.Adaptive j trace h = absurd (cc (h))
+outcomes-of-queues v j trace h = grind (arith, nat_tests)
 
 pub outcomes-of-optimal : (x : Design) (j : Job) (trace : List ℕ) → is_optimal x ≡ true
     → outcomes_by x j trace ≡ belady_outcomes j.config.capacity trace (length trace)
-outcomes-of-optimal (design.Queues q) j trace h = absurd (cc (h))
-outcomes-of-optimal design.KnowsTrace j trace h = refl
-outcomes-of-optimal (design.Demand p) j trace h = absurd (cc (h))
-outcomes-of-optimal design.Adaptive j trace h = absurd (cc (h))
+outcomes-of-optimal v j trace h = grind (arith, nat_tests)
 
 covers-by : (x : Design) (j : Job) (trace : List ℕ) → length (outcomes_by x j trace) ≡ length trace
-covers-by (design.Queues q) j trace = after-length j trace
-covers-by design.KnowsTrace j trace = outcomes-length j.config.capacity trace (length trace)
-covers-by (design.Demand p) j trace = demand-long (demand_policy p j) j.config.capacity trace
-covers-by design.Adaptive j trace = adaptive-long (config_fault j.config) j trace
+covers-by v j trace = grind (arith, nat_tests, after-length, outcomes-length, demand-long, adaptive-long)
 
 pub any_covers_trace : AnyCoversTrace
 any_covers_trace j trace = covers-by (design_of j.policy) j trace
@@ -155,17 +135,13 @@ any_answers law j trace keys rest k (Adaptive d) o e x t s h =
     ∙ ap (λ z. (cache_access k z).0) s.gives
     ∙ sym (outcomes-at cache_access (adaptive_start j) keys rest k x)
     ∙ ap (λ l. get_or (outcomes_of_all cache_access (adaptive_start j) l) (length keys) x) (sym t)
-    ∙ ap (λ os. get_or os (length keys) x) (sym (when-checked j trace s.checked))
+    ∙ ap (λ os. get_or os (length keys) x) (sym (ap (λ f. adaptive_outcomes f j trace) s.checked))
     ∙ ap (λ z. get_or (outcomes_by z j trace) (length keys) x) (sym s.design)
 
 -- a record has the outcome
 
 pub any_records_show_outcome : ClairvoyantStepLaw → AnyRecordsShowOutcome
-any_records_show_outcome law j trace keys (Queues d) k o e s h = grind (arith, nat_tests, accepted-in)
-any_records_show_outcome law j trace keys (Optimal d) k o e s h =
-    grind (arith, nat_tests, at_place j trace keys d s, outcome-is d.capacity d.trace d.stats.accesses)
-any_records_show_outcome law j trace keys (Demand d) k o e s h = grind (arith, nat_tests, accepted-in)
-any_records_show_outcome law j trace keys (Adaptive d) k o e s h = grind (arith, nat_tests, accepted-in)
+any_records_show_outcome law j trace keys v k o e s h = grind (arith, nat_tests, accepted-in, at_place, outcome-is)
 
 -- undoing a hit asks for no room
 

@@ -184,9 +184,6 @@ module _ (k : ℕ) (s : Queues) (t : IsTabled s) where
             subst (λ v. IsNew (page_plan f v)) (sym (page-leaver false x x))
             (new-by record { first = leaves g; second = second } f (leaver g) e (leaves-low g, low) (leaves-outcome g) shows)
 
-        tabled : IsTabled (after_leaving (leaves g) s)
-        tabled = tabled-leaving s t (leaves g) (leaves-low g)
-
         lengths : (j : ℕ) → length (keys j) ≡ length (s j)
         lengths j = length-keys (s j)
 
@@ -201,10 +198,10 @@ module _ (k : ℕ) (s : Queues) (t : IsTabled s) where
 
         new : IsNew (plan_of_new_key c old)
         new =
-                        new-cases c old IsNew
+            new-cases c old IsNew
             (λ same low.
             replaced-by (leaving B1 None) (oldest_forgotten OfB1 (keys B1)) (omega arith, tt) (rw (at_l1 same, lt-ltb (length (s T1)) c (omega (arith, low, lengths T1))) refl)
-            (left-state _ tabled x B1 None ∙ ap less_b1 (evicted-state g x) ∙ b1-forgets (leaver g) (keys B1) old (omega (arith, same, low))))
+            (left-state _ (tabled-leaving s t (leaves g) (leaves-low g)) x B1 None ∙ ap less_b1 (evicted-state g x) ∙ b1-forgets (leaver g) (keys B1) old (omega (arith, same, low))))
             (λ same low.
             new-by record { first = leaving T1 None; second = None } NoneForgotten (oldest_leaver Dropped (keys T1)) (rw (at_l1 same, le-ltb (length (s T1)) c (omega (arith, low, lengths T1))) refl)
             ((omega arith, tt), tt) (outcomes (s T1) Dropped (λ v. refl)) (left-state s t x T1 None ∙ sym (dropped-state (keys T1) old refl)))
@@ -214,7 +211,7 @@ module _ (k : ℕ) (s : Queues) (t : IsTabled s) where
             (λ other many same.
             replaced-by (leaving B2 None) (oldest_forgotten OfB2 (keys B2)) (omega arith, tt)
             (rw (off_l1 other, le-ltb (total s) c (omega (arith, many, totals)), eq-eqb (total s) (2 * c) (sym totals ∙ same)) refl)
-            (left-state _ tabled x B2 None ∙ ap less_b2 (evicted-state g x) ∙ b2-forgets (leaver g) (keys B2) old (omega (arith, same, other))))
+            (left-state _ (tabled-leaving s t (leaves g) (leaves-low g)) x B2 None ∙ ap less_b2 (evicted-state g x) ∙ b2-forgets (leaver g) (keys B2) old (omega (arith, same, other))))
             (λ other many less.
             replaced-by None NoneForgotten tt
             (rw (off_l1 other, le-ltb (total s) c (omega (arith, many, totals)), ne_eqb (total s) (2 * c) (λ z. less (totals ∙ z))) refl)
@@ -258,14 +255,6 @@ planned c k x s some t shown i = (planned-at c k x s some t i (standing (item_of
 
 -- ---- the plan of a key that stands in a ghost
 
-pub ghost-plan : (c p q y : ℕ) (s : Queues) → q < QUEUES → (eqb q T1 || eqb q T2) ≡ false
-    → y ≡ cond (eqb q B2) (p - step_size B1 B2 s) (min c (p + step_size B2 B1 s)) → plan_in c p q s ≡ recall_plan (eqb q B2) y s
-ghost-plan c p zero y s low out e = absurd (cc (out))
-ghost-plan c p (suc zero) y s low out e = absurd (cc (out))
-ghost-plan c p (suc (suc zero)) y s low out e = ap (λ z. recall_plan false z s) (sym e)
-ghost-plan c p (suc (suc (suc zero))) y s low out e = ap (λ z. recall_plan true z s) (sym e)
-ghost-plan c p (suc (suc (suc (suc q)))) y s low out e = absurd (omega (arith, low))
-
 -- ---- keys leave where the cache is full: a ghost has a key only there
 
 module _ (c x : ℕ) (s : Queues) (i : IsArc c (arc_of x s)) where
@@ -279,14 +268,11 @@ module _ (c x : ℕ) (s : Queues) (i : IsArc c (arc_of x s)) where
   ghost-full h =
       grind (arith, nat_tests, is-full, length-keys (s B1), length-keys (s B2), length-keys (s T1), length-keys (s T2))
 
-  all-full : c ≤ total s → IsFull
-  all-full h = grind (arith, nat_tests, cases_lt 0 (length (s B1) + length (s B2)), ghost-full, is-full)
-
   abbrev IsNoneOrFull : Leavers → Type 0
   IsNoneOrFull l = ((l.first ≡ None) × (l.second ≡ None)) ⊎ IsFull
 
   leaves-of-new : IsNoneOrFull (new_key_leavers c x s)
-  leaves-of-new = grind (arith, nat_tests, cond_both, all-full, eqb-true, ltb-false)
+  leaves-of-new = grind (arith, nat_tests, cond_both, cases_lt, ghost-full, is-full, eqb-true, ltb-false)
 
   leaves-at : IsTabled s → (k : ℕ) (at : Option (ℕ × ℕ)) → standing (item_of k) s ≡ at → LeavesWhere IsFull (plan_at c x at s)
   leaves-at t k None h = miss-full IsFull (new_key_leavers c x s) _ x leaves-of-new

@@ -11,7 +11,7 @@ use Rattle.queue_policies.specs.Turns.{after_turns as page_turns, turn_count}
 use Rattle.queue_policies.specs.Clock.{marked_key, clock_eviction, IsClock}
 use Rattle.queue_policies.proofs.CountedKeys.{length-keys}
 use Rattle.queue_policies.proofs.Clock.{counted-total, keeps}
-use Rattle.queue_moves.specs.Moves.{Entry, item_of, after_turns, turns_due, evicted, departed, leaving, after_leaving, standing, counts}
+use Rattle.queue_moves.specs.Moves.{Entry, item_of, after_turns, turns_due, evicted, departed, leaving, after_leaving, counts}
 use Rattle.queue_moves.specs.Tabled.{IsTabled}
 use Rattle.policy_steps.specs.Counted.{counted_keys}
 use Rattle.policy_steps.specs.Planned.{IsWithin, IsPlannedWithin}
@@ -42,8 +42,7 @@ module _ (k : ℕ) where
       ap (λ s. clock_of (after_send new 0 s)) (oldest-gone u t 0 e l h) ∙ joined l (omega (arith, sum, zero_of))
 
   leaver : (l : List Entry) → evicted (oldest_of l) ≡ (clock_eviction k (counted_keys l)).0
-  leaver [] = refl
-  leaver (e ∷ l) = refl
+  leaver v = grind (arith, nat_tests)
 
 -- ---- an access
 
@@ -77,11 +76,4 @@ planned c k x s some t first state =
     (λ none. joined k (s 0) (none 0 (omega arith))) (λ none f. evict c k x s t first state none)
 
 pub clock-sound : IsSoundPage clock_page
-clock-sound = record {
-  keeps = keeps;
-  starts = (λ q w. refl, refl);
-  planned = planned;
-  residents = λ x s. keys-counted (s 0);
-  hits = λ c k x s. resident-alone (standing (item_of k) s) _ _ _ x _ refl;
-  leaves = λ c k x s t first state. resident-full _ (standing (item_of k) s) _ _ _ x _ (λ e. not-less _ _ c (counted-length (s 0)) e);
-}
+clock-sound = search (arith, keeps, planned, keys-counted, resident-alone, resident-full, not-less, counted-length)

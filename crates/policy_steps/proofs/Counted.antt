@@ -1,13 +1,12 @@
 -- Entries as keys with counts.
-use Rattle.std.proofs.Common.{◌≡◌, ℕ, ◌+◌, ◌≤◌, true, false, cond, nat_lt, List, [], ◌∷◌, ◌++◌, length, ap, ◌∙◌, sym, refl, arith}
-use Rattle.std.proofs.lemmas.Bool.{eq-eqb, ltb-false}
+use Rattle.std.proofs.Common.{◌≡◌, ℕ, ◌+◌, ◌≤◌, true, cond, nat_lt, List, [], ◌∷◌, ◌++◌, length, ap, ◌∙◌, refl, arith}
+use Rattle.std.proofs.lemmas.Bool.{eq-eqb}
 use Rattle.std.proofs.lemmas.List.{length-map, map-append}
 use Rattle.std.proofs.lemmas.Bool.Decides.{nat_tests}
 use Rattle.step_record.specs.Keys.{has_key}
-use Rattle.queue_table.specs.Entries.{oldest_of, occurrences, entries_without, entries_counted}
+use Rattle.queue_table.specs.Entries.{oldest_of, occurrences, entries_counted}
 use Rattle.queue_table.specs.Queues.{Queues}
 use Rattle.queue_table.proofs.EntryLists.{times-append}
-use Rattle.queue_table.proofs.MoveBack.{without-none}
 use Rattle.queue_policies.specs.CountedKeys.{CountedKey, keys_of, count_of, with_count, oldest_count}
 use Rattle.queue_policies.proofs.CountedKeys.{keys-append, count-append}
 use Rattle.ghost_policies.proofs.Weights.{has-append}
@@ -23,8 +22,7 @@ pub length-counted : (l : List Entry) → length (counted_keys l) ≡ length l
 length-counted l = length-map l counted_key
 
 pub oldest-counted : (l : List Entry) → oldest_count (counted_keys l) ≡ count_or 0 (oldest_of l)
-oldest-counted [] = refl
-oldest-counted (e ∷ l) = refl
+oldest-counted v = grind (arith, nat_tests)
 
 pub keys-counted : (l : List Entry) → keys_of (counted_keys l) ≡ entry_keys l
 keys-counted [] = refl
@@ -43,16 +41,11 @@ nodes-append (e ∷ a) b = omega (arith, nodes-append a b)
 
 -- keys of two queues
 pub key-both : (k : ℕ) (a b : List Entry) → nodes_of a ≡ 0 → nodes_of b ≡ 0 → has_key k (keys_of (counted_keys a ++ counted_keys b)) ≡ nat_lt 0 (occurrences (item_of k) a + occurrences (item_of k) b)
-key-both k a b za zb =
-    grind (arith, nat_tests, nodes-append a b, counted-append a b, key-counted, times-append (item_of k) a b)
+key-both k a b za zb = search (arith, nodes-append a b, counted-append a b, key-counted, times-append (item_of k) a b)
 
 pub counted-with : (k n : ℕ) (l : List Entry) → nodes_of l ≡ 0 → occurrences (item_of k) l ≤ 1 → counted_keys (entries_counted (item_of k) n l) ≡ with_count k n (counted_keys l)
 counted-with k n [] h few = refl
-counted-with k n (e ∷ l) h few =
-    grind (arith, nat_tests, same-key k e.item (omega (arith, h)), counted-none (item_of k) n l, counted-with k n l)
-
-pub without-counted : (k : ℕ) (l : List Entry) → nodes_of l ≡ 0 → has_key k (entry_keys l) ≡ false → counted_keys (entries_without (item_of k) l) ≡ counted_keys l
-without-counted k l z h = let none = ltb-false 0 _ (sym (has-occurs k l z) ∙ h) in ap counted_keys (without-none (item_of k) l (omega (arith, none)))
+counted-with k n (e ∷ l) h few = grind (arith, nat_tests, same-key, counted-none, counted-with k n l)
 
 -- ---- the key k in one of two queues
 

@@ -1,11 +1,10 @@
 -- A key leaves for a ghost, which the accessed key may leave.
-use Rattle.std.proofs.Common.{◌≡◌, ℕ, ◌<◌, ◌≤◌, Bool, true, false, cond, eqb, nat_lt, ◌||◌, Some, List, [], ◌∷◌, ◌++◌, length, drop, refl, arith}
+use Rattle.std.proofs.Common.{◌≡◌, ℕ, ◌<◌, ◌≤◌, Bool, true, false, cond, eqb, nat_lt, ◌||◌, Some, List, [], ◌∷◌, ◌++◌, length, drop, arith}
 use Rattle.std.proofs.lemmas.Bool.{cond_both, lt-ltb}
 use Rattle.std.proofs.lemmas.Bool.Decides.{nat_tests}
 use Rattle.step_record.specs.Keys.{has_key, keys_without}
 use Rattle.queue_table.specs.Entries.{entry}
 use Rattle.queue_table.specs.Queues.{QUEUES, Queues, with_queue, after_push}
-use Rattle.queue_policies.specs.Queues.{without_oldest}
 use Rattle.queue_policies.specs.Ghost.{ghost_with}
 use Rattle.queue_policies.proofs.Ghost.{without-length, without-none}
 use Rattle.ghost_policies.proofs.Weights.{has-append}
@@ -43,21 +42,14 @@ without-shorter : (k : ℕ) (l : List ℕ) → has_key k l ≡ true → length (
 without-shorter k [] h = absurd (cc (h))
 without-shorter k (a ∷ l) h = grind (arith, nat_tests, without-shorter k l, without-length k l)
 
-drop-oldest : (l : List ℕ) → drop 1 l ≡ without_oldest l
-drop-oldest [] = refl
-drop-oldest (a ∷ l) = refl
-
 remembered : (k size v : ℕ) (g : List ℕ) (r : Bool) → has_key k g ≡ r → eqb k v ≡ false → length g ≤ size
     → keys_without k (cond (r || nat_lt (length g) size) (g ++ v ∷ []) (drop 1 (g ++ v ∷ []))) ≡ ghost_with size v (keys_without k g)
-remembered k size v g true h other few =
-    grind (arith, nat_tests, without-shorter k g h, lt-ltb, without-push k v g other)
+remembered k size v g true h other few = search (arith, without-shorter k g h, lt-ltb, without-push k v g other)
 remembered k size v g false h other few =
-    grind (arith, nat_tests, has-append, without-none, without-cond, without-drop, drop-oldest)
+    grind (arith, nat_tests, has-append, without-none, without-cond, without-drop)
 
 keys-kept : (f : Bool) (g : List Entry) → keys_of (kept f g) ≡ cond f (keys_of g) (drop 1 (keys_of g))
-keys-kept true g = refl
-keys-kept false [] = refl
-keys-kept false (e ∷ g) = refl
+keys-kept v g = grind (arith, nat_tests)
 
 pub ghost-keys : (k size : ℕ) (e : Entry) (g : List Entry) (r : Bool) → has_key k (keys_of g) ≡ r → eqb k e.item.key ≡ false → length (keys_of g) ≤ size
     → keys_without k (keys_of (kept (r || nat_lt (length g) size) (g ++ entry e.item 0 ∷ []))) ≡ ghost_with size e.item.key (keys_without k (keys_of g))

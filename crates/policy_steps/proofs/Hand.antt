@@ -12,7 +12,7 @@ use Rattle.queue_moves.specs.Moves.{Entry, count_or, after_turn, after_turns, tu
 use Rattle.queue_moves.specs.Tabled.{IsTabled}
 use Rattle.queue_moves.proofs.Tabled.{tabled-turn, turn-is}
 use Rattle.policy_steps.specs.Sieve.{passed_queue}
-use Rattle.policy_steps.specs.Counted.{counted_key, counted_keys}
+use Rattle.policy_steps.specs.Counted.{counted_keys}
 use Rattle.policy_steps.proofs.Counted.{counted-append}
 
 -- ---- the definition's passes, one by one
@@ -22,15 +22,10 @@ abbrev pub stopped : SieveState → SieveState
 stopped s = after_passes (pass_count s) s
 
 pub no-pass : (n : ℕ) (s : SieveState) → oldest_count s.ahead ≡ 0 → after_passes (pass_count_within n s) s ≡ s
-no-pass zero s h = refl
-no-pass (suc n) s h = rw (eq-eqb (oldest_count s.ahead) 0 h) refl
+no-pass v s h = grind (arith, nat_tests, eq-eqb)
 
 pass-within : (n : ℕ) (s : SieveState) → n ≡ total_count (whole s) → eqb (oldest_count s.ahead) 0 ≡ false → after_passes (pass_count_within n s) s ≡ stopped (after_pass s.passed s.ahead)
-pass-within zero s e h = absurd (let less = past-total s.passed s.ahead h in omega (arith, e, less))
-pass-within (suc n) s e h = grind (arith, nat_tests, past-total s.passed s.ahead h)
-
-pass-first : (s : SieveState) → eqb (oldest_count s.ahead) 0 ≡ false → stopped s ≡ stopped (after_pass s.passed s.ahead)
-pass-first s h = pass-within (total_count (whole s)) s refl h
+pass-within v s e h = grind (arith, nat_tests, past-total)
 
 -- ---- bits
 
@@ -81,7 +76,7 @@ module _ (x : ℕ) (low : x ≤ 1) where
       let u = turn s e l t h in
       let lowered = ap counted_keys u.1 ∙ counted-append (s (passed_queue x)) (entry e.item (e.count - 1) ∷ []) in
       let set : eqb e.count 0 ≡ false = ne_eqb e.count 0 (λ z. let no : true ≡ false = sym (lt-ltb e.count 1 (omega (arith, z))) ∙ g in cc no) in
-      grind (arith, nat_tests, pass-first (record { passed = counted_keys (s (passed_queue x)); ahead = counted_key e ∷ counted_keys l }) set)
+      grind (arith, nat_tests, pass-within)
 
   pub passes : (m : ℕ) (s : Queues) → IsTabled s → stopped (at_hand s) ≡ stopped (at_hand (passed m s))
   passes zero s t = refl

@@ -1,6 +1,6 @@
 -- When keys leave the queues by a plan.
 use Rattle.std.proofs.lemmas.Bool.Decides.{nat_tests}
-use Rattle.std.proofs.Common.{◌≡◌, ℕ, ◌+◌, ◌⊎◌, Bool, true, false, if◌then◌else◌, nat_lt, Option, Some, None, List, ◌++◌, length, ap, ◌∙◌, sym, refl, arith, inl, inr, length-append}
+use Rattle.std.proofs.Common.{◌≡◌, ℕ, ◌+◌, ◌⊎◌, Bool, true, false, if◌then◌else◌, nat_lt, Option, None, List, ◌++◌, length, ap, ◌∙◌, sym, refl, arith, inl, length-append}
 use Rattle.std.proofs.lemmas.List.{length-map}
 use Rattle.queue_policies.specs.CountedKeys as counted
 use Rattle.queue_policies.proofs.CountedKeys.{length-keys}
@@ -24,31 +24,26 @@ pub never : (p : Plan) → p.hits ≡ false → HitsAlone p
 never p f h = absurd (let no : false ≡ true = sym f ∙ h in cc no)
 
 pub either : (b : Bool) (p q : Plan) → HitsAlone p → HitsAlone q → HitsAlone (if b then p else q)
-either true p q f g = f
-either false p q f g = g
+either v p q f g = grind (arith, nat_tests)
 
 pub resident-alone : (at : Option (ℕ × ℕ)) (room : Bool) (hit join : Own) (x : ℕ) (full : Plan) → full.hits ≡ false → HitsAlone (resident_plan at room hit join x full)
-resident-alone (Some a) room hit join x full f = own-alone true hit x
-resident-alone None room hit join x full f = either room (own_plan false join x) full (own-alone false join x) (never full f)
+resident-alone v room hit join x full f = grind (arith, nat_tests, own-alone, either, never)
 
 -- ---- by a miss keys leave where the cache is full
 
 module _ (full : Type 0) where
   pub one-of : (b : Bool) (p q : Plan) → (b ≡ true → LeavesWhere full p) → (b ≡ false → LeavesWhere full q) → LeavesWhere full (if b then p else q)
-  one-of true p q f g = f refl
-  one-of false p q f g = g refl
+  one-of v p q f g = grind (arith, nat_tests)
 
   pub own-none : (b : Bool) (o : Own) (x : ℕ) → LeavesWhere full (own_plan b o x)
   own-none b o x = inl (record { first = refl; second = refl })
 
   pub resident-full : (at : Option (ℕ × ℕ)) (room : Bool) (hit join : Own) (x : ℕ) (p : Plan) → (room ≡ false → full) → LeavesWhere full (resident_plan at room hit join x p)
-  resident-full (Some a) room hit join x p f = own-none true hit x
-  resident-full None room hit join x p f = one-of room _ _ (λ e. own-none false join x) (λ e. inr (f e))
+  resident-full v room hit join x p f = grind (arith, nat_tests, own-none, one-of)
 
   -- a miss without runs
   pub miss-full : (l : Leavers) (o : Own) (x : ℕ) → (l.first ≡ None) × (l.second ≡ None) ⊎ full → LeavesWhere full (miss_plan l o x)
-  miss-full l o x (inl n) = inl (record { first = n.0; second = n.1 })
-  miss-full l o x (inr f) = inr f
+  miss-full l o x v = grind (arith, nat_tests)
 
 -- the sizes of one queue with counts, and of two, with counts and without
 pub counted-length : (l : List Entry) → length (counted.keys_of (counted_keys l)) ≡ length l

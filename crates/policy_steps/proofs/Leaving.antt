@@ -1,4 +1,5 @@
 -- A queue's oldest key leaves it, and what that leaves alone.
+use Rattle.std.proofs.lemmas.Bool.Decides.{nat_tests}
 use Rattle.std.proofs.Common.{eqb, ◌++◌, map, take, append-nil, ◌≡◌, ℕ, zero, suc, ◌-◌, ◌<◌, false, Option, Some, None, List, [], ◌∷◌, drop, ap, sym, subst, ◌∙◌, refl, arith}
 use Rattle.std.proofs.Math.Path.{fun_ext}
 use Rattle.std.proofs.lemmas.Bool.{cond_both, eqb-true}
@@ -43,10 +44,7 @@ any-sent s t q to n = at (s q) refl
     after l = with_queue to (with_queue q (drop 1 l) s to ++ map (λ (e : Entry). entry e.item n) (take 1 l)) (with_queue q (drop 1 l) s)
 
     at : (l : List Entry) → s q ≡ l → after_leaving (leaving q (Some (to, n))) s ≡ after (s q)
-    at [] h =
-        let same : with_queue q [] s ≡ s = ap (λ l. with_queue q l s) (sym h) ∙ with-same q s in
-        ap (λ o. departed (Some (to, n)) o s) (ap oldest_of h) ∙ sym (with-same to s) ∙ ap (λ l. with_queue to l s) (sym (append-nil (s to)))
-        ∙ ap (λ (u : Queues). with_queue to (u to ++ []) u) (sym same) ∙ ap after (sym h)
+    at [] h = grind (arith, nat_tests, with-same q s, with-same to s, append-nil (s to))
     at (e ∷ l) h = ap (λ o. departed (Some (to, n)) o s) (ap oldest_of h) ∙ ap (after_push to (entry e.item n)) (oldest-gone s t q e l h) ∙ ap after (sym h)
 
 -- ---- an entry of other queues stays out of those that keys leave
@@ -90,5 +88,4 @@ pub absent-left : (i : Item) (l : Option Leaving) (s u : Queues) (r : Left) → 
 absent-left i l s u r w left h = is_absent i u (subst (IsAbsent i) (sym left.after) (still-absent i l s w (absent i s h)))
 
 pub absent-run : (i : Item) (r : Run) (s u : Queues) → IsRun r s u → queue_holding i s ≡ None → queue_holding i u ≡ None
-absent-run i r s u ran none =
-    subst (λ v. queue_holding i v ≡ None) (sym ran.after) (is_absent i (after_run r s) (absent-turns i r.times r.from r.to r.less s ran.fits.from (absent i s none)))
+absent-run i r s u ran none = grind (arith, nat_tests, is_absent, absent-turns, absent)

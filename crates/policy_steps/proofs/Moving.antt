@@ -33,9 +33,6 @@ keys_left from None f j = cond (eqb j from) (drop 1 (f from)) (f j)
 keys_left from (Some to) f j =
     cond (eqb j to.0) (cond (eqb to.0 from) (drop 1 (f from)) (f to.0) ++ take 1 (f from)) (cond (eqb j from) (drop 1 (f from)) (f j))
 
-keys-with : (q : ℕ) (l : List Entry) (s : Queues) (j : ℕ) → keys_of (with_queue q l s j) ≡ cond (eqb j q) (keys_of l) (keys_of (s j))
-keys-with q l s j = grind (arith, nat_tests)
-
 keys-drop : (l : List Entry) → keys_of (drop 1 l) ≡ drop 1 (keys_of l)
 keys-drop [] = refl
 keys-drop (e ∷ l) = refl
@@ -49,20 +46,16 @@ module _ (s : Queues) (from : ℕ) (t : IsTabled s) where
   keys q = keys_of (s q)
 
   rest : (j : ℕ) → keys_of (with_queue from (drop 1 (s from)) s j) ≡ keys_left from None keys j
-  rest j = keys-with from (drop 1 (s from)) s j ∙ ap (λ l. cond (eqb j from) l (keys j)) (keys-drop (s from))
+  rest j = (grind (arith, nat_tests)) ∙ ap (λ l. cond (eqb j from) l (keys j)) (keys-drop (s from))
 
   pub left-keys : (to : Option (ℕ × ℕ)) (j : ℕ) → keys_of (after_leaving (leaving from to) s j) ≡ keys_left from to keys j
   left-keys None j = ap (λ (u : Queues). keys_of (u j)) (any-out s t from) ∙ rest j
   left-keys (Some to) j =
       let u : Queues = with_queue from (drop 1 (s from)) s in
       let one : List Entry = map (λ (e : Entry). entry e.item to.1) (take 1 (s from)) in
-      ap (λ (v : Queues). keys_of (v j)) (any-sent s t from to.0 to.1) ∙ keys-with to.0 (u to.0 ++ one) u j
+      ap (λ (v : Queues). keys_of (v j)) (any-sent s t from to.0 to.1) ∙ (grind (arith, nat_tests))
       ∙ ap (λ l. cond (eqb j to.0) l (keys_of (u j))) (keys-append (u to.0) one ∙ ap (λ l. l ++ keys_of one) (rest to.0) ∙ ap (λ l. keys_left from None keys to.0 ++ l) (keys-take to.1 (s from)))
       ∙ ap (λ l. cond (eqb j to.0) (keys_left from None keys to.0 ++ take 1 (keys from)) l) (rest j)
-
--- a key that is not there is taken out for nothing, also once the oldest key has left
-pub without-rest : (k v : ℕ) (l : List ℕ) → has_key k (v ∷ l) ≡ false → keys_without k l ≡ l
-without-rest k v l h = grind (arith, nat_tests, without-none k l)
 
 pub without-drop : (k : ℕ) (l : List ℕ) → has_key k l ≡ false → keys_without k (drop 1 l) ≡ drop 1 l
 without-drop k [] h = refl

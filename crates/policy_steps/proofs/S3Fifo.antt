@@ -1,7 +1,7 @@
 -- The plan of an access to an S3-FIFO cache comes to what the definition says.
 use Rattle.std.proofs.lemmas.Bool.Decides.{nat_tests}
 use Rattle.std.proofs.Common.{◌≡◌, ℕ, ◌+◌, ◌-◌, ◌<◌, ◌≤◌, Bool, true, false, eqb, ◌==◌, nat_lt, Option, Some, None, List, ◌++◌, length, ap, sym, subst, ◌∙◌, refl, arith, inl, inr}
-use Rattle.std.proofs.lemmas.Bool.{cases_Bool, cond_both, or_parts, eqb-true, eqb-false}
+use Rattle.std.proofs.lemmas.Bool.{cases_Bool, cond_both, or_parts, eqb-true, eqb-false, ltb-false}
 use Rattle.step_record.specs.Keys.{has_key, keys_without}
 use Rattle.step_record.specs.declared.outcome.Outcome.TheVariants as outcome
 use Rattle.queue_table.specs.Entries.{entry, entries_counted}
@@ -16,31 +16,32 @@ use Rattle.queue_policies.proofs.CountedKeys.{keys-times, count-append, keys-wit
 use Rattle.queue_policies.proofs.S3Fifo.{unmoved, join-times, room-made, keeps}
 use Rattle.queue_moves.specs.Moves.{Entry, item_of, standing, no_run, counts, goes, Plan, own_plan, after_run, after_runs, leaving, outcome_after, IsLowRun, IsLowOwn, IsLowPlan}
 use Rattle.queue_moves.specs.Tabled.{IsTabled, StandsAs, keys_of, HasKeys}
-use Rattle.queue_moves.proofs.Tabled.{stands, stands-nowhere, tabled-turns, tabled-runs}
+use Rattle.queue_moves.proofs.Tabled.{stands, stands-nowhere, tabled-turns, tabled-runs, has-occurs}
 use Rattle.policy_steps.specs.Counted.{counted_keys}
 use Rattle.policy_steps.specs.Misses.{Run, Leavers, no_leavers, one_leaver, after_leavers, leavers_for_ghost, run_plan}
 use Rattle.policy_steps.specs.Planned.{IsPlannedBy}
 use Rattle.policy_steps.specs.S3Fifo.{SMALL, MAIN, GHOST, s3_fifo_of, promotions, gives_main, main_turns, joins, s3_fifo_miss, plan_at, is_resident, s3_fifo_page}
-use Rattle.policy_steps.proofs.Counted.{counted-append, keys-counted, counted-with, both-counted, without-counted, has-both, its-count}
+use Rattle.policy_steps.proofs.Counted.{counted-append, keys-counted, counted-with, both-counted, has-both, its-count}
 use Rattle.policy_steps.proofs.Ghosts.{leavers-low}
 use Rattle.policy_steps.proofs.Moving.{first-of, apart-first, own-low, AreLow, tabled-leavers, without-keys}
-use Rattle.policy_steps.proofs.S3FifoMoves.{state_without, resident-count, IsPromoted, promotes, last_eviction, IsLeft, main-left, small-left}
+use Rattle.policy_steps.proofs.S3FifoMoves.{state_without, resident-count, IsPromoted, promotes, last_eviction, IsLeft, small-left}
 use Rattle.policy_steps.proofs.Turns.{turns-keep}
-use Rattle.policy_steps.specs.PolicyPage.{LeavesWhere, IsPlannedPage, IsSoundPage}
+use Rattle.policy_steps.specs.PolicyPage.{LeavesWhere, IsSoundPage}
 use Rattle.policy_steps.proofs.Leavers.{HitsAlone, own-alone, never, either, one-of, own-none, both-length, not-less}
+use Rattle.policy_steps.proofs.Leaving.{any-out}
+use Rattle.queue_table.proofs.MoveBack.{without-none}
 
 -- ---- the key comes in
 
 joined : (r : Bool) (k : ℕ) (ghost : List ℕ) (u : Queues) (o : Outcome) (e : Outcome × S3FifoState) → has_key k ghost ≡ r → HasKeys u → has_key k (keys_of (u SMALL)) ≡ false → has_key k (keys_of (u MAIN)) ≡ false → IsLeft k u o e
     → s3_fifo_of (after_send (entry (item_of k) 0) (joins r) u) ≡ s3_fifo_with_key (has_key k ghost) k e.1
-joined true k ghost u o e is z small main left = grind (arith, nat_tests, without-counted, counted-append, without-keys)
-joined false k ghost u o e is z small main left = search (arith, counted-append, without-counted, without-keys)
+joined true k ghost u o e is z small main left = grind (arith, nat_tests, ltb-false, has-occurs, without-none, counted-append, without-keys)
+joined false k ghost u o e is z small main left = search (arith, counted-append, ltb-false, has-occurs, without-none, without-keys)
 
 -- ---- which queues the plan names
 
 low-own : (r : Bool) → IsLowOwn (goes (joins r) 0)
-low-own true = omega arith
-low-own false = omega arith
+low-own v = grind (arith, nat_tests)
 
 -- ---- a miss
 
@@ -113,8 +114,7 @@ module _ (part c k x : ℕ) (r : Bool) (s : Queues) (t : IsTabled s) (some : 1 �
         let same : (j : ℕ) → (j ≡ MAIN → ⊥) → b j ≡ a j = λ j d. turns-keep MAIN (main_turns a).times 1 j a (omega arith) a-tabled d in
         let leaves : last_eviction size k a ≡ main_eviction (counted_keys (a SMALL)) (counted_keys (b MAIN)) (keys_without k (keys_of (a GHOST))) = rw g refl in
         brought (promotions size s) (main_turns a) (one_leaver (leaving MAIN None)) _ (omega arith, omega arith) (omega arith, omega arith) ((omega arith, tt), tt) (full ∙ leaves)
-        (main-left k b (counted_keys (a SMALL)) (keys_without k (keys_of (a GHOST))) (tabled-turns a a-tabled (main_turns a).times MAIN MAIN 1 (omega arith))
-        (ap counted_keys (same SMALL (λ e. omega (arith, e)))) (ap (λ l. keys_without k (keys_of l)) (same GHOST (λ e. omega (arith, e)))))
+        (grind (arith, nat_tests, any-out b (tabled-turns a a-tabled (main_turns a).times MAIN MAIN 1 (omega arith)) MAIN))
 
     small-evicts : gives_main size a ≡ false → IsMiss (run_plan (promotions size s) no_run (leavers_for_ghost SMALL GHOST size r a) (goes (joins r) 0) x)
     small-evicts g =
@@ -187,9 +187,6 @@ module _ (part c k x : ℕ) (s : Queues) (some : 1 ≤ c) (w : IsTabled s) (stat
   standing-at None h = miss false (stands-nowhere s w k h SMALL).0 (stands-nowhere s w k h MAIN).0 (stands-nowhere s w k h GHOST).0
   standing-at (Some p) h = standing-in p.0 p.1 (stands s w k p.0 p.1 h)
 
-planned : (part : ℕ) → IsPlannedPage (s3_fifo_page part)
-planned part c k x s some w shown state = (standing-at part c k x s some w state (standing (item_of k) s) refl, tt)
-
 -- ---- keys leave where the cache is full
 
 module _ (part c x : ℕ) (s : Queues) where
@@ -207,9 +204,7 @@ module _ (part c x : ℕ) (s : Queues) where
   alone-of-miss r = grind (arith, nat_tests, either, own-alone, never)
 
   alone-at : (at : Option (ℕ × ℕ)) → HitsAlone (plan_at part c x at s)
-  alone-at None = alone-of-miss false
-  alone-at (Some p) = either (is_resident p.0) _ _ (own-alone true _ x) (alone-of-miss _)
+  alone-at v = grind (arith, nat_tests, alone-of-miss, either, own-alone)
 
 pub s3-fifo-sound : (part : ℕ) → IsSoundPage (s3_fifo_page part)
-s3-fifo-sound part =
-    grind (arith, nat_tests, keeps, keeps part, planned, planned part, both-counted, alone-at, leaves-at)
+s3-fifo-sound part = search (arith, keeps, keeps part, standing-at, both-counted, alone-at, leaves-at)

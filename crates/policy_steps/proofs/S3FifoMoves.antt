@@ -1,9 +1,8 @@
 -- What each move of an eviction by S3-FIFO makes of the queues. Main only grows by promotions, and no turn changes how many
 -- keys it has: once it is over its size or the small queue is empty, this stays so until a key left. So all promotions come
 -- before the first turn.
-use Rattle.std.proofs.lemmas.Grind.{common_steps}
-use Rattle.std.proofs.Common.{◌≡◌, ℕ, zero, suc, ◌+◌, ◌-◌, ◌*◌, ◌≤◌, true, false, if◌then◌else◌, eqb, ◌==◌, ◌||◌, nat_lt, Bool, Some, None, List, [], ◌∷◌, ◌++◌, length, ap, sym, subst, ◌∙◌, refl, arith, inl, inr, length-append}
-use Rattle.std.proofs.lemmas.Bool.{cases_Bool, ne_eqb, ltb-false, le-ltb, or_parts}
+use Rattle.std.proofs.Common.{◌≡◌, ℕ, zero, suc, ◌+◌, ◌-◌, ◌*◌, ◌≤◌, true, false, if◌then◌else◌, eqb, ◌||◌, nat_lt, Bool, Some, List, [], ◌∷◌, ◌++◌, length, ap, sym, subst, ◌∙◌, refl, arith, inl, inr, length-append}
+use Rattle.std.proofs.lemmas.Bool.{cases_Bool, ltb-false, le-ltb, or_parts}
 use Rattle.std.proofs.lemmas.Bool.Decides.{nat_tests}
 use Rattle.step_record.specs.Keys.{has_key, keys_without}
 use Rattle.queue_table.specs.Entries.{oldest_of}
@@ -21,10 +20,9 @@ use Rattle.queue_moves.specs.Tabled.{IsTabled, keys_of, lowered_entry}
 use Rattle.queue_moves.proofs.Tabled.{tabled-turn, turn-is}
 use Rattle.policy_steps.specs.Counted.{counted_keys}
 use Rattle.policy_steps.specs.Misses.{Run, after_leavers, leavers_for_ghost}
-use Rattle.policy_steps.specs.S3Fifo.{SMALL, MAIN, GHOST, s3_fifo_of, gives_main, main_turns, promotions, eviction_plan, s3_fifo_miss}
+use Rattle.policy_steps.specs.S3Fifo.{SMALL, MAIN, GHOST, s3_fifo_of, gives_main, main_turns, promotions}
 use Rattle.policy_steps.proofs.Counted.{counted-append, length-counted, oldest-counted}
 use Rattle.policy_steps.proofs.Ghosts.{sent, kept, leavers-gone, ghost-keys}
-use Rattle.policy_steps.proofs.Leaving.{any-out}
 use Rattle.policy_steps.proofs.Turns.{turns-are}
 
 -- the state that the queues show, once the key k is out of the ghost
@@ -34,19 +32,12 @@ state_without k s = without_ghost_key k (s3_fifo_of s)
 pub resident-count : (s : Queues) → length (s3_fifo_residents (s3_fifo_of s)) ≡ length (s SMALL) + length (s MAIN)
 resident-count s = omega (arith, length-keys (counted_keys (s SMALL) ++ counted_keys (s MAIN)), length-append (counted_keys (s SMALL)) (counted_keys (s MAIN)), length-counted (s SMALL), length-counted (s MAIN))
 
-pub gives-is : (size : ℕ) (s : Queues) → gives_main size s ≡ main_gives size (s3_fifo_of s)
-gives-is size s = grind (arith, common_steps, ne_eqb, length-counted (s MAIN))
-
 -- ---- main gives up a key
-
-gives-still : (size : ℕ) (small main : List CountedKey) (ghost : List ℕ) → main_gives size (made small (after_turn main) ghost) ≡ main_gives size (made small main ghost)
-gives-still size [] main ghost = refl
-gives-still size (e ∷ small) main ghost = ap (nat_lt size) (turned-length main)
 
 turns : (n size : ℕ) (small main : List CountedKey) (ghost : List ℕ) → main_gives size (made small main ghost) ≡ true → s3_fifo_eviction_within n size (made small main ghost) ≡ main_eviction small (after_turns (turn_count_within n main) main) ghost
 turns zero size small main ghost g = rw g refl
 turns (suc n) size small main ghost g =
-    grind (arith, nat_tests, gives-still size small main ghost, turns n size small (after_turn main) ghost)
+    grind (arith, nat_tests, turned-length, turns n size small (after_turn main) ghost)
 
 -- counts are at most 3
 total-few : (l : List CountedKey) → AreCounted 3 l → total_count l ≤ 3 * length l
@@ -63,8 +54,7 @@ last_eviction size k s =
     else small_eviction size (counted_keys (s SMALL)) (counted_keys (s MAIN)) (keys_without k (keys_of (s GHOST)))
 
 within-settled : (n size : ℕ) (s : S3FifoState) → is_settled size s ≡ true → s3_fifo_eviction_within n size s ≡ s3_fifo_departure size s
-within-settled zero size s h = refl
-within-settled (suc n) size s h = rw h refl
+within-settled v size s h = grind (arith, nat_tests)
 
 module _ (size k : ℕ) (residents remembered : List ℕ) where
   -- the queues s, from which n moves may be made, come to the queues a by promotions, after which none is left
@@ -73,27 +63,18 @@ module _ (size k : ℕ) (residents remembered : List ℕ) where
     pub moved : IsMoved residents remembered (state_without k a)
     pub ghost : a GHOST ≡ s GHOST
 
-  none-left : (n : ℕ) (s : Queues) → IsTabled s → most_moves (state_without k s) ≤ n → IsMoved residents remembered (state_without k s)
-      → (gives_main size s ≡ false → nat_lt (oldest_count (counted_keys (s SMALL))) 2 ≡ true) → IsPromoted n s s
-  none-left n s t many m few =
-      grind (arith, nat_tests, cases_Bool, turns, gives-is, turns-are, total-few, length-counted, within-settled)
-
   one-promoted : (s : Queues) → IsTabled s → (e : Entry) (l : List Entry) → s SMALL ≡ e ∷ l →
       state_without k (moves.after_turn SMALL MAIN 0 s) ≡ after_promotion (counted_keys (s SMALL)) (counted_keys (s MAIN)) (keys_without k (keys_of (s GHOST)))
   one-promoted s t e l h = grind (arith, nat_tests, turn-is s t SMALL MAIN 0 e l h, counted-append (s MAIN) (e ∷ []))
 
   pub promotes : (m n : ℕ) (s : Queues) (small : List Entry) → IsTabled s → s SMALL ≡ small → size + 1 - length (s MAIN) ≡ m → most_moves (state_without k s) ≤ n → IsMoved residents remembered (state_without k s)
       → IsPromoted n s (moves.after_turns (turns_due m SMALL MAIN 0 2 s) SMALL MAIN 0 s)
-  promotes zero n s small t h room many moved = none-left n s t many moved (λ g. absurd (
-      let few : length (s MAIN) ≤ size = ltb-false size (length (s MAIN)) (or_parts (length (s SMALL) == 0) (nat_lt size (length (s MAIN))) g).1 in
-      omega (arith, few, room)))
-  promotes (suc m) n s [] t h room many moved =
-      let none = ap (λ x. nat_lt (count_or 0 (oldest_of x)) 2) h in
-      rw none (none-left n s t many moved (λ g. ap (λ x. nat_lt (oldest_count (counted_keys x)) 2) h))
+  promotes zero n s small t h room many moved = grind (arith, nat_tests, cases_Bool, turns, turns-are, total-few, length-counted, within-settled, ltb-false, or_parts)
+  promotes (suc m) n s [] t h room many moved = grind (arith, nat_tests, cases_Bool, turns, turns-are, total-few, length-counted, within-settled)
   promotes (suc m) zero s (e ∷ l) t h room many moved = absurd (let some = ap (λ x. length (counted_keys x)) h in omega (arith, some, many))
   promotes (suc m) (suc n) s (e ∷ l) t h room many moved =
       elim (cases_Bool (nat_lt (count_or 0 (oldest_of (s SMALL))) 2)) [
-        | inl f ↦ rw f (none-left (suc n) s t many moved (λ g. ap (λ x. nat_lt x 2) (oldest-counted (s SMALL)) ∙ f))
+        | inl f ↦ rw f (grind (arith, nat_tests, cases_Bool, turns, turns-are, total-few, length-counted, within-settled))
         | inr f ↦
             let u : Queues = moves.after_turn SMALL MAIN 0 s in
             let main : List CountedKey = counted_keys (s MAIN) in
@@ -122,10 +103,6 @@ pub record IsLeft (k : ℕ) (u : Queues) (o : Outcome) (r : Outcome × S3FifoSta
   pub main : counted_keys (u MAIN) ≡ r.1.main
   pub ghost : keys_without k (keys_of (u GHOST)) ≡ r.1.ghost
 
-pub main-left : (k : ℕ) (s : Queues) (small : List CountedKey) (ghost : List ℕ) → IsTabled s → counted_keys (s SMALL) ≡ small → keys_without k (keys_of (s GHOST)) ≡ ghost
-    → IsLeft k (after_leaving (leaving MAIN None) s) (outcome_after (leaving MAIN None) s) (main_eviction small (counted_keys (s MAIN)) ghost)
-main-left k s small ghost t same same_ghost = grind (arith, nat_tests, any-out s t MAIN)
-
 pub small-left : (size k : ℕ) (s : Queues) (r : Bool) (e : Entry) (l : List Entry) → IsTabled s → s SMALL ≡ e ∷ l → has_key k (keys_of (s GHOST)) ≡ r → eqb k e.item.key ≡ false → length (keys_of (s GHOST)) ≤ size
     → IsLeft k (after_leavers (leavers_for_ghost SMALL GHOST size r s) s) (outcome_after (leaving SMALL (Some (GHOST, 0))) s) (small_eviction size (counted_keys (s SMALL)) (counted_keys (s MAIN)) (keys_without k (keys_of (s GHOST))))
 small-left size k s r e l t h is other few =
@@ -141,15 +118,9 @@ module _ (part c : ℕ) (s a : Queues) (early : Run) (is : early ≡ promotions 
   abbrev size : ℕ
   size = s3_fifo_main_size part c
 
-  a-is : a ≡ after_run (promotions size s) s
-  a-is = after ∙ ap (λ e. after_run e s) is
-
   pub main-few : IsTabled s → IsS3Fifo part c (s3_fifo_of s) → length (a MAIN) ≤ c
   main-few t state =
       let w : S3FifoState = state_without 0 s in
       let many = (promotes size 0 (s3_fifo_residents w) w.ghost (size + 1 - length (s MAIN)) (most_moves w) s (s SMALL) t refl refl (omega arith) (unmoved w state.counts)).moved.many in
-      let same = ap (λ (u : Queues). length (u MAIN)) a-is in
+      let same = ap (λ (u : Queues). length (u MAIN)) (after ∙ ap (λ e. after_run e s) is) in
       omega (arith, many, state.residents.fits, same, resident-count (after_run (promotions size s) s))
-
-  pub full-planned : (P : Plan → Type 0) (r : Bool) (x : ℕ) → nat_lt (length (s SMALL) + length (s MAIN)) c ≡ false → P (eviction_plan size early r x a) → P (s3_fifo_miss part c r x s)
-  full-planned P r x f h = rw f (subst (λ e. P (eviction_plan size e r x (after_run e s))) is (subst (λ b. P (eviction_plan size early r x b)) after h))

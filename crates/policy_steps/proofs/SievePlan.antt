@@ -1,7 +1,7 @@
 -- SIEVE's plan is its definition.
 use Rattle.std.proofs.lemmas.Bool.Decides.{nat_tests}
 use Rattle.std.proofs.lemmas.Grind.{common_steps}
-use Rattle.std.proofs.Common.{◌≡◌, ℕ, zero, suc, ◌+◌, ◌≤◌, ◌⊎◌, true, false, if◌then◌else◌, nat_lt, Option, Some, None, List, [], ◌∷◌, length, ap, ◌∙◌, sym, subst, refl, arith, inl, inr, length-append, Bool}
+use Rattle.std.proofs.Common.{◌≡◌, ℕ, ◌+◌, ◌≤◌, ◌⊎◌, false, if◌then◌else◌, nat_lt, Option, None, List, [], ◌∷◌, length, ap, ◌∙◌, sym, refl, arith, length-append, Bool}
 use Rattle.std.proofs.lemmas.Bool.{ltb-false}
 use Rattle.step_record.specs.Keys.{has_key}
 use Rattle.queue_table.specs.Entries.{Item, entry, oldest_of, occurrences}
@@ -29,13 +29,11 @@ use Rattle.policy_steps.proofs.Hand.{apart, stopped, no-pass, IsClear, HasClear,
 -- ---- the two roles
 
 wrapped-low : (x : ℕ) (l : List Entry) → x ≤ 1 → (if is_empty l then passed_queue x else x) ≤ 1
-wrapped-low x [] h = omega arith
-wrapped-low x (e ∷ l) h = h
+wrapped-low x v h = grind (arith, nat_tests)
 
 -- the roles after the hand went back where nothing is ahead of it
 wrapped-at : (x : ℕ) (s : Queues) (l : List Entry) → x ≤ 1 → s x ≡ l → sieve_of (if is_empty l then passed_queue x else x) s ≡ after_wrap (counted_keys (s (passed_queue x))) (counted_keys l)
-wrapped-at x s [] low h = ap (λ v. record { passed = counted_keys v; ahead = counted_keys (s (passed_queue x)) }) (ap s (omega (arith, low)) ∙ h)
-wrapped-at x s (e ∷ l) low h = ap (λ v. record { passed = counted_keys (s (passed_queue x)); ahead = counted_keys v }) h
+wrapped-at x s v low h = grind (arith, nat_tests)
 
 sieve-wrapped : (x : ℕ) (s : Queues) → x ≤ 1 → sieve_of (queue_ahead x s) s ≡ after_wrap (counted_keys (s (passed_queue x))) (counted_keys (s x))
 sieve-wrapped x s low = wrapped-at x s (s x) low refl
@@ -52,16 +50,11 @@ clear-ahead [] h = absurd h
 clear-ahead (e ∷ l) h = omega arith
 
 wrapped-clear : (n x : ℕ) (u : Queues) (l : List Entry) → u x ≡ l → Waits n (u x) ⊎ ((u x ≡ []) × Waits n (u (passed_queue x))) → Waits n (u (if is_empty l then passed_queue x else x))
-wrapped-clear n x u [] h (inl w) = absurd (subst HasClear h w.0)
-wrapped-clear n x u [] h (inr r) = r.1
-wrapped-clear n x u (e ∷ l) h (inl w) = w
-wrapped-clear n x u (e ∷ l) h (inr r) = absurd (let no : e ∷ l ≡ [] = sym h ∙ r.0 in cc no)
+wrapped-clear n x u v h w = grind (arith, nat_tests)
 
 both : (i : Item) (x : ℕ) (s : Queues) → x ≤ 1
     → (occurrences i (s (passed_queue x)) + occurrences i (s x) ≡ times_below 2 i s) × (length (s x) + length (s (passed_queue x)) ≡ length (s 0) + length (s 1))
-both i zero s h = (omega arith, refl)
-both i (suc zero) s h = (omega arith, omega arith)
-both i (suc (suc x)) s h = absurd (omega (arith, h))
+both i v s h = grind (arith, nat_tests)
 
 -- ---- the key joins, and one leaves
 
@@ -129,7 +122,7 @@ module _ (c k x : ℕ) (s : Queues) (c_some : 1 ≤ c) (t : IsTabled s) (first :
 
     waits : Waits c (early mid)
     waits =
-                let all = (both (item_of k) x s low).1 in
+        let all = (both (item_of k) x s low).1 in
         wrapped-clear c x early (early x) refl (stops x low c c (s x) s t refl (counted-second 1 (counted_keys (s (passed_queue x))) (counted_keys (s x)) state.bits)
         (λ z. absurd (let empty = ap length z in let a = some in omega (arith, a, empty))) (omega (arith, size, all)) (omega (arith, size, all)))
 
@@ -153,16 +146,13 @@ module _ (c k x : ℕ) (s : Queues) (c_some : 1 ≤ c) (t : IsTabled s) (first :
         let n1 : ℕ = (pass_run c x s).times in
         let n2 : ℕ = (pass_run c mid early).times in
         let t-late = tabled-turns early t-early n2 mid (passed_queue mid) 1 (omega arith) in
-        let absent = absent-turns (item_of k) n2 mid (passed_queue mid) 1 early (let m = mid_low in omega (arith, m)) (absent-turns (item_of k) n1 x (passed_queue x) 1 s (omega (arith, low)) none) in
+        let absent = absent-turns (item_of k) n2 mid (passed_queue mid) 1 early (let m = mid_low in omega arith) (absent-turns (item_of k) n1 x (passed_queue x) 1 s (omega (arith, low)) none) in
         let within = first-turns 2 n2 mid (passed_queue mid) 1 early (omega arith) (first-turns 2 n1 x (passed_queue x) 1 s (omega arith) first) in
         let r = left k mid (late mid) late mid_low t-late absent refl clear in
-        let m = mid_low in
         let n = new_low in grind (arith, nat_tests, stop, first-send 2 (new k) (ahead_new c x s) (after_leaver c x s) (omega (arith, n)) (first-out 2 mid late within), first-out 2 mid late within)
 
   number : (o : Option (ℕ × ℕ)) (room : Bool) → (resident_plan o room (counts 1) (goes x 0) x (sieve_eviction_plan c x s)).scalar ≤ 1
-  number (Some at) room = low
-  number None true = low
-  number None false = wrapped-low (ahead_late c x s) (after_leaver c x s (ahead_late c x s)) (wrapped-low x (after_early c x s x) low)
+  number v room = grind (arith, nat_tests, wrapped-low)
 
 planned : IsPlannedPage sieve_page
 planned c k x s some t shown state =

@@ -19,8 +19,7 @@ no-count l = grind (arith, nat_tests, oldest-counted l)
 
 turned : (q : ℕ) (s : Queues) → IsTabled s → (l : List Entry) → s q ≡ l → counted_keys (after_turn q q 1 s q) ≡ page.after_turn (counted_keys l)
 turned q s t [] h = ap (λ (u : Queues). counted_keys (u q)) (turn-none s q q 1 h) ∙ ap counted_keys h
-turned q s t (e ∷ l) h =
-    grind (arith, nat_tests, turn-is s t q q 1 e l h, with-queue-same, with-queue-same q l s, counted-append)
+turned q s t (e ∷ l) h = search (arith, turn-is s t q q 1 e l h, with-queue-same, with-queue-same q l s, counted-append)
 
 -- n and m turns suffice
 pub turns-are : (q n m : ℕ) (s : Queues) → q < QUEUES → IsTabled s → total_count (counted_keys (s q)) ≤ n → total_count (counted_keys (s q)) ≤ m
@@ -29,10 +28,7 @@ turns-are q zero zero s w t f g = refl
 turns-are q zero (suc m) s w t f g = rw (eq-eqb (oldest_count (counted_keys (s q))) 0 (omega (arith, oldest-few (counted_keys (s q))))) refl
 turns-are q (suc n) zero s w t f g = rw (no-count (s q) ∙ eq-eqb (oldest_count (counted_keys (s q))) 0 (omega (arith, oldest-few (counted_keys (s q))))) refl
 turns-are q (suc n) (suc m) s w t f g =
-        let less = turned-total (counted_keys (s q)) in
-    let view = turned q s t (s q) refl in
-    let next = turns-are q n m (after_turn q q 1 s) w (tabled-turn s t q q 1 w) in
-    grind (arith, nat_tests)
+    search (arith, turned-total, turned, turns-are q n m (after_turn q q 1 s) w (tabled-turn s t q q 1 w), tabled-turn)
 
 -- no other queue changes
 pub turns-keep : (q n less j : ℕ) (s : Queues) → q < QUEUES → IsTabled s → (j ≡ q → ⊥) → after_turns n q q less s j ≡ s j

@@ -1,5 +1,5 @@
 -- 2Q's plan is its definition.
-use Rattle.std.proofs.Common.{◌≡◌, ℕ, ◌+◌, ◌<◌, ◌≤◌, Bool, true, false, eqb, nat_lt, ◌||◌, ◌==◌, Option, Some, None, List, [], ◌∷◌, ◌++◌, length, drop, ap, ◌∙◌, sym, subst, refl, arith, inl, inr, length-append}
+use Rattle.std.proofs.Common.{◌≡◌, ℕ, ◌+◌, ◌<◌, ◌≤◌, Bool, true, false, eqb, nat_lt, ◌||◌, Option, Some, None, List, ◌∷◌, length, drop, ap, ◌∙◌, sym, subst, refl, arith, inl, inr, length-append}
 use Rattle.std.proofs.lemmas.Bool.{cases_Bool, cases_eq, eq-eqb, ne_eqb, ltb-false, eqb-false, or_parts}
 use Rattle.std.proofs.lemmas.Bool.Decides.{nat_tests}
 use Rattle.step_record.specs.Keys.{has_key, keys_without}
@@ -13,12 +13,12 @@ use Rattle.queue_moves.specs.Tabled.{HasKeys, IsTabled, keys_of, StandsAs}
 use Rattle.queue_moves.proofs.Tabled.{stands, stands-nowhere}
 use Rattle.policy_steps.specs.Planned.{IsPlannedBy}
 use Rattle.policy_steps.specs.Misses.{Leavers, no_leavers, one_leaver, leavers_for_ghost, after_leavers, miss_plan}
-use Rattle.policy_steps.specs.TwoQ.{TwoQSizes, A1IN, A1OUT, AM, two_q_of, gives_a1in, joins, two_q_miss, plan_at, two_q_page}
+use Rattle.policy_steps.specs.TwoQ.{TwoQSizes, A1IN, A1OUT, AM, two_q_of, joins, two_q_miss, plan_at, two_q_page}
 use Rattle.policy_steps.proofs.Ghosts.{leavers-low, sent, kept, leavers-gone, ghost-keys}
 use Rattle.policy_steps.proofs.Leaving.{oldest-out}
-use Rattle.policy_steps.proofs.Moving.{length-keys, keys-sent, without-rest, first-of, apart-first, own-low, AreLow, miss-low, tabled-leavers}
+use Rattle.policy_steps.proofs.Moving.{length-keys, keys-sent, first-of, apart-first, own-low, AreLow, miss-low, tabled-leavers}
 use Rattle.policy_steps.specs.PolicyPage.{LeavesWhere, IsPlannedPage, IsSoundPage}
-use Rattle.policy_steps.proofs.Leavers.{HitsAlone, own-alone, never, either, one-of, own-none, miss-full, keys-length, not-less}
+use Rattle.policy_steps.proofs.Leavers.{one-of, own-none, miss-full, keys-length, not-less}
 use Rattle.ghost_policies.proofs.TwoQKeeping.{keeps}
 
 -- ---- the state, queue by queue
@@ -34,16 +34,12 @@ record Shows (k : ℕ) (u : Queues) (d : TwoQState) : Type 0 where
   am : keys_without k (keys_of (u AM)) ≡ d.am
 
 joins-low : (r : Bool) → joins r < QUEUES
-joins-low true = omega arith
-joins-low false = omega arith
+joins-low v = grind (arith, nat_tests)
 
 -- the key joins
 joined : (r : Bool) (k : ℕ) (ghost : List ℕ) (u : Queues) (d : TwoQState) → has_key k ghost ≡ r → HasKeys u → Shows k u d
     → two_q_of (after_send (entry (item_of k) 0) (joins r) u) ≡ two_q_after_join (has_key k ghost) k d
-joined true k ghost u d h z at = rw h
-    (same-state (keys-sent k 0 AM u z A1IN ∙ at.a1in) (keys-sent k 0 AM u z A1OUT ∙ at.a1out) (keys-sent k 0 AM u z AM ∙ ap (λ t. t ++ k ∷ []) at.am))
-joined false k ghost u d h z at = rw h
-    (same-state (keys-sent k 0 A1IN u z A1IN ∙ ap (λ t. t ++ k ∷ []) at.a1in) (keys-sent k 0 A1IN u z A1OUT ∙ at.a1out) (keys-sent k 0 A1IN u z AM ∙ at.am))
+joined v k ghost u d h z at = grind (arith, nat_tests, same-state, keys-sent)
 
 -- ---- a miss
 
@@ -65,16 +61,11 @@ module _ (z : TwoQSizes) (c k x : ℕ) (r : Bool) (s : Queues) (some : 1 ≤ c) 
   }
 
   none-leaves : IsMiss no_leavers NoLeaver
-  none-leaves = brought no_leavers NoLeaver (tt, tt) refl
-      record {
-        a1in = without-none k (keys_of (s A1IN)) no_a1in;
-        a1out = refl;
-        am = without-none k (keys_of (s AM)) no_am;
-      }
+  none-leaves = search (arith, brought, without-none)
 
   -- the keys of a queue once its oldest has left
   rest : (q : ℕ) (e : Entry) (l : List Entry) → s q ≡ e ∷ l → has_key k (keys_of (s q)) ≡ false → keys_without k (keys_of l) ≡ drop 1 (keys_of (s q))
-  rest q e l h none = without-rest k e.item.key (keys_of l) (ap (λ x. has_key k (keys_of x)) (sym h) ∙ none) ∙ ap (λ x. drop 1 (keys_of x)) (sym h)
+  rest q e l h none = (grind (arith, nat_tests, without-none k (keys_of l))) ∙ ap (λ x. drop 1 (keys_of x)) (sym h)
 
   am-leaves : (e : Entry) (l : List Entry) → s AM ≡ e ∷ l → IsMiss (one_leaver (leaving AM None)) (leaver_of_am (keys_of (s AM)))
   am-leaves e l h =
@@ -93,16 +84,13 @@ module _ (z : TwoQSizes) (c k x : ℕ) (r : Bool) (s : Queues) (some : 1 ≤ c) 
       (brought (leavers_for_ghost A1IN A1OUT z.kout r s) v (leavers-low A1IN A1OUT z.kout r s (omega arith) (omega arith)) (ap (λ x. evicted (oldest_of x)) h)
       (subst (λ u. Shows k u (after v)) (sym (leavers-gone s t A1IN A1OUT z.kout r e l h (omega arith) (omega arith))) shows))
 
-  a1in-some : c ≤ length (s A1IN) + length (s AM) → gives_a1in z.kin s ≡ true → 1 ≤ length (s A1IN)
-  a1in-some full f = grind (arith, nat_tests)
-
   planned-miss : IsPlannedBy (two_q_miss z c r x s) k s (λ y. two_q_of) (two_q_act z c k (two_q_of s)) (has_key k (two_q_residents (two_q_of s)))
   planned-miss =
       let absent : has_key k (two_q_residents (two_q_of s)) ≡ false = has-append k (keys_of (s A1IN)) (keys_of (s AM)) ∙ rw (no_a1in, no_am) refl in
       let a : length (keys_of (s A1IN)) ≡ length (s A1IN) = length-keys (s A1IN) in
       let m : length (keys_of (s AM)) ≡ length (s AM) = length-keys (s AM) in
       let all : length (two_q_residents (two_q_of s)) ≡ length (s A1IN) + length (s AM) = length-append (keys_of (s A1IN)) (keys_of (s AM)) ∙ rw (a, m) refl in
-      grind (arith, nat_tests, cases_Bool, none-leaves, first-of, a1in-some, ltb-false, a1in-leaves, eqb-false, or_parts, am-leaves)
+      grind (arith, nat_tests, cases_Bool, none-leaves, first-of, ltb-false, a1in-leaves, eqb-false, or_parts, am-leaves)
 
 -- ---- an access
 
@@ -152,16 +140,8 @@ module _ (z : TwoQSizes) (c x : ℕ) (s : Queues) where
   abbrev IsFull : Type 0
   IsFull = nat_lt (length (two_q_residents (two_q_of s))) c ≡ false
 
-  leaves-of-miss : (r : Bool) → LeavesWhere IsFull (two_q_miss z c r x s)
-  leaves-of-miss r = grind (arith, nat_tests, miss-full, cases_Bool, not-less, keys-length)
-
   leaves-at : (at : Option (ℕ × ℕ)) → LeavesWhere IsFull (plan_at z c x at s)
-  leaves-at None = leaves-of-miss false
-  leaves-at (Some p) = grind (arith, nat_tests, one-of, own-none, leaves-of-miss)
-
-  alone-at : (at : Option (ℕ × ℕ)) → HitsAlone (plan_at z c x at s)
-  alone-at None = never _ refl
-  alone-at (Some p) = either (p.0 == AM) _ _ (own-alone true _ x) (either (p.0 == A1IN) _ _ (own-alone true _ x) (never _ refl))
+  leaves-at v = grind (arith, nat_tests, miss-full, cases_Bool, not-less, keys-length, one-of, own-none)
 
 pub two-q-sound : (z : TwoQSizes) → IsSoundPage (two_q_page z)
-two-q-sound z = grind (arith, nat_tests, keeps, keeps z, planned, planned z, alone-at, leaves-at)
+two-q-sound z = grind (arith, nat_tests, keeps, keeps z, planned, planned z, leaves-at)

@@ -1,7 +1,6 @@
 -- What holds of every cache of queues that made some accesses.
 use Rattle.std.proofs.lemmas.Bool.Decides.{nat_tests}
 use Rattle.std.proofs.Common.{◌≡◌, ◌⊎◌, ℕ, ◌+◌, ◌≤◌, true, Option, List, [], ◌∷◌, ◌++◌, length, refl, arith}
-use Rattle.step_record.specs.declared.job.Policy.TheVariants.{Lru, WindowTinyLfu}
 use Rattle.step_record.specs.Keys.{has_key}
 use Rattle.segments.specs.Items.{nodeless_item}
 use Rattle.segments.specs.Queues.{empty_queues, residents_in, total_items, IsDistinct}
@@ -26,12 +25,7 @@ pub next-balanced : (f : Option FrequencyData) (k : ℕ) (d : QueueState) → Is
 next-balanced f k d s = grind (arith, nat_tests, step-balanced f k d s, still-nodeless)
 
 empty-fits : (p : Policy) (c : Config) → FitsBy (rules_in (design_of p) c).placement (rules_in (design_of p) c) empty_queues
-empty-fits WindowTinyLfu c = (omega arith, omega arith)
-empty-fits _ c = omega arith
-
-own-capacity : (p : Policy) (c : Config) → (rules_in (design_of p) c).capacity ≡ c.capacity
-own-capacity Lru c = refl
-own-capacity _ c = refl
+empty-fits v c = grind (arith, nat_tests)
 
 empty-balanced : (j : Job) → IsBalancedCache (empty_queue_state j)
 empty-balanced j = record { once = λ i. omega arith; nodeless = λ i h. absurd (omega (arith, h)); sizes = empty-fits j.policy j.config; counted = refl }
@@ -48,8 +42,7 @@ after-balanced j keys = from-balanced j [] (empty_queue_state j) keys (empty-bal
 -- ---- the residents
 
 pub residents-fit : (j : Job) (keys : List ℕ) → length (residents_in (state_after j keys).queues) ≤ j.config.capacity
-residents-fit j keys =
-    grind (arith, nat_tests, after-balanced j keys, fits-total, own-capacity, after-job j keys, residents-length)
+residents-fit j keys = grind (arith, nat_tests, after-balanced j keys, fits-total, after-job j keys, residents-length)
 
 -- a key that is resident after an access came in with it or was resident before
 pub came-from : (f : Option FrequencyData) (k x : ℕ) (d : QueueState) → IsBalancedCache d → has_key x (residents_in (queue_state_after f k d).queues) ≡ true → (x ≡ k) ⊎ (has_key x (residents_in d.queues) ≡ true)

@@ -1,7 +1,7 @@
 -- The statistics are the counts of the outcomes.
+use Rattle.std.proofs.lemmas.Bool.Decides.{nat_tests}
 use Rattle.std.proofs.Common.{◌≡◌, ℕ, ◌+◌, Bool, List, [], ◌∷◌, ◌++◌, length, count_by, ap, ◌∙◌, sym, refl, arith, append-nil, append_assoc}
 use Rattle.std.proofs.lemmas.List.Sums.{sum_by-cons}
-use Rattle.step_record.specs.declared.outcome.Outcome.TheVariants.{Hit, Kept, Evicted, Rejected}
 use Rattle.step_record.specs.Stats.{is_hit, is_miss, one_if, stats_of, stats_with}
 use Rattle.step_record.proofs.Counting.{stats-snoc}
 use Rattle.queue_cache.specs.QueueCache.{Outcome, Job, QueueState, access_response, queue_state_after, frequency_after, state_from, empty_queue_state, state_after, outcomes_from, outcomes_after}
@@ -23,10 +23,7 @@ pub count-cons : {A : Type 0} (p : A → Bool) (x : A) (xs : List A) → count_b
 count-cons p x xs = sum_by-cons (λ y. one_if (p y)) x xs
 
 either : (o : Outcome) → one_if (is_hit o) + one_if (is_miss o) ≡ 1
-either Hit = refl
-either Kept = refl
-either (Evicted k) = refl
-either (Rejected k) = refl
+either v = grind (arith, nat_tests)
 
 -- each outcome is a hit or a miss
 pub hits-misses : (os : List Outcome) → count_by is_hit os + count_by is_miss os ≡ length os

@@ -1,5 +1,5 @@
 -- The table of moves without counting, in one queue: an access is one to the last distinct keys.
-use Rattle.std.proofs.Common.{◌≡◌, ℕ, suc, zero, ◌+◌, ◌-◌, ◌≤◌, true, false, nat_lt, Some, None, List, [], ◌∷◌, ◌++◌, length, map, drop, ap, ◌∙◌, sym, refl, arith, subst, inl, inr, append-nil}
+use Rattle.std.proofs.Common.{◌≡◌, ℕ, suc, zero, ◌-◌, ◌≤◌, true, false, nat_lt, Some, None, List, [], ◌∷◌, ◌++◌, length, map, drop, ap, ◌∙◌, sym, refl, arith, subst, inl, inr, append-nil}
 use Rattle.std.proofs.lemmas.List.{append_assoc, length-map, map-append}
 use Rattle.std.proofs.lemmas.Bool.{eq-eqb}
 use Rattle.std.proofs.lemmas.Bool.Decides.{nat_tests}
@@ -7,30 +7,24 @@ use Rattle.step_record.specs.declared.job.Policy.TheVariants.{Lru}
 use Rattle.step_record.specs.Keys.{has_key, keys_without as without_key}
 use Rattle.segments.specs.declared.records.Queue.TheVariants.{Window}
 use Rattle.segments.specs.Items.{has_item, items_without, oldest_of, nodeless_item}
-use Rattle.segments.specs.Queues.{queue_holding, queues_after_push, total_items}
+use Rattle.segments.specs.Queues.{queue_holding, queues_after_push}
 use Rattle.replacement.specs.declared.rules.Placement.TheVariants.{Direct}
 use Rattle.replacement.specs.declared.rules.Rules.{Rules}
 use Rattle.replacement.specs.Admission.{admits_in}
 use Rattle.replacement.specs.Table.{Response, kept_in, hit_response, hit_in, response_with_victim, response_without_trial, access}
 use Rattle.replacement.proofs.Planned.{access-at}
-use Rattle.queue_cache.specs.Lru.{lru_residents, lru_outcome, distinct_keys}
+use Rattle.queue_cache.specs.Lru.{lru_residents, lru_outcome}
 use Rattle.queue_cache.specs.QueueCache.{Job, QueueState, access_response, queue_state_after, frequency_after, state_from, empty_queue_state, state_after, outcome_after}
 use Rattle.queue_cache.specs.SingleQueue.{single_queue}
 use Rattle.queue_cache.proofs.Recency.{IsDistinct, moved, answer, two, without-none, distinct-distinct, residents-snoc, outcome-residents}
 
-pos : (n : ℕ) → nat_lt 0 (1 + n) ≡ true
-pos n = grind (arith, nat_tests)
-
 pub has-map : (k : ℕ) (l : List ℕ) → has_item (nodeless_item k) (map nodeless_item l) ≡ has_key k l
 has-map k [] = refl
-has-map k (a ∷ l) = grind (arith, nat_tests, pos, has-map k l)
+has-map k (a ∷ l) = grind (arith, nat_tests, has-map k l)
 
 pub without-map : (k : ℕ) (l : List ℕ) → items_without (nodeless_item k) (map nodeless_item l) ≡ map nodeless_item (without_key k l)
 without-map k [] = refl
 without-map k (a ∷ l) = grind (arith, nat_tests, without-map k l)
-
-pub total-in : (l : List ℕ) → total_items (single_queue l) ≡ length l
-total-in l = omega (arith, length-map l nodeless_item)
 
 abbrev one : ℕ → Rules
 one c = record { capacity = c; window = 0; protected = 0; placement = Direct Window }
@@ -48,11 +42,10 @@ module _ (c k : ℕ) where
 
   one-full : (l : List ℕ) → has_key k l ≡ false → nat_lt (length l) c ≡ false → IsDistinct l → 1 ≤ c
       → IsAccess c k l (response_with_victim (admits_in None) Window (nodeless_item k) (oldest_of (map nodeless_item l)) (single_queue l))
-  one-full [] e f d w = absurd (let t : nat_lt 0 c ≡ true = grind (arith, nat_tests) in let no : true ≡ false = sym t ∙ f in cc (no))
-  one-full (a ∷ l) e f d w = grind (arith, nat_tests, eq-eqb, without-map, without-none, map-append)
+  one-full v e f d w = grind (arith, nat_tests, eq-eqb, without-map, without-none, map-append)
 
   one-direct : (l : List ℕ) → has_key k l ≡ false → IsDistinct l → 1 ≤ c → IsAccess c k l (response_without_trial (one c) (admits_in None) Window (nodeless_item k) (single_queue l))
-  one-direct l e d w = grind (arith, nat_tests, total-in, one-room, one-full)
+  one-direct l e d w = grind (arith, nat_tests, length-map, one-room, one-full)
 
   one-access : (l : List ℕ) → IsDistinct l → 1 ≤ c → IsAccess c k l (access (one c) (admits_in None) (nodeless_item k) (single_queue l))
   one-access l d w =
@@ -70,9 +63,6 @@ distinct-drop zero l d = d
 distinct-drop (suc n) [] d = tt
 distinct-drop (suc n) (a ∷ l) d = distinct-drop n l d.1
 
-pub residents-distinct : (c : ℕ) (xs : List ℕ) → IsDistinct (lru_residents c xs)
-residents-distinct c xs = distinct-drop (length (distinct_keys xs) - c) (distinct_keys xs) (distinct-distinct xs)
-
 residents-none : (c : ℕ) → lru_residents c [] ≡ []
 residents-none c = let z : 0 - c ≡ 0 = omega arith in rw z refl
 
@@ -84,7 +74,7 @@ module _ (j : Job) (is_lru : j.policy ≡ Lru) (room : 1 ≤ j.config.capacity) 
   -- the response of an Lru cache whose queue has the last distinct keys
   response-lru : (past : List ℕ) (d : QueueState) (k : ℕ) (ks : List ℕ) → d.job ≡ j → d.queues ≡ single_queue (lru_residents j.config.capacity past)
       → IsAccess j.config.capacity k (lru_residents j.config.capacity past) (access_response (frequency_after j ks) k d)
-  response-lru past d k ks ej eq = grind (arith, nat_tests, one-access, residents-distinct)
+  response-lru past d k ks ej eq = grind (arith, nat_tests, one-access, distinct-drop, distinct-distinct)
 
   step-lru : (past : List ℕ) (d : QueueState) (k : ℕ) (ks : List ℕ) → d.job ≡ j → d.queues ≡ single_queue (lru_residents j.config.capacity past)
       → (queue_state_after (frequency_after j ks) k d).queues ≡ single_queue (lru_residents j.config.capacity (past ++ k ∷ []))

@@ -1,5 +1,5 @@
 -- What some list of accesses gives, one access further.
-use Rattle.std.proofs.Common.{◌≡◌, ◌≢◌, ℕ, ◌+◌, ◌≤◌, Bool, true, false, Option, Some, None, Ok, List, [], ◌∷◌, ◌++◌, length, ap, ◌∙◌, sym, refl, arith, subst, length-append, append-nil, add-zero}
+use Rattle.std.proofs.Common.{◌≡◌, ◌≢◌, ℕ, ◌+◌, ◌≤◌, Bool, false, Option, Some, None, Ok, List, [], ◌∷◌, ◌++◌, length, ap, ◌∙◌, sym, refl, arith, subst, length-append, append-nil, add-zero}
 use Rattle.std.proofs.lemmas.List.{append_assoc}
 use Rattle.std.proofs.lemmas.List.Sums.{count_by-le-length}
 use Rattle.std.proofs.lemmas.Bool.Decides.{nat_tests}
@@ -9,7 +9,6 @@ use Rattle.step_record.specs.Pace.{words_of_halvings}
 use Rattle.step_record.specs.Stats.{stats_of, stats_with, IsSmall}
 use Rattle.segments.specs.Queues.{Queues, empty_queues}
 use Rattle.step_record.proofs.Limited.{accepted}
-use Rattle.admission.specs.Shape.{Shape}
 use Rattle.admission.specs.Frequency.{FrequencyData, frequency_of}
 use Rattle.admission.proofs.Recording.{recorded_freq}
 use Rattle.admission.proofs.Weighing.{halvings_bounded, weight_falls}
@@ -73,8 +72,7 @@ reached-small d r =
 
 by-few : (b : Bool) (c : Config) (keys : List ℕ) → 1 ≤ c.capacity → length keys ≤ 4294967296 → FewHalvings (frequency_by b (shape_of c) keys)
 unfolding frequency_of
-by-few false c keys some few = tt
-by-few true c keys some few = let h = halvings_bounded c.capacity (length keys) some in omega arith
+by-few v c keys some few = grind (arith, nat_tests, halvings_bounded)
 
 pub has-room : (c : Config) → config_fault c ≡ Ok tt → 1 ≤ c.capacity
 has-room c h = grind (arith, nat_tests)
@@ -84,19 +82,14 @@ reached-halvings d r = grind (arith, nat_tests, after-frequency, by-few, has-roo
 
 -- recording the key in the frequency of the accesses gives that of one more
 recorded-by : (b : Bool) (c : Config) (keys : List ℕ) (k : ℕ) → 1 ≤ c.capacity → recorded_in k (frequency_by b (shape_of c) keys) ≡ frequency_by b (shape_of c) (keys ++ k ∷ [])
-recorded-by false c keys k some = refl
-recorded-by true c keys k some = grind (arith, nat_tests, shape-is c some, recorded_freq)
-
--- for a cache that stands for some accesses: the frequency with the key
-stands-frequency : (j : Job) (keys : List ℕ) (k : ℕ) (d : QueueState) → StandsFor j keys d → recorded_in k d.frequency ≡ frequency_after j (keys ++ k ∷ [])
-stands-frequency j keys k d s = grind (arith, nat_tests, after-frequency, recorded-by, has-room)
+recorded-by v c keys k some = grind (arith, nat_tests, shape-is, recorded_freq)
 
 -- it stands for one access more after a step
 pub stands-step : (j : Job) (keys : List ℕ) (k : ℕ) (d : QueueState) → StandsFor j keys d → queue_state_after (recorded_in k d.frequency) k d ≡ state_after j (keys ++ k ∷ [])
-stands-step j keys k d s = grind (arith, nat_tests, stands-frequency j keys k d s, after-snoc j keys k)
+stands-step j keys k d s = grind (arith, nat_tests, after-frequency, recorded-by, has-room, after-snoc j keys k)
 
 pub stands-outcome : (j : Job) (keys : List ℕ) (k : ℕ) (d : QueueState) → StandsFor j keys d → (access_response (recorded_in k d.frequency) k d).outcome ≡ outcome_after j keys k
-stands-outcome j keys k d s = grind (arith, nat_tests, stands-frequency j keys k d s)
+stands-outcome j keys k d s = grind (arith, nat_tests, after-frequency, recorded-by, has-room)
 
 reached-step : (d : QueueState) (k : ℕ) → IsReached d → d.stats.accesses ≢ 4294967296 → IsReached (queue_state_after (recorded_in k d.frequency) k d)
 reached-step d k r below =
@@ -128,18 +121,13 @@ access-reached j r q p t f g s z k w er reached below ep eg ho hl ez =
 
 -- the words of a record of the frequency
 pub counting-weighs : (r : FreqRecord) (g : Option FrequencyData) → FitsCounting r g → words_of_halvings (pace_by g) ≡ words_of_halvings (pace_by (unrecorded r g)) + size_of r
-counting-weighs r None h = rw (h, add-zero) refl
-counting-weighs r (Some f) h = weight_falls f r h
+counting-weighs r v h = grind (arith, nat_tests, add-zero, weight_falls)
 
 -- what an accepted step does is what the list of accesses says
 pub act_stands : (j : Job) (keys : List ℕ) (d : QueueState) (k : ℕ) (o : Outcome) (e : QueueState) → StandsFor j keys d
     → queue_act d k ≡ Some (o, e) → (o ≡ outcome_after j keys k) × StandsFor j (keys ++ k ∷ []) e
 act_stands j keys d k o e s h = grind (arith, nat_tests, accepted, stands-outcome, stands-step)
 
-uncounted-by : (b : Bool) (s : Shape) (keys : List ℕ) → b ≡ false → frequency_by b s keys ≡ None
-uncounted-by false s keys h = refl
-uncounted-by true s keys h = cc (h)
-
 -- where the policy counts no keys, there is no frequency
 pub reached-uncounted : (d : QueueState) → IsReached d → is_counting d.job.policy ≡ false → d.frequency ≡ None
-reached-uncounted d r h = grind (arith, nat_tests, after-frequency, uncounted-by)
+reached-uncounted d r h = grind (arith, nat_tests, after-frequency)

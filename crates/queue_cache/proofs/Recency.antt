@@ -4,7 +4,7 @@ use Rattle.std.proofs.lemmas.Bool.Decides.{nat_tests}
 use Rattle.std.proofs.lemmas.List.{drop-append-le}
 use Rattle.step_record.specs.Keys.{has_key, keys_without}
 use Rattle.step_record.specs.declared.outcome.Outcome.TheVariants.{Hit, Kept, Evicted}
-use Rattle.queue_cache.specs.Lru.{Outcome, distinct_keys, keys_since, lru_residents, is_lru_hit, lru_outcome, first_or}
+use Rattle.queue_cache.specs.Lru.{Outcome, distinct_keys, lru_residents, is_lru_hit, lru_outcome, first_or}
 
 -- the residents after an access, from those before it
 abbrev pub moved : ℕ → List ℕ → ℕ → List ℕ
@@ -19,8 +19,7 @@ IsDistinct [] = Unit {0}
 IsDistinct (a ∷ xs) = (has_key a xs ≡ false) × IsDistinct xs
 
 pub two : (b : Bool) → (b ≡ true) ⊎ (b ≡ false)
-two true = inl refl
-two false = inr refl
+two v = grind (arith, nat_tests)
 
 abbrev pub last : ℕ → List ℕ → List ℕ
 last c l = drop (length l - c) l
@@ -57,14 +56,6 @@ last-long c x l h = let n : suc (length l) - c ≡ suc (length l - c) = omega ar
 last-short : (c : ℕ) (l : List ℕ) → length l ≤ c → last c l ≡ l
 last-short c l h = let n : length l - c ≡ 0 = omega arith in rw n refl
 
-last-length : (c : ℕ) (l : List ℕ) → c ≤ length l → length (last c l) ≡ c
-last-length c l h = simp length-drop (omega arith)
-
--- one fewer
-last-fewer : (c : ℕ) (l : List ℕ) → suc c ≤ length l → last c l ≡ drop 1 (last (suc c) l)
-last-fewer c [] h = absurd (omega arith)
-last-fewer c (x ∷ l) h = grind (arith, nat_tests, last-long, last-fewer c l, last-short)
-
 pub has-drop : (k n : ℕ) (l : List ℕ) → has_key k (drop n l) ≡ true → has_key k l ≡ true
 has-drop k zero l h = h
 has-drop k (suc n) [] h = absurd (cc (h))
@@ -80,7 +71,7 @@ last-hit c k (x ∷ l) d h =
 last-miss : (c k : ℕ) (l : List ℕ) → IsDistinct l → has_key k (last (suc c) l) ≡ false → last c (keys_without k l) ≡ cond (nat_lt (length l) (suc c)) l (drop 1 (last (suc c) l))
 last-miss c k [] d h = grind (arith, nat_tests, last-short)
 last-miss c k (x ∷ l) d h =
-    grind (arith, nat_tests, last-long, without-none, last-fewer, without-long, last-miss c k l d.1, last-short)
+    grind (arith, nat_tests, last-long, without-none, without-long, last-miss c k l d.1, last-short)
 
 last-snoc : (c k : ℕ) (l : List ℕ) → last (suc c) (l ++ k ∷ []) ≡ last c l ++ k ∷ []
 last-snoc c k l = grind (arith, nat_tests, length-append, drop-append-le)
@@ -89,16 +80,9 @@ has-snoc : (a k : ℕ) (xs : List ℕ) → has_key a (xs ++ k ∷ []) ≡ cond (
 has-snoc a k [] = elim (two (eqb a k)) as (λ _. cond (eqb a k) true false ≡ eqb a k) [ inl e ↦ rw e refl | inr e ↦ rw e refl ]
 has-snoc a k (x ∷ xs) = grind (arith, nat_tests, two (eqb a x), has-snoc a k xs)
 
-eqb-sym : (a b : ℕ) → eqb a b ≡ eqb b a
-eqb-sym a b = grind (arith, nat_tests)
-
 distinct-snoc : (k : ℕ) (xs : List ℕ) → distinct_keys (xs ++ k ∷ []) ≡ keys_without k (distinct_keys xs) ++ k ∷ []
 distinct-snoc k [] = refl
-distinct-snoc k (a ∷ xs) = grind (arith, nat_tests, has-snoc, distinct-snoc k xs, eqb-sym)
-
-since-short : (k : ℕ) (xs : List ℕ) → length (distinct_keys (keys_since k xs)) ≤ length (distinct_keys xs)
-since-short k [] = omega arith
-since-short k (a ∷ xs) = grind (arith, nat_tests, since-short k xs)
+distinct-snoc k (a ∷ xs) = grind (arith, nat_tests, has-snoc, distinct-snoc k xs)
 
 pub not-drop : (k n : ℕ) (l : List ℕ) → has_key k l ≡ false → has_key k (drop n l) ≡ false
 not-drop k n l h = grind (arith, nat_tests, two (has_key k (drop n l)), has-drop)
@@ -106,10 +90,10 @@ not-drop k n l h = grind (arith, nat_tests, two (has_key k (drop n l)), has-drop
 -- a key is a resident where it is a hit
 has-last : (c k : ℕ) (xs : List ℕ) → has_key k (lru_residents c xs) ≡ is_lru_hit c xs k
 has-last c k [] = let none : last c [] ≡ [] = last-short c [] (omega arith) in rw none refl
-has-last c k (a ∷ xs) = search (arith, has-last c k xs, last-long, since-short, last-short, has-distinct, not-drop)
+has-last c k (a ∷ xs) = search (arith, has-last c k xs, last-long, last-short, has-distinct, not-drop)
 
 full-last : (c : ℕ) (l : List ℕ) → nat_lt (length (last c l)) c ≡ nat_lt (length l) c
-full-last c l = grind (arith, nat_tests, last-length, last-short)
+full-last c l = grind (arith, nat_tests, length-drop, last-short)
 
 -- the residents, one access further
 pub residents-snoc : (c k : ℕ) (xs : List ℕ) → lru_residents (suc c) (xs ++ k ∷ []) ≡ moved (suc c) (lru_residents (suc c) xs) k

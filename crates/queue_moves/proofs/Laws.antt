@@ -47,8 +47,7 @@ keys-back q older e s n k j = grind (arith, nat_tests, nodes-put, nodes-without,
 -- ---- what stands elsewhere
 
 pub first-other : (e o : Entry) (l : List Entry) → oldest_of l ≡ Some o → occurrences e.item l ≡ 0 → is_same_item e.item o.item ≡ false
-first-other e o [] h z = absurd (cc h)
-first-other e o (x ∷ l) h z = grind (arith, nat_tests)
+first-other e o v h z = grind (arith, nat_tests)
 
 pub off-after-send : (i : Item) (e : Entry) (to q : ℕ) (s : Queues) → is_same_item i e.item ≡ false → occurrences i (s q) ≡ 0 → occurrences i (after_send e to s q) ≡ 0
 off-after-send i e to q s h z = grind (arith, nat_tests, times-without, times-append, cases_eq)
@@ -100,12 +99,8 @@ module _ (k n : ℕ) (s : Queues) (t : IsTabled s) (at : Stands (entry (item_of 
 
   front-nodes : nodes_of (front own s t at) ≡ 0
   front-nodes =
-      let all = t.keys at.queue in
       let cut_in = ap nodes_of (cut own s t at).whole ∙ nodes-append (front own s t at) (own ∷ (cut own s t at).back) in
-      omega (arith, all, cut_in)
-
-  older-key : item_in (key_in older) ≡ older
-  older-key = last-key (front own s t at) front-nodes
+      omega (arith, cut_in)
 
   abbrev record_at : Option ℕ → ℕ → ℕ → KeyMove
   record_at o m q = record { key = k; older = o; count = m; queue = q; by = change.Moved }
@@ -121,10 +116,10 @@ module _ (k n : ℕ) (s : Queues) (t : IsTabled s) (at : Stands (entry (item_of 
         fits = record {
           low = at.low;
           there = subst (λ x. queue_holding (item_of k) x ≢ None) (sym hu) (there-pushed (item_of k) to m (after_removal (item_of k) s) w);
-          gap = subst (λ x. IsGap x (after_removal (item_of k) u at.queue)) (sym older-key)
+          gap = subst (λ x. IsGap x (after_removal (item_of k) u at.queue)) (sym (last-key (front own s t at) front-nodes))
               (subst (λ x. IsGap older (after_removal (item_of k) x at.queue)) (sym hu) (sent-gap own s t at to m));
         };
-        undone = ap (λ x. after_return at.queue x own (after_removal (item_of k) u)) older-key
+        undone = ap (λ x. after_return at.queue x own (after_removal (item_of k) u)) (last-key (front own s t at) front-nodes)
             ∙ ap (λ x. after_return at.queue older own (after_removal (item_of k) x)) hu
             ∙ sent-back own s t at to m;
       }
@@ -162,8 +157,7 @@ own-renewed k s t none i = search (arith, own-joined, tabled-removal, is_absent,
 -- ---- the oldest key of a queue
 
 pub no-front : (e : Entry) (l : List Entry) → oldest_of l ≡ Some e → last_item (before e.item l) ≡ None
-no-front e [] h = absurd (cc h)
-no-front e (x ∷ l) h = let own = same-refl e.item in grind (arith, nat_tests)
+no-front e v h = grind (arith, nat_tests, same-refl)
 
 module _ (e : Entry) (q : ℕ) (s : Queues) (t : IsTabled s) (w : q < QUEUES) (first : oldest_of (s q) ≡ Some e) where
   abbrev at_end : Stands e s

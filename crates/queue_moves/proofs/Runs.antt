@@ -46,13 +46,8 @@ pub record IsRunning (from to less least n times : ℕ) (s u : Queues) : Type 0 
   pub fits : FitTurns times from to less u
   pub undone : before_turns times from to less u ≡ s
 
-due-next : (m from to less least : ℕ) (u : Queues) → nat_lt (count_or 0 (oldest_of (u from))) least ≡ false
-    → turns_due (suc m) from to less least u ≡ suc (turns_due m from to less least (after_turn from to less u))
-due-next m from to less least u h = rw h refl
-
 pub no-due : (m from to less least : ℕ) (u : Queues) → nat_lt (count_or 0 (oldest_of (u from))) least ≡ true → turns_due m from to less least u ≡ 0
-no-due zero from to less least u h = refl
-no-due (suc m) from to less least u h = rw h refl
+no-due v from to less least u h = grind (arith, nat_tests)
 
 -- a run that made fewer turns than it may has stopped at a key whose count is low
 pub turns-stop : (n from to less least : ℕ) (s : Queues) → turns_due n from to less least s < n
@@ -67,9 +62,6 @@ turns-stop (suc n) from to less least s w =
           rw high (turns-stop n from to less least (after_turn from to less s) less_due)
     ]
 
-pub none-left-due : (from to less least n times : ℕ) (u : Queues) → n ≤ times → turns_due (n - times) from to less least u ≡ 0
-none-left-due from to less least n times u h = grind (arith, nat_tests)
-
 pub runs-on : (from to less least n times : ℕ) (s u v : Queues) → IsRunning from to less least n times s u → times < n
     → nat_lt (count_or 0 (oldest_of (u from))) least ≡ false → IsTurn from to less u v → IsRunning from to less least n (times + 1) s v
 runs-on from to less least n times s u v h w some t =
@@ -82,7 +74,7 @@ runs-on from to less least n times s u v h w some t =
       due =
           let left : n - times ≡ suc (n - suc times) = omega (arith, w) in
           let step = h.due ∙ ap (λ x. times + turns_due x from to less least u) left
-          ∙ ap (λ x. times + x) (due-next (n - suc times) from to less least u some ∙ ap (λ x. suc (turns_due (n - suc times) from to less least x)) (sym t.after)) in
+          ∙ ap (λ x. times + x) ((rw some refl) ∙ ap (λ x. suc (turns_due (n - suc times) from to less least x)) (sym t.after)) in
           step ∙ omega arith;
       fits = (t.fits, subst (FitTurns times from to less) (sym t.undone) h.fits);
       undone = ap (before_turns times from to less) t.undone ∙ h.undone;
@@ -117,7 +109,4 @@ pub turns-back-next : (from to less all n : ℕ) (s u v : Queues) → n < all �
     → IsBack from to less all (n + 1) s v
 turns-back-next from to less all n s u v w h e =
     let left : all - n ≡ suc (all - (n + 1)) = omega (arith, w) in
-    record {
-      fits = subst (FitTurns (all - (n + 1)) from to less) (sym e) (turns-fit-next from to less all n u w h.fits).1;
-      back = ap (before_turns (all - (n + 1)) from to less) e ∙ sym (ap (λ x. before_turns x from to less u) left) ∙ h.back;
-    }
+    grind (arith, nat_tests, turns-fit-next)

@@ -11,7 +11,7 @@ use Rattle.queue_table.proofs.QueueLists.{placed}
 use Rattle.queue_table.proofs.Contents.{has-entry}
 use Rattle.queue_table.proofs.Holding.{StandsIn as SlotIn, stands, stands_in}
 use Rattle.queue_table.proofs.MoveBack.{StandsIn}
-use Rattle.queue_moves.specs.Moves.{Entry, count_of, standing, standing_at}
+use Rattle.queue_moves.specs.Moves.{Entry, count_of, standing}
 use Rattle.queue_moves.specs.Tabled.{Slot, IsTabled}
 use Rattle.queue_moves.proofs.Tabled.{behind, found-split, few, elsewhere as other}
 
@@ -43,8 +43,7 @@ count-at e zero (x ∷ l) w h few = grind (arith, nat_tests, same-refl e.item)
 count-at e (suc k) (x ∷ l) w h few = search (arith, at-times e k l (omega arith) h, count-at e k l (omega arith) h)
 
 pub first-in : (e : Entry) (l : List Entry) → oldest_of l ≡ Some e → Contains l e
-first-in e [] h = absurd (cc h)
-first-in e (x ∷ l) h = (0, omega arith, cc h)
+first-in e v h = grind (arith, nat_tests)
 
 abbrev pub oldest_stands : (e : Entry) (q : ℕ) (s : Queues) → q < QUEUES → oldest_of (s q) ≡ Some e → Stands e s
 oldest_stands e q s w h = record { queue = q; low = w; there = first-in e (s q) h }
@@ -80,5 +79,4 @@ held-standing at i q n slots t h g =
     let e : Stands (entry i n) (lists slots) = held-stands at (entry i n) slots h in
     let two : Some e.queue ≡ Some q = sym (holding (entry i n) (lists slots) t e) ∙ g in
     let same : e.queue ≡ q = cc two in
-    ap (λ x. standing_at i x (lists slots)) g
-    ∙ ap (λ (x : ℕ). let p : ℕ × ℕ = (q, x) in Some p) (sym (ap (λ x. count_of i (lists slots x)) same) ∙ own-count (entry i n) (lists slots) t e)
+    grind (arith, nat_tests, own-count (entry i n) (lists slots) t e)

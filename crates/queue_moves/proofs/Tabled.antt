@@ -1,12 +1,12 @@
 -- What the calls make of the queues of a table of keys.
-use Rattle.std.proofs.Common.{◌≡◌, ℕ, suc, zero, ◌+◌, ◌-◌, ◌<◌, ◌≤◌, true, false, cond, eqb, nat_lt, Option, Some, None, List, [], ◌∷◌, ◌++◌, ap, ◌∙◌, sym, refl, arith, ◌⊎◌, inr}
+use Rattle.std.proofs.Common.{◌≡◌, ℕ, suc, zero, ◌+◌, ◌-◌, ◌<◌, ◌≤◌, false, cond, eqb, nat_lt, Option, Some, None, List, [], ◌∷◌, ◌++◌, ap, ◌∙◌, sym, refl, arith, ◌⊎◌, inr}
 use Rattle.std.proofs.Math.Path.{fun_ext}
 use Rattle.std.proofs.lemmas.Bool.{cases_eq, cases_lt, lt-ltb, le-ltb}
 use Rattle.std.proofs.lemmas.List as ListLemmas
 use Rattle.std.proofs.lemmas.Bool.Decides.{nat_tests}
 use Rattle.step_record.specs.Keys.{has_key, keys_without}
 use Rattle.queue_table.specs.Entries.{Item, is_same_item, entry, occurrences, entries_without, entries_counted, oldest_of, before}
-use Rattle.queue_table.specs.Queues.{QUEUES, Queues, with_queue, queue_below, queue_holding, after_push, after_removal, after_send, after_count}
+use Rattle.queue_table.specs.Queues.{QUEUES, Queues, with_queue, queue_holding, after_push, after_removal, after_send, after_count}
 use Rattle.queue_table.proofs.EntryLists.{same-true, same-refl, times-append}
 use Rattle.queue_table.proofs.QueueLists.{IsAbsent, absent, absent-taken, placed, queue-few, distinct-taken, with-queue-same, with-queue-other, times-with, times-none}
 use Rattle.queue_table.proofs.MoveBack.{StandsIn, front-none, back-none, rest, without-none}
@@ -61,32 +61,22 @@ pub keys-taken : (k : ℕ) (l : List Entry) → nodes_of l ≡ 0 → keys_withou
 keys-taken k [] h = refl
 keys-taken k (x ∷ l) h = grind (arith, nat_tests, same-key k x.item (omega arith), keys-taken k l (omega arith))
 
-has-key-some : (k : ℕ) (l : List Entry) → nodes_of l ≡ 0 → 1 ≤ occurrences (item_of k) l → has_key k (keys_of l) ≡ true
-has-key-some k l h m = has-occurs k l h ∙ lt-ltb 0 (occurrences (item_of k) l) m
-
 has-key-none : (k : ℕ) (l : List Entry) → nodes_of l ≡ 0 → occurrences (item_of k) l ≡ 0 → has_key k (keys_of l) ≡ false
 has-key-none k l h m = has-occurs k l h ∙ le-ltb 0 (occurrences (item_of k) l) (omega (arith, m))
 
 pub oldest-node : (e : Entry) (l : List Entry) → nodes_of l ≡ 0 → oldest_of l ≡ Some e → e.item.node ≡ 0
-oldest-node e [] z h = absurd (cc h)
-oldest-node e (x ∷ l) z h = grind arith
+oldest-node e v z h = grind (arith, nat_tests)
 
 -- ---- queues by number
 
 with-queue-is : (q : ℕ) (l : List Entry) (s t : Queues) → t q ≡ l → ((j : ℕ) → (j ≡ q → ⊥) → t j ≡ s j) → t ≡ with_queue q l s
 with-queue-is q l s t h off = fun_ext (λ j. let o = off j in let e = cases_eq j q in grind (arith, nat_tests))
 
-held-below : (n : ℕ) (i : Item) (s : Queues) (q : ℕ) → queue_below n i s ≡ Some q → (q < n) × (1 ≤ occurrences i (s q))
-held-below zero i s q h = absurd (cc h)
-held-below (suc n) i s q h = let r = held-below n i s q in grind (arith, nat_tests)
-
 standing-parts : (i : Item) (h : Option ℕ) (s : Queues) (q n : ℕ) → standing_at i h s ≡ Some (q, n) → (h ≡ Some q) × (count_of i (s q) ≡ n)
-standing-parts i None s q n e = absurd (cc e)
-standing-parts i (Some p) s q n e = grind (arith, nat_tests)
+standing-parts i v s q n e = grind (arith, nat_tests)
 
 nowhere-at : (i : Item) (h : Option ℕ) (s : Queues) → standing_at i h s ≡ None → h ≡ None
-nowhere-at i None s e = refl
-nowhere-at i (Some p) s e = absurd (cc e)
+nowhere-at i v s e = grind (arith, nat_tests)
 
 pub nowhere-standing : (i : Item) (s : Queues) → standing i s ≡ None → queue_holding i s ≡ None
 nowhere-standing i s h = nowhere-at i (queue_holding i s) s h
@@ -144,7 +134,7 @@ module _ (s : Queues) (t : IsTabled s) where
           front = before i (s q);
           back = behind i (s q);
           whole = whole;
-          here = has-key-some k (s q) (t.keys q) m;
+          here = (has-occurs k (s q) (t.keys q) ∙ lt-ltb 0 (occurrences (item_of k) (s q)) m);
           front_off = has-key-none k (before i (s q)) (omega (arith, plain)) (front-none q (entry i n) s t.distinct (cut q (entry i n) (before i (s q)) (behind i (s q)) whole));
           back_off = has-key-none k (behind i (s q)) (omega (arith, plain)) (back-none q (entry i n) s t.distinct (cut q (entry i n) (before i (s q)) (behind i (s q)) whole));
           off = λ j d. has-key-none k (s j) (t.keys j) (none j d);
@@ -153,7 +143,7 @@ module _ (s : Queues) (t : IsTabled s) where
         }
 
     pub stands : (q n : ℕ) → standing (item_of k) s ≡ Some (q, n) → StandsAs k q n s
-    stands q n h = grind (arith, nat_tests, standing-parts, stands-in, held-below)
+    stands q n h = grind (arith, nat_tests, standing-parts, stands-in)
 
     pub stands-nowhere : standing (item_of k) s ≡ None → (j : ℕ) → (has_key k (keys_of (s j)) ≡ false) × (keys_without k (keys_of (s j)) ≡ keys_of (s j))
     stands-nowhere h j = grind (arith, nat_tests, nowhere, nowhere-standing, has-key-none, keys-taken, without-none)
@@ -218,29 +208,21 @@ turn-is s t from to less e l h = cc (oldest-gone s t from e l h)
 pub turn-none : (s : Queues) (from to less : ℕ) → s from ≡ [] → after_turn from to less s ≡ s
 turn-none s from to less h = ap (λ (v : List Entry). turned to less (oldest_of v) s) h
 
-twice-with : (q : ℕ) (l m : List Entry) (s : Queues) → with_queue q l (with_queue q m s) ≡ with_queue q l s
-twice-with q l m s = fun_ext (λ j. grind (arith, nat_tests))
-
-turned-none : (n less : ℕ) → turned_list n less [] ≡ []
-turned-none zero less = refl
-turned-none (suc n) less = refl
-
 within-none : (n : ℕ) (s : Queues) (q less : ℕ) → s q ≡ []
     → after_turns n q q less (after_turn q q less s) ≡ with_queue q (turned_list n less (after_turn q q less s q)) (after_turn q q less s)
     → after_turns n q q less (after_turn q q less s) ≡ with_queue q (turned_list (suc n) less (s q)) s
-within-none n s q less e rest = grind (arith, nat_tests, turned-none n less, rest)
+within-none n s q less e rest = grind (arith, nat_tests, rest)
 
 within-more : (n : ℕ) (s : Queues) → IsTabled s → (q less : ℕ) (x : Entry) (l : List Entry) → s q ≡ x ∷ l
     → after_turns n q q less (after_turn q q less s) ≡ with_queue q (turned_list n less (after_turn q q less s q)) (after_turn q q less s)
     → after_turns n q q less (after_turn q q less s) ≡ with_queue q (turned_list (suc n) less (s q)) s
 within-more n s t q less x l e rest =
-    grind (arith, nat_tests, turn-is s t q q less x l e, with-queue-same q l s, twice-with, rest, with-queue-same)
+    grind (arith, nat_tests, turn-is s t q q less x l e, with-queue-same q l s, rest, with-queue-same)
 
 within-step : (n : ℕ) (s : Queues) → IsTabled s → (q less : ℕ) (v : List Entry) → s q ≡ v
     → after_turns n q q less (after_turn q q less s) ≡ with_queue q (turned_list n less (after_turn q q less s q)) (after_turn q q less s)
     → after_turns n q q less (after_turn q q less s) ≡ with_queue q (turned_list (suc n) less (s q)) s
-within-step n s t q less [] e rest = within-none n s q less e rest
-within-step n s t q less (x ∷ l) e rest = within-more n s t q less x l e rest
+within-step n s t q less v e rest = grind (arith, nat_tests, within-none, rest, within-more)
 
 pub turns-within : (s : Queues) → IsTabled s → (n q less : ℕ) → q < QUEUES → after_turns n q q less s ≡ with_queue q (turned_list n less (s q)) s
 turns-within s t zero q less w = with-queue-is q (s q) s s refl (λ j d. refl)

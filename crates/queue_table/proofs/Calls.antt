@@ -2,13 +2,11 @@
 use Rattle.std.proofs.Common.{◌≡◌, ℕ, suc, ◌+◌, ◌<◌, ◌≤◌, cond, eqb, get_or, List, [], ◌∷◌, length, refl, arith}
 use Rattle.std.proofs.lemmas.Bool.{cases_eq}
 use Rattle.std.proofs.lemmas.Bool.Decides.{nat_tests}
-use Rattle.queue_table.specs.Queues.{after_removal}
-use Rattle.queue_table.specs.Ring.{Slot, entries, slot_item, count, put_before, SECTIONS, Order, used, order_without, sent, lists_of, IsQueued}
-use Rattle.step_record.specs.Keys.{keys_without}
+use Rattle.queue_table.specs.Ring.{Slot, entries, count, put_before, SECTIONS, Order, used, order_without, sent, lists_of, IsQueued}
 use Rattle.queue_table.specs.QueueTable.{Lengths, IsCounted}
 use Rattle.queue_table.proofs.Sections.{length-without}
-use Rattle.queue_table.proofs.Orders.{IsOnce, section-few, section-alone, count-parts-ring, with-same, with-other}
-use Rattle.queue_table.proofs.Contents.{taken-order, lists-unused}
+use Rattle.queue_table.proofs.Orders.{IsOnce, section-few, section-alone, count-parts-ring, with-other}
+use Rattle.queue_table.proofs.Contents.{lists-unused}
 use Rattle.queue_table.proofs.Holding.{used-within}
 use Rattle.queue_table.proofs.Finding.{slots-length}
 use Rattle.queue_table.proofs.Tables.{free-unused}
@@ -19,18 +17,13 @@ length-put : (k b : ℕ) (l : List ℕ) → length (put_before k b l) ≡ length
 length-put k b [] = refl
 length-put k b (x ∷ l) = let r = length-put k b l in grind (arith, nat_tests)
 
-length-sent : (k s b t : ℕ) (o : Order) → length (sent k s b o t) ≡ length (keys_without k (o t)) + cond (eqb t s) 1 0
-length-sent k s b t o = grind (arith, nat_tests, length-put k b (keys_without k (o s)), cases_eq t s)
-
 -- one slot fewer where it stood, one more where it goes
 pub lengths-sent : (k s b from t : ℕ) (o : Order) → from < SECTIONS → t < SECTIONS → IsOnce o → 1 ≤ count k (o from) → length (sent k s b o t) + cond (eqb t from) 1 0 ≡ length (o t) + cond (eqb t s) 1 0
-lengths-sent k s b from t o w v u n =
-    grind (arith, nat_tests, length-sent, length-without, section-few, section-alone, cases_eq)
+lengths-sent k s b from t o w v u n = search (arith, length-put, cases_eq, length-without, section-few, section-alone)
 
 pub counted-sent : (lengths lengths2 : Lengths) (k s b from here to : ℕ) (o : Order) → IsCounted lengths o → from < SECTIONS → IsOnce o → 1 ≤ count k (o from) → here ≡ from → to ≡ s →
     ((t : ℕ) → t < SECTIONS → get_or lengths2.at t 0 + cond (eqb t here) 1 0 ≡ get_or lengths.at t 0 + cond (eqb t to) 1 0) → IsCounted lengths2 (sent k s b o)
-counted-sent lengths lengths2 k s b from here to o c w u n eh et h t v =
-    grind (arith, nat_tests, lengths-sent k s b from t o w v u n, c t v, h t v)
+counted-sent lengths lengths2 k s b from here to o c w u n eh et h t v = grind (arith, nat_tests, lengths-sent)
 
 pub count-length : (k : ℕ) (l : List ℕ) → count k l ≤ length l
 count-length k l = let a = length-without k l in omega (arith, a)
@@ -43,7 +36,7 @@ pub spare-sent : (k q b : ℕ) (o : Order) → length (sent k (suc q) b o 0) + c
 spare-sent k q b o = grind (arith, nat_tests, with-other, length-without)
 
 pub spare-freed : (k b : ℕ) (o : Order) → count k (o 0) ≡ 0 → length (sent k 0 b o 0) ≡ length (o 0) + 1
-spare-freed k b o n = grind (arith, nat_tests, with-same, length-put, length-without)
+spare-freed k b o n = grind (arith, nat_tests, length-put, length-without)
 
 pub used-not-free : (k : ℕ) (o : Order) → IsOnce o → 1 ≤ count k (used o) → count k (o 0) ≡ 0
 used-not-free k o u n = let a = count-parts-ring k o in let b = u k in omega (arith, a, b, n)
@@ -52,9 +45,6 @@ used-not-free k o u n = let a = count-parts-ring k o in let b = u k in omega (ar
 
 pub free-lists : (slots : List Slot) (o : Order) (h : IsQueued slots o) (k : ℕ) → 1 ≤ count k (o 0) → lists_of (order_without k o) (entries slots) ≡ lists_of o (entries slots)
 free-lists slots o h k n = lists-unused o (entries slots) k h.short (free-unused slots o h k n)
-
-pub used-lists : (slots : List Slot) (o : Order) (h : IsQueued slots o) (k : ℕ) → 1 ≤ count k (used o) → after_removal (slot_item (entries slots) k) (lists_of o (entries slots)) ≡ lists_of (order_without k o) (entries slots)
-used-lists slots o h k n = taken-order o (entries slots) k h.short h.distinct n
 
 pub slot-within : (slots : List Slot) (o : Order) → IsQueued slots o → (k : ℕ) → 1 ≤ count k (used o) → k < length slots
 slot-within slots o h k n = let w = used-within slots o h k n in let l = slots-length slots in omega (arith, w, l)

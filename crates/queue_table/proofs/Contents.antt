@@ -7,10 +7,10 @@ use Rattle.std.proofs.lemmas.Bool.{cases_Bool, cases_eq, cases_lt, eqb-true}
 use Rattle.std.proofs.lemmas.List.{map-append}
 use Rattle.std.proofs.lemmas.Bool.Decides.{nat_tests}
 use Rattle.queue_table.specs.Entries.{Entry, Item, is_same_item, occurrences, last_from, last_item, before, put_behind, entries_without}
-use Rattle.queue_table.specs.Queues.{QUEUES, with_queue, queue_holding, times_below, after_push, after_removal, after_return, IsDistinct}
+use Rattle.queue_table.specs.Queues.{QUEUES, queue_holding, times_below, after_push, after_removal, after_return, IsDistinct}
 use Rattle.queue_table.proofs.EntryLists.{same-true, same-refl, times-append, put_behind-at}
 use Rattle.queue_table.proofs.QueueLists.{IsAbsent, is_absent, placed, queue-few, times-none, times-with}
-use Rattle.queue_table.specs.Ring.{slot_entry, slot_item, count, put_before, FIRST, Order, used, with_section, order_without, sent, lists_of, item_or, IsShort}
+use Rattle.queue_table.specs.Ring.{slot_entry, slot_item, count, put_before, FIRST, Order, used, order_without, sent, lists_of, item_or, IsShort}
 use Rattle.queue_table.specs.QueueTable.{IsBehind}
 use Rattle.step_record.specs.Keys.{keys_without}
 use Rattle.queue_table.proofs.Splices.{count-append, count-here, end_of}
@@ -80,11 +80,8 @@ lists-freed k b o es = fun_ext (λ q. ap (map (λ j. slot_entry es j)) (with-oth
 
 -- put in place
 
-pub lists-with : (q : ℕ) (l : List ℕ) (o : Order) (es : List Entry) → lists_of (with_section (suc q) l o) es ≡ with_queue q (map (λ k. slot_entry es k) l) (lists_of o es)
-lists-with q l o es = fun_ext (λ j. grind (arith, nat_tests))
-
 pub lists-recent : (q k b : ℕ) (o : Order) (es : List Entry) → count b (order_without k o (suc q)) ≡ 0 → lists_of (sent k (suc q) b o) es ≡ after_push q (slot_entry es k) (lists_of (order_without k o) es)
-lists-recent q k b o es h = grind (arith, nat_tests, lists-with, put-end, map-append)
+lists-recent q k b o es h = grind (arith, nat_tests, put-end, map-append)
 
 -- a list cut where what a function makes of it is
 pub record IsCutAt {X Y : Type 0} (f : X → Y) (l : List X) (xs ys : List Y) : Type 0 where
@@ -109,8 +106,7 @@ put-cut : (f : ℕ → Entry) (k b c : ℕ) (us vs : List ℕ) → ((j : Item) �
 put-cut f k b c us [] u n e = ap (λ x. put_before k x (us ++ [])) (sym e) ∙ (put-end k c (us ++ []) n ∙ rw (append-nil us) refl)
 put-cut f k b c us (v ∷ vs) u n e =
     let none : count v us ≡ 0 = (
-    let t = times-map f (f v).item v (us ++ v ∷ vs) (same-refl (f v).item) in
-    omega (arith, t, count-append, count-here v vs)) in
+    omega (arith, times-map f (f v).item v (us ++ v ∷ vs) (same-refl (f v).item), count-append, count-here v vs)) in
     ap (λ x. put_before k x (us ++ v ∷ vs)) (sym e) ∙ (put-sentinel k v us vs none ∙ append_assoc us (k ∷ []) (v ∷ vs))
 
 pub map-put : (q k b : ℕ) (older : Option Item) (es : List Entry) (l : List ℕ) → ((j : Item) → occurrences j (map (λ x. slot_entry es x) l) ≤ 1) → count (suc (suc q)) l ≡ 0 → IsBehind b q older es l →
@@ -129,8 +125,7 @@ map-put q k b older es l u n c =
 pub lists-back : (q k b : ℕ) (o : Order) (es : List Entry) (older : Option Item) → q < QUEUES → IsDistinct (lists_of (order_without k o) es) →
     count (suc (suc q)) (order_without k o (suc q)) ≡ 0 → IsBehind b q older es (order_without k o (suc q)) →
     lists_of (sent k (suc q) b o) es ≡ after_return q older (slot_entry es k) (lists_of (order_without k o) es)
-lists-back q k b o es older w d n c =
-    grind (arith, nat_tests, lists-with, map-put, queue-few q (lists_of (order_without k o) es) w d)
+lists-back q k b o es older w d n c = grind (arith, nat_tests, map-put, queue-few)
 
 -- distinct items
 
@@ -139,7 +134,7 @@ times-put f i k b [] = refl
 times-put f i k b (x ∷ l) = let r = times-put f i k b l in grind (arith, nat_tests)
 
 pub distinct-sent : (q k b : ℕ) (o : Order) (es : List Entry) → q < QUEUES → IsDistinct (lists_of (order_without k o) es) → IsAbsent (slot_item es k) (lists_of (order_without k o) es) → IsDistinct (lists_of (sent k (suc q) b o) es)
-distinct-sent q k b o es w d a i = grind (arith, nat_tests, lists-with, times-with, times-put, same-true, times-none)
+distinct-sent q k b o es w d a i = grind (arith, nat_tests, times-with, times-put, same-true, times-none)
 
 -- neighbours
 
@@ -149,18 +144,12 @@ before-map f k (x ∷ us) vs h =
     let e : is_same_item (f k).item (f x).item ≡ false = h x (let n = count-here x us in omega (arith, n)) in
     rw e (ap (λ t. f x ∷ t) (before-map f k us vs (λ j n. h j (omega arith))))
 
-item-real : (es : List Entry) (k : ℕ) → FIRST ≤ k → item_or es k ≡ Some (slot_item es k)
-item-real es k h = grind (arith, nat_tests)
-
-item-first : (es : List Entry) (k : ℕ) → k < FIRST → item_or es k ≡ None
-item-first es k h = grind (arith, nat_tests)
-
 item-last : (es : List Entry) (x : ℕ) (us : List ℕ) → FIRST ≤ x → ((j : ℕ) → 1 ≤ count j us → FIRST ≤ j) → item_or es (end_of x us) ≡ last_from (Some (slot_item es x)) (map (λ k. slot_entry es k) us)
-item-last es x [] r h = item-real es x r
+item-last es x [] r h = (grind (arith, nat_tests))
 item-last es x (y ∷ us) r h = item-last es y us (h y (let n = count-here y us in omega (arith, n))) (λ j n. h j (omega arith))
 
 pub item-end : (es : List Entry) (a : ℕ) (us : List ℕ) → a < FIRST → ((j : ℕ) → 1 ≤ count j us → FIRST ≤ j) → item_or es (end_of a us) ≡ last_item (map (λ k. slot_entry es k) us)
-item-end es a [] s h = item-first es a s
+item-end es a [] s h = (grind (arith, nat_tests))
 item-end es a (x ∷ us) s h = item-last es x us (h x (let n = count-here x us in omega (arith, n))) (λ j n. h j (omega arith))
 
 -- where a slot's item stands

@@ -9,22 +9,16 @@ use Rattle.queue_table.specs.Queues.{QUEUES, queue_holding}
 use Rattle.queue_table.specs.Ring.{Slot, entries, olders, newers, slot_entry, slot_item, count, next_but, IsLinked, Order, used, order_without, lists_of, IsPlace, IsQueued}
 use Rattle.step_record.specs.Keys.{keys_without}
 use Rattle.queue_table.specs.QueueTable.{IsBehind}
-use Rattle.queue_table.proofs.Splices.{count-append, count-here, linked-split, newer-start, start_of}
+use Rattle.queue_table.proofs.Splices.{count-append, count-here, linked-split, newer-start}
 use Rattle.queue_table.proofs.Turning.{IsSplit, split_at}
 use Rattle.queue_table.proofs.Sections.{gone, count-without, without-append, without-none}
 use Rattle.queue_table.proofs.Orders.{section-few, section-used, used-real}
 use Rattle.queue_table.proofs.Contents.{IsCutAt, cut_at, alone, placed-at}
 use Rattle.queue_table.proofs.Holding.{linked-section}
 
-start-is : (ws : List ℕ) (c : ℕ) → get_or ws 0 c ≡ start_of ws c
-start-is [] c = refl
-start-is (x ∷ ws) c = refl
-
 -- one link further than a slot that is left out
 next-linked : (ns os : List ℕ) (j but c : ℕ) (ws : List ℕ) → IsLinked ns os j ws c → (but ≡ c → ⊥) → count but ws ≤ 1 → get_or (keys_without but ws) 0 c ≡ next_but ns j but
-next-linked ns os j but c [] k d few = grind (arith, nat_tests)
-next-linked ns os j but c (x ∷ ws) k d few =
-    search (arith, without-none but ws, start-is ws c, newer-start ns os x ws c k.2, cases_eq (get_or ns j 0) but)
+next-linked ns os j but c v k d few = grind (arith, nat_tests, without-none, newer-start, cases_eq)
 
 -- the slot of the last item
 record HasLast (f : ℕ → Entry) (l : List ℕ) (n : Item) : Type 0 where
@@ -54,7 +48,6 @@ module _ (slots : List Slot) (o : Order) (h : IsQueued slots o) (q but j : ℕ) 
   -- the cut right after a slot that stands there
   cut-after : 1 ≤ count j (order_without but o (suc q)) → IsBehind (next_but (newers slots) j but) q (Some (slot_item (entries slots) j)) (entries slots) (order_without but o (suc q))
   cut-after n =
-      let f : ℕ → Entry = λ k. slot_entry (entries slots) k in
       let s : IsSplit j (o (suc q)) = split_at j (o (suc q)) (few j) (omega (arith, count-without, n)) in
       let split_links : IsLinked (newers slots) (olders slots) (suc q) (s.front ++ j ∷ s.back) (suc (suc q)) = subst (λ (l : List ℕ). IsLinked (newers slots) (olders slots) (suc q) l (suc (suc q))) s.whole links in
       let parts = linked-split (newers slots) (olders slots) (suc q) s.front j s.back (suc (suc q)) split_links in

@@ -1,6 +1,6 @@
 -- The ends of the sections, and the slots between them.
 use Rattle.std.proofs.Common.{◌≡◌, ℕ, suc, zero, ◌<◌, ◌≤◌, Some, List, [], ◌∷◌, ◌++◌, length, get_or, map, ap, ◌∙◌, sym, refl, subst, arith, append_assoc}
-use Rattle.queue_table.specs.Entries.{Entry, Item, oldest_of, newest_from, newest_of}
+use Rattle.queue_table.specs.Entries.{Entry, Item, newest_from, newest_of}
 use Rattle.queue_table.specs.Ring.{Slot, newers, olders, slot_entry, slot_item, count, walk, IsRing, SECTIONS, Order, ring, first_of, last_after, last_of, IsQueued}
 use Rattle.queue_table.proofs.Splices.{older-end, newer-start, end_of, start_of, start-stands, count-append, count-here}
 use Rattle.queue_table.proofs.Turning.{turned}
@@ -38,10 +38,6 @@ last-after-stands k a (x ∷ l) e = let r = last-after-stands k x l e in omega (
 pub last-stands : (k : ℕ) (l : List ℕ) → last_of l ≡ Some k → 1 ≤ count k l
 last-stands k [] e = absurd (cc (e))
 last-stands k (x ∷ l) e = last-after-stands k x l e
-
-pub first-entry : (es : List Entry) (k : ℕ) (l : List ℕ) → first_of l ≡ Some k → oldest_of (map (λ j. slot_entry es j) l) ≡ Some (slot_entry es k)
-first-entry es k [] e = absurd (cc (e))
-first-entry es k (x ∷ l) e = let s : x ≡ k = cc (e) in ap (λ y. Some (slot_entry es y)) s
 
 newest-after : (es : List Entry) (k a : ℕ) (l : List ℕ) → last_after (Some a) l ≡ Some k → newest_from (Some (slot_entry es a)) (map (λ j. slot_entry es j) l) ≡ Some (slot_entry es k)
 newest-after es k a [] e = let s : a ≡ k = cc (e) in ap (λ y. Some (slot_entry es y)) s

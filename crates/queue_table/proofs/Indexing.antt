@@ -23,13 +23,9 @@ module _ (links : List ℕ) (bits : ℕ) (item_of : ℕ → Item) (used : ℕ �
   pub placed-here : (b k : ℕ) → b < 2 ^ bits → bucket bits (item_of k) ≡ b → tally k (x.trees b) ≡ used k
   placed-here b k w e = let p = x.placed b k w in grind (arith, nat_tests)
 
-  -- and in no other
-  placed-past : (b k : ℕ) → b < 2 ^ bits → (bucket bits (item_of k) ≡ b → ⊥) → tally k (x.trees b) ≡ 0
-  placed-past b k w e = let p = x.placed b k w in grind (arith, nat_tests)
-
   -- a slot stands in one tree at most
   placed-apart : (b c k : ℕ) → b < 2 ^ bits → c < 2 ^ bits → (c ≡ b → ⊥) → 1 ≤ tally k (x.trees c) → tally k (x.trees b) ≡ 0
-  placed-apart b c k v u d m = grind (arith, nat_tests, placed-past)
+  placed-apart b c k v u d m = grind (arith, nat_tests)
 
   pub root-whole : (b : ℕ) → b < 2 ^ bits → IsWhole links (2 ^ bits) b (x.trees b)
   root-whole b w = grind (arith, nat_tests, placed-once)
@@ -89,7 +85,6 @@ module _ (links : List ℕ) (bits : ℕ) (item_of : ℕ → Item) (used : ℕ �
   module _ (at : ℕ) (item : Item) (item_of2 : ℕ → Item) (used2 : ℕ → ℕ) (j : IsAdded at item item_of item_of2 used used2) (b : ℕ) (bk : b ≡ bucket bits item) (v : b < 2 ^ bits) where
     pub added : (links2 : List ℕ) → Replaces (2 ^ bits) links links2 b (x.trees b) (grafted 0 item at (x.trees b)) → IsMapped links2 bits item_of2 used2
     added links2 p =
-        let absent = j.absent in
         let more : used2 at ≡ 1 + used at = (let c = j.counted at in grind (arith, nat_tests)) in
         let one : tally at (grafted 0 item at (x.trees b)) ≡ 1 + tally at (x.trees b) = (let g = grafted-tally 0 item at at (x.trees b) in grind (arith, nat_tests)) in
         let none : tally at (x.trees b) ≡ 0 = omega (arith, placed-used b at v) in
@@ -97,9 +92,9 @@ module _ (links : List ℕ) (bits : ℕ) (item_of : ℕ → Item) (used : ℕ �
         changed links2 b (grafted 0 item at (x.trees b)) v p item_of2 used2 at (ap (bucket bits) j.its ∙ sym bk) j.others
         (λ k d. let n = j.counted k in grind (arith, nat_tests))
         (λ k d. let g = grafted-tally 0 item at k (x.trees b) in grind (arith, nat_tests))
-        (omega (arith, one, more, none, absent))
-        (omega (arith, more, absent))
-        (λ c u d. let pc = placed-used c at u in omega (arith, pc, absent))
+        (omega (arith, one, more, none))
+        (omega (arith, more))
+        (λ c u d. let pc = placed-used c at u in omega (arith, pc))
         (grafted-sorted item_of2 0 item at (x.trees b) j.its st)
         (λ z. absurd (omega (arith, z, more)))
 
@@ -120,7 +115,7 @@ module _ (links : List ℕ) (bits : ℕ) (item_of : ℕ → Item) (used : ℕ �
         (λ k d. let n = left k in grind (arith, nat_tests))
         (let one = left at in let few = placed-once b at v in grind (arith, nat_tests))
         (omega (arith, m))
-        (λ c u d. placed-past c at u (λ z. d (sym z ∙ here)))
+        (λ c u d. (let p = x.placed c at u in grind (arith, nat_tests)))
         (detached-sorted item_of 0 item at (x.trees b) (x.sorted b v) j.its stands.stands)
         (λ z. bare)
 
@@ -133,7 +128,7 @@ module _ (links : List ℕ) (bits : ℕ) (item_of : ℕ → Item) (used : ℕ �
   first-in-bucket b item r bk v n = record {
     there = λ m.
         let h = (step links (2 ^ bits) b r (branch (2 ^ bits) r true) true (x.trees b) (root-whole b v) n (λ z. omega (arith, m, z)) refl).here in
-        grind (arith, nat_tests, cases_eq (bucket bits (item_of r)) b, placed-used b r v, placed-past);
+        grind (arith, nat_tests, cases_eq (bucket bits (item_of r)) b, placed-used b r v);
     missing = λ z k m e.
         let p = placed-here b k v (e ∙ sym bk) in
         no-slots links (2 ^ bits) b (x.trees b) k (sym n ∙ z) (x.rooted b v) (omega (arith, p, m));

@@ -28,8 +28,7 @@ some-used (x ∷ slots) k n = omega arith
 
 pub kept-on : (slots slots2 : List Slot) (index index2 : SlotIndex) (n n2 : Lengths) → IsKept slots index n → IsInSlots slots index (order_of slots) → IsQueued slots2 (order_of slots2) → IsIndexOf index2 (entries slots2) (used (order_of slots2)) → IsCounted n2 (order_of slots2) →
     length (entries slots2) ≡ length (entries slots) → index2.bits ≡ index.bits → IsKept slots2 index2 n2
-kept-on slots slots2 index index2 n n2 k h q x c e b =
-    grind (arith, nat_tests, entries-length slots, entries-length slots2)
+kept-on slots slots2 index index2 n n2 k h q x c e b = search (arith, entries-length slots, entries-length slots2)
 
 -- a queue that is not of length 0
 pub has-items : (slots : List Slot) (index : SlotIndex) (n : Lengths) → IsKept slots index n → (q m : ℕ) → q < QUEUES → m ≡ get_or n.at (suc q) 0 → (m ≡ 0 → ⊥) → HasItems q slots
@@ -51,8 +50,7 @@ before-within slots h q w = omega (arith, h.linked.long, slots-length slots, rin
 
 -- all slots in the ring are fewer than the slots
 ring-few : (slots : List Slot) (index : SlotIndex) (n : Lengths) → IsKept slots index n → length (ring (order_of slots)) < 2 ^ 32
-ring-few [] index n k = let none = ap (λ (o : Order). length (ring o)) no-order in omega (arith, none)
-ring-few (x ∷ slots) index n k = omega (arith, (k.held (omega arith)).queued.linked.long, slots-length (x ∷ slots), k.few)
+ring-few v index n k = grind (arith, nat_tests, no-order, slots-length)
 
 pub items-few : (slots : List Slot) (index : SlotIndex) (n : Lengths) → IsKept slots index n → get_or n.at 1 0 + get_or n.at 2 0 + get_or n.at 3 0 + get_or n.at 4 0 < 2 ^ 64
 items-few slots index n k = grind (arith, nat_tests, ring-few slots index n k, ring-length (order_of slots))
@@ -61,11 +59,8 @@ pub section-few : (slots : List Slot) (index : SlotIndex) (n : Lengths) → IsKe
 section-few slots index n k s w =
     grind (arith, nat_tests, ring-at, cut_at_section, ring-few slots index n k, length-append {A = ℕ})
 
-length-lists : (o : Order) (es : List Entry) (q : ℕ) → length (lists_of o es q) ≡ length (o (suc q))
-length-lists o es q = length-map (o (suc q)) (λ j. slot_entry es j)
-
 pub length-queue : (slots : List Slot) (index : SlotIndex) (n : Lengths) (q : ℕ) → IsKept slots index n → q < QUEUES → get_or n.at (suc q) 0 ≡ length (lists slots q)
-length-queue slots index n q k w = k.counted (suc q) (omega (arith, w)) ∙ sym (length-lists (order_of slots) (entries slots) q)
+length-queue slots index n q k w = k.counted (suc q) (omega (arith, w)) ∙ sym (length-map ((order_of slots) (suc q)) (λ j. slot_entry (entries slots) j))
 
 pub all-items : (slots : List Slot) (index : SlotIndex) (n : Lengths) → IsKept slots index n → get_or n.at 1 0 + get_or n.at 2 0 + get_or n.at 3 0 + get_or n.at 4 0 ≡ items_below QUEUES (lists slots)
 all-items slots index n k = grind (arith, common_steps, length-queue)

@@ -3,7 +3,7 @@ use Rattle.std.proofs.Common.{◌≡◌, ℕ, ◌+◌, ◌<◌, ◌≤◌, Bool,
 use Rattle.std.proofs.lemmas.Bool.Decides.{nat_tests}
 use Rattle.queue_table.specs.Trees.{Tree, leaf, fork, tally, branch, lowest, plucked, lifted}
 use Rattle.queue_table.specs.Places.{IsWhole, IsBare, Replaces}
-use Rattle.queue_table.proofs.Trees.{tally-here, members, same-slot, same-tree}
+use Rattle.queue_table.proofs.Trees.{members, same-slot, same-tree}
 use Rattle.queue_table.proofs.Sorting.{plucked-tally, lifted-tally}
 
 -- the lowest slot has branches
@@ -11,17 +11,13 @@ pub lowest-real : (links : List ℕ) (roots place at last : ℕ) (t : Tree) → 
 lowest-real links roots place at last leaf w e s z = absurd (let x = w.tree in omega (arith, x, e, s))
 lowest-real links roots place at last (fork i l r) w e s z = grind (arith, nat_tests, plucked-tally last i l r, members)
 
--- the slot above branches is not the lowest one
-above : (i k : ℕ) (l r l2 r2 : Tree) → k ≡ i → tally i (fork i l r) ≡ cond (eqb i k) 1 0 + tally i (fork i l2 r2) → tally i (fork i l r) ≤ 1 → ⊥
-above i k l r l2 r2 s p o = let h = tally-here i l2 r2 in grind (arith, nat_tests)
-
 -- a tree of one slot
 pub lift-one : (roots : ℕ) (links links2 : List ℕ) (place at last : ℕ) (t : Tree) → IsWhole links roots place t → get_or links place 0 ≡ at → 1 ≤ at → last ≡ at → last ≡ lowest 0 t →
     Replaces roots links links2 place t (plucked t) → Replaces roots links links2 place t (lifted t)
 lift-one roots links links2 place at last leaf w e s n z p = p
 lift-one roots links links2 place at last (fork i leaf leaf) w e s n z p = p
-lift-one roots links links2 place at last (fork i (fork j a b) r) w e s n z p = search (arith, above, plucked-tally)
-lift-one roots links links2 place at last (fork i leaf (fork j a b)) w e s n z p = search (arith, above, plucked-tally)
+lift-one roots links links2 place at last (fork i (fork j a b) r) w e s n z p = search (arith, plucked-tally)
+lift-one roots links links2 place at last (fork i leaf (fork j a b)) w e s n z p = search (arith, plucked-tally)
 
 -- the links after the slot `last` took the place of another one
 abbrev pub links_moved : ℕ → List ℕ → ℕ → ℕ → ℕ → List ℕ
@@ -85,7 +81,7 @@ module _ (roots : ℕ) (links links1 : List ℕ) (place i last : ℕ) (l r a b :
 
   below : (k : ℕ) (side : Bool) → 1 ≤ tally k a + tally k b → get_or links2 (branch roots k side) 0 ≡ get_or links1 (branch roots k side) 0
   below k side m =
-            stays (branch roots k side) (λ e. w.outside k side (omega (arith, m)) (sym e))
+      stays (branch roots k side) (λ e. w.outside k side (omega (arith, m)) (sym e))
       (λ side2 e. let s = same-slot roots k last side side2 e in let q = ap (λ j. tally j (fork i a b)) s in let z = gone in omega (arith, q, z, m))
 
   pub lift-put : Replaces roots links links2 place (fork i l r) (fork last a b)
@@ -139,15 +135,12 @@ module _ (roots : ℕ) (links : List ℕ) (at left : ℕ) (e : left ≡ branch r
       get_or-set_other (set links left 0) (left + 1) q 0 0 (λ d. f true (omega (arith, d, e)))
       ∙ get_or-set_other links left q 0 0 (λ d. f false (d ∙ e))
 
-  long : length links_cleared ≡ length links
-  long = length-set (set links left 0) (left + 1) 0 ∙ length-set links left 0
-
   pub cleared-replaces : (links0 : List ℕ) (place : ℕ) (t t2 : Tree) → IsWhole links0 roots place t → 1 ≤ tally at t → tally at t2 ≡ 0 → Replaces roots links0 links place t t2 → Replaces roots links0 links_cleared place t t2
   cleared-replaces links0 place t t2 w there gone p = record {
-    tree = same-tree links links_cleared roots place place t2 long (kept place (λ side d. w.outside at side there d))
+    tree = same-tree links links_cleared roots place place t2 (length-set (set links left 0) (left + 1) 0 ∙ length-set links left 0) (kept place (λ side d. w.outside at side there d))
         (λ k side m. kept (branch roots k side) (λ other d. let s = same-slot roots k at side other d in let a = ap (λ j. tally j t2) s in omega (arith, a, m, gone))) p.tree;
     others = λ q d o. kept q (λ side f. o at side there f) ∙ p.others q d o;
-    size = long ∙ p.size;
+    size = (length-set (set links left 0) (left + 1) 0 ∙ length-set links left 0) ∙ p.size;
   }
 
 -- the first slot of a tree stands in it, and not in what is left without it

@@ -19,9 +19,6 @@ without-append : (i : Item) (xs ys : List Entry) → entries_without i (xs ++ ys
 without-append i [] ys = refl
 without-append i (x ∷ xs) ys = let r = without-append i xs ys in grind (arith, nat_tests)
 
-without-own : (e : Entry) (l : List Entry) → entries_without e.item (e ∷ l) ≡ entries_without e.item l
-without-own e l = grind (arith, nat_tests)
-
 -- where an entry stands: queue p is cut around it
 pub record StandsIn (p : ℕ) (e : Entry) (s : Queues) : Type 0 where
   pub low : p < QUEUES
@@ -40,7 +37,7 @@ module _ (p : ℕ) (e : Entry) (s : Queues) (d : IsDistinct s) (at : StandsIn p 
   back-none = let a = queue-few p s at.low d e.item in let b = sum in omega (arith, a, b)
 
   pub rest : entries_without e.item (s p) ≡ at.front ++ at.back
-  rest = grind (arith, nat_tests, without-append, without-own, without-none, front-none, back-none)
+  rest = grind (arith, nat_tests, without-append, without-none, front-none, back-none)
 
   front-few : (j : Item) → occurrences j at.front ≤ 1
   front-few j = grind (arith, nat_tests, queue-few p s at.low d j, times-append j at.front (e ∷ at.back))

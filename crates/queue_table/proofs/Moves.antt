@@ -11,11 +11,11 @@ use Rattle.queue_table.proofs.QueueLists.{IsAbsent, distinct-taken}
 use Rattle.queue_table.proofs.Splices.{count-append}
 use Rattle.queue_table.proofs.Sections.{count-without}
 use Rattle.queue_table.proofs.Orders.{IsOnce, order-short, section-in, closing-none, short-without, section-few, used-same, used-few, used-gone, used-other, used-sent, used-freed, used-kept}
-use Rattle.queue_table.proofs.Contents.{map-same, lists-kept, lists-freed, lists-recent, lists-back, distinct-sent}
+use Rattle.queue_table.proofs.Contents.{map-same, lists-kept, lists-freed, lists-recent, lists-back, distinct-sent, taken-order}
 use Rattle.queue_table.proofs.Holding.{sent-in}
 use Rattle.queue_table.proofs.Indexing.{same-map}
 use Rattle.queue_table.proofs.Tables.{free-real, free-unused, free-within, section-kept}
-use Rattle.queue_table.proofs.Calls.{count-length, spare-sent, spare-freed, free-lists, used-lists, used-not-free}
+use Rattle.queue_table.proofs.Calls.{count-length, spare-sent, spare-freed, free-lists, used-not-free}
 use Rattle.queue_table.proofs.Kept.{some-slots, some-used, used-slot, kept-on, section-few as lengths-few}
 use Rattle.queue_table.proofs.Renewing.{written-entry, other-entry, same-items, keeps-slots, keeps-others}
 
@@ -50,7 +50,7 @@ module _ (slots : List Slot) (index : SlotIndex) (lengths : Lengths) (x : IsKept
         held = h;
         real = r.0;
         within = r.1;
-        rest = sym (used-lists slots (order_of slots) h.queued k u);
+        rest = sym (taken-order (order_of slots) (entries slots) k h.queued.short h.queued.distinct u);
         distinct = distinct-taken (slot_item (entries slots) k) (lists slots) h.queued.distinct;
       }
 
@@ -102,9 +102,7 @@ module _ (slots slots2 : List Slot) (index : SlotIndex) (lengths : Lengths) (k q
   recent-after z =
       let o : Order = order_of slots in
       let none : count b (order_without k o (suc q)) ≡ 0 = subst (λ c. count c (order_without k o (suc q)) ≡ 0) (sym z) (closing-without q k o m.low l.held.queued.linked.once) in
-      ap (λ (p : Order). lists_of p (entries slots2)) m.order
-      ∙ (lists-recent q k b o (entries slots2) none
-      ∙ (ap (λ (x : Entry). after_push q x (lists_of (order_without k o) (entries slots2))) here ∙ ap (after_push q e) left))
+      grind (arith, nat_tests, lists-recent q k b o (entries slots2) none, here, left)
 
   behind-kept : (older : Option Item) → IsBehind b q older (entries slots) (order_without k (order_of slots) (suc q)) → IsBehind b q older (entries slots2) (order_without k (order_of slots) (suc q))
   behind-kept older c = record { front = c.front; back = c.back; whole = c.whole; older_last = ap last_item same ∙ c.older_last; next = c.next }

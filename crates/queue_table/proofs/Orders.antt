@@ -26,9 +26,6 @@ ring-same (suc n) k o p h =
     let a : o k ≡ p k = h k (omega arith) in
     rw (a, ring-same n (suc k) o p (λ j m. h j (omega (arith, m)))) refl
 
-pub with-same : (s : ℕ) (l : List ℕ) (o : Order) → with_section s l o s ≡ l
-with-same s l o = grind (arith, nat_tests)
-
 pub with-other : (s j : ℕ) (l : List ℕ) (o : Order) → (j ≡ s → ⊥) → with_section s l o j ≡ o j
 with-other s j l o d = grind (arith, nat_tests)
 
@@ -61,11 +58,8 @@ cut (suc n) k s o a b =
           }
     ]
 
-with-itself : (s : ℕ) (o : Order) (j : ℕ) → with_section s (o s) o j ≡ o j
-with-itself s o j = grind (arith, nat_tests)
-
 ring-cut : (n k s : ℕ) (o : Order) (c : IsCut n k s o) → ring_from n k o ≡ c.pre ++ (o s ++ suc s ∷ c.post)
-ring-cut n k s o c = sym (ring-same n k (with_section s (o s) o) o (λ j m. with-itself s o j)) ∙ c.whole (o s)
+ring-cut n k s o c = sym (ring-same n k (with_section s (o s) o) o (λ j m. (grind (arith, nat_tests)))) ∙ c.whole (o s)
 
 count-parts : (j s : ℕ) (xs l ys : List ℕ) → count j (xs ++ (l ++ suc s ∷ ys)) ≡ count j xs + (count j l + (cond (eqb j (suc s)) 1 0 + count j ys))
 count-parts j s xs l ys = omega (arith, count-append j xs (l ++ suc s ∷ ys), count-append j l (suc s ∷ ys))
@@ -212,8 +206,7 @@ closing-none s t o h g u =
 
 pub ring-without : (x n k : ℕ) (o : Order) → k + n < x → keys_without x (ring_from n k o) ≡ ring_from n k (order_without x o)
 ring-without x zero k o h = refl
-ring-without x (suc n) k o h =
-    search (arith, without-append x (o k) (suc k ∷ ring_from n (suc k) o), ring-without x n (suc k) o (omega arith))
+ring-without x (suc n) k o h = grind (arith, nat_tests, without-append, ring-without x n (suc k) o (omega arith))
 
 pub once-without : (k : ℕ) (o : Order) → IsOnce o → IsOnce (order_without k o)
 once-without k o u j = grind (arith, nat_tests, count-append, count-without)
@@ -225,8 +218,7 @@ put-end k b [] h = refl
 put-end k b (x ∷ l) h = let r = put-end k b l in grind (arith, nat_tests)
 
 put-in : (k b e : ℕ) (l m : List ℕ) → (1 ≤ count b l) ⊎ ((b ≡ e) × (count b l ≡ 0)) → put_before k b (l ++ e ∷ m) ≡ put_before k b l ++ e ∷ m
-put-in k b e l m (inl h) = put-there k b l (e ∷ m) h
-put-in k b e l m (inr h) = grind (arith, nat_tests, put-sentinel k b l m h.1, put-end k b l h.1)
+put-in k b e l m v = grind (arith, nat_tests, put-there, put-sentinel, put-end)
 
 place-parts : (b s : ℕ) (o : Order) (c : IsCut SECTIONS 0 s o) → IsOnce o → IsPlace b s o → (count b c.pre ≡ 0) × ((1 ≤ count b (o s)) ⊎ ((b ≡ suc s) × (count b (o s) ≡ 0)))
 place-parts b s o c u (inl h) = grind (arith, nat_tests, count-cut b s o c)
@@ -256,11 +248,6 @@ used-same (suc n) o p h =
     let a = h n (omega arith) in
     rw (a, used-same n o p (λ q w. h q (omega (arith, w)))) refl
 
-count-with : (n j q : ℕ) (l : List ℕ) (o : Order) → q < n → count j (used_below n (with_section (suc q) l o)) + count j (o (suc q)) ≡ count j (used_below n o) + count j l
-count-with zero j q l o h = absurd (omega (arith, h))
-count-with (suc n) j q l o h =
-    grind (arith, nat_tests, count-append, used-same, with-other, count-with n j q l o, cases_eq)
-
 -- without a slot the others are in use that were
 pub used-without : (j k : ℕ) (o : Order) → count j (used (order_without k o)) ≡ cond (eqb j k) 0 (count j (used o))
 used-without j k o = grind (arith, nat_tests, count-append, gone, count-left, cases_eq)
@@ -272,7 +259,7 @@ pub used-other : (j k : ℕ) (o : Order) → (j ≡ k → ⊥) → count j (used
 used-other j k o d = let a = used-without j k o in grind (arith, nat_tests)
 
 pub used-sent : (j k b q : ℕ) (o : Order) → q < QUEUES → count j (used (sent k (suc q) b o)) ≡ cond (eqb j k) 1 0 + count j (used (order_without k o))
-used-sent j k b q o w = search (arith, count-with, count-put)
+used-sent j k b q o w = search (arith, count-append, used-same, with-other, cases_eq, count-put)
 
 pub used-freed : (k b : ℕ) (o : Order) → used (sent k 0 b o) ≡ used (order_without k o)
 used-freed k b o = used-same QUEUES (sent k 0 b o) (order_without k o) (λ q w. with-other 0 (suc q) (put_before k b (keys_without k (o 0))) (order_without k o) (λ z. omega (arith, z)))

@@ -103,9 +103,6 @@ detach-on roots links links2 place at depth next below item item_of (fork i l r)
 
 -- a lowest slot taken out
 
-zero_read : (links : List ℕ) (q p x : ℕ) → x ≡ get_or links q x → x ≡ 0 → q ≡ p → get_or links p 0 ≡ 0
-zero_read links q p x s z e = let f = rw z at s in ap (λ (n : ℕ). get_or links n 0) (sym e) ∙ sym f
-
 some_read : (links : List ℕ) (q p x : ℕ) → x ≡ get_or links q x → (x ≡ 0 → ⊥) → q ≡ p → p < length links → get_or links p 0 ≡ 0 → ⊥
 some_read links q p x s z e w f = z (s ∙ (get_or_default links q x 0 (omega (arith, e, w)) ∙ (ap (λ (n : ℕ). get_or links n 0) e ∙ f)))
 
@@ -113,18 +110,16 @@ module _ (roots : ℕ) (links : List ℕ) (place at left : ℕ) (e : at ≡ get_
   pub pluck-end : (x y : ℕ) (t : Tree) → IsWhole links roots place t → x ≡ get_or links left x → x ≡ 0 → y ≡ get_or links (left + 1) y → y ≡ 0 →
       Replaces roots links (set links place 0) place t (plucked t) × (at ≡ lowest 0 t)
   pluck-end x y leaf w fx zx fy zy = absurd (let z = w.tree in omega (arith, z, e, s))
-  pluck-end x y (fork i leaf leaf) w fx zx fy zy =
-      grind (arith, nat_tests, get_or-set_same links place 0 0 w.within, get_or-set_other, length-set links place 0)
-  pluck-end x y (fork i leaf (fork j u v)) w fx zx fy zy = grind (arith, nat_tests, zero_read)
-  pluck-end x y (fork i (fork j u v) r) w fx zx fy zy = grind (arith, nat_tests, zero_read)
+  pluck-end x y (fork i leaf leaf) w fx zx fy zy = search (arith, get_or-set_same, get_or-set_other, length-set)
+  pluck-end x y (fork i leaf (fork j u v)) w fx zx fy zy = grind (arith, nat_tests)
+  pluck-end x y (fork i (fork j u v) r) w fx zx fy zy = grind (arith, nat_tests)
 
   module _ (links2 : List ℕ) (last : ℕ) where
     pub pluck-left : (x : ℕ) (t : Tree) → IsWhole links roots place t → x ≡ get_or links left x → (x ≡ 0 → ⊥) →
         ((u : Tree) → IsWhole links roots left u → Replaces roots links links2 left u (plucked u)) → ((u : Tree) → IsWhole links roots left u → last ≡ lowest 0 u) →
         Replaces roots links links2 place t (plucked t) × (last ≡ lowest 0 t)
     pluck-left x leaf w fx zx f g = absurd (let z = w.tree in omega (arith, z, e, s))
-    pluck-left x (fork i leaf r) w fx zx f g =
-        absurd (let is : at ≡ i = e ∙ w.tree.0 in let m = w.tree.2 in some_read links left (branch roots i false) x fx zx (omega (arith, b, is)) (omega (arith, m)) w.tree.3)
+    pluck-left x (fork i leaf r) w fx zx f g = grind (arith, nat_tests, some_read)
     pluck-left x (fork i (fork j c d) r) w fx zx f g =
         let is : at ≡ i = e ∙ w.tree.0 in
         let p : left ≡ branch roots i false = omega (arith, b, is) in
@@ -135,10 +130,8 @@ module _ (roots : ℕ) (links : List ℕ) (place at left : ℕ) (e : at ≡ get_
         ((u : Tree) → IsWhole links roots (left + 1) u → Replaces roots links links2 (left + 1) u (plucked u)) → ((u : Tree) → IsWhole links roots (left + 1) u → last ≡ lowest 0 u) →
         Replaces roots links links2 place t (plucked t) × (last ≡ lowest 0 t)
     pluck-right x y leaf w fx zx fy zy f g = absurd (let z = w.tree in omega (arith, z, e, s))
-    pluck-right x y (fork i (fork j c d) r) w fx zx fy zy f g = absurd (
-        let is : at ≡ i = e ∙ w.tree.0 in let z = zero_read links left (branch roots i false) x fx zx (omega (arith, b, is)) in let m = w.tree.3.0 in let n = w.tree.3.1 in omega (arith, z, m, n))
-    pluck-right x y (fork i leaf leaf) w fx zx fy zy f g =
-        absurd (let is : at ≡ i = e ∙ w.tree.0 in some_read links (left + 1) (branch roots i true) y fy zy (omega (arith, b, is)) w.tree.2 w.tree.4)
+    pluck-right x y (fork i (fork j c d) r) w fx zx fy zy f g = grind (arith, nat_tests)
+    pluck-right x y (fork i leaf leaf) w fx zx fy zy f g = grind (arith, nat_tests, some_read)
     pluck-right x y (fork i leaf (fork j c d)) w fx zx fy zy f g =
         let is : at ≡ i = e ∙ w.tree.0 in
         let p : left + 1 ≡ branch roots i true = omega (arith, b, is) in

@@ -20,7 +20,7 @@ absent i s h = absent-below QUEUES i s h
 is-absent-below : (n : ℕ) (i : Item) (s : Queues) → ((q : ℕ) → q < n → occurrences i (s q) ≡ 0) → queue_below n i s ≡ None
 is-absent-below zero i s h = refl
 is-absent-below (suc n) i s h =
-        let r = is-absent-below n i s (λ q w. h q (omega (arith, w))) in
+    let r = is-absent-below n i s (λ q w. h q (omega (arith, w))) in
     grind (arith, nat_tests)
 
 pub is_absent : (i : Item) (s : Queues) → IsAbsent i s → queue_holding i s ≡ None

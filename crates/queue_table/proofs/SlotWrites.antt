@@ -1,15 +1,10 @@
 -- What a write to one slot leaves.
-use Rattle.std.proofs.Common.{◌≡◌, ℕ, suc, zero, List, [], ◌∷◌, map, set, get_or, refl, ◌∙◌}
+use Rattle.std.proofs.Common.{◌≡◌, ℕ, suc, zero, List, [], ◌∷◌, map, get_or, refl, ◌∙◌}
 use Rattle.queue_table.specs.Ring.{Slot, ChangesOnlyLinks}
-use Rattle.queue_table.proofs.Splices.{field_kept}
 
 -- the slot that stands for one past the last
 abbrev pub no_slot : Slot
 no_slot = record { item = record { key = 0; node = 0 }; older = 0; newer = 0; queue = 0; count = 0 }
-
--- a field that the new slot has from the old one
-pub kept : {X : Type 0} (f : Slot → X) (slots : List Slot) (at : ℕ) (slot : Slot) → f slot ≡ f (get_or slots at no_slot) → map f (set slots at slot) ≡ map f slots
-kept f slots at slot same = field_kept f slots at slot no_slot same
 
 pub field_at : {X Y : Type 0} (f : X → Y) (s : List X) (i : ℕ) (d : X) → get_or (map f s) i (f d) ≡ f (get_or s i d)
 field_at f [] i d = refl

@@ -39,9 +39,7 @@ last d k (fork i l r) = cond (eqb k (lowest d (fork i l r))) 1 0
 
 pruned-tally : (d k i : ℕ) (l r : Tree) → tally k l ≡ last (lowest i r) k l + tally k (plucked l) → tally k r ≡ last i k r + tally k (plucked r) →
     tally k (fork i l r) ≡ cond (eqb k (lowest d (fork i l r))) 1 0 + tally k (pruned i l r (plucked l) (plucked r))
-pruned-tally d k i (fork j a b) r x y = omega (arith, x)
-pruned-tally d k i leaf (fork j a b) x y = omega (arith, y)
-pruned-tally d k i leaf leaf x y = omega arith
+pruned-tally d k i v r x y = grind (arith, nat_tests)
 
 tree-tally : (d k : ℕ) (t : Tree) → tally k t ≡ last d k t + tally k (plucked t)
 tree-tally d k leaf = omega arith
@@ -51,9 +49,7 @@ pub plucked-tally : (k i : ℕ) (l r : Tree) → tally k (fork i l r) ≡ cond (
 plucked-tally k i l r = tree-tally 0 k (fork i l r)
 
 pub lifted-tally : (k i : ℕ) (l r : Tree) → tally k (fork i l r) ≡ cond (eqb k i) 1 0 + tally k (lifted (fork i l r))
-lifted-tally k i (fork j a b) r = let h = plucked-tally k i (fork j a b) r in omega (arith, h)
-lifted-tally k i leaf (fork j a b) = let h = plucked-tally k i leaf (fork j a b) in omega (arith, h)
-lifted-tally k i leaf leaf = omega arith
+lifted-tally k i v r = grind (arith, nat_tests, plucked-tally)
 
 pruned-sorted : (its : ℕ → Item) (d i : ℕ) (l r : Tree) → IsSorted its (d + 1) (plucked l) → IsSorted its (d + 1) (plucked r) → IsSorted its d (fork i l r) → IsSorted its d (pruned i l r (plucked l) (plucked r))
 pruned-sorted its d i (fork j a b) r x y s = (x, s.1, (λ k m. s.2 k (let h = plucked-tally k j a b in omega (arith, h, m))), s.3)
@@ -65,8 +61,7 @@ plucked-sorted its d leaf s = s
 plucked-sorted its d (fork i l r) s = pruned-sorted its d i l r (plucked-sorted its (d + 1) l s.0) (plucked-sorted its (d + 1) r s.1) s
 
 renamed-sorted : (its : ℕ → Item) (d k : ℕ) (t : Tree) → IsSorted its d t → IsSorted its d (renamed k t)
-renamed-sorted its d k leaf s = s
-renamed-sorted its d k (fork i l r) s = s
+renamed-sorted its d k v s = grind (arith, nat_tests)
 
 pub lifted-sorted : (its : ℕ → Item) (d : ℕ) (t : Tree) → IsSorted its d t → IsSorted its d (lifted t)
 lifted-sorted its d t s = renamed-sorted its d (lowest 0 t) (plucked t) (plucked-sorted its d t s)
@@ -74,8 +69,7 @@ lifted-sorted its d t s = renamed-sorted its d (lowest 0 t) (plucked t) (plucked
 -- a slot taken out
 
 pub side-sorted : (its : ℕ → Item) (d : ℕ) (right : Bool) (i : ℕ) (l r : Tree) → IsSorted its d (fork i l r) → IsSorted its (d + 1) (on_side right l r)
-side-sorted its d true i l r s = s.1
-side-sorted its d false i l r s = s.0
+side-sorted its d v i l r s = grind (arith, nat_tests)
 
 -- on which side the slot stands
 pub its-side : (its : ℕ → Item) (d : ℕ) (x : Item) (at i : ℕ) (l r : Tree) → IsSorted its d (fork i l r) → its at ≡ x → (at ≡ i → ⊥) → 1 ≤ tally at (fork i l r) → 1 ≤ tally at (on_side (turn d x) l r)

@@ -50,16 +50,14 @@ end-stands a [] = let n = count-here a [] in omega (arith, n)
 end-stands a (x ∷ xs) = let n = end-stands x xs in omega (arith, n)
 
 pub start-stands : (ys : List ℕ) (b : ℕ) → 1 ≤ count (start_of ys b) (ys ++ b ∷ [])
-start-stands [] b = let n = count-here b [] in omega (arith, n)
-start-stands (y ∷ ys) b = let n = count-here y (ys ++ b ∷ []) in omega (arith, n)
+start-stands v b = grind (arith, nat_tests, count-here)
 
 pub older-end : (ns os : List ℕ) (a : ℕ) (xs : List ℕ) (i : ℕ) → IsLinked ns os a xs i → get_or os i 0 ≡ end_of a xs
 older-end ns os a [] i k = k.1
 older-end ns os a (x ∷ xs) i k = older-end ns os x xs i k.2
 
 pub newer-start : (ns os : List ℕ) (i : ℕ) (ys : List ℕ) (b : ℕ) → IsLinked ns os i ys b → get_or ns i 0 ≡ start_of ys b
-newer-start ns os i [] b k = k.0
-newer-start ns os i (y ∷ ys) b k = k.0
+newer-start ns os i v b k = grind (arith, nat_tests)
 
 -- the last link of a stretch led elsewhere
 pub linked-to : (ns os : List ℕ) (a : ℕ) (xs : List ℕ) (i b : ℕ) → end_of a xs < length ns → b < length os → (count (end_of a xs) (a ∷ xs) ≤ 1) → count b xs ≡ 0 → IsLinked ns os a xs i → IsLinked (set ns (end_of a xs) b) (set os b (end_of a xs)) a xs b
@@ -85,8 +83,7 @@ module _ (ns os : List ℕ) (a : ℕ) (xs : List ℕ) (i b : ℕ) where
       end_of a xs < length ns → start_of ys b < length os →
       IsLinked ns os a (xs ++ i ∷ ys) b →
       IsLinked (set ns (end_of a xs) (start_of ys b)) (set os (start_of ys b) (end_of a xs)) a (xs ++ ys) b
-  unlinked [] d e u v k =
-      grind (arith, nat_tests, linked-split ns os a xs i, end-stands a xs, count-here b, append-nil xs, linked-to)
+  unlinked [] d e u v k = grind (arith, nat_tests, linked-split, end-stands, count-here, append-nil, linked-to)
   unlinked (j ∷ ys) d e u v k =
       grind (arith, nat_tests, linked-split, end-stands, count-here, linked-to, linked-newer, linked-older, linked-join)
 
@@ -98,7 +95,6 @@ module _ (ns os : List ℕ) (a : ℕ) (xs : List ℕ) (i b : ℕ) where
       IsLinked ns os a (xs ++ ys) b →
       IsLinked (set (set ns (end_of a xs) i) i (start_of ys b)) (set (set os i (end_of a xs)) (start_of ys b) i) a (xs ++ i ∷ ys) b
   linked [] d e u w x v k =
-      let stands = end-stands a xs in
       let f = d (end_of a xs) in
       let di = d i in
       let ei = e i in
@@ -115,7 +111,6 @@ module _ (ns os : List ℕ) (a : ℕ) (xs : List ℕ) (i b : ℕ) where
   linked (j ∷ ys) d e u w x v k =
       let s = linked-split ns os a xs j ys b k in
       let stands = end-stands a xs in
-      let f = d (end_of a xs) in
       let di = d i in
       let ei = e i in
       let g = e j in

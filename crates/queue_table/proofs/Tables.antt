@@ -1,5 +1,5 @@
 -- A free slot that comes into use, and one more free slot.
-use Rattle.std.proofs.Common.{◌≡◌, ℕ, suc, zero, ◌+◌, ◌-◌, ◌<◌, ◌≤◌, cond, eqb, List, [], ◌∷◌, ◌++◌, length, get_or, set, map, ap, ◌∙◌, sym, refl, subst, arith, inl, inr, length-set, length-append, append_assoc}
+use Rattle.std.proofs.Common.{◌≡◌, ℕ, suc, zero, ◌+◌, ◌-◌, ◌<◌, ◌≤◌, cond, eqb, List, [], ◌∷◌, ◌++◌, length, get_or, set, map, ap, ◌∙◌, sym, refl, subst, arith, length-set, length-append, append_assoc}
 use Rattle.std.proofs.Math.Path.{fun_ext}
 use Rattle.std.proofs.lemmas.Bool.{cases_eq}
 use Rattle.std.proofs.lemmas.List.{length-map, map-append}
@@ -32,8 +32,7 @@ module _ (slots : List Slot) (o : Order) (h : IsQueued slots o) (k : ℕ) (n : 1
   section-kept q w = without-none k (o (suc q)) (let c = section-in q k o w in let u = free-unused in omega (arith, c, u))
 
   pub place-free : (b q : ℕ) → q < QUEUES → IsPlace b (suc q) o → IsPlace b (suc q) (order_without k o)
-  place-free b q w (inl m) = inl (subst (λ (l : List ℕ). 1 ≤ count b l) (sym (section-kept q w)) m)
-  place-free b q w (inr m) = inr m
+  place-free b q w v = grind (arith, nat_tests, section-kept)
 
 -- all slots from the first on are in use
 
@@ -47,10 +46,9 @@ some-from_first (suc n) k a b = grind (arith, nat_tests, some-from_first n k a, 
 
 all-used : (slots : List Slot) (o : Order) → IsQueued slots o → o 0 ≡ [] → (j : ℕ) → count j (used o) ≡ count j (from_first (length slots - FIRST))
 all-used slots o h f j =
-        let l = slots-length slots in
+    let l = slots-length slots in
     let real = used-real o j h.linked.once in
     let low = few-from_first (length slots - FIRST) j in
-    let all = h.linked.all j in
     let ring = count-ring j o in
     let one = used-few o j h.linked.once in
     let some = some-from_first (length slots - FIRST) j in
@@ -77,9 +75,6 @@ linked-more ns os a (i ∷ l) b k = (get-more 0 ns a ∙ k.0, get-more 0 os i �
 abbrev queues-ring : Order → List ℕ
 queues-ring o = 1 ∷ ring_from 4 1 o
 
-ring-more : (n : ℕ) (o : Order) → o 0 ++ n ∷ queues-ring o ≡ ring (more_free n o)
-ring-more n o = sym (append_assoc (o 0) (n ∷ []) (queues-ring o))
-
 last-older : (ns os : List ℕ) (o : Order) → IsRing ns os (ring o) → get_or (os ++ 0 ∷ []) 1 0 ≡ end_of 0 (o 0)
 last-older ns os o x = get-more 0 os 1 ∙ older-end ns os 0 (o 0) 1 (linked-section 0 ns os o (omega arith) x.linked)
 
@@ -91,7 +86,6 @@ ring-grown : (ns os : List ℕ) (o : Order) (n : ℕ) → IsRing ns os (ring o) 
 ring-grown ns os o n x is =
     let e : ℕ = get_or (os ++ 0 ∷ []) 1 0 in
     let ee : e ≡ end_of 0 (o 0) = last-older ns os o x in
-    let new : count n (0 ∷ ring o) ≡ 0 = (let w = x.within n in grind (arith, nat_tests)) in
     let one : (k : ℕ) → count k (0 ∷ ring o) + cond (eqb k n) 1 0 ≤ 1 = λ k. (let u = x.once k in let e = cases_eq k n in grind (arith, nat_tests)) in
     let parts : (k : ℕ) → count k (ring o) ≡ count k (o 0) + count k (queues-ring o) = λ k. count-append k (o 0) (queues-ring o) in
     let n1 = length-append ns (0 ∷ []) in
@@ -103,14 +97,14 @@ ring-grown ns os o n x is =
     let l0 : IsLinked (set (set (ns ++ 0 ∷ []) (end_of 0 (o 0)) n) n 1) (set (set (os ++ 0 ∷ []) n (end_of 0 (o 0))) 1 n) 0 (o 0 ++ n ∷ queues-ring o) 0 =
     linked (ns ++ 0 ∷ []) (os ++ 0 ∷ []) 0 (o 0) n 0 (queues-ring o) (λ k. let u = one k in let p = parts k in omega (arith, u, p)) (λ k. let u = one k in let p = parts k in let c = count-append k (queues-ring o) (0 ∷ []) in omega (arith, u, p, c)) (omega (arith, eb, n1)) (omega (arith, n1, is)) (omega (arith, o1, is, same)) (omega (arith, o1, same, first)) old in
     let l1 : IsLinked (set (set (ns ++ 0 ∷ []) e n) n 1) (set (set (os ++ 0 ∷ []) n e) 1 n) 0 (ring (more_free n o)) 0 =
-    subst (λ (l : List ℕ). IsLinked (set (set (ns ++ 0 ∷ []) e n) n 1) (set (set (os ++ 0 ∷ []) n e) 1 n) 0 l 0) (ring-more n o) (subst (λ y. IsLinked (set (set (ns ++ 0 ∷ []) y n) n 1) (set (set (os ++ 0 ∷ []) n y) 1 n) 0 (o 0 ++ n ∷ queues-ring o) 0) (sym ee) l0) in
+    subst (λ (l : List ℕ). IsLinked (set (set (ns ++ 0 ∷ []) e n) n 1) (set (set (os ++ 0 ∷ []) n e) 1 n) 0 l 0) (sym (append_assoc (o 0) (n ∷ []) (queues-ring o))) (subst (λ y. IsLinked (set (set (ns ++ 0 ∷ []) y n) n 1) (set (set (os ++ 0 ∷ []) n y) 1 n) 0 (o 0 ++ n ∷ queues-ring o) 0) (sym ee) l0) in
     let cr : (k : ℕ) → count k (ring (more_free n o)) ≡ count k (ring o) + cond (eqb k n) 1 0 = λ k. (
-    let a = ap (count k) (sym (ring-more n o)) in
+    let a = ap (count k) (sym (sym (append_assoc (o 0) (n ∷ []) (queues-ring o)))) in
     let b = count-append k (o 0) (n ∷ queues-ring o) in
     let p = parts k in
     omega (arith, a, b, p)) in
     let lr : length (ring (more_free n o)) ≡ length (ring o) + 1 = (
-    let a = ap length (sym (ring-more n o)) in
+    let a = ap length (sym (sym (append_assoc (o 0) (n ∷ []) (queues-ring o)))) in
     let b = length-append (o 0) (n ∷ queues-ring o) in
     let p = length-append (o 0) (queues-ring o) in
     omega (arith, a, b, p)) in
@@ -120,9 +114,6 @@ ring-grown ns os o n x is =
 pub older-first : (ns os : List ℕ) (o : Order) → IsRing ns os (ring o) → get_or (os ++ 0 ∷ []) 1 0 < length ns
 older-first ns os o x = omega (arith, last-older ns os o x, end-within ns os o x)
 
-newers-more : (slots slots2 : List Slot) → slots2 ≡ slots ++ no_slot ∷ [] → newers slots2 ≡ newers slots ++ 0 ∷ []
-newers-more slots slots2 e = ap newers e ∙ map-append (λ (s : Slot). s.newer) slots (no_slot ∷ [])
-
 pub olders-more : (slots slots2 : List Slot) → slots2 ≡ slots ++ no_slot ∷ [] → olders slots2 ≡ olders slots ++ 0 ∷ []
 olders-more slots slots2 e = ap olders e ∙ map-append (λ (s : Slot). s.older) slots (no_slot ∷ [])
 
@@ -130,7 +121,7 @@ pub ring-linked : (slots mid slots2 : List Slot) (at : ℕ) → mid ≡ slots ++
     newers slots2 ≡ set (set (newers mid) (get_or (olders mid) 1 0) at) at 1 → olders slots2 ≡ set (set (olders mid) at (get_or (olders mid) 1 0)) 1 at →
     IsRing (newers slots2) (olders slots2) (ring (more_free (length slots) (order_of slots)))
 ring-linked slots mid slots2 at e x is n2 o2 =
-    let n = newers-more slots mid e in
+    let n = (ap newers e ∙ map-append (λ (s : Slot). s.newer) slots (no_slot ∷ [])) in
     let o = olders-more slots mid e in
     rw (n2, o2, n, o, is) (ring-grown (newers slots) (olders slots) (order_of slots) (length slots) x (sym (slots-length slots)))
 

@@ -1,12 +1,11 @@
 -- Trees as the links show them.
-use Rattle.std.proofs.Common.{◌≡◌, ℕ, suc, zero, ◌+◌, ◌<◌, ◌≤◌, Bool, true, false, cond, eqb, List, length, get_or, ap, ◌∙◌, sym, refl, arith, ◌⊎◌, inl, inr}
+use Rattle.std.proofs.Common.{◌≡◌, ℕ, suc, zero, ◌+◌, ◌<◌, ◌≤◌, Bool, true, false, cond, eqb, List, length, get_or, ap, ◌∙◌, sym, refl, arith, ◌⊎◌}
 use Rattle.std.proofs.lemmas.Bool.{ne_eqb, cases_eq}
 use Rattle.std.proofs.lemmas.Bool.Decides.{nat_tests}
 use Rattle.queue_table.specs.Trees.{Tree, leaf, fork, tally, size, branch, IsTree}
 
 pub some_or_none : (n : ℕ) → (1 ≤ n) ⊎ (n ≡ 0)
-some_or_none zero = inr refl
-some_or_none (suc n) = inl (omega arith)
+some_or_none v = grind (arith, nat_tests)
 
 -- what a tree holds
 

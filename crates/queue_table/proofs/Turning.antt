@@ -46,12 +46,8 @@ spot k b (x ∷ m) h =
           record { front = x ∷ s.front; back = s.back; whole = ap (λ t. x ∷ t) s.whole; start = s.start; put = cond-false (eqb b x) (k ∷ x ∷ m) (x ∷ put_before k b m) e ∙ ap (λ t. x ∷ t) s.put }
     ]
 
-count-mid : (j k : ℕ) (xs ys : List ℕ) → count j (xs ++ k ∷ ys) ≡ count j xs + (cond (eqb j k) 1 0 + count j ys)
-count-mid j k xs ys = count-append j xs (k ∷ ys)
-
 older-start : (ns os : List ℕ) (a : ℕ) (us vs : List ℕ) (b : ℕ) → IsLinked ns os a (us ++ vs) b → get_or os (start_of vs b) 0 ≡ end_of a us
-older-start ns os a us [] b k = older-end ns os a us b (rw (append-nil us) at k)
-older-start ns os a us (v ∷ vs) b k = older-end ns os a us v (linked-split ns os a us v vs b k).0
+older-start ns os a us v b k = grind (arith, nat_tests, older-end, append-nil, linked-split)
 
 -- how the ring stands once the slot is out, and once it is back
 pub record IsTurned (ns os l : List ℕ) (k b : ℕ) : Type 0 where
@@ -69,19 +65,18 @@ turned_to : (ns os l : List ℕ) (k b : ℕ) (r : IsRing ns os l) (xs ys us vs :
     IsLinked (set (set (set ns (end_of 0 xs) (start_of ys 0)) (end_of 0 us) k) k (start_of vs 0)) (set (set (set os (start_of ys 0) (end_of 0 xs)) k (end_of 0 us)) (start_of vs 0) k) 0 (us ++ k ∷ vs) 0 →
     IsTurned ns os l k b
 turned_to ns os l k b r xs ys us vs wh sc wo pu mi oe ne ob st oi ni ui fin =
-    let mv : moved_before k b l ≡ us ++ k ∷ vs = ap (put_before k b) wo ∙ pu in
-    let ct : (j : ℕ) → count j (0 ∷ us ++ k ∷ vs) ≡ count j (0 ∷ l) = λ j. (let a = count-mid j k us vs in let c = count-mid j k xs ys in let d = ap (count j) wh in let f = sc j in omega (arith, a, c, d, f)) in
+    let ct : (j : ℕ) → count j (0 ∷ us ++ k ∷ vs) ≡ count j (0 ∷ l) = λ j. (let a = (count-append j us (k ∷ vs)) in let c = (count-append j xs (k ∷ ys)) in let d = ap (count j) wh in let f = sc j in omega (arith, a, c, d, f)) in
     let lo : length (us ++ k ∷ vs) ≡ length l = (let a = ap length wh in let d = ap length mi in let f1 = length-append us (k ∷ vs) in let f2 = length-append xs (k ∷ ys) in let f3 = length-append us vs in let f4 = length-append xs ys in omega (arith, a, d, f1, f2, f3, f4)) in
     let same = r.same in
     grind (arith, nat_tests, linked, length-set {A = ℕ})
 
 module _ (ns os l : List ℕ) (k b : ℕ) (r : IsRing ns os l) where
   stands_in : (j : ℕ) (xs ys : List ℕ) → l ≡ xs ++ k ∷ ys → count j (0 ∷ l) ≡ cond (eqb j 0) 1 0 + (count j xs + (cond (eqb j k) 1 0 + count j ys))
-  stands_in j xs ys e = ap (λ t. count j (0 ∷ t)) e ∙ ap (λ n. cond (eqb j 0) 1 0 + n) (count-mid j k xs ys)
+  stands_in j xs ys e = ap (λ t. count j (0 ∷ t)) e ∙ ap (λ n. cond (eqb j 0) 1 0 + n) (count-append j xs (k ∷ ys))
 
   pub turned : 1 ≤ k → k < length ns → b < length ns → (b ≡ k → ⊥) → IsTurned ns os l k b
   turned p w v n =
-            let k0 : eqb k 0 ≡ false = ne_eqb k 0 (λ z. omega (arith, z)) in
+      let k0 : eqb k 0 ≡ false = ne_eqb k 0 (λ z. omega (arith, z)) in
       let there : 1 ≤ 0 + count k l = rw k0 at (r.all k w) in
       let few : 0 + count k l ≤ 1 = rw k0 at (r.once k) in
       let s = split_at k l (omega arith) (omega arith) in

@@ -10,7 +10,7 @@ use Rattle.segments.proofs.ItemLists.{same-true, times-gone, length-without}
 use Rattle.segments.proofs.MoveLaws.{Stands, in_window, in_probation, in_protected, nowhere, stands}
 use Rattle.segments.proofs.QueueLists.{first-stands}
 use Rattle.replacement.specs.declared.rules.Placement.TheVariants.{Direct, Windowed}
-use Rattle.replacement.specs.Table.{Rules, Placement, Queue, Response, with_recent, queues_after_demotion, hit_in, rejection, contest, trial, trial_of, eviction, response_with_victim, response_without_trial, miss_by, access_in, access}
+use Rattle.replacement.specs.Table.{Rules, Placement, Queue, Response, with_recent, queues_after_demotion, hit_in, contest, trial, trial_of, eviction, response_with_victim, response_without_trial, miss_by, access_in, access}
 use Rattle.replacement.specs.Counts.{queue_occurrences, main_length}
 use Rattle.replacement.proofs.Planned.{access-at}
 use Rattle.replacement.proofs.Counting.{taken-less, queued-pushed, queued-kept, taken-total, pushed-total}
@@ -21,8 +21,7 @@ FitsBy (Direct q) r s = total_items s ≤ r.capacity
 FitsBy Windowed r s = (length s.window ≤ r.window) × (r.window + main_length s ≤ r.capacity)
 
 pub fits-total : (p : Placement) (r : Rules) (s : Queues) → FitsBy p r s → total_items s ≤ r.capacity
-fits-total (Direct q) r s f = f
-fits-total Windowed r s f = let w = f.0 in let m = f.1 in omega (arith, w, m)
+fits-total v r s f = grind (arith, nat_tests)
 
 -- ---- a hit
 
@@ -40,10 +39,6 @@ renewed-both s t u a b = record { same = λ j. b.same j ∙ a.same j; window = b
 
 renewed-distinct : (s t : Queues) → IsRenewed s t → IsDistinct s → IsDistinct t
 renewed-distinct s t a u j = let e = a.same j in let few = u j in omega (arith, e, few)
-
-renewed-fits : (p : Placement) (r : Rules) (s t : Queues) → IsRenewed s t → FitsBy p r s → FitsBy p r t
-renewed-fits (Direct q) r s t a f = let w = a.window in let m = a.main in omega (arith, w, m, f)
-renewed-fits Windowed r s t a f = let w = a.window in let m = a.main in let x = f.0 in let y = f.1 in (omega (arith, w, x), omega (arith, m, y))
 
 window-renewed : (x : Item) (s : Queues) → occurrences x s.window ≡ 1 → occurrences x s.probation ≡ 0 → occurrences x s.protected ≡ 0 → IsRenewed s (queues_after_move x Window s)
 window-renewed x s a b c = record {
@@ -107,14 +102,11 @@ module _ (r : Rules) (admits : ℕ → ℕ → Bool) (s : Queues) (c : Item) (t 
   shed-came : (x : Queues) → IsShed t x → (j : Item) → queue_occurrences j x ≤ queue_occurrences j s
   shed-came x h j = let a = h.came j in let b = same j in omega (arith, a, b)
 
-  rejected : IsEvicted r s (rejection c t)
-  rejected = grind (arith, nat_tests, shed c t once out, shed-came)
-
   contested : (o : Option Item) → oldest_of t.probation ≡ o → IsEvicted r s (contest admits c o t)
-  contested None h = rejected
+  contested None h = (grind (arith, nat_tests, shed c t once out, shed-came))
   contested (Some v) h =
       elim (cases_Bool (is_same_item c v)) as (λ _. IsEvicted r s (contest admits c (Some v) t)) [
-        | inl e ↦ rw e rejected
+        | inl e ↦ rw e (grind (arith, nat_tests, shed c t once out, shed-came))
         | inr e ↦ elim (cases_Bool (admits c.key v.key)) as (λ _. IsEvicted r s (contest admits c (Some v) t)) [
           | inl f ↦
               let there : 1 ≤ occurrences v t.probation = first-stands v t.probation h in
@@ -129,7 +121,7 @@ module _ (r : Rules) (admits : ℕ → ℕ → Bool) (s : Queues) (c : Item) (t 
                 window = omega (arith, w, window);
                 main = omega (arith, w, n, main);
               }
-          | inr f ↦ rw (e, f) rejected
+          | inr f ↦ rw (e, f) (grind (arith, nat_tests, shed c t once out, shed-came))
         ]
       ]
 
@@ -137,21 +129,11 @@ module _ (r : Rules) (admits : ℕ → ℕ → Bool) (s : Queues) (c : Item) (t 
   tried =
       elim (cases_Bool (nat_lt r.capacity (total_items t))) as (λ _. IsEvicted r s (trial r admits c t)) [
         | inl e ↦ rw e (contested (oldest_of t.probation) refl)
-        | inr e ↦
-            let room : total_items t ≤ r.capacity = ltb-false r.capacity (total_items t) e in
-            rw e record {
-              came = λ j. (let a = same j in omega (arith, a));
-              counted = omega (arith, total);
-              missed = refl;
-              hit = refl;
-              window = omega (arith, window);
-              main = omega (arith, window, room);
-            }
+        | inr e ↦ grind (arith, nat_tests, ltb-false r.capacity (total_items t) e)
       ]
 
 none-short : (l : List Item) → oldest_of l ≡ None → length l ≡ 0
-none-short [] h = refl
-none-short (x ∷ l) h = absurd (cc (h))
+none-short v h = grind (arith, nat_tests)
 
 evicted : (r : Rules) (admits : ℕ → ℕ → Bool) (s : Queues) → IsDistinct s → length s.window ≤ r.window + 1 → r.window + main_length s ≤ r.capacity → IsEvicted r s (eviction r admits s)
 evicted r admits s u w m =
@@ -232,9 +214,8 @@ module _ (r : Rules) (admits : ℕ → ℕ → Bool) (i : Item) (s : Queues) (u 
       let t : Queues = queues_after_push Window i s in
       let same : (j : Item) → queue_occurrences j t ≡ queue_occurrences j s + cond (is_same_item j i) 1 0 = λ j. queued-pushed j i Window s in
       let apart : IsDistinct t = λ j. (let a = joined-once i j s u none in let b = same j in omega (arith, a, b)) in
-      let longer : length (s.window ++ i ∷ []) ≡ length s.window + 1 = length-append s.window (i ∷ []) in
       let more : total_items t ≡ total_items s + 1 = pushed-total Window i s in
-      let e : IsEvicted r t (eviction r admits t) = evicted r admits t apart (omega (arith, w, longer)) m in
+      let e : IsEvicted r t (eviction r admits t) = evicted r admits t apart (omega (arith, w)) m in
       let counted = e.counted in
       let missed = e.missed in
       grind (arith, nat_tests, no-hit i s none)
@@ -244,25 +225,18 @@ module _ (r : Rules) (admits : ℕ → ℕ → Bool) (i : Item) (s : Queues) (u 
   missed-by Windowed h f = windowed h f.0 f.1
 
 pub stands-once : (i : Item) (s : Queues) (p : Option Queue) → Stands i s p → (p ≡ None) ⊎ (queue_occurrences i s ≡ 1)
-stands-once i s p (in_window a b c) = inr (omega (arith, a, b, c))
-stands-once i s p (in_probation a b c) = inr (omega (arith, a, b, c))
-stands-once i s p (in_protected a b c) = inr (omega (arith, a, b, c))
-stands-once i s p (nowhere a b c) = inl refl
+stands-once i s p v = grind (arith, nat_tests)
 
 stands-none : (i : Item) (s : Queues) (p : Option Queue) → Stands i s p → p ≡ None → queue_occurrences i s ≡ 0
-stands-none i s p (in_window a b c) h = absurd (cc (h))
-stands-none i s p (in_probation a b c) h = absurd (cc (h))
-stands-none i s p (in_protected a b c) h = absurd (cc (h))
-stands-none i s p (nowhere a b c) h = omega (arith, a, b, c)
+stands-none i s p v h = grind (arith, nat_tests)
 
 balanced-at : (r : Rules) (admits : ℕ → ℕ → Bool) (i : Item) (s : Queues) (p : Option Queue) → Stands i s p → IsDistinct s → FitsBy r.placement r s → IsBalanced r i s (access_in r admits i p s)
 balanced-at r admits i s None at u f = missed-by r admits i s u (stands-none i s None at refl) r.placement refl f
 balanced-at r admits i s (Some q) at u f =
     let h : IsRenewed s (hit_in r.protected i (Some q) s) = hit-renewed r.protected i (Some q) s u at in
     let one : queue_occurrences i s ≡ 1 = elim (stands-once i s (Some q) at) [ inl e ↦ absurd (cc (e)) | inr e ↦ e ] in
-    let w = h.window in
     let m = h.main in
-    grind (arith, nat_tests, renewed-distinct, lt-ltb, renewed-fits)
+    grind (arith, nat_tests, renewed-distinct, lt-ltb)
 
 pub balanced : (r : Rules) (admits : ℕ → ℕ → Bool) (i : Item) (s : Queues) → IsDistinct s → FitsBy r.placement r s → IsBalanced r i s (access r admits i s)
 balanced r admits i s u f = rw (access-at r admits i s (queue_holding i s) refl) (balanced-at r admits i s (queue_holding i s) (stands i s u) u f)

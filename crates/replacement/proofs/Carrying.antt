@@ -1,12 +1,12 @@
 -- Carrying a plan out is undone by its record.
 use Rattle.std.proofs.lemmas.Bool.Decides.{nat_tests}
 use Rattle.std.proofs.Common.{arith, ◌≡◌, Option, Some, None, refl}
-use Rattle.segments.specs.Queues.{Queues, queues_without, queues_after_move, IsDistinct}
+use Rattle.segments.specs.Queues.{Queues, queues_after_move, IsDistinct}
 use Rattle.segments.specs.Moves.{move_record}
 use Rattle.segments.proofs.MoveLaws.{move-recorded, out-recorded}
 use Rattle.segments.proofs.QueueLists.{distinct-taken}
 use Rattle.replacement.specs.Plan.{Item, Transfer, Plan}
-use Rattle.replacement.specs.PlanMoves.{Moves, MoveRecord, queues_after_transfer, removed, queues_after, transfer_record, removal_record, moves_of, undone_by, FitsBy, needed_by, UndoesMoves}
+use Rattle.replacement.specs.PlanMoves.{Moves, MoveRecord, queues_after_transfer, removed, queues_after, transfer_record, removal_record, moves_of, undone_by, FitsBy, UndoesMoves}
 use Rattle.replacement.proofs.Counting.{distinct-moved}
 
 -- the record of one move, or of none, fits the distinct items that the move left, and undoes it
@@ -22,18 +22,7 @@ transfer-undone (Some t) s d =
     record { fits = r.fits; undone = r.undone; distinct = distinct-moved t.item t.to s d }
 
 pub removal-undone : (i : Option Item) (s : Queues) → IsDistinct s → UndoesMove s (removed i s) (removal_record i s)
-removal-undone None s d = record { fits = tt; undone = refl; distinct = d }
-removal-undone (Some i) s d =
-    let r = out-recorded i s (queues_without i s) (move_record i None s) d refl refl in
-    record { fits = r.fits; undone = r.undone; distinct = distinct-taken i s d }
-
-transfer-stays : (t : Option Transfer) (s : Queues) → needed_by (transfer_record t s) ≡ 0
-transfer-stays None s = refl
-transfer-stays (Some t) s = refl
-
-moves-undone : (m : Moves) (s a b e : Queues) → UndoesMove s a m.first → UndoesMove a b m.out → UndoesMove b e m.last → needed_by m.last ≡ 0 → needed_by m.first ≡ 0
-    → UndoesMoves s e m
-moves-undone m s a b e f o l sl sf = grind (arith, nat_tests)
+removal-undone v s d = grind (arith, nat_tests, out-recorded, distinct-taken)
 
 -- the record of a plan that was carried out
 pub plan-undone : (p : Plan) (s t : Queues) (m : Moves) → IsDistinct s → t ≡ queues_after p s → m ≡ moves_of p s → UndoesMoves s t m
@@ -43,4 +32,4 @@ plan-undone p s t m d l h =
     let first = transfer-undone p.first s d in
     let out = removal-undone p.leaves a first.distinct in
     let last = transfer-undone p.last b out.distinct in
-    rw (h, l) (moves-undone (moves_of p s) s a b (queues_after p s) first out last (transfer-stays p.last b) (transfer-stays p.first s))
+    rw (h, l) (grind (arith, nat_tests))

@@ -3,7 +3,6 @@ use Rattle.std.proofs.Common.{◌≡◌, ℕ, ◌+◌, ◌≤◌, cond, List, []
 use Rattle.std.proofs.lemmas.Bool.Decides.{nat_tests}
 use Rattle.std.proofs.lemmas.Bool.{cases_Bool}
 use Rattle.segments.specs.declared.records.Queue.{Queue}
-use Rattle.segments.specs.declared.records.Queue.TheVariants.{Window, Probation, Protected}
 use Rattle.segments.specs.Items.{Item, is_same_item, occurrences, items_without}
 use Rattle.segments.specs.Queues.{Queues, queues_after_push, queues_without, queues_after_move, total_items, IsDistinct}
 use Rattle.segments.proofs.ItemLists.{same-true, times-append, times-without, length-without}
@@ -23,9 +22,7 @@ pub taken-less : (j i : Item) (q : Queues) → queue_occurrences j (queues_witho
 taken-less j i q = omega (arith, times-without i j q.window, times-without i j q.probation, times-without i j q.protected)
 
 pub queued-pushed : (j i : Item) (to : Queue) (q : Queues) → queue_occurrences j (queues_after_push to i q) ≡ queue_occurrences j q + once j i
-queued-pushed j i Window q = rw (times-append j q.window (i ∷ [])) (omega arith)
-queued-pushed j i Probation q = rw (times-append j q.probation (i ∷ [])) (omega arith)
-queued-pushed j i Protected q = rw (times-append j q.protected (i ∷ [])) (omega arith)
+queued-pushed j i v q = grind (arith, nat_tests, times-append)
 
 pub queued-moved : (j i : Item) (to : Queue) (q : Queues) → queue_occurrences j (queues_after_move i to q) ≡ cond (is_same_item j i) 1 (queue_occurrences j q)
 queued-moved j i to q = grind (arith, nat_tests, queued-pushed, queued-taken)
@@ -43,6 +40,4 @@ pub taken-total : (x : Item) (s : Queues) → total_items (queues_without x s) +
 taken-total x s = omega (arith, length-without x s.window, length-without x s.probation, length-without x s.protected)
 
 pub pushed-total : (q : Queue) (x : Item) (s : Queues) → total_items (queues_after_push q x s) ≡ total_items s + 1
-pushed-total Window x s = omega (arith, length-append s.window (x ∷ []))
-pushed-total Probation x s = omega (arith, length-append s.probation (x ∷ []))
-pushed-total Protected x s = omega (arith, length-append s.protected (x ∷ []))
+pushed-total v x s = grind (arith, nat_tests, length-append)

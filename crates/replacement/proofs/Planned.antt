@@ -4,12 +4,12 @@ use Rattle.std.proofs.lemmas.Bool.Decides.{nat_tests}
 use Rattle.std.proofs.lemmas.Bool.{cases_Bool}
 use Rattle.segments.specs.declared.records.Queue.TheVariants.{Window, Probation, Protected}
 use Rattle.segments.specs.Items.{Item, is_same_item, occurrences, items_without, oldest_of}
-use Rattle.segments.specs.Queues.{Queues, queue_holding, queues_without, queues_after_move, total_items, IsDistinct}
+use Rattle.segments.specs.Queues.{Queues, queue_holding, queues_after_move, total_items, IsDistinct}
 use Rattle.segments.proofs.ItemLists.{same-refl, same-sym, length-without, without-none, without-append}
 use Rattle.segments.proofs.MoveLaws.{taken-moved}
 use Rattle.segments.proofs.QueueLists.{first-stands, pushed-moved, still-absent}
 use Rattle.replacement.specs.declared.rules.Placement.TheVariants.{Direct, Windowed}
-use Rattle.replacement.specs.Table.{Rules, Placement, Queue, Response, with_recent, queues_after_demotion, hit_response, contest, trial_of, eviction, response_with_victim, response_without_trial, miss_by, miss, access_in, access}
+use Rattle.replacement.specs.Table.{Rules, Placement, Queue, Response, with_recent, queues_after_demotion, hit_response, contest, eviction, response_with_victim, response_without_trial, miss_by, miss, access_in, access}
 use Rattle.replacement.specs.Plan.{Plan, Transfer, transfer, demotion, contest_plan, direct_plan, candidate_of, eviction_of, eviction_plan, joining_first, miss_plan_by, miss_plan, plan_in, plan}
 use Rattle.replacement.specs.PlanMoves.{queues_after_transfer, removed, response_of_plan}
 use Rattle.replacement.specs.Theorems.{HitsPlanned, EvictionsPlanned, AccessesPlanned}
@@ -35,10 +35,6 @@ hits_planned size i Protected s = refl
 swapped : (v c : Item) (l : List Item) → items_without v (items_without c l) ≡ items_without c (items_without v l)
 swapped v c [] = refl
 swapped v c (x ∷ l) = grind (arith, nat_tests, swapped v c l)
-
--- another item is taken out before or after the candidate goes to probation
-taken-past : (v c : Item) (q : Queues) → is_same_item v c ≡ false → queues_without v (queues_after_move c Probation q) ≡ queues_after_move c Probation (queues_without v q)
-taken-past v c q h = grind (arith, nat_tests, without-append, swapped)
 
 first_or : Item → Option Item → Option Item
 first_or c None = Some c
@@ -69,19 +65,14 @@ contest-planned : (a : ℕ → ℕ → Bool) (c : Item) (o : Option Item) (s : Q
 unfolding first_or
 contest-planned a c None s f h = let e = same-refl c in rw (e, taken-moved c Probation s) refl
 contest-planned a c (Some v) s f h =
-    grind (arith, nat_tests, apart c v s.probation h f, taken-past, same-sym, taken-moved c Probation s)
+    grind (arith, nat_tests, apart c v s.probation h f, without-append, swapped, same-sym, taken-moved c Probation s)
 
 -- the candidate's way to probation adds no item
 total-shifted : (c : Item) (q : Queues) → IsDistinct q → 1 ≤ occurrences c q.window → total_items (queues_after_move c Probation q) ≡ total_items q
 total-shifted c q d h = omega (arith, d c, h, length-without c q.window, length-without c q.probation, length-without c q.protected, length-append (items_without c q.probation) (c ∷ []))
 
-trial-planned : (r : Rules) (a : ℕ → ℕ → Bool) (o : Option Item) (s : Queues) → oldest_of s.window ≡ o → IsDistinct s
-    → trial_of r a o s ≡ response_of_plan (eviction_of r a o s) s
-trial-planned r a None s f d = refl
-trial-planned r a (Some c) s f d = grind (arith, nat_tests, first-stands, total-shifted, first-shifted, contest-planned)
-
 pub evictions_planned : EvictionsPlanned
-evictions_planned r a s d = grind (arith, nat_tests, trial-planned)
+evictions_planned r a s d = grind (arith, nat_tests, first-stands, total-shifted, first-shifted, contest-planned)
 
 -- ---- accesses
 

@@ -1,5 +1,5 @@
 -- The keys of queues in which all items have one node.
-use Rattle.std.proofs.Common.{◌≡◌, ◌⊎◌, ℕ, suc, ◌+◌, ◌≤◌, Bool, true, false, cond, ◌&&◌, eqb, nat_lt, List, [], ◌∷◌, ◌++◌, length, map, ap, ◌∙◌, refl, arith, length-append}
+use Rattle.std.proofs.Common.{◌≡◌, ◌⊎◌, ℕ, suc, ◌+◌, ◌≤◌, Bool, true, cond, ◌&&◌, eqb, nat_lt, List, [], ◌∷◌, ◌++◌, length, map, ap, ◌∙◌, refl, arith, length-append}
 use Rattle.std.proofs.lemmas.Bool.Decides.{nat_tests}
 use Rattle.std.specs.List.{count_by}
 use Rattle.std.proofs.lemmas.List.Sums.{sum_by-append, sum_by-cons}
@@ -29,29 +29,22 @@ has-append k [] ys = refl
 has-append k (a ∷ xs) ys = grind (arith, nat_tests, has-append k xs ys)
 
 and-yes : (b : Bool) → (b && true) ≡ b
-and-yes true = refl
-and-yes false = refl
-
-key-same : (k : ℕ) (x : Item) → x.node ≡ 0 → is_same_item (nodeless_item k) x ≡ eqb k x.key
-key-same k x own = ap (λ n. eqb k x.key && eqb 0 n) own ∙ and-yes (eqb k x.key)
+and-yes v = grind (arith, nat_tests)
 
 key-there : (k : ℕ) (l : List Item) → ((i : Item) → 1 ≤ occurrences i l → i.node ≡ 0) → has_key k (map (λ i. i.key) l) ≡ nat_lt 0 (occurrences (nodeless_item k) l)
 key-there k [] h = refl
-key-there k (x ∷ l) h = grind (arith, nat_tests, same-refl, key-there k l, key-same)
-
-some-there : (a b : ℕ) → cond (nat_lt 0 a) true (nat_lt 0 b) ≡ nat_lt 0 (a + b)
-some-there a b = grind (arith, nat_tests)
+key-there k (x ∷ l) h = grind (arith, nat_tests, same-refl, key-there k l, and-yes)
 
 -- a key is resident where its item stands
 pub resident-queued : (k : ℕ) (s : Queues) → AreNodeless s → has_key k (residents_in s) ≡ nat_lt 0 (queue_occurrences (nodeless_item k) s)
-resident-queued k s h = grind (arith, nat_tests, key-there, has-append, some-there)
+resident-queued k s h = grind (arith, nat_tests, key-there, has-append)
 
 key-times : (k : ℕ) (l : List Item) → ((i : Item) → 1 ≤ occurrences i l → i.node ≡ 0) → count_by (eqb k) (keys_of l) ≡ occurrences (nodeless_item k) l
 key-times k [] h = refl
 key-times k (x ∷ l) h =
     let own : x.node ≡ 0 = h x (let s = same-refl x in rw s (omega arith)) in
     let rest : count_by (eqb k) (keys_of l) ≡ occurrences (nodeless_item k) l = key-times k l (λ i g. h i (omega (arith, g))) in
-    let one : one_if (is_same_item (nodeless_item k) x) ≡ one_if (eqb k x.key) = ap one_if (key-same k x own) in
+    let one : one_if (is_same_item (nodeless_item k) x) ≡ one_if (eqb k x.key) = ap one_if (ap (λ n. eqb k x.key && eqb 0 n) own ∙ and-yes (eqb k x.key)) in
     let more : count_by (eqb k) (keys_of (x ∷ l)) ≡ one_if (eqb k x.key) + count_by (eqb k) (keys_of l) = sum_by-cons (λ y. cond (eqb k y) 1 0) x.key (keys_of l) in
     omega (arith, rest, one, more)
 
@@ -60,10 +53,9 @@ resident-once k q once nodeless =
     let w = key-times k q.window (λ x g. nodeless x (omega (arith, g))) in
     let p = key-times k q.probation (λ x g. nodeless x (omega (arith, g))) in
     let t = key-times k q.protected (λ x g. nodeless x (omega (arith, g))) in
-    let few = once (nodeless_item k) in
     let front = sum_by-append (λ y. cond (eqb k y) 1 0) (keys_of q.window) (keys_of q.probation) in
     let all = sum_by-append (λ y. cond (eqb k y) 1 0) (keys_of q.window ++ keys_of q.probation) (keys_of q.protected) in
-    omega (arith, w, p, t, few, front, all)
+    omega (arith, w, p, t, front, all)
 
 -- ---- where no item came but that of k
 

@@ -1,13 +1,12 @@
 -- What the calls leave is what the plan of an access says.
 use Rattle.std.proofs.lemmas.Bool.Decides.{nat_tests}
-use Rattle.std.proofs.Common.{arith, ◌≡◌, ℕ, Bool, Option, Some, None, ap, ◌∙◌, sym, subst}
+use Rattle.std.proofs.Common.{arith, ◌≡◌, ℕ, Bool, Option, Some, None, ap, ◌∙◌}
 use Rattle.step_record.specs.declared.outcome.Outcome.TheVariants.{Hit}
 use Rattle.segments.specs.declared.records.Queue.TheVariants.{Window}
-use Rattle.segments.specs.Queues.{Queues, queue_holding, queues_after_move}
-use Rattle.replacement.specs.declared.rules.Placement.{Placement}
+use Rattle.segments.specs.Queues.{Queues, queues_after_move}
 use Rattle.replacement.specs.declared.rules.Rules.{Rules}
-use Rattle.replacement.specs.Plan.{Item, Transfer, Plan, eviction_plan, joining_first, miss_plan_by, miss_plan, plan}
-use Rattle.replacement.specs.PlanMoves.{Moves, MoveRecord, queues_after_transfer, removed, queues_after, transfer_record, removal_record, moves_of}
+use Rattle.replacement.specs.Plan.{Item, Transfer, Plan, eviction_plan, joining_first, plan}
+use Rattle.replacement.specs.PlanMoves.{Moves, MoveRecord, queues_after_transfer, removed, transfer_record, removal_record, moves_of}
 use Rattle.replacement.specs.Effects.{Effect, IsEffect, IsHit}
 use Rattle.replacement.proofs.Planned.{plan-at, evicts-first}
 
@@ -18,17 +17,6 @@ pub hit-effect : (r : Rules) (a : ℕ → ℕ → Bool) (i : Item) (s t : Queues
 hit-effect r a i s t m h = grind (arith, nat_tests, plan-at r a i s (Some h.queue) h.place)
 
 -- a miss, which the search for the item left as it was
-
-pub miss-effect : (r : Rules) (a : ℕ → ℕ → Bool) (i : Item) (s p t : Queues) (e : Effect) → queue_holding i s ≡ None → p ≡ s
-    → IsEffect (miss_plan r a i p) p t e → IsEffect (plan r a i s) s t e
-miss-effect r a i s p t e h same f = grind (arith, nat_tests, plan-at r a i s None h)
-
-pub placed-effect : (p : Placement) (r : Rules) (a : ℕ → ℕ → Bool) (i : Item) (s t : Queues) (e : Effect) → r.placement ≡ p
-    → IsEffect (miss_plan_by p r a i s) s t e → IsEffect (miss_plan r a i s) s t e
-placed-effect p r a i s t e w f = subst (λ (x : Placement). IsEffect (miss_plan_by x r a i s) s t e) (sym w) f
-
-joined-lists : (i : Item) (p : Plan) (s t : Queues) → p.first ≡ None → t ≡ queues_after p (queues_after_move i Window s) → t ≡ queues_after (joining_first i p) s
-joined-lists i p s t n h = h ∙ ap (λ (o : Option Transfer). queues_after_transfer p.last (removed p.leaves (queues_after_transfer o (queues_after_move i Window s)))) n
 
 joined-moves : (i : Item) (p : Plan) (s : Queues) (m : Moves) → p.first ≡ None → m ≡ moves_of p (queues_after_move i Window s)
     → record { first = (moves_of (joining_first i p) s).first; out = m.out; last = m.last } ≡ moves_of (joining_first i p) s
@@ -52,4 +40,4 @@ pub joined-effect : (r : Rules) (a : ℕ → ℕ → Bool) (i : Item) (s p t : Q
       outcome = e.outcome;
       moves = record { first = (moves_of (joining_first i (eviction_plan r a (queues_after_move i Window s))) s).first; out = e.moves.out; last = e.moves.last };
     }
-joined-effect r a i s p t e same f = grind (arith, nat_tests, evicts-first, joined-lists, joined-moves)
+joined-effect r a i s p t e same f = grind (arith, nat_tests, evicts-first, joined-moves)

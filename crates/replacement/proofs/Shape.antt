@@ -24,9 +24,6 @@ least : (n : ℕ) → IsNextPowerOfTwo n (least_power n)
 unfolding least_power
 least n = doubled-is n 1 n (0, refl) (omega arith) (omega arith) (omega arith)
 
-next-one : (n p q : ℕ) → 1 ≤ n → IsNextPowerOfTwo n p → IsNextPowerOfTwo n q → p ≡ q
-next-one n p q h a b = grind (arith, nat_tests, next_within)
-
 pub shape-is : (c : Config) → 1 ≤ c.capacity → IsShape (shape_of c)
 shape-is c some = record { some = some; width = least (max 16 c.capacity); size = least (max 64 (8 * c.capacity)) }
 
@@ -35,14 +32,14 @@ shape_by c p w d = record { capacity = c; spread = p; width = w; size = d }
 
 shape-one : (c : Config) (s : Shape) → IsShape s → s.capacity ≡ c.capacity → s.spread ≡ c.spread → s ≡ shape_of c
 unfolding shape_by
-shape-one c s is cap spread = grind (arith, nat_tests, next-one, least, shape_by)
+shape-one c s is cap spread = grind (arith, nat_tests, next_within, least, shape_by)
 
 pub own-shape : (c : Config) (keys : List ℕ) (f : FrequencyData) → IsFrequencyOf c.capacity c.spread keys f → f ≡ frequency_of (shape_of c) keys
 own-shape c keys f h = h.stands ∙ ap (λ s. frequency_of s keys) (shape-one c h.shape h.is h.capacity_is h.spread_is)
 
 open-shape-one : (columns : ℕ) (c : Config) (s : Shape) → IsOpenShape columns s → s.capacity ≡ c.capacity → s.spread ≡ c.spread → s ≡ open_shape_of columns c
 unfolding shape_by
-open-shape-one columns c s is cap spread = grind (arith, nat_tests, next-one, least (max 16 c.capacity), shape_by)
+open-shape-one columns c s is cap spread = grind (arith, nat_tests, next_within, least (max 16 c.capacity), shape_by)
 
 pub own-open-shape : (columns : ℕ) (c : Config) (keys : List ℕ) (f : FrequencyData) → IsOpenFrequencyOf columns c.capacity c.spread keys f → f ≡ frequency_of (open_shape_of columns c) keys
 own-open-shape columns c keys f h = h.stands ∙ ap (λ s. frequency_of s keys) (open-shape-one columns c h.shape h.is h.capacity_is h.spread_is)

@@ -8,7 +8,7 @@ use Rattle.queue_table.specs.Entries.{Item, items_of}
 use Rattle.queue_table.specs.Queues as ByNumber
 use Rattle.segments.specs.declared.records.Queue.{Queue}
 use Rattle.segments.specs.declared.records.Queue.TheVariants.{Window, Probation, Protected}
-use Rattle.segments.specs.Items.{is_same_item, occurrences, items_without, oldest_of, last_from, last_item, before, IsGap, put_behind}
+use Rattle.segments.specs.Items.{is_same_item, occurrences, items_without, last_from, last_item, before, IsGap, put_behind}
 use Rattle.segments.specs.Queues.{queue_of, with_queue, queue_holding, IsDistinct, queues_after_push, queues_without}
 use Rattle.segments.specs.Moves.{item_place}
 use Rattle.queue_table.proofs.Contents.{cut_at}
@@ -40,10 +40,6 @@ times-is : (i : Item) (l : List Entry) → occurrences i (items_of l) ≡ Entrie
 times-is i [] = refl
 times-is i (e ∷ l) = ap (λ n. cond (is_same_item i e.item) 1 0 + n) (times-is i l)
 
-oldest-is : (l : List Entry) (e : Entry) → Entries.oldest_of l ≡ Some e → oldest_of (items_of l) ≡ Some e.item
-oldest-is [] e h = absurd (cc h)
-oldest-is (x ∷ l) e h = let same : x ≡ e = cc in rw same refl
-
 -- one queue
 
 pub queue-named : (q : Queue) (s : ByNumber.Queues) → items_of (s (number_of q)) ≡ queue_of q (named s)
@@ -55,9 +51,6 @@ with-named : (q : Queue) (l : List Entry) (s : ByNumber.Queues) → named (ByNum
 with-named Window l s = refl
 with-named Probation l s = refl
 with-named Protected l s = refl
-
-pub first-named : (q : Queue) (e : Entry) (s : ByNumber.Queues) → Entries.oldest_of (s (number_of q)) ≡ Some e → oldest_of (queue_of q (named s)) ≡ Some e.item
-first-named q e s h = ap oldest_of (sym (queue-named q s)) ∙ oldest-is (s (number_of q)) e h
 
 pub gap-numbered : (q : Queue) (older : Option Item) (s : ByNumber.Queues) → IsGap older (queue_of q (named s)) → Entries.IsGap older (s (number_of q))
 gap-numbered q older s g =
@@ -73,8 +66,7 @@ pub without-named : (i : Item) (s : ByNumber.Queues) → named (ByNumber.after_r
 without-named i s = rw (items-without i (s 0), items-without i (s 1), items-without i (s 2)) refl
 
 pub return-named : (q : Queue) (o : Option Item) (e : Entry) (s : ByNumber.Queues) → named (ByNumber.after_return (number_of q) o e s) ≡ with_queue q (put_behind o e.item (queue_of q (named s))) (named s)
-return-named q o e s =
-    cc (with-named q (Entries.put_behind o e (s (number_of q))) s, items-put o e (s (number_of q)), queue-named q s)
+return-named q o e s = grind (arith, nat_tests, with-named, items-put, queue-named)
 
 pub with-kept : (q : Queue) (l : List Entry) (s : ByNumber.Queues) → IsNamed s → IsNamed (ByNumber.with_queue (number_of q) l s)
 with-kept Window l s h = record { fourth = h.fourth }
@@ -94,8 +86,7 @@ pub data IsShown : Option ℕ → Option Queue → Type 0 where
   in_queue : (q : Queue) → IsShown (Some (number_of q)) (Some q)
 
 pub missing-numbered : (i : Item) (s : ByNumber.Queues) → IsNamed s → queue_holding i (named s) ≡ None → ByNumber.queue_holding i s ≡ None
-missing-numbered i s h e =
-    grind (arith, nat_tests, absent i (named s) e, times-is i (s 0), times-is i (s 1), times-is i (s 2))
+missing-numbered i s h e = search (arith, absent i (named s) e, times-is i (s 0), times-is i (s 1), times-is i (s 2))
 
 pub holding-shown : (i : Item) (s : ByNumber.Queues) → ByNumber.IsDistinct s → IsNamed s → IsShown (ByNumber.queue_holding i s) (queue_holding i (named s))
 holding-shown i s d h = at _ (stands i (named s) (distinct-named s d))

@@ -1,5 +1,5 @@
 -- A halving of a whole table, and its undoing.
-use Rattle.std.proofs.Common.{◌≡◌, ℕ, suc, zero, ◌+◌, ◌*◌, ◌/◌, ◌%◌, ◌<◌, ◌≤◌, ◌^◌, false, cond, eqb, List, length, get_or, map, refl, ap, ◌∙◌, sym, arith}
+use Rattle.std.proofs.Common.{◌≡◌, ℕ, ◌+◌, ◌*◌, ◌/◌, ◌%◌, ◌<◌, ◌≤◌, ◌^◌, false, cond, eqb, List, length, get_or, map, refl, ap, ◌∙◌, sym, arith}
 use Rattle.std.proofs.lemmas.Bool.Decides.{nat_tests}
 use Rattle.std.proofs.lemmas.List.{get_or-map, get_or_past, length-map}
 use Rattle.std.specs.Int.{bit_at}
@@ -26,9 +26,7 @@ bit_digit : (n t x : ℕ) → bit_at x (4 * n + t) ≡ nibble (x / 2 ^ t) n % 2
 bit_digit n t x = grind (arith, nat_tests, shr-shr x t (4 * n), nibble_is n (x / 2 ^ t))
 
 one_or_none : (v : ℕ) → v < 2 → v ≡ cond (eqb v 1) 1 0
-one_or_none zero h = refl
-one_or_none (suc zero) h = refl
-one_or_none (suc (suc v)) h = absurd (omega arith)
+one_or_none v h = grind (arith, nat_tests)
 
 -- the lost bit of a counter is a bit of the lost words
 bit_kept : (lost : List ℕ) (i : ℕ) → lost_bit lost i ≡ cond (bit_of lost (kept_at i)) 1 0

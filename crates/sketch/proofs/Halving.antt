@@ -104,11 +104,7 @@ module _ (ws : List ℕ) (j n : ℕ) (w : n < 16) where
   all_lost = grind (arith, nat_tests, or_digit, nibble_odd, moved_bit, union_low)
 
   picked : (t : ℕ) → t < 4 → (lost 0 + 2 * lost 1 + 4 * lost 2 + 8 * lost 3) / 2 ^ t % 2 ≡ lost t
-  picked zero h = omega arith
-  picked (suc zero) h = omega arith
-  picked (suc (suc zero)) h = omega arith
-  picked (suc (suc (suc zero))) h = omega arith
-  picked (suc (suc (suc (suc t)))) h = absurd (omega arith)
+  picked v h = grind (arith, nat_tests)
 
   -- what the lost words keep of a digit of word 4j+t
   pub lost_digit : (t : ℕ) → t < 4 → nibble (odd_bits (lost_word ws j / 2 ^ t)) n ≡ nibble (get_or ws (4 * j + t) 0) n % 2

@@ -1,7 +1,7 @@
 -- A table whose counters are given place by place.
 use Rattle.std.proofs.Common.{◌≡◌, ℕ, ◌+◌, ◌-◌, ◌*◌, ◌/◌, ◌%◌, ◌<◌, ◌≤◌, min, true, false, cond, eqb, nat_lt, ◌&&◌, List, get_or, refl, ap, ◌∙◌, sym, arith}
-use Rattle.std.proofs.lemmas.Nat.{div-mul-add, mod-mul-add, div-add-mod', div_below}
-use Rattle.std.proofs.lemmas.Bool.{eqb-true, eq-eqb, ltb-false}
+use Rattle.std.proofs.lemmas.Nat.{div-mul-add, mod-mul-add, div_below}
+use Rattle.std.proofs.lemmas.Bool.{eq-eqb, ltb-false}
 use Rattle.std.proofs.lemmas.Bool.Decides.{nat_tests}
 use Rattle.sketch.specs.declared.touch_record.RaisedRows.{RaisedRows}
 use Rattle.sketch.specs.Columns.{Spread, column, column_below}
@@ -20,10 +20,6 @@ module _ (w : ℕ) (s : Spread) (some : 0 < w) where
 
   pub in_rows : (i : ℕ) → i < 4 * w → nat_lt (i / w) 4 ≡ true
   in_rows i h = let d : i / w < 4 = div_below i w 4 some h in grind (arith, nat_tests)
-
-  -- the place of a key in its row
-  pub own_place : (key i : ℕ) → is_of s w key i ≡ true → i ≡ i / w * w + column s key (i / w) w
-  own_place key i h = let e : column s key (i / w) w ≡ i % w = eqb-true _ _ h in rw e (sym (div-add-mod' i w))
 
   pub place_within : (key row : ℕ) → row < 4 → row * w + column s key row w < 4 * w
   place_within key row h = let c : column s key row w < w = column_below s key row w some in let m : row * w ≤ 3 * w = grind arith in omega arith

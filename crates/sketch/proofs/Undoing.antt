@@ -1,5 +1,5 @@
 -- What undoes a touch and a halving, over any table.
-use Rattle.std.proofs.Common.{◌≡◌, ◌≢◌, ℕ, suc, zero, ◌+◌, ◌*◌, ◌/◌, ◌%◌, ◌<◌, ◌≤◌, min, Bool, true, false, cond, eqb, List, get_or, ap, ◌∙◌, refl, subst, arith}
+use Rattle.std.proofs.Common.{◌≡◌, ◌≢◌, ℕ, suc, zero, ◌+◌, ◌*◌, ◌/◌, ◌%◌, ◌<◌, ◌≤◌, min, Bool, false, cond, eqb, List, get_or, ap, ◌∙◌, refl, subst, arith}
 use Rattle.std.proofs.lemmas.Bool.Decides.{nat_tests}
 use Rattle.sketch.specs.declared.halve_record.HalveRecord.{HalveRecord}
 use Rattle.sketch.specs.Sketch.{Table, counter_of, touched_table, halved_table, least_counter, IsTable}
@@ -11,8 +11,7 @@ use Rattle.sketch.proofs.RowLists.{small_by_place}
 use Rattle.sketch.proofs.Tables as tables
 
 one_of : (b : Bool) (x : ℕ) → x ≤ 15 → cond b (min 15 (x + 1)) x ≤ 15
-one_of true x h = omega arith
-one_of false x h = h
+one_of v x h = grind (arith, nat_tests)
 
 -- a number from its half and its lowest bit
 twice_and : (x : ℕ) → 2 * (x / 2) + cond (eqb (x % 2) 1) 1 0 ≡ x

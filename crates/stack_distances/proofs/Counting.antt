@@ -1,11 +1,11 @@
 -- What Lru counts, by the distances.
 use Rattle.std.proofs.lemmas.Grind.{common_steps}
-use Rattle.std.proofs.Common.{◌≡◌, ℕ, ◌+◌, ◌≤◌, min, false, Option, Some, None, List, [], ◌∷◌, ◌++◌, length, count_by, ap, ◌∙◌, sym, refl, arith, inl, inr, append_assoc, append-nil}
+use Rattle.std.proofs.Common.{◌≡◌, ℕ, ◌+◌, ◌≤◌, min, false, Option, List, [], ◌∷◌, ◌++◌, length, count_by, ap, ◌∙◌, sym, refl, arith, inl, inr, append_assoc, append-nil}
 use Rattle.std.proofs.lemmas.Bool.Decides.{nat_tests}
 use Rattle.std.proofs.lemmas.List.Sums.{sum_by-le-sum_by}
 use Rattle.step_record.specs.Keys.{has_key}
 use Rattle.step_record.specs.declared.job.Policy.TheVariants.{Lru}
-use Rattle.step_record.specs.Stats.{is_hit, is_miss, is_eviction, is_rejection, stats_of, one_if}
+use Rattle.step_record.specs.Stats.{is_hit, is_miss, is_eviction, is_rejection, one_if}
 use Rattle.queue_cache.specs.Lru.{Outcome, distinct_keys, is_lru_hit, lru_outcome}
 use Rattle.queue_cache.specs.QueueCache.{Job, state_after, outcomes_from, outcomes_after, outcome_after}
 use Rattle.policies.specs.AnyPolicy.{stats_on}
@@ -36,8 +36,7 @@ lru_outcomes c past (k ∷ ks) = lru_outcome c past k ∷ lru_outcomes c (past +
 module _ (j : Job) (is_lru : j.policy ≡ Lru) (room : 1 ≤ j.config.capacity) where
   from-outcomes : (past keys : List ℕ) → outcomes_from j past (state_after j past) keys ≡ lru_outcomes j.config.capacity past keys
   from-outcomes past [] = refl
-  from-outcomes past (k ∷ ks) =
-      grind (arith, nat_tests, outcome-lru, after-job, after-snoc, from-outcomes (past ++ k ∷ []) ks)
+  from-outcomes past (k ∷ ks) = search (arith, outcome-lru, after-job, after-snoc, from-outcomes (past ++ k ∷ []) ks)
 
   all-outcomes : (keys : List ℕ) → outcomes_after j keys ≡ lru_outcomes j.config.capacity [] keys
   unfolding outcomes_after state_after
@@ -60,12 +59,9 @@ counted c past (k ∷ ks) =
 
 -- ---- the statistics
 
-stats-by : (c : ℕ) (keys : List ℕ) → stats_of (lru_outcomes c [] keys) ≡ stats_within c keys
-stats-by c keys = grind (arith, nat_tests, counted c, hits-misses)
-
 pub lru_counts : (j : Job) (keys : List ℕ) → j.policy ≡ Lru → 1 ≤ j.config.capacity → stats_on j keys ≡ stats_within j.config.capacity keys
 unfolding stats_on
-lru_counts j keys p room = grind (arith, nat_tests, all-outcomes j p room keys, stats-by j.config.capacity keys)
+lru_counts j keys p room = grind (arith, nat_tests, all-outcomes j p room keys, counted, hits-misses)
 
 -- as the misses less the keys that are left at the end
 pub stats-read : (j : Job) (keys : List ℕ) (n h held c : ℕ) → j.policy ≡ Lru → j.config.capacity ≡ c → 1 ≤ c → n ≡ length keys → h ≡ hits_within c keys → held ≡ min c (length (distinct_keys keys))
@@ -79,8 +75,7 @@ hits-and-held c keys = let n = counted c [] keys in omega (arith, n.0, n.1, n.3,
 -- ---- larger capacities
 
 within-more : (c d : ℕ) (x : Option ℕ) → c ≤ d → one_if (is_within c x) ≤ one_if (is_within d x)
-within-more c d None h = omega arith
-within-more c d (Some n) h = grind (arith, nat_tests)
+within-more c d v h = grind (arith, nat_tests)
 
 pub hits_grow : (c d : ℕ) (keys : List ℕ) → c ≤ d → hits_within c keys ≤ hits_within d keys
 hits_grow c d keys h = sum_by-le-sum_by (λ x. one_if (is_within c x)) (λ x. one_if (is_within d x)) (distances keys) (λ x. within-more c d x h)

@@ -75,9 +75,6 @@ module _ (total : ℕ → ℕ) (sums : List ℕ) (tree : IsFenwickTree total sum
     summed = λ j within. grind (arith, nat_tests, cases_lt j (length sums), get_or_append_left, length_push sums s, get_or_push sums s 0 (length sums) refl);
   }
 
-pub same-tree : (f g : ℕ → ℕ) (sums : List ℕ) → IsFenwickTree f sums → ((n : ℕ) → n ≤ length sums → g n ≡ f n) → ((m n : ℕ) → m ≤ n → g m ≤ g n) → IsFenwickTree g sums
-same-tree f g sums tree same grows = grind (arith, nat_tests, grows, start-low)
-
 -- ---- one less
 
 -- of the sums over stretches that have the place, those that end before `at` are one less

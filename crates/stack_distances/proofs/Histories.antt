@@ -86,14 +86,11 @@ module _ (keys : List ℕ) (place : ℕ) (in_it : place < length keys) (h : Hist
 
     -- to a new key
     module _ (none : place_of h.last key ≡ None) where
-      never : last_below keys place key ≡ None
-      never = sym (c.last key) ∙ none
-
       gone : has_key key (take place keys) ≡ false
-      gone = sym (came-by keys place 0 key (omega (arith, in_it))) ∙ rw never refl
+      gone = sym (came-by keys place 0 key (omega (arith, in_it))) ∙ rw (sym (c.last key) ∙ none) refl
 
       pub first-marked : (q : ℕ) → bit_of vs q ≡ is_last keys (place + 1) q
-      first-marked q = grind (arith, nat_tests, ne_eqb, marked-next 0 (sym (ap number_of never)) q, never)
+      first-marked q = grind (arith, nat_tests, ne_eqb, marked-next 0 (sym (ap number_of (sym (c.last key) ∙ none))) q)
 
       pub first-long : length h.counts.items + 1 ≡ length (distinct_keys (take (place + 1) keys))
       first-long = let more : length (distinct_keys (take (place + 1) keys)) ≡ suc (length (distinct_keys (take place keys))) = stack-next keys place 0 in_it (omega arith) ∙ rw gone refl in omega (arith, more, c.long)

@@ -1,5 +1,4 @@
 -- What was noted, to be counted.
-use Rattle.std.proofs.lemmas.Bool.Decides.{nat_tests}
 use Rattle.std.proofs.Common.{◌≡◌, ℕ, suc, ◌+◌, ◌<◌, ◌≤◌, cond, eqb, List, [], ◌∷◌, ◌++◌, length, length-take, take, get_or, set, ap, ◌∙◌, refl, arith, inl, inr, get_or-set_other}
 use Rattle.std.proofs.lemmas.Bool.{cases_eq, cases_lt, eq-eqb, ne_eqb}
 use Rattle.std.proofs.lemmas.Grind.{get_or-set_at}
@@ -20,8 +19,7 @@ module _ (counts noted : List ℕ) (d : ℕ) where
 
   -- the last one is counted
   pub counted-last : d < length counts → (q : ℕ) → count_at (set counts d (get_or counts d 0 + 1)) noted q ≡ count_at counts (noted ++ d ∷ []) q
-  counted-last within q =
-      grind (arith, nat_tests, cases_eq, get_or-set_at, noted-there, get_or-set_other, noted-more, ne_eqb)
+  counted-last within q = search (arith, cases_eq, get_or-set_at, noted-there, get_or-set_other, noted-more, ne_eqb)
 
   module _ (first-counts first-noted : List ℕ) (may : IsNoted first-counts first-noted) (same : (q : ℕ) → count_at counts (noted ++ d ∷ []) q ≡ count_at first-counts first-noted q) where
     pub last-within : length counts ≡ length first-counts → d < length counts

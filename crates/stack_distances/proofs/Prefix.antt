@@ -1,5 +1,5 @@
 -- The hits at each capacity, as sums of the counts of distances.
-use Rattle.std.proofs.Common.{◌≡◌, ℕ, suc, ◌+◌, ◌≤◌, min, cond, Option, Some, None, List, [], ◌∷◌, ◌++◌, length, count_by, ap, ◌∙◌, sym, refl, arith, append_assoc, append-nil}
+use Rattle.std.proofs.Common.{◌≡◌, ℕ, suc, ◌+◌, ◌≤◌, min, cond, Option, List, [], ◌∷◌, ◌++◌, length, count_by, ap, ◌∙◌, sym, refl, arith, append_assoc, append-nil}
 use Rattle.std.proofs.lemmas.Bool.{cases_lt}
 use Rattle.std.proofs.lemmas.Bool.Decides.{nat_tests}
 use Rattle.step_record.specs.Keys.{has_key}
@@ -12,8 +12,7 @@ use Rattle.stack_distances.proofs.Stack.{grows, since-within}
 -- ---- one distance more
 
 one-more : (d : ℕ) (x : Option ℕ) → cond (is_within (suc d) x) 1 0 ≡ cond (is_within d x) 1 0 + cond (is_at (suc d) x) 1 0
-one-more d None = omega arith
-one-more d (Some e) = grind (arith, nat_tests)
+one-more d v = grind (arith, nat_tests)
 
 pub within-more : (d : ℕ) (ds : List (Option ℕ)) → count_by (is_within (suc d)) ds ≡ count_by (is_within d) ds + count_by (is_at (suc d)) ds
 within-more d [] = omega arith
@@ -31,12 +30,9 @@ no-hits keys = none-after [] keys
 full : (c : ℕ) (xs : List ℕ) (k : ℕ) → length (distinct_keys xs) ≤ c → is_within c (distance xs k) ≡ has_key k xs
 full c xs k h = let d = since-within k 0 xs in grind (arith, nat_tests, d, h)
 
-one-grows : (past : List ℕ) (k : ℕ) → length (distinct_keys past) ≤ length (distinct_keys (past ++ k ∷ []))
-one-grows past k = let more = grows k past in grind (arith, more)
-
 pub more-distinct : (past keys : List ℕ) → length (distinct_keys past) ≤ length (distinct_keys (past ++ keys))
 more-distinct past [] = rw (append-nil past) (omega arith)
-more-distinct past (k ∷ ks) = grind (arith, nat_tests, one-grows, more-distinct (past ++ k ∷ []) ks, append_assoc)
+more-distinct past (k ∷ ks) = grind (arith, nat_tests, grows, more-distinct (past ++ k ∷ []) ks, append_assoc)
 
 full-after : (c d : ℕ) (past keys : List ℕ) → length (distinct_keys (past ++ keys)) ≤ c → length (distinct_keys (past ++ keys)) ≤ d → count_by (is_within c) (distances_after past keys) ≡ count_by (is_within d) (distances_after past keys)
 full-after c d past [] h g = refl
@@ -47,8 +43,7 @@ full-after c d past (k ∷ ks) h g =
 
 -- past the number of distinct keys the hits stay
 pub hits-held : (c : ℕ) (keys : List ℕ) → hits_within (min (length (distinct_keys keys)) c) keys ≡ hits_within c keys
-hits-held c keys =
-    grind (arith, nat_tests, cases_lt c (length (distinct_keys keys)), full-after (length (distinct_keys keys)) c)
+hits-held c keys = search (arith, cases_lt c (length (distinct_keys keys)), full-after (length (distinct_keys keys)) c)
 
 -- no distance is over the number of distinct keys
 pub none-deeper : (keys : List ℕ) (d : ℕ) → length (distinct_keys keys) ≤ d → count_by (is_at (suc d)) (distances_after [] keys) ≡ 0

@@ -1,19 +1,17 @@
 -- A curve and what is read off it.
-use Rattle.std.proofs.lemmas.Bool.Decides.{nat_tests}
 use Rattle.std.proofs.Common.{◌≡◌, ◌≢◌, ℕ, suc, ◌+◌, ◌<◌, ◌≤◌, min, List, [], length, count_by, get_or, set, ap, ◌∙◌, sym, refl, arith, inl, inr, get_or-set_other, get_or-set_same}
 use Rattle.std.proofs.Math.ListN.{length-set}
 use Rattle.std.proofs.lemmas.Bool.{cases_eq}
-use Rattle.std.proofs.lemmas.List.{take_all}
 use Rattle.std.proofs.lemmas.List.FromFn.{fill_by_all}
 use Rattle.std.proofs.lemmas.List.Sums.{count_by-le-length}
 use Rattle.step_record.specs.Places.{by_place}
 use Rattle.step_record.proofs.Places.{length-by_place, get_or-by_place}
 use Rattle.queue_cache.specs.Lru.{distinct_keys}
 use Rattle.stack_distances.specs.Distances.{distances, is_within, hits_within}
-use Rattle.stack_distances.specs.Histogram.{Histogram, count_at, is_at, IsHistogram}
+use Rattle.stack_distances.specs.Histogram.{is_at}
 use Rattle.stack_distances.specs.Curve.{CurveData, curve_of}
 use Rattle.stack_distances.proofs.Histories.{distances-long}
-use Rattle.stack_distances.proofs.Prefix.{within-more, no-hits, hits-held}
+use Rattle.stack_distances.proofs.Prefix.{within-more, hits-held}
 
 -- ---- summing up
 
@@ -24,20 +22,12 @@ pub record IsSummed (keys hits : List ℕ) (sum c : ℕ) : Type 0 where
   pub below : (d : ℕ) → d < c → get_or hits d 0 ≡ hits_within (suc d) keys
   pub ahead : (d : ℕ) → c ≤ d → get_or hits d 0 ≡ count_by (is_at (suc d)) (distances keys)
 
--- at the end of a pass
-pub passed-summed : (keys trace hits : List ℕ) (place : ℕ) (h : Histogram) → length keys ≤ place → keys ≡ trace → length hits ≡ length h.counts.items → ((d : ℕ) → get_or hits d 0 ≡ count_at h.counts.items h.noted.items d) → IsHistogram keys place h → IsSummed trace hits 0 0
-passed-summed keys trace hits place h all same long taken passed =
-    grind (arith, nat_tests, take_all place keys all, no-hits trace)
-
-pub next-sum : (keys hits : List ℕ) (sum c : ℕ) → IsSummed keys hits sum c → sum + get_or hits c 0 ≡ hits_within (suc c) keys
-next-sum keys hits sum c s = omega (arith, s.ahead c (omega arith), s.so_far, within-more c (distances keys))
-
 pub sum-small : (keys : List ℕ) (c : ℕ) → hits_within c keys ≤ length keys
 sum-small keys c = omega (arith, count_by-le-length (is_within c) (distances keys), distances-long [] keys)
 
 pub more-summed : (keys hits : List ℕ) (sum c x : ℕ) → c < length hits → IsSummed keys hits sum c → x ≡ sum + get_or hits c 0 → IsSummed keys (set hits c x) x (suc c)
 more-summed keys hits sum c x in_it s e =
-    let is : x ≡ hits_within (suc c) keys = e ∙ next-sum keys hits sum c s in
+    let is : x ≡ hits_within (suc c) keys = e ∙ (omega (arith, s.ahead c (omega arith), s.so_far, within-more c (distances keys))) in
     record {
       long = length-set hits c x ∙ s.long;
       so_far = is;

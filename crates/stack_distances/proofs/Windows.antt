@@ -1,12 +1,12 @@
 -- The window of a trace whose keys Lru holds, one access after another.
-use Rattle.std.proofs.Common.{◌≡◌, ℕ, suc, zero, ◌+◌, ◌-◌, ◌<◌, ◌≤◌, min, Bool, true, false, ◌||◌, cond, eqb, nat_lt, List, length, take, drop, get_or, ap, ◌∙◌, sym, refl, arith, inl, inr}
+use Rattle.std.proofs.Common.{◌≡◌, ℕ, suc, zero, ◌+◌, ◌-◌, ◌<◌, ◌≤◌, min, Bool, true, false, ◌||◌, cond, eqb, nat_lt, List, length, take, drop, get_or, ap, ◌∙◌, sym, refl, arith}
 use Rattle.std.proofs.lemmas.Bool.{cases_eq, cases_lt, ne_eqb}
 use Rattle.std.proofs.lemmas.Bool.Decides.{nat_tests}
 use Rattle.std.proofs.lemmas.List.{take_all}
 use Rattle.step_record.specs.Keys.{has_key}
 use Rattle.step_record.specs.Bits.{bit_of}
 use Rattle.step_record.specs.declared.job.Policy.TheVariants.{Lru}
-use Rattle.queue_cache.specs.Lru.{distinct_keys, keys_since}
+use Rattle.queue_cache.specs.Lru.{distinct_keys}
 use Rattle.policies.specs.AnyPolicy.{Job, stats_on}
 use Rattle.queue_cache.proofs.Recency.{has-drop}
 use Rattle.stack_distances.specs.Distances.{distance, is_within, hits_within, stats_by}
@@ -14,32 +14,20 @@ use Rattle.trace_index.specs.Uses.{last_below, number_of}
 use Rattle.stack_distances.specs.Window.{Window, IsWindow, IsFirstClear}
 use Rattle.stack_distances.proofs.Counting.{stats-read, hits-and-held}
 use Rattle.stack_distances.proofs.Histories.{count-next}
-use Rattle.stack_distances.proofs.Places.{again-next, came-by, last-low, past-end, past-length, stack, stack-front, stack-next}
+use Rattle.stack_distances.proofs.Places.{again-next, came-by, past-end, past-length, stack, stack-front, stack-next}
 use Rattle.stack_distances.proofs.Reading.{sum-small}
 use Rattle.stack_distances.proofs.Stack.{fewer-behind, since-within, since-beyond}
 
 -- ---- hits
 
--- an access to a key of the window
-hit-within : (c f : ℕ) (xs : List ℕ) (k : ℕ) → length (distinct_keys (drop f xs)) ≤ c → has_key k (drop f xs) ≡ true → is_within c (distance xs k) ≡ true
-hit-within c f xs k fits h = let less = since-within k f xs h in rw (has-drop k f xs h) (grind (arith, nat_tests))
-
 -- and to any other, where the window is full or the whole trace so far
 miss-beyond : (c f : ℕ) (xs : List ℕ) (k : ℕ) → (1 ≤ f → length (distinct_keys (drop f xs)) ≡ c) → has_key k (drop f xs) ≡ false → is_within c (distance xs k) ≡ false
-miss-beyond c zero xs k full h = rw h refl
-miss-beyond c (suc f) xs k full h =
-    let more : has_key k xs ≡ true → length (distinct_keys (drop (suc f) xs)) ≤ length (distinct_keys (keys_since k xs)) = λ came. since-beyond k (suc f) xs came h in
-    let all = full (omega arith) in
-    grind (arith, nat_tests, more, all)
+miss-beyond c v xs k full h = grind (arith, nat_tests, since-beyond)
 
 -- the access at the place, and the number of the last one to its key
 module _ (keys : List ℕ) (place : ℕ) (in_it : place < length keys) (before : ℕ) (noted : before ≡ number_of (last_below keys place (get_or keys place 0))) where
   came-since : (f : ℕ) → nat_lt f (before) ≡ has_key (get_or keys place 0) (drop f (take place keys))
   came-since f = ap (nat_lt f) noted ∙ came-by keys place f (get_or keys place 0) (omega (arith, in_it))
-
-  -- its key came last below its place
-  pub came-below : before ≤ place
-  came-below = omega (arith, noted, last-low keys place (get_or keys place 0))
 
   -- ---- the window's begin, moved
 
@@ -72,17 +60,8 @@ module _ (keys : List ℕ) (place : ℕ) (in_it : place < length keys) (before :
     hit-window v later capacity first held hits size sets =
         let low : nat_lt w.first before ≡ true = grind (arith, nat_tests) in
         let came : has_key (get_or keys place 0) (drop w.first (take place keys)) ≡ true = sym (came-since w.first) ∙ low in
-        let yes = hits-next true (hit-within w.capacity w.first (take place keys) (get_or keys place 0) (omega (arith, h.held, h.fits)) came) in
-        record {
-          begun = omega (arith, h.begun, first);
-          held = held ∙ (h.held ∙ (sym (rw came at (stack-next keys place w.first in_it h.begun)) ∙ ap (stack keys (place + 1)) (sym first)));
-          fits = omega (arith, h.fits, held, capacity);
-          full = λ some. held ∙ (h.full (omega (arith, some, first)) ∙ sym capacity);
-          hits = hits ∙ (sym yes ∙ ap (λ (c : ℕ). hits_within c (take (place + 1) keys)) (sym capacity));
-          room = omega (arith, h.room, size);
-          few = omega (arith, h.few, size);
-          renewed = λ i from. sets i ∙ hit-bit later i (omega (arith, from, first));
-        }
+        let yes = hits-next true (let less = since-within (get_or keys place 0) w.first (take place keys) came in rw (has-drop (get_or keys place 0) w.first (take place keys) came) (grind (arith, nat_tests))) in
+        grind (arith, nat_tests, stack-next keys place w.first in_it h.begun, hit-bit)
 
     missed : before ≤ w.first → has_key (get_or keys place 0) (drop w.first (take place keys)) ≡ false
     missed early = let high : nat_lt w.first (before) ≡ false = grind (arith, nat_tests) in sym (came-since w.first) ∙ high
@@ -92,23 +71,14 @@ module _ (keys : List ℕ) (place : ℕ) (in_it : place < length keys) (before :
         let no = hits-next false (miss-beyond w.capacity w.first (take place keys) (get_or keys place 0) (λ some. sym h.held ∙ h.full some) (missed early)) in
         omega (arith, no)
 
-    more-held : before ≤ w.first → stack keys (place + 1) w.first ≡ suc w.held
-    more-held early = rw (missed early) at (stack-next keys place w.first in_it h.begun) ∙ ap suc (sym h.held)
-
     pub filled-window : before ≤ w.first → w.held < w.capacity → IsWindow keys (place + 1) (record { capacity = w.capacity; first = w.first; held = w.held + 1; hits = w.hits; renewed = w.renewed })
-    filled-window early room = grind (arith, nat_tests, more-held early, same-hits early, missed-bit early)
+    filled-window early room = grind (arith, nat_tests, missed, stack-next, same-hits early, missed-bit early)
 
     -- ---- the oldest key leaves
     module _ (early : before ≤ w.first) (crowded : w.capacity ≤ w.held) (o : ℕ) (c : IsFirstClear w.renewed.items w.first o) where
       pub oldest-low : o ≤ place
       oldest-low =
-          elim (cases_lt place o) [
-            | inl less ↦
-                let yes : bit_of w.renewed.items place ≡ true = c.set place h.begun less in
-                let no : bit_of w.renewed.items place ≡ false = missed-bit early place h.begun ∙ ap (has_key (get_or keys place 0)) (past-end keys (place + 1) (suc place) (omega (arith, in_it)) (omega arith)) in
-                absurd (cc (yes, no))
-            | inr more ↦ omega (arith, more)
-          ]
+          grind (arith, nat_tests, cases_lt place o, missed-bit early place h.begun, past-end keys (place + 1) (suc place) (omega (arith, in_it)) (omega arith))
 
       one-less : stack keys (place + 1) (o + 1) + 1 ≡ stack keys (place + 1) w.first
       one-less =
@@ -120,19 +90,16 @@ module _ (keys : List ℕ) (place : ℕ) (in_it : place < length keys) (before :
           omega (arith, front, run, ap (stack keys (place + 1)) e, ap (stack keys (place + 1)) on)
 
       pub moved-window : IsWindow keys (place + 1) (record { capacity = w.capacity; first = o + 1; held = w.held; hits = w.hits; renewed = w.renewed })
-      moved-window = grind (arith, nat_tests, oldest-low, more-held early, one-less, same-hits early, missed-bit)
+      moved-window = grind (arith, nat_tests, oldest-low, missed, stack-next, one-less, same-hits early, missed-bit)
 
 -- ---- the whole trace
 
 module _ (keys : List ℕ) (w : Window) (place : ℕ) (all : length keys ≤ place) (h : IsWindow keys place w) where
-  whole : take place keys ≡ keys
-  whole = take_all place keys all
-
   whole-hits : w.hits ≡ hits_within w.capacity keys
-  whole-hits = h.hits ∙ ap (hits_within w.capacity) whole
+  whole-hits = h.hits ∙ ap (hits_within w.capacity) (take_all place keys all)
 
   whole-held : w.held ≡ min w.capacity (length (distinct_keys keys))
-  whole-held = grind (arith, nat_tests, whole, cases_eq w.first 0, fewer-behind w.first keys)
+  whole-held = grind (arith, nat_tests, take_all, cases_eq w.first 0, fewer-behind w.first keys)
 
   pub window-room : w.hits + w.held ≤ length keys
   window-room = omega (arith, hits-and-held w.capacity keys, whole-hits, whole-held)

@@ -1,7 +1,7 @@
 -- What a table of keys has for a key, and what putting one changes.
-use Rattle.std.proofs.Common.{◌≡◌, ◌≢◌, ◌⊎◌, min, ◌∙◌, ℕ, zero, suc, ◌+◌, ◌*◌, ◌/◌, ◌^◌, ◌<◌, ◌≤◌, Bool, false, cond, eqb, List, [], ◌∷◌, set, get_or, length, replicate, ap, sym, refl, subst, arith, inl, inr, get_or-set_other, get_or-set_same}
+use Rattle.std.proofs.Common.{◌≡◌, ◌≢◌, min, ◌∙◌, ℕ, zero, suc, ◌+◌, ◌*◌, ◌/◌, ◌^◌, ◌<◌, ◌≤◌, false, cond, eqb, List, [], ◌∷◌, set, get_or, length, replicate, ap, sym, refl, subst, arith, inl, inr, get_or-set_other, get_or-set_same}
 use mir.Val.{bool_byte}
-use Rattle.std.proofs.Math.Nat.{le-min, min-le_left, min-le_right}
+use Rattle.std.proofs.Math.Nat.{min-le_left, min-le_right}
 use Rattle.std.proofs.lemmas.Bool.{cases_eq, cases_lt, cases_Bool, eqb-true, ne_eqb}
 use Rattle.std.proofs.lemmas.Bool.Decides.{nat_tests}
 use Rattle.std.proofs.lemmas.List.{length-set, length-replicate}
@@ -17,11 +17,6 @@ within : (xs : List ℕ) (q : ℕ) → get_or xs q 0 ≢ 0 → q < length xs
 within [] q ne = absurd (ne refl)
 within (x ∷ xs) zero ne = omega arith
 within (x ∷ xs) (suc q) ne = omega (arith, within xs q ne)
-
--- what `number_or` gives, for `grind`
-or-tells : (n other : ℕ) → ((n ≡ 0) × (number_or n other ≡ other)) ⊎ ((n ≢ 0) × (number_or n other ≡ n))
-or-tells zero other = inl (refl, refl)
-or-tells (suc n) other = inr (λ e. omega (arith, e), refl)
 
 -- ---- how many cells are taken
 
@@ -75,7 +70,7 @@ cells-empty homes len keys numbers k n l few =
 -- no cell has a number for the key
 pub none-below : (keys numbers : List ℕ) (n k : ℕ) → ((q : ℕ) → get_or numbers q 0 ≢ 0 → get_or keys q 0 ≢ k) → number_below keys numbers n k ≡ 0
 none-below keys numbers zero k h = refl
-none-below keys numbers (suc n) k h = grind (arith, nat_tests, none-below keys numbers n k h, or-tells)
+none-below keys numbers (suc n) k h = grind (arith, nat_tests, none-below keys numbers n k h)
 
 -- a cell has it, and no other cell has the key
 pub one-below : (keys numbers : List ℕ) (n k p : ℕ) → p < n → get_or numbers p 0 ≢ 0 → get_or keys p 0 ≡ k
@@ -84,7 +79,7 @@ one-below keys numbers zero k p lt some there once = absurd (omega (arith, lt))
 one-below keys numbers (suc n) k p lt some there once =
     let rest : p < n → number_below keys numbers n k ≡ get_or numbers p 0 =
     λ l. one-below keys numbers n k p l some there once in
-    grind (arith, nat_tests, or-tells, rest, once n, some, there, lt, cases_eq p n)
+    grind (arith, nat_tests, rest, once n, some, there, lt, cases_eq p n)
 
 -- two tables whose cells have the same number for the key
 same-below : (keys numbers keys2 numbers2 : List ℕ) (n k : ℕ) → ((q : ℕ) → number_at keys2 numbers2 q k ≡ number_at keys numbers q k)
@@ -92,18 +87,11 @@ same-below : (keys numbers keys2 numbers2 : List ℕ) (n k : ℕ) → ((q : ℕ)
 same-below keys numbers keys2 numbers2 zero k h = refl
 same-below keys numbers keys2 numbers2 (suc n) k h = λ i. number_or (h n i) (same-below keys numbers keys2 numbers2 n k h i)
 
-pub or-assoc : (a b c : ℕ) → number_or a (number_or b c) ≡ number_or (number_or a b) c
-or-assoc zero b c = refl
-or-assoc (suc a) b c = refl
-
-pub chosen : (b : Bool) (n other : ℕ) → n ≢ 0 → cond b n other ≡ number_or (cond b n 0) other
-chosen b n other ne = grind (arith, or-tells, ne)
-
 -- a cell more was moved to another table
 pub moved-on : (keys numbers : List ℕ) (p k key n new old rest : ℕ) → key ≡ get_or keys p 0 → n ≡ get_or numbers p 0
     → new ≡ number_or (cond (eqb key k) n 0) old → old ≡ number_or (number_below keys numbers p k) rest
     → new ≡ number_or (number_below keys numbers (p + 1) k) rest
-moved-on keys numbers p k key n new old rest its number is before = grind (arith, nat_tests, before, or-assoc)
+moved-on keys numbers p k key n new old rest its number is before = grind (arith, nat_tests, before)
 
 -- ---- where a search ends
 
@@ -112,20 +100,10 @@ pub record IsSearched (homes : ℕ) (keys numbers : List ℕ) (key end place : �
   pub ends : end ≡ min (length keys) (home homes key + WINDOW)
   pub found : IsPlace keys numbers (home homes key) end key place
 
-pub searched : (homes : ℕ) (keys numbers ks ns : List ℕ) (key from end place len : ℕ) → ks ≡ keys → ns ≡ numbers → len ≡ length keys
-    → from ≡ home homes key → end ≡ min len (from + WINDOW) → IsPlace ks ns from end key place → IsSearched homes keys numbers key end place
-searched homes keys numbers ks ns key from end place len k n l h e f = grind (arith, nat_tests, f)
-
 module _ (homes : ℕ) (keys numbers : List ℕ) (key end place : ℕ) (t : IsTable homes keys numbers) (s : IsSearched homes keys numbers key end place) where
-  f : IsPlace keys numbers (home homes key) end key place
-  f = s.found
-
-  least : (q : ℕ) → q < length keys → q < home homes key + WINDOW → q < end
-  least q in_it near = subst (λ x. q < x) (sym s.ends) (le-min in_it near)
-
   -- the key is in no cell, where the search ended at an empty one or at the end
   pub absent : (place < end → get_or numbers place 0 ≡ 0) → (q : ℕ) → get_or numbers q 0 ≢ 0 → get_or keys q 0 ≢ key
-  absent empty q ne e = grind (arith, nat_tests, least, within numbers q ne, cases_lt q place, cases_eq q place)
+  absent empty q ne e = grind (arith, nat_tests, within numbers q ne, cases_lt q place, cases_eq q place)
 
 -- ---- a key is put where the search ended
 
@@ -149,9 +127,6 @@ module _ (homes : ℕ) (keys numbers : List ℕ) (key number end place : ℕ) (t
   its-number : get_or (set numbers place number) place 0 ≡ number
   its-number = get_or-set_same numbers place number 0 (omega (arith, here, long, t.each))
 
-  other-key : (q : ℕ) → q ≢ place → get_or (set keys place key) q 0 ≡ get_or keys q 0
-  other-key q ne = get_or-set_other keys place q key 0 ne
-
   other-number : (q : ℕ) → q ≢ place → get_or (set numbers place number) q 0 ≡ get_or numbers q 0
   other-number q ne = get_or-set_other numbers place q number 0 ne
 
@@ -171,15 +146,10 @@ module _ (homes : ℕ) (keys numbers : List ℕ) (key number end place : ℕ) (t
     old : q ≢ place → get_or (set keys place key) q 0 ≡ get_or keys q 0 → get_or numbers q 0 ≢ 0 → Was q
 
   was : (q : ℕ) → get_or (set numbers place number) q 0 ≢ 0 → Was q
-  was q ne = grind (arith, nat_tests, cases_eq q place, its-key, other-key, other-number)
-
-  behind2 : (q : ℕ) → Was q → home homes (get_or (set keys place key) q 0) ≤ q
-  behind2 q (its same k) = subst (λ x. home homes x ≤ q) (sym k) (subst (λ x. home homes key ≤ x) (sym same) (g.behind here))
-  behind2 q (old other k ne) = subst (λ x. home homes x ≤ q) (sym k) (t.behind q ne)
+  was q ne = grind (arith, nat_tests, cases_eq q place, its-key, get_or-set_other, other-number)
 
   near2 : (q : ℕ) → Was q → q < home homes (get_or (set keys place key) q 0) + WINDOW
-  near2 q (its same k) = subst (λ x. q < home homes x + WINDOW) (sym k) (omega (arith, same, here, near))
-  near2 q (old other k ne) = subst (λ x. q < home homes x + WINDOW) (sym k) (t.near q ne)
+  near2 q v = grind (arith, nat_tests, near)
 
   joined2 : (q r : ℕ) → number ≢ 0 → Was q → home homes (get_or (set keys place key) q 0) ≤ r → r < q → get_or (set numbers place number) r 0 ≢ 0
   joined2 q r some (its same k) from less =
@@ -188,16 +158,13 @@ module _ (homes : ℕ) (keys numbers : List ℕ) (key number end place : ℕ) (t
       taken-still r some (t.joined q r ne (subst (λ x. home homes x ≤ r) k from) less)
 
   once2 : (q r : ℕ) → Was q → Was r → get_or (set keys place key) q 0 ≡ get_or (set keys place key) r 0 → q ≡ r
-  once2 q r (its a k) (its b l) e = a ∙ sym b
-  once2 q r (its a k) (old b l ne) e = a ∙ sym (alone r ne (sym l ∙ sym e ∙ k))
-  once2 q r (old a k ne) (its b l) e = alone q ne (sym k ∙ e ∙ l) ∙ sym b
-  once2 q r (old a k ne) (old b l ne2) e = t.once q r ne ne2 (sym k ∙ e ∙ l)
+  once2 q r v w e = grind (arith, nat_tests, alone)
 
   pub put-table : number ≢ 0 → IsTable homes (set keys place key) (set numbers place number)
-  put-table some = grind (arith, nat_tests, length-set, behind2, was, near, near2, joined2, once2)
+  put-table some = grind (arith, nat_tests, length-set, was, near, near2, joined2, once2)
 
   at-other : (k : ℕ) → eqb key k ≡ false → (q : ℕ) → number_at (set keys place key) (set numbers place number) q k ≡ number_at keys numbers q k
-  at-other k apart q = grind (arith, nat_tests, its-key, its-number, other-key q, other-number q, cases_eq q place)
+  at-other k apart q = grind (arith, nat_tests, its-key, its-number, get_or-set_other, other-number q, cases_eq q place)
 
   pub put-updates : number ≢ 0 → (k : ℕ) → number_below (set keys place key) (set numbers place number) (length (set keys place key)) k
       ≡ cond (eqb key k) number (number_below keys numbers (length keys) k)

@@ -1,9 +1,9 @@
 -- A pass over a trace that notes the uses of its keys, from its end or from its start.
 use Rattle.std.proofs.Math.ListN.{length-set}
-use Rattle.std.proofs.Common.{◌≡◌, ◌≢◌, ℕ, suc, ◌+◌, ◌-◌, ◌<◌, Bool, true, false, cond, eqb, nat_eq, Option, Some, List, length, set, get_or, ap, ◌∙◌, sym, refl, arith, get_or-set_other, get_or-set_same}
+use Rattle.std.proofs.Common.{◌≡◌, ◌≢◌, ℕ, suc, ◌+◌, ◌-◌, ◌<◌, Bool, cond, eqb, nat_eq, Option, Some, List, length, set, get_or, ap, ◌∙◌, sym, arith, get_or-set_other, get_or-set_same}
 use Rattle.std.proofs.lemmas.Bool.{cases_eq}
 use Rattle.std.proofs.lemmas.Bool.Decides.{nat_tests}
-use Rattle.trace_index.specs.Uses.{next_from, next, last_below, number_of}
+use Rattle.trace_index.specs.Uses.{next_from, last_below, number_of}
 use Rattle.trace_index.proofs.Uses.{next-step}
 
 -- ---- the list of numbers
@@ -18,8 +18,7 @@ set-place P rs place r lt p i other = grind (arith, nat_tests, cases_eq i place,
 -- ---- the numbers of the keys
 
 numbered : (b : Bool) (p : ℕ) (o : Option ℕ) → cond b (suc p) (number_of o) ≡ number_of (cond b (Some p) o)
-numbered true p o = refl
-numbered false p o = refl
+numbered v p o = grind (arith, nat_tests)
 
 pub next-back : (t : List ℕ) (len back k key v w : ℕ) → len ≡ length t → back < len → key ≡ get_or t (len - 1 - back) 0 → v ≡ cond (nat_eq key k) (suc (len - 1 - back)) w → w ≡ number_of (next_from t (len - back) k) → v ≡ number_of (next_from t (len - (back + 1)) k)
 next-back t len back k key v w l b e h g =
@@ -28,9 +27,6 @@ next-back t len back k key v w l b e h g =
     let flip : nat_eq key k ≡ eqb k (get_or t (len - 1 - back) 0) = rw (← e) (grind (arith, nat_tests)) in
     let in_it : len - 1 - back < length t = omega arith in
     rw (h, here, flip, g, after) (numbered (eqb k (get_or t (len - 1 - back) 0)) (len - 1 - back) (next_from t (suc (len - 1 - back)) k) ∙ ap number_of (sym (next-step t (len - 1 - back) k in_it)))
-
-pub number-back : (t : List ℕ) (len back key r : ℕ) → back < len → key ≡ get_or t (len - 1 - back) 0 → r ≡ number_of (next_from t (len - back) key) → r ≡ number_of (next t (len - 1 - back) (get_or t (len - 1 - back) 0))
-number-back t len back key r b e h = let after : len - back ≡ suc (len - 1 - back) = omega arith in h ∙ rw (after, e) refl
 
 pub last-onward : (t : List ℕ) (place k key v w : ℕ) → key ≡ get_or t place 0 → v ≡ cond (nat_eq key k) (suc place) w → w ≡ number_of (last_below t place k) → v ≡ number_of (last_below t (place + 1) k)
 last-onward t place k key v w e h g = search (arith, numbered (eqb k (get_or t place 0)) place (last_below t place k))

@@ -15,9 +15,6 @@ next-other t i x h e = next-step t i x h ∙ rw e refl
 
 -- ---- where a use is
 
-unsome : (a b : ℕ) → Some a ≡ Some b → a ≡ b
-unsome a b h = cc (h)
-
 record IsPlaced (n : ℕ) (k : ℕ) (xs : List ℕ) (m : ℕ) : Type 0 where
   pub from : n ≤ m
   pub to : m < n + length xs
@@ -28,7 +25,7 @@ placed n k m [] h = absurd (cc (h))
 placed n k m (a ∷ xs) h =
     elim (cases_Bool (eqb k a)) [
       | inl e ↦
-          let same : n ≡ m = unsome n m (rw e at h) in
+          let same : n ≡ m = (cc (rw e at h)) in
           let key : k ≡ a = eqb-true k a e in
           let none : m - n ≡ 0 = omega arith in
           record { from = omega arith; to = omega arith; there = rw none (sym key) }

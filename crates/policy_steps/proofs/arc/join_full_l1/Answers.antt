@@ -12,7 +12,7 @@ renew_oldest-requires-clause-absent g c = search (arith, absent-left, leaver-low
 
 pub returns-then-len-capacity : goal.returns-then-len-capacity
 returns-then-len-capacity g c =
-        rw (lt-ltb (length (queues c.args.table.now T1)) c.args.capacity (omega (arith, c.len.ensures, c.if-len-capacity.true)))
+    rw (lt-ltb (length (queues c.args.table.now T1)) c.args.capacity (omega (arith, c.len.ensures, c.if-len-capacity.true)))
     (c.missed.ensures record { first = replaced false c.args.target (queues c.args.table.now); second = leaving B1 None } (goes T1 0) (item_of c.args.key) _ _ _
     record {
       between = queues c.replace-first.new.table;

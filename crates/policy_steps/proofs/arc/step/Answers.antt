@@ -4,7 +4,6 @@ use Rattle.queue_table.specs.QueueTable.{queues}
 use Rattle.queue_moves.specs.Moves.{item_of, goes}
 use Rattle.policy_steps.specs.Arc.{T2, plan_at}
 use Rattle.policy_steps.proofs.Steps.{found-accessed}
-use Rattle.policy_steps.proofs.ArcPlan.{ghost-plan}
 use Rattle.policy_steps.proofs.arc.step.Goals.{then-in_b2, else-in_b2}
 use Rattle.policy_steps.proofs.arc.step.Goals as goal
 
@@ -15,4 +14,4 @@ returns-then-is_resident-clause-accessed g c =
     (rw (sym c.is_resident.ensures ∙ c.if-is_resident.true) (c.hit.ensures (goes T2 0) (item_of c.args.key) s _ c.send.ensures.own))
 
 pub returns-clause-accessed : goal.returns-clause-accessed
-returns-clause-accessed g c = search (arith, found-accessed, ghost-plan, ne_eqb)
+returns-clause-accessed g c = search (arith, found-accessed, ne_eqb)

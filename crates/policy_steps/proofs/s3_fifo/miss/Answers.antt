@@ -6,7 +6,7 @@ use Rattle.queue_table.specs.QueueTable.{queues}
 use Rattle.queue_moves.specs.Moves.{item_of, goes}
 use Rattle.policy_steps.specs.S3Fifo.{Run, SMALL, MAIN, GHOST}
 use Rattle.policy_steps.proofs.Coming.{outside-ran}
-use Rattle.policy_steps.proofs.S3FifoMoves.{resident-count, main-few, full-planned}
+use Rattle.policy_steps.proofs.S3FifoMoves.{resident-count, main-few}
 use Rattle.policy_steps.proofs.s3_fifo.miss.Goals as goal
 
 pub overflow_add-len : goal.overflow_add-len
@@ -31,4 +31,4 @@ evict-requires-clause-outside g c =
     outside-ran c.args.remembered c.args.found (item_of c.args.key) c.run-early.result SMALL MAIN GHOST _ _ (ap (λ (r : Run). r.from) early.run) early.made early.spare early.others c.requires.outside
 
 pub returns : goal.returns
-returns g c = grind (arith, nat_tests, le-ltb, full-planned)
+returns g c = grind (arith, nat_tests, le-ltb)

@@ -7,7 +7,7 @@ use Rattle.queue_table.proofs.links.place_of_slot.Goals as goal
 
 pub bounds-slots-at : goal.bounds-slots-at
 bounds-slots-at c =
-        let w = used-within c.args.slots.now (order_of c.args.slots.now) c.requires.queued c.args.at c.requires.used in
+    let w = used-within c.args.slots.now (order_of c.args.slots.now) c.requires.queued c.args.at c.requires.used in
     omega (arith, length-map c.args.slots.now (λ (s : Slot). s.newer), w)
 
 pub item_of-requires : goal.item_of-requires

@@ -17,7 +17,7 @@ twice bits = ap (λ k. 2 ^ k) (let c : bits + 1 ≡ 1 + bits = omega arith in c)
 enough : (items last zeros bits : ℕ) → last ≡ (items + 4294967295) % 4294967296 → zeros ≡ count_leading_zeros 32 last
     → bits ≡ (33 + (4294967296 - zeros)) % 4294967296 → 1 ≤ items → items < 4294967296 → IsEnough items bits
 enough items last zeros bits l z b some fits =
-        let short : last < 2 ^ 32 = omega arith in
+    let short : last < 2 ^ 32 = omega arith in
     let found = leading_length 32 last short in
     let few : zeros + found.0 ≡ 32 = ap (λ n. n + found.0) z ∙ found.1 in
     let up : bits ≡ found.0 + 1 = omega (arith, few) in

@@ -2,7 +2,6 @@ use Rattle.std.proofs.lemmas.Bool.Decides.{nat_tests}
 use Rattle.std.proofs.Common.{arith}
 use Rattle.replacement.proofs.Carrying.{plan-undone}
 use Rattle.replacement.proofs.Counting.{distinct-moved}
-use Rattle.replacement.proofs.Oldest.{renewed-first}
 use Rattle.replacement.proofs.hits.hit.Goals as goal
 
 pub settle-last-requires : goal.settle-last-requires
@@ -15,4 +14,4 @@ pub returns-clause-undoes : goal.returns-clause-undoes
 returns-clause-undoes c = search (arith, returns-clause-record c, plan-undone)
 
 pub returns-clause-keepable : goal.returns-clause-keepable
-returns-clause-keepable c = grind (arith, nat_tests, renewed-first)
+returns-clause-keepable c = grind (arith, nat_tests)

@@ -2,7 +2,6 @@ use Rattle.std.proofs.lemmas.Bool.Decides.{nat_tests}
 use Rattle.std.proofs.Common.{arith, option_map}
 use Rattle.replacement.specs.Admission.{admits_in}
 use Rattle.replacement.proofs.Served.{joined-effect}
-use Rattle.replacement.proofs.Oldest.{joined-first}
 use Rattle.replacement.proofs.misses.windowed.Goals as goal
 
 pub returns-clause-effect : goal.returns-clause-effect
@@ -11,4 +10,4 @@ returns-clause-effect g c =
     (joined-effect c.args.rules.now (admits_in (option_map (λ f. f.now) c.args.frequency)) c.args.item c.args.segments.now.lists c.join-first.new.segments.lists c.evict_planned-effect.new.segments.lists c.evict_planned-effect.result c.join-first.ensures.lists c.evict_planned-effect.ensures.effect)
 
 pub returns-clause-keepable : goal.returns-clause-keepable
-returns-clause-keepable g c = grind (arith, nat_tests, joined-first)
+returns-clause-keepable g c = grind (arith, nat_tests)

@@ -4,7 +4,7 @@ use Rattle.std.proofs.Common.{arith, ◌∙◌, Some, ap, sym}
 use Rattle.segments.specs.Queues.{queues_without}
 use Rattle.segments.specs.Moves.{move_record}
 use Rattle.segments.proofs.QueueLists.{pushed-moved, still-absent, taken-first}
-use Rattle.replacement.proofs.Oldest.{dropped-oldest, joined-oldest}
+use Rattle.replacement.proofs.Oldest.{joined-oldest}
 use Rattle.replacement.proofs.queue_moves.renew_oldest.Goals as goal
 
 pub returns-clause-lists : goal.returns-clause-lists
@@ -14,7 +14,7 @@ pub returns-clause-put : goal.returns-clause-put
 returns-clause-put c = grind (arith, nat_tests, taken-first)
 
 pub returns-clause-drop : goal.returns-clause-drop
-returns-clause-drop c = grind (arith, common_steps, dropped-oldest)
+returns-clause-drop c = grind (arith, common_steps)
 
 pub returns-clause-oldest : goal.returns-clause-oldest
 returns-clause-oldest c =

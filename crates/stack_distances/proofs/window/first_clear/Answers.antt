@@ -1,7 +1,9 @@
 use Rattle.std.proofs.lemmas.Bool.Decides.{nat_tests}
 use Rattle.std.proofs.Common.{refl, arith}
-use Rattle.stack_distances.proofs.Clear.{found, none-found, none-past}
+use Rattle.stack_distances.proofs.Clear.{found, none-found}
 use Rattle.stack_distances.proofs.window.first_clear.Goals as goal
+use Rattle.std.proofs.lemmas.List.{get_or_past}
+use Rattle.std.proofs.lemmas.Nat.Bits.{bit_at-zero}
 
 pub returns-then-clear-ne0 : goal.returns-then-clear-ne0
 returns-then-clear-ne0 c =
@@ -15,4 +17,4 @@ words-preserved c = (
 )
 
 pub returns : goal.returns
-returns c = grind (arith, nat_tests, none-past c.args.words.now c.words.at (omega (arith, c.words-test.false)))
+returns c = grind (arith, nat_tests, get_or_past, bit_at-zero)

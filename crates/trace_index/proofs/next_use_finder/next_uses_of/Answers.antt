@@ -1,8 +1,8 @@
 use Rattle.std.proofs.lemmas.Grind.{common_steps}
-use Rattle.std.proofs.Common.{◌≡◌, ◌-◌, ◌<◌, get_or, ◌∙◌, arith}
+use Rattle.std.proofs.Common.{◌≡◌, ◌-◌, ◌<◌, get_or, ◌∙◌, arith, refl, suc}
 use Rattle.trace_index.specs.PackedKeys.{unpacked}
 use Rattle.trace_index.specs.Uses.{next, next_from, number_of}
-use Rattle.trace_index.proofs.Passes.{next-back, number-back, set-place, set-long}
+use Rattle.trace_index.proofs.Passes.{next-back, set-place, set-long}
 use Rattle.trace_index.proofs.next_use_finder.next_uses_of.Goals as goal
 
 pub loop-back-preserved : goal.loop-back-preserved
@@ -20,7 +20,7 @@ loop-back-preserved c =
       long = set-long c.loop-back.after.items _ _ len inv.long;
       following = λ k. next-back t len back k key _ _ inv.len lt c.get.ensures (c.in_ok-next.ensures.updates k) (inv.following k);
       right = λ i from to. set-place (λ i v. v ≡ number_of (next t i (get_or t i 0))) c.loop-back.after.items (len - 1 - back) c.in_ok-next.next (omega (arith, inv.long, lt))
-          (number-back t len back key c.in_ok-next.next lt c.get.ensures found) i
+          (let after : len - back ≡ suc (len - 1 - back) = omega arith in found ∙ rw (after, c.get.ensures) refl) i
           (λ ne. inv.right i (omega (arith, from, to, ne)) to);
     }
 

@@ -1,7 +1,7 @@
 use Rattle.std.proofs.lemmas.Bool.Decides.{nat_tests}
 use Rattle.std.proofs.Common.{◌∙◌, sym, subst, arith}
 use Rattle.queue_table.specs.QueueTable.{HoldsAt}
-use Rattle.queue_moves.proofs.Runs.{runs-on, run-ends, no-due, none-left-due}
+use Rattle.queue_moves.proofs.Runs.{runs-on, run-ends, no-due}
 use Rattle.queue_moves.proofs.key_queues.KeyQueues.run.Goals as goal
 
 pub loop-times-preserved : goal.loop-times-preserved
@@ -12,7 +12,7 @@ loop-times-preserved c =
     )
 
 pub returns-after-loop-times-clause-made : goal.returns-after-loop-times-clause-made
-returns-after-loop-times-clause-made c = grind (arith, nat_tests, run-ends, none-left-due)
+returns-after-loop-times-clause-made c = grind (arith, nat_tests, run-ends)
 
 pub returns-after-loop-times-clause-others : goal.returns-after-loop-times-clause-others
 returns-after-loop-times-clause-others c j e h z = (c.loop-times.invariant.1.1 j e h z).0

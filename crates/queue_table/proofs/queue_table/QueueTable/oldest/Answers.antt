@@ -4,7 +4,7 @@ use Rattle.queue_table.specs.Ring.{Slot, entries, slot_entry, order_of, first_of
 use Rattle.queue_table.specs.QueueTable.{entry_at, IsKept, IsUsed}
 use Rattle.queue_table.proofs.Orders.{section-used}
 use Rattle.queue_table.proofs.Calls.{slot-within}
-use Rattle.queue_table.proofs.Ends.{first-stands, first-entry}
+use Rattle.queue_table.proofs.Ends.{first-stands}
 use Rattle.queue_table.proofs.Kept.{has-items}
 use Rattle.queue_table.proofs.queue_table.QueueTable.oldest.Goals as goal
 use Rattle.queue_table.proofs.queue_table.QueueTable.oldest.Goals.{After-deref, After-oldest_slot-at, After-entry_of}
@@ -37,4 +37,4 @@ pub returns-clause-entry : goal.returns-clause-entry
 returns-clause-entry c = entry-there (goal.at.returns-clause-entry c).After-entry_of
 
 pub returns-clause-first : goal.returns-clause-first
-returns-clause-first c = grind (arith, nat_tests, first-entry, end-there, entry-there)
+returns-clause-first c = grind (arith, nat_tests, end-there, entry-there)

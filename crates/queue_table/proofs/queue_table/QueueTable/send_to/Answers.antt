@@ -3,11 +3,11 @@ use Rattle.queue_table.specs.Entries.{IsGap}
 use Rattle.queue_table.specs.Queues.{Queues}
 use Rattle.queue_table.specs.Ring.{entries, order_of, order_without}
 use Rattle.queue_table.specs.QueueTable.{IsBehind}
-use Rattle.queue_table.proofs.Calls.{used-lists}
 use Rattle.queue_table.proofs.Cutting.{behind-place}
 use Rattle.queue_table.proofs.Kept.{some-used, used-slot}
 use Rattle.queue_table.proofs.queue_table.QueueTable.send_to.Goals as goal
 use Rattle.queue_table.proofs.queue_table.QueueTable.send_to.Goals.{After-slot_at_place-before}
+use Rattle.queue_table.proofs.Contents.{taken-order}
 
 pub slot_at_place-before-requires-clause-some : goal.slot_at_place-before-requires-clause-some
 slot_at_place-before-requires-clause-some c = some-used c.args.self.now c.args.at c.requires.used
@@ -17,7 +17,7 @@ behind : (c : goal.After-slot_at_place-before) → IsBehind c.slot_at_place-befo
 behind c =
     let h = c.slot_at_place-before.ensures.queued in
     let r = (used-slot c.args.self.now c.args.at h c.requires.used).0 in
-    let out = used-lists c.args.self.now (order_of c.args.self.now) h c.args.at c.requires.used in
+    let out = (taken-order (order_of c.args.self.now) (entries c.args.self.now) c.args.at h.short h.distinct c.requires.used) in
     c.slot_at_place-before.ensures.behind (λ z. omega (arith, z, r, c.requires.queue)) (subst (λ (s : Queues). IsGap c.args.place.older (s c.args.place.queue)) out c.requires.gap)
 
 pub shift-requires-clause-place : goal.shift-requires-clause-place

@@ -5,7 +5,7 @@ use Rattle.queue_table.specs.Queues as ByNumber
 use Rattle.queue_table.specs.QueueTable.{queues}
 use Rattle.segments.specs.Moves.{room_needed}
 use Rattle.segments.proofs.QueueLists.{needs-room}
-use Rattle.segments.proofs.Calls.{IsUndone, missing-is, gap-without, put-back, room-after}
+use Rattle.segments.proofs.Calls.{IsUndone, missing-is, gap-without, put-back}
 use Rattle.segments.proofs.segments.Segments.put_back.Goals as goal
 use Rattle.segments.proofs.segments.Segments.put_back.Goals.{After-entry_for, After-put_back}
 
@@ -33,4 +33,4 @@ pub returns-clause-lists : goal.returns-clause-lists
 returns-clause-lists c = (undone (goal.at.returns-clause-lists c).After-put_back).lists
 
 pub returns-clause-spare : goal.returns-clause-spare
-returns-clause-spare c = grind (arith, nat_tests, room-after, one (goal.at.returns-clause-spare c).After-entry_for)
+returns-clause-spare c = grind (arith, nat_tests, one (goal.at.returns-clause-spare c).After-entry_for)

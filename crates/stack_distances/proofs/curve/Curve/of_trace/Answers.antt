@@ -1,9 +1,10 @@
 use Rattle.std.proofs.lemmas.Bool.Decides.{nat_tests}
 use Rattle.std.proofs.Common.{◌≡◌, ◌+◌, ◌<◌, suc, length, get_or, ap, arith}
-use Rattle.std.proofs.lemmas.List.{get_or_read}
+use Rattle.std.proofs.lemmas.List.{get_or_read, take_all}
 use Rattle.stack_distances.proofs.Noted.{may-count}
-use Rattle.stack_distances.proofs.Reading.{IsSummed, passed-summed, next-sum, sum-small, more-summed, curve-summed}
+use Rattle.stack_distances.proofs.Reading.{IsSummed, sum-small, more-summed, curve-summed}
 use Rattle.stack_distances.proofs.curve.Curve.of_trace.Goals as goal
+use Rattle.stack_distances.proofs.Prefix.{no-hits, within-more}
 
 pub into_counts-hits-requires : goal.into_counts-hits-requires
 into_counts-hits-requires c = let inv = c.loop-place.invariant in may-count c.keys-keys.result.now c.loop-place.place c.loop-place.histogram inv.few inv.counted
@@ -12,7 +13,7 @@ pub loop-c-init : goal.loop-c-init
 loop-c-init c =
     let inv = c.loop-place.invariant in
     let hits = c.into_counts-hits.result.items in
-    let summed : IsSummed c.args.trace.now hits 0 0 = passed-summed c.keys-keys.result.now c.args.trace.now hits c.loop-place.place c.loop-place.histogram (omega arith) inv.same c.into_counts-hits.ensures.len c.into_counts-hits.ensures.counts inv.counted in
+    let summed : IsSummed c.args.trace.now hits 0 0 = (grind (arith, nat_tests, take_all c.loop-place.place c.keys-keys.result.now (omega arith), no-hits c.args.trace.now)) in
     grind (arith, nat_tests)
 
 pub overflow_add-sum : goal.overflow_add-sum
@@ -20,7 +21,7 @@ overflow_add-sum c =
     let inv = c.loop-c.invariant in
     let hits = c.loop-c.hits.items in
     let in_it : c.loop-c.c < length hits = omega (arith, inv.end, inv.summed.long) in
-    omega (arith, get_or_read hits _ _ in_it c.index.ensures 0, next-sum c.args.trace.now hits c.loop-c.sum c.loop-c.c inv.summed, sum-small c.args.trace.now (suc c.loop-c.c), ap length inv.same, inv.few)
+    omega (arith, get_or_read hits _ _ in_it c.index.ensures 0, within-more, sum-small c.args.trace.now (suc c.loop-c.c), ap length inv.same, inv.few)
 
 pub loop-c-preserved : goal.loop-c-preserved
 loop-c-preserved c =

@@ -4,9 +4,10 @@ use Rattle.std.specs.Vec.{with_items}
 use Rattle.std.proofs.lemmas.List.{with_items_is}
 use Rattle.step_record.specs.Bits.{bit_of}
 use Rattle.trace_index.specs.Uses.{last_below, number_of}
-use Rattle.stack_distances.proofs.Windows.{hit-window, filled-window, moved-window, oldest-low, came-below, hits-small}
+use Rattle.stack_distances.proofs.Windows.{hit-window, filled-window, moved-window, oldest-low, hits-small}
 use Rattle.stack_distances.proofs.reuses.Reuses.access.Goals as goal
 use Rattle.stack_distances.proofs.reuses.Reuses.access.Goals.{After-number-before}
+use Rattle.stack_distances.proofs.Places.{last-low}
 
 noted : (c : After-number-before) → c.number-before.result ≡ number_of (last_below c.args.self.now c.args.place (get_or c.args.self.now c.args.place 0))
 noted c = c.number-before.ensures ∙ ap (λ t. number_of (last_below t c.args.place (get_or t c.args.place 0))) c.self.view_is
@@ -15,7 +16,7 @@ pub overflow_add-window : goal.overflow_add-window
 overflow_add-window c = grind (arith, nat_tests, hits-small, noted (goal.at.overflow_add-window c).After-number-before)
 
 pub set-requires : goal.set-requires
-set-requires c = grind (arith, nat_tests, came-below, noted)
+set-requires c = grind (arith, nat_tests, last-low, noted)
 
 pub returns-then-before-window-clause-window : goal.returns-then-before-window-clause-window
 returns-then-before-window-clause-window c =

@@ -5,12 +5,12 @@ use Rattle.std.proofs.lemmas.Grind.{get_or_default_zero}
 use mir.Val.{bool_byte}
 use Rattle.std.proofs.lemmas.List.{length-set}
 use Rattle.trace_index.specs.KeyCells.{number_among, homes_among, AreCells}
-use Rattle.trace_index.proofs.KeyCells.{IsSearched, searched, none-below, absent, before, put-table, put-updates, in-numbers, taken-after, count-fits}
+use Rattle.trace_index.proofs.KeyCells.{IsSearched, none-below, absent, before, put-table, put-updates, in-numbers, taken-after, count-fits}
 use Rattle.trace_index.proofs.key_cells.KeyCells.put.Goals as goal
 use Rattle.trace_index.proofs.key_cells.KeyCells.put.Goals.{After-search-place, After-replace-before}
 
 found : (c : goal.After-search-place) → IsSearched c.self.inside.homes c.self.inside.keys.items c.self.inside.numbers.items c.args.key c.min-end.result c.search-place.result
-found c = grind (arith, nat_tests, searched)
+found c = grind (arith, nat_tests)
 
 -- the cell that was found, and what it had
 abbrev IsFound : goal.After-replace-before → Type 0
