@@ -1,7 +1,7 @@
 -- An access as the fields show it, that its record fits, and that it undoes the access.
-use Rattle.std.proofs.Common.{◌≡◌, ℕ, ◌≤◌, Bool, Option, None, ap, refl, arith}
+use Rattle.std.proofs.Common.{◌≡◌, ℕ, ◌≤◌, Bool, Option, None, ap, refl, arith, ◌≢◌, Some, Ok, ◌∙◌, sym}
 use Rattle.std.proofs.lemmas.Bool.Decides.{nat_tests}
-use Rattle.step_record.specs.Stats.{is_hit}
+use Rattle.step_record.specs.Stats.{is_hit, stats_with}
 use Rattle.segments.specs.Queues.{Queues, IsDistinct}
 use Rattle.replacement.specs.declared.record.Moves.{Moves}
 use Rattle.replacement.specs.Plan.{Outcome, Item, plan}
@@ -12,11 +12,22 @@ use Rattle.replacement.proofs.Carrying.{plan-undone}
 use Rattle.replacement.proofs.Planned.{accesses_planned}
 use Rattle.adaptive_window.specs.declared.window_record.SizeChange.{SizeChange}
 use Rattle.adaptive_window.specs.declared.window_record.WindowRecord.{WindowRecord}
-use Rattle.adaptive_window.specs.Climber.{Climber, ClimbRules, climber_after, period_record, FitsClimber}
+use Rattle.adaptive_window.specs.Climber.{Climber, ClimbRules, climber_after, period_record, caffeine_rules, first_window}
 use Rattle.adaptive_window.specs.AdaptiveWindow.{Rules, AdaptiveState, rules_at, size_towards, adjustment_plan, response_of, adaptive_act, IsAdaptive}
 use Rattle.adaptive_window.specs.WindowRecord.{size_change, size_before, window_record_of, window_undone, WindowFits}
-use Rattle.adaptive_window.specs.Theorems.{AdaptiveUndoes}
-use Rattle.adaptive_window.proofs.Climbing.{climbed-back}
+use Rattle.adaptive_window.specs.Theorems.{AdaptiveUndoes, IsAdaptiveAccess}
+use Rattle.adaptive_window.proofs.Climbing.{climbed-back, rules_fit}
+use Rattle.step_record.specs.Config.{config_fault}
+use Rattle.segments.specs.Items.{nodeless_item}
+use Rattle.admission.specs.declared.freq_record.FreqRecord.{FreqRecord}
+use Rattle.admission.specs.Frequency.{FrequencyData, frequency_with}
+use Rattle.replacement.specs.Admission.{admits_in}
+use Rattle.adaptive_window.specs.declared.adaptive_cache.AdaptiveRecord.{AdaptiveRecord}
+use Rattle.adaptive_window.specs.AdaptiveCache.{Stats, Config, AdaptiveCacheState, cache_act, cache_record_of, cache_access, response_to}
+use Rattle.replacement.proofs.Residents.{residents-length, resident-queued, resident-once, still-nodeless, queued-from}
+use Rattle.replacement.proofs.Leaving.{hit-keeps, asks-evicts}
+use Rattle.adaptive_window.specs.Residents.{cache_residents, IsServed, IsCache, CacheKeeps, CacheHitsAskNothing, CacheAsksWhereOneLeft}
+use Rattle.adaptive_window.proofs.Keeping.{starts, kept-access, access-is}
 
 -- ---- as the fields show it
 
@@ -42,9 +53,6 @@ module _ (r : ClimbRules) (admits : ℕ → ℕ → Bool) (i : Item) (q : Queues
       record-is = rw (ea, eb, ec, ep, ek, eo, el, er) refl
 
 -- ---- its record
-
-climb-fits : (r : ClimbRules) (hit : Bool) (s : Climber) → FitsClimber (period_record r s) hit (climber_after r hit s)
-climb-fits r hit s = grind (arith, nat_tests)
 
 all-stay : (r : ClimbRules) (target size : ℕ) (s : Queues) → (moves_of (adjustment_plan r target size s) s).out ≡ None
 all-stay r target size s = grind (arith, nat_tests)
@@ -76,9 +84,78 @@ module _ (p : ClimbRules) (admits : ℕ → ℕ → Bool) (i : Item) (s : Adapti
     adjustment = then.fits;
     all_stay = all-stay p climber.target s.size queues;
     access = rw then.undone first.fits;
-    climber = climb-fits p (is_hit (response_of p admits i s).outcome) s.climber;
+    climber = (grind (arith, nat_tests));
     before = rw undone h;
   }
 
 pub undoes : AdaptiveUndoes
 undoes p admits i s h = undone p admits i s h
+
+-- ---- an access of the engine, as the fields show it
+
+-- an accepted configuration has room
+pub has-room : (c : Config) → config_fault c ≡ Ok tt → 1 ≤ c.capacity
+has-room c h = grind (arith, nat_tests)
+
+-- what an accepted access gives
+module _ (r p : ClimbRules) (w v x : AdaptiveState) (f g : FrequencyData) (s z : Stats) (k : ℕ) (o : Outcome)
+    (ep : p ≡ r) (ev : v ≡ w) (eg : g ≡ frequency_with k f) where
+  abbrev before : AdaptiveCacheState
+  before = record { rules = r; window = w; frequency = f; stats = s }
+
+  pub act-is : (q : ClimbRules) → q ≡ p → s.accesses ≢ 4294967296 → o ≡ (adaptive_act p (admits_in (Some g)) (nodeless_item k) v).0
+      → x ≡ (adaptive_act p (admits_in (Some g)) (nodeless_item k) v).1 → z ≡ stats_with o s
+      → cache_act before k ≡ Some (o, record { rules = q; window = x; frequency = g; stats = z })
+  act-is q eq below eo ex ez = grind (arith, nat_tests)
+
+  pub recorded-is : (c : FreqRecord) (m : WindowRecord) → c ≡ (cache_record_of k before).counting
+      → m ≡ window_record_of p (admits_in (Some g)) (nodeless_item k) v
+      → ◌≡◌ {A = AdaptiveRecord} record { counting = c; window = m } (cache_record_of k before)
+  recorded-is c m ec em = rw (ec, em, eg, ep, ev) refl
+
+-- ---- what the cache keeps of its residents
+
+abbrev admitted : ℕ → AdaptiveCacheState → ℕ → ℕ → Bool
+admitted k d = admits_in (Some (frequency_with k d.frequency))
+
+module _ (c k : ℕ) (d : AdaptiveCacheState) (h : IsCache c d) where
+  access-to : IsAdaptiveAccess (nodeless_item k) d.window (response_to k d).0 (response_to k d).1
+  access-to = access-is d.rules h.rules (admitted k d) (nodeless_item k) d.window h.window
+
+  kept : IsCache c (cache_access k d).1
+  kept = record {
+    rules = h.rules;
+    capacity = h.capacity;
+    window = kept-access d.rules h.rules (admitted k d) (nodeless_item k) d.window h.window;
+    nodeless = still-nodeless k d.window.queues (response_to k d).1.queues h.nodeless access-to.came;
+  }
+
+  served : IsServed k (cache_residents d) (cache_access k d).0 (cache_residents (cache_access k d).1)
+  served = record {
+    hits = access-to.hits ∙ sym (resident-queued k d.window.queues h.nodeless);
+    counts =
+        omega (arith, access-to.counts, residents-length d.window.queues, residents-length (response_to k d).1.queues);
+    came = queued-from k d.window.queues (response_to k d).1.queues h.nodeless access-to.came;
+  }
+
+pub cache_keeps : CacheKeeps
+cache_keeps c period ok =
+    let fit = rules_fit c.capacity c.main_percent period (has-room c ok) (grind (arith, nat_tests, ok)) in
+    record {
+      starts = record {
+        rules = fit.0;
+        capacity = refl;
+        window = starts (caffeine_rules c.capacity c.main_percent period) (first_window c.capacity c.main_percent) fit.0 fit.1.0 fit.1.1;
+        nodeless = λ i h. absurd (omega (arith, h));
+      };
+      keeps = λ k d h. kept c.capacity k d h;
+      accesses = λ k d h. served c.capacity k d h;
+      fits = λ d h. (let w = h.window.window in let m = h.window.main in let own = h.capacity in omega (arith, w, m, own, residents-length d.window.queues));
+      distinct = λ d k h. resident-once k d.window.queues h.window.distinct h.nodeless;
+    }
+
+pub hits_ask_nothing : CacheHitsAskNothing
+hits_ask_nothing k d hit asks = grind (arith, nat_tests, hit-keeps)
+
+pub asks_where_one_left : CacheAsksWhereOneLeft
+asks_where_one_left c k d h asks = grind (arith, nat_tests, asks-evicts)

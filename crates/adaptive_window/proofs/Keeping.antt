@@ -8,8 +8,7 @@ use Rattle.step_record.specs.Stats.{is_hit, is_miss, is_eviction, one_if}
 use Rattle.segments.specs.declared.records.Queue.TheVariants.{Window, Probation}
 use Rattle.segments.specs.Items.{Item, occurrences, items_without, oldest_of}
 use Rattle.segments.specs.Queues.{Queues, queues_after_move, total_items, IsDistinct}
-use Rattle.segments.proofs.ItemLists.{length-without}
-use Rattle.segments.proofs.QueueLists.{first-stands}
+use Rattle.segments.proofs.QueueLists.{length-without, first-stands}
 use Rattle.replacement.specs.Counts.{queue_occurrences, main_length}
 use Rattle.replacement.specs.Plan.{Outcome, demotion, transfer}
 use Rattle.replacement.specs.PlanMoves.{queues_after_transfer, queues_after}
@@ -20,7 +19,7 @@ use Rattle.replacement.specs.Resizing.{loan, growth_plan, shrinking_plan}
 use Rattle.adaptive_window.specs.AdaptiveWindow.{AdaptiveState, empty_adaptive, rules_at, size_towards, adjustment_plan, response_of, adaptive_act, IsAdaptive}
 use Rattle.adaptive_window.specs.Theorems.{IsAdaptiveAccess, AdaptiveKeeps, Access, adaptive_state_after, adaptive_outcomes, AdaptiveCounts}
 use Rattle.adaptive_window.proofs.Protected.{none-there, one-less, stays}
-use Rattle.adaptive_window.proofs.Climbing.{climber-starts, climber-kept}
+use Rattle.adaptive_window.proofs.Climbing.{climber-kept}
 
 -- ---- one item moves between two queues
 
@@ -114,13 +113,10 @@ module _ (r : ClimbRules) (fits : r.largest ≤ r.capacity) (size : ℕ) (s : Qu
         let p : ℕ = r.largest - (size + 1) in
         let t : Queues = queues_after_transfer (demotion p s) s in
         let h : IsDemoted p s t = demotes p s d (omega (arith, short)) in
-        let w = h.moved.window in
-        let m = h.moved.main in
         let once : IsDistinct t = λ j. (let a = h.moved.same j in let b = d j in omega (arith, a, b)) in
         let l : IsAdjusted c (size + 1) p t (queues_after_transfer (loan c (size + 1) t) t) =
-        lent c (size + 1) p t once (omega (arith, w, few)) (omega (arith, m, main)) (λ more. h.some (omega (arith, more, fits, room))) h.protected in
-        let all = l.total in
-        record { same = λ j. l.same j ∙ h.moved.same j; total = omega (arith, all, w, m); window = l.window; main = l.main; protected = l.protected }
+        lent c (size + 1) p t once (omega (arith, few)) (omega (arith, main)) (λ more. h.some (omega (arith, more, fits, room))) h.protected in
+        record { same = λ j. l.same j ∙ h.moved.same j; total = omega arith; window = l.window; main = l.main; protected = l.protected }
 
     shrunk : IsAdjusted r.capacity (size - 1) (r.largest - (size - 1)) s (queues_after (shrinking_plan (rules_at r (size - 1)) s) s)
     shrunk = grind (arith, nat_tests, over, adjusted-moved, unmoved, main)
@@ -162,9 +158,6 @@ module _ (r : ClimbRules) (are : AreClimbRules r) (admits : ℕ → ℕ → Bool
   next-settled : IsSettled r are.fits s.size (response_of r admits i s).queues came-back.once h.least came-back.sizes.0 came-back.sizes.1 few-protected next-climber.target
   next-settled = settled r are.fits s.size (response_of r admits i s).queues came-back.once h.least came-back.sizes.0 came-back.sizes.1 few-protected next-climber.target next-kept.target
 
-  next-near : distance next-climber.target (size_towards next-climber.target s.size) ≤ r.capacity - next-climber.accesses
-  next-near = grind (arith, nat_tests, next-settled, next-kept)
-
   pub kept-access : IsAdaptive r (adaptive_act r admits i s).1
   kept-access = record {
     distinct = λ j. (let a = next-settled.queues.same j in let b = came-back.once j in omega (arith, a, b));
@@ -174,7 +167,7 @@ module _ (r : ClimbRules) (are : AreClimbRules r) (admits : ℕ → ℕ → Bool
     least = next-settled.least;
     most = next-settled.most h.most;
     climber = next-kept;
-    near = next-near;
+    near = (grind (arith, nat_tests, next-settled, next-kept));
   }
 
   pub access-is : IsAdaptiveAccess i s (adaptive_act r admits i s).0 (adaptive_act r admits i s).1
@@ -186,7 +179,7 @@ module _ (r : ClimbRules) (are : AreClimbRules r) (admits : ℕ → ℕ → Bool
   }
 
 pub starts : (r : ClimbRules) (size : ℕ) → AreClimbRules r → 1 ≤ size → size ≤ r.largest → IsAdaptive r (empty_adaptive r size)
-starts r size are low high = grind (arith, nat_tests, climber-starts r size are low high)
+starts r size are low high = grind (arith, nat_tests)
 
 pub keeps : AdaptiveKeeps
 keeps r size are low high = grind (arith, nat_tests, starts, starts r size are low high, kept-access, access-is)

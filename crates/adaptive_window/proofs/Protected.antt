@@ -1,14 +1,12 @@
 -- Protected stays within its size in an access by the table of moves.
-use Rattle.std.proofs.Common.{◌≡◌, ℕ, ◌+◌, ◌-◌, ◌<◌, ◌≤◌, Bool, Option, Some, None, List, [], ◌∷◌, length, refl, arith, length-append}
+use Rattle.std.proofs.Common.{◌≡◌, ℕ, ◌+◌, ◌-◌, ◌<◌, ◌≤◌, Bool, Option, Some, None, List, length, refl, arith, length-append}
 use Rattle.std.proofs.lemmas.Bool.Decides.{nat_tests}
 use Rattle.segments.specs.declared.records.Queue.{Queue}
-use Rattle.segments.specs.declared.records.Queue.TheVariants.{Window, Probation}
+use Rattle.segments.specs.declared.records.Queue.TheVariants.{Probation}
 use Rattle.segments.specs.Items.{Item, items_without, oldest_of}
-use Rattle.segments.specs.Queues.{Queues, queue_holding, queues_after_push, IsDistinct}
-use Rattle.segments.proofs.ItemLists.{length-without}
-use Rattle.segments.proofs.MoveLaws.{Stands, in_window, in_probation, in_protected, nowhere, stands}
-use Rattle.segments.proofs.QueueLists.{first-stands}
-use Rattle.replacement.specs.Table.{with_recent, queues_after_demotion, contest, trial_of, eviction, access_in, access}
+use Rattle.segments.specs.Queues.{Queues, queue_holding, IsDistinct}
+use Rattle.segments.proofs.QueueLists.{length-without, Stands, stands, first-stands}
+use Rattle.replacement.specs.Table.{with_recent, queues_after_demotion, trial_of, eviction, access_in, access}
 use Rattle.replacement.proofs.Planned.{access-at}
 use Rattle.adaptive_window.specs.AdaptiveWindow.{ClimbRules, Rules, rules_at}
 
@@ -16,20 +14,14 @@ shorter : (x : Item) (l : List Item) → length (items_without x l) ≤ length l
 shorter x l = omega (arith, length-without x l)
 
 pub none-there : (l : List Item) → oldest_of l ≡ None → length l ≡ 0
-none-there [] h = refl
-none-there (x ∷ l) h = absurd (cc (h))
+none-there v h = grind (arith, nat_tests)
 
 -- its oldest left it
 pub one-less : (x : Item) (l : List Item) → oldest_of l ≡ Some x → length (items_without x l) + 1 ≤ length l
 one-less x l h = let there = first-stands x l h in omega (arith, there, length-without x l)
 
-contested : (admits : ℕ → ℕ → Bool) (x : Item) (o : Option Item) (s : Queues) → length (contest admits x o s).queues.protected ≤ length s.protected
-contested admits x None s = shorter x s.protected
-contested admits x (Some v) s = grind (arith, nat_tests, shorter)
-
 tried : (r : Rules) (admits : ℕ → ℕ → Bool) (o : Option Item) (s : Queues) → length (trial_of r admits o s).queues.protected ≤ length s.protected
-tried r admits None s = omega arith
-tried r admits (Some x) s = grind (arith, nat_tests, shorter x s.protected, contested)
+tried r admits v s = grind (arith, nat_tests, shorter)
 
 evicted : (r : Rules) (admits : ℕ → ℕ → Bool) (s : Queues) → length (eviction r admits s).queues.protected ≤ length s.protected
 evicted r admits s = grind (arith, nat_tests, tried)
@@ -44,10 +36,7 @@ demoted size s few =
 
 module _ (r : ClimbRules) (size : ℕ) (admits : ℕ → ℕ → Bool) (i : Item) (s : Queues) (few : length s.protected ≤ r.largest - size) where
   stays-at : (p : Option Queue) → Stands i s p → length (access_in (rules_at r size) admits i p s).queues.protected ≤ (r.largest - size)
-  stays-at p (in_window a b d) = let less = shorter i s.protected in omega (arith, less, few)
-  stays-at p (in_probation a b d) = grind (arith, nat_tests, shorter, demoted, length-append)
-  stays-at p (in_protected a b d) = omega (arith, d, few, length-without i s.protected, length-append (items_without i s.protected) (i ∷ []))
-  stays-at p (nowhere a b d) = let less = evicted (rules_at r size) admits (queues_after_push Window i s) in omega (arith, less, few)
+  stays-at p v = grind (arith, nat_tests, shorter, demoted, length-append, length-without, evicted)
 
   pub stays : IsDistinct s → length (access (rules_at r size) admits i s).queues.protected ≤ (r.largest - size)
   stays d = rw (access-at (rules_at r size) admits i s (queue_holding i s) refl) (stays-at (queue_holding i s) (stands i s d))

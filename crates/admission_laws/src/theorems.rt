@@ -20,7 +20,7 @@ pub fn estimates_are_bounded()
 {}
 
 /// The estimate of a key that collides with no other in some row, and in one of its bits, is the exact count.
-#[tactic(auto, using(crate::proofs::Alone::exact))]
+#[tactic(auto, using(crate::proofs::Counting::exact))]
 pub fn estimates_are_exact()
     ensures { EstimatesAreExact }
 {}

@@ -12,7 +12,7 @@ use Rattle.clairvoyant.specs.Ranks.{rank, key_at}
 use Rattle.clairvoyant.specs.Belady.{leaves_first, farthest, belady_residents_after, belady_answer, belady_residents}
 use Rattle.clairvoyant.specs.OptimalRecord.{OptimalRecord, use_record_of}
 use Rattle.clairvoyant.proofs.Keys.{has-put, has-without, ascending-put, ascending-without, length-put, length-without, without-put}
-use Rattle.clairvoyant.proofs.Ranking.{IsSeen, seen-own, seen-more, named, leaves-rank}
+use Rattle.clairvoyant.proofs.Ranked.{IsSeen, seen-own, seen-more, named, leaves-rank}
 
 -- ---- the key that leaves is a resident or the accessed one
 
@@ -60,48 +60,24 @@ accesses c t i k r =
       ]
     ]
 
-evicted-length : (k v : ℕ) (r : List ℕ) → IsAscendingKeys r → has_key k r ≡ false → has_key v (residents_with k r) ≡ true → length (keys_without v (residents_with k r)) ≡ length r
-evicted-length k v r s e there = omega (arith, length-without v (residents_with k r) (ascending-put k r s e) there, length-put k r)
-
 pub full-length : (t : List ℕ) (i k : ℕ) (r : List ℕ) → IsAscendingKeys r → has_key k r ≡ false → length (keys_without (farthest t i k r) (residents_with k r)) ≡ length r
-full-length t i k r s e = evicted-length k (farthest t i k r) r s e (farthest-in t i k r)
+full-length t i k r s e = (omega (arith, length-without (farthest t i k r) (residents_with k r) (ascending-put k r s e) (farthest-in t i k r), length-put k r))
 
 module _ {c : ℕ} {t : List ℕ} {i k : ℕ} {r : List ℕ} where
   stays-ascending : {d : OptimalRecord} {o : Outcome} {l : List ℕ} → Accesses c t i k r d o l → IsAscendingKeys r → IsAscendingKeys l
-  stays-ascending (hit e) s = s
-  stays-ascending (kept e f) s = ascending-put k r s e
-  stays-ascending (rejected e) s = s
-  stays-ascending (evicted v e g) s = ascending-without v (residents_with k r) (ascending-put k r s e)
-
-  came-by : {d : OptimalRecord} {o : Outcome} {l : List ℕ} → Accesses c t i k r d o l → (x : ℕ) → has_key x l ≡ true → (x ≡ k) ⊎ (has_key x r ≡ true)
-  came-by (hit e) x h = inr h
-  came-by (kept e f) x h = put-has x k r h
-  came-by (rejected e) x h = inr h
-  came-by (evicted v e g) x h = put-has x k r (without-has x v (residents_with k r) h)
+  stays-ascending v s = grind (arith, nat_tests, ascending-put, ascending-without)
 
   pub access-counts : {d : OptimalRecord} {o : Outcome} {l : List ℕ} → Accesses c t i k r d o l → IsAscendingKeys r → length l + one_if (is_eviction o) ≡ length r + one_if (is_miss o)
-  access-counts (hit e) s = refl
-  access-counts (kept e f) s = omega (arith, length-put k r)
-  access-counts (rejected e) s = refl
-  access-counts (evicted v e g) s = omega (arith, evicted-length k v r s e (has-put v k r ∙ later v k r g))
+  access-counts v s = grind (arith, nat_tests, length-put, length-without, ascending-put, has-put, later)
 
   stays-within : {d : OptimalRecord} {o : Outcome} {l : List ℕ} → Accesses c t i k r d o l → IsAscendingKeys r → length r ≤ c → length l ≤ c
-  stays-within (hit e) s h = h
-  stays-within (kept e f) s h = omega (arith, f, length-put k r)
-  stays-within (rejected e) s h = h
-  stays-within (evicted v e g) s h = omega (arith, h, evicted-length k v r s e (has-put v k r ∙ later v k r g))
-
-  hits-by : {d : OptimalRecord} {o : Outcome} {l : List ℕ} → Accesses c t i k r d o l → is_hit o ≡ has_key k r
-  hits-by (hit e) = sym e
-  hits-by (kept e f) = sym e
-  hits-by (rejected e) = sym e
-  hits-by (evicted v e g) = sym e
+  stays-within v s h = grind (arith, nat_tests, length-put, length-without, ascending-put, has-put, later)
 
 pub served-has : (c : ℕ) (t : List ℕ) (i k x : ℕ) (r : List ℕ) → has_key x (belady_residents_after c t i k r) ≡ true → (x ≡ k) ⊎ (has_key x r ≡ true)
-served-has c t i k x r h = came-by (accesses c t i k r) x h
+served-has c t i k x r h = (grind (arith, nat_tests, put-has, without-has))
 
 pub hit-resident : (c : ℕ) (t : List ℕ) (i k : ℕ) (r : List ℕ) → is_hit (belady_answer c t i k r) ≡ has_key k r
-hit-resident c t i k r = hits-by (accesses c t i k r)
+hit-resident c t i k r = (grind (arith, nat_tests))
 
 module _ (c : ℕ) (t : List ℕ) where
   pub residents-ascending : (i : ℕ) → IsAscendingKeys (belady_residents c t i)

@@ -1,5 +1,5 @@
 -- The residents, listed from the ranks that are held.
-use Rattle.std.proofs.Common.{◌≡◌, ℕ, suc, ◌+◌, ◌*◌, ◌<◌, ◌≤◌, Bool, true, false, ◌&&◌, eqb, nat_lt, inl, inr, List, [], ◌∷◌, ◌++◌, length, get_or, ap, ◌∙◌, sym, refl, subst, arith}
+use Rattle.std.proofs.Common.{◌≡◌, ℕ, suc, ◌+◌, ◌*◌, ◌<◌, ◌≤◌, Bool, true, false, ◌&&◌, eqb, nat_lt, inl, inr, List, [], ◌∷◌, ◌++◌, length, get_or, ap, sym, refl, subst, arith}
 use Rattle.std.specs.List.{sum_by}
 use Rattle.std.specs.List.Sorted.{IsPermutation, IsNonDecreasing}
 use Rattle.std.proofs.lemmas.List.Sums.{sum_by-cons}
@@ -14,7 +14,7 @@ use Rattle.clairvoyant.specs.Ranks.{rank, key_at}
 use Rattle.clairvoyant.specs.RankSet.{IsTied}
 use Rattle.clairvoyant.specs.Belady.{belady_residents}
 use Rattle.clairvoyant.proofs.Keys.{below-none, below-has}
-use Rattle.clairvoyant.proofs.Ranking.{IsSeen, named}
+use Rattle.clairvoyant.proofs.Ranked.{IsSeen, named}
 use Rattle.clairvoyant.proofs.Belady.{residents-seen, residents-ascending}
 
 -- how often k is in a list
@@ -25,9 +25,6 @@ times k (a ∷ xs) = one_if (eqb k a) + times k xs
 pub times-sum : (k : ℕ) (xs : List ℕ) → times k xs ≡ sum_by (λ x. one_if (eqb k x)) xs
 times-sum k [] = refl
 times-sum k (a ∷ xs) = omega (arith, sum_by-cons (λ x. one_if (eqb k x)) a xs, times-sum k xs)
-
-times-moved : (k : ℕ) (xs ys : List ℕ) → IsPermutation xs ys → times k ys ≡ times k xs
-times-moved k xs ys p = times-sum k ys ∙ sum_by-IsPermutation (λ x. one_if (eqb k x)) xs ys p ∙ sym (times-sum k xs)
 
 times-snoc : (k a : ℕ) (xs : List ℕ) → times k (xs ++ a ∷ []) ≡ times k xs + one_if (eqb k a)
 times-snoc k a [] = omega arith
@@ -49,16 +46,13 @@ found k (x ∷ xs) h P all =
 own : (x : ℕ) (xs : List ℕ) → 0 < times x (x ∷ xs)
 own x xs = omega (arith, ap one_if (eq-eqb x x refl))
 
-low-ascending : (r : ℕ) (rs : List ℕ) → IsAscendingKeys (r ∷ rs) → (k : ℕ) → 0 < times k (r ∷ rs) → r ≤ k
-low-ascending r rs s k h = grind (arith, nat_tests, times-has k rs s.1, below-has r k rs s.0)
-
 -- a sorted list in which each key is as often as in an ascending one is that
 same-list : (xs rs : List ℕ) → IsNonDecreasing xs → IsAscendingKeys rs → ((k : ℕ) → times k xs ≡ times k rs) → xs ≡ rs
 same-list [] [] up s e = refl
 same-list [] (r ∷ rs) up s e = absurd (omega (arith, own r rs, e r))
 same-list (x ∷ xs) [] up s e = absurd (omega (arith, own x xs, e x))
 same-list (x ∷ xs) (r ∷ rs) up s e =
-    let down : r ≤ x = low-ascending r rs s x (omega (arith, own x xs, e x)) in
+    let down : r ≤ x = (grind (arith, nat_tests, times-has x rs s.1, below-has r x rs s.0)) in
     let high : x ≤ r = (found r (x ∷ xs) (omega (arith, own r rs, e r)) (λ y. x ≤ y) (λ j lt. up 0 j 0 (omega arith) lt)) in
     let head : x ≡ r = omega (arith, down, high) in
     let rest : (k : ℕ) → times k xs ≡ times k rs = λ k. omega (arith, e k, ap (λ y. one_if (eqb k y)) head) in
@@ -89,4 +83,4 @@ module _ (t : List ℕ) (i : ℕ) (r : List ℕ) (le : i ≤ length t) (seen : (
 
 pub listed-residents : (c : ℕ) (t : List ℕ) (i : ℕ) (keys sorted : List ℕ) → i ≤ length t → ((k : ℕ) → times k keys ≡ one_if (is_listed t i (belady_residents c t i) (2 * length t) k)) → IsPermutation keys sorted → IsNonDecreasing sorted → sorted ≡ belady_residents c t i
 listed-residents c t i keys sorted le all moved up =
-    search (arith, residents-ascending c t i, same-list, times-moved, residents-seen c t i, times-has)
+    search (arith, residents-ascending c t i, same-list, times-sum, sum_by-IsPermutation, residents-seen c t i, times-has)

@@ -9,9 +9,6 @@ use Rattle.clairvoyant.specs.Clairvoyant.{Stats, IsBeladyReached, clairvoyant_ac
 use Rattle.clairvoyant.specs.Representation.{shown}
 use Rattle.clairvoyant.proofs.Belady.{accesses, access-counts, residents-ascending}
 
-pub reached-next : (c : ℕ) (t : List ℕ) (s : Stats) → s.accesses < length t → IsBeladyReached (shown c t s) → IsBeladyReached (shown c t (stats_with (belady_outcome c t s.accesses) s))
-reached-next c t s lt r = grind (arith, nat_tests, stats-snoc, add-one)
-
 -- ---- residents are the misses minus the evictions
 
 pub held-count : (c : ℕ) (t : List ℕ) (i : ℕ) → length (belady_residents c t i) + (stats_of (belady_outcomes c t i)).evictions ≡ (stats_of (belady_outcomes c t i)).misses

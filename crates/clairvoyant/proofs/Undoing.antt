@@ -1,13 +1,13 @@
 -- A step back of the engine, from a record that fits.
 use Rattle.std.proofs.lemmas.Bool.Decides.{nat_tests}
-use Rattle.std.proofs.Common.{◌≡◌, ℕ, suc, ◌-◌, Bool, List, ap, ◌∙◌, sym, subst, arith}
-use Rattle.step_record.specs.Stats.{stats_with, stats_without, IsCounted, stats_of}
+use Rattle.std.proofs.Common.{◌≡◌, ℕ, suc, List, ap, arith, ◌-◌, Bool, ◌∙◌, sym, subst}
+use Rattle.step_record.specs.Stats.{stats_with, IsCounted, stats_of, stats_without}
 use Rattle.step_record.proofs.Counting.{stats-snoc}
 use Rattle.clairvoyant.specs.Belady.{belady_residents, belady_outcomes}
-use Rattle.clairvoyant.specs.RankSet.{IsTied}
-use Rattle.clairvoyant.specs.Clairvoyant.{Stats, ClairvoyantState, IsBeladyReached}
-use Rattle.clairvoyant.specs.OptimalRecord.{OptimalRecord, outcome_of, clairvoyant_undone, ClairvoyantFits}
+use Rattle.clairvoyant.specs.Clairvoyant.{Stats, IsBeladyReached, ClairvoyantState}
 use Rattle.clairvoyant.specs.Representation.{shown, IsRepresented}
+use Rattle.clairvoyant.specs.RankSet.{IsTied}
+use Rattle.clairvoyant.specs.OptimalRecord.{OptimalRecord, outcome_of, clairvoyant_undone, ClairvoyantFits}
 use Rattle.clairvoyant.proofs.Records.{outcome-is}
 use Rattle.clairvoyant.proofs.Reached.{is-counted}
 use Rattle.clairvoyant.proofs.Applying.{next-undone}
@@ -26,9 +26,6 @@ module _ (c : ℕ) (t : List ℕ) (s : Stats) (r : OptimalRecord) (d : Clairvoya
   now : s ≡ stats_with (outcome_of r) past
   now = grind (arith, nat_tests, up, stats-snoc, outcome-is)
 
-  place : past.accesses ≡ s.accesses - 1
-  place = omega (arith, ap (λ x. x.accesses) now)
-
   pub back-counted : IsCounted (outcome_of r) s
   back-counted = subst (IsCounted (outcome_of r)) (sym now) (is-counted (outcome_of r) past)
 
@@ -37,7 +34,7 @@ module _ (c : ℕ) (t : List ℕ) (s : Stats) (r : OptimalRecord) (d : Clairvoya
     same = is ∙ ap (stats_without (outcome_of r)) now ∙ (grind (arith, nat_tests))
 
     pub back-shown : shown c t u ≡ clairvoyant_undone r d
-    back-shown = grind (arith, nat_tests, same, next-undone, place, up, now)
+    back-shown = grind (arith, nat_tests, same, next-undone, up, now)
 
     pub back-keeping : (h : List Bool) → IsTied t (s.accesses - 1) (belady_residents c t (s.accesses - 1)) h → IsRepresented c t u h
-    back-keeping h tied = grind (arith, nat_tests, same, place)
+    back-keeping h tied = grind (arith, nat_tests, same)

@@ -17,11 +17,8 @@ pub above-some : (b : Bool) (x : ℕ) → b ≡ true → b ≡ not (eqb x 0) →
 above-some b x e f = grind (arith, nat_tests)
 
 module _ (ws : List ℕ) (w x tz : ℕ) (in_it : w < length ws) (read : x ≡ get_or ws w 0) (small : tz < 64) where
-  place-bit : (64 * w + tz) % 64 ≡ tz
-  place-bit = omega arith
-
   pub least-held : bit_at x tz ≡ 1 → bit_of ws (64 * w + tz) ≡ true
-  least-held one = grind (arith, nat_tests, place-bit, eq-eqb (bit_at x tz) 1 one)
+  least-held one = grind (arith, nat_tests, eq-eqb (bit_at x tz) 1 one)
 
 -- where the layer above holds a place, there is a word there
 pub word-there : (ws : List ℕ) (n : ℕ) (held : ℕ → Bool) (w : ℕ) → IsBitLayer ws n held → held w ≡ true → w < length ws

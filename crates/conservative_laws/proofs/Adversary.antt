@@ -1,21 +1,80 @@
 -- A trace that misses always, whatever the cache: each access is to a key that is not resident, of one more than fit.
-use Rattle.std.proofs.Common.{◌≡◌, ℕ, zero, suc, ◌+◌, ◌-◌, ◌*◌, ◌<◌, ◌≤◌, true, false, cond, nat_lt, List, [], ◌∷◌, ◌++◌, length, take, ap, ◌∙◌, sym, refl, arith, inl, inr, length-append}
-use Rattle.std.proofs.Math.Nat.{mul-add, add-mul, mul-le-mul_left}
-use Rattle.std.proofs.lemmas.Bool.{cases_Bool, lt-ltb, le-ltb, cases_eq}
+use Rattle.std.proofs.Common.{◌≡◌, ℕ, zero, suc, ◌+◌, ◌≤◌, true, false, cond, eqb, List, [], ◌∷◌, ◌++◌, length, take, get_or, ap, ◌∙◌, sym, refl, arith, length-append, ◌-◌, ◌*◌, ◌<◌, nat_lt, inl, inr}
+use Rattle.std.proofs.Math.ListN.{get_or-append}
+use Rattle.std.proofs.Math.Seq.{get_or-append_seam, take-append_seam}
+use Rattle.std.proofs.lemmas.Bool.{cases_eq, cases_Bool, lt-ltb, le-ltb}
+use Rattle.std.proofs.lemmas.List.{take_more, take-append-le, take_all}
 use Rattle.std.proofs.lemmas.Bool.Decides.{nat_tests}
-use Rattle.std.proofs.lemmas.List.{take_all}
 use Rattle.step_record.specs.Keys.{has_key}
-use Rattle.policies.specs.AnyPolicy.{Job, stats_on}
+use Rattle.step_record.specs.Stats.{one_if}
 use Rattle.queue_cache.proofs.Recency.{IsDistinct}
 use Rattle.queue_policies.specs.Residents.{times}
 use Rattle.queue_policies.proofs.Residents.{times-none, times-some}
-use Rattle.optimality.specs.Strategy.{strategy_misses}
+use Rattle.optimality.specs.Strategy.{IsStrategy, strategy_hits, strategy_misses}
+use Rattle.std.proofs.Math.Nat.{mul-add, add-mul, mul-le-mul_left}
+use Rattle.policies.specs.AnyPolicy.{Job, stats_on}
 use Rattle.conservative_laws.specs.Conservative.{misses_on}
-use Rattle.conservative_laws.specs.Theorems.{IsWorstFor}
-use Rattle.conservative_laws.proofs.Misses.{hits-few}
-use Rattle.conservative_laws.proofs.Stretches.{once-few, distinct-few}
-use Rattle.conservative_laws.proofs.Holding.{hits_of, hits-more, hold, hold-none, hold-length, hold-strategy, hold-next}
+use Rattle.conservative_laws.specs.Theorems.{IsWorstFor, NoFactorIsSmaller}
+use Rattle.conservative_laws.proofs.Stretches.{hits-few, once-few, distinct-few, online-misses}
 use Rattle.conservative_laws.proofs.Loads.{load, load-none, load-next, Heaviest, heaviest}
+use Rattle.demand_cache.specs.Theorems.{DemandKeeps}
+use Rattle.adaptive_window.specs.Residents.{CacheKeeps}
+use Rattle.policies.specs.Theorems.{AnyCoversTrace}
+use Rattle.policy_laws.proofs.Beaten.{IsOnlineJob, online}
+
+-- ---- A strategy that keeps some keys for good, from their first access on
+
+-- ---- hits of a cache that is a function of the accesses before
+
+abbrev pub hits_of : (List ℕ → List ℕ) → List ℕ → ℕ
+hits_of f xs = strategy_hits xs (λ i. f (take i xs)) (length xs)
+
+hits-within : (f : List ℕ → List ℕ) (xs ys : List ℕ) (n : ℕ) → n ≤ length xs → strategy_hits (xs ++ ys) (λ i. f (take i (xs ++ ys))) n ≡ strategy_hits xs (λ i. f (take i xs)) n
+hits-within f xs ys zero h = refl
+hits-within f xs ys (suc n) h = search (arith, hits-within f xs ys n (omega (arith, h)), get_or-append, take-append-le)
+
+pub hits-more : (f : List ℕ → List ℕ) (xs : List ℕ) (k : ℕ) → hits_of f (xs ++ k ∷ []) ≡ hits_of f xs + one_if (has_key k (f xs))
+hits-more f xs k =
+    let all : List ℕ = xs ++ k ∷ [] in
+    let long : length all ≡ suc (length xs) = omega (arith, length-append xs (k ∷ [])) in
+    grind (arith, nat_tests, hits-within f xs (k ∷ []) (length xs) (omega arith), get_or-append_seam xs k, take-append_seam xs (k ∷ []))
+
+-- ---- a strategy that keeps some keys for good, from their first access on
+
+abbrev pub hold : List ℕ → List ℕ → List ℕ
+hold [] xs = []
+hold (a ∷ ks) xs = cond (has_key a xs) (a ∷ hold ks xs) (hold ks xs)
+
+pub hold-none : (ks : List ℕ) → hold ks [] ≡ []
+hold-none [] = refl
+hold-none (a ∷ ks) = hold-none ks
+
+pub hold-length : (ks xs : List ℕ) → length (hold ks xs) ≤ length ks
+hold-length [] xs = omega arith
+hold-length (a ∷ ks) xs = grind (arith, nat_tests, hold-length ks xs)
+
+has-hold : (x : ℕ) (ks xs : List ℕ) → has_key x (hold ks xs) ≡ cond (has_key x ks) (has_key x xs) false
+has-hold x [] xs = refl
+has-hold x (a ∷ ks) xs = grind (arith, nat_tests, has-hold x ks xs, cases_eq x a)
+
+has-more : (x k : ℕ) (xs : List ℕ) → has_key x (xs ++ k ∷ []) ≡ cond (eqb x k) true (has_key x xs)
+has-more x k [] = refl
+has-more x k (a ∷ xs) = grind (arith, nat_tests, has-more x k xs)
+
+pub hold-strategy : (ks t : List ℕ) → IsStrategy (length ks) t (λ i. hold ks (take i t))
+hold-strategy ks t = record {
+  empty = hold-none ks;
+  on_demand = λ i x h g. (
+      let more : take (suc i) t ≡ take i t ++ get_or t i 0 ∷ [] = (let e : suc i ≡ i + 1 = omega arith in ap (λ n. take n t) e ∙ take_more t i 0 h) in
+      let now : cond (has_key x ks) (cond (eqb x (get_or t i 0)) true (has_key x (take i t))) false ≡ true = sym (has-hold x ks (take (suc i) t) ∙ ap (λ b. cond (has_key x ks) b false) (ap (has_key x) more ∙ has-more x (get_or t i 0) (take i t))) ∙ g in
+      grind (arith, nat_tests, has-hold));
+  fits = λ i h. hold-length ks (take i t);
+}
+
+-- each access to one of the keys is a hit, or brings that key in
+pub hold-next : (ks xs : List ℕ) (k : ℕ) → IsDistinct ks → length (hold ks (xs ++ k ∷ [])) + one_if (has_key k (hold ks xs)) ≡ length (hold ks xs) + times k ks
+hold-next [] xs k d = omega arith
+hold-next (a ∷ ks) xs k d = grind (arith, nat_tests, hold-next ks xs k d.1, times-none, has-hold, has-more)
 
 -- ---- the keys below a number
 
@@ -130,3 +189,10 @@ worst j held fits counts h n le =
     let within : hits_of (hold ks) t ≤ length t = hits-few t residents (length t) in
     let misses : (stats_on j t).misses ≡ n = ap (λ l. (stats_on j l).misses) (sym (take_all (length t) t (omega arith))) ∙ (counts t (length t) (omega arith) ∙ (ap (λ m. length t - m) (no-hits c held fits n) ∙ omega (arith, long))) in
     let few = few-misses c h n (load ks t) (hits_of (hold ks) t) le (omega (arith, share, whole, wide)) (omega (arith, hits, hold-length ks t, kept)) (omega (arith, within, long)) in grind (arith, nat_tests, hold-strategy ks t)
+
+-- ---- no policy that does not know the trace competes by a smaller factor
+
+pub no_factor_is_smaller : DemandKeeps → CacheKeeps → AnyCoversTrace → NoFactorIsSmaller
+no_factor_is_smaller law own covers j h n is le =
+    let a : IsOnlineJob j = online law own j is in
+    worst j a.held a.online.fits (online-misses covers j a.held a.online) h n le

@@ -17,8 +17,7 @@ use Rattle.queue_policies.proofs.Turns.{settled, turns-times, turns-length, turn
 use Rattle.queue_policies.proofs.Clock.{keeps}
 use Rattle.policy_laws.proofs.Strategies.{serves, next-is, kept-at}
 use Rattle.conservative_laws.specs.Conservative.{stretch, IsConservative}
-use Rattle.conservative_laws.proofs.Misses.{misses-next}
-use Rattle.conservative_laws.proofs.Stretches.{once-few, in-stretch}
+use Rattle.conservative_laws.proofs.Stretches.{misses-next, once-few, in-stretch}
 use Rattle.conservative_laws.proofs.Fifo.{once-more}
 use Rattle.conservative_laws.proofs.Evictions.{any_of, is_stale, evictions_ahead, ahead-few, ahead-joined, ahead-turned, ahead-hit}
 

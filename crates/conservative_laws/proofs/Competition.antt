@@ -9,11 +9,10 @@ use Rattle.clairvoyant.proofs.Belady.{later}
 use Rattle.step_record.proofs.Counting.{one-few}
 use Rattle.queue_cache.specs.Lru.{distinct_keys}
 use Rattle.optimality.specs.Strategy.{IsStrategy, strategy_misses}
-use Rattle.optimality.proofs.Counting.{head-has}
+use Rattle.optimality.proofs.Optimal.{head-has}
 use Rattle.conservative_laws.specs.Conservative.{stretch, IsConservative, FillsFirst}
 use Rattle.conservative_laws.specs.Theorems.{NeverBypasses, ConservativeCompetes, ConservativeCompetesWithoutBypass, FillingCompetes, FillingCompetesWithoutBypass}
-use Rattle.conservative_laws.proofs.Misses.{misses-next}
-use Rattle.conservative_laws.proofs.Stretches.{distinct-few, has-some, stretch-none, stretch-next, one-of}
+use Rattle.conservative_laws.proofs.Stretches.{misses-next, distinct-few, has-some, stretch-none, stretch-next, one-of}
 
 -- ---- the strategy, in a stretch
 

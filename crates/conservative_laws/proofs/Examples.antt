@@ -1,5 +1,5 @@
 -- What the accesses of single traces come to, by computation.
-use Rattle.std.proofs.Common.{◌≡◌, ◌⊎◌, ℕ, ◌≤◌, List, [], take, count_by, ap, ◌∙◌, arith, inl, inr}
+use Rattle.std.proofs.Common.{◌≡◌, ◌⊎◌, ℕ, ◌≤◌, List, [], take, count_by, ap, ◌∙◌, arith, inl, inr, All, length, map}
 use Rattle.step_record.specs.Job.{part_size}
 use Rattle.step_record.specs.Stats.{is_miss}
 use Rattle.step_record.specs.declared.job.Policy.TheVariants.{Fifo, Clock}
@@ -14,6 +14,14 @@ use Rattle.queue_cache.specs.declared.design.DemandDesign.TheVariants as demand
 use Rattle.queue_cache.specs.Design.{design_of}
 use Rattle.conservative_laws.specs.Examples.{anomalous_trace, FifoAndClockHaveAnomaly, sieve_trace, SieveIsNotConservative, s3_fifo_trace, S3FifoIsNotConservative}
 use Rattle.conservative_laws.proofs.Jobs.{demand-misses, page-misses}
+use Rattle.std.proofs.lemmas.Bool.Decides.{nat_tests}
+use Rattle.std.specs.Prelude.{slice_index_or}
+use Rattle.std.proofs.lemmas.List.Elements.{All-map}
+use Rattle.policies.specs.Residents.{StatsAddUp, MissesFit}
+use Rattle.policy_laws.specs.Theorems.{NoPolicyBeatsBelady, LruHitsGrow, OptimalHitsGrow}
+use Rattle.conservative_laws.specs.Theorems.{LruFifoClockCompeteWithAny}
+use Rattle.policies.specs.Reports.{report_on}
+use Rattle.conservative_laws.specs.ReportLaws.{Report, AddsUp, AreOrdered, ReportsObeyLaws}
 
 misses-at : RunsByPage → (j : Job) (c m : ℕ) → (j.policy ≡ Fifo) ⊎ (j.policy ≡ Clock) → j.config.capacity ≡ c → 1 ≤ c
     → count_by is_miss (outcomes_of_all (fifo_act c) [] anomalous_trace) ≡ m → count_by is_miss (outcomes_of_all (clock_act c) [] anomalous_trace) ≡ m
@@ -44,3 +52,23 @@ s3_fifo_is_not_conservative page j is at few all =
     let after : (stats_on j (take 6 s3_fifo_trace)).misses ≡ 4 = misses (take 6 s3_fifo_trace) in
     let most = all 3 6 (omega arith) (omega arith) (omega arith) in
     absurd (omega (arith, most, before, after))
+
+-- ---- the reports of jobs over one trace obey the laws
+
+-- a fact of every job is one of all reports
+of-all : (P : Report → Type 0) (jobs : List Job) (trace : List ℕ) → ((j : Job) → P (report_on j trace)) → All P (map (λ j. report_on j trace) jobs)
+of-all P jobs trace h = All-map P (λ j. report_on j trace) jobs (λ k d l. h (slice_index_or jobs k d))
+
+adds-up : StatsAddUp → MissesFit → (trace : List ℕ) (j : Job) → AddsUp (length trace) (report_on j trace)
+adds-up sums fits trace j = grind (arith, nat_tests)
+
+module _ (best : NoPolicyBeatsBelady) (lru : LruHitsGrow) (optimal : OptimalHitsGrow) (bound : LruFifoClockCompeteWithAny) where
+  ordered : (trace : List ℕ) (j k : Job) → AreOrdered (report_on j trace) (report_on k trace)
+  ordered trace j k = grind (arith, nat_tests)
+
+  pub obey : StatsAddUp → MissesFit → ReportsObeyLaws
+  obey sums fits jobs trace = record {
+    each = of-all (AddsUp (length trace)) jobs trace (adds-up sums fits trace);
+    pairs = of-all (λ r. All (AreOrdered r) (map (λ j. report_on j trace) jobs)) jobs trace
+        (λ j. of-all (AreOrdered (report_on j trace)) jobs trace (ordered trace j));
+  }

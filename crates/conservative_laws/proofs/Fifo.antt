@@ -13,8 +13,7 @@ use Rattle.queue_policies.proofs.Residents.{times-append, times-none}
 use Rattle.queue_policies.proofs.Fifo.{keeps}
 use Rattle.policy_laws.proofs.Strategies.{serves, next-is, kept-at}
 use Rattle.conservative_laws.specs.Conservative.{stretch, IsConservative}
-use Rattle.conservative_laws.proofs.Misses.{misses-next}
-use Rattle.conservative_laws.proofs.Stretches.{once-few, one-of, in-stretch}
+use Rattle.conservative_laws.proofs.Stretches.{misses-next, once-few, one-of, in-stretch}
 
 -- the queue before the access at each place
 abbrev pub fifo_queue : ℕ → List ℕ → ℕ → List ℕ

@@ -1,15 +1,10 @@
-pub mod Misses
 pub mod Stretches
 pub mod Competition
-pub mod Filling
+pub mod Jobs
 pub mod Lru
 pub mod Fifo
 pub mod Evictions
 pub mod Clock
-pub mod Jobs
-pub mod Holding
-pub mod Loads
 pub mod Adversary
-pub mod Online
+pub mod Loads
 pub mod Examples
-pub mod ReportLaws

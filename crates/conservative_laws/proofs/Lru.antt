@@ -12,8 +12,7 @@ use Rattle.queue_cache.proofs.Recency.{outcome-residents}
 use Rattle.optimality.specs.Strategy.{strategy_misses}
 use Rattle.policy_laws.proofs.Lru.{lru_at}
 use Rattle.conservative_laws.specs.Conservative.{stretch, IsConservative, FillsFirst}
-use Rattle.conservative_laws.proofs.Misses.{misses-next}
-use Rattle.conservative_laws.proofs.Stretches.{distinct-subset, stretch-next, has-last}
+use Rattle.conservative_laws.proofs.Stretches.{misses-next, distinct-subset, stretch-next, has-last}
 use Rattle.replacement.proofs.Residents.{has-append}
 
 hit-of : (b room : Bool) (v : ℕ) → is_hit (cond b Hit (cond room Kept (Evicted v))) ≡ b

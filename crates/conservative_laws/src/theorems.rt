@@ -101,7 +101,7 @@ pub fn reports_obey_laws()
 
 /// The factor of that bound is exact, and no policy has a smaller one but that which knows the trace: on some traces,
 /// however long, a strategy does as well as it allows. (After Sleator and Tarjan 1985.)
-#[tactic(auto, using(crate::proofs::Online::no_factor_is_smaller))]
+#[tactic(auto, using(crate::proofs::Adversary::no_factor_is_smaller))]
 pub fn no_factor_is_smaller()
     ensures { NoFactorIsSmaller }
 {

@@ -7,12 +7,11 @@ use Rattle.step_record.specs.Keys.{has_key}
 use Rattle.step_record.specs.Stats.{stats_with}
 use Rattle.queue_table.specs.Queues.{Queues}
 use Rattle.queue_moves.specs.declared.records.Accessed.{Accessed}
-use Rattle.queue_moves.specs.Moves.{Outcome, item_of, after_all, outcome_of}
+use Rattle.queue_moves.specs.Moves.{Outcome, item_of}
 use Rattle.queue_moves.specs.Undoing.{record_of, before_all, FitsMoves, IsAccessed}
 use Rattle.queue_moves.specs.Tabled.{IsTabled}
 use Rattle.queue_moves.specs.Lists.{lists_of, queues_in}
-use Rattle.queue_moves.proofs.Lists.{lists-shown}
-use Rattle.queue_moves.proofs.Tabled.{tabled-all}
+use Rattle.queue_moves.proofs.Lists.{lists-shown, tabled-all}
 use Rattle.demand_cache.specs.DemandQueues.{DemandPolicy, Moves, DemandQueues, plan_by, residents_by, queues_residents, IsStateOf, IsQueues, QueuesFits, queues_act, queues_record_of, queues_undone}
 use Rattle.demand_cache.specs.DemandCache.{Stats, DemandState, demand_act, IsCountedBy}
 use Rattle.demand_cache.specs.Theorems.{PagesAreSound}
@@ -37,9 +36,6 @@ module _ (all : PagesAreSound) (p : DemandPolicy) (c x : ℕ) (s : Queues) (t : 
       pub next-queues : IsQueues c (cache_of p c y u)
       next-queues = is-cache p c y u h after-tabled
           (subst (λ y. IsStateOf p c y u) (sym a.scalar) (subst (IsStateOf p c (plan_by p c k x s).scalar) (sym a.after) what.state))
-
-      abbrev act_on : Queues → Outcome × DemandQueues
-      act_on v = (outcome_of (plan_by p c k x v) v, cache_of p c (plan_by p c k x v).scalar (after_all (plan_by p c k x v) (item_of k) v))
 
       pub act-is : queues_act k (cache_of p c x s) ≡ (o, cache_of p c y u)
       act-is = cc (lists-shown s t)

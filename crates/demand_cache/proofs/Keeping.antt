@@ -1,15 +1,14 @@
 -- An access by any policy's plan is that of its definition, so what holds of the definition holds of it.
 use Rattle.std.proofs.lemmas.Bool.Decides.{nat_tests}
-use Rattle.std.proofs.Common.{◌≡◌, ℕ, ◌≤◌, Option, [], List, ◌∷◌, ap, ◌∙◌, sym, subst, refl, arith}
+use Rattle.std.proofs.Common.{◌≡◌, ℕ, ◌≤◌, Option, [], List, ◌∷◌, ap, ◌∙◌, sym, subst, refl, arith, Some, None}
 use Rattle.step_record.specs.Keys.{has_key}
 use Rattle.queue_table.specs.Queues.{Queues, empty_queues}
 use Rattle.queue_policies.specs.Residents.{IsAccess, outcomes_of_all}
-use Rattle.queue_moves.specs.Moves.{item_of, Plan, after_all, outcome_of, IsLowPlan}
+use Rattle.queue_moves.specs.Moves.{item_of, Plan, after_all, outcome_of, IsLowPlan, Leaving, outcome_after, evicted}
 use Rattle.queue_moves.specs.Tabled.{IsTabled, keys_of}
 use Rattle.queue_moves.specs.Lists.{QueueLists, lists_of, queues_in}
-use Rattle.queue_moves.proofs.Tabled.{tabled-all}
-use Rattle.queue_moves.proofs.Lists.{lists-shown}
-use Rattle.policy_steps.specs.PolicyPage.{PolicyPage, keys_with}
+use Rattle.queue_moves.proofs.Lists.{tabled-all, lists-shown}
+use Rattle.policy_steps.specs.PolicyPage.{PolicyPage, keys_with, LeavesNone}
 use Rattle.policy_steps.proofs.FifoPlan.{fifo-sound}
 use Rattle.policy_steps.proofs.ClockPlan.{clock-sound}
 use Rattle.policy_steps.proofs.SievePlan.{sieve-sound}
@@ -18,7 +17,12 @@ use Rattle.policy_steps.proofs.TwoQ.{two-q-sound}
 use Rattle.policy_steps.proofs.ArcPlan.{arc-sound}
 use Rattle.demand_cache.specs.declared.demand_policy.DemandPolicy.TheVariants.{Fifo, Clock, Sieve, S3Fifo, TwoQ, Arc}
 use Rattle.demand_cache.specs.DemandQueues.{DemandPolicy, DemandQueues, page_of, plan_by, residents_by, IsStateOf, queues_of, plan_of, queues_residents, queues_act, IsQueues}
-use Rattle.demand_cache.specs.Theorems.{PagesAreSound, DemandKeeps, RunsByPage}
+use Rattle.demand_cache.specs.Theorems.{PagesAreSound, DemandKeeps, RunsByPage, HitsAskNothing, AsksWhereOneLeft}
+use Rattle.std.proofs.lemmas.Bool.{cases_Bool}
+use Rattle.step_record.specs.declared.outcome.Outcome.TheVariants.{Hit}
+use Rattle.queue_table.specs.declared.records.Entry.{Entry}
+use Rattle.queue_table.specs.Entries.{oldest_of}
+use Rattle.queue_moves.specs.Undoing.{record_of, MovesAsk}
 
 pub pages-sound : PagesAreSound
 pages-sound Fifo = fifo-sound
@@ -124,3 +128,29 @@ runs-by-page all p c keys h =
 -- as an equation of any run
 pub page-outcomes : RunsByPage
 page-outcomes = runs-by-page pages-sound
+
+-- ---- when undoing an access takes memory
+
+-- Where a key left for good, so in a full cache, and never for a hit.
+
+asks-nothing : (p : Plan) (k x : ℕ) (s : Queues) → LeavesNone p → MovesAsk (record_of p (item_of k) x s) → ⊥
+asks-nothing p k x s n a = grind (arith, nat_tests)
+
+-- ---- undoing a hit
+
+no-hit : (l : Option Leaving) (s : Queues) → outcome_after l s ≡ Hit → ⊥
+no-hit None s h = cc h
+no-hit (Some l) s h = by_oldest (oldest_of (s l.from)) h
+  where
+    by_oldest : (o : Option Entry) → evicted o ≡ Hit → ⊥
+    by_oldest None h = cc h
+    by_oldest (Some e) h = cc h
+
+pub hits-ask-nothing : PagesAreSound → HitsAskNothing
+hits-ask-nothing all k d h a = grind (arith, nat_tests, asks-nothing, cases_Bool, no-hit)
+
+-- ---- undoing an access
+
+pub asks-where-one-left : PagesAreSound → AsksWhereOneLeft
+asks-where-one-left all c k d i a =
+    grind (arith, nat_tests, asks-nothing, cases_Bool (plan_of k d).hits, kept-of all c k d i.least i)

@@ -12,8 +12,7 @@ use Rattle.std.specs.Fmt.{decimal}
 use Rattle.std.specs.List.{All, join_with_byte, list_any}
 use Rattle.std.specs.Str.Parse.{AllDigits}
 use Rattle.journal_text.specs.LineGrammar.{Step, Reply, Act, Entry, Version, JournalLine, numeral_of, only_at, wide_at, small_at, act_at, reply_at, entry_in, count_in, made_in, or_count, journal_line_in, words_of}
-use Rattle.journal_text.specs.Table.{Word, Named, Worker, Stripe, Wide}
-use Rattle.journal_text.specs.Table.{word_text, spaced_words, FitsWord, FitWords, act_words, reply_words, entry_words, count_words, text_of, is_answer_in, IsLine}
+use Rattle.journal_text.specs.Table.{Word, Named, Worker, Stripe, Wide, word_text, spaced_words, FitsWord, FitWords, act_words, reply_words, entry_words, count_words, text_of, is_answer_in, IsLine}
 use Rattle.journal_text.specs.declared.line.JournalLine.TheVariants.{Made, Steps}
 use Rattle.journal_text.specs.declared.version.Version.TheVariants.{One, Two}
 use Rattle.journal_text.proofs.Spellings.{number_again}

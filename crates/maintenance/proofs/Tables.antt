@@ -9,7 +9,7 @@ use Rattle.std.specs.List.Sorted.{IsStrictlySortedBy}
 use Rattle.std.specs.Map.{keys_of, lookup, remove_entry}
 use Rattle.std.specs.BTreeMap.{insert_entry, is_at}
 use Rattle.segments.specs.Items.{Item, is_same_item, occurrences, items_without}
-use Rattle.segments.proofs.ItemLists.{without-none}
+use Rattle.segments.proofs.QueueLists.{without-none}
 use Rattle.shell_model.specs.Shell.{node_of, table_with, is_listed}
 use Rattle.shell_model.specs.Consistency.{AreAbove, IsAscending}
 use Rattle.shell_model.proofs.Counting.{above-none}

@@ -1,19 +1,139 @@
 -- Belady's policy beside another strategy.
+use Rattle.std.proofs.Common.{◌≡◌, ℕ, ◌+◌, ◌≤◌, Bool, true, false, cond, eqb, List, [], ◌∷◌, length, refl, arith, suc, ◌<◌, nat_lt, Option, Some, None, get_or, ap, ◌∙◌, sym, inl, inr, ◌⊎◌, zero}
+use Rattle.std.proofs.lemmas.Bool.{eq-eqb, cases_eq, cases_Bool, eqb-true, lt-ltb, le-ltb, cond_both, cases_lt, ltb-false}
 use Rattle.std.proofs.lemmas.Bool.Decides.{nat_tests}
-use Rattle.std.proofs.Common.{◌≡◌, ◌⊎◌, ℕ, zero, suc, ◌+◌, ◌<◌, ◌≤◌, false, cond, nat_lt, List, ◌∷◌, length, get_or, ap, ◌∙◌, refl, arith, inl, inr}
-use Rattle.std.proofs.lemmas.Bool.{cond_both, cases_Bool, cases_lt, ltb-false}
 use Rattle.step_record.specs.Stats.{one_if}
 use Rattle.step_record.specs.Keys.{has_key, keys_without}
+use Rattle.clairvoyant.specs.Keys.{IsAscendingKeys, residents_with}
+use Rattle.clairvoyant.proofs.Keys.{has-without, below-none, has-put, ascending-put, ascending-without}
+use Rattle.clairvoyant.proofs.Belady.{later, residents-ascending, put-has, without-has, served-has, soon, farthest-in, full-length, hit-resident, residents-fit}
+use Rattle.step_record.proofs.Counting.{one-few, stats-snoc}
+use Rattle.trace_index.specs.Uses.{next_from}
+use Rattle.clairvoyant.specs.Belady.{further, leaves_first, farthest, belady_residents_after, belady_residents, belady_outcome, belady_outcomes}
+use Rattle.trace_index.proofs.Uses.{next-own, next-other, next-found}
 use Rattle.step_record.specs.declared.stats.Stats.{Stats}
-use Rattle.step_record.proofs.Counting.{stats-snoc}
-use Rattle.clairvoyant.specs.Keys.{residents_with, IsAscendingKeys}
-use Rattle.clairvoyant.specs.Belady.{farthest, belady_residents_after, belady_residents, belady_outcome, belady_outcomes}
-use Rattle.clairvoyant.proofs.Keys.{has-put, ascending-put, ascending-without}
-use Rattle.clairvoyant.proofs.Belady.{residents-ascending, put-has, without-has, served-has, soon, farthest-in, full-length, hit-resident, residents-fit}
 use Rattle.optimality.specs.Strategy.{IsStrategy, strategy_hits}
 use Rattle.optimality.specs.Theorems.{belady_hits, BeladyIsOptimal, BeladyIsStrategy, BeladyHitsGrow}
-use Rattle.optimality.proofs.Counting.{count_keys, count-short, count-without, count-subset, count-none, count-all}
-use Rattle.optimality.proofs.Uses.{is_due, due-never, farthest-due, due-gain}
+
+-- ---- how many distinct keys of a list pass a test
+
+-- how many distinct keys of a list pass the test p
+abbrev pub count_keys : (ℕ → Bool) → List ℕ → ℕ
+count_keys p [] = 0
+count_keys p (a ∷ xs) = cond (has_key a xs) 0 (one_if (p a)) + count_keys p xs
+
+pub no : true ≡ false → (A : Type 0) → A
+no h A = absurd (cc (h))
+
+pub head-has : (a : ℕ) (xs : List ℕ) → has_key a (a ∷ xs) ≡ true
+head-has a xs = let e : eqb a a ≡ true = eq-eqb a a refl in rw e refl
+
+pub count-short : (p : ℕ → Bool) (xs : List ℕ) → count_keys p xs ≤ length xs
+count-short p [] = omega arith
+count-short p (a ∷ xs) = let rest = count-short p xs in let one = one-few (p a) in grind (arith, rest, one)
+
+pub count-without : (p : ℕ → Bool) (v : ℕ) (xs : List ℕ) → count_keys p (keys_without v xs) + cond (has_key v xs) (one_if (p v)) 0 ≡ count_keys p xs
+count-without p v [] = refl
+count-without p v (a ∷ xs) = grind (arith, nat_tests, count-without p v xs, has-without a v xs)
+
+-- where ys has all keys of xs that pass
+pub count-passing : (p : ℕ → Bool) (xs ys : List ℕ) → ((x : ℕ) → has_key x xs ≡ true → p x ≡ true → has_key x ys ≡ true) → count_keys p xs ≤ count_keys p ys
+count-passing p [] ys h = omega arith
+count-passing p (a ∷ xs) ys h =
+    let rest : count_keys p xs ≤ count_keys p ys = count-passing p xs ys (λ x g. h x (later x a xs g)) in
+    let others : has_key a xs ≡ false → count_keys p xs ≤ count_keys p (keys_without a ys) =
+    λ e. count-passing p xs (keys_without a ys)
+    (λ x g r. grind (arith, nat_tests, has-without x a ys, h x (later x a xs g) r, cases_eq x a)) in
+    grind (arith, nat_tests, rest, others, h a (head-has a xs), count-without p a ys)
+
+pub count-subset : (p : ℕ → Bool) (xs ys : List ℕ) → ((x : ℕ) → has_key x xs ≡ true → has_key x ys ≡ true) → count_keys p xs ≤ count_keys p ys
+count-subset p xs ys h = count-passing p xs ys (λ x g r. h x g)
+
+pub count-agree : (p q : ℕ → Bool) (xs : List ℕ) → ((x : ℕ) → has_key x xs ≡ true → p x ≡ q x) → count_keys p xs ≡ count_keys q xs
+count-agree p q [] h = refl
+count-agree p q (a ∷ xs) h = rw (h a (head-has a xs), count-agree p q xs (λ x g. h x (later x a xs g))) refl
+
+pub count-none : (p : ℕ → Bool) (xs : List ℕ) → ((x : ℕ) → p x ≡ false) → count_keys p xs ≡ 0
+count-none p [] h = refl
+count-none p (a ∷ xs) h = rw (h a, count-none p xs h) (grind arith)
+
+pub count-all : (p : ℕ → Bool) (xs : List ℕ) → IsAscendingKeys xs → ((x : ℕ) → has_key x xs ≡ true → p x ≡ true) → count_keys p xs ≡ length xs
+count-all p [] s h = refl
+count-all p (a ∷ xs) s h =
+    rw (below-none a xs s.0, h a (head-has a xs), count-all p xs s.1 (λ x g. h x (later x a xs g))) (omega arith)
+
+-- ---- whether a key is used before a place
+
+-- there is a next use, and it is below place n
+abbrev pub is_below : Option ℕ → ℕ → Bool
+is_below None n = false
+is_below (Some m) n = nat_lt m n
+
+-- the key x is used at some place from i on and below n
+abbrev pub is_due : List ℕ → ℕ → ℕ → ℕ → Bool
+is_due t i n x = is_below (next_from t i x) n
+
+due-other : (t : List ℕ) (i n x : ℕ) → i < length t → eqb x (get_or t i 0) ≡ false → is_due t (suc i) n x ≡ is_due t i n x
+due-other t i n x h e = ap (λ o. is_below o n) (sym (next-other t i x h e))
+
+never-by : (t : List ℕ) (i n x : ℕ) (o : Option ℕ) → i ≤ length t → n ≤ i → next_from t i x ≡ o → is_below o n ≡ false
+never-by t i n x None h l e = refl
+never-by t i n x (Some m) h l e = let from : i ≤ m = (next-found t i x m h e).from in le-ltb m n (omega arith)
+
+-- no key is used from i on and below i
+pub due-never : (t : List ℕ) (i n x : ℕ) → i ≤ length t → n ≤ i → is_due t i n x ≡ false
+due-never t i n x h l = never-by t i n x (next_from t i x) h l refl
+
+-- ---- the farthest next use
+
+further-due : (o q : Option ℕ) (x y n : ℕ) → further o q x y ≡ true → is_below o n ≡ true → is_below q n ≡ true
+further-due v q x y n f h = grind (arith, nat_tests)
+
+nearer-due : (o q : Option ℕ) (x y n : ℕ) → further o q x y ≡ false → is_below q n ≡ true → is_below o n ≡ true
+nearer-due o v x y n f h = grind (arith, nat_tests)
+
+-- where the key that leaves is used before place n, all of them are
+pub record AreDue (t : List ℕ) (i n b : ℕ) (l : List ℕ) : Type 0 where
+  pub first : is_due t i n b ≡ true
+  pub rest : (x : ℕ) → has_key x l ≡ true → is_due t i n x ≡ true
+
+due-head : (t : List ℕ) (i n a : ℕ) (l : List ℕ) → is_due t i n a ≡ true → ((x : ℕ) → has_key x l ≡ true → is_due t i n x ≡ true) → (x : ℕ) → has_key x (a ∷ l) ≡ true → is_due t i n x ≡ true
+due-head t i n a l f r x h = grind (arith, nat_tests, eqb-true)
+
+pub farthest-due : (t : List ℕ) (i n b : ℕ) (l : List ℕ) → is_due t (suc i) n (farthest t i b l) ≡ true → AreDue t (suc i) n b l
+farthest-due t i n b [] h = record { first = h; rest = λ x g. absurd (cc g) }
+farthest-due t i n b (a ∷ l) h =
+    elim (cases_Bool (leaves_first t i a b)) [
+      | inl e ↦
+          let all : AreDue t (suc i) n a l = farthest-due t i n a l (rw e at h) in
+          record {
+            first = further-due (next_from t (suc i) a) (next_from t (suc i) b) _ _ n e all.first;
+            rest = due-head t (suc i) n a l all.first all.rest;
+          }
+      | inr e ↦
+          let all : AreDue t (suc i) n b l = farthest-due t i n b l (rw e at h) in
+          let near : is_due t (suc i) n a ≡ true = nearer-due (next_from t (suc i) a) (next_from t (suc i) b) _ _ n e all.first in
+          record { first = all.first; rest = due-head t (suc i) n a l near all.rest }
+    ]
+
+-- ---- one access
+
+pub apart : (x k : ℕ) (r : List ℕ) → has_key x (keys_without k r) ≡ true → eqb x k ≡ false
+apart x k r h = let out = has-without x k r in grind (arith, out, h)
+
+-- An access to the key at place i: that key was due, and is a hit now where it was resident. It is due again where it is
+-- used again. So hits and keys due rise together by the same number, whatever the residents are.
+pub due-gain : (t : List ℕ) (i n : ℕ) (r : List ℕ) → i < length t → i < n →
+    one_if (has_key (get_or t i 0) r) + count_keys (is_due t (suc i) n) (get_or t i 0 ∷ r) ≡ count_keys (is_due t i n) r + one_if (is_due t (suc i) n (get_or t i 0))
+due-gain t i n r h l =
+    let k : ℕ = get_or t i 0 in
+    let here : eqb k k ≡ true = eq-eqb k k refl in
+    let all : count_keys (is_due t (suc i) n) (keys_without k r) + one_if (is_due t (suc i) n k) ≡ count_keys (is_due t (suc i) n) (k ∷ r) = rw here at (count-without (is_due t (suc i) n) k (k ∷ r)) in
+    let own : one_if (is_due t i n k) ≡ 1 = ap one_if (ap (λ o. is_below o n) (next-own t i h) ∙ lt-ltb i n l) in
+    let before : count_keys (is_due t i n) (keys_without k r) + cond (has_key k r) (one_if (is_due t i n k)) 0 ≡ count_keys (is_due t i n) r = count-without (is_due t i n) k r in
+    let left : count_keys (is_due t i n) (keys_without k r) + one_if (has_key k r) ≡ count_keys (is_due t i n) r = ap (λ m. count_keys (is_due t i n) (keys_without k r) + cond (has_key k r) m 0) (sym own) ∙ before in
+    let same : count_keys (is_due t (suc i) n) (keys_without k r) ≡ count_keys (is_due t i n) (keys_without k r) = count-agree (is_due t (suc i) n) (is_due t i n) (keys_without k r) (λ x g. due-other t i n x h (apart x k r g)) in
+    omega (arith, all, left, same)
 
 -- ---- the residents after an access, in a full cache
 

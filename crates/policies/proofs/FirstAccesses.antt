@@ -10,12 +10,11 @@ use Rattle.policies.specs.declared.any_policy.AnyPolicy.TheVariants.{Queues, Opt
 use Rattle.policies.specs.AnyPolicy.{Job, stats_in, stats_on, outcomes_on, HasAccessed, outcomes_by, adaptive_start, adaptive_outcomes}
 use Rattle.queue_cache.specs.QueueCache.{QueueState, queue_state_after, frequency_after, empty_queue_state, outcomes_after, outcomes_from, access_response}
 use Rattle.policies.specs.Theorems.{AnyReports}
-use Rattle.policies.proofs.OptimalOutcomes.{outcomes-length}
+use Rattle.policies.proofs.StepLaws.{outcomes-length, any_covers_trace, outcomes-of-queues, outcomes-of-optimal}
 use Rattle.adaptive_window.specs.AdaptiveCache.{cache_access}
 use Rattle.queue_cache.specs.Design.{design_of}
 use Rattle.policies.proofs.Demand.{outcomes-first, with-room, demand-room}
 use Rattle.policies.proofs.Adaptive.{adaptive-stats}
-use Rattle.policies.proofs.StepLaws.{any_covers_trace, outcomes-of-queues, outcomes-of-optimal}
 use Rattle.queue_cache.proofs.Counting.{after-counts}
 
 from_first : (j : Job) (past : List ℕ) (d : QueueState) (n : ℕ) (keys : List ℕ) → outcomes_from j past d (take n keys) ≡ take n (outcomes_from j past d keys)

@@ -21,7 +21,6 @@ use Rattle.queue_cache.proofs.Balance.{IsBalancedCache, step-balanced, after-bal
 use Rattle.queue_cache.proofs.Counting.{after-counts}
 use Rattle.queue_cache.proofs.Reached.{after-snoc}
 use Rattle.clairvoyant.specs.Belady.{belady_residents}
-use Rattle.clairvoyant.specs.Clairvoyant.{ClairvoyantState}
 use Rattle.policies.specs.DemandDesign.{demand_policy}
 use Rattle.policies.specs.declared.any_policy.AnyPolicy.TheVariants.{Queues, Optimal, Demand, Adaptive}
 use Rattle.policies.specs.AnyPolicy.{Design, ConfigFault, demand_outcomes, adaptive_start, adaptive_outcomes, outcomes_by, stats_in, stats_on, HasAccessed}
@@ -164,16 +163,10 @@ record IsFirst (j : Job) (trace keys : List ℕ) (d : AnyPolicy) : Type 0 where
   hits : (stats_in d).hits ≡ belady_hits j.config.capacity trace (length keys)
 
 apart : (x : Design) → is_optimal x ≡ true → is_of_queues x ≡ true → ⊥
-apart (design.Queues q) a b = cc (a)
-apart design.KnowsTrace a b = cc (b)
-apart (design.Demand p) a b = cc (a)
-apart design.Adaptive a b = cc (a)
+apart v a b = grind (arith, nat_tests)
 
 first-accesses : (j : Job) (trace keys : List ℕ) (d : AnyPolicy) → knows_trace j.policy ≡ true → HasAccessed j trace keys d → IsFirst j trace keys d
-first-accesses j trace keys (Optimal d) knows s = record { first = s.first; within = s.within; hits = ap (λ (x : ClairvoyantState). x.stats.hits) s.gives }
-first-accesses j trace keys (Queues d) knows s = absurd (apart (design_of j.policy) knows s.0)
-first-accesses j trace keys (Demand d) knows s = absurd (let no : true ≡ false = sym knows ∙ ap is_optimal s.design in cc (no))
-first-accesses j trace keys (Adaptive d) knows s = absurd (let no : true ≡ false = sym knows ∙ ap is_optimal s.design in cc (no))
+first-accesses j trace keys v knows s = grind (arith, nat_tests, apart)
 
 -- another has the hits of a job over its accesses
 own-hits : (j : Job) (trace keys : List ℕ) (d : AnyPolicy) → knows_trace j.policy ≡ false → HasAccessed j trace keys d → (stats_in d).hits ≡ (stats_on j keys).hits

@@ -1,5 +1,5 @@
 -- A scan leaves protected as it was.
-use Rattle.std.proofs.Common.{◌≡◌, ◌⊎◌, ℕ, Bool, true, false, eqb, None, List, [], ◌∷◌, ◌++◌, ap, ◌∙◌, sym, arith, inl, inr, append-nil, append_assoc}
+use Rattle.std.proofs.Common.{◌≡◌, ◌⊎◌, ℕ, Bool, true, false, eqb, None, List, [], ◌∷◌, ◌++◌, ap, ◌∙◌, sym, arith, append-nil, append_assoc}
 use Rattle.std.proofs.lemmas.Bool.Decides.{nat_tests}
 use Rattle.std.proofs.lemmas.Bool.{lt-ltb, cases_eq}
 use Rattle.step_record.specs.Keys.{has_key}
@@ -7,19 +7,17 @@ use Rattle.step_record.specs.declared.job.Policy.TheVariants.{SegmentedLru, Tiny
 use Rattle.segments.specs.declared.records.Queue.TheVariants.{Probation}
 use Rattle.segments.specs.Items.{Item, nodeless_item}
 use Rattle.segments.specs.Queues.{Queues, queue_holding, IsDistinct, residents_in}
-use Rattle.segments.proofs.ItemLists.{without-none}
-use Rattle.segments.proofs.MoveLaws.{stands}
-use Rattle.segments.proofs.QueueLists.{first-stands}
+use Rattle.segments.proofs.QueueLists.{without-none, stands, first-stands}
 use Rattle.replacement.specs.declared.rules.Placement.TheVariants.{Direct}
 use Rattle.replacement.specs.Table.{response_without_trial, access}
 use Rattle.replacement.proofs.Planned.{access-at}
 use Rattle.replacement.proofs.Balance.{stands-once}
 use Rattle.replacement.proofs.Residents.{resident-queued}
-use Rattle.queue_cache.specs.Design.{Rules, Job, design_of, rules_in, rules_of}
+use Rattle.queue_cache.specs.Design.{Rules, Job, rules_of}
 use Rattle.queue_cache.specs.QueueCache.{QueueState, state_after}
 use Rattle.queue_cache.proofs.Reached.{after-job, after-snoc}
 use Rattle.queue_cache.proofs.Balance.{IsBalancedCache, after-balanced, came-from}
-use Rattle.optimality.proofs.Counting.{no}
+use Rattle.optimality.proofs.Optimal.{no}
 use Rattle.policy_laws.specs.Scans.{IsScan, ScansSpareProtected}
 
 -- ---- a miss of a policy whose new keys join probation
@@ -57,8 +55,7 @@ module _ (j : Job) (places : (rules_of j).placement ≡ Direct Probation) where
       ∙ (all-spared (keys ++ k ∷ []) ks (search (arith, scan-on, came-from, after-balanced j keys, after-snoc j keys k)) ∙ one-spared keys k scan.0)
 
 segmented-places : (j : Job) → (j.policy ≡ SegmentedLru) ⊎ (j.policy ≡ TinyLfuSegmented) → (rules_of j).placement ≡ Direct Probation
-segmented-places j (inl e) = ap (λ p. (rules_in (design_of p) j.config).placement) e
-segmented-places j (inr e) = ap (λ p. (rules_in (design_of p) j.config).placement) e
+segmented-places j v = grind (arith, nat_tests)
 
 pub scans_spare_protected : ScansSpareProtected
 scans_spare_protected j keys scan segmented = all-spared j (segmented-places j segmented) keys scan

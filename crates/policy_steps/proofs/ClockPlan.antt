@@ -4,8 +4,7 @@ use Rattle.std.proofs.Common.{◌≡◌, ℕ, ◌≤◌, false, nat_lt, None, Li
 use Rattle.step_record.specs.Keys.{has_key}
 use Rattle.queue_table.specs.Entries.{entry, oldest_of, occurrences, entries_without}
 use Rattle.queue_table.specs.Queues.{Queues, after_send}
-use Rattle.queue_table.proofs.QueueLists.{IsAbsent, queue-few}
-use Rattle.queue_table.proofs.MoveBack.{without-none}
+use Rattle.queue_table.proofs.QueueLists.{IsAbsent, queue-few, without-none}
 use Rattle.queue_policies.specs.CountedKeys.{CountedKey, with_count, keys_of, total_count}
 use Rattle.queue_policies.specs.Turns.{after_turns as page_turns, turn_count}
 use Rattle.queue_policies.specs.Clock.{marked_key, clock_eviction, IsClock}
@@ -17,13 +16,10 @@ use Rattle.policy_steps.specs.Counted.{counted_keys}
 use Rattle.policy_steps.specs.Planned.{IsWithin, IsPlannedWithin}
 use Rattle.policy_steps.specs.Clock.{clock_of, clock_eviction_plan, clock_page}
 use Rattle.policy_steps.specs.PolicyPage.{IsPlannedPage, IsSoundPage}
-use Rattle.policy_steps.proofs.Leavers.{resident-alone, resident-full, counted-length, not-less}
-use Rattle.policy_steps.proofs.Residents.{resident-planned}
-use Rattle.policy_steps.proofs.Counted.{keys-counted, counted-append, length-counted, key-counted, counted-with}
-use Rattle.policy_steps.proofs.Parts.{first-count, first-send, first-turns, first-out}
-use Rattle.policy_steps.proofs.Leaving.{absent-turns}
-use Rattle.policy_steps.proofs.Turns.{turns-are}
-use Rattle.queue_moves.proofs.Tabled.{oldest-gone, tabled-turns}
+use Rattle.policy_steps.proofs.Leaving.{resident-alone, resident-full, counted-length, not-less, absent-turns}
+use Rattle.policy_steps.proofs.Moving.{resident-planned, first-count, first-send, first-turns, first-out}
+use Rattle.policy_steps.proofs.Counted.{keys-counted, counted-append, length-counted, key-counted, counted-with, turns-are}
+use Rattle.queue_moves.proofs.Lists.{oldest-gone, tabled-turns}
 
 -- ---- the oldest leaves, and the key joins
 

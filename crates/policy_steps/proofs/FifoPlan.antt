@@ -9,16 +9,14 @@ use Rattle.queue_policies.specs.Fifo.{Outcome, fifo_eviction}
 use Rattle.queue_policies.proofs.Ghost.{without-none}
 use Rattle.queue_moves.specs.Moves.{Entry, item_of, standing, evicted, leaving, after_leaving, no_run, stays, goes}
 use Rattle.queue_moves.specs.Tabled.{IsTabled, keys_of}
-use Rattle.queue_moves.proofs.Tabled.{has-occurs, tabled-leaving}
+use Rattle.queue_moves.proofs.Lists.{has-occurs, tabled-leaving}
 use Rattle.policy_steps.specs.Planned.{IsWithin, leaver_plan, IsPlannedWithin}
 use Rattle.policy_steps.specs.Misses.{one_leaver}
 use Rattle.policy_steps.specs.Fifo.{fifo_of, fifo_page}
 use Rattle.policy_steps.specs.PolicyPage.{IsPlannedPage, IsSoundPage}
-use Rattle.policy_steps.proofs.Leavers.{resident-alone, resident-full, not-less}
+use Rattle.policy_steps.proofs.Leaving.{resident-alone, resident-full, not-less}
 use Rattle.queue_policies.proofs.Fifo.{keeps}
-use Rattle.policy_steps.proofs.Moving.{length-keys, keys-sent, left-keys, without-drop, miss-low}
-use Rattle.policy_steps.proofs.Parts.{first-send, first-out}
-use Rattle.policy_steps.proofs.Residents.{resident-planned}
+use Rattle.policy_steps.proofs.Moving.{length-keys, keys-sent, left-keys, without-drop, miss-low, first-send, first-out, resident-planned}
 
 -- the oldest leaves, and the key joins
 eviction-is : (k : ℕ) (l : List Entry) → ◌≡◌ {A = Outcome × List ℕ} (evicted (oldest_of l), drop 1 (keys_of l) ++ k ∷ []) (fifo_eviction k (keys_of l))

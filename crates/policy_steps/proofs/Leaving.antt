@@ -1,19 +1,26 @@
 -- A queue's oldest key leaves it, and what that leaves alone.
 use Rattle.std.proofs.lemmas.Bool.Decides.{nat_tests}
-use Rattle.std.proofs.Common.{eqb, ◌++◌, map, take, append-nil, ◌≡◌, ℕ, zero, suc, ◌-◌, ◌<◌, false, Option, Some, None, List, [], ◌∷◌, drop, ap, sym, subst, ◌∙◌, refl, arith}
+use Rattle.std.proofs.Common.{eqb, ◌++◌, map, take, append-nil, ◌≡◌, ℕ, zero, suc, ◌-◌, ◌<◌, false, Option, Some, None, List, [], ◌∷◌, drop, ap, sym, subst, ◌∙◌, refl, arith, ◌+◌, ◌⊎◌, Bool, true, if◌then◌else◌, nat_lt, length, inl, length-append}
 use Rattle.std.proofs.Math.Path.{fun_ext}
 use Rattle.std.proofs.lemmas.Bool.{cond_both, eqb-true}
 use Rattle.queue_table.specs.Entries.{Item, is_same_item, entry, occurrences, oldest_of}
 use Rattle.queue_table.specs.Queues.{QUEUES, Queues, with_queue, queue_holding, after_push}
-use Rattle.queue_table.proofs.EntryLists.{times-without}
-use Rattle.queue_table.proofs.QueueLists.{IsAbsent, absent, is_absent}
+use Rattle.queue_table.proofs.QueueLists.{times-without, IsAbsent, absent, is_absent}
 use Rattle.queue_moves.specs.declared.records.Left.{Left}
 use Rattle.queue_moves.specs.declared.records.Run.{Run}
-use Rattle.queue_moves.specs.Moves.{Entry, turned, after_turn, after_turns, after_run, Leaving, departed, leaving, after_leaving, IsLowLeaving}
-use Rattle.queue_moves.specs.Tabled.{IsTabled}
+use Rattle.queue_moves.specs.Moves.{Entry, turned, after_turn, after_turns, after_run, Leaving, departed, leaving, after_leaving, IsLowLeaving, Own, Plan, own_plan}
+use Rattle.queue_moves.specs.Tabled.{IsTabled, keys_of}
 use Rattle.queue_moves.specs.Undoing.{IsLeft, IsRun}
 use Rattle.queue_moves.proofs.Laws.{first-other, off-after-send}
-use Rattle.queue_moves.proofs.Tabled.{oldest-gone}
+use Rattle.queue_moves.proofs.Lists.{oldest-gone}
+use Rattle.std.proofs.lemmas.List.{length-map}
+use Rattle.queue_policies.specs.CountedKeys as counted
+use Rattle.queue_policies.proofs.CountedKeys.{length-keys}
+use Rattle.policy_steps.specs.Planned.{resident_plan}
+use Rattle.policy_steps.specs.Counted.{counted_keys}
+use Rattle.policy_steps.specs.Misses.{Leavers, miss_plan}
+use Rattle.policy_steps.specs.PolicyPage.{LeavesNone, LeavesWhere}
+use Rattle.policy_steps.proofs.Counted.{length-counted}
 
 pub oldest-out : (s : Queues) → IsTabled s → (q : ℕ) (e : Entry) (l : List Entry) → s q ≡ e ∷ l → after_leaving (leaving q None) s ≡ with_queue q l s
 oldest-out s t q e l h = ap (λ o. departed None o s) (ap oldest_of h) ∙ oldest-gone s t q e l h
@@ -89,3 +96,51 @@ absent-left i l s u r w left h = is_absent i u (subst (IsAbsent i) (sym left.aft
 
 pub absent-run : (i : Item) (r : Run) (s u : Queues) → IsRun r s u → queue_holding i s ≡ None → queue_holding i u ≡ None
 absent-run i r s u ran none = grind (arith, nat_tests, is_absent, absent-turns, absent)
+
+-- ---- when keys leave the queues by a plan
+
+-- ---- by a hit no key leaves
+
+abbrev pub HitsAlone : Plan → Type 0
+HitsAlone p = p.hits ≡ true → LeavesNone p
+
+pub own-alone : (b : Bool) (o : Own) (x : ℕ) → HitsAlone (own_plan b o x)
+own-alone b o x h = record { first = refl; second = refl }
+
+pub never : (p : Plan) → p.hits ≡ false → HitsAlone p
+never p f h = absurd (let no : false ≡ true = sym f ∙ h in cc no)
+
+pub either : (b : Bool) (p q : Plan) → HitsAlone p → HitsAlone q → HitsAlone (if b then p else q)
+either v p q f g = grind (arith, nat_tests)
+
+pub resident-alone : (at : Option (ℕ × ℕ)) (room : Bool) (hit join : Own) (x : ℕ) (full : Plan) → full.hits ≡ false → HitsAlone (resident_plan at room hit join x full)
+resident-alone v room hit join x full f = grind (arith, nat_tests, own-alone, either, never)
+
+-- ---- by a miss keys leave where the cache is full
+
+module _ (full : Type 0) where
+  pub one-of : (b : Bool) (p q : Plan) → (b ≡ true → LeavesWhere full p) → (b ≡ false → LeavesWhere full q) → LeavesWhere full (if b then p else q)
+  one-of v p q f g = grind (arith, nat_tests)
+
+  pub own-none : (b : Bool) (o : Own) (x : ℕ) → LeavesWhere full (own_plan b o x)
+  own-none b o x = inl (record { first = refl; second = refl })
+
+  pub resident-full : (at : Option (ℕ × ℕ)) (room : Bool) (hit join : Own) (x : ℕ) (p : Plan) → (room ≡ false → full) → LeavesWhere full (resident_plan at room hit join x p)
+  resident-full v room hit join x p f = grind (arith, nat_tests, own-none, one-of)
+
+  -- a miss without runs
+  pub miss-full : (l : Leavers) (o : Own) (x : ℕ) → (l.first ≡ None) × (l.second ≡ None) ⊎ full → LeavesWhere full (miss_plan l o x)
+  miss-full l o x v = grind (arith, nat_tests)
+
+-- the sizes of one queue with counts, and of two, with counts and without
+pub counted-length : (l : List Entry) → length (counted.keys_of (counted_keys l)) ≡ length l
+counted-length l = length-keys (counted_keys l) ∙ length-counted l
+
+pub both-length : (l m : List Entry) → length (counted.keys_of (counted_keys l ++ counted_keys m)) ≡ length l + length m
+both-length l m = grind (arith, nat_tests, length-counted, length-keys, length-append)
+
+pub keys-length : (l m : List Entry) → length (keys_of l ++ keys_of m) ≡ length l + length m
+keys-length l m = grind (arith, nat_tests, length-map, length-append (keys_of l) (keys_of m))
+
+pub not-less : (n m c : ℕ) → n ≡ m → nat_lt m c ≡ false → nat_lt n c ≡ false
+not-less n m c e h = ap (λ y. nat_lt y c) e ∙ h

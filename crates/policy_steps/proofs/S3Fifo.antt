@@ -1,35 +1,139 @@
 -- The plan of an access to an S3-FIFO cache comes to what the definition says.
+use Rattle.std.proofs.Common.{◌≡◌, ℕ, zero, suc, ◌+◌, ◌-◌, ◌*◌, ◌≤◌, true, false, if◌then◌else◌, eqb, ◌||◌, nat_lt, Bool, Some, List, [], ◌∷◌, ◌++◌, length, ap, sym, subst, ◌∙◌, refl, arith, inl, inr, length-append, ◌<◌, ◌==◌, Option, None}
+use Rattle.std.proofs.lemmas.Bool.{cases_Bool, ltb-false, le-ltb, or_parts, cond_both, eqb-true, eqb-false}
 use Rattle.std.proofs.lemmas.Bool.Decides.{nat_tests}
-use Rattle.std.proofs.Common.{◌≡◌, ℕ, ◌+◌, ◌-◌, ◌<◌, ◌≤◌, Bool, true, false, eqb, ◌==◌, nat_lt, Option, Some, None, List, ◌++◌, length, ap, sym, subst, ◌∙◌, refl, arith, inl, inr}
-use Rattle.std.proofs.lemmas.Bool.{cases_Bool, cond_both, or_parts, eqb-true, eqb-false, ltb-false}
 use Rattle.step_record.specs.Keys.{has_key, keys_without}
-use Rattle.step_record.specs.declared.outcome.Outcome.TheVariants as outcome
-use Rattle.queue_table.specs.Entries.{entry, entries_counted}
-use Rattle.queue_table.specs.Queues.{QUEUES, Queues, after_send}
-use Rattle.queue_table.proofs.QueueLists.{queue-few}
-use Rattle.queue_policies.specs.Residents.{Outcome, times}
-use Rattle.queue_policies.specs.CountedKeys.{CountedKey, uncounted_key, count_of, with_count}
-use Rattle.queue_policies.specs.CountedKeys as counted
-use Rattle.queue_policies.specs.S3Fifo.{S3FifoState, s3_fifo_residents, s3_fifo_main_size, main_eviction, small_eviction, most_moves, s3_fifo_room, s3_fifo_with_key, hit_count, s3_fifo_act, IsS3Fifo}
-use Rattle.queue_policies.proofs.Residents.{times-none, no-times, brought-few}
-use Rattle.queue_policies.proofs.CountedKeys.{keys-times, count-append, keys-with}
-use Rattle.queue_policies.proofs.S3Fifo.{unmoved, join-times, room-made, keeps}
-use Rattle.queue_moves.specs.Moves.{Entry, item_of, standing, no_run, counts, goes, Plan, own_plan, after_run, after_runs, leaving, outcome_after, IsLowRun, IsLowOwn, IsLowPlan}
-use Rattle.queue_moves.specs.Tabled.{IsTabled, StandsAs, keys_of, HasKeys}
-use Rattle.queue_moves.proofs.Tabled.{stands, stands-nowhere, tabled-turns, tabled-runs, has-occurs}
+use Rattle.queue_table.specs.Entries.{oldest_of, entry, entries_counted}
+use Rattle.queue_table.specs.Queues.{Queues, with_queue, QUEUES, after_send}
+use Rattle.queue_policies.specs.CountedKeys.{CountedKey, AreCounted, total_count, oldest_count, uncounted_key, count_of, with_count}
+use Rattle.queue_policies.specs.Turns.{after_turn, turn_count_within, after_turns}
+use Rattle.queue_policies.specs.S3Fifo.{S3FifoState, s3_fifo_residents, main_gives, after_promotion, is_settled, main_eviction, small_eviction, s3_fifo_departure, s3_fifo_eviction_within, most_moves, without_ghost_key, s3_fifo_main_size, IsS3Fifo, s3_fifo_room, s3_fifo_with_key, hit_count, s3_fifo_act}
+use Rattle.queue_policies.proofs.CountedKeys.{length-keys, total-append, keys-times, count-append, keys-with}
+use Rattle.queue_policies.proofs.S3Fifo as page
+use Rattle.queue_policies.proofs.S3Fifo.{made, IsMoved, unmoved, join-times, room-made, keeps}
+use Rattle.queue_policies.proofs.Turns.{turned-length}
+use Rattle.queue_moves.specs.Moves.{Entry, count_or, turns_due, leaving, after_leaving, evicted, outcome_after, after_run, Plan, item_of, standing, no_run, counts, goes, own_plan, after_runs, IsLowRun, IsLowOwn, IsLowPlan}
+use Rattle.queue_moves.specs.Moves as moves
+use Rattle.queue_moves.specs.Tabled.{IsTabled, keys_of, lowered_entry, StandsAs, HasKeys}
+use Rattle.queue_moves.proofs.Lists.{tabled-turn, turn-is, stands, stands-nowhere, tabled-turns, tabled-runs, has-occurs}
 use Rattle.policy_steps.specs.Counted.{counted_keys}
-use Rattle.policy_steps.specs.Misses.{Run, Leavers, no_leavers, one_leaver, after_leavers, leavers_for_ghost, run_plan}
+use Rattle.policy_steps.specs.Misses.{Run, after_leavers, leavers_for_ghost, Leavers, no_leavers, one_leaver, run_plan}
+use Rattle.policy_steps.specs.S3Fifo.{SMALL, MAIN, GHOST, s3_fifo_of, gives_main, main_turns, promotions, joins, s3_fifo_miss, plan_at, is_resident, s3_fifo_page}
+use Rattle.policy_steps.proofs.Counted.{counted-append, length-counted, oldest-counted, turns-are, keys-counted, counted-with, both-counted, has-both, its-count, turns-keep}
+use Rattle.policy_steps.proofs.Moving.{sent, kept, leavers-gone, ghost-keys, leavers-low, first-of, apart-first, own-low, AreLow, tabled-leavers, without-keys}
+use Rattle.step_record.specs.declared.outcome.Outcome.TheVariants as outcome
+use Rattle.queue_table.proofs.QueueLists.{queue-few, without-none}
+use Rattle.queue_policies.specs.Residents.{Outcome, times}
+use Rattle.queue_policies.specs.CountedKeys as counted
+use Rattle.queue_policies.proofs.Residents.{times-none, no-times, brought-few}
 use Rattle.policy_steps.specs.Planned.{IsPlannedBy}
-use Rattle.policy_steps.specs.S3Fifo.{SMALL, MAIN, GHOST, s3_fifo_of, promotions, gives_main, main_turns, joins, s3_fifo_miss, plan_at, is_resident, s3_fifo_page}
-use Rattle.policy_steps.proofs.Counted.{counted-append, keys-counted, counted-with, both-counted, has-both, its-count}
-use Rattle.policy_steps.proofs.Ghosts.{leavers-low}
-use Rattle.policy_steps.proofs.Moving.{first-of, apart-first, own-low, AreLow, tabled-leavers, without-keys}
-use Rattle.policy_steps.proofs.S3FifoMoves.{state_without, resident-count, IsPromoted, promotes, last_eviction, IsLeft, small-left}
-use Rattle.policy_steps.proofs.Turns.{turns-keep}
 use Rattle.policy_steps.specs.PolicyPage.{LeavesWhere, IsSoundPage}
-use Rattle.policy_steps.proofs.Leavers.{HitsAlone, own-alone, never, either, one-of, own-none, both-length, not-less}
-use Rattle.policy_steps.proofs.Leaving.{any-out}
-use Rattle.queue_table.proofs.MoveBack.{without-none}
+use Rattle.policy_steps.proofs.Leaving.{HitsAlone, own-alone, never, either, one-of, own-none, both-length, not-less, any-out}
+
+-- ---- what each move of an eviction by S3-FIFO makes of the queues
+
+-- Main only grows by promotions, and no turn changes how many keys it has: once it is over its size or the small queue
+-- is empty, this stays so until a key left. So all promotions come before the first turn.
+
+-- the state that the queues show, once the key k is out of the ghost
+abbrev pub state_without : ℕ → Queues → S3FifoState
+state_without k s = without_ghost_key k (s3_fifo_of s)
+
+pub resident-count : (s : Queues) → length (s3_fifo_residents (s3_fifo_of s)) ≡ length (s SMALL) + length (s MAIN)
+resident-count s = omega (arith, length-keys (counted_keys (s SMALL) ++ counted_keys (s MAIN)), length-append (counted_keys (s SMALL)) (counted_keys (s MAIN)), length-counted (s SMALL), length-counted (s MAIN))
+
+-- ---- main gives up a key
+
+turns : (n size : ℕ) (small main : List CountedKey) (ghost : List ℕ) → main_gives size (made small main ghost) ≡ true → s3_fifo_eviction_within n size (made small main ghost) ≡ main_eviction small (after_turns (turn_count_within n main) main) ghost
+turns zero size small main ghost g = rw g refl
+turns (suc n) size small main ghost g =
+    grind (arith, nat_tests, turned-length, turns n size small (after_turn main) ghost)
+
+-- counts are at most 3
+total-few : (l : List CountedKey) → AreCounted 3 l → total_count l ≤ 3 * length l
+total-few [] h = omega arith
+total-few (e ∷ l) h = let rest = total-few l h.1 in let own = h.0 in omega (arith, rest, own)
+
+-- ---- the promotions
+
+-- the eviction, once no promotion is left
+abbrev pub last_eviction : ℕ → ℕ → Queues → Outcome × S3FifoState
+last_eviction size k s =
+    if gives_main size s
+    then main_eviction (counted_keys (s SMALL)) (counted_keys (moves.after_run (main_turns s) s MAIN)) (keys_without k (keys_of (s GHOST)))
+    else small_eviction size (counted_keys (s SMALL)) (counted_keys (s MAIN)) (keys_without k (keys_of (s GHOST)))
+
+within-settled : (n size : ℕ) (s : S3FifoState) → is_settled size s ≡ true → s3_fifo_eviction_within n size s ≡ s3_fifo_departure size s
+within-settled v size s h = grind (arith, nat_tests)
+
+module _ (size k : ℕ) (residents remembered : List ℕ) where
+  -- the queues s, from which n moves may be made, come to the queues a by promotions, after which none is left
+  pub record IsPromoted (n : ℕ) (s a : Queues) : Type 0 where
+    pub comes : s3_fifo_eviction_within n size (state_without k s) ≡ last_eviction size k a
+    pub moved : IsMoved residents remembered (state_without k a)
+    pub ghost : a GHOST ≡ s GHOST
+
+  one-promoted : (s : Queues) → IsTabled s → (e : Entry) (l : List Entry) → s SMALL ≡ e ∷ l →
+      state_without k (moves.after_turn SMALL MAIN 0 s) ≡ after_promotion (counted_keys (s SMALL)) (counted_keys (s MAIN)) (keys_without k (keys_of (s GHOST)))
+  one-promoted s t e l h = grind (arith, nat_tests, turn-is s t SMALL MAIN 0 e l h, counted-append (s MAIN) (e ∷ []))
+
+  pub promotes : (m n : ℕ) (s : Queues) (small : List Entry) → IsTabled s → s SMALL ≡ small → size + 1 - length (s MAIN) ≡ m → most_moves (state_without k s) ≤ n → IsMoved residents remembered (state_without k s)
+      → IsPromoted n s (moves.after_turns (turns_due m SMALL MAIN 0 2 s) SMALL MAIN 0 s)
+  promotes zero n s small t h room many moved = grind (arith, nat_tests, cases_Bool, turns, turns-are, total-few, length-counted, within-settled, ltb-false, or_parts)
+  promotes (suc m) n s [] t h room many moved = grind (arith, nat_tests, cases_Bool, turns, turns-are, total-few, length-counted, within-settled)
+  promotes (suc m) zero s (e ∷ l) t h room many moved = absurd (let some = ap (λ x. length (counted_keys x)) h in omega (arith, some, many))
+  promotes (suc m) (suc n) s (e ∷ l) t h room many moved =
+      elim (cases_Bool (nat_lt (count_or 0 (oldest_of (s SMALL))) 2)) [
+        | inl f ↦ rw f (grind (arith, nat_tests, cases_Bool, turns, turns-are, total-few, length-counted, within-settled))
+        | inr f ↦
+            let u : Queues = moves.after_turn SMALL MAIN 0 s in
+            let main : List CountedKey = counted_keys (s MAIN) in
+            let out : List ℕ = keys_without k (keys_of (s GHOST)) in
+            let is = turn-is s t SMALL MAIN 0 e l h in
+            let state = one-promoted s t e l h in
+            let gives : main_gives size (state_without k s) ≡ false =
+            ap (λ x. main_gives size (made (counted_keys x) main out)) h ∙ le-ltb size (length main) (omega (arith, room, length-counted (s MAIN))) in
+            let keeps : nat_lt (oldest_count (counted_keys (s SMALL))) 2 ≡ false = ap (λ x. nat_lt x 2) (oldest-counted (s SMALL)) ∙ f in
+            let fewer : suc (most_moves (after_promotion (counted_keys (s SMALL)) main out)) ≡ most_moves (state_without k s) =
+            subst (λ x. suc (most_moves (after_promotion (counted_keys x) main out)) ≡ most_moves (made (counted_keys x) main out)) (sym h) (omega (arith, total-append main (counted_keys (e ∷ [])))) in
+            let longer = ap (λ (v : Queues). length (v MAIN)) is ∙ length-append (s MAIN) (lowered_entry 0 e ∷ []) in
+            let next = promotes m n u l (tabled-turn s t SMALL MAIN 0 (omega arith)) (ap (λ (v : Queues). v SMALL) is) (omega (arith, room, longer)) (omega (arith, many, fewer, ap most_moves state))
+            (subst (IsMoved residents remembered) (sym state) (page.promoted residents remembered (counted_keys (s SMALL)) main out moved)) in
+            let step : s3_fifo_eviction_within (suc n) size (state_without k s) ≡ s3_fifo_eviction_within n size (state_without k u) =
+            rw (gives, keeps) (ap (s3_fifo_eviction_within n size) (sym state)) in
+            rw f record { comes = step ∙ next.comes; moved = next.moved; ghost = next.ghost ∙ ap (λ (v : Queues). v GHOST) is }
+      ]
+
+-- ---- a key leaves
+
+-- queues and an outcome come to an eviction's result, once the key k is out of the ghost
+pub record IsLeft (k : ℕ) (u : Queues) (o : Outcome) (r : Outcome × S3FifoState) : Type 0 where
+  pub outcome : o ≡ r.0
+  pub small : counted_keys (u SMALL) ≡ r.1.small
+  pub main : counted_keys (u MAIN) ≡ r.1.main
+  pub ghost : keys_without k (keys_of (u GHOST)) ≡ r.1.ghost
+
+pub small-left : (size k : ℕ) (s : Queues) (r : Bool) (e : Entry) (l : List Entry) → IsTabled s → s SMALL ≡ e ∷ l → has_key k (keys_of (s GHOST)) ≡ r → eqb k e.item.key ≡ false → length (keys_of (s GHOST)) ≤ size
+    → IsLeft k (after_leavers (leavers_for_ghost SMALL GHOST size r s) s) (outcome_after (leaving SMALL (Some (GHOST, 0))) s) (small_eviction size (counted_keys (s SMALL)) (counted_keys (s MAIN)) (keys_without k (keys_of (s GHOST))))
+small-left size k s r e l t h is other few =
+    let P : Queues → List Entry → Type 0 = λ u x. IsLeft k u (evicted (oldest_of x)) (small_eviction size (counted_keys x) (counted_keys (s MAIN)) (keys_without k (keys_of (s GHOST)))) in
+    let gone : Queues = with_queue GHOST (kept (r || nat_lt (length (s GHOST)) size) (sent SMALL GHOST e l s GHOST)) (sent SMALL GHOST e l s) in
+    let at : P gone (e ∷ l) = record { outcome = refl; small = refl; main = refl; ghost = ghost-keys k size e (s GHOST) r is other few } in
+    subst (P _) (sym h) (subst (λ u. P u (e ∷ l)) (sym (leavers-gone s t SMALL GHOST size r e l h (omega arith) (omega arith))) at)
+
+-- ---- what the step owes
+
+-- once the promotions are made
+module _ (part c : ℕ) (s a : Queues) (early : Run) (is : early ≡ promotions (s3_fifo_main_size part c) s) (after : a ≡ after_run early s) where
+  abbrev size : ℕ
+  size = s3_fifo_main_size part c
+
+  pub main-few : IsTabled s → IsS3Fifo part c (s3_fifo_of s) → length (a MAIN) ≤ c
+  main-few t state =
+      let w : S3FifoState = state_without 0 s in
+      let many = (promotes size 0 (s3_fifo_residents w) w.ghost (size + 1 - length (s MAIN)) (most_moves w) s (s SMALL) t refl refl (omega arith) (unmoved w state.counts)).moved.many in
+      let same = ap (λ (u : Queues). length (u MAIN)) (after ∙ ap (λ e. after_run e s) is) in
+      omega (arith, many, state.residents.fits, same, resident-count (after_run (promotions size s) s))
 
 -- ---- the key comes in
 
@@ -52,8 +156,8 @@ module _ (part c k x : ℕ) (r : Bool) (s : Queues) (t : IsTabled s) (some : 1 �
   abbrev w : S3FifoState
   w = state_without k s
 
-  abbrev size : ℕ
-  size = s3_fifo_main_size part c
+  abbrev main-size : ℕ
+  main-size = s3_fifo_main_size part c
 
   abbrev room : Outcome × S3FifoState
   room = s3_fifo_room part c w
@@ -96,38 +200,38 @@ module _ (part c k x : ℕ) (r : Bool) (s : Queues) (t : IsTabled s) (some : 1 �
 
   -- where there is none: once the promotions are made
   abbrev a : Queues
-  a = after_run (promotions size s) s
+  a = after_run (promotions main-size s) s
 
   a-tabled : IsTabled a
-  a-tabled = tabled-turns s t (promotions size s).times SMALL MAIN 0 (omega arith)
+  a-tabled = tabled-turns s t (promotions main-size s).times SMALL MAIN 0 (omega arith)
 
-  promoted : IsPromoted size k (s3_fifo_residents w) w.ghost (most_moves w) s a
-  promoted = promotes size k (s3_fifo_residents w) w.ghost (size + 1 - length (s MAIN)) (most_moves w) s (s SMALL) t refl refl (omega arith) (unmoved w state.counts)
+  promoted : IsPromoted main-size k (s3_fifo_residents w) w.ghost (most_moves w) s a
+  promoted = promotes main-size k (s3_fifo_residents w) w.ghost (main-size + 1 - length (s MAIN)) (most_moves w) s (s SMALL) t refl refl (omega arith) (unmoved w state.counts)
 
   module _ (f : nat_lt (length (s SMALL) + length (s MAIN)) c ≡ false) where
-    full : room ≡ last_eviction size k a
+    full : room ≡ last_eviction main-size k a
     full = rw (ap (λ n. nat_lt n c) (resident-count s) ∙ f) promoted.comes
 
-    main-evicts : gives_main size a ≡ true → IsMiss (run_plan (promotions size s) (main_turns a) (one_leaver (leaving MAIN None)) (goes (joins r) 0) x)
+    main-evicts : gives_main main-size a ≡ true → IsMiss (run_plan (promotions main-size s) (main_turns a) (one_leaver (leaving MAIN None)) (goes (joins r) 0) x)
     main-evicts g =
         let b : Queues = after_run (main_turns a) a in
         let same : (j : ℕ) → (j ≡ MAIN → ⊥) → b j ≡ a j = λ j d. turns-keep MAIN (main_turns a).times 1 j a (omega arith) a-tabled d in
-        let leaves : last_eviction size k a ≡ main_eviction (counted_keys (a SMALL)) (counted_keys (b MAIN)) (keys_without k (keys_of (a GHOST))) = rw g refl in
-        brought (promotions size s) (main_turns a) (one_leaver (leaving MAIN None)) _ (omega arith, omega arith) (omega arith, omega arith) ((omega arith, tt), tt) (full ∙ leaves)
+        let leaves : last_eviction main-size k a ≡ main_eviction (counted_keys (a SMALL)) (counted_keys (b MAIN)) (keys_without k (keys_of (a GHOST))) = rw g refl in
+        brought (promotions main-size s) (main_turns a) (one_leaver (leaving MAIN None)) _ (omega arith, omega arith) (omega arith, omega arith) ((omega arith, tt), tt) (full ∙ leaves)
         (grind (arith, nat_tests, any-out b (tabled-turns a a-tabled (main_turns a).times MAIN MAIN 1 (omega arith)) MAIN))
 
-    small-evicts : gives_main size a ≡ false → IsMiss (run_plan (promotions size s) no_run (leavers_for_ghost SMALL GHOST size r a) (goes (joins r) 0) x)
+    small-evicts : gives_main main-size a ≡ false → IsMiss (run_plan (promotions main-size s) no_run (leavers_for_ghost SMALL GHOST main-size r a) (goes (joins r) 0) x)
     small-evicts g =
-        let empty = eqb-false (length (a SMALL)) 0 (or_parts (length (a SMALL) == 0) (nat_lt size (length (a MAIN))) g).0 in
+        let empty = eqb-false (length (a SMALL)) 0 (or_parts (length (a SMALL) == 0) (nat_lt main-size (length (a MAIN))) g).0 in
         let first = first-of (a SMALL) (omega (arith, empty)) in
         let e : Entry = first.0 in
         let none : has_key k (keys_of (a SMALL)) ≡ false = none-in (a SMALL) (counted_keys (a SMALL)) refl
         (omega (arith, promoted.moved.keys k, times-none k (s3_fifo_residents v) absent, keys-times k (counted_keys (a SMALL)) (counted_keys (a MAIN)))) in
         let ghost : keys_of (a GHOST) ≡ keys_of (s GHOST) = ap keys_of promoted.ghost in
-        let leaves : last_eviction size k a ≡ small_eviction size (counted_keys (a SMALL)) (counted_keys (a MAIN)) (keys_without k (keys_of (a GHOST))) = rw g refl in
-        brought (promotions size s) no_run (leavers_for_ghost SMALL GHOST size r a) _ (omega arith, omega arith) (omega arith, omega arith) (leavers-low SMALL GHOST size r a (omega arith) (omega arith)) (full ∙ leaves)
-        (small-left size k a r e first.1.0 a-tabled first.1.1 (ap (has_key k) ghost ∙ is) (apart-first k e.item.key (keys_of first.1.0) (ap (λ l. has_key k (keys_of l)) (sym first.1.1) ∙ none))
-        (subst (λ l. length l ≤ size) (sym ghost) state.ghost_fits))
+        let leaves : last_eviction main-size k a ≡ small_eviction main-size (counted_keys (a SMALL)) (counted_keys (a MAIN)) (keys_without k (keys_of (a GHOST))) = rw g refl in
+        brought (promotions main-size s) no_run (leavers_for_ghost SMALL GHOST main-size r a) _ (omega arith, omega arith) (omega arith, omega arith) (leavers-low SMALL GHOST main-size r a (omega arith) (omega arith)) (full ∙ leaves)
+        (small-left main-size k a r e first.1.0 a-tabled first.1.1 (ap (has_key k) ghost ∙ is) (apart-first k e.item.key (keys_of first.1.0) (ap (λ l. has_key k (keys_of l)) (sym first.1.1) ∙ none))
+        (subst (λ l. length l ≤ main-size) (sym ghost) state.ghost_fits))
 
   missed : IsPlannedBy (s3_fifo_miss part c r x s) k s (λ x. s3_fifo_of) (s3_fifo_act part c k v) (has_key k (s3_fifo_residents v))
   missed = grind (arith, nat_tests, cond_both, fits, main-evicts, small-evicts)

@@ -4,5 +4,4 @@ pub mod Counting
 pub mod Reached
 pub mod Balance
 pub mod Answered
-pub mod Recorded
 pub mod Leaving

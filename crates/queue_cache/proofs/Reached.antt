@@ -131,3 +131,5 @@ act_stands j keys d k o e s h = grind (arith, nat_tests, accepted, stands-outcom
 -- where the policy counts no keys, there is no frequency
 pub reached-uncounted : (d : QueueState) → IsReached d → is_counting d.job.policy ≡ false → d.frequency ≡ None
 reached-uncounted d r h = grind (arith, nat_tests, after-frequency)
+
+-- ---- the record of an access, as the fields give it

@@ -1,6 +1,4 @@
-pub mod Standing
 pub mod Laws
 pub mod Runs
 pub mod Carried
-pub mod Tabled
 pub mod Lists

@@ -9,8 +9,7 @@ use Rattle.queue_table.proofs.QueueLists.{with-queue-same}
 use Rattle.queue_moves.specs.Moves.{Entry, run, turned, after_turn, after_turns, turns_due, count_or}
 use Rattle.queue_moves.specs.Undoing.{HasCountLeft, FitTurns, turned_back, before_turn, before_turns, IsTurn, IsRun}
 use Rattle.queue_moves.specs.Tabled.{IsTabled}
-use Rattle.queue_moves.proofs.Standing.{oldest_stands}
-use Rattle.queue_moves.proofs.Laws.{sent-back, no-front}
+use Rattle.queue_moves.proofs.Laws.{oldest_stands, sent-back, no-front}
 
 -- ---- a turn
 

@@ -4,11 +4,10 @@ use Rattle.std.proofs.lemmas.Bool.{cases_eq}
 use Rattle.std.proofs.lemmas.Bool.Decides.{nat_tests}
 use Rattle.queue_table.specs.Ring.{Slot, entries, count, put_before, SECTIONS, Order, used, order_without, sent, lists_of, IsQueued}
 use Rattle.queue_table.specs.QueueTable.{Lengths, IsCounted}
-use Rattle.queue_table.proofs.Sections.{length-without}
+use Rattle.queue_table.proofs.Turning.{length-without}
 use Rattle.queue_table.proofs.Orders.{IsOnce, section-few, section-alone, count-parts-ring, with-other}
 use Rattle.queue_table.proofs.Contents.{lists-unused}
-use Rattle.queue_table.proofs.Holding.{used-within}
-use Rattle.queue_table.proofs.Finding.{slots-length}
+use Rattle.queue_table.proofs.Holding.{used-within, slots-length}
 use Rattle.queue_table.proofs.Tables.{free-unused}
 
 -- lengths

@@ -1,6 +1,5 @@
 -- The entries of slots.
-use Rattle.std.proofs.Common.{◌≡◌, ℕ, suc, ◌+◌, ◌<◌, ◌≤◌, true, false, cond, eqb, Option, Some, None, List, [], ◌∷◌, ◌++◌, get_or, set, map, ap, ◌∙◌, sym, refl, subst, arith, inl, inr, get_or-set_other}
-use Rattle.std.proofs.Common.{append-nil, append_assoc}
+use Rattle.std.proofs.Common.{◌≡◌, ℕ, suc, ◌+◌, ◌<◌, ◌≤◌, true, false, cond, eqb, Option, Some, None, List, [], ◌∷◌, ◌++◌, get_or, set, map, ap, ◌∙◌, sym, refl, subst, arith, inl, inr, get_or-set_other, append-nil, append_assoc}
 use Rattle.std.specs.List.{Contains}
 use Rattle.std.proofs.Math.Path.{fun_ext}
 use Rattle.std.proofs.lemmas.Bool.{cases_Bool, cases_eq, cases_lt, eqb-true}
@@ -8,13 +7,12 @@ use Rattle.std.proofs.lemmas.List.{map-append}
 use Rattle.std.proofs.lemmas.Bool.Decides.{nat_tests}
 use Rattle.queue_table.specs.Entries.{Entry, Item, is_same_item, occurrences, last_from, last_item, before, put_behind, entries_without}
 use Rattle.queue_table.specs.Queues.{QUEUES, queue_holding, times_below, after_push, after_removal, after_return, IsDistinct}
-use Rattle.queue_table.proofs.EntryLists.{same-true, same-refl, times-append, put_behind-at}
-use Rattle.queue_table.proofs.QueueLists.{IsAbsent, is_absent, placed, queue-few, times-none, times-with}
+use Rattle.queue_table.proofs.QueueLists.{same-true, same-refl, times-append, put_behind-at, IsAbsent, is_absent, placed, queue-few, times-none, times-with}
 use Rattle.queue_table.specs.Ring.{slot_entry, slot_item, count, put_before, FIRST, Order, used, order_without, sent, lists_of, item_or, IsShort}
 use Rattle.queue_table.specs.QueueTable.{IsBehind}
 use Rattle.step_record.specs.Keys.{keys_without}
 use Rattle.queue_table.proofs.Splices.{count-append, count-here, end_of}
-use Rattle.queue_table.proofs.Sections.{map-without, put-sentinel, without-none}
+use Rattle.queue_table.proofs.Turning.{map-without, put-sentinel, without-none}
 use Rattle.queue_table.proofs.Orders.{put-end, section-in, section-used, short-without, with-other}
 
 -- how often an item stands among the entries of slots

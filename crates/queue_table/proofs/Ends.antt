@@ -1,11 +1,19 @@
 -- The ends of the sections, and the slots between them.
-use Rattle.std.proofs.Common.{◌≡◌, ℕ, suc, zero, ◌<◌, ◌≤◌, Some, List, [], ◌∷◌, ◌++◌, length, get_or, map, ap, ◌∙◌, sym, refl, subst, arith, append_assoc}
-use Rattle.queue_table.specs.Entries.{Entry, Item, newest_from, newest_of}
-use Rattle.queue_table.specs.Ring.{Slot, newers, olders, slot_entry, slot_item, count, walk, IsRing, SECTIONS, Order, ring, first_of, last_after, last_of, IsQueued}
-use Rattle.queue_table.proofs.Splices.{older-end, newer-start, end_of, start_of, start-stands, count-append, count-here}
-use Rattle.queue_table.proofs.Turning.{turned}
-use Rattle.queue_table.proofs.Holding.{linked-section}
-use Rattle.queue_table.proofs.Finding.{slots-length}
+use Rattle.std.proofs.Common.{◌≡◌, ℕ, suc, zero, ◌<◌, ◌≤◌, Some, List, [], ◌∷◌, ◌++◌, length, get_or, map, ap, ◌∙◌, sym, refl, subst, arith, append_assoc, false, eqb, Option, None}
+use Rattle.queue_table.specs.Entries.{Entry, Item, newest_from, newest_of, last_from, last_item, IsGap}
+use Rattle.queue_table.specs.Ring.{Slot, newers, olders, slot_entry, slot_item, count, walk, IsRing, SECTIONS, Order, ring, first_of, last_after, last_of, IsQueued, entries, next_but, IsLinked, used, order_without, lists_of, IsPlace}
+use Rattle.queue_table.proofs.Splices.{older-end, newer-start, end_of, start_of, start-stands, count-append, count-here, linked-split}
+use Rattle.queue_table.proofs.Turning.{turned, IsSplit, split_at, gone, count-without, without-append, without-none}
+use Rattle.queue_table.proofs.Holding.{linked-section, slots-length}
+use Rattle.std.proofs.lemmas.Grind.{common_steps}
+use Rattle.std.proofs.lemmas.Bool.{cases_eq, ne_eqb}
+use Rattle.std.proofs.lemmas.List.{map-append}
+use Rattle.std.proofs.lemmas.Bool.Decides.{nat_tests}
+use Rattle.queue_table.specs.Queues.{QUEUES, queue_holding}
+use Rattle.step_record.specs.Keys.{keys_without}
+use Rattle.queue_table.specs.QueueTable.{IsBehind}
+use Rattle.queue_table.proofs.Orders.{section-few, section-used, used-real}
+use Rattle.queue_table.proofs.Contents.{IsCutAt, cut_at, alone, placed-at}
 
 -- the first slot of a section, and the last one
 
@@ -67,3 +75,72 @@ newer-in slots o x (suc k) w =
 pub walk-on : (ns : List ℕ) (es : List Entry) (at n m : ℕ) (xs ys : List Item) → n ≡ suc m → ys ≡ xs ++ slot_item es (get_or ns at 0) ∷ [] →
     ys ++ map (λ k. slot_item es k) (walk ns (get_or ns at 0) m) ≡ xs ++ map (λ k. slot_item es k) (walk ns at n)
 walk-on ns es at n m xs ys e p = rw (p, e) (append_assoc xs (slot_item es (get_or ns at 0) ∷ []) (map (λ k. slot_item es k) (walk ns (get_or ns at 0) m)))
+
+-- ---- the slot after a place of a queue, from the links
+
+-- one link further than a slot that is left out
+next-linked : (ns os : List ℕ) (j but c : ℕ) (ws : List ℕ) → IsLinked ns os j ws c → (but ≡ c → ⊥) → count but ws ≤ 1 → get_or (keys_without but ws) 0 c ≡ next_but ns j but
+next-linked ns os j but c v k d few = grind (arith, nat_tests, without-none, newer-start, cases_eq)
+
+-- the slot of the last item
+record HasLast (f : ℕ → Entry) (l : List ℕ) (n : Item) : Type 0 where
+  at : ℕ
+  stands : 1 ≤ count at l
+  holds : (f at).item ≡ n
+
+has-last-from : (f : ℕ → Entry) (a : ℕ) (l : List ℕ) (n : Item) → last_from (Some (f a).item) (map f l) ≡ Some n → HasLast f (a ∷ l) n
+has-last-from f a [] n e = record { at = a; stands = (let c = count-here a [] in omega (arith, c)); holds = cc (e) }
+has-last-from f a (x ∷ l) n e = grind (arith, nat_tests, has-last-from f x l n e)
+
+has-last : (f : ℕ → Entry) (l : List ℕ) (n : Item) → last_item (map f l) ≡ Some n → HasLast f l n
+has-last f [] n e = absurd (cc (e))
+has-last f (x ∷ l) n e = has-last-from f x l n e
+
+last-put : (found : Option Item) (l : List Entry) (x : Entry) → last_from found (l ++ x ∷ []) ≡ Some x.item
+last-put found [] x = refl
+last-put found (y ∷ l) x = last-put (Some y.item) l x
+
+module _ (slots : List Slot) (o : Order) (h : IsQueued slots o) (q but j : ℕ) (w : q < QUEUES) (d : but ≡ suc (suc q) → ⊥) where
+  links : IsLinked (newers slots) (olders slots) (suc q) (o (suc q)) (suc (suc q))
+  links = linked-section (suc q) (newers slots) (olders slots) o (omega (arith, w)) h.linked.linked
+
+  few : (k : ℕ) → count k (o (suc q)) ≤ 1
+  few k = section-few (suc q) o k (omega (arith, w)) h.linked.once
+
+  -- the cut right after a slot that stands there
+  cut-after : 1 ≤ count j (order_without but o (suc q)) → IsBehind (next_but (newers slots) j but) q (Some (slot_item (entries slots) j)) (entries slots) (order_without but o (suc q))
+  cut-after n =
+      let s : IsSplit j (o (suc q)) = split_at j (o (suc q)) (few j) (omega (arith, count-without, n)) in
+      let split_links : IsLinked (newers slots) (olders slots) (suc q) (s.front ++ j ∷ s.back) (suc (suc q)) = subst (λ (l : List ℕ). IsLinked (newers slots) (olders slots) (suc q) l (suc (suc q))) s.whole links in
+      let parts = linked-split (newers slots) (olders slots) (suc q) s.front j s.back (suc (suc q)) split_links in
+      let apart : eqb but j ≡ false = ne_eqb but j (λ z. (let g = gone but (o (suc q)) in let m = ap (λ y. count y (keys_without but (o (suc q)))) z in omega (arith, g, m, n))) in
+      let back_few : count but s.back ≤ 1 = (let a = ap (count but) s.whole in let p = count-append but s.front (j ∷ s.back) in let u = few but in omega (arith, a, p, u)) in
+      let cut : keys_without but (s.front ++ j ∷ s.back) ≡ (keys_without but s.front ++ j ∷ []) ++ keys_without but s.back =
+      without-append but s.front (j ∷ s.back) ∙ rw apart (sym (append_assoc (keys_without but s.front) (j ∷ []) (keys_without but s.back))) in
+      grind (arith, nat_tests, map-append, last-put, next-linked)
+
+  pub cut-behind : (older : Option Item) → (older ≡ None → j ≡ suc q) →
+      ((n : Item) → older ≡ Some n → (queue_holding n (lists_of o (entries slots)) ≡ None → ⊥) → (1 ≤ count j (used o)) × (slot_item (entries slots) j ≡ n)) →
+      IsGap older (lists_of (order_without but o) (entries slots) q) → IsBehind (next_but (newers slots) j but) q older (entries slots) (order_without but o (suc q))
+  cut-behind None a c g = grind (arith, nat_tests, next-linked, links, few)
+  cut-behind (Some n) a c g =
+      let f : ℕ → Entry = λ k. slot_entry (entries slots) k in
+      let l : List ℕ = order_without but o (suc q) in
+      let t : IsCutAt f l g.before g.behind = cut_at f l g.before g.behind g.whole in
+      let v : HasLast f t.front n = has-last f t.front n (ap last_item t.fronts ∙ g.older_last) in
+      let there : 1 ≤ count v.at l = (let e = ap (count v.at) t.whole in let p = count-append v.at t.front t.back in let s = v.stands in omega (arith, p, s)) in
+      let stands : 1 ≤ count v.at (o (suc q)) = (let p = count-without but v.at (o (suc q)) in omega (arith, p, there)) in
+      let in_use : 1 ≤ count v.at (used o) = section-used q v.at o w stands in
+      let holding : queue_holding n (lists_of o (entries slots)) ≡ Some q = subst (λ (x : Item). queue_holding x (lists_of o (entries slots)) ≡ Some q) v.holds (placed-at q v.at o (entries slots) w h.distinct stands) in
+      let s = c n refl (λ z. cc (z, holding)) in
+      let apart = alone o (entries slots) j v.at h.distinct s.0 in_use in
+      let same : j ≡ v.at = grind (arith, nat_tests) in
+      subst (λ (x : Option Item). IsBehind (next_but (newers slots) j but) q x (entries slots) l) (ap Some s.1) (cut-after (subst (λ x. 1 ≤ count x l) (sym same) there))
+
+-- the slot after a cut is a place
+pub behind-place : (b q : ℕ) (older : Option Item) (es : List Entry) (o : Order) → IsBehind b q older es (o (suc q)) → IsPlace b (suc q) o
+behind-place b q older es o c = grind (arith, common_steps, count-append, count-here)
+
+-- slot 0 stands in no queue
+pub none-out : (slots : List Slot) (o : Order) → IsQueued slots o → (q : ℕ) → q < QUEUES → order_without 0 o (suc q) ≡ o (suc q)
+none-out slots o h q w = grind (arith, nat_tests, used-real, section-used, without-none)

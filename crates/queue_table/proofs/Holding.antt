@@ -1,16 +1,19 @@
 -- Slots and index hold together, whatever moves.
-use Rattle.std.proofs.Common.{◌≡◌, ℕ, suc, zero, ◌+◌, ◌<◌, ◌≤◌, false, cond, eqb, Some, List, ◌∷◌, ◌++◌, length, get_or, map, ap, ◌∙◌, sym, refl, subst, arith, ◌⊎◌, inl, inr}
-use Rattle.std.proofs.lemmas.Bool.{cases_eq, ne_eqb, eq-eqb}
+use Rattle.std.proofs.Common.{◌≡◌, ℕ, suc, zero, ◌+◌, ◌<◌, ◌≤◌, false, cond, eqb, Some, List, ◌∷◌, ◌++◌, length, get_or, map, ap, ◌∙◌, sym, refl, subst, arith, ◌⊎◌, inl, inr, ◌-◌, None}
+use Rattle.std.proofs.lemmas.Bool.{cases_eq, ne_eqb, eq-eqb, cases_Bool}
 use Rattle.std.proofs.lemmas.Bool.Decides.{nat_tests}
 use Rattle.queue_table.specs.Entries.{Entry, Item, is_same_item, last_item, before}
 use Rattle.queue_table.specs.Queues.{QUEUES, queue_holding, place_in}
-use Rattle.queue_table.specs.Ring.{Slot, entries, olders, newers, tags, slot_entry, slot_item, count, IsLinked, SECTIONS, FIRST, Order, ring, ring_from, used, used_below, order_of, sent, lists_of, tag_at, item_or, IsQueued}
+use Rattle.queue_table.specs.Ring.{Slot, entries, olders, newers, tags, slot_entry, slot_item, count, IsLinked, SECTIONS, FIRST, Order, ring, ring_from, used, used_below, order_of, sent, lists_of, tag_at, item_or, IsQueued, lists}
 use Rattle.queue_table.proofs.Trees.{some_or_none}
 use Rattle.queue_table.proofs.Splices.{count-append, linked-split, older-end, end_of}
-use Rattle.queue_table.proofs.Turning.{IsSplit, split_at, turned}
-use Rattle.queue_table.proofs.Sections.{gone, count-without}
+use Rattle.queue_table.proofs.Turning.{IsSplit, split_at, turned, gone, count-without}
 use Rattle.queue_table.proofs.Orders.{IsOnce, section-few, used-real, count-parts-ring, section-used, order-is, count-put}
-use Rattle.queue_table.proofs.Contents.{alone, before-map, item-end, placed-at}
+use Rattle.queue_table.proofs.Contents.{alone, before-map, item-end, placed-at, unplaced-at}
+use Rattle.std.proofs.lemmas.List.{length-map}
+use Rattle.queue_table.specs.Index.{IsFound}
+use Rattle.queue_table.proofs.QueueLists.{same-true}
+use Rattle.queue_table.specs.QueueTable.{from_first, IsSlotOf}
 
 linked-from : (n k s : ℕ) (ns os : List ℕ) (o : Order) (b : ℕ) → IsLinked ns os k (ring_from n k o) b → k ≤ s → s < k + n → IsLinked ns os s (o s) (suc s)
 linked-from zero k s ns os o b h u w = absurd (omega (arith, u, w))
@@ -95,3 +98,27 @@ module _ (slots : List Slot) (o : Order) (h : IsQueued slots o) (k : ℕ) (n : 1
 
 pub sent-in : (k b s r j : ℕ) (o : Order) → 1 ≤ count j (sent k s b o r) → ((j ≡ k) × (r ≡ s)) ⊎ ((j ≡ k → ⊥) × (1 ≤ count j (o r)))
 sent-in k b s r j o n = grind (arith, nat_tests, count-put, gone, count-without, cases_eq)
+
+-- ---- what a search of the index says of the slots
+
+pub slots-length : (slots : List Slot) → length (newers slots) ≡ length slots
+slots-length slots = length-map slots (λ (s : Slot). s.newer)
+
+module _ (slots : List Slot) (i : Item) (r : ℕ) (f : IsFound i (slot_item (entries slots)) (λ k. count k (used (order_of slots))) r) where
+  pub slot-found : IsQueued slots (order_of slots) → 1 ≤ r → IsSlotOf r i slots
+  slot-found q n = let t = f.there n in record { queued = q; used = t.0; item = t.1 }
+
+  pub slot-missing : r ≡ 0 → queue_holding i (lists slots) ≡ None
+  slot-missing z = unplaced-at i (order_of slots) (entries slots) (λ k n. elim (cases_Bool (is_same_item i (slot_item (entries slots) k))) [
+    | inl y ↦ absurd (f.missing z k n (sym (same-true i (slot_item (entries slots) k) y)))
+    | inr y ↦ y
+  ])
+
+-- the slots from the first on that holds an item
+
+pub count-from_first : (n k : ℕ) → n + FIRST ≤ k → count k (from_first n) ≡ 0
+count-from_first zero k h = refl
+count-from_first (suc n) k h = let r = count-from_first n k (omega arith) in grind (arith, nat_tests)
+
+pub from_first-next : (at n m : ℕ) → FIRST ≤ at → n ≡ at - FIRST → m ≡ at + 1 - FIRST → (j : ℕ) → count j (from_first m) ≡ cond (eqb j at) 1 0 + count j (from_first n)
+from_first-next at n m r e f j = grind (arith, nat_tests)

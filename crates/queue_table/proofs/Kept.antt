@@ -11,12 +11,10 @@ use Rattle.queue_table.specs.Index.{SlotIndex, HasSlot}
 use Rattle.queue_table.specs.QueueTable.{Lengths, IsCounted, IsIndexOf, IsInSlots, IsKept}
 use Rattle.queue_table.proofs.Splices.{walked}
 use Rattle.queue_table.proofs.Orders.{used-real, ring-at, cut_at_section}
-use Rattle.queue_table.proofs.Growing.{no-order}
-use Rattle.queue_table.proofs.Finding.{slots-length}
-use Rattle.queue_table.proofs.Holding.{linked-section}
+use Rattle.queue_table.proofs.Growing.{no-order, item_at, entries-length}
+use Rattle.queue_table.proofs.Holding.{slots-length, linked-section}
 use Rattle.queue_table.proofs.SlotWrites.{no_slot}
 use Rattle.queue_table.proofs.Calls.{slot-within}
-use Rattle.queue_table.proofs.Renewing.{item_at, entries-length}
 
 pub some-slots : (slots : List Slot) (s : ℕ) → 1 ≤ length (order_of slots s) → 0 < length slots
 some-slots [] s n = absurd (let e = ap (λ (o : Order). length (o s)) no-order in omega (arith, n, e))

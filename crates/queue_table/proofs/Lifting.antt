@@ -3,8 +3,7 @@ use Rattle.std.proofs.Common.{◌≡◌, ℕ, ◌+◌, ◌<◌, ◌≤◌, Bool,
 use Rattle.std.proofs.lemmas.Bool.Decides.{nat_tests}
 use Rattle.queue_table.specs.Trees.{Tree, leaf, fork, tally, branch, lowest, plucked, lifted}
 use Rattle.queue_table.specs.Places.{IsWhole, IsBare, Replaces}
-use Rattle.queue_table.proofs.Trees.{members, same-slot, same-tree}
-use Rattle.queue_table.proofs.Sorting.{plucked-tally, lifted-tally}
+use Rattle.queue_table.proofs.Trees.{members, same-slot, same-tree, plucked-tally, lifted-tally}
 
 -- the lowest slot has branches
 pub lowest-real : (links : List ℕ) (roots place at last : ℕ) (t : Tree) → IsWhole links roots place t → get_or links place 0 ≡ at → 1 ≤ at → last ≡ lowest 0 t → (1 ≤ last) × (branch roots last true < length links)

@@ -9,7 +9,7 @@ use Rattle.queue_table.specs.Index.{SlotIndex, capacity, IsAdded}
 use Rattle.queue_table.specs.QueueTable.{Lengths, entry_at, IsUsed, IsBehind, IsCounted, IsIndexOf, IsInSlots, IsKept, CanLeave, KeepsSlots, KeepsOthers}
 use Rattle.queue_table.proofs.QueueLists.{IsAbsent, distinct-taken}
 use Rattle.queue_table.proofs.Splices.{count-append}
-use Rattle.queue_table.proofs.Sections.{count-without}
+use Rattle.queue_table.proofs.Turning.{count-without}
 use Rattle.queue_table.proofs.Orders.{IsOnce, order-short, section-in, closing-none, short-without, section-few, used-same, used-few, used-gone, used-other, used-sent, used-freed, used-kept}
 use Rattle.queue_table.proofs.Contents.{map-same, lists-kept, lists-freed, lists-recent, lists-back, distinct-sent, taken-order}
 use Rattle.queue_table.proofs.Holding.{sent-in}
@@ -17,7 +17,7 @@ use Rattle.queue_table.proofs.Indexing.{same-map}
 use Rattle.queue_table.proofs.Tables.{free-real, free-unused, free-within, section-kept}
 use Rattle.queue_table.proofs.Calls.{count-length, spare-sent, spare-freed, free-lists, used-not-free}
 use Rattle.queue_table.proofs.Kept.{some-slots, some-used, used-slot, kept-on, section-few as lengths-few}
-use Rattle.queue_table.proofs.Renewing.{written-entry, other-entry, same-items, keeps-slots, keeps-others}
+use Rattle.queue_table.proofs.Growing.{written-entry, other-entry, same-items, keeps-slots, keeps-others}
 
 -- a slot that may go elsewhere: s are the queues without it
 pub record IsLoose (slots : List Slot) (index : SlotIndex) (lengths : Lengths) (k : ℕ) (s : Queues) : Type 0 where

@@ -7,8 +7,7 @@ use Rattle.queue_table.specs.Queues.{QUEUES}
 use Rattle.queue_table.specs.Ring.{count, IsRing, ring_of, put_before, moved_before, SECTIONS, FIRST, Order, ring, ring_from, used, used_below, with_section, until, past, order_in, order_without, sent, IsShort, IsPlace}
 use Rattle.step_record.specs.Keys.{keys_without}
 use Rattle.queue_table.proofs.Splices.{count-append, count-here}
-use Rattle.queue_table.proofs.Turning.{ring-is}
-use Rattle.queue_table.proofs.Sections.{without-append, put-sentinel, put-past, put-there, gone, count-left, count-without}
+use Rattle.queue_table.proofs.Turning.{ring-is, without-append, put-sentinel, put-past, put-there, gone, count-left, count-without}
 
 until-at : (b : ℕ) (xs ys : List ℕ) → count b xs ≡ 0 → until b (xs ++ b ∷ ys) ≡ xs
 until-at b [] ys h = grind (arith, nat_tests)

@@ -5,8 +5,7 @@ use Rattle.std.proofs.lemmas.List.{get_or_default}
 use Rattle.std.proofs.lemmas.Bool.Decides.{nat_tests}
 use Rattle.queue_table.specs.Trees.{Item, Tree, leaf, fork, tally, branch, turn, IsTree, grafted, lowest, plucked, lifted, detached}
 use Rattle.queue_table.specs.Places.{IsOutside, IsWhole, IsFree, IsThere, Replaces}
-use Rattle.queue_table.proofs.Trees.{tally-here, on_side, side-tally, same-slot, same-tree}
-use Rattle.queue_table.proofs.Sorting.{side-sorted, its-side}
+use Rattle.queue_table.proofs.Trees.{tally-here, on_side, side-tally, same-slot, same-tree, side-sorted, its-side}
 
 module _ (roots : ℕ) (links : List ℕ) (place i : ℕ) (l r : Tree) (w : IsWhole links roots place (fork i l r)) where
   lone : tally i l + tally i r ≡ 0

@@ -1,10 +1,57 @@
 -- Queues of distinct items, by number.
-use Rattle.std.proofs.Common.{◌≡◌, ℕ, suc, zero, ◌+◌, ◌<◌, ◌≤◌, Some, None, List, refl, arith}
-use Rattle.std.proofs.lemmas.Bool.{cases_eq}
+use Rattle.std.proofs.Common.{◌≡◌, ◌+◌, ◌≤◌, true, Option, Some, None, List, [], ◌∷◌, ◌++◌, refl, arith, ◌⊎◌, inl, ℕ, suc, zero, ◌<◌, map, ap, ◌∙◌, append-nil}
 use Rattle.std.proofs.lemmas.Bool.Decides.{nat_tests}
-use Rattle.queue_table.specs.Entries.{Entry, Item, occurrences}
-use Rattle.queue_table.specs.Queues.{QUEUES, Queues, with_queue, queue_below, queue_holding, times_below, IsDistinct, after_removal}
-use Rattle.queue_table.proofs.EntryLists.{times-without, times-gone}
+use Rattle.queue_table.specs.Entries.{is_same_item, occurrences, entries_without, last_from, last_item, put_behind, Entry, Item, entry, IsGap}
+use Rattle.std.proofs.lemmas.Bool.{cases_eq, cases_lt}
+use Rattle.queue_table.specs.Queues.{QUEUES, Queues, with_queue, queue_below, queue_holding, times_below, IsDistinct, after_removal, after_push, after_send, after_return}
+use Rattle.queue_table.specs.Ring.{Slot, newers, ring_of, entries, slot_entry, lists}
+use Rattle.queue_table.proofs.Orders.{order-short}
+
+-- ---- lists of entries
+
+pub same-true : (a b : Item) → is_same_item a b ≡ true → a ≡ b
+same-true a b h = grind (arith, nat_tests)
+
+pub same-refl : (a : Item) → is_same_item a a ≡ true
+same-refl a = grind (arith, nat_tests)
+
+pub times-append : (i : Item) (xs ys : List Entry) → occurrences i (xs ++ ys) ≡ occurrences i xs + occurrences i ys
+times-append i [] ys = omega arith
+times-append i (x ∷ xs) ys = let h : occurrences i (xs ++ ys) ≡ occurrences i xs + occurrences i ys = times-append i xs ys in omega (arith, h)
+
+pub times-without : (i j : Item) (l : List Entry) → occurrences j (entries_without i l) ≤ occurrences j l
+times-without i j [] = omega arith
+times-without i j (x ∷ l) = let r = times-without i j l in grind (arith, nat_tests)
+
+pub times-gone : (i : Item) (l : List Entry) → occurrences i (entries_without i l) ≡ 0
+times-gone i [] = refl
+times-gone i (x ∷ l) = let r = times-gone i l in grind (arith, nat_tests)
+
+-- ends
+
+-- what is last is the one given before, or stands in the list
+pub last-among : (a x : Item) (l : List Entry) → last_from (Some x) l ≡ Some a → (x ≡ a) ⊎ (1 ≤ occurrences a l)
+last-among a x [] h = inl (cc)
+last-among a x (y ∷ l) h = let r = last-among a y.item l h in grind (arith, nat_tests)
+
+last-some : (x : Item) (l : List Entry) → last_from (Some x) l ≡ None → ⊥
+last-some x [] h = cc
+last-some x (y ∷ l) h = last-some y.item l h
+
+pub last-none : (l : List Entry) → last_item l ≡ None → l ≡ []
+last-none [] h = refl
+last-none (x ∷ l) h = absurd (last-some x.item l h)
+
+-- an entry goes back between its neighbours
+pub put_behind-at : (older : Option Item) (i : Entry) (xs ys : List Entry) → ((j : Item) → occurrences j xs ≤ 1) → last_item xs ≡ older → put_behind older i (xs ++ ys) ≡ xs ++ i ∷ ys
+put_behind-at None i xs ys u h = let e : xs ≡ [] = last-none xs h in rw e refl
+put_behind-at (Some a) i [] ys u h = absurd (cc (h))
+put_behind-at (Some a) i (x ∷ []) ys u h = let e : x.item ≡ a = cc in let s : is_same_item a x.item ≡ true = rw e (same-refl a) in rw s refl
+put_behind-at (Some a) i (x ∷ (y ∷ xs)) ys u h =
+    let few = u a in
+    let last = last-among a y.item xs h in
+    let r = put_behind-at (Some a) i (y ∷ xs) ys (λ j. let less = u j in omega arith) h in
+    grind (arith, nat_tests)
 
 -- the item stands in none of the queues
 abbrev pub IsAbsent : Item → Queues → Type 0
@@ -71,3 +118,83 @@ times-past (suc n) q i l s h = let r = times-past n q i l s (omega arith) in gri
 pub times-with : (n q : ℕ) (i : Item) (l : List Entry) (s : Queues) → q < n → times_below n i (with_queue q l s) + occurrences i (s q) ≡ times_below n i s + occurrences i l
 times-with zero q i l s h = absurd (omega (arith, h))
 times-with (suc n) q i l s h = grind (arith, nat_tests, times-with n q i l s, times-past n q i l s, cases_eq q n)
+
+-- ---- the way back of one entry, from where it stood: whatever queue and count it was sent with, or out
+
+pub without-none : (i : Item) (l : List Entry) → occurrences i l ≡ 0 → entries_without i l ≡ l
+without-none i [] h = refl
+without-none i (x ∷ l) h = let r = without-none i l in grind (arith, nat_tests)
+
+without-append : (i : Item) (xs ys : List Entry) → entries_without i (xs ++ ys) ≡ entries_without i xs ++ entries_without i ys
+without-append i [] ys = refl
+without-append i (x ∷ xs) ys = let r = without-append i xs ys in grind (arith, nat_tests)
+
+-- where an entry stands: queue p is cut around it
+pub record StandsIn (p : ℕ) (e : Entry) (s : Queues) : Type 0 where
+  pub low : p < QUEUES
+  pub front : List Entry
+  pub back : List Entry
+  pub whole : s p ≡ front ++ e ∷ back
+
+module _ (p : ℕ) (e : Entry) (s : Queues) (d : IsDistinct s) (at : StandsIn p e s) where
+  sum : occurrences e.item (s p) ≡ occurrences e.item at.front + (1 + occurrences e.item at.back)
+  sum = grind (arith, nat_tests, same-refl e.item, times-append e.item at.front (e ∷ at.back))
+
+  pub front-none : occurrences e.item at.front ≡ 0
+  front-none = let a = queue-few p s at.low d e.item in let b = sum in omega (arith, a, b)
+
+  pub back-none : occurrences e.item at.back ≡ 0
+  back-none = let a = queue-few p s at.low d e.item in let b = sum in omega (arith, a, b)
+
+  pub rest : entries_without e.item (s p) ≡ at.front ++ at.back
+  rest = grind (arith, nat_tests, without-append, without-none, front-none, back-none)
+
+  front-few : (j : Item) → occurrences j at.front ≤ 1
+  front-few j = grind (arith, nat_tests, queue-few p s at.low d j, times-append j at.front (e ∷ at.back))
+
+  -- the gap that it leaves
+  pub gap : IsGap (last_item at.front) (after_removal e.item s p)
+  gap = record { before = at.front; behind = at.back; whole = rest; older_last = refl }
+
+  back-here : put_behind (last_item at.front) e (after_removal e.item s p) ≡ s p
+  back-here = grind (arith, nat_tests, rest, put_behind-at, front-few)
+
+-- what is out of a queue that gets it back
+pub restored : (p : ℕ) (e : Entry) (s : Queues) (d : IsDistinct s) (at : StandsIn p e s) (none : (j : ℕ) → (j ≡ p → ⊥) → occurrences e.item (s j) ≡ 0)
+    → (j : ℕ) → after_return p (last_item at.front) e (after_removal e.item s) j ≡ s j
+restored p e s d at none j = grind (arith, nat_tests, back-here p e s d at, without-none e.item (s j), cases_eq j p)
+
+pub twice : (i : Item) (l : List Entry) → entries_without i (entries_without i l) ≡ entries_without i l
+twice i l = without-none i (entries_without i l) (times-gone i l)
+
+-- a move with another count is taken out as the entry itself is
+pub taken-sent : (e : Entry) (n q : ℕ) (s : Queues) (j : ℕ) → after_removal e.item (after_send (entry e.item n) q s) j ≡ after_removal e.item s j
+taken-sent e n q s j = grind (arith, nat_tests, same-refl, without-append, append-nil, twice, cases_eq)
+
+-- queues that are the same one by one
+abbrev pub AreSame : Queues → Queues → Type 0
+AreSame s t = (j : ℕ) → s j ≡ t j
+
+pub return-same : (p : ℕ) (older : Option Item) (e : Entry) (s t : Queues) → AreSame s t → AreSame (after_return p older e s) (after_return p older e t)
+return-same p older e s t h j = let a = h p in let b = h j in grind (arith, nat_tests)
+
+-- whatever queue and count the entry was sent with, its queue and its older neighbour lead back
+pub move-back : (p q n : ℕ) (e : Entry) (s : Queues) (d : IsDistinct s) (at : StandsIn p e s) (none : (j : ℕ) → (j ≡ p → ⊥) → occurrences e.item (s j) ≡ 0)
+    → AreSame (after_return p (last_item at.front) e (after_removal e.item (after_send (entry e.item n) q s))) s
+move-back p q n e s d at none j = grind (arith, nat_tests, return-same, taken-sent e n q s, restored p e s d at none j)
+
+-- what joined is out again
+pub pushed-back : (q : ℕ) (e : Entry) (s : Queues) → ((j : ℕ) → occurrences e.item (s j) ≡ 0) → AreSame (after_removal e.item (after_push q e s)) s
+pushed-back q e s h j = grind (arith, nat_tests, same-refl, without-append, append-nil, without-none, cases_eq)
+
+pub out-back : (p : ℕ) (e : Entry) (s : Queues) (d : IsDistinct s) (at : StandsIn p e s) (h : (j : ℕ) → (j ≡ p → ⊥) → occurrences e.item (s j) ≡ 0)
+    → AreSame (after_return p (last_item at.front) e (after_removal e.item (after_removal e.item s))) s
+out-back p e s d at h j = return-same p (last_item at.front) e _ _ (λ x. twice e.item (s x)) j ∙ restored p e s d at h j
+
+-- a table has no queue from QUEUES on
+pub high-empty : (slots : List Slot) (j : ℕ) → QUEUES ≤ j → lists slots j ≡ []
+high-empty slots j w = ap (map (λ k. slot_entry (entries slots) k)) (order-short (ring_of (newers slots)) (suc j) (omega (arith, w)))
+
+-- what stands nowhere is not taken out
+pub out-none : (i : Item) (slots : List Slot) → queue_holding i (lists slots) ≡ None → after_removal i (lists slots) ≡ lists slots
+out-none i slots h = grind (arith, nat_tests, cases_lt, without-none, absent, high-empty)

@@ -2,10 +2,9 @@
 use Rattle.std.proofs.lemmas.Bool.Decides.{nat_tests}
 use Rattle.std.proofs.Common.{◌≡◌, ℕ, ◌<◌, List, length, ap, ◌∙◌, sym, subst, arith}
 use Rattle.queue_table.specs.Ring.{Slot, newers, olders, IsRing, ring_of, moved_before, SECTIONS, Order, ring, order_of, sent, CanGo}
-use Rattle.queue_table.proofs.Turning.{ring-is}
-use Rattle.queue_table.proofs.Sections.{gone, count-without}
+use Rattle.queue_table.proofs.Turning.{ring-is, gone, count-without}
 use Rattle.queue_table.proofs.Orders.{section-ring, ring-sent, order-is, order-short, short-sent}
-use Rattle.queue_table.proofs.Finding.{slots-length}
+use Rattle.queue_table.proofs.Holding.{slots-length}
 
 module _ (slots : List Slot) (k s b : ℕ) (low : s < SECTIONS) (c : CanGo k s b slots) where
   pub place-apart : b ≡ k → ⊥

@@ -11,11 +11,10 @@ use Rattle.queue_table.specs.Index.{SlotIndex, capacity}
 use Rattle.queue_table.proofs.Indexing.{same-map}
 use Rattle.queue_table.specs.QueueTable.{from_first, IsIndexOf, IsInSlots}
 use Rattle.queue_table.proofs.Splices.{count-append, count-here, older-end, end_of, end-stands, linked}
-use Rattle.queue_table.proofs.Sections.{without-none}
+use Rattle.queue_table.proofs.Turning.{without-none}
 use Rattle.queue_table.proofs.Orders.{count-ring, count-parts-ring, section-in, real, used-real, used-few, used-free, with-other, short-with}
 use Rattle.queue_table.proofs.Contents.{map-same}
-use Rattle.queue_table.proofs.Holding.{linked-section, used-within}
-use Rattle.queue_table.proofs.Finding.{slots-length, count-from_first}
+use Rattle.queue_table.proofs.Holding.{linked-section, used-within, slots-length, count-from_first}
 use Rattle.queue_table.proofs.SlotWrites.{no_slot}
 
 module _ (slots : List Slot) (o : Order) (h : IsQueued slots o) (k : ℕ) (n : 1 ≤ count k (o 0)) where

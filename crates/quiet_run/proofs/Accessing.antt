@@ -5,7 +5,7 @@ use Rattle.std.proofs.lemmas.List.{length-map, map-append}
 use Rattle.segments.specs.declared.records.Queue.TheVariants.{Window, Probation, Protected}
 use Rattle.segments.specs.Items.{Item, is_same_item, occurrences, items_without, oldest_of}
 use Rattle.segments.specs.Queues.{Queues, queue_of, queue_holding, queues_after_push, queues_without, queues_after_move, total_items}
-use Rattle.segments.proofs.ItemLists.{same-refl}
+use Rattle.segments.proofs.QueueLists.{same-refl}
 use Rattle.replacement.specs.declared.rules.Placement.{Placement}
 use Rattle.replacement.specs.declared.rules.Placement.TheVariants.{Direct, Windowed}
 use Rattle.replacement.specs.Table.{Queue, kept_in, with_recent, queues_after_demotion, hit_response, hit_in, contest, trial, trial_of, eviction, response_with_victim, miss_by, access_in, access}

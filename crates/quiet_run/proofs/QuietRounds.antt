@@ -13,7 +13,7 @@ use Rattle.admission.specs.Frequency.{FrequencyData}
 use Rattle.segments.specs.declared.records.Queue.TheVariants.{Probation}
 use Rattle.segments.specs.Items.{Item, is_same_item, occurrences, items_without, oldest_of}
 use Rattle.segments.specs.Queues.{Queues, queues_after_move, total_items}
-use Rattle.segments.proofs.ItemLists.{length-without}
+use Rattle.segments.proofs.QueueLists.{length-without}
 use Rattle.replacement.specs.Admission.{admits_in}
 use Rattle.replacement.specs.Rules.{Config, three_queues}
 use Rattle.replacement.specs.Table.{Outcome, Response, contest, trial, eviction}

@@ -10,8 +10,7 @@ use Rattle.admission.specs.Frequency.{FrequencyData}
 use Rattle.segments.specs.declared.records.Queue.TheVariants.{Window}
 use Rattle.segments.specs.Items.{Item, occurrences}
 use Rattle.segments.specs.Queues.{Queues, queue_holding, queues_after_push, IsDistinct}
-use Rattle.segments.proofs.MoveLaws.{Stands, in_window, in_probation, in_protected, nowhere, stands}
-use Rattle.segments.proofs.QueueLists.{is_absent}
+use Rattle.segments.proofs.QueueLists.{Stands, in_window, in_probation, in_protected, nowhere, stands, is_absent}
 use Rattle.replacement.specs.Admission.{admits_in}
 use Rattle.replacement.specs.Counts.{queue_occurrences}
 use Rattle.replacement.specs.Rules.{Config, three_queues}

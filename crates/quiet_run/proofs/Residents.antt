@@ -3,7 +3,7 @@ use Rattle.std.proofs.Common.{◌≡◌, ℕ, ◌≤◌, true, eqb, Option, Some
 use Rattle.std.proofs.lemmas.Bool.{eq-eqb, eqb-true, and_from, true_from_ne_false}
 use Rattle.segments.specs.Items.{Item, occurrences}
 use Rattle.segments.specs.Queues.{Queues, IsDistinct}
-use Rattle.segments.proofs.ItemLists.{same-true}
+use Rattle.segments.proofs.QueueLists.{same-true}
 use Rattle.replacement.specs.Counts.{queue_occurrences}
 use Rattle.shell_model.specs.ShellState.{node_of, is_node, is_listed}
 use Rattle.shell_model.specs.Consistency.{IsPlaced}

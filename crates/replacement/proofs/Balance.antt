@@ -6,9 +6,7 @@ use Rattle.step_record.specs.Stats.{is_hit, is_miss, is_eviction, one_if}
 use Rattle.segments.specs.declared.records.Queue.TheVariants.{Window, Probation, Protected}
 use Rattle.segments.specs.Items.{Item, is_same_item, occurrences, items_without, oldest_of}
 use Rattle.segments.specs.Queues.{Queues, queue_of, queue_holding, queues_after_push, queues_without, queues_after_move, total_items, IsDistinct}
-use Rattle.segments.proofs.ItemLists.{same-true, times-gone, length-without}
-use Rattle.segments.proofs.MoveLaws.{Stands, in_window, in_probation, in_protected, nowhere, stands}
-use Rattle.segments.proofs.QueueLists.{first-stands}
+use Rattle.segments.proofs.QueueLists.{same-true, times-gone, length-without, Stands, in_window, in_probation, in_protected, nowhere, stands, first-stands}
 use Rattle.replacement.specs.declared.rules.Placement.TheVariants.{Direct, Windowed}
 use Rattle.replacement.specs.Table.{Rules, Placement, Queue, Response, with_recent, queues_after_demotion, hit_in, contest, trial, trial_of, eviction, response_with_victim, response_without_trial, miss_by, access_in, access}
 use Rattle.replacement.specs.Counts.{queue_occurrences, main_length}

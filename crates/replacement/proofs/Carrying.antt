@@ -3,8 +3,7 @@ use Rattle.std.proofs.lemmas.Bool.Decides.{nat_tests}
 use Rattle.std.proofs.Common.{arith, ◌≡◌, Option, Some, None, refl}
 use Rattle.segments.specs.Queues.{Queues, queues_after_move, IsDistinct}
 use Rattle.segments.specs.Moves.{move_record}
-use Rattle.segments.proofs.MoveLaws.{move-recorded, out-recorded}
-use Rattle.segments.proofs.QueueLists.{distinct-taken}
+use Rattle.segments.proofs.QueueLists.{move-recorded, out-recorded, distinct-taken}
 use Rattle.replacement.specs.Plan.{Item, Transfer, Plan}
 use Rattle.replacement.specs.PlanMoves.{Moves, MoveRecord, queues_after_transfer, removed, queues_after, transfer_record, removal_record, moves_of, undone_by, FitsBy, UndoesMoves}
 use Rattle.replacement.proofs.Counting.{distinct-moved}

@@ -5,7 +5,7 @@ use Rattle.std.proofs.lemmas.Bool.{cases_Bool}
 use Rattle.segments.specs.declared.records.Queue.{Queue}
 use Rattle.segments.specs.Items.{Item, is_same_item, occurrences, items_without}
 use Rattle.segments.specs.Queues.{Queues, queues_after_push, queues_without, queues_after_move, total_items, IsDistinct}
-use Rattle.segments.proofs.ItemLists.{same-true, times-append, times-without, length-without}
+use Rattle.segments.proofs.QueueLists.{same-true, times-append, times-without, length-without}
 use Rattle.replacement.specs.Counts.{queue_occurrences}
 
 abbrev pub once : Item → Item → ℕ

@@ -1,9 +1,7 @@
 pub mod Shape
 pub mod Carrying
 pub mod Planned
-pub mod Served
-pub mod Oldest
+pub mod Leaving
 pub mod Counting
 pub mod Balance
 pub mod Residents
-pub mod Leaving

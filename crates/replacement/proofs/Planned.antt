@@ -3,17 +3,18 @@ use Rattle.std.proofs.Common.{◌≡◌, ℕ, ◌≤◌, Bool, true, false, Opti
 use Rattle.std.proofs.lemmas.Bool.Decides.{nat_tests}
 use Rattle.std.proofs.lemmas.Bool.{cases_Bool}
 use Rattle.segments.specs.declared.records.Queue.TheVariants.{Window, Probation, Protected}
-use Rattle.segments.specs.Items.{Item, is_same_item, occurrences, items_without, oldest_of}
-use Rattle.segments.specs.Queues.{Queues, queue_holding, queues_after_move, total_items, IsDistinct}
-use Rattle.segments.proofs.ItemLists.{same-refl, same-sym, length-without, without-none, without-append}
-use Rattle.segments.proofs.MoveLaws.{taken-moved}
-use Rattle.segments.proofs.QueueLists.{first-stands, pushed-moved, still-absent}
+use Rattle.segments.specs.Items.{Item, is_same_item, occurrences, items_without, oldest_of, last_item, before}
+use Rattle.segments.specs.Queues.{Queues, queue_holding, queues_after_move, total_items, IsDistinct, queue_of}
+use Rattle.segments.proofs.QueueLists.{same-refl, same-sym, length-without, without-none, without-append, taken-moved, first-stands, pushed-moved, still-absent, placed}
 use Rattle.replacement.specs.declared.rules.Placement.TheVariants.{Direct, Windowed}
 use Rattle.replacement.specs.Table.{Rules, Placement, Queue, Response, with_recent, queues_after_demotion, hit_response, contest, eviction, response_with_victim, response_without_trial, miss_by, miss, access_in, access}
 use Rattle.replacement.specs.Plan.{Plan, Transfer, transfer, demotion, contest_plan, direct_plan, candidate_of, eviction_of, eviction_plan, joining_first, miss_plan_by, miss_plan, plan_in, plan}
 use Rattle.replacement.specs.PlanMoves.{queues_after_transfer, removed, response_of_plan}
 use Rattle.replacement.specs.Theorems.{HitsPlanned, EvictionsPlanned, AccessesPlanned}
 use Rattle.replacement.proofs.Counting.{distinct-moved}
+use Rattle.std.specs.Prelude.{MatchOption, IfSome}
+use Rattle.segments.specs.Moves.{move_record, IsMoveRecord}
+use Rattle.replacement.specs.KeptMoves.{MoveRecord, IsOldest}
 
 -- ---- hits
 
@@ -131,3 +132,17 @@ pub accesses_planned : AccessesPlanned
 accesses_planned r a i s d =
     access-at r a i s (queue_holding i s) refl ∙ (access-planned-in r a i (queue_holding i s) s d refl
     ∙ ap (λ (p : Plan). response_of_plan p s) (sym (plan-at r a i s (queue_holding i s) refl)))
+
+-- ---- moves of the oldest item of a queue, and of one that stands in none
+
+none-before : (l : List Item) (i : Item) → oldest_of l ≡ Some i → last_item (before i l) ≡ None
+none-before v i e = grind (arith, nat_tests)
+
+pub sent-if : (q to : Queue) (o : Option MoveRecord) (s t : Queues) → IsDistinct s
+    → MatchOption o (queue_of q s ≡ []) (λ r. oldest_of (queue_of q s) ≡ Some r.item)
+    → IfSome o (λ r. IsMoveRecord r.item (Some to) s t r) → IsOldest o
+sent-if q to v s t d e h = grind (arith, nat_tests, placed, first-stands, none-before)
+
+-- an item that stands in no queue comes to the recent end of one
+pub joined-oldest : (q : Queue) (i : Item) (s : Queues) (r : MoveRecord) → r ≡ move_record i (Some q) s → queue_holding i s ≡ None → IsOldest (Some r)
+joined-oldest q i s r h p = rw (h, p) (refl, tt)

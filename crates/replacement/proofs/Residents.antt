@@ -7,7 +7,7 @@ use Rattle.step_record.specs.Keys.{has_key}
 use Rattle.step_record.specs.Stats.{one_if}
 use Rattle.segments.specs.Items.{Item, nodeless_item, is_same_item, occurrences}
 use Rattle.segments.specs.Queues.{Queues, residents_in, total_items, IsDistinct}
-use Rattle.segments.proofs.ItemLists.{same-true, same-refl}
+use Rattle.segments.proofs.QueueLists.{same-true, same-refl}
 use Rattle.replacement.specs.Counts.{queue_occurrences}
 
 -- the items that stand there have the node that serves all

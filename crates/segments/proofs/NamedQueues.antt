@@ -9,13 +9,14 @@ use Rattle.queue_table.specs.Queues as ByNumber
 use Rattle.segments.specs.declared.records.Queue.{Queue}
 use Rattle.segments.specs.declared.records.Queue.TheVariants.{Window, Probation, Protected}
 use Rattle.segments.specs.Items.{is_same_item, occurrences, items_without, last_from, last_item, before, IsGap, put_behind}
-use Rattle.segments.specs.Queues.{queue_of, with_queue, queue_holding, IsDistinct, queues_after_push, queues_without}
-use Rattle.segments.specs.Moves.{item_place}
+use Rattle.segments.specs.Queues.{queue_of, with_queue, queue_holding, IsDistinct, queues_after_push, queues_without, Queues, Shown, queues_after_move, queues_after_pop}
+use Rattle.segments.specs.Moves.{item_place, move_record, queues_restored, queues_before_move, IsOpen, IsMoveRecord}
 use Rattle.queue_table.proofs.Contents.{cut_at}
 use Rattle.queue_table.proofs.QueueLists.{placed}
-use Rattle.segments.proofs.QueueLists.{absent, is_absent}
-use Rattle.segments.proofs.MoveLaws.{Stands, in_window, in_probation, in_protected, nowhere, stands}
-use Rattle.segments.specs.Names.{Place, number_of, name_of, named, IsNamed, named_place}
+use Rattle.segments.proofs.QueueLists.{absent, is_absent, pushed-moved, distinct-taken, taken-first, still-absent, Stands, in_window, in_probation, in_protected, nowhere, stands, move-recorded, out-recorded}
+use Rattle.segments.specs.Names.{Place, number_of, name_of, named, IsNamed, named_place, shown_of, numbered_place}
+use Rattle.segments.specs.declared.records.QueuePlace.{QueuePlace}
+use Rattle.segments.specs.declared.records.MoveRecord.{MoveRecord}
 
 -- one list: what is done to the entries is done to their items
 
@@ -128,3 +129,138 @@ module _ (i : Item) (s : ByNumber.Queues) (d : ByNumber.IsDistinct s) (h : IsNam
 
   pub place-named : (p : Place) → Some p ≡ ByNumber.place_in i s → Some (named_place p) ≡ item_place i (queue_holding i (named s)) (named s)
   place-named p e = place-at i p _ _ s (holding-shown i s d h) e
+
+-- ---- what each call owes, from what the table under it ensures
+
+-- r is the record of a call's move from the queues shown before it to the queues t, which show those after it
+pub record IsMade (r : MoveRecord) (after before : Queues) (t : ByNumber.Queues) : Type 0 where
+  pub lists : named t ≡ after
+  pub recorded : IsMoveRecord r.item r.to before (named t) r
+  pub kept : IsNamed t
+
+-- two records of moves, one after the other
+pub record AreMade (out put : MoveRecord) (after between before : Queues) (t : ByNumber.Queues) : Type 0 where
+  pub out_recorded : IsMoveRecord out.item None before between out
+  pub put_made : IsMade put after between t
+
+-- the record r, undone from the queues shown before a call, leaves the queues t
+pub record IsUndone (r : MoveRecord) (before : Queues) (t : ByNumber.Queues) : Type 0 where
+  pub lists : named t ≡ queues_before_move r before
+  pub kept : IsNamed t
+
+from-place : (i : Item) (to : Option Queue) (p : QueuePlace) (s : Queues) → Some p ≡ item_place i (queue_holding i s) s
+    → (let r : MoveRecord = record { item = i; from = Some p; to = to } in r ≡ move_record i to s)
+from-place i to p s e = ap (λ (f : Option QueuePlace). let r : MoveRecord = record { item = i; from = f; to = to } in r) e
+
+pushed-on : (q : Queue) (i : Item) (k : ℕ) (e : Entry) (s t : ByNumber.Queues) → IsDistinct (named s) → IsNamed s → e ≡ Entries.entry i 0 → k ≡ number_of q → queue_holding i (named s) ≡ None → t ≡ ByNumber.after_push k e s
+    → IsMade record { item = i; from = None; to = Some q } (queues_after_push q i (named s)) (named s) t
+pushed-on q i k e s t u h ee kq absent to =
+    let made_of : t ≡ ByNumber.after_push (number_of q) (Entries.entry i 0) s = to ∙ rw (ee, kq) refl in
+    let lists : named t ≡ queues_after_push q i (named s) = ap named made_of ∙ push-named q (Entries.entry i 0) s in
+    let r : MoveRecord = record { item = i; from = None; to = Some q } in
+    let e : r ≡ move_record i (Some q) (named s) = rw absent refl in
+    record {
+      lists = lists;
+      recorded = move-recorded i q (named s) (named t) r u e (lists ∙ pushed-moved i q (named s) absent);
+      kept = subst IsNamed (sym made_of) (with-kept q (s (number_of q) ++ Entries.entry i 0 ∷ []) s h);
+    }
+
+module _ (s : ByNumber.Queues) (n : ℕ) (shown : Shown) (v : shown_of s n ≡ shown) (h : IsNamed s) where
+  before-is : named s ≡ shown.lists
+  before-is = ap (λ (x : Shown). x.lists) v
+
+  -- an item that the lists by name do not hold
+  pub absent-below : (i : Item) (e : Entry) → e ≡ Entries.entry i 0 → queue_holding i shown.lists ≡ None → ByNumber.queue_holding e.item s ≡ None
+  absent-below i e ee none = cc (missing-numbered i s h (ap (queue_holding i) before-is ∙ none), before-is)
+
+  module _ (d : ByNumber.IsDistinct s) where
+    pub distinct-shown : IsDistinct shown.lists
+    distinct-shown = subst IsDistinct before-is (distinct-named s d)
+
+    pub holding-is : (i : Item) (k : ℕ) → ByNumber.queue_holding i s ≡ Some k → queue_holding i shown.lists ≡ Some (name_of k)
+    holding-is i k e = ap (queue_holding i) (sym before-is) ∙ holding-named i s d h k e
+
+    pub missing-is : (i : Item) → ByNumber.queue_holding i s ≡ None → queue_holding i shown.lists ≡ None
+    missing-is i e = ap (queue_holding i) (sym before-is) ∙ missing-named i s d h e
+
+    pub pushed : (q : Queue) (i : Item) (k : ℕ) (e : Entry) (t : ByNumber.Queues) → e ≡ Entries.entry i 0 → k ≡ number_of q → queue_holding i shown.lists ≡ None → t ≡ ByNumber.after_push k e s
+        → IsMade record { item = i; from = None; to = Some q } (queues_after_push q i shown.lists) shown.lists t
+    pushed q i k e t ee kq none to =
+        subst (λ (x : Queues). IsMade record { item = i; from = None; to = Some q } (queues_after_push q i x) x t) before-is
+        (pushed-on q i k e s t (distinct-named s d) h ee kq (ap (queue_holding i) before-is ∙ none) to)
+
+    -- the slot's entry e is x, whose item stood at the place p
+    module _ (e x : Entry) (p : Place) (from : QueuePlace) (ex : e ≡ x) (ps : Some p ≡ ByNumber.place_in e.item s) (fp : from ≡ named_place p) (t : ByNumber.Queues) where
+      place-shown : Some from ≡ item_place x.item (queue_holding x.item (named s)) (named s)
+      place-shown = ap (λ (y : QueuePlace). Some y) fp ∙ place-named x.item s d h p (ps ∙ ap (λ (y : Entry). ByNumber.place_in y.item s) ex)
+
+      pub sent : (q : Queue) (k : ℕ) → k ≡ number_of q → t ≡ ByNumber.after_send (Entries.entry e.item 0) k s
+          → IsMade record { item = x.item; from = Some from; to = Some q } (queues_after_move x.item q shown.lists) shown.lists t
+      sent q k kq to =
+          let out : ByNumber.Queues = ByNumber.after_removal x.item s in
+          let made_of : t ≡ ByNumber.after_push (number_of q) (Entries.entry x.item 0) out = to ∙ rw (ex, kq) refl in
+          let lists : named t ≡ queues_after_move x.item q (named s) =
+          ap named made_of ∙ (push-named q (Entries.entry x.item 0) out ∙ ap (queues_after_push q x.item) (without-named x.item s)) in
+          subst (λ (y : Queues). IsMade record { item = x.item; from = Some from; to = Some q } (queues_after_move x.item q y) y t) before-is
+          record {
+            lists = lists;
+            recorded = move-recorded x.item q (named s) (named t) _ (distinct-named s d) (from-place x.item (Some q) from (named s) place-shown) lists;
+            kept = subst IsNamed (sym made_of) (with-kept q (out (number_of q) ++ Entries.entry x.item 0 ∷ []) out (without-kept x.item s h));
+          }
+
+      pub taken : t ≡ ByNumber.after_removal e.item s
+          → IsMade record { item = x.item; from = Some from; to = None } (queues_without x.item shown.lists) shown.lists t
+      taken to =
+          let made_of : t ≡ ByNumber.after_removal x.item s = to ∙ rw ex refl in
+          let lists : named t ≡ queues_without x.item (named s) = ap named made_of ∙ without-named x.item s in
+          subst (λ (y : Queues). IsMade record { item = x.item; from = Some from; to = None } (queues_without x.item y) y t) before-is
+          record {
+            lists = lists;
+            recorded = out-recorded x.item (named s) (named t) _ (distinct-named s d) (from-place x.item None from (named s) place-shown) lists;
+            kept = subst IsNamed (sym made_of) (without-kept x.item s h);
+          }
+
+      pub popped : (q : Queue) (k : ℕ) → k ≡ number_of q → Entries.oldest_of (s k) ≡ Some x → t ≡ ByNumber.after_removal e.item s
+          → IsMade record { item = x.item; from = Some from; to = None } (queues_after_pop q shown.lists) shown.lists t
+      popped q k kq first to = grind (arith, nat_tests, before-is, taken-first, distinct-named s d, taken to)
+
+    pub renewed : (e x : Entry) (p : Place) (from : QueuePlace) → e ≡ x → Some p ≡ ByNumber.place_in e.item s → from ≡ named_place p
+        → (q : Queue) (k : ℕ) → k ≡ number_of q → Entries.oldest_of (s k) ≡ Some x
+        → (j : Item) (r : ℕ) (y : Entry) (t : ByNumber.Queues) → y ≡ Entries.entry j 0 → r ≡ number_of q → queue_holding j shown.lists ≡ None → t ≡ ByNumber.after_push r y (ByNumber.after_removal e.item s)
+        → AreMade record { item = x.item; from = Some from; to = None } record { item = j; from = None; to = Some q }
+        (queues_after_push q j (queues_after_pop q shown.lists)) (queues_after_pop q shown.lists) shown.lists t
+    renewed e x p from ex ps fp q k kq first j r y t ye rq none to =
+        let m : ByNumber.Queues = ByNumber.after_removal e.item s in
+        let out = popped e x p from ex ps fp m q k kq first refl in
+        let without : named m ≡ queues_without e.item (named s) = without-named e.item s in
+        let u : IsDistinct (named m) = subst IsDistinct (sym without) (distinct-taken e.item (named s) (distinct-named s d)) in
+        let absent : queue_holding j (named m) ≡ None = ap (queue_holding j) without ∙ still-absent j e.item (named s) (ap (queue_holding j) before-is ∙ none) in
+        let put = pushed-on q j r y m t u out.kept ye rq absent to in
+        grind (arith, nat_tests)
+
+  -- an item goes back to the place that its record names
+  module _ (r : MoveRecord) (p : QueuePlace) (place : Place) (is : r.from ≡ Some p) (pp : place ≡ numbered_place p) (open_there : IsOpen r.from (queues_without r.item shown.lists)) where
+    without-is : named (ByNumber.after_removal r.item s) ≡ queues_without r.item shown.lists
+    without-is = without-named r.item s ∙ ap (queues_without r.item) before-is
+
+    gap-shown : IsGap p.older (queue_of p.queue (queues_without r.item shown.lists))
+    gap-shown = subst (λ (x : Option QueuePlace). IsOpen x (queues_without r.item shown.lists)) is open_there
+
+    module _ (e : Entry) (ee : e ≡ Entries.entry r.item 0) where
+      pub gap-without : Entries.IsGap place.older (ByNumber.after_removal e.item s place.queue)
+      gap-without =
+          let g = gap-numbered p.queue p.older (ByNumber.after_removal r.item s)
+          (subst (λ (x : Queues). IsGap p.older (queue_of p.queue x)) (sym without-is) gap-shown) in
+          grind (arith, nat_tests)
+
+      pub put-back : (t : ByNumber.Queues) → t ≡ ByNumber.after_return place.queue place.older e (ByNumber.after_removal e.item s) → IsUndone r shown.lists t
+      put-back t to =
+          let m : ByNumber.Queues = ByNumber.after_removal r.item s in
+          let made_of : t ≡ ByNumber.after_return (number_of p.queue) p.older (Entries.entry r.item 0) m = to ∙ rw (ee, pp) refl in
+          record {
+            lists = ap named made_of
+                ∙ (return-named p.queue p.older (Entries.entry r.item 0) m
+                ∙ (ap (λ (x : Queues). with_queue p.queue (put_behind p.older r.item (queue_of p.queue x)) x) without-is
+                ∙ ap (λ (f : Option QueuePlace). queues_restored f r.item (queues_without r.item shown.lists)) (sym is)));
+            kept = subst IsNamed (sym made_of) (with-kept p.queue (Entries.put_behind p.older (Entries.entry r.item 0) (m (number_of p.queue))) m (without-kept r.item s h));
+          }

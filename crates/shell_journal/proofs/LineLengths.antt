@@ -12,8 +12,7 @@ use Rattle.step_record.specs.declared.step.Reply.TheVariants as reply
 use Rattle.step_record.specs.Answers.{is_answer}
 use Rattle.step_record.specs.History.{Entries}
 use Rattle.journal_text.specs.Journal.{Entry, Step, Reply, entry_line, AreLines}
-use Rattle.journal_text.specs.Table.{Act, Item, act_word, act_words, answer_reply, behind, entry_words, is_answer_in, is_in_version, item_words, reply_word, reply_words, spaced, spaced_words, text_of, word_text, FitWords, IsLine}
-use Rattle.journal_text.specs.Table.{Word, Named, Worker, Stripe, Wide}
+use Rattle.journal_text.specs.Table.{Act, Item, act_word, act_words, answer_reply, behind, entry_words, is_answer_in, is_in_version, item_words, reply_word, reply_words, spaced, spaced_words, text_of, word_text, FitWords, IsLine, Word, Named, Worker, Stripe, Wide}
 use Rattle.journal_text.specs.declared.line.JournalLine.TheVariants.{Made}
 use Rattle.journal_text.specs.declared.version.Version.TheVariants.{Two}
 use Rattle.journal_text.proofs.Spacing.{act_front, reply_front, spaced_append, spaced_none, spelled_spaced}

@@ -8,7 +8,7 @@ use Rattle.step_record.specs.Config.{config_fault, is_from_one}
 use Rattle.step_record.specs.declared.limits.TheConstants.{MAX_CAPACITY, MAX_MAIN_PERCENT}
 use Rattle.segments.specs.Items.{Item, occurrences}
 use Rattle.segments.specs.Queues.{Queues, total_items}
-use Rattle.segments.proofs.ItemLists.{times-append}
+use Rattle.segments.proofs.QueueLists.{times-append}
 use Rattle.replacement.specs.Rules.{Config, main_size}
 use Rattle.shell_model.specs.Shell.{Task, Shell, window_size}
 use Rattle.replacement.specs.Counts.{queue_occurrences}

@@ -5,7 +5,7 @@ use Rattle.step_record.specs.declared.step.Act.TheVariants as a
 use Rattle.segments.specs.declared.records.Queue.TheVariants.{Probation}
 use Rattle.segments.specs.Items.{Item, occurrences, items_without}
 use Rattle.segments.specs.Queues.{IsDistinct}
-use Rattle.segments.proofs.ItemLists.{times-gone, length-without}
+use Rattle.segments.proofs.QueueLists.{times-gone, length-without}
 use Rattle.shell_model.specs.Shell.{Reply, Shell, window_size, is_over}
 use Rattle.shell_model.specs.ShellEviction.{shift_effect, IsCandidate, IsVictim}
 use Rattle.shell_model.specs.ShellSteps as k

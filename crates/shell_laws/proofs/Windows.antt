@@ -9,8 +9,7 @@ use Rattle.step_record.specs.declared.drain.Phase.TheVariants.{Writes, Evictions
 use Rattle.segments.specs.declared.records.Queue.TheVariants.{Probation, Protected}
 use Rattle.segments.specs.Items.{Item, items_without, oldest_of}
 use Rattle.segments.specs.Queues.{Queues, queue_holding, queues_after_move, IsDistinct}
-use Rattle.segments.proofs.ItemLists.{length-without}
-use Rattle.segments.proofs.MoveLaws.{Stands, in_window, in_probation, in_protected, nowhere, stands}
+use Rattle.segments.proofs.QueueLists.{length-without, Stands, in_window, in_probation, in_protected, nowhere, stands}
 use Rattle.replacement.specs.Table.{Queue, with_recent, hit_in, after_hit}
 use Rattle.shell_model.specs.ShellState.{Shell, window_size, shell_protected_size, is_over, holder_in_phase, in_phase}
 use Rattle.shell_model.specs.Changes.{holder_after_task}

@@ -4,8 +4,7 @@ use Rattle.std.proofs.lemmas.Bool.{eqb-true, eq-eqb, and_parts, and_from, cases_
 use Rattle.std.proofs.lemmas.Bool.Decides.{nat_tests}
 use Rattle.segments.specs.Items.{Item, is_same_item, occurrences, items_without}
 use Rattle.segments.specs.Queues.{Queues, queue_holding, queues_without, IsDistinct}
-use Rattle.segments.proofs.ItemLists.{same-true, same-refl, without-none}
-use Rattle.segments.proofs.MoveLaws.{Stands, in_window, in_probation, in_protected, nowhere, stands, taken-none}
+use Rattle.segments.proofs.QueueLists.{same-true, same-refl, without-none, Stands, in_window, in_probation, in_protected, nowhere, stands, taken-none}
 use Rattle.replacement.proofs.Counting.{once}
 use Rattle.shell_model.specs.ShellState.{Queue, table_with, node_of, is_listed, unlisted, queues_cleared, cleared_from}
 use Rattle.shell_model.specs.Consistency.{AreAbove, IsAscending}

@@ -6,7 +6,7 @@ use Rattle.step_record.specs.declared.step.Act.TheVariants as a
 use Rattle.step_record.specs.declared.step.Reply.TheVariants as reply
 use Rattle.step_record.specs.History.{next_data, data_after, IsLegal}
 use Rattle.segments.specs.Items.{Item, is_same_item, occurrences, items_without}
-use Rattle.segments.proofs.ItemLists.{same-true, times-append}
+use Rattle.segments.proofs.QueueLists.{same-true, times-append}
 use Rattle.admission.specs.Shape.{Shape, IsShape}
 use Rattle.admission.specs.Frequency.{FrequencyData, frequency_of}
 use Rattle.admission.proofs.Recording.{recorded_freq}

@@ -7,8 +7,7 @@ use Rattle.step_record.specs.declared.drain.Phase.TheVariants.{Writes, Evictions
 use Rattle.segments.specs.declared.records.Queue.TheVariants.{Window, Probation, Protected}
 use Rattle.segments.specs.Items.{Item, is_same_item, occurrences, items_without, oldest_of}
 use Rattle.segments.specs.Queues.{Queues, queue_holding, queues_after_push, queues_after_move, queues_without, total_items, IsDistinct}
-use Rattle.segments.proofs.ItemLists.{same-refl, same-true, times-append, times-one, length-without, times-without}
-use Rattle.segments.proofs.MoveLaws.{Stands, in_window, in_probation, in_protected, nowhere, stands}
+use Rattle.segments.proofs.QueueLists.{same-refl, same-true, times-append, times-one, length-without, times-without, Stands, in_window, in_probation, in_protected, nowhere, stands}
 use Rattle.replacement.specs.Rules.{main_size}
 use Rattle.replacement.specs.Table.{Queue, with_recent, hit_in, after_hit}
 use Rattle.shell_buffers.specs.declared.task.Task.TheVariants.{Add, Update, Remove}

@@ -8,8 +8,7 @@ use Rattle.step_record.specs.declared.step.Reply.TheVariants as reply
 use Rattle.segments.specs.declared.records.Queue.TheVariants.{Window, Probation}
 use Rattle.segments.specs.Items.{Item, is_same_item, occurrences, oldest_of}
 use Rattle.segments.specs.Queues.{Queues, queue_holding, queues_after_push, queues_after_move, queues_without, IsDistinct}
-use Rattle.segments.proofs.ItemLists.{same-refl, same-true}
-use Rattle.segments.proofs.MoveLaws.{taken-none}
+use Rattle.segments.proofs.QueueLists.{same-refl, same-true, taken-none}
 use Rattle.replacement.specs.Rules.{three_queues}
 use Rattle.replacement.specs.Table.{Queue, hit_in}
 use Rattle.replacement.specs.Plan.{Plan, hit_plan, stay_plan, candidate_of, eviction_plan}

@@ -1,9 +1,11 @@
 -- One digit of a word.
-use Rattle.std.proofs.Common.{◌≡◌, ◌≢◌, ℕ, suc, zero, ◌+◌, ◌-◌, ◌*◌, ◌/◌, ◌%◌, ◌<◌, ◌≤◌, ◌^◌, List, length, get_or, set, replicate, bit_and, refl, ap, ◌∙◌, arith}
+use Rattle.std.proofs.Common.{◌≡◌, ◌≢◌, ℕ, suc, zero, ◌+◌, ◌-◌, ◌*◌, ◌/◌, ◌%◌, ◌<◌, ◌≤◌, ◌^◌, List, length, get_or, set, replicate, bit_and, refl, ap, ◌∙◌, arith, bit_or}
 use Rattle.std.proofs.lemmas.Bool.Decides.{nat_tests}
-use Rattle.std.proofs.lemmas.Nat.{shr-shr, pow-add, one_shl, and_mask}
+use Rattle.std.proofs.lemmas.Nat.{shr-shr, pow-add, one_shl, and_mask, and_shr, and_mod, or_shr, or_mod, or_comm, or_shifted, mul-le}
 use Rattle.std.proofs.lemmas.List.{get_or-set_same, get_or-set_other}
 use Rattle.sketch.specs.Counters.{nibble}
+use Rattle.std.proofs.Math.Nat.{add-mul}
+use Rattle.sketch.specs.Laws.{halved_word, odd_bits, lost_word}
 
 pub four_more : (n : ℕ) → 2 ^ (4 * suc n) ≡ 16 * 2 ^ (4 * n)
 four_more n = grind (arith, nat_tests, pow-add 2 4 (4 * n))
@@ -119,3 +121,108 @@ same_digits (suc k) x y f g h =
     let low : x % 16 ≡ y % 16 = h 0 (omega arith) in
     let high : x / 16 ≡ y / 16 = same_digits k (x / 16) (y / 16) (omega arith) (omega arith) (λ n v. h (suc n) (omega arith)) in
     omega (arith, low, high)
+
+-- ---- what a halving does to a word's digits
+
+-- ---- the operators, digit by digit
+
+and_digit : (n x y : ℕ) → nibble (bit_and x y) n ≡ bit_and (nibble x n) (nibble y n)
+unfolding nibble
+and_digit zero x y = and_mod x y 4
+and_digit (suc n) x y = ap (λ z. nibble z n) (and_shr x y 4) ∙ and_digit n (x / 16) (y / 16)
+
+or_digit : (n x y : ℕ) → nibble (bit_or x y) n ≡ bit_or (nibble x n) (nibble y n)
+unfolding nibble
+or_digit zero x y = or_mod x y 4
+or_digit (suc n) x y = ap (λ z. nibble z n) (or_shr x y 4) ∙ or_digit n (x / 16) (y / 16)
+
+-- a word moved right by t below 4 has bit t of each digit lowest
+shifted : (n t x : ℕ) → t < 4 → nibble (x / 2 ^ t) n % 2 ≡ nibble x n / 2 ^ t % 2
+unfolding nibble
+shifted zero zero x h = omega arith
+shifted zero (suc zero) x h = omega arith
+shifted zero (suc (suc zero)) x h = omega arith
+shifted zero (suc (suc (suc zero))) x h = omega arith
+shifted zero (suc (suc (suc (suc t)))) x h = absurd (omega arith)
+shifted (suc n) t x h = grind (arith, nat_tests, shr-shr x t 4, shr-shr x 4 t, shifted n t (x / 16) h)
+
+-- ---- masks that are the same in each digit
+
+mask : ℕ → ℕ → ℕ
+mask d zero = 0
+mask d (suc k) = mask d k * 16 + d
+
+mask_digit : (d k n : ℕ) → d < 16 → n < k → nibble (mask d k) n ≡ d
+unfolding nibble mask
+mask_digit d zero n h w = absurd (omega arith)
+mask_digit d (suc k) zero h w = omega arith
+mask_digit d (suc k) (suc n) h w = grind (arith, nat_tests, mask d k, mask_digit d k n h (omega arith))
+
+halved : (n x : ℕ) → nibble (x / 2) n % 8 ≡ nibble x n / 2
+unfolding nibble
+halved zero x = omega arith
+halved (suc n) x = let e : x / 2 / 16 ≡ x / 16 / 2 = omega arith in rw e (halved n (x / 16))
+
+pub nibble_halved : (n x : ℕ) → n < 16 → nibble (halved_word x) n ≡ nibble x n / 2
+unfolding mask
+nibble_halved n x w =
+    and_digit n (x / 2) (mask 7 16) ∙ ap (bit_and (nibble (x / 2) n)) (mask_digit 7 16 n (omega arith) w) ∙ and_mask (nibble (x / 2) n) 3 ∙ halved n x
+
+pub nibble_odd : (n x : ℕ) → n < 16 → nibble (odd_bits x) n ≡ nibble x n % 2
+unfolding mask
+nibble_odd n x w = and_digit n x (mask 1 16) ∙ ap (bit_and (nibble x n)) (mask_digit 1 16 n (omega arith) w) ∙ and_mask (nibble x n) 1
+
+-- ---- doubled words
+
+-- a word whose digits are all below 8
+pub low_word : (k x : ℕ) → ((n : ℕ) → n < k → nibble x n ≤ 7) → x < 2 ^ (4 * k) → 15 * x + 7 ≤ 7 * 2 ^ (4 * k)
+unfolding nibble
+low_word zero x h w = omega arith
+low_word (suc k) x h w =
+    let w' : x < 16 * 2 ^ (4 * k) = rw (four_more k) at w in
+    let r : x % 16 ≤ 7 = h 0 (omega arith) in
+    let ih : 15 * (x / 16) + 7 ≤ 7 * 2 ^ (4 * k) = low_word k (x / 16) (λ n v. h (suc n) (omega arith)) (omega arith) in
+    rw (four_more k) (omega arith)
+
+pub nibble_doubled : (k n x b : ℕ) → n < k → ((m : ℕ) → m < k → nibble x m ≤ 7) → ((m : ℕ) → m < k → nibble b m ≤ 1) → nibble (2 * x + b) n ≡ 2 * nibble x n + nibble b n
+unfolding nibble
+nibble_doubled zero n x b w h g = absurd (omega arith)
+nibble_doubled (suc k) zero x b w h g = let p : x % 16 ≤ 7 = h 0 (omega arith) in let q : b % 16 ≤ 1 = g 0 (omega arith) in omega arith
+nibble_doubled (suc k) (suc n) x b w h g =
+    let p : x % 16 ≤ 7 = h 0 (omega arith) in
+    let q : b % 16 ≤ 1 = g 0 (omega arith) in
+    let e : (2 * x + b) / 16 ≡ 2 * (x / 16) + b / 16 = omega arith in
+    rw e (nibble_doubled k n (x / 16) (b / 16) (omega arith) (λ m v. h (suc m) (omega arith)) (λ m v. g (suc m) (omega arith)))
+
+-- ---- the lost bits of four words in one
+
+-- a word whose digits are one bit, moved left within them
+parts : (x p : ℕ) → x % 16 ≤ 1 → p ≤ 8 → (x * p % 16 ≡ x % 16 * p) × (x * p / 16 ≡ x / 16 * p)
+parts x p b h = grind (arith, nat_tests, mul-le (x % 16) p 1 8 b h, add-mul (x / 16 * 16) (x % 16) p)
+
+moved : (k n p x : ℕ) → n < k → p ≤ 8 → ((m : ℕ) → m < k → nibble x m ≤ 1) → nibble (x * p) n ≡ nibble x n * p
+unfolding nibble
+moved zero n p x w h b = absurd (omega arith)
+moved (suc k) zero p x w h b = (parts x p (b 0 (omega arith)) h).0
+moved (suc k) (suc n) p x w h b = rw ((parts x p (b 0 (omega arith)) h).1) (moved k n p (x / 16) (omega arith) h (λ m v. b (suc m) (omega arith)))
+
+union_low : (a b c d : ℕ) → a < 2 → b < 2 → c < 2 → d < 2 → bit_or (bit_or (bit_or a (b * 2)) (c * 4)) (d * 8) ≡ a + 2 * b + 4 * c + 8 * d
+union_low a b c d p q r s = search (arith, or_comm, or_shifted)
+
+module _ (ws : List ℕ) (j n : ℕ) (w : n < 16) where
+  -- what one of the four words loses in a digit
+  abbrev lost : ℕ → ℕ
+  lost t = nibble (get_or ws (4 * j + t) 0) n % 2
+
+  moved_bit : (t p : ℕ) → p ≤ 8 → nibble (odd_bits (get_or ws (4 * j + t) 0) * p) n ≡ lost t * p
+  moved_bit t p h = grind (arith, nat_tests, moved, nibble_odd)
+
+  all_lost : nibble (lost_word ws j) n ≡ lost 0 + 2 * lost 1 + 4 * lost 2 + 8 * lost 3
+  all_lost = grind (arith, nat_tests, or_digit, nibble_odd, moved_bit, union_low)
+
+  picked : (t : ℕ) → t < 4 → (lost 0 + 2 * lost 1 + 4 * lost 2 + 8 * lost 3) / 2 ^ t % 2 ≡ lost t
+  picked v h = grind (arith, nat_tests)
+
+  -- what the lost words keep of a digit of word 4j+t
+  pub lost_digit : (t : ℕ) → t < 4 → nibble (odd_bits (lost_word ws j / 2 ^ t)) n ≡ nibble (get_or ws (4 * j + t) 0) n % 2
+  lost_digit t h = nibble_odd n (lost_word ws j / 2 ^ t) w ∙ shifted n t (lost_word ws j) h ∙ rw all_lost (picked t h)

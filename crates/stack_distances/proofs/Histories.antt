@@ -1,9 +1,9 @@
 -- A histogram, one access of the trace after another.
-use Rattle.std.proofs.Common.{◌≡◌, ℕ, suc, zero, ◌+◌, ◌<◌, ◌≤◌, Bool, true, false, cond, eqb, nat_eq, nat_lt, Option, Some, None, List, [], ◌∷◌, ◌++◌, length, count_by, take, drop, get_or, ap, ◌∙◌, sym, refl, arith, append_assoc, append-nil}
-use Rattle.std.proofs.lemmas.Bool.{eqb-true, ne_eqb}
+use Rattle.std.proofs.Common.{◌≡◌, ℕ, suc, zero, ◌+◌, ◌<◌, ◌≤◌, Bool, true, false, cond, eqb, nat_eq, nat_lt, Option, Some, None, List, [], ◌∷◌, ◌++◌, length, count_by, take, drop, get_or, ap, ◌∙◌, sym, refl, arith, append_assoc, append-nil, length-take, set, inl, inr, get_or-set_other}
+use Rattle.std.proofs.lemmas.Bool.{eqb-true, ne_eqb, cases_eq, cases_lt, eq-eqb}
 use Rattle.std.proofs.lemmas.Bool.Decides.{nat_tests}
-use Rattle.std.proofs.lemmas.List.{take_more}
-use Rattle.std.proofs.lemmas.List.Sums.{sum_by_push}
+use Rattle.std.proofs.lemmas.List.{take_more, get_or_past}
+use Rattle.std.proofs.lemmas.List.Sums.{sum_by_push, count_by-le-length}
 use Rattle.step_record.specs.Keys.{has_key}
 use Rattle.step_record.specs.Bits.{bit_of}
 use Rattle.queue_cache.specs.Lru.{distinct_keys, keys_since}
@@ -12,10 +12,12 @@ use Rattle.trace_index.specs.KeyPlaces.{place_of}
 use Rattle.trace_index.specs.Uses.{last_below, number_of}
 use Rattle.stack_distances.specs.Distances.{distance, distances_after, distances}
 use Rattle.stack_distances.specs.Sums.{mark_of, sum_below}
-use Rattle.stack_distances.specs.Histogram.{Histogram, is_last, is_at, IsHistogram}
+use Rattle.stack_distances.specs.Histogram.{Histogram, is_last, is_at, IsHistogram, count_at, IsNoted}
 use Rattle.stack_distances.proofs.Bits.{put-marks}
-use Rattle.stack_distances.proofs.Places.{again-next, came-by, last_number, last-key, last-low, past-end, stack, stack-front, stack-next}
-use Rattle.stack_distances.proofs.Stack.{since-beyond, since-within}
+use Rattle.stack_distances.proofs.Counting.{again-next, came-by, last_number, last-key, last-low, past-end, stack, stack-front, stack-next, since-beyond, since-within}
+use Rattle.std.proofs.lemmas.Grind.{get_or-set_at}
+use Rattle.step_record.specs.declared.limits.TheConstants.{MAX_ACCESSES}
+use Rattle.stack_distances.proofs.Prefix.{none-deeper}
 
 -- ---- the distances
 
@@ -143,3 +145,30 @@ module _ (keys : List ℕ) (place : ℕ) (in_it : place < length keys) (h : Hist
 
       pub again-counted : (e : ℕ) → e + 1 + sum_below (mark_of vs) p ≡ length h.counts.items → (d : ℕ) → count_by (is_at (suc d)) (distances (take place keys)) + cond (eqb d e) 1 0 ≡ count_by (is_at (suc d)) (distances (take (place + 1) keys))
       again-counted e deep d = grind (arith, nat_tests, depth, came, count-next)
+
+-- ---- what was noted, to be counted
+
+module _ (counts noted : List ℕ) (d : ℕ) where
+  pub noted-more : (q : ℕ) → count_at counts (noted ++ d ∷ []) q ≡ count_at counts noted q + cond (eqb q d) 1 0
+  noted-more q = omega (arith, sum_by_push (λ x. cond {A = ℕ} (eqb q x) 1 0) noted d)
+
+  noted-there : count_at counts (noted ++ d ∷ []) d ≡ count_at counts noted d + 1
+  noted-there = noted-more d ∙ ap (λ b. count_at counts noted d + cond b 1 0) (eq-eqb d d refl)
+
+  -- the last one is counted
+  pub counted-last : d < length counts → (q : ℕ) → count_at (set counts d (get_or counts d 0 + 1)) noted q ≡ count_at counts (noted ++ d ∷ []) q
+  counted-last within q = search (arith, cases_eq, get_or-set_at, noted-there, get_or-set_other, noted-more, ne_eqb)
+
+  module _ (first-counts first-noted : List ℕ) (may : IsNoted first-counts first-noted) (same : (q : ℕ) → count_at counts (noted ++ d ∷ []) q ≡ count_at first-counts first-noted q) where
+    pub last-within : length counts ≡ length first-counts → d < length counts
+    last-within long = elim (cases_lt d (length counts)) [
+      | inl l ↦ l
+      | inr past ↦ absurd (omega (arith, same d, noted-there, may.within d (omega (arith, past, long)), get_or_past first-counts d 0 (omega (arith, past, long))))
+    ]
+
+-- what a histogram noted may be counted
+pub may-count : (keys : List ℕ) (place : ℕ) (h : Histogram) → length keys ≤ MAX_ACCESSES → IsHistogram keys place h → IsNoted h.counts.items h.noted.items
+may-count keys place h few c = record {
+  within = λ d past. omega (arith, c.counted d, none-deeper (take place keys) d (omega (arith, past, c.long)));
+  few = λ d. omega (arith, c.counted d, count_by-le-length (is_at (suc d)) (distances (take place keys)), distances-long [] (take place keys), length-take place keys, few);
+}

@@ -1,11 +1,7 @@
-pub mod Stack
-pub mod Places
 pub mod Counting
 pub mod Bits
 pub mod Histories
 pub mod Prefix
 pub mod Reading
 pub mod Windows
-pub mod Clear
 pub mod FenwickTree
-pub mod Noted

@@ -7,7 +7,7 @@ use Rattle.queue_cache.specs.Lru.{distinct_keys}
 use Rattle.stack_distances.specs.Distances.{distance, distances_after, is_within, hits_within}
 use Rattle.stack_distances.specs.Histogram.{is_at}
 use Rattle.queue_cache.proofs.Counting.{count-cons}
-use Rattle.stack_distances.proofs.Stack.{grows, since-within}
+use Rattle.stack_distances.proofs.Counting.{grows, since-within}
 
 -- ---- one distance more
 

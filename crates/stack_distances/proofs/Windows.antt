@@ -12,11 +12,9 @@ use Rattle.queue_cache.proofs.Recency.{has-drop}
 use Rattle.stack_distances.specs.Distances.{distance, is_within, hits_within, stats_by}
 use Rattle.trace_index.specs.Uses.{last_below, number_of}
 use Rattle.stack_distances.specs.Window.{Window, IsWindow, IsFirstClear}
-use Rattle.stack_distances.proofs.Counting.{stats-read, hits-and-held}
+use Rattle.stack_distances.proofs.Counting.{stats-read, hits-and-held, again-next, came-by, past-end, past-length, stack, stack-front, stack-next, fewer-behind, since-within, since-beyond}
 use Rattle.stack_distances.proofs.Histories.{count-next}
-use Rattle.stack_distances.proofs.Places.{again-next, came-by, past-end, past-length, stack, stack-front, stack-next}
 use Rattle.stack_distances.proofs.Reading.{sum-small}
-use Rattle.stack_distances.proofs.Stack.{fewer-behind, since-within, since-beyond}
 
 -- ---- hits
 

@@ -1,31 +1,23 @@
 -- What an access came to that was accepted, and where it is not.
 use Rattle.std.proofs.lemmas.Bool.Decides.{nat_tests}
-use Rattle.std.proofs.Common.{arith, ◌≡◌, ℕ, ◌==◌, Bool, true, false, if◌then◌else◌, Option, Some, None, ap, sym, subst, refl}
+use Rattle.std.proofs.Common.{arith, ◌≡◌, ℕ, ◌==◌, Bool, true, if◌then◌else◌, Option, Some, None, ap, sym, subst, refl}
 use Rattle.std.proofs.lemmas.Bool.{eqb-true, eq-eqb}
 use Rattle.step_record.specs.declared.limits.TheConstants.{MAX_STEPS}
 use Rattle.step_record.specs.Limited.{Outcome, limited, lifted, IsAccepted}
 
 -- ---- by whether it is accepted
 
-abbrev value_or : {A : Type 0} → A → Option A → A
-value_or a None = a
-value_or a (Some b) = b
-
 pub accepted-where : {D : Type 0} (taken : Bool) (p : Outcome × D) (o : Outcome) (e : D) → (if taken then Some p else None) ≡ Some (o, e) → IsAccepted p o e
-accepted-where true p o e h = grind (arith, nat_tests)
-accepted-where false p o e h = absurd (cc (h))
+accepted-where v p o e h = grind (arith, nat_tests)
 
 accepted-by : {D : Type 0} (refused : Bool) (p : Outcome × D) (o : Outcome) (e : D) → (if refused then None else Some p) ≡ Some (o, e) → IsAccepted p o e
-accepted-by true p o e h = absurd (cc (h))
-accepted-by false p o e h = accepted-where true p o e h
+accepted-by v p o e h = grind (arith, nat_tests, accepted-where)
 
 lifted-by : {D E : Type 0} (f : D → E) (refused : Bool) (p : Outcome × D) (o : Outcome) (e : E) → lifted f (if refused then None else Some p) ≡ Some (o, e) → IsAccepted (p.0, f p.1) o e
-lifted-by f true p o e h = absurd (cc (h))
-lifted-by f false p o e h = accepted-by false (p.0, f p.1) o e h
+lifted-by f v p o e h = grind (arith, nat_tests, accepted-by)
 
 refused-by : {D E : Type 0} (f : D → E) (refused : Bool) (p : Outcome × D) → lifted f (if refused then None else Some p) ≡ None → refused ≡ true
-refused-by f true p h = refl
-refused-by f false p h = absurd (cc (h))
+refused-by f v p h = grind (arith, nat_tests)
 
 -- ---- of an engine
 

@@ -1,4 +1,4 @@
-use Rattle.adaptive_window.proofs.Residents.{cache_keeps}
+use Rattle.adaptive_window.proofs.Fitting.{cache_keeps}
 use Rattle.adaptive_window.proofs.theorems.cache_keeps.Goals as goal
 
 pub returns : goal.returns

@@ -1,5 +1,5 @@
 use Rattle.std.proofs.Common.{arith}
-use Rattle.conservative_laws.proofs.ReportLaws.{obey}
+use Rattle.conservative_laws.proofs.Examples.{obey}
 use Rattle.conservative_laws.proofs.theorems.reports_obey_laws.Goals as goal
 
 pub returns : goal.returns

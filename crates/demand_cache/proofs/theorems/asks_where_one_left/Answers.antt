@@ -1,5 +1,4 @@
-use Rattle.demand_cache.proofs.Keeping.{pages-sound}
-use Rattle.demand_cache.proofs.Asking.{asks-where-one-left}
+use Rattle.demand_cache.proofs.Keeping.{pages-sound, asks-where-one-left}
 use Rattle.demand_cache.proofs.theorems.asks_where_one_left.Goals as goal
 
 pub returns : goal.returns

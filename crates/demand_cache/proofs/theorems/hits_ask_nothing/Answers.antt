@@ -1,5 +1,4 @@
-use Rattle.demand_cache.proofs.Keeping.{pages-sound}
-use Rattle.demand_cache.proofs.Asking.{hits-ask-nothing}
+use Rattle.demand_cache.proofs.Keeping.{pages-sound, hits-ask-nothing}
 use Rattle.demand_cache.proofs.theorems.hits_ask_nothing.Goals as goal
 
 pub returns : goal.returns

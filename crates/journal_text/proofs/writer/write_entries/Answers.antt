@@ -1,12 +1,11 @@
 use Rattle.std.proofs.lemmas.Grind.{common_steps}
 use Rattle.std.proofs.Common.{◌≡◌, ◌∙◌, ◌+◌, ◌-◌, ◌++◌, ◌∷◌, [], List, ℕ, zero, suc, Some, ap, sym, subst, arith, take}
 use Rattle.std.proofs.lemmas.List.Elements.{All-nil, All-push}
-use Rattle.std.specs.Prelude.{slice_get}
+use Rattle.std.specs.Prelude.{slice_get, OnErr, Result, Ok, Err}
 use Rattle.journal_text.specs.Journal.{begun, ended_line, entry_line, header}
 use Rattle.journal_text.specs.Table.{entry_words, FitWords}
 use Rattle.journal_text.specs.TextBuffer.{AreFit}
 use Rattle.journal_text.specs.declared.version.Version.TheVariants.{Two}
-use Rattle.std.specs.Prelude.{OnErr, Result, Ok, Err}
 use Rattle.streams.proofs.Tallies.{further, unspent}
 use Rattle.streams.specs.Part.{AppendsPart}
 use Rattle.journal_text.proofs.Fronts.{begun_front, begun_more, begun_none}

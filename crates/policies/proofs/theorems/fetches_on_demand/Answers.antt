@@ -1,4 +1,4 @@
-use Rattle.policies.proofs.Residents.{fetches_on_demand}
+use Rattle.policies.proofs.StepLaws.{fetches_on_demand}
 use Rattle.policies.proofs.theorems.fetches_on_demand.Goals as goal
 
 pub returns : goal.returns

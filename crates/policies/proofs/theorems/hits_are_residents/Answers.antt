@@ -1,4 +1,4 @@
-use Rattle.policies.proofs.Residents.{hits_are_residents}
+use Rattle.policies.proofs.StepLaws.{hits_are_residents}
 use Rattle.policies.proofs.theorems.hits_are_residents.Goals as goal
 
 pub returns : goal.returns

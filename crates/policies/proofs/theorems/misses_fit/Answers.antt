@@ -1,4 +1,4 @@
-use Rattle.policies.proofs.Residents.{misses_fit}
+use Rattle.policies.proofs.StepLaws.{misses_fit}
 use Rattle.policies.proofs.theorems.misses_fit.Goals as goal
 
 pub returns : goal.returns

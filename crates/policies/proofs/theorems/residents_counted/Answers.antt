@@ -1,4 +1,4 @@
-use Rattle.policies.proofs.Residents.{residents_counted}
+use Rattle.policies.proofs.StepLaws.{residents_counted}
 use Rattle.policies.proofs.theorems.residents_counted.Goals as goal
 
 pub returns : goal.returns

@@ -1,4 +1,4 @@
-use Rattle.policies.proofs.Residents.{residents_distinct}
+use Rattle.policies.proofs.StepLaws.{residents_distinct}
 use Rattle.policies.proofs.theorems.residents_distinct.Goals as goal
 
 pub returns : goal.returns

@@ -1,4 +1,4 @@
-use Rattle.policies.proofs.Residents.{residents_fit}
+use Rattle.policies.proofs.StepLaws.{residents_fit}
 use Rattle.policies.proofs.theorems.residents_fit.Goals as goal
 
 pub returns : goal.returns

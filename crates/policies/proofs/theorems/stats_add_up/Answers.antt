@@ -1,4 +1,4 @@
-use Rattle.policies.proofs.Residents.{stats_add_up}
+use Rattle.policies.proofs.StepLaws.{stats_add_up}
 use Rattle.policies.proofs.theorems.stats_add_up.Goals as goal
 
 pub returns : goal.returns

@@ -4,7 +4,7 @@ use Rattle.std.proofs.lemmas.Bool.{or_parts}
 use Rattle.queue_table.specs.Queues.{Queues}
 use Rattle.queue_table.specs.QueueTable.{queues}
 use Rattle.queue_moves.specs.Moves.{item_of, leaving}
-use Rattle.policy_steps.proofs.Coming.{comes-on}
+use Rattle.policy_steps.proofs.Steps.{comes-on}
 use Rattle.policy_steps.proofs.Leaving.{none-left}
 use Rattle.policy_steps.proofs.comers.enter_for_remembered.Goals as goal
 

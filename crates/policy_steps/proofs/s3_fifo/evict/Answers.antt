@@ -5,7 +5,7 @@ use Rattle.queue_moves.specs.Moves.{item_of, no_run, leaving, goes}
 use Rattle.queue_moves.proofs.Carried.{no-run}
 use Rattle.policy_steps.specs.Misses.{Run, one_leaver, leavers_for_ghost}
 use Rattle.policy_steps.specs.S3Fifo.{SMALL, MAIN, GHOST, main_turns}
-use Rattle.policy_steps.proofs.Coming.{comes-ran}
+use Rattle.policy_steps.proofs.Steps.{comes-ran}
 use Rattle.policy_steps.proofs.Leaving.{off-run}
 use Rattle.policy_steps.proofs.s3_fifo.evict.Goals as goal
 

@@ -5,8 +5,8 @@ use Rattle.queue_table.specs.Queues.{Queues}
 use Rattle.queue_table.specs.QueueTable.{queues}
 use Rattle.queue_moves.specs.Moves.{item_of, goes}
 use Rattle.policy_steps.specs.S3Fifo.{Run, SMALL, MAIN, GHOST}
-use Rattle.policy_steps.proofs.Coming.{outside-ran}
-use Rattle.policy_steps.proofs.S3FifoMoves.{resident-count, main-few}
+use Rattle.policy_steps.proofs.Steps.{outside-ran}
+use Rattle.policy_steps.proofs.S3Fifo.{resident-count, main-few}
 use Rattle.policy_steps.proofs.s3_fifo.miss.Goals as goal
 
 pub overflow_add-len : goal.overflow_add-len

@@ -5,8 +5,7 @@ use Rattle.queue_policies.specs.S3Fifo.{hit_count, IsS3Fifo}
 use Rattle.queue_moves.specs.Moves.{item_of, counts}
 use Rattle.queue_moves.specs.Undoing.{IsOwn}
 use Rattle.policy_steps.specs.S3Fifo.{SMALL, MAIN, GHOST, s3_fifo_of, plan_at}
-use Rattle.policy_steps.proofs.Coming.{new-outside}
-use Rattle.policy_steps.proofs.Steps.{found-accessed, new-accessed}
+use Rattle.policy_steps.proofs.Steps.{new-outside, found-accessed, new-accessed}
 use Rattle.policy_steps.proofs.s3_fifo.step.Goals as goal
 
 pub returns-then-is_resident-clause-accessed : goal.returns-then-is_resident-clause-accessed

@@ -1,6 +1,6 @@
 use Rattle.std.proofs.Common.{◌≤◌, length, arith}
 use Rattle.queue_table.specs.QueueTable.{queues}
-use Rattle.policy_steps.proofs.SieveStep.{stops}
+use Rattle.policy_steps.proofs.SievePlan.{pass-stops}
 use Rattle.policy_steps.proofs.Leaving.{absent-run}
 use Rattle.policy_steps.proofs.sieve.evict.Goals as goal
 
@@ -8,7 +8,7 @@ pub evict_late-requires-clause-stopped : goal.evict_late-requires-clause-stopped
 evict_late-requires-clause-stopped g c = λ t.
     let a = queues c.run-early.new.self in
     let some : 1 ≤ length (a c.args.ahead) = omega (arith, c.len.ensures, c.if-len-gt0.true) in
-    stops c.args.capacity c.args.ahead (queues c.args.table.now) a c.run-early.result c.run-early.ensures.run c.run-early.ensures.made.after some c.if-early-capacity.true
+    pass-stops c.args.capacity c.args.ahead (queues c.args.table.now) a c.run-early.result c.run-early.ensures.run c.run-early.ensures.made.after some c.if-early-capacity.true
 
 pub evict_late-requires-clause-absent : goal.evict_late-requires-clause-absent
 evict_late-requires-clause-absent g c = search (arith, absent-run)

@@ -3,7 +3,7 @@ use Rattle.queue_table.specs.QueueTable.{queues}
 use Rattle.queue_moves.specs.Moves.{item_of, leaving, after_leaving, goes}
 use Rattle.queue_moves.specs.Undoing.{IsAccessed}
 use Rattle.policy_steps.specs.Sieve.{pass_run, sieve_eviction_plan}
-use Rattle.policy_steps.proofs.SieveStep.{eviction}
+use Rattle.policy_steps.proofs.SievePlan.{eviction}
 use Rattle.policy_steps.proofs.Leaving.{absent-run}
 use Rattle.policy_steps.proofs.sieve.evict_late.Goals as goal
 

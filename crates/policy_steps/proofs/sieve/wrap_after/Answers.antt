@@ -3,7 +3,7 @@ use Rattle.std.proofs.Common.{if◌then◌else◌, ℕ, Bool, ap, ◌∙◌, sym
 use Rattle.std.proofs.lemmas.Bool.{lt-ltb, le-ltb}
 use Rattle.queue_table.specs.QueueTable.{queues}
 use Rattle.policy_steps.specs.Sieve.{passed_queue}
-use Rattle.policy_steps.proofs.SieveStep.{left-empty}
+use Rattle.policy_steps.proofs.SievePlan.{left-empty}
 use Rattle.policy_steps.proofs.sieve.wrap_after.Goals as goal
 
 pub returns-then-len-le1-clause-is : goal.returns-then-len-le1-clause-is

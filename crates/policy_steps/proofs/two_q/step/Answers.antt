@@ -3,8 +3,7 @@ use Rattle.std.proofs.lemmas.Bool.{eq-eqb}
 use Rattle.queue_table.specs.QueueTable.{queues}
 use Rattle.queue_moves.specs.Moves.{item_of, stays, goes}
 use Rattle.policy_steps.specs.TwoQ.{A1IN, A1OUT, AM, plan_at}
-use Rattle.policy_steps.proofs.Coming.{new-outside}
-use Rattle.policy_steps.proofs.Steps.{found-accessed, new-accessed}
+use Rattle.policy_steps.proofs.Steps.{new-outside, found-accessed, new-accessed}
 use Rattle.policy_steps.proofs.two_q.step.Goals as goal
 
 pub returns-then-found-eq-AM-clause-accessed : goal.returns-then-found-eq-AM-clause-accessed

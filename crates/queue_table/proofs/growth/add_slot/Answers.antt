@@ -1,7 +1,7 @@
 use Rattle.std.proofs.Common.{◌≡◌, ◌∙◌, ◌++◌, ◌∷◌, [], length, take, drop, arith, refl}
 use Rattle.std.proofs.lemmas.List.{take_at}
 use Rattle.queue_table.specs.Ring.{newers, olders, order_of}
-use Rattle.queue_table.proofs.Finding.{slots-length}
+use Rattle.queue_table.proofs.Holding.{slots-length}
 use Rattle.queue_table.proofs.SlotWrites.{no_slot}
 use Rattle.queue_table.proofs.Tables.{ring-linked, older-first, olders-more}
 use Rattle.queue_table.proofs.growth.add_slot.Goals as goal

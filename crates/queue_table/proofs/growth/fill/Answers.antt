@@ -4,7 +4,7 @@ use Rattle.queue_table.specs.Entries.{Entry, entry}
 use Rattle.queue_table.specs.Ring.{Slot, FIRST, entries, slot_item, count}
 use Rattle.queue_table.specs.QueueTable.{from_first}
 use Rattle.queue_table.proofs.SlotWrites.{no_slot, field_at}
-use Rattle.queue_table.proofs.Finding.{count-from_first, from_first-next}
+use Rattle.queue_table.proofs.Holding.{count-from_first, from_first-next}
 use Rattle.queue_table.proofs.growth.fill.Goals as goal
 
 pub loop-at-init : goal.loop-at-init

@@ -2,7 +2,7 @@ use Rattle.std.proofs.lemmas.Bool.Decides.{nat_tests}
 use Rattle.std.proofs.Common.{arith}
 use Rattle.queue_table.specs.Ring.{newers, olders, ring_of}
 use Rattle.queue_table.proofs.Turning.{IsTurned, IsMoved, turned, moved}
-use Rattle.queue_table.proofs.Finding.{slots-length}
+use Rattle.queue_table.proofs.Holding.{slots-length}
 use Rattle.queue_table.proofs.SlotWrites.{links-then}
 use Rattle.queue_table.proofs.links.move_before.Goals as goal
 use Rattle.queue_table.proofs.links.move_before.Goals.{Start, After-link}

@@ -1,7 +1,7 @@
 use Rattle.std.proofs.Common.{Option, option_map, ap, ◌∙◌, arith, None}
 use Rattle.replacement.specs.Admission.{admits_in}
 use Rattle.replacement.specs.Table.{Queue, hit_in}
-use Rattle.replacement.proofs.Served.{hit-effect}
+use Rattle.replacement.proofs.Leaving.{hit-effect}
 use Rattle.replacement.proofs.accesses.access_planned.Goals as goal
 use Rattle.replacement.proofs.Planned.{plan-at}
 use Rattle.std.proofs.lemmas.Bool.Decides.{nat_tests}

@@ -1,7 +1,7 @@
 use Rattle.std.proofs.lemmas.Bool.Decides.{nat_tests}
 use Rattle.std.proofs.Common.{arith, option_map}
 use Rattle.replacement.specs.Admission.{admits_in}
-use Rattle.replacement.proofs.Served.{joined-effect}
+use Rattle.replacement.proofs.Leaving.{joined-effect}
 use Rattle.replacement.proofs.misses.windowed.Goals as goal
 
 pub returns-clause-effect : goal.returns-clause-effect

@@ -4,7 +4,7 @@ use Rattle.std.proofs.Common.{arith, ◌∙◌, Some, ap, sym}
 use Rattle.segments.specs.Queues.{queues_without}
 use Rattle.segments.specs.Moves.{move_record}
 use Rattle.segments.proofs.QueueLists.{pushed-moved, still-absent, taken-first}
-use Rattle.replacement.proofs.Oldest.{joined-oldest}
+use Rattle.replacement.proofs.Planned.{joined-oldest}
 use Rattle.replacement.proofs.queue_moves.renew_oldest.Goals as goal
 
 pub returns-clause-lists : goal.returns-clause-lists

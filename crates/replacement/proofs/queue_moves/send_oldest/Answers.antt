@@ -1,4 +1,4 @@
-use Rattle.replacement.proofs.Oldest.{sent-if}
+use Rattle.replacement.proofs.Planned.{sent-if}
 use Rattle.replacement.proofs.queue_moves.send_oldest.Goals as goal
 
 pub returns-clause-oldest : goal.returns-clause-oldest

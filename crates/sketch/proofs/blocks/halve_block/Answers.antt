@@ -1,6 +1,6 @@
 use Rattle.std.proofs.lemmas.Bool.Decides.{nat_tests}
 use Rattle.std.proofs.Common.{arith}
-use Rattle.sketch.proofs.Eights.{eight, quad, two_same}
+use Rattle.sketch.proofs.Halves.{eight, quad, two_same}
 use Rattle.sketch.proofs.blocks.halve_block.Goals as goal
 
 pub returns-clause-lost : goal.returns-clause-lost

@@ -1,7 +1,7 @@
 use Rattle.std.proofs.lemmas.Bool.Decides.{nat_tests}
 use Rattle.std.proofs.Common.{get_or, arith, rules, Fits, w64, ◌∙◌}
 use Rattle.std.proofs.lemmas.Simd.{get_or-put_chunk_below, get_or-put_chunk_at, get_or-put_chunk_above}
-use Rattle.sketch.proofs.Eights.{eight, doubled_eight, doubled_at}
+use Rattle.sketch.proofs.Halves.{eight, doubled_eight, doubled_at}
 use Rattle.sketch.proofs.blocks.unhalve_block.Goals as goal
 
 pub returns-clause-block : goal.returns-clause-block

@@ -5,8 +5,7 @@ use Rattle.std.proofs.lemmas.List.FromFn.{fill_by_all}
 use Rattle.std.proofs.lemmas.Simd.{get_or-put_chunk_below}
 use lib.Lanes.{chunk, put_chunk}
 use Rattle.sketch.specs.Laws.{halved_word, lost_word}
-use Rattle.sketch.proofs.Eights.{block_at, block_past, lost_same, two_more}
-use Rattle.sketch.proofs.Halves.{low_halved, words_undone}
+use Rattle.sketch.proofs.Halves.{block_at, block_past, lost_same, two_more, low_halved, words_undone}
 use Rattle.sketch.proofs.laws.halve_words.Goals as goal
 
 pub loop-block-preserved : goal.loop-block-preserved

@@ -3,8 +3,7 @@ use Rattle.std.proofs.Common.{◌≡◌, ◌+◌, ◌-◌, ◌*◌, ◌/◌, ◌
 use Rattle.std.proofs.lemmas.Bool.{cases_lt}
 use Rattle.std.proofs.lemmas.List.FromFn.{fill_by_all}
 use Rattle.sketch.specs.Laws.{lost_of_word}
-use Rattle.sketch.proofs.Eights.{lost_in_block}
-use Rattle.sketch.proofs.Halves.{low_digit}
+use Rattle.sketch.proofs.Halves.{lost_in_block, low_digit}
 use Rattle.sketch.proofs.laws.unhalve_words.Goals as goal
 
 pub unhalve_block-requires-clause-low : goal.unhalve_block-requires-clause-low

@@ -3,7 +3,7 @@ use Rattle.std.proofs.Common.{rules, ◌≡◌, ◌<◌, ◌++◌, ◌∷◌, []
 use Rattle.std.proofs.Math.ListN.{length-set}
 use Rattle.std.proofs.lemmas.List.{get_or_read}
 use Rattle.stack_distances.specs.Histogram.{count_at}
-use Rattle.stack_distances.proofs.Noted.{counted-last, last-within}
+use Rattle.stack_distances.proofs.Histories.{counted-last, last-within}
 use Rattle.stack_distances.proofs.histogram.count_noted.Goals as goal
 use Rattle.stack_distances.proofs.histogram.count_noted.Goals.{In-Some}
 

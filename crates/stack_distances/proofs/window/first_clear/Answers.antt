@@ -1,6 +1,6 @@
 use Rattle.std.proofs.lemmas.Bool.Decides.{nat_tests}
 use Rattle.std.proofs.Common.{refl, arith}
-use Rattle.stack_distances.proofs.Clear.{found, none-found}
+use Rattle.stack_distances.proofs.Bits.{found, none-found}
 use Rattle.stack_distances.proofs.window.first_clear.Goals as goal
 use Rattle.std.proofs.lemmas.List.{get_or_past}
 use Rattle.std.proofs.lemmas.Nat.Bits.{bit_at-zero}

@@ -1,4 +1,4 @@
-use Rattle.adaptive_window.proofs.Running.{act-is}
+use Rattle.adaptive_window.proofs.Fitting.{act-is}
 use Rattle.adaptive_window.proofs.adaptive_cache.AdaptiveCache.access.Goals as goal
 
 pub returns-clause-accepted : goal.returns-clause-accepted

@@ -1,7 +1,7 @@
 use Rattle.std.proofs.lemmas.Bool.Decides.{nat_tests}
 use Rattle.std.proofs.Common.{refl, arith}
 use Rattle.admission.proofs.Recording.{freq_none}
-use Rattle.adaptive_window.proofs.Running.{has-room}
+use Rattle.adaptive_window.proofs.Fitting.{has-room}
 use Rattle.adaptive_window.proofs.adaptive_cache.AdaptiveCache.new.Goals as goal
 
 pub open_frequency_without_doorkeeper-requires-clause-power :

@@ -1,5 +1,5 @@
 use Rattle.admission.proofs.Weighing.{weight_falls}
-use Rattle.adaptive_window.proofs.Running.{act-is, recorded-is}
+use Rattle.adaptive_window.proofs.Fitting.{act-is, recorded-is}
 use Rattle.adaptive_window.proofs.adaptive_cache.AdaptiveCacheEngine.apply.Goals as goal
 
 pub returns-clause-accepted : goal.returns-clause-accepted

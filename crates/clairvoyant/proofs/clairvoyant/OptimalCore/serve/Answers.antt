@@ -1,8 +1,7 @@
 use Rattle.std.proofs.lemmas.Grind.{common_steps}
 use Rattle.std.proofs.Common.{◌-◌, ◌*◌, false, arith, ap, ◌∙◌}
 use Rattle.clairvoyant.specs.declared.optimal_record.OptimalRecord.TheVariants.{Evicted, Rejected}
-use Rattle.clairvoyant.proofs.Records.{stands, record-kept, record-rejected, record-evicted}
-use Rattle.clairvoyant.proofs.Serving.{tested, hit-tied, kept-tied, rejected-tied, none-out, evicted-tied, least-out}
+use Rattle.clairvoyant.proofs.Records.{stands, record-kept, record-rejected, record-evicted, tested, hit-tied, kept-tied, rejected-tied, none-out, evicted-tied, least-out}
 use Rattle.clairvoyant.proofs.clairvoyant.OptimalCore.serve.Goals as goal
 
 pub returns-then-has-clause-record : goal.returns-then-has-clause-record

@@ -1,6 +1,5 @@
 use Rattle.std.proofs.Common.{◌∙◌, sym, ap, arith, ◌*◌, ◌-◌}
-use Rattle.clairvoyant.proofs.Records.{stands}
-use Rattle.clairvoyant.proofs.Serving.{hit-back, kept-back, evicted-back, evicted-within, rejected-back}
+use Rattle.clairvoyant.proofs.Records.{stands, hit-back, kept-back, evicted-back, evicted-within, rejected-back}
 use Rattle.clairvoyant.proofs.clairvoyant.OptimalCore.unserve.Goals as goal
 
 pub returns-in-Hit : goal.returns-in-Hit

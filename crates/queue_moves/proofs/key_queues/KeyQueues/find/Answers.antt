@@ -3,8 +3,7 @@ use Rattle.queue_table.specs.Entries.{entry}
 use Rattle.queue_table.specs.declared.slot.Slot.{Slot}
 use Rattle.queue_table.specs.QueueTable.{queues, HoldsAt}
 use Rattle.queue_moves.specs.Moves.{item_of, standing}
-use Rattle.queue_moves.proofs.Laws.{tabled-in}
-use Rattle.queue_moves.proofs.Standing.{held-standing}
+use Rattle.queue_moves.proofs.Laws.{tabled-in, held-standing}
 use Rattle.queue_moves.proofs.key_queues.KeyQueues.find.Goals as goal
 
 pub returns-clause-stands : goal.returns-clause-stands

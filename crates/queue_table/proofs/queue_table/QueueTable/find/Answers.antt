@@ -1,7 +1,7 @@
 use Rattle.std.proofs.Common.{length, ap, arith}
 use Rattle.queue_table.specs.Ring.{order_of}
 use Rattle.queue_table.proofs.Calls.{slot-within}
-use Rattle.queue_table.proofs.Reading.{found-entry, found-low, found-queue, found-stands}
+use Rattle.queue_table.proofs.Counting.{found-entry, found-low, found-queue, found-stands}
 use Rattle.queue_table.proofs.queue_table.QueueTable.find.Goals as goal
 
 pub index-slot-requires : goal.index-slot-requires

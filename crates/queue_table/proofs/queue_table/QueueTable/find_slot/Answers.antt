@@ -4,7 +4,7 @@ use Rattle.queue_table.specs.Index.{IsFound}
 use Rattle.queue_table.specs.Ring.{Slot, entries, slot_item, count, used, order_of, lists}
 use Rattle.queue_table.specs.Queues.{queue_holding, IsDistinct}
 use Rattle.queue_table.specs.QueueTable.{IsInSlots, IsSlotOf}
-use Rattle.queue_table.proofs.Finding.{slot-found, slot-missing}
+use Rattle.queue_table.proofs.Holding.{slot-found, slot-missing}
 use Rattle.queue_table.proofs.Kept.{distinct-in, used-slot}
 use Rattle.queue_table.proofs.queue_table.QueueTable.find_slot.Goals as goal
 use Rattle.queue_table.proofs.queue_table.QueueTable.find_slot.Goals.{After-deref, After-find}

@@ -2,7 +2,7 @@ use Rattle.std.proofs.Common.{suc, map, ap, sym, subst, arith}
 use Rattle.queue_table.specs.Entries.{IsGap}
 use Rattle.queue_table.specs.Ring.{entries, slot_entry, order_of}
 use Rattle.queue_table.specs.QueueTable.{IsBehind}
-use Rattle.queue_table.proofs.Cutting.{behind-place, none-out}
+use Rattle.queue_table.proofs.Ends.{behind-place, none-out}
 use Rattle.queue_table.proofs.Kept.{some-slots}
 use Rattle.queue_table.proofs.queue_table.QueueTable.insert.Goals as goal
 use Rattle.queue_table.proofs.queue_table.QueueTable.insert.Goals.{After-slot_at_place-before}

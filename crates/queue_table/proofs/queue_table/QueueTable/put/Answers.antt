@@ -7,7 +7,7 @@ use Rattle.queue_table.proofs.QueueLists.{absent}
 use Rattle.queue_table.proofs.Calls.{counted-sent, some-counted}
 use Rattle.queue_table.proofs.Tables.{section-kept, place-free}
 use Rattle.queue_table.proofs.Kept.{some-slots, distinct-in, on_view, section-few as fits}
-use Rattle.queue_table.proofs.Renewing.{lacks}
+use Rattle.queue_table.proofs.Growing.{lacks}
 use Rattle.queue_table.proofs.Moves.{IsLoose, free-loose, free-index, can-go, in-index, recent-after, back-after, spare-taken, slots-stay, joins, kept-after}
 use Rattle.queue_table.proofs.queue_table.QueueTable.put.Goals as goal
 use Rattle.queue_table.proofs.queue_table.QueueTable.put.Goals.{After-deref_mut-slots, After-newest_free-at, After-send}

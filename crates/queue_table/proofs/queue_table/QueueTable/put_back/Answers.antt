@@ -2,7 +2,7 @@ use Rattle.std.proofs.Common.{◌∙◌, sym, ap, subst}
 use Rattle.queue_table.specs.Entries.{Entry, entry, is_same_item, IsGap}
 use Rattle.queue_table.specs.Queues.{Queues, after_removal, after_return}
 use Rattle.queue_table.specs.QueueTable.{queues}
-use Rattle.queue_table.proofs.MoveBack.{out-none}
+use Rattle.queue_table.proofs.QueueLists.{out-none}
 use Rattle.queue_table.proofs.queue_table.QueueTable.put_back.Goals as goal
 
 pub insert-requires-clause-gap : goal.insert-requires-clause-gap

@@ -5,7 +5,7 @@ use Rattle.queue_table.specs.Ring.{Slot, entries, slot_item, count, used, order_
 use Rattle.queue_table.specs.QueueTable.{IsCounted, IsIndexOf, IsKept}
 use Rattle.queue_table.proofs.QueueLists.{absent, still-absent}
 use Rattle.queue_table.proofs.Kept.{known, on_view}
-use Rattle.queue_table.proofs.Renewing.{leaves, lacks}
+use Rattle.queue_table.proofs.Growing.{leaves, lacks}
 use Rattle.queue_table.proofs.Moves.{IsLoose, used-loose, can-leave, can-go, in-index, recent-after, spare-same, others-stay, joins, kept-after}
 use Rattle.queue_table.proofs.queue_table.QueueTable.renew.Goals as goal
 use Rattle.queue_table.proofs.queue_table.QueueTable.renew.Goals.{After-deref_mut-slots, After-remove, After-send}

@@ -3,7 +3,7 @@ use Rattle.queue_table.specs.Entries.{IsGap}
 use Rattle.queue_table.specs.Queues.{Queues}
 use Rattle.queue_table.specs.Ring.{entries, order_of, order_without}
 use Rattle.queue_table.specs.QueueTable.{IsBehind}
-use Rattle.queue_table.proofs.Cutting.{behind-place}
+use Rattle.queue_table.proofs.Ends.{behind-place}
 use Rattle.queue_table.proofs.Kept.{some-used, used-slot}
 use Rattle.queue_table.proofs.queue_table.QueueTable.send_to.Goals as goal
 use Rattle.queue_table.proofs.queue_table.QueueTable.send_to.Goals.{After-slot_at_place-before}

@@ -1,7 +1,7 @@
 use Rattle.std.proofs.Common.{◌≡◌, ◌<◌, ◌∙◌, List, suc, length, ap, sym, subst}
 use Rattle.queue_table.specs.Ring.{Slot, entries, newers, next_but, order_of, order_without, IsQueued}
 use Rattle.queue_table.specs.QueueTable.{IsBehind}
-use Rattle.queue_table.proofs.Cutting.{cut-behind}
+use Rattle.queue_table.proofs.Ends.{cut-behind}
 use Rattle.queue_table.proofs.queue_table.QueueTable.slot_at_place.Goals as goal
 use Rattle.queue_table.proofs.queue_table.QueueTable.slot_at_place.Goals.{After-next_slot}
 

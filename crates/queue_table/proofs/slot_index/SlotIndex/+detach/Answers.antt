@@ -3,7 +3,7 @@ use Rattle.std.proofs.Common.{◌∙◌, ap, sym, arith}
 use Rattle.std.proofs.lemmas.List.{get_or_default}
 use Rattle.queue_table.specs.Trees.{branch}
 use Rattle.queue_table.proofs.Trees.{members}
-use Rattle.queue_table.proofs.Walking.{has-top, top-room, way-below}
+use Rattle.queue_table.proofs.Indexing.{has-top, top-room, way-below}
 use Rattle.queue_table.proofs.Lifting.{lift-bare}
 use Rattle.queue_table.proofs.Placing.{detach-end, detach-on}
 use Rattle.queue_table.proofs.slot_index.SlotIndex.+detach.Goals as goal

@@ -2,7 +2,7 @@ use Rattle.std.proofs.lemmas.Bool.Decides.{nat_tests}
 use Rattle.std.proofs.Common.{◌∙◌, ap, refl, arith, true}
 use Rattle.std.proofs.lemmas.List.{get_or_default}
 use Rattle.queue_table.specs.Trees.{branch}
-use Rattle.queue_table.proofs.Walking.{step, within-below, found-none, found-here, found-on}
+use Rattle.queue_table.proofs.Indexing.{step, within-below, found-none, found-here, found-on}
 use Rattle.queue_table.proofs.slot_index.SlotIndex.+find_below.Goals as goal
 
 pub item-requires : goal.item-requires

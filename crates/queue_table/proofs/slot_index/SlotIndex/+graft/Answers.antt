@@ -2,7 +2,7 @@ use Rattle.std.proofs.lemmas.Grind.{common_steps}
 use Rattle.std.proofs.Common.{◌∙◌, ap, arith}
 use Rattle.std.proofs.lemmas.List.{get_or_default}
 use Rattle.queue_table.specs.Trees.{branch}
-use Rattle.queue_table.proofs.Walking.{has-below}
+use Rattle.queue_table.proofs.Indexing.{has-below}
 use Rattle.queue_table.proofs.Placing.{graft-end, graft-on}
 use Rattle.queue_table.proofs.slot_index.SlotIndex.+graft.Goals as goal
 

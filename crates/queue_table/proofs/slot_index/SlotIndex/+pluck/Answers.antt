@@ -2,7 +2,7 @@ use Rattle.std.proofs.lemmas.Grind.{common_steps}
 use Rattle.std.proofs.Common.{ℕ, ◌≡◌, ◌+◌, ◌^◌, ◌∙◌, ◌<◌, length, arith, true, false}
 use Rattle.std.proofs.lemmas.List.{get_or_default}
 use Rattle.queue_table.specs.Trees.{branch}
-use Rattle.queue_table.proofs.Walking.{step, has-below, has-top, smaller}
+use Rattle.queue_table.proofs.Indexing.{step, has-below, has-top, smaller}
 use Rattle.queue_table.proofs.Placing.{pluck-end, pluck-left, pluck-right}
 use Rattle.queue_table.proofs.slot_index.SlotIndex.+pluck.Goals as goal
 use Rattle.queue_table.proofs.slot_index.SlotIndex.+pluck.Goals.{After-branch_of-left}

@@ -1,8 +1,7 @@
 use Rattle.std.proofs.Common.{◌∙◌, ap, sym, refl, true}
 use Rattle.std.proofs.lemmas.List.{get_or_default}
 use Rattle.queue_table.specs.Trees.{branch}
-use Rattle.queue_table.proofs.Walking.{step, within-below, found-none, found-here, found-on}
-use Rattle.queue_table.proofs.Indexing.{root-within, root-whole, found-root}
+use Rattle.queue_table.proofs.Indexing.{step, within-below, found-none, found-here, found-on, root-within, root-whole, found-root}
 use Rattle.queue_table.proofs.slot_index.SlotIndex.find.Goals as goal
 
 pub item-requires : goal.item-requires

@@ -1,9 +1,8 @@
 use Rattle.std.proofs.Common.{◌^◌, ◌<◌, ◌∙◌, true, length, ap, sym, arith}
 use Rattle.std.proofs.lemmas.List.{get_or_default}
 use Rattle.queue_table.specs.Trees.{branch}
-use Rattle.queue_table.proofs.Walking.{has-below}
+use Rattle.queue_table.proofs.Indexing.{has-below, root-has, root-whole, free, added}
 use Rattle.queue_table.proofs.Placing.{graft-end, graft-on}
-use Rattle.queue_table.proofs.Indexing.{root-has, root-whole, free, added}
 use Rattle.queue_table.proofs.slot_index.SlotIndex.insert.Goals as goal
 
 pub returns-then-next-eq0-clause-indexed : goal.returns-then-next-eq0-clause-indexed

@@ -1,7 +1,7 @@
 use Rattle.std.proofs.Common.{◌+◌, ◌^◌, ◌∙◌, ◌<◌, length, set, length-set, ap, arith, false}
 use Rattle.std.proofs.lemmas.List.{get_or_default}
 use Rattle.queue_table.specs.Trees.{branch}
-use Rattle.queue_table.proofs.Walking.{top-room}
+use Rattle.queue_table.proofs.Indexing.{top-room}
 use Rattle.queue_table.proofs.Lifting.{lowest-real, lift-one, lift-more, moved, first-gone, cleared-replaces}
 use Rattle.queue_table.proofs.slot_index.SlotIndex.lift.Goals as goal
 use Rattle.queue_table.proofs.slot_index.SlotIndex.lift.Goals.{After-branch_of-from, After-branch_of-to}

@@ -1,10 +1,9 @@
 use Rattle.std.proofs.Common.{eqb, cond, refl, sym, ◌∙◌, rules}
 use Rattle.std.proofs.lemmas.List.{get_or_default}
 use Rattle.queue_table.proofs.Trees.{members}
-use Rattle.queue_table.proofs.Walking.{has-top, top-room}
+use Rattle.queue_table.proofs.Indexing.{has-top, top-room, root-has, root-whole, stands, removed}
 use Rattle.queue_table.proofs.Lifting.{lift-bare}
 use Rattle.queue_table.proofs.Placing.{detach-end}
-use Rattle.queue_table.proofs.Indexing.{root-has, root-whole, stands, removed}
 use Rattle.queue_table.proofs.slot_index.SlotIndex.remove.Goals as goal
 
 pub detach-requires : goal.detach-requires

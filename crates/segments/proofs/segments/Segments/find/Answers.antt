@@ -1,6 +1,6 @@
 use Rattle.std.proofs.Common.{rules, ◌∙◌, ap, sym, Some}
 use Rattle.segments.specs.declared.records.Queue.{Queue}
-use Rattle.segments.proofs.Calls.{distinct-shown, holding-is, missing-is}
+use Rattle.segments.proofs.NamedQueues.{distinct-shown, holding-is, missing-is}
 use Rattle.segments.proofs.segments.Segments.find.Goals as goal
 
 pub returns-in_err-found-clause-queue : goal.returns-in_err-found-clause-queue

@@ -1,7 +1,7 @@
 use Rattle.std.proofs.Common.{rules, Some}
 use Rattle.queue_table.specs.QueueTable.{queues}
 use Rattle.segments.specs.Queues.{queues_after_move}
-use Rattle.segments.proofs.Calls.{IsMade, holding-is, missing-is, sent}
+use Rattle.segments.proofs.NamedQueues.{IsMade, holding-is, missing-is, sent}
 use Rattle.segments.proofs.segments.Segments.move_recent.Goals as goal
 use Rattle.segments.proofs.segments.Segments.move_recent.Goals.{After-queue_place}
 

@@ -1,7 +1,7 @@
 use Rattle.std.proofs.Common.{None, Some}
 use Rattle.queue_table.specs.QueueTable.{queues}
 use Rattle.segments.specs.Queues.{queues_after_pop}
-use Rattle.segments.proofs.Calls.{IsMade, popped}
+use Rattle.segments.proofs.NamedQueues.{IsMade, popped}
 use Rattle.segments.proofs.segments.Segments.pop_oldest.Goals as goal
 use Rattle.segments.proofs.segments.Segments.pop_oldest.Goals.{After-queue_place}
 

@@ -1,7 +1,7 @@
 use Rattle.std.proofs.Common.{None, Some}
 use Rattle.queue_table.specs.QueueTable.{queues}
 use Rattle.segments.specs.Queues.{queues_after_push}
-use Rattle.segments.proofs.Calls.{IsMade, absent-below, pushed}
+use Rattle.segments.proofs.NamedQueues.{IsMade, absent-below, pushed}
 use Rattle.segments.proofs.segments.Segments.push_recent.Goals as goal
 use Rattle.segments.proofs.segments.Segments.push_recent.Goals.{After-push}
 

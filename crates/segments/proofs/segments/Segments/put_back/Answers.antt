@@ -5,7 +5,7 @@ use Rattle.queue_table.specs.Queues as ByNumber
 use Rattle.queue_table.specs.QueueTable.{queues}
 use Rattle.segments.specs.Moves.{room_needed}
 use Rattle.segments.proofs.QueueLists.{needs-room}
-use Rattle.segments.proofs.Calls.{IsUndone, missing-is, gap-without, put-back}
+use Rattle.segments.proofs.NamedQueues.{IsUndone, missing-is, gap-without, put-back}
 use Rattle.segments.proofs.segments.Segments.put_back.Goals as goal
 use Rattle.segments.proofs.segments.Segments.put_back.Goals.{After-entry_for, After-put_back}
 

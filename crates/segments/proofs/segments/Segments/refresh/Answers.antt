@@ -2,7 +2,7 @@ use Rattle.std.proofs.lemmas.Bool.Decides.{nat_tests}
 use Rattle.std.proofs.Common.{arith, rules, Some, ◌∙◌, ap, sym}
 use Rattle.queue_table.specs.QueueTable.{queues}
 use Rattle.segments.specs.Queues.{Queue, queues_after_move}
-use Rattle.segments.proofs.Calls.{IsMade, distinct-shown, holding-is, missing-is, sent}
+use Rattle.segments.proofs.NamedQueues.{IsMade, distinct-shown, holding-is, missing-is, sent}
 use Rattle.segments.proofs.segments.Segments.refresh.Goals as goal
 use Rattle.segments.proofs.segments.Segments.refresh.Goals.{After-queue_place}
 

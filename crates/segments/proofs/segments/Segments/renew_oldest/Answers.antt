@@ -1,7 +1,7 @@
 use Rattle.std.proofs.Common.{None, Some}
 use Rattle.queue_table.specs.QueueTable.{queues}
 use Rattle.segments.specs.Queues.{queues_after_push, queues_after_pop}
-use Rattle.segments.proofs.Calls.{AreMade, absent-below, renewed}
+use Rattle.segments.proofs.NamedQueues.{AreMade, absent-below, renewed}
 use Rattle.segments.proofs.segments.Segments.renew_oldest.Goals as goal
 use Rattle.segments.proofs.segments.Segments.renew_oldest.Goals.{After-queue_place}
 

@@ -1,7 +1,7 @@
 use Rattle.std.proofs.Common.{Some}
 use Rattle.queue_table.specs.QueueTable.{queues}
 use Rattle.segments.specs.Queues.{queues_after_move}
-use Rattle.segments.proofs.Calls.{IsMade, sent}
+use Rattle.segments.proofs.NamedQueues.{IsMade, sent}
 use Rattle.segments.proofs.segments.Segments.send_oldest.Goals as goal
 use Rattle.segments.proofs.segments.Segments.send_oldest.Goals.{After-queue_place}
 

@@ -2,7 +2,7 @@ use Rattle.std.proofs.Common.{rules, None, Some, sym}
 use Rattle.queue_table.specs.QueueTable.{queues}
 use Rattle.segments.specs.Queues.{queues_without}
 use Rattle.segments.proofs.QueueLists.{taken-unplaced}
-use Rattle.segments.proofs.Calls.{IsMade, holding-is, missing-is, taken}
+use Rattle.segments.proofs.NamedQueues.{IsMade, holding-is, missing-is, taken}
 use Rattle.segments.proofs.segments.Segments.take_out.Goals as goal
 use Rattle.segments.proofs.segments.Segments.take_out.Goals.{After-queue_place}
 

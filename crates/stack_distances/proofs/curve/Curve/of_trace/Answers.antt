@@ -1,7 +1,7 @@
 use Rattle.std.proofs.lemmas.Bool.Decides.{nat_tests}
 use Rattle.std.proofs.Common.{◌≡◌, ◌+◌, ◌<◌, suc, length, get_or, ap, arith}
 use Rattle.std.proofs.lemmas.List.{get_or_read, take_all}
-use Rattle.stack_distances.proofs.Noted.{may-count}
+use Rattle.stack_distances.proofs.Histories.{may-count}
 use Rattle.stack_distances.proofs.Reading.{IsSummed, sum-small, more-summed, curve-summed}
 use Rattle.stack_distances.proofs.curve.Curve.of_trace.Goals as goal
 use Rattle.stack_distances.proofs.Prefix.{no-hits, within-more}

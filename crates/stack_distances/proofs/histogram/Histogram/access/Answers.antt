@@ -5,8 +5,7 @@ use Rattle.queue_cache.specs.Lru.{distinct_keys, keys_since}
 use Rattle.trace_index.specs.KeyPlaces.{place_of}
 use Rattle.stack_distances.specs.Sums.{mark_of, sum_below}
 use Rattle.stack_distances.specs.Histogram.{count_at}
-use Rattle.stack_distances.proofs.Noted.{noted-more}
-use Rattle.stack_distances.proofs.Histories.{free, marks-few, last-next, first-marked, first-long, first-counted, low, there, below-few, depth, again-marked, again-long, again-counted, push-zero}
+use Rattle.stack_distances.proofs.Histories.{noted-more, free, marks-few, last-next, first-marked, first-long, first-counted, low, there, below-few, depth, again-marked, again-long, again-counted, push-zero}
 use Rattle.stack_distances.proofs.histogram.Histogram.access.Goals as goal
 use Rattle.stack_distances.proofs.histogram.Histogram.access.Goals.{In-Some}
 

@@ -1,6 +1,6 @@
 use Rattle.std.proofs.lemmas.Bool.Decides.{nat_tests}
 use Rattle.std.proofs.Common.{arith}
-use Rattle.stack_distances.proofs.Noted.{may-count}
+use Rattle.stack_distances.proofs.Histories.{may-count}
 use Rattle.stack_distances.proofs.histogram.Histogram.begin_access.Goals as goal
 
 pub count_noted-requires : goal.count_noted-requires

@@ -7,7 +7,7 @@ use Rattle.trace_index.specs.Uses.{last_below, number_of}
 use Rattle.stack_distances.proofs.Windows.{hit-window, filled-window, moved-window, oldest-low, hits-small}
 use Rattle.stack_distances.proofs.reuses.Reuses.access.Goals as goal
 use Rattle.stack_distances.proofs.reuses.Reuses.access.Goals.{After-number-before}
-use Rattle.stack_distances.proofs.Places.{last-low}
+use Rattle.stack_distances.proofs.Counting.{last-low}
 
 noted : (c : After-number-before) → c.number-before.result ≡ number_of (last_below c.args.self.now c.args.place (get_or c.args.self.now c.args.place 0))
 noted c = c.number-before.ensures ∙ ap (λ t. number_of (last_below t c.args.place (get_or t c.args.place 0))) c.self.view_is

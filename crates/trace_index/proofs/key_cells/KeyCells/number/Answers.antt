@@ -1,7 +1,6 @@
 use Rattle.std.proofs.lemmas.Bool.Decides.{nat_tests}
-use Rattle.std.proofs.lemmas.Grind.{common_steps}
+use Rattle.std.proofs.lemmas.Grind.{common_steps, get_or_default_zero}
 use Rattle.std.proofs.Common.{arith}
-use Rattle.std.proofs.lemmas.Grind.{get_or_default_zero}
 use Rattle.trace_index.proofs.KeyCells.{IsSearched, none-below, absent, before, in-numbers}
 use Rattle.trace_index.proofs.key_cells.KeyCells.number.Goals as goal
 use Rattle.trace_index.proofs.key_cells.KeyCells.number.Goals.{After-search-place}
