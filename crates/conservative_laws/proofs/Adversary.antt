@@ -22,8 +22,6 @@ use Rattle.adaptive_window.specs.Residents.{CacheKeeps}
 use Rattle.policies.specs.Theorems.{AnyCoversTrace}
 use Rattle.policy_laws.proofs.Beaten.{IsOnlineJob, online}
 
--- ---- A strategy that keeps some keys for good, from their first access on
-
 -- ---- hits of a cache that is a function of the accesses before
 
 abbrev pub hits_of : (List ℕ → List ℕ) → List ℕ → ℕ

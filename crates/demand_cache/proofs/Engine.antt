@@ -11,7 +11,7 @@ use Rattle.queue_moves.specs.Moves.{Outcome, item_of}
 use Rattle.queue_moves.specs.Undoing.{record_of, before_all, FitsMoves, IsAccessed}
 use Rattle.queue_moves.specs.Tabled.{IsTabled}
 use Rattle.queue_moves.specs.Lists.{lists_of, queues_in}
-use Rattle.queue_moves.proofs.Lists.{lists-shown, tabled-all}
+use Rattle.queue_moves.proofs.Tabled.{lists-shown, tabled-all}
 use Rattle.demand_cache.specs.DemandQueues.{DemandPolicy, Moves, DemandQueues, plan_by, residents_by, queues_residents, IsStateOf, IsQueues, QueuesFits, queues_act, queues_record_of, queues_undone}
 use Rattle.demand_cache.specs.DemandCache.{Stats, DemandState, demand_act, IsCountedBy}
 use Rattle.demand_cache.specs.Theorems.{PagesAreSound}

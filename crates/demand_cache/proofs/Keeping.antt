@@ -7,7 +7,7 @@ use Rattle.queue_policies.specs.Residents.{IsAccess, outcomes_of_all}
 use Rattle.queue_moves.specs.Moves.{item_of, Plan, after_all, outcome_of, IsLowPlan, Leaving, outcome_after, evicted}
 use Rattle.queue_moves.specs.Tabled.{IsTabled, keys_of}
 use Rattle.queue_moves.specs.Lists.{QueueLists, lists_of, queues_in}
-use Rattle.queue_moves.proofs.Lists.{tabled-all, lists-shown}
+use Rattle.queue_moves.proofs.Tabled.{tabled-all, lists-shown}
 use Rattle.policy_steps.specs.PolicyPage.{PolicyPage, keys_with, LeavesNone}
 use Rattle.policy_steps.proofs.FifoPlan.{fifo-sound}
 use Rattle.policy_steps.proofs.ClockPlan.{clock-sound}

@@ -13,7 +13,7 @@ use Rattle.ghost_policies.proofs.ArcPlans.{new-cases}
 use Rattle.ghost_policies.proofs.Weights.{has-append}
 use Rattle.queue_moves.specs.Moves.{Entry, item_of, standing, Leaving, leaving, after_leaving, IsLowLeaving, evicted, outcome_after, goes, Plan, own_plan}
 use Rattle.queue_moves.specs.Tabled.{IsTabled, keys_of, StandsAs}
-use Rattle.queue_moves.proofs.Lists.{keys-append, absent-gone, stands, stands-nowhere, tabled-leaving}
+use Rattle.queue_moves.proofs.Tabled.{keys-append, absent-gone, stands, stands-nowhere, tabled-leaving}
 use Rattle.policy_steps.specs.Planned.{IsPlannedBy}
 use Rattle.policy_steps.specs.Misses.{Leavers, no_leavers, miss_plan}
 use Rattle.policy_steps.specs.Arc.{T1, T2, B1, B2, arc_of, total, step_size, gives_t1, replaced, new_key_leavers, new_key_plan, recall_plan, plan_in, plan_at, arc_page}

@@ -19,7 +19,7 @@ use Rattle.policy_steps.specs.PolicyPage.{IsPlannedPage, IsSoundPage}
 use Rattle.policy_steps.proofs.Leaving.{resident-alone, resident-full, counted-length, not-less, absent-turns}
 use Rattle.policy_steps.proofs.Moving.{resident-planned, first-count, first-send, first-turns, first-out}
 use Rattle.policy_steps.proofs.Counted.{keys-counted, counted-append, length-counted, key-counted, counted-with, turns-are}
-use Rattle.queue_moves.proofs.Lists.{oldest-gone, tabled-turns}
+use Rattle.queue_moves.proofs.Tabled.{oldest-gone, tabled-turns}
 
 -- ---- the oldest leaves, and the key joins
 

@@ -12,7 +12,7 @@ use Rattle.queue_policies.proofs.CountedKeys.{keys-append, count-append}
 use Rattle.ghost_policies.proofs.Weights.{has-append}
 use Rattle.queue_moves.specs.Moves.{Entry, item_of, count_or, after_turn, after_turns, turns_due}
 use Rattle.queue_moves.specs.Tabled.{StandsAs, nodes_of, keys_of as entry_keys, IsTabled}
-use Rattle.queue_moves.proofs.Lists.{same-key, has-occurs, counted-none, tabled-turn, turn-is, turn-none, turns-within}
+use Rattle.queue_moves.proofs.Tabled.{same-key, has-occurs, counted-none, tabled-turn, turn-is, turn-none, turns-within}
 use Rattle.policy_steps.specs.Counted.{counted_key, counted_keys}
 use Rattle.queue_policies.specs.Turns as page
 use Rattle.queue_policies.proofs.Turns.{turned-total, oldest-few}

@@ -9,7 +9,7 @@ use Rattle.queue_policies.specs.Fifo.{Outcome, fifo_eviction}
 use Rattle.queue_policies.proofs.Ghost.{without-none}
 use Rattle.queue_moves.specs.Moves.{Entry, item_of, standing, evicted, leaving, after_leaving, no_run, stays, goes}
 use Rattle.queue_moves.specs.Tabled.{IsTabled, keys_of}
-use Rattle.queue_moves.proofs.Lists.{has-occurs, tabled-leaving}
+use Rattle.queue_moves.proofs.Tabled.{has-occurs, tabled-leaving}
 use Rattle.policy_steps.specs.Planned.{IsWithin, leaver_plan, IsPlannedWithin}
 use Rattle.policy_steps.specs.Misses.{one_leaver}
 use Rattle.policy_steps.specs.Fifo.{fifo_of, fifo_page}

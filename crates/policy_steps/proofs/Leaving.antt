@@ -12,7 +12,7 @@ use Rattle.queue_moves.specs.Moves.{Entry, turned, after_turn, after_turns, afte
 use Rattle.queue_moves.specs.Tabled.{IsTabled, keys_of}
 use Rattle.queue_moves.specs.Undoing.{IsLeft, IsRun}
 use Rattle.queue_moves.proofs.Laws.{first-other, off-after-send}
-use Rattle.queue_moves.proofs.Lists.{oldest-gone}
+use Rattle.queue_moves.proofs.Tabled.{oldest-gone}
 use Rattle.std.proofs.lemmas.List.{length-map}
 use Rattle.queue_policies.specs.CountedKeys as counted
 use Rattle.queue_policies.proofs.CountedKeys.{length-keys}

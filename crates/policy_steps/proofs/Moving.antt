@@ -9,7 +9,7 @@ use Rattle.queue_table.specs.Queues.{Queues, with_queue, after_send, QUEUES, aft
 use Rattle.queue_policies.proofs.Ghost.{without-none, without-length}
 use Rattle.queue_moves.specs.Moves.{item_of, leaving, IsLowLeaving, after_leaving, Own, IsLowOwn, own_plan, IsLowPlan, standing, turned, after_turn, after_turns, departed, Outcome, after_own, goes, Plan}
 use Rattle.queue_moves.specs.Tabled.{HasKeys, IsTabled, keys_of, nodes_of}
-use Rattle.queue_moves.proofs.Lists.{keys-taken, keys-append, tabled-leaving, turns-within, nowhere-standing, has-occurs, stands}
+use Rattle.queue_moves.proofs.Tabled.{keys-taken, keys-append, tabled-leaving, turns-within, nowhere-standing, has-occurs, stands}
 use Rattle.policy_steps.specs.Misses.{Leavers, miss_plan, after_leavers, leavers_for_ghost}
 use Rattle.policy_steps.proofs.Leaving.{any-out, any-sent, oldest-sent}
 use Rattle.std.proofs.lemmas.Bool.{cond_both, lt-ltb, ltb-true, cases_lt, cases_Bool, cases_eq, le-ltb}

@@ -15,7 +15,7 @@ use Rattle.queue_policies.proofs.Turns.{turned-length}
 use Rattle.queue_moves.specs.Moves.{Entry, count_or, turns_due, leaving, after_leaving, evicted, outcome_after, after_run, Plan, item_of, standing, no_run, counts, goes, own_plan, after_runs, IsLowRun, IsLowOwn, IsLowPlan}
 use Rattle.queue_moves.specs.Moves as moves
 use Rattle.queue_moves.specs.Tabled.{IsTabled, keys_of, lowered_entry, StandsAs, HasKeys}
-use Rattle.queue_moves.proofs.Lists.{tabled-turn, turn-is, stands, stands-nowhere, tabled-turns, tabled-runs, has-occurs}
+use Rattle.queue_moves.proofs.Tabled.{tabled-turn, turn-is, stands, stands-nowhere, tabled-turns, tabled-runs, has-occurs}
 use Rattle.policy_steps.specs.Counted.{counted_keys}
 use Rattle.policy_steps.specs.Misses.{Run, after_leavers, leavers_for_ghost, Leavers, no_leavers, one_leaver, run_plan}
 use Rattle.policy_steps.specs.S3Fifo.{SMALL, MAIN, GHOST, s3_fifo_of, gives_main, main_turns, promotions, joins, s3_fifo_miss, plan_at, is_resident, s3_fifo_page}

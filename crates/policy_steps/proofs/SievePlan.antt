@@ -10,7 +10,7 @@ use Rattle.queue_policies.specs.Sieve.{SieveState, after_wrap, after_pass, pass_
 use Rattle.queue_policies.proofs.Sieve.{whole, past-total, keeps}
 use Rattle.queue_moves.specs.Moves.{Entry, count_or, after_turn, after_turns, turns_due, item_of, standing, evicted, departed, counts, goes, leaving, Plan, after_run, after_leaving}
 use Rattle.queue_moves.specs.Tabled.{IsTabled}
-use Rattle.queue_moves.proofs.Lists.{tabled-turn, turn-is, oldest-gone, tabled-turns}
+use Rattle.queue_moves.proofs.Tabled.{tabled-turn, turn-is, oldest-gone, tabled-turns}
 use Rattle.policy_steps.specs.Sieve.{passed_queue, sieve_of, queue_ahead, pass_run, after_early, ahead_late, after_late, after_leaver, ahead_new, sieve_eviction_plan, sieve_page, Run}
 use Rattle.policy_steps.specs.Counted.{counted_keys}
 use Rattle.policy_steps.proofs.Counted.{counted-append, length-counted, oldest-counted, key-both, counted-with, both-counted}

@@ -10,7 +10,7 @@ use Rattle.queue_policies.proofs.Ghost.{without-none}
 use Rattle.ghost_policies.proofs.Weights.{has-append}
 use Rattle.queue_moves.specs.Moves.{Entry, item_of, standing, leaving, evicted, outcome_after, stays, goes, own_plan}
 use Rattle.queue_moves.specs.Tabled.{HasKeys, IsTabled, keys_of, StandsAs}
-use Rattle.queue_moves.proofs.Lists.{stands, stands-nowhere}
+use Rattle.queue_moves.proofs.Tabled.{stands, stands-nowhere}
 use Rattle.policy_steps.specs.Planned.{IsPlannedBy}
 use Rattle.policy_steps.specs.Misses.{Leavers, no_leavers, one_leaver, leavers_for_ghost, after_leavers, miss_plan}
 use Rattle.policy_steps.specs.TwoQ.{TwoQSizes, A1IN, A1OUT, AM, two_q_of, joins, two_q_miss, plan_at, two_q_page}

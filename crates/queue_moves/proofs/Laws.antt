@@ -11,7 +11,7 @@ use Rattle.queue_table.proofs.Contents.{has-entry}
 use Rattle.queue_table.proofs.Holding.{StandsIn as SlotIn, stands, stands_in}
 use Rattle.queue_moves.specs.Moves.{Entry, count_of, standing, item_of, leaving, counts, goes, departed}
 use Rattle.queue_moves.specs.Tabled.{Slot, IsTabled, nodes_of, HasKeys}
-use Rattle.queue_moves.proofs.Lists.{behind, found-split, few, elsewhere as other, nodes-append, nodes-without, counted-none, oldest-node, counted-own, nowhere, absent-gone, tabled-removal}
+use Rattle.queue_moves.proofs.Tabled.{behind, found-split, few, elsewhere as other, nodes-append, nodes-without, counted-none, oldest-node, counted-own, nowhere, absent-gone, tabled-removal}
 use Rattle.std.proofs.lemmas.Bool.{cases_eq}
 use Rattle.std.proofs.Math.Path.{fun_ext}
 use Rattle.queue_moves.specs.declared.records.KeyMove.{KeyMove}

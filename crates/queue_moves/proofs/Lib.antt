@@ -1,4 +1,4 @@
 pub mod Laws
 pub mod Runs
 pub mod Carried
-pub mod Lists
+pub mod Tabled

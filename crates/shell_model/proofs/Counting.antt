@@ -4,7 +4,7 @@ use Rattle.std.proofs.lemmas.Bool.{eqb-true, eq-eqb, and_parts, and_from, cases_
 use Rattle.std.proofs.lemmas.Bool.Decides.{nat_tests}
 use Rattle.segments.specs.Items.{Item, is_same_item, occurrences, items_without}
 use Rattle.segments.specs.Queues.{Queues, queue_holding, queues_without, IsDistinct}
-use Rattle.segments.proofs.QueueLists.{same-true, same-refl, without-none, Stands, in_window, in_probation, in_protected, nowhere, stands, taken-none}
+use Rattle.segments.proofs.QueueLists.{same-true, same-refl, without-none, Stands, in_window, in_probation, in_protected, nowhere, stands, taken-absent}
 use Rattle.replacement.proofs.Counting.{once}
 use Rattle.shell_model.specs.ShellState.{Queue, table_with, node_of, is_listed, unlisted, queues_cleared, cleared_from}
 use Rattle.shell_model.specs.Consistency.{AreAbove, IsAscending}
@@ -140,7 +140,7 @@ unlisted-is i t a =
 
 -- a cleared item is taken out, wherever it stands
 cleared-at : (i : Item) (q : Queues) (p : Option Queue) → Stands i q p → cleared_from i p q ≡ queues_without i q
-cleared-at i q p (nowhere e f g) = sym (taken-none i q (omega (arith, e, f, g)))
+cleared-at i q p (nowhere e f g) = sym (taken-absent i q record { window = e; probation = f; protected = g })
 cleared-at i q p (in_window e f g) = refl
 cleared-at i q p (in_probation e f g) = refl
 cleared-at i q p (in_protected e f g) = refl

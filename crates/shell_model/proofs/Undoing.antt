@@ -8,7 +8,7 @@ use Rattle.step_record.specs.declared.step.Reply.TheVariants as reply
 use Rattle.segments.specs.declared.records.Queue.TheVariants.{Window, Probation}
 use Rattle.segments.specs.Items.{Item, is_same_item, occurrences, oldest_of}
 use Rattle.segments.specs.Queues.{Queues, queue_holding, queues_after_push, queues_after_move, queues_without, IsDistinct}
-use Rattle.segments.proofs.QueueLists.{same-refl, same-true, taken-none}
+use Rattle.segments.proofs.QueueLists.{same-refl, same-true, taken-absent}
 use Rattle.replacement.specs.Rules.{three_queues}
 use Rattle.replacement.specs.Table.{Queue, hit_in}
 use Rattle.replacement.specs.Plan.{Plan, hit_plan, stay_plan, candidate_of, eviction_plan}
@@ -160,7 +160,8 @@ queued-waits i rest x e w =
 
 added-back : (i : Item) (rest : List Task) (x : Shell) → x.writes ≡ Add i ∷ rest → IsConsistent x → TouchBack (added_of i x) x (shell_after_task (Add i) x)
 added-back i rest x e w =
-    let n : queues_without i x.queues ≡ x.queues = taken-none i x.queues (queued-waits i rest x e w) in
+    let none : queue_occurrences i x.queues ≡ 0 = queued-waits i rest x e w in
+    let n : queues_without i x.queues ≡ x.queues = taken-absent i x.queues record { window = omega arith; probation = omega arith; protected = omega arith } in
     let m : queues_after_move i Window x.queues ≡ queues_after_push Window i x.queues = ap (λ r. queues_after_push Window i r) n in
     let p = stay_plan Window i in
     let b = plan-undone p x.queues (queues_after_push Window i x.queues) (moves_of p x.queues) (sound-distinct x w) (sym m) refl in

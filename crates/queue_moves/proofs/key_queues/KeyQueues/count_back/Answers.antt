@@ -4,7 +4,7 @@ use Rattle.queue_table.specs.QueueTable.{queues}
 use Rattle.queue_moves.specs.Moves.{Entry, item_of}
 use Rattle.queue_moves.specs.Tabled.{Slot, HasKeys}
 use Rattle.queue_moves.proofs.Laws.{tabled-in}
-use Rattle.queue_moves.proofs.Lists.{counts-absent, tabled-count}
+use Rattle.queue_moves.proofs.Tabled.{counts-absent, tabled-count}
 use Rattle.queue_moves.proofs.key_queues.KeyQueues.count_back.Goals as goal
 
 pub invariant_of-self : goal.invariant_of-self

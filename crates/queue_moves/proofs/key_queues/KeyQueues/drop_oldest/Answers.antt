@@ -7,7 +7,7 @@ use Rattle.queue_moves.specs.Moves.{Entry, leaving}
 use Rattle.queue_moves.specs.Undoing.{IsLeft}
 use Rattle.queue_moves.specs.Tabled.{Slot, HasKeys}
 use Rattle.queue_moves.proofs.Laws.{tabled-in, left-out, first-other}
-use Rattle.queue_moves.proofs.Lists.{tabled-removal}
+use Rattle.queue_moves.proofs.Tabled.{tabled-removal}
 use Rattle.queue_moves.proofs.key_queues.KeyQueues.drop_oldest.Goals as goal
 
 pub invariant_of-self : goal.invariant_of-self

@@ -8,7 +8,7 @@ use Rattle.queue_moves.specs.Undoing.{IsOwn}
 use Rattle.queue_moves.specs.Tabled.{Slot, HasKeys}
 use Rattle.queue_moves.proofs.Laws.{tabled-in, own-joined}
 use Rattle.queue_table.proofs.QueueLists.{absent}
-use Rattle.queue_moves.proofs.Lists.{tabled-push}
+use Rattle.queue_moves.proofs.Tabled.{tabled-push}
 use Rattle.queue_moves.proofs.key_queues.KeyQueues.join.Goals as goal
 
 pub invariant_of-self : goal.invariant_of-self

@@ -7,7 +7,7 @@ use Rattle.queue_moves.specs.Moves.{Entry, item_of, counts}
 use Rattle.queue_moves.specs.Undoing.{IsOwn}
 use Rattle.queue_moves.specs.Tabled.{Slot, HasKeys}
 use Rattle.queue_moves.proofs.Laws.{tabled-in, own-counted, held-stands}
-use Rattle.queue_moves.proofs.Lists.{tabled-count}
+use Rattle.queue_moves.proofs.Tabled.{tabled-count}
 use Rattle.queue_moves.proofs.key_queues.KeyQueues.recount.Goals as goal
 
 pub invariant_of-self : goal.invariant_of-self

@@ -9,7 +9,7 @@ use Rattle.queue_moves.specs.Moves.{Entry, item_of, leaving, goes, departed}
 use Rattle.queue_moves.specs.Undoing.{IsLeft, IsOwn}
 use Rattle.queue_moves.specs.Tabled.{Slot, HasKeys}
 use Rattle.queue_moves.proofs.Laws.{tabled-in, left-out, own-renewed}
-use Rattle.queue_moves.proofs.Lists.{tabled-removal, tabled-push}
+use Rattle.queue_moves.proofs.Tabled.{tabled-removal, tabled-push}
 use Rattle.queue_moves.proofs.key_queues.KeyQueues.renew_oldest.Goals as goal
 use Rattle.queue_moves.proofs.key_queues.KeyQueues.renew_oldest.Goals.{After-renew}
 

@@ -7,7 +7,7 @@ use Rattle.queue_moves.specs.Moves.{Entry, item_of, goes}
 use Rattle.queue_moves.specs.Undoing.{key_in, IsOwn}
 use Rattle.queue_moves.specs.Tabled.{Slot, HasKeys}
 use Rattle.queue_moves.proofs.Laws.{tabled-in, own-moved, held-stands}
-use Rattle.queue_moves.proofs.Lists.{tabled-send}
+use Rattle.queue_moves.proofs.Tabled.{tabled-send}
 use Rattle.queue_moves.proofs.key_queues.KeyQueues.send.Goals as goal
 
 pub invariant_of-self : goal.invariant_of-self

@@ -7,7 +7,7 @@ use Rattle.queue_moves.specs.Moves.{Entry, leaving}
 use Rattle.queue_moves.specs.Undoing.{IsLeft}
 use Rattle.queue_moves.specs.Tabled.{Slot, HasKeys}
 use Rattle.queue_moves.proofs.Laws.{tabled-in, left-sent, first-other}
-use Rattle.queue_moves.proofs.Lists.{oldest-node, tabled-send}
+use Rattle.queue_moves.proofs.Tabled.{oldest-node, tabled-send}
 use Rattle.queue_moves.proofs.key_queues.KeyQueues.send_oldest.Goals as goal
 
 pub invariant_of-self : goal.invariant_of-self

@@ -6,7 +6,7 @@ use Rattle.queue_moves.specs.Undoing.{IsTurn}
 use Rattle.queue_moves.specs.Tabled.{Slot, Entry, HasKeys}
 use Rattle.queue_moves.proofs.Laws.{tabled-in, first-other, off-after-send}
 use Rattle.queue_moves.proofs.Runs.{turn-made}
-use Rattle.queue_moves.proofs.Lists.{oldest-node, tabled-send}
+use Rattle.queue_moves.proofs.Tabled.{oldest-node, tabled-send}
 use Rattle.queue_moves.proofs.key_queues.KeyQueues.turn.Goals as goal
 
 pub invariant_of-self : goal.invariant_of-self

@@ -1,4 +1,4 @@
--- The lists of a table's queues lose nothing.
+-- What the calls make of the queues of a table of keys. As lists these lose nothing.
 use Rattle.std.proofs.Common.{◌≡◌, ℕ, zero, suc, sym, refl, arith, ◌+◌, ◌-◌, ◌<◌, ◌≤◌, false, cond, eqb, nat_lt, Option, Some, None, List, [], ◌∷◌, ◌++◌, ap, ◌∙◌, ◌⊎◌, inr}
 use Rattle.std.proofs.Math.Path.{fun_ext}
 use Rattle.queue_table.specs.Queues.{Queues, QUEUES, with_queue, queue_holding, after_push, after_removal, after_send, after_count}
@@ -23,8 +23,6 @@ lists-shown s t = fun_ext at
     at (suc (suc (suc zero))) = refl
     at (suc (suc (suc (suc zero)))) = refl
     at (suc (suc (suc (suc (suc q))))) = sym (t.high (suc (suc (suc (suc (suc q))))) (omega arith))
-
--- ---- what the calls make of the queues of a table of keys
 
 -- ---- lists of entries
 
