@@ -55,9 +55,7 @@ fn access_each<D: FixedDesign>(cache: &mut QueueCache, keys: &[Key]) -> Result<(
     Ok(())
 }
 
-/// The same by a cache of a policy that keeps each missed key. It is never part of its caller, so that the loops of other
-/// engines keep their registers.
-#[inline(never)]
+/// The same by a cache of a policy that keeps each missed key.
 pub(crate) fn access_demand(cache: &mut DemandCache, keys: &[Key]) -> Result<(), AllocError>
     requires { IsNext keys.now (AnyPolicy.Demand cache.old) }
     ensures { (j : Job) (trace done : List ℕ) → HasAccessed j trace done (AnyPolicy.Demand cache.old)
@@ -65,7 +63,7 @@ pub(crate) fn access_demand(cache: &mut DemandCache, keys: &[Key]) -> Result<(),
 {
     match cache.policy() {
         DemandPolicy::Fifo => access_fifo(cache, keys),
-        policy => access_as::<DemandLoop>(cache, policy, keys),
+        policy => access_others(cache, policy, keys),
     }
 }
 
@@ -78,6 +76,21 @@ fn access_fifo(cache: &mut DemandCache, keys: &[Key]) -> Result<(), AllocError>
         → OnOk result (HasAccessed j trace (done ++ keys.now) (AnyPolicy.Demand cache.new)) }
 {
     access_as::<FifoLoop>(cache, DemandPolicy::Fifo, keys)
+}
+
+// The loop of the others is never part of its caller, so that those of other engines keep their registers.
+#[inline(never)]
+fn access_others(
+    cache: &mut DemandCache,
+    policy: DemandPolicy,
+    keys: &[Key],
+) -> Result<(), AllocError>
+    requires policy { cache.old.queues.policy ≡ policy }
+    requires next { IsNext keys.now (AnyPolicy.Demand cache.old) }
+    ensures { (j : Job) (trace done : List ℕ) → HasAccessed j trace done (AnyPolicy.Demand cache.old)
+        → OnOk result (HasAccessed j trace (done ++ keys.now) (AnyPolicy.Demand cache.new)) }
+{
+    access_as::<DemandLoop>(cache, policy, keys)
 }
 
 // The same by a cache of this policy: a loop for each caller.
