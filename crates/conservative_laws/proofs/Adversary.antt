@@ -8,8 +8,8 @@ use Rattle.std.proofs.lemmas.Bool.Decides.{nat_tests}
 use Rattle.step_record.specs.Keys.{has_key}
 use Rattle.step_record.specs.Stats.{one_if}
 use Rattle.queue_cache.proofs.Recency.{IsDistinct}
-use Rattle.queue_policies.specs.Residents.{times}
-use Rattle.queue_policies.proofs.Residents.{times-none, times-some}
+use Rattle.policy_page.specs.Residents.{times}
+use Rattle.policy_page.proofs.Residents.{times-none, times-some}
 use Rattle.optimality.specs.Strategy.{IsStrategy, strategy_hits, strategy_misses}
 use Rattle.std.proofs.Math.Nat.{mul-add, add-mul, mul-le-mul_left}
 use Rattle.policies.specs.AnyPolicy.{Job, stats_on}

@@ -7,14 +7,14 @@ use Rattle.step_record.specs.Keys.{has_key}
 use Rattle.step_record.specs.Stats.{one_if}
 use Rattle.queue_cache.specs.Lru.{distinct_keys}
 use Rattle.optimality.specs.Strategy.{strategy_misses}
-use Rattle.queue_policies.specs.Residents.{times, state_after_all}
-use Rattle.queue_policies.specs.CountedKeys.{CountedKey, keys_of, with_count, oldest_count, AreCounted}
-use Rattle.queue_policies.specs.Turns.{after_turn, turn_count_within, after_turns}
-use Rattle.queue_policies.specs.Clock.{marked_key, clock_eviction, clock_act, IsClock}
-use Rattle.queue_policies.proofs.Residents.{times-none, no-times}
-use Rattle.queue_policies.proofs.CountedKeys.{length-keys, keys-with}
-use Rattle.queue_policies.proofs.Turns.{settled, turns-times, turns-length, turns-counted}
-use Rattle.queue_policies.proofs.Clock.{keeps}
+use Rattle.policy_page.specs.Residents.{times, state_after_all}
+use Rattle.policy_page.specs.CountedKeys.{CountedKey, keys_of, with_count, oldest_count, AreCounted}
+use Rattle.policy_page.specs.Turns.{after_turn, turn_count_within, after_turns}
+use Rattle.clock.specs.Clock.{marked_key, clock_eviction, clock_act, IsClock}
+use Rattle.policy_page.proofs.Residents.{times-none, no-times}
+use Rattle.policy_page.proofs.CountedKeys.{length-keys, keys-with}
+use Rattle.policy_page.proofs.Turns.{settled, turns-times, turns-length, turns-counted}
+use Rattle.clock.proofs.Keeping.{keeps}
 use Rattle.policy_laws.proofs.Strategies.{serves, next-is, kept-at}
 use Rattle.conservative_laws.specs.Conservative.{stretch, IsConservative}
 use Rattle.conservative_laws.proofs.Stretches.{misses-next, once-few, in-stretch}

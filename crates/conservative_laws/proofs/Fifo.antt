@@ -7,10 +7,10 @@ use Rattle.step_record.specs.Keys.{has_key}
 use Rattle.step_record.specs.Stats.{one_if}
 use Rattle.queue_cache.specs.Lru.{distinct_keys}
 use Rattle.optimality.specs.Strategy.{strategy_misses}
-use Rattle.queue_policies.specs.Residents.{times, AreResidents, state_after_all}
-use Rattle.queue_policies.specs.Fifo.{fifo_eviction, fifo_act}
-use Rattle.queue_policies.proofs.Residents.{times-append, times-none}
-use Rattle.queue_policies.proofs.Fifo.{keeps}
+use Rattle.policy_page.specs.Residents.{times, AreResidents, state_after_all}
+use Rattle.fifo.specs.Fifo.{fifo_eviction, fifo_act}
+use Rattle.policy_page.proofs.Residents.{times-append, times-none}
+use Rattle.fifo.proofs.Keeping.{keeps}
 use Rattle.policy_laws.proofs.Strategies.{serves, next-is, kept-at}
 use Rattle.conservative_laws.specs.Conservative.{stretch, IsConservative}
 use Rattle.conservative_laws.proofs.Stretches.{misses-next, once-few, one-of, in-stretch}

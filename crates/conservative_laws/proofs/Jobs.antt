@@ -7,27 +7,29 @@ use Rattle.replacement.proofs.Residents.{has-append}
 use Rattle.step_record.specs.Keys.{has_key}
 use Rattle.step_record.specs.Stats.{is_hit, is_miss, is_eviction, one_if}
 use Rattle.optimality.specs.Strategy.{IsStrategy, strategy_misses}
-use Rattle.queue_policies.specs.Residents.{IsAccess, AreResidents, KeepsResidents, state_after_all, outcomes_of_all, Outcome}
+use Rattle.policy_page.specs.Residents.{IsAccess, AreResidents, KeepsResidents, state_after_all, outcomes_of_all, Outcome}
 use Rattle.queue_cache.proofs.Counting.{hits-misses, count-cons}
-use Rattle.policies.proofs.Demand.{outcomes-long, with-room}
+use Rattle.policy_page.proofs.Residents.{outcomes-long}
+use Rattle.policies.proofs.Demand.{with-room}
 use Rattle.policy_laws.proofs.Strategies.{IsOnline, strategy, hits-are, serves, served, state_at, residents_at, next-is, kept-at}
 use Rattle.conservative_laws.specs.Conservative.{FillsFirst, misses_on, IsConservative}
 use Rattle.conservative_laws.proofs.Stretches.{misses-next, once-few, stretch-next, none-hit, at-most-twice, stats-misses, misses-by, lru-misses, empty-conservative}
-use Rattle.step_record.specs.declared.job.Policy.TheVariants.{Lru}
+use Rattle.step_record.specs.declared.job.Policy.{Policy}
+use Rattle.step_record.specs.declared.job.Policy.TheVariants.{Lru, Fifo, Clock}
 use Rattle.step_record.specs.declared.outcome.Outcome.TheVariants.{Rejected}
-use Rattle.queue_policies.specs.CountedKeys.{keys_of}
-use Rattle.queue_policies.specs.Fifo.{fifo_act}
-use Rattle.queue_policies.specs.Clock.{clock_act, IsClock}
-use Rattle.queue_policies.proofs.Fifo.{keeps as fifo-keeps}
-use Rattle.queue_policies.proofs.Clock.{keeps as clock-keeps}
+use Rattle.policy_page.specs.CountedKeys.{keys_of}
+use Rattle.fifo.specs.Fifo.{fifo_act}
+use Rattle.clock.specs.Clock.{clock_act, IsClock}
+use Rattle.fifo.proofs.Keeping.{keeps as fifo-keeps}
+use Rattle.clock.proofs.Keeping.{keeps as clock-keeps}
 use Rattle.adaptive_window.specs.Residents.{CacheKeeps}
-use Rattle.demand_cache.specs.DemandQueues.{outcomes_of_page}
 use Rattle.demand_cache.specs.Theorems.{DemandKeeps, RunsByPage}
-use Rattle.queue_cache.specs.declared.design.DemandDesign.TheVariants as demand
+use Rattle.demand_cache.specs.declared.demand_policy.DemandPolicy.TheVariants as sized
 use Rattle.queue_cache.specs.declared.design.Design.TheVariants as design
-use Rattle.policies.specs.AnyPolicy.{DemandDesign, Job, demand_run, outcomes_on, stats_on}
+use Rattle.policies.specs.AnyPolicy.{Job, demand_run, outcomes_on, stats_on}
 use Rattle.queue_cache.specs.Design.{design_of}
-use Rattle.policies.specs.DemandDesign.{demand_policy}
+use Rattle.demand_cache.specs.declared.demand_policy.DemandPolicy.{DemandPolicy}
+use Rattle.demand_cache.specs.DemandPolicy.{outcomes_of_page, policy_for, demand_policy}
 use Rattle.policies.specs.Theorems.{AnyCoversTrace}
 use Rattle.queue_cache.specs.Theorems.{LruStepLaw}
 use Rattle.optimality.specs.Theorems.{BeladyIsStrategy}
@@ -96,12 +98,18 @@ misses-counted : (j : Job) (keys : List ℕ) → (stats_on j keys).misses ≡ co
 unfolding stats_on
 misses-counted j keys = refl
 
-pub demand-misses : (p : DemandDesign) (j : Job) (keys : List ℕ) → design_of j.policy ≡ design.Demand p → 1 ≤ j.config.capacity → (stats_on j keys).misses ≡ count_by is_miss (demand_run (demand_policy p j) j.config.capacity keys)
-demand-misses p j keys is room = cc (misses-counted j keys, with-room (demand_policy p j) j.config.capacity keys room)
+demand-misses : (j : Job) (keys : List ℕ) → design_of j.policy ≡ design.Demand → 1 ≤ j.config.capacity → (stats_on j keys).misses ≡ count_by is_miss (demand_run (demand_policy j) j.config.capacity keys)
+demand-misses j keys is room = cc (misses-counted j keys, with-room (demand_policy j) j.config.capacity keys room)
 
-pub page-misses : RunsByPage → (p : DemandDesign) (j : Job) (keys : List ℕ) → design_of j.policy ≡ design.Demand p → 1 ≤ j.config.capacity
-    → (stats_on j keys).misses ≡ count_by is_miss (outcomes_of_page (demand_policy p j) j.config.capacity keys)
-page-misses law p j keys is room = demand-misses p j keys is room ∙ ap (count_by is_miss) (law (demand_policy p j) j.config.capacity keys room)
+pub page-misses : RunsByPage → (p : DemandPolicy) (j : Job) (keys : List ℕ) → design_of j.policy ≡ design.Demand → demand_policy j ≡ p → 1 ≤ j.config.capacity
+    → (stats_on j keys).misses ≡ count_by is_miss (outcomes_of_page p j.config.capacity keys)
+page-misses law p j keys is named room =
+    demand-misses j keys is room ∙ ap (count_by is_miss) (law (demand_policy j) j.config.capacity keys room)
+    ∙ ap (λ q. count_by is_miss (outcomes_of_page q j.config.capacity keys)) named
+
+-- the policy of a job that this word names
+pub policy-named : (j : Job) (w : Policy) → j.policy ≡ w → demand_policy j ≡ policy_for w j.tuning j.config.capacity
+policy-named j w is = ap (λ p. policy_for p j.tuning j.config.capacity) is
 
 -- without room each access is a miss
 pub all-rejected : (keys : List ℕ) → count_by is_miss (map (λ k. Rejected k) keys) ≡ length keys
@@ -134,18 +142,18 @@ acts-lru law covers j t is = record {
 }
 
 -- of a policy that keeps each missed key, by its definition
-module _ {S : Type 0} (law : RunsByPage) (p : DemandDesign) (j : Job) (t : List ℕ) (act : ℕ → ℕ → S → Outcome × S) (start : S) (residents : S → List ℕ) (IsState : ℕ → S → Type 0) where
-  acts-by-page : design_of j.policy ≡ design.Demand p
-      → ((keys : List ℕ) → outcomes_of_page (demand_policy p j) j.config.capacity keys ≡ outcomes_of_all (act j.config.capacity) start keys)
+module _ {S : Type 0} (law : RunsByPage) (p : DemandPolicy) (j : Job) (t : List ℕ) (act : ℕ → ℕ → S → Outcome × S) (start : S) (residents : S → List ℕ) (IsState : ℕ → S → Type 0) where
+  acts-by-page : design_of j.policy ≡ design.Demand → demand_policy j ≡ p
+      → ((keys : List ℕ) → outcomes_of_page p j.config.capacity keys ≡ outcomes_of_all (act j.config.capacity) start keys)
       → ((c : ℕ) → 1 ≤ c → KeepsResidents c start (act c) residents (IsState c))
       → ((c : ℕ) → 1 ≤ c → IsConservative c t (strategy_misses t (λ n. residents (state_after_all (act c) start (take n t)))))
       → ActsConservatively j t
-  acts-by-page is page keeps conservative =
+  acts-by-page is named page keeps conservative =
       let c : ℕ = j.config.capacity in
       elim (cases_lt 0 c) [
         | inl room ↦ record {
           cache = λ n. residents (state_after_all (act c) start (take n t));
-          misses = λ n l. page-misses law p j (take n t) is room ∙ ap (count_by is_miss) (page (take n t)) ∙ misses-are c start (act c) residents (IsState c) (keeps c room) t n l;
+          misses = λ n l. page-misses law p j (take n t) is named room ∙ ap (count_by is_miss) (page (take n t)) ∙ misses-are c start (act c) residents (IsState c) (keeps c room) t n l;
           conservative = conservative c room;
           fills = fills-first c start (act c) residents (IsState c) (keeps c room) t;
         }
@@ -155,9 +163,9 @@ module _ {S : Type 0} (law : RunsByPage) (p : DemandDesign) (j : Job) (t : List 
 acts-conservatively : LruStepLaw → RunsByPage → AnyCoversTrace → (j : Job) (t : List ℕ) → IsLruFifoOrClock j.policy → ActsConservatively j t
 acts-conservatively lru page covers j t (inl is) = acts-lru lru covers j t is
 acts-conservatively lru page covers j t (inr (inl is)) =
-    acts-by-page page demand.Fifo j t fifo_act [] (λ queue. queue) AreResidents (ap design_of is) (λ keys. refl) fifo-keeps (λ c room. fifo-conservative c t room)
+    acts-by-page page sized.Fifo j t fifo_act [] (λ queue. queue) AreResidents (ap design_of is) (policy-named j Fifo is) (λ keys. refl) fifo-keeps (λ c room. fifo-conservative c t room)
 acts-conservatively lru page covers j t (inr (inr is)) =
-    acts-by-page page demand.Clock j t clock_act [] keys_of IsClock (ap design_of is) (λ keys. refl) clock-keeps (λ c room. clock-conservative c t room)
+    acts-by-page page sized.Clock j t clock_act [] keys_of IsClock (ap design_of is) (policy-named j Clock is) (λ keys. refl) clock-keeps (λ c room. clock-conservative c t room)
 
 -- ---- the laws
 

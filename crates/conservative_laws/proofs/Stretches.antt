@@ -8,8 +8,8 @@ use Rattle.step_record.specs.Keys.{has_key}
 use Rattle.queue_cache.specs.Lru.{distinct_keys}
 use Rattle.replacement.proofs.Residents.{has-append}
 use Rattle.optimality.proofs.Optimal.{count_keys, count-short, count-subset, head-has}
-use Rattle.queue_policies.specs.Residents.{times}
-use Rattle.queue_policies.proofs.Residents.{no-times}
+use Rattle.policy_page.specs.Residents.{times}
+use Rattle.policy_page.proofs.Residents.{no-times}
 use Rattle.conservative_laws.specs.Conservative.{stretch, IsConservative}
 use Rattle.std.proofs.Math.Nat.{add-mul, mul-add, mul-le-mul_right, le_of_mul-le-mul_left}
 use Rattle.step_record.specs.Stats.{one_if}

@@ -21,13 +21,13 @@ use Rattle.debug_policies.specs.Window.{fixed_window, moving_window, window_by, 
 age-of-queues : (x : Design) (j : Job) (keys : List ℕ) → is_of_queues x ≡ true → age_by x j keys ≡ age_in (frequency_after j keys)
 age-of-queues (OfQueues d) j keys h = refl
 age-of-queues KnowsTrace j keys h = absurd (cc (h))
-age-of-queues (OfDemand p) j keys h = absurd (cc (h))
+age-of-queues OfDemand j keys h = absurd (cc (h))
 age-of-queues OfAdaptive j keys h = absurd (cc (h))
 
 age-of-optimal : (x : Design) (j : Job) (keys : List ℕ) → is_optimal x ≡ true → age_by x j keys ≡ 0
 age-of-optimal (OfQueues d) j keys h = absurd (cc (h))
 age-of-optimal KnowsTrace j keys h = refl
-age-of-optimal (OfDemand p) j keys h = absurd (cc (h))
+age-of-optimal OfDemand j keys h = absurd (cc (h))
 age-of-optimal OfAdaptive j keys h = absurd (cc (h))
 
 pub shown_age : (j : Job) (trace keys : List ℕ) (d : AnyPolicy) → HasAccessed j trace keys d
@@ -45,14 +45,14 @@ residents-of-queues : (x : Design) (j : Job) (trace : List ℕ) (n : ℕ) → is
     → residents_by x j trace n ≡ residents_in (state_after j (take n trace)).queues
 residents-of-queues (OfQueues q) j trace n h = refl
 residents-of-queues KnowsTrace j trace n h = absurd (cc (h))
-residents-of-queues (OfDemand p) j trace n h = absurd (cc (h))
+residents-of-queues OfDemand j trace n h = absurd (cc (h))
 residents-of-queues OfAdaptive j trace n h = absurd (cc (h))
 
 residents-of-optimal : (x : Design) (j : Job) (trace : List ℕ) (n : ℕ) → is_optimal x ≡ true
     → residents_by x j trace n ≡ belady_residents j.config.capacity trace n
 residents-of-optimal (OfQueues q) j trace n h = absurd (cc (h))
 residents-of-optimal KnowsTrace j trace n h = refl
-residents-of-optimal (OfDemand p) j trace n h = absurd (cc (h))
+residents-of-optimal OfDemand j trace n h = absurd (cc (h))
 residents-of-optimal OfAdaptive j trace n h = absurd (cc (h))
 
 pub shown_keys : (j : Job) (trace : List ℕ) (n : ℕ) (d : AnyPolicy) → n ≤ length trace → HasAccessed j trace (take n trace) d → any_residents d ≡ residents_at j trace n
@@ -70,13 +70,13 @@ shown_keys j trace n (Adaptive d) le s = ap cache_residents s.gives ∙ ap (λ x
 window-of-queues : (x : Design) (j : Job) (keys : List ℕ) → is_of_queues x ≡ true → fixed_window x j.config ≡ window_by x j keys
 window-of-queues (OfQueues q) j keys h = refl
 window-of-queues KnowsTrace j keys h = refl
-window-of-queues (OfDemand p) j keys h = refl
+window-of-queues OfDemand j keys h = refl
 window-of-queues OfAdaptive j keys h = absurd (cc (h))
 
 window-of-optimal : (x : Design) (j : Job) (keys : List ℕ) → is_optimal x ≡ true → fixed_window x j.config ≡ window_by x j keys
 window-of-optimal (OfQueues q) j keys h = refl
 window-of-optimal KnowsTrace j keys h = refl
-window-of-optimal (OfDemand p) j keys h = refl
+window-of-optimal OfDemand j keys h = refl
 window-of-optimal OfAdaptive j keys h = absurd (cc (h))
 
 pub shown_window : (j : Job) (trace keys : List ℕ) (d : AnyPolicy) → HasAccessed j trace keys d → window_in d j ≡ window_by (design_of j.policy) j keys

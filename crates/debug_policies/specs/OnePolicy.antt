@@ -17,11 +17,11 @@ use Rattle.debug_commands.specs.Texts.{count_text}
 use Rattle.journal.specs.Session.{Entry, SessionState}
 use Rattle.segments.specs.Queues.{residents_in}
 pub use Rattle.policies.specs.declared.any_policy.AnyPolicy.{AnyPolicy}
-use Rattle.queue_policies.specs.Residents.{state_after_all}
+use Rattle.policy_page.specs.Residents.{state_after_all}
 use Rattle.demand_cache.specs.DemandQueues.{empty_cache, queues_act, queues_residents}
 use Rattle.queue_cache.specs.declared.design.Design.TheVariants.{KnowsTrace, Queues as OfQueues, Demand as OfDemand, Adaptive as OfAdaptive}
 use Rattle.queue_cache.specs.Design.{design_of}
-use Rattle.policies.specs.DemandDesign.{demand_policy}
+use Rattle.demand_cache.specs.DemandPolicy.{demand_policy}
 use Rattle.policies.specs.AnyPolicy.{Design, adaptive_start, outcomes_on, HasAccessed}
 use Rattle.queue_cache.specs.QueueCache.{frequency_after, state_after}
 
@@ -40,8 +40,8 @@ stats_at j trace n = stats_of (take n (outcomes_on j trace))
 abbrev pub residents_by : Design → Job → List ℕ → ℕ → List ℕ
 residents_by (OfQueues d) j trace n = residents_in (state_after j (take n trace)).queues
 residents_by KnowsTrace j trace n = belady_residents j.config.capacity trace n
-residents_by (OfDemand p) j trace n =
-    queues_residents (state_after_all queues_act (empty_cache (demand_policy p j) j.config.capacity) (take n trace))
+residents_by OfDemand j trace n =
+    queues_residents (state_after_all queues_act (empty_cache (demand_policy j) j.config.capacity) (take n trace))
 residents_by OfAdaptive j trace n = cache_residents (state_after_all cache_access (adaptive_start j) (take n trace))
 
 abbrev pub residents_at : Job → List ℕ → ℕ → List ℕ
@@ -54,7 +54,7 @@ age_in (Some f) = f.age
 abbrev pub age_by : Design → Job → List ℕ → ℕ
 age_by (OfQueues d) j keys = age_in (frequency_after j keys)
 age_by KnowsTrace j keys = 0
-age_by (OfDemand p) j keys = 0
+age_by OfDemand j keys = 0
 age_by OfAdaptive j keys = (state_after_all cache_access (adaptive_start j) keys).frequency.age
 
 -- the age of the sketch after them, 0 where there is none

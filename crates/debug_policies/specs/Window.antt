@@ -12,7 +12,7 @@ use Rattle.queue_cache.specs.declared.design.Layout.{Layout}
 use Rattle.queue_cache.specs.declared.design.Layout.TheVariants.{OneQueue, TwoQueues, ThreeQueues}
 use Rattle.queue_cache.specs.Design.{design_of, rules_by}
 use Rattle.policies.specs.AnyPolicy.{Design, adaptive_start}
-use Rattle.queue_policies.specs.Residents.{state_after_all}
+use Rattle.policy_page.specs.Residents.{state_after_all}
 pub use Rattle.debug_policies.specs.declared.window.Window.{Window}
 use Rattle.debug_policies.specs.declared.window.Window.TheVariants.{Absent, Fixed, Moving}
 
@@ -27,7 +27,7 @@ window_of_layout ThreeQueues size = Fixed size
 abbrev pub fixed_window : Design → Config → Window
 fixed_window (Queues d) c = window_of_layout d.layout (rules_by d.layout c).window
 fixed_window KnowsTrace c = Absent
-fixed_window (Demand p) c = Absent
+fixed_window Demand c = Absent
 fixed_window Adaptive c = Absent
 
 abbrev pub moving_window : AdaptiveState → Window
@@ -36,7 +36,7 @@ moving_window w = Moving w.size w.climber.target
 abbrev pub window_by : Design → Job → List ℕ → Window
 window_by (Queues d) j keys = fixed_window (Queues d) j.config
 window_by KnowsTrace j keys = fixed_window KnowsTrace j.config
-window_by (Demand p) j keys = fixed_window (Demand p) j.config
+window_by Demand j keys = fixed_window Demand j.config
 window_by Adaptive j keys = moving_window (state_after_all cache_access (adaptive_start j) keys).window
 
 -- after the first n accesses

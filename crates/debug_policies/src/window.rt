@@ -48,7 +48,7 @@ fn fixed_window(job: &Job) -> Window
                 size: design.rules(&job.config).window,
             },
         },
-        Design::KnowsTrace | Design::Demand(_) | Design::Adaptive => Window::Absent,
+        Design::KnowsTrace | Design::Demand | Design::Adaptive => Window::Absent,
     }
 }
 

@@ -12,7 +12,8 @@ use Rattle.queue_moves.specs.Undoing.{record_of, before_all, FitsMoves, IsAccess
 use Rattle.queue_moves.specs.Tabled.{IsTabled}
 use Rattle.queue_moves.specs.Lists.{lists_of, queues_in}
 use Rattle.queue_moves.proofs.Tabled.{lists-shown, tabled-all}
-use Rattle.demand_cache.specs.DemandQueues.{DemandPolicy, Moves, DemandQueues, plan_by, residents_by, queues_residents, IsStateOf, IsQueues, QueuesFits, queues_act, queues_record_of, queues_undone}
+use Rattle.demand_cache.specs.DemandQueues.{DemandPolicy, Moves, DemandQueues, queues_residents, IsQueues, QueuesFits, queues_act, queues_record_of, queues_undone}
+use Rattle.demand_cache.specs.DemandPolicy.{plan_by, residents_by, IsStateOf}
 use Rattle.demand_cache.specs.DemandCache.{Stats, DemandState, demand_act, IsCountedBy}
 use Rattle.demand_cache.specs.Theorems.{PagesAreSound}
 use Rattle.demand_cache.proofs.Keeping.{IsKept, kept, is-cache, cache_of}

@@ -3,20 +3,21 @@ use Rattle.std.proofs.lemmas.Bool.Decides.{nat_tests}
 use Rattle.std.proofs.Common.{◌≡◌, ℕ, ◌≤◌, Option, [], List, ◌∷◌, ap, ◌∙◌, sym, subst, refl, arith, Some, None}
 use Rattle.step_record.specs.Keys.{has_key}
 use Rattle.queue_table.specs.Queues.{Queues, empty_queues}
-use Rattle.queue_policies.specs.Residents.{IsAccess, outcomes_of_all}
+use Rattle.policy_page.specs.Residents.{IsAccess, outcomes_of_all}
 use Rattle.queue_moves.specs.Moves.{item_of, Plan, after_all, outcome_of, IsLowPlan, Leaving, outcome_after, evicted}
 use Rattle.queue_moves.specs.Tabled.{IsTabled, keys_of}
 use Rattle.queue_moves.specs.Lists.{QueueLists, lists_of, queues_in}
 use Rattle.queue_moves.proofs.Tabled.{tabled-all, lists-shown}
-use Rattle.policy_steps.specs.PolicyPage.{PolicyPage, keys_with, LeavesNone}
-use Rattle.policy_steps.proofs.FifoPlan.{fifo-sound}
-use Rattle.policy_steps.proofs.ClockPlan.{clock-sound}
-use Rattle.policy_steps.proofs.SievePlan.{sieve-sound}
-use Rattle.policy_steps.proofs.S3Fifo.{s3-fifo-sound}
-use Rattle.policy_steps.proofs.TwoQ.{two-q-sound}
-use Rattle.policy_steps.proofs.ArcPlan.{arc-sound}
+use Rattle.policy_page.specs.PolicyPage.{PolicyPage, keys_with, LeavesNone}
+use Rattle.fifo.proofs.Plan.{fifo-sound}
+use Rattle.clock.proofs.Plan.{clock-sound}
+use Rattle.sieve.proofs.Plan.{sieve-sound}
+use Rattle.s3_fifo.proofs.Plan.{s3-fifo-sound}
+use Rattle.two_q.proofs.Plan.{two-q-sound}
+use Rattle.arc.proofs.Plan.{arc-sound}
 use Rattle.demand_cache.specs.declared.demand_policy.DemandPolicy.TheVariants.{Fifo, Clock, Sieve, S3Fifo, TwoQ, Arc}
-use Rattle.demand_cache.specs.DemandQueues.{DemandPolicy, DemandQueues, page_of, plan_by, residents_by, IsStateOf, queues_of, plan_of, queues_residents, queues_act, IsQueues}
+use Rattle.demand_cache.specs.DemandQueues.{DemandPolicy, DemandQueues, queues_of, plan_of, queues_residents, queues_act, IsQueues}
+use Rattle.demand_cache.specs.DemandPolicy.{page_of, plan_by, residents_by, IsStateOf}
 use Rattle.demand_cache.specs.Theorems.{PagesAreSound, DemandKeeps, RunsByPage, HitsAskNothing, AsksWhereOneLeft}
 use Rattle.std.proofs.lemmas.Bool.{cases_Bool}
 use Rattle.step_record.specs.declared.outcome.Outcome.TheVariants.{Hit}

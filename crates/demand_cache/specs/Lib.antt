@@ -1,3 +1,4 @@
+pub mod DemandPolicy
 pub mod DemandQueues
 pub mod DemandCache
 pub mod Theorems

@@ -2,10 +2,11 @@
 use Rattle.std.specs.Prelude.{◌≡◌, ℕ, ◌≤◌, true, List}
 use Rattle.step_record.specs.Stats.{is_eviction}
 use Rattle.step_record.specs.declared.outcome.Outcome.TheVariants.{Hit}
-use Rattle.queue_policies.specs.Residents.{KeepsResidents, CountsResidents, outcomes_of_all}
-use Rattle.policy_steps.specs.PolicyPage.{IsSoundPage}
+use Rattle.policy_page.specs.Residents.{KeepsResidents, CountsResidents, outcomes_of_all}
+use Rattle.policy_page.specs.PolicyPage.{IsSoundPage}
 use Rattle.demand_cache.specs.DemandQueues.{DemandPolicy, DemandQueues, empty_cache, queues_act, queues_record_of, queues_asks, queues_residents}
-use Rattle.demand_cache.specs.DemandQueues.{page_of, IsQueues, outcomes_of_page}
+use Rattle.demand_cache.specs.DemandQueues.{IsQueues}
+use Rattle.demand_cache.specs.DemandPolicy.{page_of, outcomes_of_page}
 
 -- Of each policy, as one value: its definition keeps each missed key, and the plan of an access, which the code carries out,
 -- is the definition's access.

@@ -1,8 +1,9 @@
 //! The engine: a cache whose accesses are counted and can be undone.
 ghost use Rattle.std.specs.Prelude.{◌≡◌, ◌+◌, ◌≤◌, ◌↔◌, ◌++◌, [], length, Err, Some, None, IfOk, OnOk, OnErr};
-ghost use Rattle.step_record.specs.declared.limits.TheConstants.{MAX_CAPACITY};
+ghost use Rattle.step_record.specs.declared.limits.TheConstants.{MAX_CAPACITY, MAX_STEPS};
 ghost use Rattle.step_record.specs.Stats.{stats_of};
 ghost use Rattle.queue_table.specs.QueueTable.{queues as queues_at};
+ghost use Rattle.policy_page.specs.Residents.{state_after_all};
 ghost use Rattle.demand_cache.specs.DemandQueues.{empty_cache, queues_residents};
 
 use crate::demand_policy::DemandPolicy;
@@ -44,7 +45,7 @@ impl Model for DemandCache {
 }
 
 impl DemandCache {
-    ghost use Rattle.demand_cache.specs.DemandCache.{demand_act, demand_may_ask};
+    ghost use Rattle.demand_cache.specs.DemandCache.{demand_access, demand_act, demand_may_ask};
 
     /// An empty cache. Allocates nothing.
     pub fn new(alloc: Global, policy: DemandPolicy, capacity: u32) -> DemandCache
@@ -90,11 +91,40 @@ impl DemandCache {
         self.access_as::<C>(self.policy, key)
     }
 
-    /// Makes an access as `access` does, where the caller knows the policy, so that no step of another one is compiled.
-    ///
-    /// Errors: those of `access`.
+    /// Makes the accesses in turn, none of which is to be undone: at most `MAX_STEPS` with those that it made. The one error
+    /// is that an allocation failed; it has made some of them then.
+    pub fn access_all(&mut self, keys: &[Key]) -> Result<(), AllocError>
+        requires { self.old.stats.accesses + length keys.now ≤ MAX_STEPS }
+        ensures { OnOk result (self.new ≡ state_after_all demand_access self.old keys.now) }
+    {
+        self.policy.access_all(self, keys)
+    }
+
+    /// The same, of this policy, as a loop that is part of its caller.
     #[inline(always)]
-    pub fn access_as<C>(&mut self, policy: DemandPolicy, key: Key) -> Result<Outcome, StepFault>
+    pub(crate) fn access_each<C>(
+        &mut self,
+        policy: DemandPolicy,
+        keys: &[Key],
+    ) -> Result<(), AllocError>
+        requires policy { policy ≡ self.old.queues.policy }
+        requires room { self.old.stats.accesses + length keys.now ≤ MAX_STEPS }
+        ensures { OnOk result (self.new ≡ state_after_all demand_access self.old keys.now) }
+    {
+        for i in 0..keys.len() {
+            self.prefetch_at(keys, i);
+            match self.access_as::<C>(policy, keys[i]) {
+                Ok(_) => {}
+                Err(StepFault::OutOfMemory) => return Err(AllocError),
+                Err(StepFault::NotNow) => unreachable!(),
+            }
+        }
+        Ok(())
+    }
+
+    // An access as `access` makes it, where the caller knows the policy, so that no step of another one is compiled.
+    #[inline(always)]
+    fn access_as<C>(&mut self, policy: DemandPolicy, key: Key) -> Result<Outcome, StepFault>
         requires { policy ≡ self.old.queues.policy }
         ensures accepted { IfOk result (λ o. demand_act self.old key ≡ Some (o, self.new)) }
         ensures not_now { result ≡ Err StepFault.NotNow ↔ demand_act self.old key ≡ None }
@@ -114,13 +144,6 @@ impl DemandCache {
                 Ok(done.outcome)
             }
         }
-    }
-
-    /// Its policy, with the sizes of its parts.
-    pub fn policy(&self) -> DemandPolicy
-        ensures { result ≡ self.now.queues.policy }
-    {
-        self.policy
     }
 
     /// What was counted of the applied accesses.

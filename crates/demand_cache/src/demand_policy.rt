@@ -1,18 +1,21 @@
 //! The policies that keep each missed key: all that names one of them in code.
-ghost use Rattle.std.specs.Prelude.{◌≡◌, ◌≤◌, ◌<◌, false, IfOk, OnErr, IfSome};
-ghost use Rattle.step_record.specs.declared.limits.TheConstants.{MAX_CAPACITY};
+ghost use Rattle.std.specs.Prelude.{◌≡◌, Bool, ℕ, ◌+◌, ◌≤◌, ◌<◌, false, length, Ok, IfOk, OnOk, OnErr, IfSome};
+ghost use Rattle.step_record.specs.Config.{config_fault};
+ghost use Rattle.step_record.specs.Job.{part_size};
+ghost use Rattle.step_record.specs.declared.limits.TheConstants.{MAX_CAPACITY, MAX_STEPS};
 ghost use Rattle.queue_table.specs.QueueTable.{queues as queues_at};
-ghost use Rattle.queue_table.specs.Queues.{QUEUES, Queues};
-ghost use Rattle.queue_moves.specs.Moves.{item_of};
+ghost use Rattle.queue_table.specs.Queues.{QUEUES, Item, Queues};
+ghost use Rattle.queue_moves.specs.Moves.{Plan, item_of};
 ghost use Rattle.queue_moves.specs.Undoing.{IsAccessed};
-ghost use Rattle.demand_cache.specs.DemandQueues.{page_of, plan_by};
-ghost use Rattle.demand_cache.specs.DemandCache.{IsCountedBy};
+ghost use Rattle.demand_cache.specs.DemandPolicy.{page_of, plan_by, demand_policy, two_q_sizes};
+ghost use Rattle.policy_page.specs.Residents.{state_after_all};
+ghost use Rattle.demand_cache.specs.DemandCache.{IsCountedBy, demand_access};
 
-use ghost_policies::TwoQSizes;
-use policy_steps::{arc, clock, fifo, s3_fifo, sieve, two_q};
+use crate::demand_cache::DemandCache;
 use queue_moves::{Accessed, KeyQueues};
 use std::alloc::AllocError;
-use step_record::{Key, Outcome};
+use step_record::{Job, Key, Outcome, Policy, Tuning};
+use two_q::TwoQSizes;
 
 /// A policy that keeps each missed key, with the sizes of its parts where they are a choice. Any sizes will do.
 #[derive(Clone, Copy, Debug, PartialEq, Eq)]
@@ -31,6 +34,19 @@ pub enum DemandPolicy {
     Arc,
 }
 
+// Selects the instance of an access that is part of each policy's loop.
+struct FifoLoop;
+
+struct ClockLoop;
+
+struct SieveLoop;
+
+struct S3FifoLoop;
+
+struct TwoQLoop;
+
+struct ArcLoop;
+
 /// What is read of an access that is not to be undone.
 #[derive(Clone, Copy)]
 pub(crate) struct Counted {
@@ -40,6 +56,52 @@ pub(crate) struct Counted {
 }
 
 impl DemandPolicy {
+    /// The policy of a job, with the sizes that the job gives its parts. It requires a configuration that `Config::check`
+    /// accepts. No cache of this kind is opened for a policy of another engine: FIFO stands for it here.
+    pub fn of(job: &Job) -> DemandPolicy
+        requires { config_fault job.now.config ≡ Ok tt }
+        ensures { result ≡ demand_policy job.now }
+    {
+        let capacity = job.config.capacity;
+        match job.policy {
+            Policy::Fifo => DemandPolicy::Fifo,
+            Policy::Clock => DemandPolicy::Clock,
+            Policy::Sieve => DemandPolicy::Sieve,
+            Policy::S3Fifo => DemandPolicy::S3Fifo(part_size(job.tuning.small, capacity)),
+            Policy::TwoQ => DemandPolicy::TwoQ(two_q_sizes(&job.tuning, capacity)),
+            Policy::Arc => DemandPolicy::Arc,
+            Policy::Lru
+            | Policy::SegmentedLru
+            | Policy::TinyLfuLru
+            | Policy::TinyLfuSegmented
+            | Policy::WindowTinyLfu
+            | Policy::Clairvoyant
+            | Policy::Caffeine => DemandPolicy::Fifo,
+        }
+    }
+
+    /// The accesses of `DemandCache::access_all`, by a cache of this policy. Each policy has a loop of its own: the
+    /// instructions that tell the policies apart would be a tenth of an access.
+    #[inline(never)]
+    pub(crate) fn access_all(self, cache: &mut DemandCache, keys: &[Key]) -> Result<(), AllocError>
+        requires policy { self ≡ cache.old.queues.policy }
+        requires room { cache.old.stats.accesses + length keys.now ≤ MAX_STEPS }
+        ensures { OnOk result (cache.new ≡ state_after_all demand_access cache.old keys.now) }
+    {
+        match self {
+            DemandPolicy::Fifo => cache.access_each::<FifoLoop>(DemandPolicy::Fifo, keys),
+            DemandPolicy::Clock => cache.access_each::<ClockLoop>(DemandPolicy::Clock, keys),
+            DemandPolicy::Sieve => cache.access_each::<SieveLoop>(DemandPolicy::Sieve, keys),
+            DemandPolicy::S3Fifo(part) => {
+                cache.access_each::<S3FifoLoop>(DemandPolicy::S3Fifo(part), keys)
+            }
+            DemandPolicy::TwoQ(sizes) => {
+                cache.access_each::<TwoQLoop>(DemandPolicy::TwoQ(sizes), keys)
+            }
+            DemandPolicy::Arc => cache.access_each::<ArcLoop>(DemandPolicy::Arc, keys),
+        }
+    }
+
     /// The queues in which the resident keys stand, where this is the policy's own number, with which some queues show a
     /// state.
     pub(crate) fn resident_queues(self, scalar: u32) -> (u8, Option<u8>)
@@ -93,34 +155,16 @@ impl DemandPolicy {
         ensures err { OnErr result (queues_at queues.new ≡ queues_at queues.old) }
     {
         match self {
-            DemandPolicy::Fifo => match fifo::step::<C>(queues, capacity, scalar, key) {
-                Ok(done) => Ok(without_record(done)),
-                Err(fault) => Err(fault),
-            },
-            DemandPolicy::Clock => match clock::step::<C>(queues, capacity, scalar, key) {
-                Ok(done) => Ok(without_record(done)),
-                Err(fault) => Err(fault),
-            },
-            DemandPolicy::Sieve => match sieve::step::<C>(queues, capacity, scalar, key) {
-                Ok(done) => Ok(without_record(done)),
-                Err(fault) => Err(fault),
-            },
-            DemandPolicy::S3Fifo(part) => match s3_fifo::step::<C>(
+            DemandPolicy::Fifo => without_record(fifo::step::<C>(queues, capacity, scalar, key)),
+            DemandPolicy::Clock => without_record(clock::step::<C>(queues, capacity, scalar, key)),
+            DemandPolicy::Sieve => without_record(sieve::step::<C>(queues, capacity, scalar, key)),
+            DemandPolicy::S3Fifo(part) => without_record(s3_fifo::step::<C>(
                 queues, part, capacity, scalar, key,
-            ) {
-                Ok(done) => Ok(without_record(done)),
-                Err(fault) => Err(fault),
-            },
-            DemandPolicy::TwoQ(sizes) => match two_q::step::<C>(
+            )),
+            DemandPolicy::TwoQ(sizes) => without_record(two_q::step::<C>(
                 queues, sizes, capacity, scalar, key,
-            ) {
-                Ok(done) => Ok(without_record(done)),
-                Err(fault) => Err(fault),
-            },
-            DemandPolicy::Arc => match arc::step::<C>(queues, capacity, scalar, key) {
-                Ok(done) => Ok(without_record(done)),
-                Err(fault) => Err(fault),
-            },
+            )),
+            DemandPolicy::Arc => without_record(arc::step::<C>(queues, capacity, scalar, key)),
         }
     }
 
@@ -157,13 +201,38 @@ impl DemandPolicy {
     }
 }
 
+// What is read of a step.
 #[inline(always)]
-fn without_record(done: Accessed) -> Counted
-    ensures outcome { result.outcome ≡ done.outcome }
-    ensures scalar { result.scalar ≡ done.scalar }
+fn without_record(done: Result<Accessed, AllocError>) -> Result<Counted, AllocError>
+    ensures counted { (p : Plan) (i : Item) (x : ℕ) (s u : Queues) → IfOk done (λ a. IsAccessed p i x s u a)
+        → IfOk result (λ c. IsCountedBy p i s u c.outcome c.scalar) }
+    ensures memory { (hits : Bool) → OnErr done (hits ≡ false) → OnErr result (hits ≡ false) }
+    ensures err { (s u : Queues) → OnErr done (u ≡ s) → OnErr result (u ≡ s) }
 {
-    Counted {
-        outcome: done.outcome,
-        scalar: done.scalar,
+    match done {
+        Ok(done) => Ok(Counted {
+            outcome: done.outcome,
+            scalar: done.scalar,
+        }),
+        Err(fault) => Err(fault),
     }
+}
+
+// The sizes of 2Q's parts.
+fn two_q_sizes(tuning: &Tuning, capacity: u32) -> TwoQSizes
+    requires { capacity ≤ MAX_CAPACITY }
+    ensures { result ≡ two_q_sizes tuning.now capacity }
+{
+    TwoQSizes {
+        kin: part_size(tuning.kin, capacity),
+        kout: part_size(tuning.kout, capacity),
+    }
+}
+
+// A part of so many percent of the capacity.
+fn part_size(percent: u8, capacity: u32) -> u32
+    requires { capacity ≤ MAX_CAPACITY }
+    ensures { result ≡ part_size percent capacity }
+{
+    (capacity * u32::from(percent) / 100).max(1)
 }

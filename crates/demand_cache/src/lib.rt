@@ -1,5 +1,5 @@
-//! FIFO, CLOCK, SIEVE, S3-FIFO, 2Q and ARC as one engine. They keep each missed key, and count no keys beyond a few
-//! bits.
+//! The policies that keep each missed key as one engine. Which there are, and with what sizes of their parts, is one table
+//! (`DemandPolicy`).
 //!
 //! Each is a plan of moves over the same queues. What they share stands here once: counts, the limit of steps, and
 //! undoing.

@@ -5,11 +5,11 @@ use Rattle.std.proofs.lemmas.List.{length-map}
 use Rattle.step_record.specs.Config.{config_fault}
 use Rattle.step_record.specs.Stats.{stats_of, stats_with}
 use Rattle.step_record.proofs.Counting.{stats-snoc}
-use Rattle.queue_policies.specs.Residents.{Outcome, state_after_all, outcomes_of_all}
+use Rattle.policy_page.specs.Residents.{Outcome, state_after_all, outcomes_of_all}
 use Rattle.adaptive_window.specs.AdaptiveCache.{AdaptiveCacheState, cache_access}
 use Rattle.adaptive_window.specs.Residents.{cache_residents, IsCache, CacheKeeps}
 use Rattle.policies.specs.AnyPolicy.{Job, ConfigFault, IsAdaptiveAfter, adaptive_start, adaptive_outcomes}
-use Rattle.policies.proofs.Demand.{state-push, outcomes-long, kept-from}
+use Rattle.policy_page.proofs.Residents.{state-push, outcomes-long, kept-from}
 
 -- ---- the accesses that it made
 

@@ -18,25 +18,26 @@ use Rattle.queue_cache.specs.QueueStep.{queue_access, queue_count, recorded_in}
 use Rattle.demand_cache.specs.DemandCache.{demand_access, demand_count}
 use Rattle.demand_cache.specs.DemandQueues.{queues_act, empty_cache, DemandQueues, queues_residents, IsQueues}
 use Rattle.demand_cache.specs.Theorems.{DemandKeeps, HitsAskNothing, AsksWhereOneLeft}
-use Rattle.queue_policies.specs.Residents.{state_after_all, outcomes_of_all, KeepsResidents}
+use Rattle.policy_page.specs.Residents.{state_after_all, outcomes_of_all, KeepsResidents}
 use Rattle.adaptive_window.specs.AdaptiveCache.{cache_access, cache_count}
 use Rattle.adaptive_window.specs.Residents.{CacheKeeps, CacheHitsAskNothing, CacheAsksWhereOneLeft}
 use Rattle.queue_cache.specs.declared.design.Design.{Design}
 use Rattle.queue_cache.specs.declared.design.Design.TheVariants as design
 use Rattle.queue_cache.specs.Design.{design_of, is_of_queues, is_optimal}
-use Rattle.policies.specs.DemandDesign.{demand_policy}
+use Rattle.demand_cache.specs.DemandPolicy.{demand_policy}
 use Rattle.policies.specs.AnyPolicy.{AnyPolicy, outcomes_by, adaptive_start, demand_run, IsBeladyAt, HasAccessed, adaptive_outcomes, ConfigFault, DemandPolicy, any_residents, outcomes_on, stats_on, demand_outcomes}
 use Rattle.policies.specs.Theorems.{AnyStepLaw, AnyAccepts, AnyIsOne, AnyAnswers, AnyCoversTrace, AnyHitsKeepAll, AnyRecordsShowOutcome, AnyAsksWhereOneLeft}
 use Rattle.clairvoyant.proofs.Records.{outcome-is}
 use Rattle.queue_cache.proofs.Leaving.{hit-keeps-all, queue-asks-evicts}
 use Rattle.queue_cache.proofs.Answered.{after-answers, after-length}
-use Rattle.policies.proofs.Demand.{demand_stands, demand-accesses, outcomes-at, with-room, demand-room, demand-long, demand-sound, demand-holds, demand-is-access, demand-counted, demand-came-from, times-by, kept-after}
+use Rattle.policy_page.proofs.Residents.{outcomes-at, kept-after}
+use Rattle.policies.proofs.Demand.{demand_stands, demand-accesses, with-room, demand-room, demand-long, demand-sound, demand-holds, demand-is-access, demand-counted, demand-came-from, times-by}
 use Rattle.policies.proofs.Adaptive.{adaptive_stands, adaptive-accesses, adaptive-sound, adaptive-long, adaptive-counted, adaptive-fit}
 use Rattle.queue_cache.proofs.Reached.{stands-step, stands-outcome, stands-accesses}
 use Rattle.std.specs.List.{count_by}
 use Rattle.segments.specs.Queues.{residents_in}
 use Rattle.std.proofs.lemmas.List.Sums.{sum_by-cons}
-use Rattle.queue_policies.proofs.Residents.{counts-residents}
+use Rattle.policy_page.proofs.Residents.{counts-residents}
 use Rattle.step_record.specs.Config.{config_fault}
 use Rattle.queue_cache.proofs.Counting.{after-counts, hits-misses}
 use Rattle.step_record.specs.Keys.{has_key}
@@ -114,9 +115,9 @@ any_accepts law j trace keys rest k (Adaptive d) t few s h = search (arith, has-
 abbrev cache_by : Design → Job → List ℕ → List ℕ → AnyPolicy
 cache_by (design.Queues q) j trace keys = Queues (state_after j keys)
 cache_by design.KnowsTrace j trace keys = Optimal (clairvoyant_at j.config.capacity trace (length keys))
-cache_by (design.Demand p) j trace keys = Demand record {
-  queues = state_after_all queues_act (empty_cache (demand_policy p j) j.config.capacity) keys;
-  stats = stats_of (demand_run (demand_policy p j) j.config.capacity keys);
+cache_by design.Demand j trace keys = Demand record {
+  queues = state_after_all queues_act (empty_cache (demand_policy j) j.config.capacity) keys;
+  stats = stats_of (demand_run (demand_policy j) j.config.capacity keys);
 }
 cache_by design.Adaptive j trace keys = Adaptive (state_after_all cache_access (adaptive_start j) keys)
 
@@ -154,12 +155,12 @@ any_answers law j trace keys rest k (Queues d) o e x t s h =
 any_answers law j trace keys rest k (Optimal d) o e x t s h =
     search (arith, at_place, length-append, at-answers, outcomes-of-optimal)
 any_answers law j trace keys rest k (Demand d) o e x t s h =
-    let start = empty_cache (demand_policy s.kind j) j.config.capacity in
+    let start = empty_cache (demand_policy j) j.config.capacity in
     (accepted-in demand_count demand_access Demand d k o e h).outcome
     ∙ ap (λ z. (queues_act k z).0) s.queues
     ∙ sym (outcomes-at queues_act start keys rest k x)
-    ∙ ap (λ l. get_or (demand_run (demand_policy s.kind j) j.config.capacity l) (length keys) x) (sym t)
-    ∙ ap (λ os. get_or os (length keys) x) (sym (with-room (demand_policy s.kind j) j.config.capacity trace (demand-room j keys d s)))
+    ∙ ap (λ l. get_or (demand_run (demand_policy j) j.config.capacity l) (length keys) x) (sym t)
+    ∙ ap (λ os. get_or os (length keys) x) (sym (with-room (demand_policy j) j.config.capacity trace (demand-room j keys d s)))
     ∙ ap (λ z. get_or (outcomes_by z j trace) (length keys) x) (sym s.design)
 any_answers law j trace keys rest k (Adaptive d) o e x t s h =
     (accepted-in cache_count cache_access Adaptive d k o e h).outcome
@@ -207,8 +208,9 @@ queues-counted : (d : QueueState) → IsBalancedCache d → length (residents_in
 queues-counted d s = let counted = s.counted in omega (arith, counted, residents-length d.queues)
 
 pub residents_counted : DemandKeeps → CacheKeeps → ResidentsCounted
+residents_counted law own j trace keys (Demand d) s = demand-counted law j keys d s
 residents_counted law own j trace keys v s =
-    grind (arith, nat_tests, queues-counted, after-balanced, held-count, demand-counted, adaptive-counted)
+    grind (arith, nat_tests, queues-counted, after-balanced, held-count, adaptive-counted)
 
 -- ---- the statistics of a job over a trace
 
@@ -247,7 +249,7 @@ fit-by : DemandKeeps → CacheKeeps → (x : Design) (j : Job) (trace : List ℕ
     → (stats_of (outcomes_by x j trace)).misses ≤ (stats_of (outcomes_by x j trace)).evictions + j.config.capacity
 fit-by law own (design.Queues q) j trace = subst (λ (s : Stats). s.misses ≤ s.evictions + j.config.capacity) (after-counts j trace) (queues-fit j trace)
 fit-by law own design.KnowsTrace j trace = optimal-fit j.config.capacity trace (length trace)
-fit-by law own (design.Demand p) j trace = demand-fit law (demand_policy p j) j.config.capacity trace
+fit-by law own design.Demand j trace = demand-fit law (demand_policy j) j.config.capacity trace
 fit-by law own design.Adaptive j trace = unopened-fit own (config_fault j.config) j trace refl
 
 pub misses_fit : DemandKeeps → CacheKeeps → MissesFit

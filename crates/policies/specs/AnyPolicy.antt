@@ -13,18 +13,17 @@ use Rattle.adaptive_window.specs.AdaptiveCache.{empty_cache as empty_adaptive_ca
 use Rattle.adaptive_window.specs.Residents.{cache_residents}
 use Rattle.clairvoyant.specs.Belady.{belady_outcomes}
 use Rattle.clairvoyant.specs.Clairvoyant.{ClairvoyantState, clairvoyant_at}
-use Rattle.queue_policies.specs.Residents.{state_after_all, outcomes_of_all}
+use Rattle.policy_page.specs.Residents.{state_after_all, outcomes_of_all}
 pub use Rattle.demand_cache.specs.declared.demand_policy.DemandPolicy.{DemandPolicy}
-use Rattle.demand_cache.specs.DemandQueues.{empty_cache, queues_act, queues_residents, outcomes_of_page}
+use Rattle.demand_cache.specs.DemandQueues.{empty_cache, queues_act, queues_residents}
+use Rattle.demand_cache.specs.DemandPolicy.{outcomes_of_page, demand_policy}
 use Rattle.demand_cache.specs.DemandCache.{DemandState}
 use Rattle.segments.specs.Queues.{residents_in}
 pub use Rattle.policies.specs.declared.any_policy.AnyPolicy.{AnyPolicy}
 use Rattle.policies.specs.declared.any_policy.AnyPolicy.TheVariants.{Queues, Optimal, Demand, Adaptive}
-pub use Rattle.queue_cache.specs.declared.design.DemandDesign.{DemandDesign}
 pub use Rattle.queue_cache.specs.declared.design.Design.{Design}
 use Rattle.queue_cache.specs.declared.design.Design.TheVariants as design
 use Rattle.queue_cache.specs.Design.{design_of, has_queues, knows_trace}
-use Rattle.policies.specs.DemandDesign.{demand_policy}
 use Rattle.queue_cache.specs.QueueCache.{outcomes_after, StandsFor}
 
 -- ---- a job over a trace
@@ -52,7 +51,7 @@ adaptive_outcomes (Err e) j trace = map (λ k. Rejected k) trace
 abbrev pub outcomes_by : Design → Job → List ℕ → List Outcome
 outcomes_by (design.Queues d) j trace = outcomes_after j trace
 outcomes_by design.KnowsTrace j trace = belady_outcomes j.config.capacity trace (length trace)
-outcomes_by (design.Demand p) j trace = demand_outcomes (demand_policy p j) j.config.capacity trace
+outcomes_by design.Demand j trace = demand_outcomes (demand_policy j) j.config.capacity trace
 outcomes_by design.Adaptive j trace = adaptive_outcomes (config_fault j.config) j trace
 
 -- the outcomes of a job's accesses to the keys of a trace, in order
@@ -93,11 +92,10 @@ pub record IsBeladyAt (j : Job) (trace keys : List ℕ) (d : ClairvoyantState) :
 
 -- a cache of a policy that keeps each missed key made these accesses
 pub record IsDemandAfter (j : Job) (keys : List ℕ) (d : DemandState) : Type 0 where
-  pub kind : DemandDesign
-  pub design : design_of j.policy ≡ design.Demand kind
+  pub design : design_of j.policy ≡ design.Demand
   pub checked : config_fault j.config ≡ Ok tt
-  pub queues : d.queues ≡ state_after_all queues_act (empty_cache (demand_policy kind j) j.config.capacity) keys
-  pub stats : d.stats ≡ stats_of (demand_run (demand_policy kind j) j.config.capacity keys)
+  pub queues : d.queues ≡ state_after_all queues_act (empty_cache (demand_policy j) j.config.capacity) keys
+  pub stats : d.stats ≡ stats_of (demand_run (demand_policy j) j.config.capacity keys)
 
 -- a cache with an adaptive window made these accesses
 pub record IsAdaptiveAfter (j : Job) (keys : List ℕ) (d : AdaptiveCacheState) : Type 0 where

@@ -1,5 +1,5 @@
-//! The accesses of a trace by a cache: a loop for each policy of queues, compiled for its design, one for FIFO, one for the
-//! other policies that keep each missed key, one for the adaptive window, and one for the optimal policy.
+//! The accesses of a trace by a cache: a loop for each policy of queues, compiled for its design, one for the adaptive
+//! window, and one for the optimal policy. The policies that keep each missed key have theirs in `demand_cache`.
 ghost use Rattle.std.specs.Prelude.{◌≡◌, ◌++◌, ◌≤◌, ℕ, List, OnOk, length};
 ghost use Rattle.queue_cache.specs.Design.{Job, design_of};
 ghost use Rattle.policies.specs.AnyPolicy.{HasAccessed};
@@ -9,7 +9,6 @@ use crate::any_policy::AnyPolicy;
 use crate::theorems;
 use adaptive_window::AdaptiveCache;
 use clairvoyant::Clairvoyant;
-use demand_cache::{DemandCache, DemandPolicy};
 use queue_cache::fixed_design::{
     FixedDesign, LruDesign, SegmentedLruDesign, TinyLfuLruDesign, TinyLfuSegmentedDesign,
     WindowTinyLfuDesign,
@@ -55,69 +54,6 @@ fn access_each<D: FixedDesign>(cache: &mut QueueCache, keys: &[Key]) -> Result<(
     Ok(())
 }
 
-/// The same by a cache of a policy that keeps each missed key.
-pub(crate) fn access_demand(cache: &mut DemandCache, keys: &[Key]) -> Result<(), AllocError>
-    requires { IsNext keys.now (AnyPolicy.Demand cache.old) }
-    ensures { (j : Job) (trace done : List ℕ) → HasAccessed j trace done (AnyPolicy.Demand cache.old)
-        → OnOk result (HasAccessed j trace (done ++ keys.now) (AnyPolicy.Demand cache.new)) }
-{
-    match cache.policy() {
-        DemandPolicy::Fifo => access_fifo(cache, keys),
-        policy => access_others(cache, policy, keys),
-    }
-}
-
-// FIFO has a loop of its own: an access takes so few instructions that those which tell the policies apart count.
-#[inline(never)]
-fn access_fifo(cache: &mut DemandCache, keys: &[Key]) -> Result<(), AllocError>
-    requires policy { cache.old.queues.policy ≡ DemandPolicy.Fifo }
-    requires next { IsNext keys.now (AnyPolicy.Demand cache.old) }
-    ensures { (j : Job) (trace done : List ℕ) → HasAccessed j trace done (AnyPolicy.Demand cache.old)
-        → OnOk result (HasAccessed j trace (done ++ keys.now) (AnyPolicy.Demand cache.new)) }
-{
-    access_as::<FifoLoop>(cache, DemandPolicy::Fifo, keys)
-}
-
-// The loop of the others is never part of its caller, so that those of other engines keep their registers.
-#[inline(never)]
-fn access_others(
-    cache: &mut DemandCache,
-    policy: DemandPolicy,
-    keys: &[Key],
-) -> Result<(), AllocError>
-    requires policy { cache.old.queues.policy ≡ policy }
-    requires next { IsNext keys.now (AnyPolicy.Demand cache.old) }
-    ensures { (j : Job) (trace done : List ℕ) → HasAccessed j trace done (AnyPolicy.Demand cache.old)
-        → OnOk result (HasAccessed j trace (done ++ keys.now) (AnyPolicy.Demand cache.new)) }
-{
-    access_as::<DemandLoop>(cache, policy, keys)
-}
-
-// The same by a cache of this policy: a loop for each caller.
-#[inline(always)]
-fn access_as<C>(
-    cache: &mut DemandCache,
-    policy: DemandPolicy,
-    keys: &[Key],
-) -> Result<(), AllocError>
-    requires policy { cache.old.queues.policy ≡ policy }
-    requires next { IsNext keys.now (AnyPolicy.Demand cache.old) }
-    ensures { (j : Job) (trace done : List ℕ) → HasAccessed j trace done (AnyPolicy.Demand cache.old)
-        → OnOk result (HasAccessed j trace (done ++ keys.now) (AnyPolicy.Demand cache.new)) }
-{
-    theorems::any_step_law();
-    theorems::any_accepts();
-    for i in 0..keys.len() {
-        cache.prefetch_at(keys, i);
-        match cache.access_as::<C>(policy, keys[i]) {
-            Ok(_) => {}
-            Err(StepFault::OutOfMemory) => return Err(AllocError),
-            Err(StepFault::NotNow) => unreachable!(),
-        }
-    }
-    Ok(())
-}
-
 /// The same by a cache with an adaptive window.
 #[inline(never)]
 pub(crate) fn access_adaptive(cache: &mut AdaptiveCache, keys: &[Key]) -> Result<(), AllocError>
@@ -138,11 +74,7 @@ pub(crate) fn access_adaptive(cache: &mut AdaptiveCache, keys: &[Key]) -> Result
     Ok(())
 }
 
-// Selects the instances of accesses that are part of these loops.
-struct FifoLoop;
-
-struct DemandLoop;
-
+// Selects the instance of an access that is part of this loop.
 struct AdaptiveLoop;
 
 /// The same by the optimal policy.

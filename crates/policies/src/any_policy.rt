@@ -3,11 +3,10 @@ ghost use Rattle.std.specs.Prelude.{◌≡◌, ◌≤◌, ◌↔◌, ℕ, List, 
 ghost use Rattle.std.specs.Prelude.{Ok, Err, Some, None, [], option_map, length, true};
 ghost use Rattle.demand_cache.specs.DemandCache.{demand_act, demand_may_ask};
 
-use crate::demand_design::demand_policy;
 use adaptive_window::{AdaptiveCache, AdaptiveRecord};
 use admission::Frequency;
 use clairvoyant::{Clairvoyant, NextUse, OptimalRecord};
-use demand_cache::{DemandCache, DemandRecord};
+use demand_cache::{DemandCache, DemandPolicy, DemandRecord};
 use queue_cache::{AccessRecord, ByJob, Design, QueueCache, design_of};
 use std::alloc::{AllocError, Global};
 use step_record::{Engine, Job, Key, Outcome, Stats, StepFault, Trace};
@@ -86,9 +85,8 @@ impl AnyPolicy {
                 let cache = QueueCache::with_design(alloc, *job, design)?;
                 Ok(Some(AnyPolicy::Queues(cache)))
             }
-            Design::Demand(design) => {
-                let policy = demand_policy(design, job);
-                let cache = DemandCache::new(alloc, policy, job.config.capacity);
+            Design::Demand => {
+                let cache = DemandCache::new(alloc, DemandPolicy::of(job), job.config.capacity);
                 Ok(Some(AnyPolicy::Demand(cache)))
             }
             Design::Adaptive => {

@@ -11,7 +11,6 @@ mod access_loops;
 mod actor_fault;
 mod any_policy;
 mod cache_run;
-mod demand_design;
 mod job_checks;
 mod report;
 mod same;

@@ -5,7 +5,7 @@ ghost use Rattle.policies.specs.AnyPolicy.{Job, HasAccessed};
 ghost use Rattle.policies.specs.Accesses.{IsNext};
 ghost use Rattle.policies.specs.Reports.{report_on};
 
-use crate::access_loops::{access_adaptive, access_demand, access_optimal, access_queues};
+use crate::access_loops::{access_adaptive, access_optimal, access_queues};
 use crate::any_policy::AnyPolicy;
 use crate::report::Report;
 use crate::theorems;
@@ -43,7 +43,7 @@ pub fn access_all(cache: &mut AnyPolicy, keys: &[Key]) -> Result<(), AllocError>
 {
     match cache {
         AnyPolicy::Queues(cache) => access_queues(cache, keys),
-        AnyPolicy::Demand(cache) => access_demand(cache, keys),
+        AnyPolicy::Demand(cache) => cache.access_all(keys),
         AnyPolicy::Adaptive(cache) => access_adaptive(cache, keys),
         AnyPolicy::Optimal(cache) => access_optimal(cache, keys),
     }

@@ -11,7 +11,7 @@ use Rattle.segments.specs.Queues.{residents_in}
 use Rattle.replacement.proofs.Residents.{resident-queued}
 use Rattle.demand_cache.specs.DemandQueues.{DemandQueues, empty_cache, queues_act, queues_residents, IsQueues}
 use Rattle.demand_cache.specs.Theorems.{DemandKeeps}
-use Rattle.queue_policies.specs.Residents.{state_after_all}
+use Rattle.policy_page.specs.Residents.{state_after_all}
 use Rattle.adaptive_window.specs.AdaptiveCache.{Stats, cache_access}
 use Rattle.adaptive_window.specs.Residents.{cache_residents, IsCache, CacheKeeps}
 use Rattle.queue_cache.specs.declared.design.Design.TheVariants as design
@@ -21,7 +21,7 @@ use Rattle.queue_cache.proofs.Balance.{IsBalancedCache, step-balanced, after-bal
 use Rattle.queue_cache.proofs.Counting.{after-counts}
 use Rattle.queue_cache.proofs.Reached.{after-snoc}
 use Rattle.clairvoyant.specs.Belady.{belady_residents}
-use Rattle.policies.specs.DemandDesign.{demand_policy}
+use Rattle.demand_cache.specs.DemandPolicy.{demand_policy}
 use Rattle.policies.specs.declared.any_policy.AnyPolicy.TheVariants.{Queues, Optimal, Demand, Adaptive}
 use Rattle.policies.specs.AnyPolicy.{Design, ConfigFault, demand_outcomes, adaptive_start, adaptive_outcomes, outcomes_by, stats_in, stats_on, HasAccessed}
 use Rattle.policies.proofs.StepLaws.{outcomes-of-queues, outcomes-of-optimal}
@@ -110,18 +110,18 @@ adaptive-online law (Ok u) j ok hits =
 online-by : DemandKeeps → CacheKeeps → (x : Design) (j : Job) → design_of j.policy ≡ x → is_optimal x ≡ false → IsOnlineJob j
 online-by law own (design.Queues q) j is h = record { held = queue_residents j; online = queues-online j (ap is_of_queues is) }
 online-by law own design.KnowsTrace j is h = absurd (cc (h))
-online-by law own (design.Demand p) j is h =
+online-by law own design.Demand j is h =
     let c : ℕ = j.config.capacity in
-    let start : DemandQueues = empty_cache (demand_policy p j) c in
+    let start : DemandQueues = empty_cache (demand_policy j) c in
     elim (cases_lt 0 c) [
       | inl room ↦ record {
         held = λ keys. queues_residents (state_after_all queues_act start keys);
-        online = hits-by c _ _ _ (served c start queues_act queues_residents (IsQueues c) (serves (law (demand_policy p j) c room)))
-            (λ keys. hits-counted (design.Demand p) j keys is ∙ ap (count_by is_hit) (with-room (demand_policy p j) c keys room));
+        online = hits-by c _ _ _ (served c start queues_act queues_residents (IsQueues c) (serves (law (demand_policy j) c room)))
+            (λ keys. hits-counted design.Demand j keys is ∙ ap (count_by is_hit) (with-room (demand_policy j) c keys room));
       }
       | inr less ↦
           let none : c ≡ 0 = omega (arith, less) in
-          empty-online j (λ keys. hits-counted (design.Demand p) j keys is ∙ (ap (λ n. count_by is_hit (demand_outcomes (demand_policy p j) n keys)) none ∙ none-hit keys))
+          empty-online j (λ keys. hits-counted design.Demand j keys is ∙ (ap (λ n. count_by is_hit (demand_outcomes (demand_policy j) n keys)) none ∙ none-hit keys))
     ]
 online-by law own design.Adaptive j is h = adaptive-online own (config_fault j.config) j refl (λ keys. hits-counted design.Adaptive j keys is)
 

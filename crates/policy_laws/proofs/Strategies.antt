@@ -7,8 +7,9 @@ use Rattle.std.proofs.lemmas.List.Sums.{sum_by-append}
 use Rattle.step_record.specs.Keys.{has_key}
 use Rattle.step_record.specs.Stats.{is_hit, one_if}
 use Rattle.optimality.specs.Strategy.{IsStrategy, strategy_hits}
-use Rattle.queue_policies.specs.Residents.{Outcome, KeepsResidents, state_after_all, outcomes_of_all}
-use Rattle.policies.proofs.Demand.{state-push, outcomes-push, demand-came-from}
+use Rattle.policy_page.specs.Residents.{Outcome, KeepsResidents, state_after_all, outcomes_of_all}
+use Rattle.policy_page.proofs.Residents.{state-push, outcomes-push}
+use Rattle.policies.proofs.Demand.{demand-came-from}
 
 -- what a cache of capacity c holds after some accesses, and how many of them were hits: a hit is an access to a resident
 -- key, and no key comes in but the accessed one

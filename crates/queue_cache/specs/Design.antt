@@ -5,14 +5,12 @@ pub use Rattle.step_record.specs.declared.config.Config.{Config}
 pub use Rattle.step_record.specs.declared.job.Job.{Job}
 pub use Rattle.step_record.specs.declared.job.Policy.{Policy}
 use Rattle.step_record.specs.declared.job.Policy.TheVariants.{Lru, SegmentedLru, TinyLfuLru, TinyLfuSegmented}
-use Rattle.step_record.specs.declared.job.Policy.TheVariants.{WindowTinyLfu, Clairvoyant, Fifo, Clock, Sieve, S3Fifo}
-use Rattle.step_record.specs.declared.job.Policy.TheVariants.{TwoQ, Arc, Caffeine}
+use Rattle.step_record.specs.declared.job.Policy.TheVariants.{WindowTinyLfu, Clairvoyant, Caffeine}
 use Rattle.segments.specs.declared.records.Queue.TheVariants.{Window, Probation}
 pub use Rattle.replacement.specs.declared.rules.Placement.{Placement}
 use Rattle.replacement.specs.declared.rules.Placement.TheVariants.{Direct, Windowed}
 pub use Rattle.replacement.specs.declared.rules.Rules.{Rules}
 use Rattle.replacement.specs.Rules.{one_queue, two_queues, three_queues}
-use Rattle.queue_cache.specs.declared.design.DemandDesign.TheVariants as demand
 use Rattle.queue_cache.specs.declared.design.Design.{Design}
 use Rattle.queue_cache.specs.declared.design.Design.TheVariants.{Queues, KnowsTrace, Demand, Adaptive}
 use Rattle.queue_cache.specs.declared.design.Layout.{Layout}
@@ -29,13 +27,9 @@ design_of TinyLfuLru = Queues (tiny_lfu lru)
 design_of TinyLfuSegmented = Queues (tiny_lfu segmented_lru)
 design_of WindowTinyLfu = Queues window_tiny_lfu
 design_of Clairvoyant = KnowsTrace
-design_of Fifo = Demand demand.Fifo
-design_of Clock = Demand demand.Clock
-design_of Sieve = Demand demand.Sieve
-design_of S3Fifo = Demand demand.S3Fifo
-design_of TwoQ = Demand demand.TwoQ
-design_of Arc = Demand demand.Arc
 design_of Caffeine = Adaptive
+-- each of the others keeps each missed key
+design_of p = Demand
 
 -- ---- a design of queues
 
@@ -57,25 +51,25 @@ placement_by ThreeQueues = Windowed
 abbrev pub rules_in : Design → Config → Rules
 rules_in (Queues d) c = rules_by d.layout c
 rules_in KnowsTrace c = one_queue c
-rules_in (Demand p) c = one_queue c
+rules_in Demand c = one_queue c
 rules_in Adaptive c = one_queue c
 
 abbrev pub counts_in : Design → Bool
 counts_in (Queues d) = d.counts_keys
 counts_in KnowsTrace = false
-counts_in (Demand p) = false
+counts_in Demand = false
 counts_in Adaptive = true
 
 abbrev pub is_optimal : Design → Bool
 is_optimal (Queues d) = false
 is_optimal KnowsTrace = true
-is_optimal (Demand p) = false
+is_optimal Demand = false
 is_optimal Adaptive = false
 
 abbrev pub is_of_queues : Design → Bool
 is_of_queues (Queues d) = true
 is_of_queues KnowsTrace = false
-is_of_queues (Demand p) = false
+is_of_queues Demand = false
 is_of_queues Adaptive = false
 
 -- ---- a policy

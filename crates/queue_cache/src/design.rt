@@ -14,8 +14,8 @@ pub enum Design {
     Queues(QueueDesign),
     /// A policy that knows the whole trace: Belady's optimal policy.
     KnowsTrace,
-    /// A policy that keeps each missed key, in a cache of its own.
-    Demand(DemandDesign),
+    /// A policy that keeps each missed key: the crate `demand_cache` has the table of these.
+    Demand,
     /// W-TinyLFU with a window whose size follows the hits, as Caffeine runs it.
     Adaptive,
 }
@@ -27,23 +27,6 @@ pub struct QueueDesign {
     pub layout: Layout,
     /// Whether it counts keys, and admits a new one in a full cache by how often it came.
     pub counts_keys: bool,
-}
-
-/// A policy that keeps each missed key, whatever the sizes of its parts.
-#[derive(Clone, Copy)]
-pub enum DemandDesign {
-    /// FIFO.
-    Fifo,
-    /// CLOCK.
-    Clock,
-    /// SIEVE.
-    Sieve,
-    /// S3-FIFO.
-    S3Fifo,
-    /// 2Q.
-    TwoQ,
-    /// ARC.
-    Arc,
 }
 
 /// The queues of a policy.
@@ -68,13 +51,8 @@ pub fn design_of(policy: Policy) -> Design
         Policy::TinyLfuSegmented => Design::Queues(TINY_LFU_SEGMENTED),
         Policy::WindowTinyLfu => Design::Queues(WINDOW_TINY_LFU),
         Policy::Clairvoyant => Design::KnowsTrace,
-        Policy::Fifo => Design::Demand(DemandDesign::Fifo),
-        Policy::Clock => Design::Demand(DemandDesign::Clock),
-        Policy::Sieve => Design::Demand(DemandDesign::Sieve),
-        Policy::S3Fifo => Design::Demand(DemandDesign::S3Fifo),
-        Policy::TwoQ => Design::Demand(DemandDesign::TwoQ),
-        Policy::Arc => Design::Demand(DemandDesign::Arc),
         Policy::Caffeine => Design::Adaptive,
+        _ => Design::Demand,
     }
 }
 

@@ -19,7 +19,7 @@ pub mod theorems;
 mod tiny_lfu;
 mod window_tiny_lfu;
 
-pub use design::{DemandDesign, Design, Layout, QueueDesign, design_of};
+pub use design::{Design, Layout, QueueDesign, design_of};
 pub use lru::{Lru, LruMark};
 pub use queue_cache::{ByJob, QueueCache};
 pub use record::AccessRecord;

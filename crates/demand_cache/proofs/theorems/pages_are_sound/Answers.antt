@@ -1,4 +1,4 @@
-use Rattle.queue_policies.proofs.Residents.{counts-residents}
+use Rattle.policy_page.proofs.Residents.{counts-residents}
 use Rattle.demand_cache.proofs.Keeping.{pages-sound}
 use Rattle.demand_cache.proofs.theorems.pages_are_sound.Goals as goal
 

@@ -3,7 +3,8 @@ use Rattle.step_record.specs.Keys.{has_key}
 use Rattle.queue_table.specs.QueueTable.{queues}
 use Rattle.queue_moves.specs.Lists.{lists_of}
 use Rattle.queue_moves.specs.Moves.{item_of}
-use Rattle.demand_cache.specs.DemandQueues.{page_of, plan_by, queues_residents}
+use Rattle.demand_cache.specs.DemandQueues.{queues_residents}
+use Rattle.demand_cache.specs.DemandPolicy.{page_of, plan_by}
 use Rattle.demand_cache.specs.DemandCache.{DemandState, IsDemand, IsCountedBy, state_of, demand_act}
 use Rattle.demand_cache.proofs.Keeping.{pages-sound}
 use Rattle.demand_cache.proofs.Engine.{state-shown, no-resident, next-queues, act-is, accepts}

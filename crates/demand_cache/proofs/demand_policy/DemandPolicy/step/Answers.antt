@@ -1,6 +1,6 @@
 use Rattle.std.proofs.Common.{subst}
 use Rattle.queue_table.specs.QueueTable.{queues}
-use Rattle.demand_cache.specs.DemandQueues.{page_of}
+use Rattle.demand_cache.specs.DemandPolicy.{page_of}
 use Rattle.demand_cache.proofs.demand_policy.DemandPolicy.step.Goals as goal
 
 pub step-requires-in-S3Fifo-clause-state : goal.step-requires-in-S3Fifo-clause-state

@@ -1,0 +1,3 @@
+pub mod Arc
+pub mod Plan
+pub mod Examples

@@ -1,0 +1,43 @@
+-- CLOCK, or second chance (Corbató 1969), as a plan of moves: an access sets its key's reference bit, also the access
+-- that brings the key in. In a full cache the oldest key, while its bit is set, goes to the recent end with the bit
+-- cleared; then the oldest leaves. A bit is a count of 0 or 1.
+use Rattle.std.specs.Prelude.{ℕ, nat_lt, None, List, [], length}
+use Rattle.queue_table.specs.Queues.{Queues}
+use Rattle.policy_page.specs.CountedKeys.{CountedKey, keys_of}
+use Rattle.clock.specs.Clock.{clock_act, IsClock}
+use Rattle.queue_moves.specs.Moves.{item_of, standing, run, no_run, turns_due, leaving, counts, goes, Plan}
+use Rattle.policy_page.specs.Counted.{counted_keys}
+use Rattle.policy_page.specs.Planned.{IsWithin, leaver_plan, resident_plan}
+use Rattle.policy_page.specs.PolicyPage.{PolicyPage}
+
+-- the one queue
+abbrev pub QUEUE : ℕ
+QUEUE = 0
+
+abbrev pub clock_of : Queues → List CountedKey
+clock_of s = counted_keys (s QUEUE)
+
+-- A key comes to a full cache of capacity c. Each turn clears a bit, so there are at most c.
+abbrev pub clock_eviction_plan : ℕ → ℕ → Queues → Plan
+clock_eviction_plan c x s =
+    leaver_plan (run QUEUE QUEUE 1 (turns_due c QUEUE QUEUE 1 1 s)) no_run (leaving QUEUE None) (goes QUEUE 1) x
+
+-- an access to k, where x is the policy's number, which stays
+abbrev pub clock_plan : ℕ → ℕ → ℕ → Queues → Plan
+clock_plan c k x s =
+    resident_plan (standing (item_of k) s) (nat_lt (length (s QUEUE)) c) (counts 1) (goes QUEUE 1) x
+    (clock_eviction_plan c x s)
+
+-- the policy, which uses one queue
+abbrev pub clock_page : PolicyPage
+clock_page = record {
+  State = List CountedKey;
+  start = [];
+  act = clock_act;
+  residents = keys_of;
+  IsState = IsClock;
+  view = λ x. clock_of;
+  IsShown = λ x. IsWithin 1;
+  plan = clock_plan;
+  resident_queues = λ x. (QUEUE, None);
+}

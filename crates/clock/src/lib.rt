@@ -1,0 +1,85 @@
+//! CLOCK: its definition over a plain list, its plan of moves, and the step that carries the plan out. The definition is
+//! `specs/Clock.antt`; the plan, and the policy as one value, `specs/Plan.antt`.
+#![tactic(auto)]
+
+ghost use Rattle.std.specs.Prelude.{◌≡◌, ◌≤◌, ℕ, List, false, None, IfOk, OnErr};
+ghost use Rattle.queue_table.specs.Queues.{queue_holding};
+ghost use Rattle.queue_table.specs.QueueTable.{queues, spare};
+ghost use Rattle.queue_moves.specs.Moves.{item_of};
+ghost use Rattle.queue_moves.specs.Undoing.{IsAccessed};
+ghost use Rattle.clock.specs.Plan.{clock_plan, clock_eviction_plan};
+ghost use Rattle.policy_page.specs.CountedKeys.{CountedKey, oldest_count};
+ghost use Rattle.policy_page.specs.Turns.{turn_count, after_turns};
+ghost use Rattle.clock.specs.Clock.{IsClock};
+ghost use Rattle.clock.specs.Examples.{WorkedExamples};
+
+use policy_page::accesses::{evicted, hit, kept};
+use queue_moves::{Accessed, KeyQueues, Run};
+use std::alloc::AllocError;
+use step_record::Key;
+
+const QUEUE: u8 = 0;
+
+/// An access to a key: a hit sets its reference bit; in a full cache a miss passes over the oldest keys whose bits are
+/// set, clearing these, and the oldest leaves. The one error is out of memory; the queues are then as before.
+///
+/// `C` selects an instance: one that is called at a single place becomes part of its caller, and a caller that reads no
+/// record then makes none.
+#[inline(always)]
+pub fn step<C>(
+    table: &mut KeyQueues,
+    capacity: u32,
+    scalar: u32,
+    key: Key,
+) -> Result<Accessed, AllocError>
+    ensures accessed { IfOk result (λ a. IsAccessed (clock_plan capacity key scalar (queues table.old)) (item_of key)
+        scalar (queues table.old) (queues table.new) a) }
+    // A hit asks for no memory.
+    ensures memory { OnErr result ((clock_plan capacity key scalar (queues table.old)).hits ≡ false) }
+    ensures err { OnErr result (queues table.new ≡ queues table.old) }
+{
+    match table.find(key) {
+        Some(found) => {
+            let own = table.recount(key, found, 1);
+            Ok(hit(own, scalar))
+        }
+        None => {
+            table.reserve()?;
+            if table.len(QUEUE) < capacity as usize {
+                let own = table.join_apart(key, QUEUE, 1);
+                return Ok(kept(own, scalar));
+            }
+            Ok(evict(table, capacity, scalar, key))
+        }
+    }
+}
+
+// A miss of a full cache.
+#[inline(always)]
+fn evict(table: &mut KeyQueues, capacity: u32, scalar: u32, key: Key) -> Accessed
+    requires room { 1 ≤ spare table.old }
+    requires absent { queue_holding (item_of key) (queues table.old) ≡ None }
+    ensures { IsAccessed (clock_eviction_plan capacity scalar (queues table.old)) (item_of key) scalar
+        (queues table.old) (queues table.new) result }
+{
+    let early = table.run(QUEUE, QUEUE, 1, 1, capacity);
+    let (first, own) = table.renew_oldest(QUEUE, key, QUEUE, 1);
+    evicted(early, Run::NONE, first, own, scalar, scalar)
+}
+
+/// The turns of an eviction end at a key whose reference bit is clear.
+#[tactic(auto, using(crate::proofs::Keeping::turns_suffice))]
+pub fn clock_turns_suffice()
+    ensures { (queue : List CountedKey) → oldest_count (after_turns (turn_count queue) queue) ≡ 0 }
+{}
+
+/// An eviction makes at most as many turns as keys fit, since each clears a bit.
+#[tactic(auto, using(crate::proofs::Keeping::turns_few))]
+pub fn clock_turns_few()
+    ensures { (c : ℕ) (queue : List CountedKey) → IsClock c queue → turn_count queue ≤ c }
+{}
+
+/// Short traces, with outcomes and states by another program.
+pub fn worked_examples()
+    ensures { WorkedExamples }
+{}

@@ -1,0 +1,33 @@
+-- Accesses in a loop over a list of keys.
+use Rattle.std.proofs.Common.{◌≡◌, ℕ, ◌+◌, ◌<◌, ◌≤◌, Some, None, List, take, length, ap, sym, ◌∙◌, arith}
+use Rattle.std.specs.Prelude.{slice_index}
+use Rattle.std.proofs.lemmas.List.{take_more, take_all}
+use Rattle.step_record.specs.declared.limits.TheConstants.{MAX_STEPS}
+use Rattle.step_record.proofs.Limited.{accepted, refused}
+use Rattle.policy_page.specs.Residents.{Outcome, state_after_all}
+use Rattle.policy_page.proofs.Residents.{state-push}
+use Rattle.demand_cache.specs.DemandCache.{DemandState, demand_access, demand_act, demand_count}
+
+-- the cache d is the one from the start after the first i of the keys
+pub record HasMade (keys : List ℕ) (i : ℕ) (start d : DemandState) : Type 0 where
+  pub policy : d.queues.policy ≡ start.queues.policy
+  pub state : d ≡ state_after_all demand_access start (take i keys)
+  pub counts : demand_count d ≡ demand_count start + i
+
+pub has-made-next : (keys : List ℕ) (i : ℕ) (start d e : DemandState) (o : Outcome) → i < length keys → HasMade keys i start d → e.queues.policy ≡ d.queues.policy
+    → demand_act d (slice_index keys i) ≡ Some (o, e) → HasMade keys (i + 1) start e
+has-made-next keys i start d e o below made same h =
+    let next : e ≡ (demand_access (slice_index keys i) d).1 = (accepted demand_count demand_access d (slice_index keys i) o e h).next in
+    record {
+      policy = same ∙ made.policy;
+      state = next ∙ ap (λ s. (demand_access (slice_index keys i) s).1) made.state
+          ∙ sym (state-push demand_access start (take i keys) (slice_index keys i))
+          ∙ ap (state_after_all demand_access start) (sym (take_more keys i 0 below));
+      counts = let count = ap demand_count next in omega (arith, count, made.counts);
+    }
+
+pub is-accepted : (keys : List ℕ) (i : ℕ) (start d : DemandState) (k : ℕ) → i < length keys → HasMade keys i start d → demand_count start + length keys ≤ MAX_STEPS → demand_act d k ≡ None → ⊥
+is-accepted keys i start d k below made room h = let full = refused demand_count demand_access d k h in omega (arith, full, made.counts)
+
+pub has-made-all : (keys : List ℕ) (i : ℕ) (start d : DemandState) → length keys ≤ i → HasMade keys i start d → d ≡ state_after_all demand_access start keys
+has-made-all keys i start d all made = made.state ∙ ap (state_after_all demand_access start) (take_all i keys all)

@@ -1,0 +1,3 @@
+pub mod Fifo
+pub mod Plan
+pub mod Examples

@@ -1,0 +1,36 @@
+-- First in, first out, as a plan of moves: a hit moves nothing, and in a full cache the oldest key leaves.
+use Rattle.std.specs.Prelude.{ℕ, nat_lt, None, List, [], length}
+use Rattle.queue_table.specs.Queues.{Queues}
+use Rattle.fifo.specs.Fifo.{fifo_act}
+use Rattle.policy_page.specs.Residents.{AreResidents}
+use Rattle.queue_moves.specs.Moves.{item_of, standing, no_run, leaving, stays, goes, Plan}
+use Rattle.queue_moves.specs.Tabled.{keys_of}
+use Rattle.policy_page.specs.Planned.{IsWithin, leaver_plan, resident_plan}
+use Rattle.policy_page.specs.PolicyPage.{PolicyPage}
+
+-- the one queue
+abbrev pub QUEUE : ℕ
+QUEUE = 0
+
+abbrev pub fifo_of : Queues → List ℕ
+fifo_of s = keys_of (s QUEUE)
+
+-- an access to k at capacity c, where x is the policy's number, which stays
+abbrev pub fifo_plan : ℕ → ℕ → ℕ → Queues → Plan
+fifo_plan c k x s =
+    resident_plan (standing (item_of k) s) (nat_lt (length (s QUEUE)) c) stays (goes QUEUE 0) x
+    (leaver_plan no_run no_run (leaving QUEUE None) (goes QUEUE 0) x)
+
+-- the policy, which uses one queue
+abbrev pub fifo_page : PolicyPage
+fifo_page = record {
+  State = List ℕ;
+  start = [];
+  act = fifo_act;
+  residents = λ queue. queue;
+  IsState = AreResidents;
+  view = λ x. fifo_of;
+  IsShown = λ x. IsWithin 1;
+  plan = fifo_plan;
+  resident_queues = λ x. (QUEUE, None);
+}

@@ -1,0 +1,54 @@
+//! FIFO: its definition over a plain list, its plan of moves, and the step that carries the plan out. The definition is
+//! `specs/Fifo.antt`; the plan, and the policy as one value, `specs/Plan.antt`.
+#![tactic(auto)]
+
+ghost use Rattle.std.specs.Prelude.{◌≡◌, false, IfOk, OnErr};
+ghost use Rattle.queue_table.specs.QueueTable.{queues};
+ghost use Rattle.queue_moves.specs.Moves.{item_of};
+ghost use Rattle.queue_moves.specs.Undoing.{IsAccessed};
+ghost use Rattle.fifo.specs.Plan.{fifo_plan};
+ghost use Rattle.fifo.specs.Examples.{WorkedExamples};
+
+use policy_page::accesses::{evicted, hit, kept};
+use queue_moves::{Accessed, KeyMove, KeyQueues, Run};
+use std::alloc::AllocError;
+use step_record::Key;
+
+const QUEUE: u8 = 0;
+
+/// An access to a key: a hit moves nothing, and at a miss of a full cache the oldest key leaves. The one error is out of
+/// memory; the queues are then as before.
+///
+/// `C` selects an instance: one that is called at a single place becomes part of its caller, and a caller that reads no
+/// record then makes none.
+#[inline(always)]
+pub fn step<C>(
+    table: &mut KeyQueues,
+    capacity: u32,
+    scalar: u32,
+    key: Key,
+) -> Result<Accessed, AllocError>
+    ensures accessed { IfOk result (λ a. IsAccessed (fifo_plan capacity key scalar (queues table.old)) (item_of key)
+        scalar (queues table.old) (queues table.new) a) }
+    // A hit asks for no memory.
+    ensures memory { OnErr result ((fifo_plan capacity key scalar (queues table.old)).hits ≡ false) }
+    ensures err { OnErr result (queues table.new ≡ queues table.old) }
+{
+    match table.find(key) {
+        Some(_) => Ok(hit(KeyMove::unmoved(key), scalar)),
+        None => {
+            table.reserve()?;
+            if table.len(QUEUE) < capacity as usize {
+                let own = table.join_apart(key, QUEUE, 0);
+                return Ok(kept(own, scalar));
+            }
+            let (first, own) = table.renew_oldest(QUEUE, key, QUEUE, 0);
+            Ok(evicted(Run::NONE, Run::NONE, first, own, scalar, scalar))
+        }
+    }
+}
+
+/// A short trace, with outcomes and states by another program.
+pub fn worked_examples()
+    ensures { WorkedExamples }
+{}

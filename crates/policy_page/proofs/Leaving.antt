@@ -1,0 +1,146 @@
+-- A queue's oldest key leaves it, and what that leaves alone.
+use Rattle.std.proofs.lemmas.Bool.Decides.{nat_tests}
+use Rattle.std.proofs.Common.{eqb, ◌++◌, map, take, append-nil, ◌≡◌, ℕ, zero, suc, ◌-◌, ◌<◌, false, Option, Some, None, List, [], ◌∷◌, drop, ap, sym, subst, ◌∙◌, refl, arith, ◌+◌, ◌⊎◌, Bool, true, if◌then◌else◌, nat_lt, length, inl, length-append}
+use Rattle.std.proofs.Math.Path.{fun_ext}
+use Rattle.std.proofs.lemmas.Bool.{cond_both, eqb-true}
+use Rattle.queue_table.specs.Entries.{Item, is_same_item, entry, occurrences, oldest_of}
+use Rattle.queue_table.specs.Queues.{QUEUES, Queues, with_queue, queue_holding, after_push}
+use Rattle.queue_table.proofs.QueueLists.{times-without, IsAbsent, absent, is_absent}
+use Rattle.queue_moves.specs.declared.records.Left.{Left}
+use Rattle.queue_moves.specs.declared.records.Run.{Run}
+use Rattle.queue_moves.specs.Moves.{Entry, turned, after_turn, after_turns, after_run, Leaving, departed, leaving, after_leaving, IsLowLeaving, Own, Plan, own_plan}
+use Rattle.queue_moves.specs.Tabled.{IsTabled, keys_of}
+use Rattle.queue_moves.specs.Undoing.{IsLeft, IsRun}
+use Rattle.queue_moves.proofs.Laws.{first-other, off-after-send}
+use Rattle.queue_moves.proofs.Tabled.{oldest-gone}
+use Rattle.std.proofs.lemmas.List.{length-map}
+use Rattle.policy_page.specs.CountedKeys as counted
+use Rattle.policy_page.proofs.CountedKeys.{length-keys}
+use Rattle.policy_page.specs.Planned.{resident_plan}
+use Rattle.policy_page.specs.Counted.{counted_keys}
+use Rattle.policy_page.specs.Misses.{Leavers, miss_plan}
+use Rattle.policy_page.specs.PolicyPage.{LeavesNone, LeavesWhere}
+use Rattle.policy_page.proofs.Counted.{length-counted}
+
+pub oldest-out : (s : Queues) → IsTabled s → (q : ℕ) (e : Entry) (l : List Entry) → s q ≡ e ∷ l → after_leaving (leaving q None) s ≡ with_queue q l s
+oldest-out s t q e l h = ap (λ o. departed None o s) (ap oldest_of h) ∙ oldest-gone s t q e l h
+
+pub oldest-sent : (s : Queues) → IsTabled s → (q to : ℕ) (e : Entry) (l : List Entry) → s q ≡ e ∷ l → after_leaving (leaving q (Some (to, 0))) s ≡ after_push to (entry e.item 0) (with_queue q l s)
+oldest-sent s t q to e l h = ap (λ o. departed (Some (to, 0)) o s) (ap oldest_of h) ∙ ap (after_push to (entry e.item 0)) (oldest-gone s t q e l h)
+
+pub none-out : (s : Queues) (q : ℕ) → s q ≡ [] → after_leaving (leaving q None) s ≡ s
+none-out s q h = ap (λ o. departed None o s) (ap oldest_of h)
+
+-- the same, whether it has a key or not
+
+with-same : (q : ℕ) (s : Queues) → with_queue q (s q) s ≡ s
+with-same q s = fun_ext (λ j. cond_both (eqb j q) (s q) (s j) (λ l. l ≡ s j) (λ e. ap s (sym (eqb-true j q e))) (λ e. refl))
+
+pub any-out : (s : Queues) → IsTabled s → (q : ℕ) → after_leaving (leaving q None) s ≡ with_queue q (drop 1 (s q)) s
+any-out s t q = at (s q) refl
+  where
+    at : (l : List Entry) → s q ≡ l → after_leaving (leaving q None) s ≡ with_queue q (drop 1 (s q)) s
+    at [] h = none-out s q h ∙ sym (with-same q s) ∙ ap (λ l. with_queue q l s) (h ∙ ap (drop 1) (sym h))
+    at (e ∷ l) h = oldest-out s t q e l h ∙ ap (λ x. with_queue q (drop 1 x) s) (sym h)
+
+pub any-sent : (s : Queues) → IsTabled s → (q to n : ℕ) → after_leaving (leaving q (Some (to, n))) s
+    ≡ with_queue to (with_queue q (drop 1 (s q)) s to ++ map (λ (e : Entry). entry e.item n) (take 1 (s q))) (with_queue q (drop 1 (s q)) s)
+any-sent s t q to n = at (s q) refl
+  where
+    after : List Entry → Queues
+    after l = with_queue to (with_queue q (drop 1 l) s to ++ map (λ (e : Entry). entry e.item n) (take 1 l)) (with_queue q (drop 1 l) s)
+
+    at : (l : List Entry) → s q ≡ l → after_leaving (leaving q (Some (to, n))) s ≡ after (s q)
+    at [] h = grind (arith, nat_tests, with-same q s, with-same to s, append-nil (s to))
+    at (e ∷ l) h = ap (λ o. departed (Some (to, n)) o s) (ap oldest_of h) ∙ ap (after_push to (entry e.item n)) (oldest-gone s t q e l h) ∙ ap after (sym h)
+
+-- ---- an entry of other queues stays out of those that keys leave
+
+off-turn : (i : Item) (from to less j : ℕ) (s : Queues) → occurrences i (s from) ≡ 0 → occurrences i (s j) ≡ 0 → occurrences i (after_turn from to less s j) ≡ 0
+off-turn i from to less j s a z = go (oldest_of (s from)) refl
+  where
+    go : (o : Option Entry) → oldest_of (s from) ≡ o → occurrences i (turned to less o s j) ≡ 0
+    go None h = z
+    go (Some e) h = off-after-send i (entry e.item (e.count - less)) to j s (first-other (entry i 0) e (s from) h a) z
+
+off-turns : (i : Item) (n from to less j : ℕ) (s : Queues) → occurrences i (s from) ≡ 0 → occurrences i (s j) ≡ 0 → occurrences i (after_turns n from to less s j) ≡ 0
+off-turns i zero from to less j s a z = z
+off-turns i (suc n) from to less j s a z = off-turns i n from to less j (after_turn from to less s) (off-turn i from to less from s a a) (off-turn i from to less j s a z)
+
+pub off-run : (i : Item) (r : Run) (from j : ℕ) (s u : Queues) → r.from ≡ from → u ≡ after_run r s → occurrences i (s from) ≡ 0 → occurrences i (s j) ≡ 0 → occurrences i (u j) ≡ 0
+off-run i r from j s u is after a z = ap (λ (t : Queues). occurrences i (t j)) after ∙ off-turns i r.times r.from r.to r.less j s (ap (λ q. occurrences i (s q)) is ∙ a) z
+
+pub none-left : (i : Item) (from : ℕ) (to : Option (ℕ × ℕ)) (s : Queues) (j : ℕ) → occurrences i (s from) ≡ 0 → occurrences i (s j) ≡ 0
+    → occurrences i (after_leaving (leaving from to) s j) ≡ 0
+none-left i from to s j a z = at (oldest_of (s from)) refl
+  where
+    gone : (to : Option (ℕ × ℕ)) (e : Entry) → is_same_item i e.item ≡ false → occurrences i (departed to (Some e) s j) ≡ 0
+    gone None e other = let less = times-without e.item i (s j) in omega (arith, less, z)
+    gone (Some p) e other = off-after-send i (entry e.item p.1) p.0 j s other z
+
+    at : (o : Option Entry) → oldest_of (s from) ≡ o → occurrences i (departed to o s j) ≡ 0
+    at None h = z
+    at (Some e) h = gone to e (first-other (entry i 0) e (s from) h a)
+
+-- ---- an item that stands nowhere still does
+
+pub absent-turns : (i : Item) (n from to less : ℕ) (s : Queues) → from < QUEUES → IsAbsent i s → IsAbsent i (after_turns n from to less s)
+absent-turns i n from to less s w h = λ q v. off-turns i n from to less q s (h from w) (h q v)
+
+pub still-absent : (i : Item) (l : Option Leaving) (s : Queues) → IsLowLeaving l → IsAbsent i s → IsAbsent i (after_leaving l s)
+still-absent i None s w h = h
+still-absent i (Some l) s w h = λ q v. none-left i l.from l.to s q (h l.from w.0) (h q v)
+
+pub absent-left : (i : Item) (l : Option Leaving) (s u : Queues) (r : Left) → IsLowLeaving l → IsLeft l s u r → queue_holding i s ≡ None → queue_holding i u ≡ None
+absent-left i l s u r w left h = is_absent i u (subst (IsAbsent i) (sym left.after) (still-absent i l s w (absent i s h)))
+
+pub absent-run : (i : Item) (r : Run) (s u : Queues) → IsRun r s u → queue_holding i s ≡ None → queue_holding i u ≡ None
+absent-run i r s u ran none = grind (arith, nat_tests, is_absent, absent-turns, absent)
+
+-- ---- when keys leave the queues by a plan
+
+-- ---- by a hit no key leaves
+
+abbrev pub HitsAlone : Plan → Type 0
+HitsAlone p = p.hits ≡ true → LeavesNone p
+
+pub own-alone : (b : Bool) (o : Own) (x : ℕ) → HitsAlone (own_plan b o x)
+own-alone b o x h = record { first = refl; second = refl }
+
+pub never : (p : Plan) → p.hits ≡ false → HitsAlone p
+never p f h = absurd (let no : false ≡ true = sym f ∙ h in cc no)
+
+pub either : (b : Bool) (p q : Plan) → HitsAlone p → HitsAlone q → HitsAlone (if b then p else q)
+either v p q f g = grind (arith, nat_tests)
+
+pub resident-alone : (at : Option (ℕ × ℕ)) (room : Bool) (hit join : Own) (x : ℕ) (full : Plan) → full.hits ≡ false → HitsAlone (resident_plan at room hit join x full)
+resident-alone v room hit join x full f = grind (arith, nat_tests, own-alone, either, never)
+
+-- ---- by a miss keys leave where the cache is full
+
+module _ (full : Type 0) where
+  pub one-of : (b : Bool) (p q : Plan) → (b ≡ true → LeavesWhere full p) → (b ≡ false → LeavesWhere full q) → LeavesWhere full (if b then p else q)
+  one-of v p q f g = grind (arith, nat_tests)
+
+  pub own-none : (b : Bool) (o : Own) (x : ℕ) → LeavesWhere full (own_plan b o x)
+  own-none b o x = inl (record { first = refl; second = refl })
+
+  pub resident-full : (at : Option (ℕ × ℕ)) (room : Bool) (hit join : Own) (x : ℕ) (p : Plan) → (room ≡ false → full) → LeavesWhere full (resident_plan at room hit join x p)
+  resident-full v room hit join x p f = grind (arith, nat_tests, own-none, one-of)
+
+  -- a miss without runs
+  pub miss-full : (l : Leavers) (o : Own) (x : ℕ) → (l.first ≡ None) × (l.second ≡ None) ⊎ full → LeavesWhere full (miss_plan l o x)
+  miss-full l o x v = grind (arith, nat_tests)
+
+-- the sizes of one queue with counts, and of two, with counts and without
+pub counted-length : (l : List Entry) → length (counted.keys_of (counted_keys l)) ≡ length l
+counted-length l = length-keys (counted_keys l) ∙ length-counted l
+
+pub both-length : (l m : List Entry) → length (counted.keys_of (counted_keys l ++ counted_keys m)) ≡ length l + length m
+both-length l m = grind (arith, nat_tests, length-counted, length-keys, length-append)
+
+pub keys-length : (l m : List Entry) → length (keys_of l ++ keys_of m) ≡ length l + length m
+keys-length l m = grind (arith, nat_tests, length-map, length-append (keys_of l) (keys_of m))
+
+pub not-less : (n m c : ℕ) → n ≡ m → nat_lt m c ≡ false → nat_lt n c ≡ false
+not-less n m c e h = ap (λ y. nat_lt y c) e ∙ h

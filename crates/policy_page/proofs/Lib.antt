@@ -1,0 +1,9 @@
+pub mod Residents
+pub mod CountedKeys
+pub mod Turns
+pub mod Ghost
+pub mod Weights
+pub mod Counted
+pub mod Leaving
+pub mod Moving
+pub mod Steps

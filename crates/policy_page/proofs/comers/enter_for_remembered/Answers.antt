@@ -1,0 +1,33 @@
+use Rattle.std.proofs.lemmas.Bool.Decides.{nat_tests}
+use Rattle.std.proofs.Common.{nat_lt, Some, length, ◌∙◌, sym, arith}
+use Rattle.std.proofs.lemmas.Bool.{or_parts}
+use Rattle.queue_table.specs.Queues.{Queues}
+use Rattle.queue_table.specs.QueueTable.{queues}
+use Rattle.queue_moves.specs.Moves.{item_of, leaving}
+use Rattle.policy_page.proofs.Steps.{comes-on}
+use Rattle.policy_page.proofs.Leaving.{none-left}
+use Rattle.policy_page.proofs.comers.enter_for_remembered.Goals as goal
+
+pub enter-own-requires-clause-comes : goal.enter-own-requires-clause-comes
+enter-own-requires-clause-comes g c = search (arith, comes-on)
+
+pub enter_for_oldest-requires-clause-comes : goal.enter_for_oldest-requires-clause-comes
+enter_for_oldest-requires-clause-comes g c = search (arith, comes-on)
+
+pub enter_for_oldest-requires-clause-off : goal.enter_for_oldest-requires-clause-off
+enter_for_oldest-requires-clause-off g c =
+    let s : Queues = queues c.args.table.now in
+    let new = (or_parts c.args.remembered (nat_lt (length (s c.args.into)) c.args.size) (sym c.ghost_keeps-keeps.ensures ∙ c.if-keeps.false)).0 in
+    grind (arith, nat_tests, none-left (item_of c.args.key) c.args.from (Some (c.args.into, 0)) s c.args.into c.requires.off (c.requires.new new))
+
+pub returns-then-keeps : goal.returns-then-keeps
+returns-then-keeps g c =
+    let first = c.send_oldest-first.ensures in
+    rw (sym c.ghost_keeps-keeps.ensures ∙ c.if-keeps.true) record {
+      between = queues c.send_oldest-first.new.self;
+      left = c.one.ensures (leaving c.args.from (Some (c.args.into, 0))) _ _ first.left (omega arith);
+      own = c.enter-own.ensures;
+    }
+
+pub returns : goal.returns
+returns g c = grind (arith, nat_tests)

@@ -1,0 +1,11 @@
+pub mod Residents
+pub mod Queues
+pub mod CountedKeys
+pub mod Turns
+pub mod Ghost
+pub mod Examples
+pub mod Planned
+pub mod Counted
+pub mod PolicyPage
+pub mod Misses
+pub mod Comers

@@ -1,0 +1,3 @@
+pub mod S3Fifo
+pub mod Plan
+pub mod Examples

@@ -1,0 +1,3 @@
+pub mod Keeping
+pub mod Plan
+pub mod SieveListing

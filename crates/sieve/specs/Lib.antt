@@ -1,0 +1,4 @@
+pub mod Sieve
+pub mod Plan
+pub mod SieveListing
+pub mod Examples

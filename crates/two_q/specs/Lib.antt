@@ -1,0 +1,3 @@
+pub mod TwoQ
+pub mod Plan
+pub mod Examples

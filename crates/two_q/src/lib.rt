@@ -1,0 +1,122 @@
+//! 2Q: its definition over plain lists, its plan of moves, and the step that carries the plan out. The definition is
+//! `specs/TwoQ.antt`; the plan, and the policy as one value, `specs/Plan.antt`.
+#![tactic(auto)]
+
+ghost use Rattle.std.specs.Prelude.{◌≡◌, ◌≤◌, nat_lt, ◌==◌, ◌||◌, false, length, IfOk, OnErr};
+ghost use Rattle.queue_table.specs.QueueTable.{queues};
+ghost use Rattle.queue_moves.specs.Moves.{item_of};
+ghost use Rattle.queue_moves.specs.Undoing.{IsAccessed};
+ghost use Rattle.policy_page.specs.Comers.{IsOutside};
+ghost use Rattle.two_q.specs.Plan.{A1IN, A1OUT, AM, joins, two_q_miss, two_q_plan};
+ghost use Rattle.two_q.specs.Examples.{WorkedExamples};
+
+use policy_page::accesses::{hit, kept};
+use policy_page::comers::{enter_apart, enter_for_oldest, enter_for_remembered};
+use policy_page::misses::{LeftKeys, missed};
+use queue_moves::{Accessed, KeyMove, KeyQueues};
+use queue_table::Found;
+use std::alloc::AllocError;
+use step_record::Key;
+
+const A1IN: u8 = 0;
+
+const A1OUT: u8 = 1;
+
+const AM: u8 = 2;
+
+/// The sizes of two parts of a 2Q cache, in keys. Any numbers will do.
+#[derive(Clone, Copy, Debug, PartialEq, Eq)]
+pub struct TwoQSizes {
+    /// How many keys `a1in` is to have, the queue of new keys.
+    pub kin: u32,
+    /// How many keys `a1out` remembers.
+    pub kout: u32,
+}
+
+/// An access to a key, by 2Q's plan, with parts of any sizes. The one error is out of memory; the queues are then as before. 2Q has no number of
+/// its own.
+///
+/// `C` selects an instance: one that is called at a single place becomes part of its caller, and a caller that reads no
+/// record then makes none.
+#[inline(always)]
+pub fn step<C>(
+    table: &mut KeyQueues,
+    sizes: TwoQSizes,
+    capacity: u32,
+    scalar: u32,
+    key: Key,
+) -> Result<Accessed, AllocError>
+    ensures accessed { IfOk result (λ a. IsAccessed (two_q_plan sizes capacity key scalar (queues table.old))
+        (item_of key) scalar (queues table.old) (queues table.new) a) }
+    // A hit asks for no memory.
+    ensures memory { OnErr result ((two_q_plan sizes capacity key scalar (queues table.old)).hits ≡ false) }
+    ensures err { OnErr result (queues table.new ≡ queues table.old) }
+{
+    let Some(found) = table.find(key) else {
+        // Room is made before anything moves.
+        table.reserve()?;
+        return Ok(miss::<C>(table, sizes, capacity, scalar, key, None, false));
+    };
+    if found.queue == AM {
+        Ok(hit(table.send(key, found, AM, 0), scalar))
+    } else if found.queue == A1IN {
+        Ok(hit(KeyMove::unmoved(key), scalar))
+    } else {
+        table.tabled();
+        // To 2Q a key of a queue that it does not use is new.
+        let remembered = found.queue == A1OUT;
+        let found = Some(found);
+        Ok(miss::<(C, Found)>(table, sizes, capacity, scalar, key, found, remembered))
+    }
+}
+
+// A miss. In a full cache a key leaves, and a1out may forget one.
+#[inline(always)]
+fn miss<C>(
+    table: &mut KeyQueues,
+    sizes: TwoQSizes,
+    capacity: u32,
+    scalar: u32,
+    key: Key,
+    found: Option<Found>,
+    remembered: bool,
+) -> Accessed
+    requires outside { IsOutside remembered found (item_of key) A1IN AM A1OUT table.old }
+    ensures { IsAccessed (two_q_miss sizes capacity remembered scalar (queues table.old)) (item_of key) scalar
+        (queues table.old) (queues table.new) result }
+{
+    let queue = queue_of(remembered);
+    let (a1in, am) = (table.len(A1IN), table.len(AM));
+    if a1in < (capacity as usize).saturating_sub(am) {
+        let own = enter_apart(table, key, found, queue);
+        return kept(own, scalar);
+    }
+    if !a1in_gives(a1in, am, sizes.kin) {
+        let (first, own) = enter_for_oldest::<C>(table, AM, key, found, queue);
+        return missed(LeftKeys::one(first), own, scalar, scalar);
+    }
+    let size = sizes.kout;
+    let (left, own) = enter_for_remembered::<(C, TwoQSizes)>(
+        table, A1IN, A1OUT, size, key, found, remembered, queue,
+    );
+    missed(left, own, scalar, scalar)
+}
+
+// The queue that a key joins.
+fn queue_of(remembered: bool) -> u8
+    ensures { result ≡ joins remembered }
+{
+    if remembered { AM } else { A1IN }
+}
+
+// Whether a1in gives up a key, and not am.
+fn a1in_gives(a1in: usize, am: usize, kin: u32) -> bool
+    ensures { result ≡ (nat_lt kin a1in || am == 0) }
+{
+    (kin as usize) < a1in || am == 0
+}
+
+/// Short traces, with outcomes and states by another program.
+pub fn worked_examples()
+    ensures { WorkedExamples }
+{}
