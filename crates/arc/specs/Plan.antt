@@ -1,6 +1,4 @@
--- ARC, the adaptive replacement cache (Megiddo and Modha, FAST 2003, figure 4), as the plan of an access. A new key
--- joins t1; a key that comes again goes to t2. What leaves them is remembered in b1 and b2. t1 is to have p keys, which
--- is the policy's number: p grows where a key of b1 comes again, and shrinks for one of b2.
+-- ARC (`Arc`) as the plan of an access. The policy's number is p, how many keys t1 is to have.
 use Rattle.std.specs.Prelude.{ℕ, ◌+◌, ◌-◌, ◌*◌, ◌/◌, min, max, nat_lt, ◌==◌, ◌&&◌, ◌||◌, Bool, true, false}
 use Rattle.std.specs.Prelude.{if◌then◌else◌, Option, Some, None, length}
 use Rattle.queue_table.specs.Queues.{Queues}

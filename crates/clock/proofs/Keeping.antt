@@ -4,15 +4,12 @@ use Rattle.std.proofs.Common.{◌≡◌, ℕ, ◌≤◌, false, nat_lt, List, []
 use Rattle.std.proofs.lemmas.Bool.{cond_both, ltb-false}
 use Rattle.step_record.specs.Keys.{has_key}
 use Rattle.policy_page.specs.Residents.{Outcome, times, IsAccess, KeepsResidents}
-use Rattle.policy_page.specs.CountedKeys.{CountedKey, keys_of, AreCounted, oldest_count, total_count}
+use Rattle.policy_page.specs.CountedKeys.{CountedKey, keys_of, AreCounted, total_count}
 use Rattle.policy_page.specs.Turns.{turn_count, after_turns}
 use Rattle.clock.specs.Clock.{marked_key, clock_eviction, clock_act, IsClock}
 use Rattle.policy_page.proofs.Residents.{hit-stays, miss-joins, miss-replaces, access-keeps, none-held}
 use Rattle.policy_page.proofs.CountedKeys.{joined-times, joined-length, length-keys, keys-with, counted-append, counted-with}
-use Rattle.policy_page.proofs.Turns.{settled, turn-count-few, turns-times, turns-length, turns-counted}
-
-pub turns_suffice : (queue : List CountedKey) → oldest_count (after_turns (turn_count queue) queue) ≡ 0
-turns_suffice = settled
+use Rattle.policy_page.proofs.Turns.{turn-count-few, turns-times, turns-length, turns-counted}
 
 pub counted-total : (queue : List CountedKey) → AreCounted 1 queue → total_count queue ≤ length queue
 counted-total [] h = omega arith

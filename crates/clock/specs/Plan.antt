@@ -1,6 +1,4 @@
--- CLOCK, or second chance (Corbató 1969), as a plan of moves: an access sets its key's reference bit, also the access
--- that brings the key in. In a full cache the oldest key, while its bit is set, goes to the recent end with the bit
--- cleared; then the oldest leaves. A bit is a count of 0 or 1.
+-- CLOCK (`Clock`) as a plan of moves. A bit is a count of 0 or 1.
 use Rattle.std.specs.Prelude.{ℕ, nat_lt, None, List, [], length}
 use Rattle.queue_table.specs.Queues.{Queues}
 use Rattle.policy_page.specs.CountedKeys.{CountedKey, keys_of}

@@ -68,7 +68,7 @@ fn evict(table: &mut KeyQueues, capacity: u32, scalar: u32, key: Key) -> Accesse
 }
 
 /// The turns of an eviction end at a key whose reference bit is clear.
-#[tactic(auto, using(crate::proofs::Keeping::turns_suffice))]
+#[tactic(auto, using(policy_page::proofs::Turns::settled))]
 pub fn clock_turns_suffice()
     ensures { (queue : List CountedKey) → oldest_count (after_turns (turn_count queue) queue) ≡ 0 }
 {}

@@ -1,4 +1,4 @@
--- First in, first out, as a plan of moves: a hit moves nothing, and in a full cache the oldest key leaves.
+-- FIFO (`Fifo`) as a plan of moves.
 use Rattle.std.specs.Prelude.{ℕ, nat_lt, None, List, [], length}
 use Rattle.queue_table.specs.Queues.{Queues}
 use Rattle.fifo.specs.Fifo.{fifo_act}

@@ -1,8 +1,7 @@
--- S3-FIFO (Yang and others, SOSP 2023) as the plan of an access. A key that comes in joins the small queue, or the main
--- queue where the ghost remembers it. Hits are counted up to 3. In a full cache keys of the small queue with a count of 2
--- or 3 go to main, until it is over its size. Then, where main is over its size or the small queue is empty, the oldest
--- keys of main with a count go to its recent end with their count less 1, and the one that is then the oldest leaves.
--- Else the oldest of the small queue leaves for the ghost, which may forget its oldest.
+-- S3-FIFO (`S3Fifo`) as the plan of an access. In a full cache keys of the small queue with a count of 2 or 3 go to main,
+-- until it is over its size. Then, where main is over its size or the small queue is empty, the oldest keys of main with a
+-- count go to its recent end with their count less 1, and the one that is then the oldest leaves. Else the oldest of the
+-- small queue leaves for the ghost, which may forget its oldest.
 use Rattle.std.specs.Prelude.{ℕ, ◌+◌, ◌-◌, ◌*◌, nat_lt, ◌==◌, ◌||◌, Bool, true, false, if◌then◌else◌}
 use Rattle.std.specs.Prelude.{Option, Some, None, length}
 use Rattle.queue_table.specs.Queues.{Queues}

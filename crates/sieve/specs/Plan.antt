@@ -1,6 +1,4 @@
--- SIEVE (Zhang and others, NSDI 2024) as a plan of moves: a hit sets its key's visited bit. A hand goes over the queue
--- from old to new. In a full cache it passes the keys whose bits are set, and clears these, until it is at a key whose
--- bit is clear, and that key leaves. The queue is cut at the hand: the policy's number, 0 or 1, is that of the queue of
+-- SIEVE (`Sieve`) as a plan of moves. The queue is cut at the hand: the policy's number, 0 or 1, is that of the queue of
 -- the keys ahead of the hand; those that it has passed stand in the other one.
 use Rattle.std.specs.Prelude.{ℕ, ◌+◌, ◌-◌, ◌≤◌, nat_lt, if◌then◌else◌, Some, None, length}
 use Rattle.queue_table.specs.Queues.{Queues}

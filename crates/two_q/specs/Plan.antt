@@ -1,6 +1,4 @@
--- 2Q, the full version (Johnson and Shasha, VLDB 1994), as the plan of an access. A new key joins a1in, a first-in
--- first-out queue. A key that leaves it is remembered in a1out, and joins am, which is in order of last access, when it
--- comes again.
+-- 2Q (`TwoQ`) as the plan of an access.
 use Rattle.std.specs.Prelude.{ℕ, ◌+◌, nat_lt, ◌==◌, ◌||◌, Bool, true, false, if◌then◌else◌, Option, Some, None}
 use Rattle.std.specs.Prelude.{length}
 use Rattle.queue_table.specs.Queues.{Queues}
