@@ -2,7 +2,7 @@
 use Rattle.std.proofs.Common.{◌≡◌, ℕ, ◌<◌, ◌≤◌, Bool, false, eqb, arith}
 use Rattle.std.proofs.lemmas.Bool.Decides.{nat_tests}
 use Rattle.std.proofs.Math.Nat.{mul-le-mul_left, max-le, min-le_left, le-min, le-max_left}
-use Rattle.step_record.specs.Stats.{one_if}
+use Rattle.engine_base.specs.Stats.{one_if}
 use Rattle.adaptive_window.specs.Climber.{Climber, ClimbRules, AreClimbRules, next_step, moved_target, climber_after, period_record, climber_before, IsClimber}
 use Rattle.adaptive_window.specs.Theorems.{RulesFit}
 

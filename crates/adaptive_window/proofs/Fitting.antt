@@ -1,7 +1,7 @@
 -- An access as the fields show it, that its record fits, and that it undoes the access.
 use Rattle.std.proofs.Common.{◌≡◌, ℕ, ◌≤◌, Bool, Option, None, ap, refl, arith, ◌≢◌, Some, Ok, ◌∙◌, sym}
 use Rattle.std.proofs.lemmas.Bool.Decides.{nat_tests}
-use Rattle.step_record.specs.Stats.{is_hit, stats_with}
+use Rattle.engine_base.specs.Stats.{is_hit, stats_with}
 use Rattle.segments.specs.Queues.{Queues, IsDistinct}
 use Rattle.replacement.specs.declared.record.Moves.{Moves}
 use Rattle.replacement.specs.Plan.{Outcome, Item, plan}
@@ -17,7 +17,7 @@ use Rattle.adaptive_window.specs.AdaptiveWindow.{Rules, AdaptiveState, rules_at,
 use Rattle.adaptive_window.specs.WindowRecord.{size_change, size_before, window_record_of, window_undone, WindowFits}
 use Rattle.adaptive_window.specs.Theorems.{AdaptiveUndoes, IsAdaptiveAccess}
 use Rattle.adaptive_window.proofs.Climbing.{climbed-back, rules_fit}
-use Rattle.step_record.specs.Config.{config_fault}
+use Rattle.engine_base.specs.Config.{config_fault}
 use Rattle.segments.specs.Items.{nodeless_item}
 use Rattle.admission.specs.declared.freq_record.FreqRecord.{FreqRecord}
 use Rattle.admission.specs.Frequency.{FrequencyData, frequency_with}

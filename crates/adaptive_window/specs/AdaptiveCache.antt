@@ -1,12 +1,12 @@
 -- A cache with an adaptive window: what it shows after a list of accesses, one access as a step, its undo record, and how
 -- the record undoes it. Keys are counted by sixteen counters for each entry and without a doorkeeper, as Caffeine does.
 use Rattle.std.specs.Prelude.{◌≡◌, ◌≢◌, ◌⊎◌, ℕ, ◌≤◌, true, Option, Some, None, []}
-pub use Rattle.step_record.specs.declared.config.Config.{Config}
-pub use Rattle.step_record.specs.declared.outcome.Outcome.{Outcome}
-pub use Rattle.step_record.specs.declared.stats.Stats.{Stats}
-use Rattle.step_record.specs.Pace.{Pace}
-use Rattle.step_record.specs.Stats.{stats_of, stats_with, stats_without, IsCounted, IsTally}
-use Rattle.step_record.specs.Limited.{limited}
+pub use Rattle.engine_base.specs.declared.config.Config.{Config}
+pub use Rattle.engine_base.specs.declared.outcome.Outcome.{Outcome}
+pub use Rattle.engine_base.specs.declared.stats.Stats.{Stats}
+use Rattle.engine_base.specs.Pace.{Pace}
+use Rattle.engine_base.specs.Stats.{stats_of, stats_with, stats_without, IsCounted, IsTally}
+use Rattle.engine_base.specs.Limited.{limited}
 use Rattle.segments.specs.Items.{nodeless_item}
 use Rattle.segments.specs.Queues.{queue_holding}
 use Rattle.admission.specs.Frequency.{FrequencyData, frequency_of, frequency_with, halves, pace_of}

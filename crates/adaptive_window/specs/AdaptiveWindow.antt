@@ -2,9 +2,9 @@
 -- size in force goes one towards the climber's target, and the queues follow it by two moves at most. So at each access
 -- the cache is that of a fixed window of the size in force. (Caffeine moves up to 1,000 items at once.)
 use Rattle.std.specs.Prelude.{ℕ, ◌+◌, ◌-◌, ◌≤◌, nat_lt, Bool, if◌then◌else◌, length}
-use Rattle.step_record.specs.Stats.{is_hit}
-pub use Rattle.step_record.specs.declared.item.Item.{Item}
-pub use Rattle.step_record.specs.declared.outcome.Outcome.{Outcome}
+use Rattle.engine_base.specs.Stats.{is_hit}
+pub use Rattle.engine_base.specs.declared.item.Item.{Item}
+pub use Rattle.engine_base.specs.declared.outcome.Outcome.{Outcome}
 use Rattle.segments.specs.Queues.{Queues, empty_queues, IsDistinct}
 use Rattle.replacement.specs.declared.rules.Placement.TheVariants.{Windowed}
 pub use Rattle.replacement.specs.declared.rules.Rules.{Rules}

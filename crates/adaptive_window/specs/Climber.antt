@@ -4,8 +4,8 @@
 -- more, and else decays by a fiftieth.
 use Rattle.std.specs.Prelude.{ℕ, ◌+◌, ◌-◌, ◌*◌, ◌/◌, ◌≤◌, ◌<◌, ◌^◌, max, min, nat_lt, nat_le, ◌==◌}
 use Rattle.std.specs.Prelude.{Bool, false, not, if◌then◌else◌, Option, Some, None}
-use Rattle.step_record.specs.declared.limits.TheConstants.{MAX_CAPACITY}
-use Rattle.step_record.specs.Stats.{one_if}
+use Rattle.engine_base.specs.declared.limits.TheConstants.{MAX_CAPACITY}
+use Rattle.engine_base.specs.Stats.{one_if}
 pub use Rattle.adaptive_window.specs.declared.climber.ClimbRules.{ClimbRules}
 pub use Rattle.adaptive_window.specs.declared.climber.Climber.{Climber}
 

@@ -1,6 +1,6 @@
 -- A worked example.
 use Rattle.std.specs.Prelude.{◌≡◌, ℕ, nat_lt, Bool, false, List, [], ◌∷◌}
-use Rattle.step_record.specs.Stats.{stats_of}
+use Rattle.engine_base.specs.Stats.{stats_of}
 use Rattle.adaptive_window.specs.AdaptiveWindow.{ClimbRules, Item, empty_adaptive}
 use Rattle.adaptive_window.specs.Theorems.{Access, adaptive_outcomes, adaptive_state_after}
 

@@ -1,9 +1,9 @@
 -- What the cache keeps of its residents, and when undoing an access takes memory.
 use Rattle.std.specs.Prelude.{◌≡◌, ◌⊎◌, ℕ, ◌+◌, ◌≤◌, eqb, true, Option, Ok, List, length, count_by}
-use Rattle.step_record.specs.Config.{config_fault}
-use Rattle.step_record.specs.declared.outcome.Outcome.TheVariants.{Hit}
-use Rattle.step_record.specs.Keys.{has_key}
-use Rattle.step_record.specs.Stats.{is_hit, is_miss, is_eviction, one_if}
+use Rattle.engine_base.specs.Config.{config_fault}
+use Rattle.engine_base.specs.declared.outcome.Outcome.TheVariants.{Hit}
+use Rattle.engine_base.specs.Keys.{has_key}
+use Rattle.engine_base.specs.Stats.{is_hit, is_miss, is_eviction, one_if}
 use Rattle.segments.specs.Queues.{residents_in}
 use Rattle.replacement.specs.Counts.{Item, queue_occurrences}
 use Rattle.adaptive_window.specs.Climber.{AreClimbRules}

@@ -1,6 +1,6 @@
 -- What is known of W-TinyLFU with an adaptive window, whatever the admission filter says.
 use Rattle.std.specs.Prelude.{◌≡◌, ℕ, ◌+◌, ◌≤◌, nat_lt, Bool, cond, Option, List, [], ◌∷◌, count_by}
-use Rattle.step_record.specs.Stats.{is_hit, is_miss, is_eviction, one_if}
+use Rattle.engine_base.specs.Stats.{is_hit, is_miss, is_eviction, one_if}
 use Rattle.segments.specs.Items.{Item, is_same_item}
 use Rattle.segments.specs.Queues.{total_items}
 use Rattle.replacement.specs.Counts.{queue_occurrences}

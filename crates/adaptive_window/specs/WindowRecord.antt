@@ -1,6 +1,6 @@
 -- The undo record of an access with an adaptive window, and how it is undone: the adjustment first, then the access.
 use Rattle.std.specs.Prelude.{ℕ, ◌≡◌, ◌+◌, ◌-◌, nat_lt, Bool, if◌then◌else◌, None}
-use Rattle.step_record.specs.Stats.{is_hit}
+use Rattle.engine_base.specs.Stats.{is_hit}
 use Rattle.segments.specs.Queues.{Queues}
 use Rattle.replacement.specs.declared.record.Moves.{Moves}
 use Rattle.replacement.specs.Plan.{Item, plan}

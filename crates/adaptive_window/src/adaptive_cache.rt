@@ -1,19 +1,19 @@
 //! The engine: a cache with an adaptive window, whose accesses are counted and can be undone.
 ghost use Rattle.std.specs.Prelude.{◌≡◌, ◌≢◌, ◌≤◌, ◌<◌, ◌^◌, ◌↔◌, [], ◌++◌, map, length, Ok, Err, Some, None};
 ghost use Rattle.std.specs.Prelude.{IfOk, OnOk, OnErr};
-ghost use Rattle.step_record.specs.declared.limits.TheConstants.{MAX_STEPS};
-ghost use Rattle.step_record.specs.Config.{config_fault};
+ghost use Rattle.engine_base.specs.declared.limits.TheConstants.{MAX_STEPS};
+ghost use Rattle.engine_base.specs.Config.{config_fault};
 ghost use Rattle.segments.specs.Queues.{queue_holding, residents_in};
 ghost use Rattle.adaptive_window.specs.AdaptiveCache.{empty_cache, cache_act, cache_may_ask};
 
 use crate::adaptive_window::AdaptiveWindow;
 use crate::window_record::WindowRecord;
 use admission::{FreqRecord, Frequency};
+use engine_base::{Config, Engine, Item, Key, MAX_STEPS, Outcome, Stats, StepFault};
 use queue_table::AHEAD;
 use replacement::open_frequency_without_doorkeeper;
 use std::alloc::{AllocError, Global};
 use std::marker::Model;
-use step_record::{Config, Engine, Item, Key, MAX_STEPS, Outcome, Stats, StepFault};
 
 /// How many columns each of the four rows of the sketch has for an entry: sixteen counters in all, as Caffeine's.
 pub const COLUMNS: u32 = 4;
@@ -150,8 +150,8 @@ impl AdaptiveCache {
 
 impl Engine for AdaptiveCache {
     ghost use Rattle.std.specs.Prelude.{◌+◌, refl};
-    ghost use Rattle.step_record.specs.Pace.{IsPaced};
-    ghost use Rattle.step_record.proofs.Limited.{related, ended};
+    ghost use Rattle.engine_base.specs.Pace.{IsPaced};
+    ghost use Rattle.engine_base.proofs.Limited.{related, ended};
     ghost use Rattle.admission.proofs.Weighing.{recorded_paced};
     ghost use Rattle.adaptive_window.specs.AdaptiveCache.{cache_act, cache_record_of, cache_undone, cache_asks, CacheFits};
     ghost use Rattle.adaptive_window.specs.AdaptiveCache.{cache_access, cache_count, cache_may_ask, cache_words, cache_pace};

@@ -1,7 +1,7 @@
 //! The queues of W-TinyLFU with a window whose size follows the hits.
 ghost use Rattle.std.specs.Prelude.{◌≡◌, ◌≤◌, Some, None, Ok, IfOk, OnOk, OnErr, length};
-ghost use Rattle.step_record.specs.Config.{config_fault};
-ghost use Rattle.step_record.specs.Stats.{is_hit as is_hit_of};
+ghost use Rattle.engine_base.specs.Config.{config_fault};
+ghost use Rattle.engine_base.specs.Stats.{is_hit as is_hit_of};
 ghost use Rattle.segments.specs.Queues.{IsDistinct, queue_holding, residents_in};
 ghost use Rattle.replacement.specs.Admission.{admits_in};
 ghost use Rattle.replacement.specs.PlanMoves.{queues_after, moves_of, needed_by, UndoesMoves};
@@ -13,11 +13,11 @@ ghost use Rattle.adaptive_window.specs.WindowRecord.{size_change, size_before as
 use crate::climber::{ClimbRules, Climber, first_window_of};
 use crate::window_record::{SizeChange, WindowRecord};
 use admission::Frequency;
+use engine_base::{Config, Item, Key, Outcome};
 use replacement::{KeptMoves, Moves, access, grow_window, make_room, shrink_window, undo};
 use segments::{Queue, Segments};
 use std::alloc::{AllocError, Global};
 use std::marker::Model;
-use step_record::{Config, Item, Key, Outcome};
 
 /// The queues of a cache, the size of its window in force, and the climber that says which size it is to have. Contracts
 /// see these with the rules, and for how many more items there is room.

@@ -1,6 +1,6 @@
 //! How large the window is to be, found by trying.
 ghost use Rattle.std.specs.Prelude.{◌≡◌, ◌≤◌, Ok};
-ghost use Rattle.step_record.specs.Config.{config_fault};
+ghost use Rattle.engine_base.specs.Config.{config_fault};
 ghost use Rattle.replacement.specs.Rules.{main_size};
 ghost use Rattle.adaptive_window.specs.Climber.{AreClimbRules, AreSmallRules, caffeine_rules, first_window, period_of};
 ghost use Rattle.adaptive_window.specs.Climber.{distance as distance_of, moved_target as target_of, after_period, with_access};
@@ -8,8 +8,8 @@ ghost use Rattle.adaptive_window.specs.Climber.{climber_after, first_climber, pe
 ghost use Rattle.adaptive_window.specs.Climber.{IsClimber};
 ghost use Rattle.adaptive_window.specs.AdaptiveWindow.{rules_at};
 
+use engine_base::Config;
 use replacement::{Placement, Rules};
-use step_record::Config;
 
 // An item, as a step counts it.
 const ITEM: u64 = 65_536;

@@ -1,7 +1,7 @@
 //! The undo record of an access with an adaptive window.
 use crate::climber::Climber;
+use engine_base::Outcome;
 use replacement::KeptMoves;
-use step_record::Outcome;
 
 /// How the window's size in force changed.
 #[derive(Clone, Copy)]

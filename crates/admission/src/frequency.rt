@@ -1,7 +1,7 @@
 //! Approximate access frequencies.
 ghost use Rattle.std.specs.Prelude.{◌≡◌, ◌<◌, ◌≤◌, ◌+◌, ◌-◌, ◌^◌, ◌*◌, ◌++◌, ◌∷◌, List, [], ℕ, nat_lt, cond, Some};
 ghost use Rattle.std.specs.Prelude.{IfOk, OnOk, OnErr, true};
-ghost use Rattle.step_record.specs.declared.limits.TheConstants.{MAX_CAPACITY};
+ghost use Rattle.engine_base.specs.declared.limits.TheConstants.{MAX_CAPACITY};
 ghost use Rattle.admission.specs.Shape.{Shape, IsSized};
 ghost use Rattle.admission.specs.Frequency.{IsFrequencyOf, frequency_of, marked, faded, frequency_with, halves};
 ghost use Rattle.admission.specs.Frequency.{halving_words, IsOpenFrequencyOf};
@@ -15,10 +15,10 @@ use crate::door_record::DoorRecord;
 use crate::doorkeeper::Doorkeeper;
 use crate::freq_record::{FreqRecord, Halving, Mark};
 use crate::shape::{size_for, width_for};
+use engine_base::{Key, Spread};
 use sketch::{Sketch, TouchRecord};
 use std::alloc::{AllocError, Global};
 use std::marker::Model;
-use step_record::{Key, Spread};
 
 /// Approximate access frequencies: a sketch behind a doorkeeper, both aged by halving. Contracts see the capacity, the
 /// table of the sketch, the doorkeeper, the age and the halvings.
@@ -32,7 +32,7 @@ pub struct Frequency {
 }
 
 impl Model for Frequency {
-    ghost use Rattle.step_record.specs.declared.limits.TheConstants.{MAX_CAPACITY};
+    ghost use Rattle.engine_base.specs.declared.limits.TheConstants.{MAX_CAPACITY};
     ghost use Rattle.std.specs.Prelude.{◌≤◌, ◌<◌, ◌*◌};
     ghost use Rattle.admission.specs.Frequency.{FrequencyData};
 

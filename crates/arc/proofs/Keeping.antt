@@ -2,9 +2,9 @@
 use Rattle.std.proofs.Common.{◌≡◌, ℕ, ◌+◌, ◌*◌, ◌<◌, ◌≤◌, ◌⊎◌, Bool, true, false, cond, eqb, nat_lt, List, [], ◌∷◌, ◌++◌, length, drop, ◌∙◌, refl, arith, inl, inr, length-append}
 use Rattle.std.proofs.lemmas.Bool.{cases_Bool, cases_eq, cases_lt, le-ltb, lt-ltb}
 use Rattle.std.proofs.lemmas.Bool.Decides.{nat_tests}
-use Rattle.step_record.specs.Keys.{has_key, keys_without}
-use Rattle.step_record.specs.Stats.{is_hit, is_eviction, is_rejection, one_if}
-use Rattle.step_record.specs.declared.outcome.Outcome.TheVariants.{Hit, Evicted}
+use Rattle.engine_base.specs.Keys.{has_key, keys_without}
+use Rattle.engine_base.specs.Stats.{is_hit, is_eviction, is_rejection, one_if}
+use Rattle.engine_base.specs.declared.outcome.Outcome.TheVariants.{Hit, Evicted}
 use Rattle.policy_page.specs.Residents.{Outcome, times, keys_evicted, IsAccess, AreResidents, KeepsResidents}
 use Rattle.arc.specs.Arc.{ArcState, arc_residents, arc_total, arc_target, arc_replace, arc_plan, plan_of_new_key, oldest_forgotten, OfB1, OfB2, oldest_leaver, Dropped, arc_after_recall, arc_after_forgetting, arc_after_eviction, arc_after_join, arc_after_miss, arc_outcome, arc_act, IsArc, ArcForgets, ArcGhost, ArcLeaver, ArcPlan, NoLeaver, InB1, InB2, NoGhost, NoneForgotten, empty_arc}
 use Rattle.policy_page.proofs.Residents.{times-append, times-none}

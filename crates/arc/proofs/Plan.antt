@@ -2,8 +2,8 @@
 use Rattle.std.proofs.lemmas.Bool.Decides.{nat_tests}
 use Rattle.std.proofs.Common.{◌≡◌, ℕ, zero, suc, ◌+◌, ◌-◌, ◌*◌, ◌<◌, ◌≤◌, min, Bool, true, false, cond, eqb, ◌||◌, Option, Some, None, List, [], ◌∷◌, ◌++◌, length, take, drop, append-nil, ap, ◌∙◌, sym, subst, refl, arith, inr, nat_lt, ◌⊎◌, ◌==◌, length-append}
 use Rattle.std.proofs.lemmas.Bool.{cond_both, eq-eqb, ne_eqb, lt-ltb, le-ltb, cases_lt, eqb-true, ltb-false}
-use Rattle.step_record.specs.Keys.{has_key, keys_without}
-use Rattle.step_record.specs.declared.outcome.Outcome.TheVariants.{Hit, Evicted}
+use Rattle.engine_base.specs.Keys.{has_key, keys_without}
+use Rattle.engine_base.specs.declared.outcome.Outcome.TheVariants.{Hit, Evicted}
 use Rattle.queue_table.specs.Entries.{entry, oldest_of}
 use Rattle.queue_table.specs.Queues.{QUEUES, Queues, after_send}
 use Rattle.queue_table.proofs.QueueLists.{IsAbsent, is_absent}

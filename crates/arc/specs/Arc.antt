@@ -3,9 +3,9 @@
 -- key of b1 comes again, and shrinks for one of b2.
 use Rattle.std.specs.Prelude.{◌≡◌, ℕ, ◌+◌, ◌-◌, ◌*◌, ◌/◌, ◌≤◌, min, max, nat_lt, ◌==◌, ◌&&◌, ◌||◌, Bool, true, false}
 use Rattle.std.specs.Prelude.{if◌then◌else◌, List, [], ◌∷◌, ◌++◌, length, drop}
-use Rattle.step_record.specs.Keys.{has_key, keys_without}
-pub use Rattle.step_record.specs.declared.outcome.Outcome.{Outcome}
-use Rattle.step_record.specs.declared.outcome.Outcome.TheVariants.{Hit, Kept, Evicted}
+use Rattle.engine_base.specs.Keys.{has_key, keys_without}
+pub use Rattle.engine_base.specs.declared.outcome.Outcome.{Outcome}
+use Rattle.engine_base.specs.declared.outcome.Outcome.TheVariants.{Hit, Kept, Evicted}
 use Rattle.policy_page.specs.Residents.{times}
 
 -- the queues, oldest first

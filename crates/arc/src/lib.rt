@@ -4,7 +4,7 @@
 
 ghost use Rattle.std.specs.Prelude.{◌≡◌, ◌<◌, ◌≤◌, ◌+◌, ◌-◌, ◌*◌, ◌/◌, ℕ, min, max, nat_lt, ◌==◌, ◌||◌, ◌&&◌, false};
 ghost use Rattle.std.specs.Prelude.{length, None, IfOk, OnErr};
-ghost use Rattle.step_record.specs.declared.limits.TheConstants.{MAX_CAPACITY};
+ghost use Rattle.engine_base.specs.declared.limits.TheConstants.{MAX_CAPACITY};
 ghost use Rattle.queue_table.specs.Entries.{entry, occurrences};
 ghost use Rattle.queue_table.specs.Queues.{queue_holding};
 ghost use Rattle.queue_table.specs.QueueTable.{queues, spare, HoldsAt};
@@ -16,12 +16,12 @@ ghost use Rattle.arc.specs.Plan.{T1, T2, B1, B2, arc_of, total, step_size, repla
 ghost use Rattle.arc.specs.Plan.{open_l1_leavers, new_key_plan, recall_plan, arc_plan};
 ghost use Rattle.arc.specs.Examples.{WorkedExamples};
 
+use engine_base::Key;
 use policy_page::accesses::hit;
 use policy_page::misses::{LeftKeys, missed};
 use queue_moves::{Accessed, KeyQueues, Left};
 use queue_table::Found;
 use std::alloc::AllocError;
-use step_record::Key;
 
 const T1: u8 = 0;
 

@@ -4,10 +4,10 @@ use Rattle.std.specs.List.{All, AllPass, list_any}
 use Rattle.std.specs.Prelude.{IfErr, if◌then◌else◌}
 use Rattle.std.proofs.lemmas.List.Elements.{All-append, All-head, All-tail, All-nil, All-cons}
 use Rattle.std.proofs.lemmas.Bool.{cases_Bool, le-leb, ltb-false}
-use Rattle.step_record.specs.Config.{config_fault, is_from_one}
+use Rattle.engine_base.specs.Config.{config_fault, is_from_one}
 use Rattle.step_record.specs.declared.job.Policy.TheVariants.{Clairvoyant}
-use Rattle.step_record.specs.declared.config.ConfigFault.TheVariants.{Capacity}
-use Rattle.step_record.specs.declared.limits.TheConstants.{MAX_ACCESSES, MAX_BATCH, MAX_CAPACITY}
+use Rattle.engine_base.specs.declared.config.ConfigFault.TheVariants.{Capacity}
+use Rattle.engine_base.specs.declared.limits.TheConstants.{MAX_ACCESSES, MAX_BATCH, MAX_CAPACITY}
 use Rattle.queue_cache.specs.Design.{Policy, Job, Config, knows_trace}
 use Rattle.policies.specs.FaultyJobs.{ConfigFault, at_capacity, faulty_from, faulty_in, ReturnsFault}
 use Rattle.policies.specs.declared.actor_fault.ActorFault.TheVariants.{OutOfMemory}

@@ -2,8 +2,8 @@
 use Rattle.std.proofs.Common.{refl, ◌≡◌, ◌≢◌, ℕ, zero, suc, ◌+◌, ◌<◌, ◌≤◌, ◌%◌, ◌==◌, true, false, List, [], ◌∷◌, ◌++◌, append_assoc, length, get_or, drop, set, map, sym, ap, ◌∙◌, subst, arith, inl, inr}
 use Rattle.std.proofs.lemmas.Bool.{cases_Bool, eq-eqb, eqb-true}
 use Rattle.std.proofs.lemmas.List.{at_drop_more, get_or-map, get_or-set_other, get_or-set_same, length-map, map-set}
-use Rattle.step_record.specs.declared.step.Call.TheVariants.{Read}
-use Rattle.step_record.specs.History.{Entries}
+use Rattle.engine_base.specs.declared.step.Call.TheVariants.{Read}
+use Rattle.engine_base.specs.History.{Entries}
 use Rattle.journal.specs.Session.{SessionState}
 use Rattle.walks.specs.WorkerEntries.{entries_of}
 use Rattle.workers.specs.Runs.{Step, Reply, Call, IsRun}

@@ -1,7 +1,7 @@
 -- What `debug` and `replay` write: answers to the commands of the input, about what a file has.
 use Rattle.std.specs.Prelude.{ℕ, Bool, List, Option, IfSome, length}
-pub use Rattle.step_record.specs.declared.config.Config.{Config}
-use Rattle.step_record.specs.History.{Entries}
+pub use Rattle.engine_base.specs.declared.config.Config.{Config}
+use Rattle.engine_base.specs.History.{Entries}
 pub use Rattle.command_line.specs.declared.arguments.PartArguments.{PartArguments}
 use Rattle.shell_model.specs.Shell.{Shell, act}
 use Rattle.maintenance.specs.EmptyShell.{IsOpened}

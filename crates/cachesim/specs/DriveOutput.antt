@@ -1,8 +1,8 @@
 -- What `drive` writes.
 use Rattle.std.specs.Prelude.{◌≡◌, ◌≤◌, ◌⊎◌, ⊤, ℕ, List, [], Option, Result, Err, length}
 use Rattle.std.specs.Io.KnownBytes.{Appends}
-use Rattle.step_record.specs.History.{IsLegal, Entries}
-pub use Rattle.step_record.specs.declared.config.Config.{Config}
+use Rattle.engine_base.specs.History.{IsLegal, Entries}
+pub use Rattle.engine_base.specs.declared.config.Config.{Config}
 pub use Rattle.trace_read.specs.declared.format.Format.{Format}
 use Rattle.shell_model.specs.Shell.{Step, Reply, Shell, act}
 use Rattle.maintenance.specs.EmptyShell.{IsOpened}

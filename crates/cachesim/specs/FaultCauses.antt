@@ -1,7 +1,7 @@
 -- Which fault is found: that of the trace or the journal, of the arguments, or of the machine.
 use Rattle.std.specs.Prelude.{◌≡◌, ◌≢◌, ◌<◌, ◌⊎◌, ℕ, false, List, Option, None, Some, IfSome, length}
 use Rattle.clap.specs.Words.{Text}
-use Rattle.step_record.specs.History.{Entries}
+use Rattle.engine_base.specs.History.{Entries}
 use Rattle.shell_model.specs.Shell.{Shell, act}
 use Rattle.maintenance.specs.EmptyShell.{Config, IsOpened}
 use Rattle.step_record.specs.declared.job.Policy.{Policy}

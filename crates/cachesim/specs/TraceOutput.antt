@@ -1,10 +1,10 @@
 -- What the subcommands write that read a trace and write a text: `run` and `sweep`, `intervals`, `part` and `compare`.
 use Rattle.std.specs.Prelude.{◌≡◌, ℕ, List, Option, None, Some, IfSome, flat_map, map}
-use Rattle.step_record.specs.declared.config.Config.{Config}
+use Rattle.engine_base.specs.declared.config.Config.{Config}
 pub use Rattle.step_record.specs.declared.job.Job.{Job}
 use Rattle.step_record.specs.declared.job.Tuning.{Tuning}
 pub use Rattle.step_record.specs.declared.job.Policy.{Policy}
-use Rattle.step_record.specs.declared.limits.TheConstants.{MAX_ACCESSES}
+use Rattle.engine_base.specs.declared.limits.TheConstants.{MAX_ACCESSES}
 use Rattle.command_line.specs.declared.arguments.Arguments.{Arguments}
 use Rattle.command_line.specs.declared.arguments.Arguments.TheVariants as asked
 pub use Rattle.command_line.specs.declared.arguments.JobArguments.{JobArguments}

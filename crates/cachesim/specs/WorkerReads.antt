@@ -1,8 +1,8 @@
 -- Which accesses of a trace each worker reads.
 use Rattle.std.specs.Prelude.{◌≡◌, ℕ, ◌+◌, ◌<◌, ◌≤◌, ◌%◌, ◌==◌, List, [], ◌∷◌, length, get_or, if◌then◌else◌}
 use Rattle.std.specs.Prelude.{Option, Some, None, IfSome}
-use Rattle.step_record.specs.declared.step.Call.TheVariants.{Read}
-use Rattle.step_record.specs.History.{Entries}
+use Rattle.engine_base.specs.declared.step.Call.TheVariants.{Read}
+use Rattle.engine_base.specs.History.{Entries}
 use Rattle.walks.specs.Walks.{Call, AreWalks}
 use Rattle.walks.specs.WorkerEntries.{entries_of}
 use Rattle.workers.specs.Runs.{AreWalksUpTo, first_cause, IsCauseIn}

@@ -2,7 +2,7 @@
 ghost use Rattle.std.specs.Prelude.{◌≡◌, true, Ok};
 ghost use Rattle.command_line.specs.Accepted.{IsAcceptedPart};
 ghost use Rattle.command_line.specs.declared.arguments.Arguments.TheVariants.{Debug, Replay};
-ghost use Rattle.step_record.specs.Config.{config_fault};
+ghost use Rattle.engine_base.specs.Config.{config_fault};
 ghost use Rattle.cachesim.specs.DriveOutput.{IsEmptySession};
 ghost use Rattle.cachesim.specs.Subcommand.{IsPerformed};
 

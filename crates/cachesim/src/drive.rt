@@ -2,7 +2,7 @@
 ghost use Rattle.std.specs.Prelude.{◌≡◌, ◌≤◌, ℕ, Ok, [], IfErr, IfOk, IsOkAnd, None, OnOk, get_or, length, true};
 ghost use Rattle.std.specs.Prelude.{map};
 ghost use Rattle.std.specs.Io.KnownBytes.{Appends};
-ghost use Rattle.step_record.specs.Config.{config_fault};
+ghost use Rattle.engine_base.specs.Config.{config_fault};
 ghost use Rattle.command_line.specs.Accepted.{IsAcceptedDrive};
 ghost use Rattle.command_line.specs.declared.arguments.Arguments.TheVariants.{Drive};
 ghost use Rattle.journal_text.specs.Journal.{journal_of};

@@ -1,7 +1,7 @@
 -- A step of the engine, from what serving the access left.
 use Rattle.std.proofs.lemmas.Bool.Decides.{nat_tests}
 use Rattle.std.proofs.Common.{◌≡◌, ℕ, suc, ◌<◌, Some, Bool, List, length, get_or, ap, ◌∙◌, arith, add-one}
-use Rattle.step_record.specs.Stats.{stats_with}
+use Rattle.engine_base.specs.Stats.{stats_with}
 use Rattle.clairvoyant.specs.declared.optimal_record.OptimalRecord.{OptimalRecord}
 use Rattle.clairvoyant.specs.Belady.{Outcome, belady_residents}
 use Rattle.clairvoyant.specs.RankSet.{IsTied}
@@ -10,7 +10,7 @@ use Rattle.clairvoyant.specs.OptimalRecord.{record_at, outcome_of, clairvoyant_u
 use Rattle.clairvoyant.specs.Representation.{shown, IsRepresented}
 use Rattle.clairvoyant.proofs.Records.{outcome-is, keys-back}
 use Rattle.clairvoyant.proofs.Reached.{act-next}
-use Rattle.step_record.proofs.Counting.{stats-snoc}
+use Rattle.engine_base.proofs.Counting.{stats-snoc}
 
 -- an access that the record d is of, from the counts s to the counts u
 module _ (c : ℕ) (t : List ℕ) (s u : Stats) (d : OptimalRecord) (lt : s.accesses < length t) (r : IsBeladyReached (shown c t s)) (last : d ≡ record_at c t s.accesses) (more : u ≡ stats_with (outcome_of d) s) where

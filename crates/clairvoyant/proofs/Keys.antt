@@ -2,7 +2,7 @@
 use Rattle.std.proofs.Common.{◌≡◌, ℕ, suc, ◌<◌, ◌≤◌, true, false, cond, eqb, nat_lt, List, [], ◌∷◌, length, refl, arith}
 use Rattle.std.proofs.lemmas.Bool.{cond_both, eqb-true, eq-eqb, ltb-true, lt-ltb, cases_eq}
 use Rattle.std.proofs.lemmas.Bool.Decides.{nat_tests}
-use Rattle.step_record.specs.Keys.{has_key, keys_without}
+use Rattle.engine_base.specs.Keys.{has_key, keys_without}
 use Rattle.clairvoyant.specs.Keys.{residents_with, IsBelowAll, IsAscendingKeys}
 
 pub has-put : (k b : ℕ) (l : List ℕ) → has_key k (residents_with b l) ≡ cond (eqb k b) true (has_key k l)

@@ -6,8 +6,8 @@ use Rattle.std.proofs.lemmas.List.Sums.{sum_by-cons}
 use Rattle.std.proofs.lemmas.List.Sorted.{sum_by-IsPermutation}
 use Rattle.std.proofs.lemmas.Bool.{cases_Bool, cases_eq, eqb-true, eq-eqb}
 use Rattle.std.proofs.lemmas.Bool.Decides.{nat_tests}
-use Rattle.step_record.specs.Stats.{one_if}
-use Rattle.step_record.specs.Keys.{has_key}
+use Rattle.engine_base.specs.Stats.{one_if}
+use Rattle.engine_base.specs.Keys.{has_key}
 use Rattle.clairvoyant.specs.Bits.{is_in_set}
 use Rattle.clairvoyant.specs.Keys.{IsAscendingKeys}
 use Rattle.clairvoyant.specs.Ranks.{rank, key_at}

@@ -6,7 +6,7 @@ use Rattle.trace_index.specs.Uses.{next_from}
 use Rattle.clairvoyant.specs.Ranks.{last_before, rank, rank_by, key_at}
 use Rattle.clairvoyant.specs.Belady.{further, leaves_first}
 use Rattle.trace_index.proofs.Uses.{next-found, next-own, next-other, next-within}
-use Rattle.step_record.specs.Keys.{has_key, keys_without}
+use Rattle.engine_base.specs.Keys.{has_key, keys_without}
 use Rattle.clairvoyant.specs.Keys.{residents_with}
 use Rattle.clairvoyant.specs.Bits.{is_in_set}
 use Rattle.clairvoyant.specs.RankSet.{is_ranked, IsTied}

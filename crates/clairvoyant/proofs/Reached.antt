@@ -1,9 +1,9 @@
 -- What the first accesses of a trace give, one access further.
 use Rattle.std.proofs.lemmas.Bool.Decides.{nat_tests}
 use Rattle.std.proofs.Common.{◌≡◌, ℕ, suc, zero, ◌+◌, ◌<◌, ◌≤◌, Some, List, length, get_or, ap, refl, arith, add-one}
-use Rattle.step_record.specs.declared.limits.TheConstants.{MAX_STEPS}
-use Rattle.step_record.specs.Stats.{stats_with, IsCounted, stats_of}
-use Rattle.step_record.proofs.Counting.{stats-snoc}
+use Rattle.engine_base.specs.declared.limits.TheConstants.{MAX_STEPS}
+use Rattle.engine_base.specs.Stats.{stats_with, IsCounted, stats_of}
+use Rattle.engine_base.proofs.Counting.{stats-snoc}
 use Rattle.clairvoyant.specs.Belady.{Outcome, belady_residents, belady_outcome, belady_outcomes}
 use Rattle.clairvoyant.specs.Clairvoyant.{Stats, IsBeladyReached, clairvoyant_act}
 use Rattle.clairvoyant.specs.Representation.{shown}

@@ -2,7 +2,7 @@
 use Rattle.std.proofs.lemmas.Bool.Decides.{nat_tests}
 use Rattle.std.proofs.Common.{arith, ◌≡◌, ℕ, suc, ◌<◌, ◌≤◌, true, false, eqb, List, length, get_or, ap, sym, subst, refl, ◌-◌, ◌*◌, Bool, ◌∷◌, ◌∙◌}
 use Rattle.std.proofs.lemmas.Bool.{lt-ltb, le-ltb, eq-eqb, ne_eqb, cases_eq, and_parts, eqb-true}
-use Rattle.step_record.specs.Keys.{has_key, keys_without}
+use Rattle.engine_base.specs.Keys.{has_key, keys_without}
 use Rattle.clairvoyant.specs.declared.optimal_record.EvictedKey.{EvictedKey}
 use Rattle.clairvoyant.specs.declared.optimal_record.OptimalRecord.TheVariants.{Hit, Kept, Evicted, Rejected}
 use Rattle.clairvoyant.specs.Keys.{IsAscendingKeys}

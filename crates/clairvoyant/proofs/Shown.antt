@@ -2,8 +2,8 @@
 use Rattle.std.proofs.Common.{◌≡◌, ◌⊎◌, ℕ, ◌<◌, ◌≤◌, Bool, false, inl, inr}
 use Rattle.std.proofs.lemmas.Bool.{cases_lt}
 use Rattle.std.proofs.lemmas.Bool.Decides.{nat_tests}
-use Rattle.step_record.proofs.Places.{length-by_place, get_or-by_place, past-by_place}
-use Rattle.step_record.specs.Places.{by_place}
+use Rattle.engine_base.proofs.Places.{length-by_place, get_or-by_place, past-by_place}
+use Rattle.engine_base.specs.Places.{by_place}
 use Rattle.clairvoyant.specs.Bits.{is_in_set}
 
 -- a number is below the size, and in the set where its test says so, or it is none of the set

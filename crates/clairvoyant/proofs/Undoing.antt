@@ -1,8 +1,8 @@
 -- A step back of the engine, from a record that fits.
 use Rattle.std.proofs.lemmas.Bool.Decides.{nat_tests}
 use Rattle.std.proofs.Common.{◌≡◌, ℕ, suc, List, ap, arith, ◌-◌, Bool, ◌∙◌, sym, subst}
-use Rattle.step_record.specs.Stats.{stats_with, IsCounted, stats_of, stats_without}
-use Rattle.step_record.proofs.Counting.{stats-snoc}
+use Rattle.engine_base.specs.Stats.{stats_with, IsCounted, stats_of, stats_without}
+use Rattle.engine_base.proofs.Counting.{stats-snoc}
 use Rattle.clairvoyant.specs.Belady.{belady_residents, belady_outcomes}
 use Rattle.clairvoyant.specs.Clairvoyant.{Stats, IsBeladyReached, ClairvoyantState}
 use Rattle.clairvoyant.specs.Representation.{shown, IsRepresented}

@@ -5,7 +5,7 @@ use Rattle.std.proofs.lemmas.Bool.{eq-eqb, ne_eqb}
 use Rattle.std.proofs.lemmas.Bool.Decides.{nat_tests}
 use Rattle.std.proofs.lemmas.Nat.Bits.{bit_at_set_same, bit_at-zero}
 use Rattle.std.proofs.lemmas.List.{get_or_past}
-use Rattle.step_record.specs.Bits.{bit_of}
+use Rattle.engine_base.specs.Bits.{bit_of}
 use Rattle.clairvoyant.specs.Bits.{IsBitLayer}
 
 -- a word with a bit is not 0

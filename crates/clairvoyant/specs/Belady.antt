@@ -1,9 +1,9 @@
 -- The residents of a cache that knows the whole trace: the key whose next use is farthest leaves (Belady 1966).
 use Rattle.std.specs.Prelude.{ℕ, zero, suc, nat_lt, Bool, true, false, cond, eqb, Option, Some, None}
 use Rattle.std.specs.Prelude.{List, [], ◌∷◌, ◌++◌, length, slice_index}
-pub use Rattle.step_record.specs.declared.outcome.Outcome.{Outcome}
-use Rattle.step_record.specs.declared.outcome.Outcome.TheVariants.{Hit, Kept, Evicted, Rejected}
-use Rattle.step_record.specs.Keys.{has_key, keys_without}
+pub use Rattle.engine_base.specs.declared.outcome.Outcome.{Outcome}
+use Rattle.engine_base.specs.declared.outcome.Outcome.TheVariants.{Hit, Kept, Evicted, Rejected}
+use Rattle.engine_base.specs.Keys.{has_key, keys_without}
 use Rattle.clairvoyant.specs.Keys.{residents_with}
 use Rattle.trace_index.specs.Uses.{next}
 use Rattle.clairvoyant.specs.Ranks.{last_use}

@@ -1,10 +1,10 @@
 -- What a cache that knows the trace shows.
 use Rattle.std.specs.Prelude.{◌≡◌, ℕ, ◌≤◌, nat_lt, Bool, cond, eqb, ◌&&◌, Option, Some, None}
 use Rattle.std.specs.Prelude.{List, length, slice_index}
-use Rattle.step_record.specs.declared.limits.TheConstants.{MAX_ACCESSES, MAX_STEPS}
-pub use Rattle.step_record.specs.declared.outcome.Outcome.{Outcome}
-pub use Rattle.step_record.specs.declared.stats.Stats.{Stats}
-use Rattle.step_record.specs.Stats.{stats_of, stats_with}
+use Rattle.engine_base.specs.declared.limits.TheConstants.{MAX_ACCESSES, MAX_STEPS}
+pub use Rattle.engine_base.specs.declared.outcome.Outcome.{Outcome}
+pub use Rattle.engine_base.specs.declared.stats.Stats.{Stats}
+use Rattle.engine_base.specs.Stats.{stats_of, stats_with}
 use Rattle.clairvoyant.specs.Belady.{belady_residents_after, belady_answer, belady_residents, belady_outcomes}
 
 pub record ClairvoyantState : Type 0 where

@@ -1,8 +1,8 @@
 -- The undo record of an access, as a function of the trace's place and the residents before it.
 use Rattle.std.specs.Prelude.{◌≡◌, ℕ, suc, ◌-◌, ◌≤◌, nat_lt, cond, eqb, List, length, slice_index}
-use Rattle.step_record.specs.declared.outcome.Outcome.TheVariants as outcome
-use Rattle.step_record.specs.Stats.{stats_without}
-use Rattle.step_record.specs.Keys.{has_key, keys_without}
+use Rattle.engine_base.specs.declared.outcome.Outcome.TheVariants as outcome
+use Rattle.engine_base.specs.Stats.{stats_without}
+use Rattle.engine_base.specs.Keys.{has_key, keys_without}
 pub use Rattle.clairvoyant.specs.declared.optimal_record.OptimalRecord.{OptimalRecord}
 use Rattle.clairvoyant.specs.declared.optimal_record.OptimalRecord.TheVariants.{Hit, Kept, Evicted, Rejected}
 use Rattle.clairvoyant.specs.Keys.{residents_with}

@@ -1,7 +1,7 @@
 -- The residents as the set of their ranks.
 use Rattle.std.specs.Prelude.{◌≡◌, ℕ, ◌*◌, ◌<◌, Bool, eqb, ◌&&◌, List, length}
 use Rattle.clairvoyant.specs.Bits.{is_in_set}
-use Rattle.step_record.specs.Keys.{has_key}
+use Rattle.engine_base.specs.Keys.{has_key}
 use Rattle.clairvoyant.specs.Ranks.{rank, key_at}
 
 -- q is the rank of one of the keys r, once the accesses below place i are made

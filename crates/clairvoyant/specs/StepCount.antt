@@ -1,8 +1,8 @@
 -- How an accepted step of the engine counts.
 use Rattle.std.specs.Prelude.{◌≡◌, ℕ, ◌+◌, false, nat_lt, Some, None}
 use Rattle.std.proofs.Common.{ap, refl}
-use Rattle.step_record.specs.declared.limits.TheConstants.{MAX_STEPS}
-use Rattle.step_record.proofs.Limited.{accepted-where}
+use Rattle.engine_base.specs.declared.limits.TheConstants.{MAX_STEPS}
+use Rattle.engine_base.proofs.Limited.{accepted-where}
 use Rattle.clairvoyant.specs.Clairvoyant.{Outcome, ClairvoyantState, clairvoyant_access, clairvoyant_act, is_next}
 
 pub act_counts : (d : ClairvoyantState) (k : ℕ) (o : Outcome) (e : ClairvoyantState) → clairvoyant_act d k ≡ Some (o, e)

@@ -1,6 +1,6 @@
 -- What an accepted step stands for, for callers that see the cache by its steps alone.
 use Rattle.std.specs.Prelude.{◌≡◌, ℕ, suc, ◌<◌, ◌≤◌, Some, None, length, slice_index}
-use Rattle.step_record.specs.declared.limits.TheConstants.{MAX_STEPS}
+use Rattle.engine_base.specs.declared.limits.TheConstants.{MAX_STEPS}
 use Rattle.clairvoyant.specs.Belady.{Outcome, belady_outcome}
 use Rattle.clairvoyant.specs.Clairvoyant.{ClairvoyantState, clairvoyant_at, clairvoyant_act}
 

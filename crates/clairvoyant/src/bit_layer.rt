@@ -1,13 +1,13 @@
 //! A set as bits in words, over a smaller set.
 ghost use Rattle.std.specs.Prelude.{◌≡◌, ◌*◌, ◌≤◌, length};
-ghost use Rattle.step_record.specs.Bits.{bit_of};
+ghost use Rattle.engine_base.specs.Bits.{bit_of};
 ghost use Rattle.clairvoyant.specs.declared.limits.TheConstants.{WORD_BITS, MAX_SET_WORDS};
 ghost use Rattle.clairvoyant.specs.Bits.{IsBitLayer};
 
 use crate::limits::WORD_BITS;
 use crate::number_set::NumberSet;
+use engine_base::bits;
 use std::alloc::{AllocError, Global};
-use step_record::bits;
 
 /// Words of bits, under a set of the places of those that are not 0.
 #[derive(Drop)]

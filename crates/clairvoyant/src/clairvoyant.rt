@@ -1,7 +1,7 @@
 //! The cache that knows the trace.
 ghost use Rattle.std.specs.Prelude.{◌≡◌, suc, ◌-◌, ◌*◌, ◌≤◌, ◌<◌, length, slice_index, IfSome};
 ghost use Rattle.std.specs.Prelude.{IfOk, Ok, Some, None};
-ghost use Rattle.step_record.specs.declared.limits.TheConstants.{MAX_ACCESSES, MAX_CAPACITY};
+ghost use Rattle.engine_base.specs.declared.limits.TheConstants.{MAX_ACCESSES, MAX_CAPACITY};
 ghost use Rattle.clairvoyant.specs.Ranks.{rank, rank_by, key_at};
 ghost use Rattle.clairvoyant.specs.RankSet.{IsTied};
 ghost use Rattle.clairvoyant.specs.Belady.{belady_residents};
@@ -9,9 +9,9 @@ ghost use Rattle.clairvoyant.specs.OptimalRecord.{record_at};
 
 use crate::BitSet;
 use crate::optimal_record::{EvictedKey, OptimalRecord};
+use engine_base::{Engine, Key, Outcome, Stats, StepFault};
 use std::alloc::{AllocError, Global};
 use std::marker::Model;
-use step_record::{Engine, Key, Outcome, Stats, StepFault};
 use trace_index::NextUse;
 
 /// A cache that serves the accesses of a trace in order. On a miss in a full cache, of the
@@ -199,7 +199,7 @@ impl Engine for Clairvoyant {
     ghost use Rattle.clairvoyant.specs.Clairvoyant.{clairvoyant_act};
     ghost use Rattle.clairvoyant.specs.OptimalRecord.{record_at, clairvoyant_undone, ClairvoyantFits};
     ghost use Rattle.clairvoyant.specs.StepCount.{act_counts, act_ends};
-    ghost use Rattle.step_record.specs.Pace.{pace_without_sketch, still-paced};
+    ghost use Rattle.engine_base.specs.Pace.{pace_without_sketch, still-paced};
 
     type Step = Key;
 

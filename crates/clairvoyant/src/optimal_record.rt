@@ -2,7 +2,7 @@
 ghost use Rattle.std.specs.Prelude.{◌≡◌};
 ghost use Rattle.clairvoyant.specs.OptimalRecord.{outcome_of};
 
-use step_record::{Key, Outcome};
+use engine_base::{Key, Outcome};
 
 /// A key that was evicted, with the rank that it had: the number by which the cache knows a
 /// resident. Of a trace of `n` accesses, a key that is used next at place `p` has rank

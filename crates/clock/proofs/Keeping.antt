@@ -2,7 +2,7 @@
 use Rattle.std.proofs.lemmas.Bool.Decides.{nat_tests}
 use Rattle.std.proofs.Common.{◌≡◌, ℕ, ◌≤◌, false, nat_lt, List, [], ◌∷◌, ◌++◌, length, ap, sym, ◌∙◌, refl, arith}
 use Rattle.std.proofs.lemmas.Bool.{cond_both, ltb-false}
-use Rattle.step_record.specs.Keys.{has_key}
+use Rattle.engine_base.specs.Keys.{has_key}
 use Rattle.policy_page.specs.Residents.{Outcome, times, IsAccess, KeepsResidents}
 use Rattle.policy_page.specs.CountedKeys.{CountedKey, keys_of, AreCounted, total_count}
 use Rattle.policy_page.specs.Turns.{turn_count, after_turns}

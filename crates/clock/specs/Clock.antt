@@ -2,8 +2,8 @@
 -- in. In a full cache the oldest key, while its bit is set, goes to the recent end with the bit cleared; then the
 -- oldest leaves. A bit is a count of 0 or 1.
 use Rattle.std.specs.Prelude.{ℕ, nat_lt, if◌then◌else◌, List, [], ◌∷◌, ◌++◌, length}
-use Rattle.step_record.specs.Keys.{has_key}
-use Rattle.step_record.specs.declared.outcome.Outcome.TheVariants as outcome
+use Rattle.engine_base.specs.Keys.{has_key}
+use Rattle.engine_base.specs.declared.outcome.Outcome.TheVariants as outcome
 use Rattle.policy_page.specs.Residents.{Outcome, AreResidents}
 use Rattle.policy_page.specs.CountedKeys.{CountedKey, keys_of, with_count, AreCounted}
 use Rattle.policy_page.specs.Turns.{turn_count, after_turns}

@@ -13,10 +13,10 @@ ghost use Rattle.policy_page.specs.Turns.{turn_count, after_turns};
 ghost use Rattle.clock.specs.Clock.{IsClock};
 ghost use Rattle.clock.specs.Examples.{WorkedExamples};
 
+use engine_base::Key;
 use policy_page::accesses::{evicted, hit, kept};
 use queue_moves::{Accessed, KeyQueues, Run};
 use std::alloc::AllocError;
-use step_record::Key;
 
 const QUEUE: u8 = 0;
 

@@ -2,14 +2,14 @@
 use Rattle.std.specs.Prelude.{◌≡◌, ◌≤◌, ◌&&◌, ◌||◌, Bool, false, true, nat_lt, IfSome, Ok}
 use Rattle.std.specs.Option.{option_map_or}
 use Rattle.std.specs.List.{AllPass, list_any}
-use Rattle.step_record.specs.Config.{config_fault, is_from_one}
-pub use Rattle.step_record.specs.declared.config.Config.{Config}
-use Rattle.step_record.specs.declared.limits.TheConstants.{MAX_ACCESSES, MAX_BATCH, MAX_CAPACITY}
-use Rattle.step_record.specs.declared.limits.TheConstants.{MAX_GHOST_PERCENT, MAX_PART_PERCENT}
+use Rattle.engine_base.specs.Config.{config_fault, is_from_one}
+pub use Rattle.engine_base.specs.declared.config.Config.{Config}
+use Rattle.engine_base.specs.declared.limits.TheConstants.{MAX_ACCESSES, MAX_BATCH, MAX_CAPACITY}
+use Rattle.engine_base.specs.declared.limits.TheConstants.{MAX_GHOST_PERCENT, MAX_PART_PERCENT}
 pub use Rattle.step_record.specs.declared.job.Tuning.{Tuning}
 pub use Rattle.step_record.specs.declared.job.Policy.{Policy}
 use Rattle.step_record.specs.declared.job.Policy.TheVariants.{Clairvoyant}
-use Rattle.step_record.specs.declared.worker.TheConstants.{MAX_WORKERS}
+use Rattle.engine_base.specs.declared.worker.TheConstants.{MAX_WORKERS}
 pub use Rattle.trace_read.specs.declared.limits.Limits.{Limits}
 use Rattle.trace_read.specs.declared.limits.TheConstants.{MAX_LONG_ACCESSES, MAX_LONG_TRACE_BYTES}
 use Rattle.command_line.specs.declared.arguments.Arguments.{Arguments}

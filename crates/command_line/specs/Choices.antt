@@ -8,8 +8,8 @@ use Rattle.clap.specs.Words.{Text}
 use Rattle.step_record.specs.Job.{word_of}
 use Rattle.step_record.specs.declared.job.Policy.{Policy}
 use Rattle.step_record.specs.declared.job.TheConstants.{POLICIES}
-use Rattle.step_record.specs.declared.config.Spread.{Spread}
-use Rattle.step_record.specs.declared.config.Spread.TheVariants.{Mixed, Plain}
+use Rattle.engine_base.specs.declared.config.Spread.{Spread}
+use Rattle.engine_base.specs.declared.config.Spread.TheVariants.{Mixed, Plain}
 use Rattle.trace_read.specs.Format.{format_word}
 use Rattle.trace_read.specs.declared.format.Format.{Format}
 use Rattle.trace_read.specs.declared.format.Format.TheVariants.{Lirs, Arc}

@@ -1,9 +1,9 @@
 -- The rows of options and subcommands.
 use Rattle.std.specs.Prelude.{List, [], ◌∷◌, Option, Some, None, codes, option_map}
 use Rattle.clap.specs.Words.{Text}
-use Rattle.step_record.specs.declared.limits.TheConstants.{MAX_BATCH, MAX_CAPACITY, MAX_JOURNAL_LIMIT}
-use Rattle.step_record.specs.declared.limits.TheConstants.{MAX_GHOST_PERCENT, MAX_MAIN_PERCENT, MAX_PART_PERCENT}
-use Rattle.step_record.specs.declared.worker.TheConstants.{MAX_WORKERS}
+use Rattle.engine_base.specs.declared.limits.TheConstants.{MAX_BATCH, MAX_CAPACITY, MAX_JOURNAL_LIMIT}
+use Rattle.engine_base.specs.declared.limits.TheConstants.{MAX_GHOST_PERCENT, MAX_MAIN_PERCENT, MAX_PART_PERCENT}
+use Rattle.engine_base.specs.declared.worker.TheConstants.{MAX_WORKERS}
 pub use Rattle.command_line.specs.declared.options.OptionName.{OptionName}
 use Rattle.command_line.specs.declared.options.OptionName.TheVariants.{Batch, Capacities, Capacity, ComparedEvery}
 use Rattle.command_line.specs.declared.options.OptionName.TheVariants.{Every, First, In, Out, Period, Small}

@@ -8,9 +8,9 @@ use Rattle.std.specs.Str.{bytes_eq}
 use Rattle.std.specs.Str.Parse.{digits_value, without_leading_plus}
 use Rattle.clap.specs.Words.{Row, Text, all_of, first_of, one_of}
 use Rattle.clap.specs.ValueTests.{is_unsigned_in}
-use Rattle.step_record.specs.Config.{config_fault}
-use Rattle.step_record.specs.declared.limits.TheConstants.{MAX_STRIPES}
-use Rattle.step_record.specs.declared.config.Spread.{Spread}
+use Rattle.engine_base.specs.Config.{config_fault}
+use Rattle.engine_base.specs.declared.limits.TheConstants.{MAX_STRIPES}
+use Rattle.engine_base.specs.declared.config.Spread.{Spread}
 use Rattle.trace_read.specs.declared.format.Format.{Format}
 use Rattle.command_line.specs.Accepted.{Limits, Policy, Tuning, Config, has_long_intervals, needs_whole_trace}
 use Rattle.command_line.specs.Options.{ValueKind, OptionName, row_of}

@@ -2,8 +2,8 @@
 ghost use Rattle.std.specs.Prelude.{◌≡◌, ◌≤◌, IfOk, IfSome, map, option_and_then, option_map, true};
 ghost use Rattle.std.specs.List.{AllPass};
 ghost use Rattle.clap.specs.Words.{all_of, first_of};
-ghost use Rattle.step_record.specs.Config.{is_from_one};
-ghost use Rattle.step_record.specs.declared.limits.TheConstants.{MAX_CAPACITY};
+ghost use Rattle.engine_base.specs.Config.{is_from_one};
+ghost use Rattle.engine_base.specs.declared.limits.TheConstants.{MAX_CAPACITY};
 ghost use Rattle.command_line.specs.Choices.{all_named, policy_named as policy_by};
 ghost use Rattle.command_line.specs.Options.{row_of};
 ghost use Rattle.command_line.specs.Values.{Answers, AnswersWith, IsIn, capacities_in, format_in, in_range as within};

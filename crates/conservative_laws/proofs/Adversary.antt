@@ -5,8 +5,8 @@ use Rattle.std.proofs.Math.Seq.{get_or-append_seam, take-append_seam}
 use Rattle.std.proofs.lemmas.Bool.{cases_eq, cases_Bool, lt-ltb, le-ltb}
 use Rattle.std.proofs.lemmas.List.{take_more, take-append-le, take_all}
 use Rattle.std.proofs.lemmas.Bool.Decides.{nat_tests}
-use Rattle.step_record.specs.Keys.{has_key}
-use Rattle.step_record.specs.Stats.{one_if}
+use Rattle.engine_base.specs.Keys.{has_key}
+use Rattle.engine_base.specs.Stats.{one_if}
 use Rattle.queue_cache.proofs.Recency.{IsDistinct}
 use Rattle.policy_page.specs.Residents.{times}
 use Rattle.policy_page.proofs.Residents.{times-none, times-some}

@@ -3,10 +3,10 @@ use Rattle.std.proofs.Common.{◌≡◌, ℕ, zero, suc, ◌+◌, ◌-◌, ◌*�
 use Rattle.std.proofs.lemmas.Bool.Decides.{nat_tests}
 use Rattle.std.proofs.Math.Nat.{mul-add, mul_comm, mul-le-mul_left, mul-le-mul_right}
 use Rattle.std.proofs.lemmas.Bool.{cases_Bool, cases_lt, cases_eq}
-use Rattle.step_record.specs.Keys.{has_key}
-use Rattle.step_record.specs.Stats.{one_if}
+use Rattle.engine_base.specs.Keys.{has_key}
+use Rattle.engine_base.specs.Stats.{one_if}
 use Rattle.clairvoyant.proofs.Belady.{later}
-use Rattle.step_record.proofs.Counting.{one-few}
+use Rattle.engine_base.proofs.Counting.{one-few}
 use Rattle.queue_cache.specs.Lru.{distinct_keys}
 use Rattle.optimality.specs.Strategy.{IsStrategy, strategy_misses}
 use Rattle.optimality.proofs.Optimal.{head-has}

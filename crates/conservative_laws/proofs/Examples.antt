@@ -1,7 +1,7 @@
 -- What the accesses of single traces come to, by computation.
 use Rattle.std.proofs.Common.{◌≡◌, ◌⊎◌, ℕ, ◌≤◌, List, [], take, count_by, ap, ◌∙◌, arith, inl, inr, All, length, map}
-use Rattle.step_record.specs.Job.{part_size}
-use Rattle.step_record.specs.Stats.{is_miss}
+use Rattle.engine_base.specs.PartSize.{part_size}
+use Rattle.engine_base.specs.Stats.{is_miss}
 use Rattle.step_record.specs.declared.job.Policy.TheVariants.{Fifo, Clock, Sieve, S3Fifo}
 use Rattle.policy_page.specs.Residents.{outcomes_of_all}
 use Rattle.fifo.specs.Fifo.{fifo_act}

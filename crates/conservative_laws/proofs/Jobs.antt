@@ -4,8 +4,8 @@ use Rattle.std.proofs.lemmas.Bool.{cases_eq, cases_lt}
 use Rattle.std.proofs.lemmas.List.{length-take-le, take_all}
 use Rattle.std.proofs.lemmas.Bool.Decides.{nat_tests}
 use Rattle.replacement.proofs.Residents.{has-append}
-use Rattle.step_record.specs.Keys.{has_key}
-use Rattle.step_record.specs.Stats.{is_hit, is_miss, is_eviction, one_if}
+use Rattle.engine_base.specs.Keys.{has_key}
+use Rattle.engine_base.specs.Stats.{is_hit, is_miss, is_eviction, one_if}
 use Rattle.optimality.specs.Strategy.{IsStrategy, strategy_misses}
 use Rattle.policy_page.specs.Residents.{IsAccess, AreResidents, KeepsResidents, state_after_all, outcomes_of_all, Outcome}
 use Rattle.queue_cache.proofs.Counting.{hits-misses, count-cons}
@@ -16,7 +16,7 @@ use Rattle.conservative_laws.specs.Conservative.{FillsFirst, misses_on, IsConser
 use Rattle.conservative_laws.proofs.Stretches.{misses-next, once-few, stretch-next, none-hit, at-most-twice, stats-misses, misses-by, lru-misses, empty-conservative}
 use Rattle.step_record.specs.declared.job.Policy.{Policy}
 use Rattle.step_record.specs.declared.job.Policy.TheVariants.{Lru, Fifo, Clock}
-use Rattle.step_record.specs.declared.outcome.Outcome.TheVariants.{Rejected}
+use Rattle.engine_base.specs.declared.outcome.Outcome.TheVariants.{Rejected}
 use Rattle.policy_page.specs.CountedKeys.{keys_of}
 use Rattle.fifo.specs.Fifo.{fifo_act}
 use Rattle.clock.specs.Clock.{clock_act, IsClock}

@@ -3,7 +3,7 @@ use Rattle.std.proofs.Common.{◌≡◌, ℕ, zero, suc, ◌+◌, ◌*◌, ◌�
 use Rattle.std.proofs.Math.Nat.{mul-add, add-mul, mul_left_comm, mul-le-mul_left, le_of_mul-le-mul_left}
 use Rattle.std.proofs.lemmas.Bool.{cases_lt}
 use Rattle.std.proofs.lemmas.Bool.Decides.{nat_tests}
-use Rattle.step_record.specs.Keys.{has_key}
+use Rattle.engine_base.specs.Keys.{has_key}
 use Rattle.clairvoyant.proofs.Belady.{later}
 use Rattle.queue_cache.proofs.Recency.{IsDistinct}
 use Rattle.policy_page.specs.Residents.{times}

@@ -3,9 +3,9 @@ use Rattle.std.proofs.Common.{◌≡◌, ℕ, zero, suc, ◌+◌, ◌<◌, ◌�
 use Rattle.std.proofs.lemmas.Bool.Decides.{nat_tests}
 use Rattle.std.proofs.lemmas.Bool.{cases_lt, lt-ltb, cases_eq}
 use Rattle.std.proofs.lemmas.List.{take-append-drop}
-use Rattle.step_record.specs.Keys.{has_key}
-use Rattle.step_record.specs.Stats.{is_hit}
-use Rattle.step_record.specs.declared.outcome.Outcome.TheVariants.{Hit, Kept, Evicted}
+use Rattle.engine_base.specs.Keys.{has_key}
+use Rattle.engine_base.specs.Stats.{is_hit}
+use Rattle.engine_base.specs.declared.outcome.Outcome.TheVariants.{Hit, Kept, Evicted}
 use Rattle.clairvoyant.proofs.Belady.{later}
 use Rattle.queue_cache.specs.Lru.{distinct_keys, keys_since}
 use Rattle.queue_cache.proofs.Recency.{outcome-residents}

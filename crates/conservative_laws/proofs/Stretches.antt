@@ -4,7 +4,7 @@ use Rattle.std.proofs.lemmas.Bool.Decides.{nat_tests}
 use Rattle.std.proofs.lemmas.Bool.{cases_Bool, cases_eq}
 use Rattle.std.proofs.lemmas.List.{take_more, drop-append-le, length-take-le}
 use Rattle.std.proofs.Math.Seq.{drop-length}
-use Rattle.step_record.specs.Keys.{has_key}
+use Rattle.engine_base.specs.Keys.{has_key}
 use Rattle.queue_cache.specs.Lru.{distinct_keys}
 use Rattle.replacement.proofs.Residents.{has-append}
 use Rattle.optimality.proofs.Optimal.{count_keys, count-short, count-subset, head-has}
@@ -12,7 +12,7 @@ use Rattle.policy_page.specs.Residents.{times}
 use Rattle.policy_page.proofs.Residents.{no-times}
 use Rattle.conservative_laws.specs.Conservative.{stretch, IsConservative}
 use Rattle.std.proofs.Math.Nat.{add-mul, mul-add, mul-le-mul_right, le_of_mul-le-mul_left}
-use Rattle.step_record.specs.Stats.{one_if}
+use Rattle.engine_base.specs.Stats.{one_if}
 use Rattle.step_record.specs.declared.job.Policy.TheVariants.{Lru}
 use Rattle.queue_cache.specs.Design.{Job, has_queues}
 use Rattle.policies.specs.AnyPolicy.{outcomes_on, stats_on}

@@ -1,7 +1,7 @@
 -- What single traces show: Belady's anomaly, and policies that are not conservative.
 use Rattle.std.specs.Prelude.{◌≡◌, ◌⊎◌, ℕ, ◌≤◌, List, [], ◌∷◌}
 use Rattle.step_record.specs.declared.job.Policy.TheVariants.{Fifo, Clock, Sieve, S3Fifo}
-use Rattle.step_record.specs.declared.limits.TheConstants.{MAX_PART_PERCENT}
+use Rattle.engine_base.specs.declared.limits.TheConstants.{MAX_PART_PERCENT}
 use Rattle.policies.specs.AnyPolicy.{Job, stats_on}
 use Rattle.conservative_laws.specs.Conservative.{misses_on, IsConservative}
 

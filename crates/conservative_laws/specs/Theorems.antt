@@ -1,7 +1,7 @@
 -- Conservative caches compete with every strategy. Lru, FIFO and CLOCK are conservative, and no policy that does not
 -- know the trace competes better.
 use Rattle.std.specs.Prelude.{◌≡◌, ◌⊎◌, ℕ, suc, ◌+◌, ◌-◌, ◌*◌, ◌<◌, ◌≤◌, true, false, List, length, slice_index}
-use Rattle.step_record.specs.Keys.{has_key}
+use Rattle.engine_base.specs.Keys.{has_key}
 use Rattle.step_record.specs.declared.job.Policy.TheVariants.{Lru, Fifo, Clock}
 use Rattle.policies.specs.AnyPolicy.{Job, stats_on}
 use Rattle.queue_cache.specs.Design.{Policy, knows_trace}

@@ -2,10 +2,10 @@
 //! direction, and back.
 use super::assertions::assert_equal;
 use adaptive_window::AdaptiveCache;
+use engine_base::{Config, Key, Outcome, Spread};
 use journal::Session;
 use std::process::Abort;
 use std::test::Fail;
-use step_record::{Config, Key, Outcome, Spread};
 
 const fn config(capacity: u32) -> Config {
     Config {

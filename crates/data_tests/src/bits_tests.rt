@@ -1,7 +1,7 @@
 //! Bits in words, and a packed list of them.
 use super::assertions::assert_equal;
+use engine_base::{BitList, bits};
 use std::test::Fail;
-use step_record::{BitList, bits};
 
 #[test]
 fn bits_go_into_words_and_come_back(rt: HostRuntime) -> Result<(), Fail> {

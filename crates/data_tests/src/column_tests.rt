@@ -1,6 +1,6 @@
 //! The columns of keys in a sketch, beside a calculator of its own.
+use engine_base::{Key, Spread};
 use sketch::column;
-use step_record::{Key, Spread};
 
 // Worked out from the rule by a calculator of its own, but for the plain columns of 21 and the mixed ones of 0 in
 // 16 columns, which were worked out by hand.

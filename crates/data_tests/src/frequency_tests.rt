@@ -1,14 +1,14 @@
 //! Approximate access frequencies, beside the definition, which was worked out by a calculator of its own over lists of
 //! keys.
 ghost use Rattle.std.specs.Prelude.{◌≤◌};
-ghost use Rattle.step_record.specs.declared.limits.TheConstants.{MAX_CAPACITY};
+ghost use Rattle.engine_base.specs.declared.limits.TheConstants.{MAX_CAPACITY};
 
 use super::assertions::assert_equal;
 use admission::Frequency;
+use engine_base::{Key, Spread};
 use std::alloc::{AllocError, Global};
 use std::process::Abort;
 use std::test::Fail;
-use step_record::{Key, Spread};
 
 // The squares modulo 7.
 const SQUARES: [Key; 7] = [0, 1, 4, 2, 2, 4, 1];

@@ -1,10 +1,10 @@
 //! Places of keys, and next uses of a trace that comes whole or in pieces.
 use super::assertions::assert_equal;
 use clairvoyant::{NextUse, NextUseFinder};
+use engine_base::{Key, Trace};
 use std::alloc::Global;
 use std::process::Abort;
 use std::test::Fail;
-use step_record::{Key, Trace};
 use trace_index::KeyPlaces;
 
 // A key of more than 4 bytes.

@@ -1,8 +1,8 @@
 //! The buffers of the concurrent cache, filled.
 use super::assertions::assert_equal;
+use engine_base::Item;
 use shell_buffers::{Stripes, Task, WriteTasks};
 use std::test::Fail;
-use step_record::Item;
 
 #[test]
 fn a_stripe_takes_sixteen_items(rt: HostRuntime) -> Result<(), Fail> {

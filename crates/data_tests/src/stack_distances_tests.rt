@@ -1,10 +1,10 @@
 //! Curves and passes over the reuses.
 use super::assertions::assert_equal;
+use engine_base::{Stats, Trace};
 use stack_distances::{Curve, Reuses};
 use std::alloc::{AllocError, Global};
 use std::process::Abort;
 use std::test::Fail;
-use step_record::{Stats, Trace};
 
 // A trace of seven accesses, whose distances are none, none, none, 3, 2, 3, 1.
 fn short_trace(rt: &impl Abort, alloc: Global) -> Result<Trace, AllocError> {

@@ -3,7 +3,7 @@ ghost use Rattle.std.specs.Prelude.{◌≡◌};
 ghost use Rattle.debug_commands.specs.Breakpoints.{first_holding, holds_after, breakpoint_word};
 
 use crate::grammar::Name;
-use step_record::Key;
+use engine_base::Key;
 
 /// Where `run` stops: after a step at which the breakpoint holds.
 #[derive(Clone, Copy)]

@@ -2,8 +2,8 @@
 use Rattle.std.proofs.Common.{◌≡◌, ◌≢◌, ◌∙◌, ◌<◌, ◌+◌, ℕ, zero, suc, Bool, true, false, Option, Some, None, Result, Ok, Err, List, [], ◌∷◌, ◌++◌, length, get_or, refl, ap, sym, subst, arith}
 use Rattle.std.specs.Prelude.{is_err, OnOk, OnErr, IfSome, IfErr}
 use Rattle.streams.specs.Part.{AppendsPart}
-use Rattle.step_record.specs.declared.outcome.Outcome.TheVariants.{Kept}
-use Rattle.step_record.specs.Stats.{is_hit}
+use Rattle.engine_base.specs.declared.outcome.Outcome.TheVariants.{Kept}
+use Rattle.engine_base.specs.Stats.{is_hit}
 use Rattle.debug_commands.specs.Dialogue.{dialogue_of, WritesDialogue}
 use Rattle.debug_commands.specs.Timeline.{TimelineData}
 use Rattle.debug_commands.specs.declared.fault.DebugFault.TheVariants as debug

@@ -3,7 +3,7 @@ use Rattle.std.proofs.Common.{◌≡◌, ◌∙◌, ◌≤◌, ◌<◌, ◌+◌,
 use Rattle.std.specs.Prelude.{slice_index, IfOk, OnErr}
 use Rattle.std.specs.declared.alloc.AllocError.{AllocError}
 use Rattle.std.proofs.lemmas.List.{take_more, take-append-le}
-use Rattle.step_record.specs.History.{data_after, next_data, IsLegal}
+use Rattle.engine_base.specs.History.{data_after, next_data, IsLegal}
 use Rattle.journal.specs.Session.{Entry, SessionState, IsMovedTo}
 use Rattle.policies.specs.AnyPolicy.{Outcome, Job, HasAccessed}
 use Rattle.policies.specs.AnyStep.{any_act}

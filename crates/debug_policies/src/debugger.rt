@@ -2,7 +2,7 @@
 ghost use Rattle.std.specs.Prelude.{◌≡◌, Ok, Err, IfOk, IfErr, IfSome, OnOk, OnErr, [], ◌∷◌, ℕ, true, false};
 ghost use Rattle.debug_commands.specs.Dialogue.{dialogue_of, WritesDialogue};
 ghost use Rattle.policies.specs.FaultyJobs.{faulty_in};
-ghost use Rattle.step_record.specs.Config.{config_fault};
+ghost use Rattle.engine_base.specs.Config.{config_fault};
 ghost use Rattle.debug_policies.specs.ConfigFault.{ReturnsConfig, UntouchedAtConfig};
 ghost use Rattle.debug_policies.specs.TwoPolicies.{access_facts, just_one, left_on_access, policies_timeline};
 ghost use Rattle.debug_policies.specs.TwoPolicies.{IsPartWalk};

@@ -1,7 +1,7 @@
 //! One policy over a trace, in a session that goes back and forth.
 ghost use Rattle.std.specs.Prelude.{◌≡◌, ◌≢◌, ◌≤◌, ◌<◌, ◌+◌, ◌-◌, ◌++◌, Ok, Some, None, IfOk, OnOk, OnErr, [], codes};
 ghost use Rattle.std.specs.Prelude.{◌∷◌, length};
-ghost use Rattle.step_record.specs.Config.{config_fault};
+ghost use Rattle.engine_base.specs.Config.{config_fault};
 ghost use Rattle.step_record.specs.Job.{word_of};
 ghost use Rattle.policies.specs.AnyStep.{any_act};
 ghost use Rattle.debug_policies.specs.OnePolicy.{age_at, counts_line, holds_line, outcome_at, policy_lines};

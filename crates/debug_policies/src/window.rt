@@ -1,6 +1,6 @@
 //! The window of a policy.
 ghost use Rattle.std.specs.Prelude.{◌≡◌, ◌++◌, Ok, OnOk};
-ghost use Rattle.step_record.specs.Config.{config_fault};
+ghost use Rattle.engine_base.specs.Config.{config_fault};
 ghost use Rattle.queue_cache.specs.Design.{design_of};
 ghost use Rattle.debug_policies.specs.Window.{fixed_window, window_in, window_text};
 

@@ -1,7 +1,7 @@
 -- A session at a place of its steps.
 use Rattle.std.proofs.Common.{◌≡◌, ◌∙◌, ◌+◌, ◌-◌, ℕ, zero, suc, Bool, false, Some, Result, Ok, Err, [], ◌∷◌, ◌++◌, length, take, refl, ap, sym, arith}
 use Rattle.std.specs.Prelude.{is_err, nat_lt, slice_get, OnOk}
-use Rattle.step_record.specs.History.{data_after, Entries}
+use Rattle.engine_base.specs.History.{data_after, Entries}
 use Rattle.shell_model.specs.Shell.{Step, Reply, Shell, act}
 use Rattle.debug_replay.specs.Replay.{Entry, entry_facts, step_facts, halves_on_step, state_at}
 

@@ -2,10 +2,10 @@
 use Rattle.std.specs.Prelude.{ℕ, ◌-◌, Bool, true, false, nat_lt, Option, Some, None, [], ◌++◌, length, take}
 use Rattle.std.specs.Prelude.{slice_get}
 use Rattle.std.specs.Borrow.{GName, MutBor}
-pub use Rattle.step_record.specs.declared.entry.Entry.{Entry}
-use Rattle.step_record.specs.declared.step.Act.TheVariants.{Look}
-use Rattle.step_record.specs.declared.step.Reply.TheVariants.{Hit, Full, Lost, Evicted, Rejected}
-use Rattle.step_record.specs.History.{data_after, Entries}
+pub use Rattle.engine_base.specs.declared.entry.Entry.{Entry}
+use Rattle.engine_base.specs.declared.step.Act.TheVariants.{Look}
+use Rattle.engine_base.specs.declared.step.Reply.TheVariants.{Hit, Full, Lost, Evicted, Rejected}
+use Rattle.engine_base.specs.History.{data_after, Entries}
 use Rattle.journal.specs.Session.{SessionState}
 use Rattle.debug_commands.specs.Timeline.{TimelineData}
 use Rattle.debug_commands.specs.declared.breakpoint.StepFacts.{StepFacts}

@@ -8,11 +8,11 @@ ghost use Rattle.streams.specs.Tally.{FailsWhere};
 
 use crate::shell_text::push_shell;
 use debug_commands::{DebugFault, Dialect, StepFacts, Timeline, answer_commands};
+use engine_base::{Act, Key, Reply};
 use journal::Session;
 use journal_text::write_journal;
 use maintenance::Shell;
 use std::alloc::{AllocError, Global};
-use step_record::{Act, Key, Reply};
 use streams::{CountedRead, CountedWrite, CountedWriter};
 
 /// Reads commands line by line and answers each at once, about the session of a concurrent cache: what it holds after

@@ -2,8 +2,8 @@
 use Rattle.std.proofs.Common.{◌≡◌, ℕ, ◌+◌, ◌<◌, ◌≤◌, Some, None, List, take, length, ap, sym, ◌∙◌, arith}
 use Rattle.std.specs.Prelude.{slice_index}
 use Rattle.std.proofs.lemmas.List.{take_more, take_all}
-use Rattle.step_record.specs.declared.limits.TheConstants.{MAX_STEPS}
-use Rattle.step_record.proofs.Limited.{accepted, refused}
+use Rattle.engine_base.specs.declared.limits.TheConstants.{MAX_STEPS}
+use Rattle.engine_base.proofs.Limited.{accepted, refused}
 use Rattle.policy_page.specs.Residents.{Outcome, state_after_all}
 use Rattle.policy_page.proofs.Residents.{state-push}
 use Rattle.demand_cache.specs.DemandCache.{DemandState, demand_access, demand_act, demand_count}

@@ -1,7 +1,7 @@
 -- An access by any policy's plan is that of its definition, so what holds of the definition holds of it.
 use Rattle.std.proofs.lemmas.Bool.Decides.{nat_tests}
 use Rattle.std.proofs.Common.{◌≡◌, ℕ, ◌≤◌, Option, [], List, ◌∷◌, ap, ◌∙◌, sym, subst, refl, arith, Some, None}
-use Rattle.step_record.specs.Keys.{has_key}
+use Rattle.engine_base.specs.Keys.{has_key}
 use Rattle.queue_table.specs.Queues.{Queues, empty_queues}
 use Rattle.policy_page.specs.Residents.{IsAccess, outcomes_of_all}
 use Rattle.queue_moves.specs.Moves.{item_of, Plan, after_all, outcome_of, IsLowPlan, Leaving, outcome_after, evicted}
@@ -20,7 +20,7 @@ use Rattle.demand_cache.specs.DemandQueues.{DemandPolicy, DemandQueues, queues_o
 use Rattle.demand_cache.specs.DemandPolicy.{page_of, plan_by, residents_by, IsStateOf}
 use Rattle.demand_cache.specs.Theorems.{PagesAreSound, DemandKeeps, RunsByPage, HitsAskNothing, AsksWhereOneLeft}
 use Rattle.std.proofs.lemmas.Bool.{cases_Bool}
-use Rattle.step_record.specs.declared.outcome.Outcome.TheVariants.{Hit}
+use Rattle.engine_base.specs.declared.outcome.Outcome.TheVariants.{Hit}
 use Rattle.queue_table.specs.declared.records.Entry.{Entry}
 use Rattle.queue_table.specs.Entries.{oldest_of}
 use Rattle.queue_moves.specs.Undoing.{record_of, MovesAsk}

@@ -1,10 +1,10 @@
 -- What the engine shows, and one access to it as a step.
 use Rattle.std.specs.Prelude.{◌≡◌, ℕ, ◌≤◌, false, Option}
-use Rattle.step_record.specs.declared.limits.TheConstants.{MAX_CAPACITY}
-pub use Rattle.step_record.specs.declared.stats.Stats.{Stats}
-use Rattle.step_record.specs.Keys.{has_key}
-use Rattle.step_record.specs.Stats.{stats_with, stats_without, IsCounted, IsTally}
-use Rattle.step_record.specs.Limited.{limited}
+use Rattle.engine_base.specs.declared.limits.TheConstants.{MAX_CAPACITY}
+pub use Rattle.engine_base.specs.declared.stats.Stats.{Stats}
+use Rattle.engine_base.specs.Keys.{has_key}
+use Rattle.engine_base.specs.Stats.{stats_with, stats_without, IsCounted, IsTally}
+use Rattle.engine_base.specs.Limited.{limited}
 use Rattle.queue_table.specs.Queues.{Item, Queues}
 use Rattle.queue_moves.specs.Moves.{Outcome, Plan, outcome_of, after_all}
 use Rattle.queue_moves.specs.Lists.{QueueLists}

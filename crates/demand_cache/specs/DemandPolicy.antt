@@ -4,7 +4,7 @@ pub use Rattle.step_record.specs.declared.job.Job.{Job}
 use Rattle.step_record.specs.declared.job.Policy.{Policy}
 use Rattle.step_record.specs.declared.job.Policy.TheVariants as word
 use Rattle.step_record.specs.declared.job.Tuning.{Tuning}
-use Rattle.step_record.specs.Job.{part_size}
+use Rattle.engine_base.specs.PartSize.{part_size}
 use Rattle.queue_table.specs.Queues.{Queues}
 use Rattle.queue_moves.specs.Moves.{Plan}
 use Rattle.policy_page.specs.Residents.{Outcome, outcomes_of_all}

@@ -1,7 +1,7 @@
 -- What is known of these policies together.
 use Rattle.std.specs.Prelude.{◌≡◌, ℕ, ◌≤◌, true, List}
-use Rattle.step_record.specs.Stats.{is_eviction}
-use Rattle.step_record.specs.declared.outcome.Outcome.TheVariants.{Hit}
+use Rattle.engine_base.specs.Stats.{is_eviction}
+use Rattle.engine_base.specs.declared.outcome.Outcome.TheVariants.{Hit}
 use Rattle.policy_page.specs.Residents.{KeepsResidents, CountsResidents, outcomes_of_all}
 use Rattle.policy_page.specs.PolicyPage.{IsSoundPage}
 use Rattle.demand_cache.specs.DemandQueues.{DemandPolicy, DemandQueues, empty_cache, queues_act, queues_record_of, queues_asks, queues_residents}

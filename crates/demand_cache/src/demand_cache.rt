@@ -1,7 +1,7 @@
 //! The engine: a cache whose accesses are counted and can be undone.
 ghost use Rattle.std.specs.Prelude.{◌≡◌, ◌+◌, ◌≤◌, ◌↔◌, ◌++◌, [], length, Err, Some, None, IfOk, OnOk, OnErr};
-ghost use Rattle.step_record.specs.declared.limits.TheConstants.{MAX_CAPACITY, MAX_STEPS};
-ghost use Rattle.step_record.specs.Stats.{stats_of};
+ghost use Rattle.engine_base.specs.declared.limits.TheConstants.{MAX_CAPACITY, MAX_STEPS};
+ghost use Rattle.engine_base.specs.Stats.{stats_of};
 ghost use Rattle.queue_table.specs.QueueTable.{queues as queues_at};
 ghost use Rattle.policy_page.specs.Residents.{state_after_all};
 ghost use Rattle.demand_cache.specs.DemandQueues.{empty_cache, queues_residents};
@@ -178,10 +178,10 @@ impl DemandCache {
 
 impl Engine for DemandCache {
     ghost use Rattle.std.specs.Prelude.{refl};
-    ghost use Rattle.step_record.proofs.Limited.{related, ended};
+    ghost use Rattle.engine_base.proofs.Limited.{related, ended};
     ghost use Rattle.demand_cache.specs.DemandCache.{demand_act, demand_record_of, demand_undone, demand_asks, DemandFits};
     ghost use Rattle.demand_cache.specs.DemandCache.{demand_access, demand_count, demand_may_ask};
-    ghost use Rattle.step_record.specs.Pace.{pace_without_sketch, still-paced};
+    ghost use Rattle.engine_base.specs.Pace.{pace_without_sketch, still-paced};
 
     type Step = Key;
 

@@ -1,8 +1,8 @@
 //! The policies that keep each missed key: all that names one of them in code.
 ghost use Rattle.std.specs.Prelude.{◌≡◌, Bool, ℕ, ◌+◌, ◌≤◌, ◌<◌, false, length, Ok, IfOk, OnOk, OnErr, IfSome};
-ghost use Rattle.step_record.specs.Config.{config_fault};
-ghost use Rattle.step_record.specs.Job.{part_size};
-ghost use Rattle.step_record.specs.declared.limits.TheConstants.{MAX_CAPACITY, MAX_STEPS};
+ghost use Rattle.engine_base.specs.Config.{config_fault};
+ghost use Rattle.engine_base.specs.PartSize.{part_size};
+ghost use Rattle.engine_base.specs.declared.limits.TheConstants.{MAX_CAPACITY, MAX_STEPS};
 ghost use Rattle.queue_table.specs.QueueTable.{queues as queues_at};
 ghost use Rattle.queue_table.specs.Queues.{QUEUES, Item, Queues};
 ghost use Rattle.queue_moves.specs.Moves.{Plan, item_of};

@@ -1,6 +1,6 @@
 -- What the undo records of a session hold, by the halvings of its frequency.
 use Rattle.std.proofs.Common.{◌≡◌, ℕ, ◌+◌, ◌-◌, ◌*◌, ◌/◌, ◌≤◌, Some, ap, sym, ◌∙◌, arith, subst}
-use Rattle.step_record.specs.Pace.{Pace}
+use Rattle.engine_base.specs.Pace.{Pace}
 use Rattle.admission.specs.Frequency.{FrequencyData, halving_words}
 use Rattle.queue_cache.specs.QueueCache.{QueueState}
 use Rattle.queue_cache.specs.QueueStep.{pace_by, queue_pace}

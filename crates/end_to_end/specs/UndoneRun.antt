@@ -1,7 +1,7 @@
 -- A run of workers on threads, and what stands once its last steps are undone.
 use Rattle.std.specs.Prelude.{◌≡◌, ◌↔◌, ℕ, ◌-◌, ◌<◌, ◌≤◌, List, [], ◌∷◌, ◌++◌, Option, Some, None, Result, Ok, Err}
 use Rattle.std.specs.Prelude.{OnErr, IfSome, get_or, length, take, drop}
-use Rattle.step_record.specs.History.{data_after, Entries, tail_after}
+use Rattle.engine_base.specs.History.{data_after, Entries, tail_after}
 use Rattle.shell_model.specs.Shell.{Step, Reply, Shell, act}
 pub use Rattle.journal.specs.declared.fault.BackFault.{BackFault}
 use Rattle.journal.specs.declared.fault.BackFault.TheVariants as back

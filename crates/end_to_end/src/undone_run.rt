@@ -1,17 +1,17 @@
 //! The history of a run on threads, in one statement that cites what `drive`, `Session` and `Shell` promise.
 ghost use Rattle.std.specs.Prelude.{◌≡◌, ◌↔◌, ◌-◌, ◌<◌, Err, IfErr, IfOk, OnErr, drop, length, map, take, ◌++◌};
-ghost use Rattle.step_record.specs.History.{data_after};
+ghost use Rattle.engine_base.specs.History.{data_after};
 ghost use Rattle.shell_model.specs.Shell.{act};
 ghost use Rattle.workers.specs.DriveFaults.{LeavesFault};
 ghost use Rattle.end_to_end.specs.UndoneRun.{IsRewound, HasNoSteps, undone_of};
 
 use drive::{Cause, DriveFault, drive};
+use engine_base::{Call, Gate};
 use journal::{BackFault, Session};
 use maintenance::Shell;
 use std::alloc::Global;
 use std::sync::Wait;
 use std::thread::Threads;
-use step_record::{Call, Gate};
 
 /// A run of workers on threads, of which the last steps were undone.
 #[derive(Drop)]

@@ -1,7 +1,7 @@
 //! Runs of a worker on a thread: one that is undone, and one that is read back. A miss with its round is nine steps.
 ghost use Rattle.std.specs.Prelude.{◌≡◌, Ok};
 ghost use Rattle.maintenance.specs.EmptyShell.{IsOpened};
-ghost use Rattle.step_record.specs.Config.{config_fault};
+ghost use Rattle.engine_base.specs.Config.{config_fault};
 
 use super::assertions::assert_equal;
 use super::jobs::SMALL;

@@ -1,7 +1,7 @@
 -- FIFO's plan is its definition.
 use Rattle.std.proofs.Common.{◌≡◌, ℕ, false, nat_lt, None, List, [], ◌∷◌, ◌++◌, length, drop, ap, ◌∙◌, refl, arith}
 use Rattle.std.proofs.lemmas.Bool.{le-ltb}
-use Rattle.step_record.specs.Keys.{has_key, keys_without}
+use Rattle.engine_base.specs.Keys.{has_key, keys_without}
 use Rattle.queue_table.specs.Entries.{entry, oldest_of, occurrences}
 use Rattle.queue_table.specs.Queues.{Queues, after_send}
 use Rattle.queue_table.proofs.QueueLists.{IsAbsent}

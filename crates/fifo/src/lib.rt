@@ -9,10 +9,10 @@ ghost use Rattle.queue_moves.specs.Undoing.{IsAccessed};
 ghost use Rattle.fifo.specs.Plan.{fifo_plan};
 ghost use Rattle.fifo.specs.Examples.{WorkedExamples};
 
+use engine_base::Key;
 use policy_page::accesses::{evicted, hit, kept};
 use queue_moves::{Accessed, KeyMove, KeyQueues, Run};
 use std::alloc::AllocError;
-use step_record::Key;
 
 const QUEUE: u8 = 0;
 

@@ -1,8 +1,8 @@
 -- How a session is kept: its entries, an undo record for each applied step, and how these lead back.
 use Rattle.std.specs.Prelude.{◌≡◌, ℕ, ◌+◌, ◌-◌, ◌≤◌, Option, Some, List, [], ◌∷◌, ◌++◌, length, take, drop, sum_by, min}
-use Rattle.step_record.specs.declared.limits.TheConstants.{MAX_JOURNAL_LIMIT, MAX_STEPS}
-use Rattle.step_record.specs.History.{IsLegal}
-use Rattle.step_record.specs.Pace.{Pace, words_of_halvings}
+use Rattle.engine_base.specs.declared.limits.TheConstants.{MAX_JOURNAL_LIMIT, MAX_STEPS}
+use Rattle.engine_base.specs.History.{IsLegal}
+use Rattle.engine_base.specs.Pace.{Pace, words_of_halvings}
 use Rattle.journal.specs.Session.{Entry, SessionState}
 
 -- what undoing the records, from the last to the first, makes of the data

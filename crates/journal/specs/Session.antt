@@ -1,10 +1,10 @@
 -- A session: an engine with the journal of its steps, and what a session promises of them.
 -- (Defined by this project: the opening state is kept in no field; undo records lead back to it.)
 use Rattle.std.specs.Prelude.{◌≡◌, ℕ, ◌+◌, ◌*◌, ◌/◌, ◌≤◌, Option, List, ◌++◌, length, take, drop}
-pub use Rattle.step_record.specs.declared.entry.Entry.{Entry}
-use Rattle.step_record.specs.declared.limits.TheConstants.{MAX_JOURNAL_LIMIT, MAX_STEPS}
-use Rattle.step_record.specs.History.{data_after, IsLegal}
-use Rattle.step_record.specs.Pace.{Pace}
+pub use Rattle.engine_base.specs.declared.entry.Entry.{Entry}
+use Rattle.engine_base.specs.declared.limits.TheConstants.{MAX_JOURNAL_LIMIT, MAX_STEPS}
+use Rattle.engine_base.specs.History.{data_after, IsLegal}
+use Rattle.engine_base.specs.Pace.{Pace}
 
 -- What callers see of a session.
 pub record SessionState (E D S R : Type 0) : Type 0 where

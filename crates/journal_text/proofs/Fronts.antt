@@ -9,7 +9,7 @@ use Rattle.journal_text.specs.Journal.{begun, ended_line, entry_line, header, Ar
 use Rattle.journal_text.specs.Table.{IsLine}
 use Rattle.journal_text.specs.declared.line.JournalLine.TheVariants.{Made}
 use Rattle.journal_text.specs.declared.version.Version.TheVariants.{One, Two}
-use Rattle.step_record.specs.History.{Entries}
+use Rattle.engine_base.specs.History.{Entries}
 use Rattle.streams.proofs.Feeds.{has_lines, lines_fed, one_unfed}
 use Rattle.streams.specs.Feeds.{lines_of, HasNoFeed}
 

@@ -17,9 +17,9 @@ use Rattle.journal_text.specs.declared.line.JournalLine.TheVariants.{Made, Steps
 use Rattle.journal_text.specs.declared.version.Version.TheVariants.{One, Two}
 use Rattle.journal_text.proofs.Spellings.{number_again}
 use Rattle.journal_text.proofs.Parsed.{wide_back, small_back, act_back, reply_back, some_same, bound, only_taken, wide_taken, small_taken, act_taken, reply_taken}
-use Rattle.step_record.specs.declared.step.Act.TheVariants as act
-use Rattle.step_record.specs.declared.step.Answer.TheVariants as answer
-use Rattle.step_record.specs.declared.step.Reply.TheVariants as reply
+use Rattle.engine_base.specs.declared.step.Act.TheVariants as act
+use Rattle.engine_base.specs.declared.step.Answer.TheVariants as answer
+use Rattle.engine_base.specs.declared.step.Reply.TheVariants as reply
 use Rattle.streams.specs.Numbers.{number_of}
 use Rattle.streams.specs.Reads.{◌>>=◌, at_end}
 

@@ -10,9 +10,9 @@ use Rattle.journal_text.specs.LineGrammar.{Reply, Answer, Act, Item, numeral_of,
 use Rattle.journal_text.specs.Table.{word_text, FitWords, act_word, act_words, answer_reply, item_words, reply_word, reply_words, Word, Named, Stripe, Wide}
 use Rattle.journal_text.specs.declared.table.TheConstants.{ACTS, REPLIES}
 use Rattle.journal_text.proofs.Spellings.{found_named, number_again, number_takes}
-use Rattle.step_record.specs.declared.step.Act.TheVariants as act
-use Rattle.step_record.specs.declared.step.Answer.TheVariants as answer
-use Rattle.step_record.specs.declared.step.Reply.TheVariants as reply
+use Rattle.engine_base.specs.declared.step.Act.TheVariants as act
+use Rattle.engine_base.specs.declared.step.Answer.TheVariants as answer
+use Rattle.engine_base.specs.declared.step.Reply.TheVariants as reply
 use Rattle.streams.specs.Reads.{◌>>=◌, first_named, with_rest}
 
 -- ---- what is spelled is read again

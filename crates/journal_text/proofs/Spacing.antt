@@ -4,8 +4,8 @@ use Rattle.std.proofs.lemmas.List.{append-nil}
 use Rattle.std.specs.Fmt.{decimal}
 use Rattle.journal_text.specs.Journal.{Step, Reply, Entry, ended_line}
 use Rattle.journal_text.specs.Table.{Act, word_text, spaced_words, spaced, act_word, act_words, behind, reply_word, reply_words, entry_words, Word, Named, Worker}
-use Rattle.step_record.specs.declared.step.Act.TheVariants as act
-use Rattle.step_record.specs.declared.step.Reply.TheVariants as reply
+use Rattle.engine_base.specs.declared.step.Act.TheVariants as act
+use Rattle.engine_base.specs.declared.step.Reply.TheVariants as reply
 
 pub spaced_none : spaced [] ≡ []
 unfolding spaced

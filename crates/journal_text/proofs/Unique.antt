@@ -11,9 +11,9 @@ use Rattle.journal_text.specs.declared.version.Version.{Version}
 use Rattle.journal_text.specs.declared.version.Version.TheVariants.{One, Two}
 use Rattle.journal_text.proofs.Fronts.{header_lacks, same_line}
 use Rattle.journal_text.proofs.LineLaws.{entry_printed, line_again, spelled_lacks}
-use Rattle.step_record.specs.declared.step.Reply.{Reply}
-use Rattle.step_record.specs.declared.step.Step.{Step}
-use Rattle.step_record.specs.History.{Entries}
+use Rattle.engine_base.specs.declared.step.Reply.{Reply}
+use Rattle.engine_base.specs.declared.step.Step.{Step}
+use Rattle.engine_base.specs.History.{Entries}
 use Rattle.streams.specs.Feeds.{HasNoFeed}
 
 same_some : {A : Type 0} {x y : A} → Some x ≡ Some y → x ≡ y

@@ -11,8 +11,8 @@ use Rattle.journal_text.specs.Table.{entry_words, is_answer_in, FitWords, IsLine
 use Rattle.journal_text.specs.TextBuffer.{AreFit, IsTextWritten}
 use Rattle.journal_text.specs.declared.line.JournalLine.TheVariants.{Made}
 use Rattle.journal_text.specs.declared.version.Version.TheVariants.{Two}
-use Rattle.step_record.specs.Answers.{is_answer, AnswersItsActs}
-use Rattle.step_record.specs.History.{next_data, IsLegal, Entries}
+use Rattle.engine_base.specs.Answers.{is_answer, AnswersItsActs}
+use Rattle.engine_base.specs.History.{next_data, IsLegal, Entries}
 
 -- more was gathered
 pub gathered : (old new : Option (List ℕ)) (waiting now more bytes all : List ℕ) → now ≡ waiting ++ more → all ≡ bytes ++ more

@@ -10,10 +10,10 @@ use Rattle.journal_text.specs.declared.reader.TheConstants.{MAX_JOURNAL_BYTES}
 pub use Rattle.journal_text.specs.declared.version.Version.{Version}
 use Rattle.journal_text.specs.declared.version.Version.TheVariants.{One, Two}
 use Rattle.journal.specs.Session.{SessionState}
-use Rattle.step_record.specs.History.{data_after, Entries, IsLegal}
-pub use Rattle.step_record.specs.declared.entry.Entry.{Entry}
-pub use Rattle.step_record.specs.declared.step.Reply.{Reply}
-pub use Rattle.step_record.specs.declared.step.Step.{Step}
+use Rattle.engine_base.specs.History.{data_after, Entries, IsLegal}
+pub use Rattle.engine_base.specs.declared.entry.Entry.{Entry}
+pub use Rattle.engine_base.specs.declared.step.Reply.{Reply}
+pub use Rattle.engine_base.specs.declared.step.Step.{Step}
 use Rattle.streams.specs.Feeds.{HasNoFeed}
 
 -- Reading leaves where the session was opened, its limit, no undone step where there was none, and applied steps that

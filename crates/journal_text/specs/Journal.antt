@@ -7,10 +7,10 @@ use Rattle.journal_text.specs.declared.line.JournalLine.TheVariants.{Made, Steps
 use Rattle.journal_text.specs.declared.reader.TheConstants.{MAX_JOURNAL_BYTES}
 pub use Rattle.journal_text.specs.declared.version.Version.{Version}
 use Rattle.journal_text.specs.declared.version.Version.TheVariants.{One, Two}
-use Rattle.step_record.specs.History.{IsLegal, Entries}
-pub use Rattle.step_record.specs.declared.entry.Entry.{Entry}
-pub use Rattle.step_record.specs.declared.step.Reply.{Reply}
-pub use Rattle.step_record.specs.declared.step.Step.{Step}
+use Rattle.engine_base.specs.History.{IsLegal, Entries}
+pub use Rattle.engine_base.specs.declared.entry.Entry.{Entry}
+pub use Rattle.engine_base.specs.declared.step.Reply.{Reply}
+pub use Rattle.engine_base.specs.declared.step.Step.{Step}
 
 abbrev pub header : Version → List ℕ
 header One = codes "cachesim journal 1"

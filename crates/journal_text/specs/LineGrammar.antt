@@ -9,16 +9,16 @@ use Rattle.journal_text.specs.declared.line.JournalLine.TheVariants as line
 use Rattle.journal_text.specs.declared.table.TheConstants.{ACTS, REPLIES}
 pub use Rattle.journal_text.specs.declared.version.Version.{Version}
 use Rattle.journal_text.specs.declared.version.Version.TheVariants.{One, Two}
-pub use Rattle.step_record.specs.declared.entry.Entry.{Entry}
-pub use Rattle.step_record.specs.declared.item.Item.{Item}
-pub use Rattle.step_record.specs.declared.step.Act.{Act}
-use Rattle.step_record.specs.declared.step.Act.TheVariants as act
-pub use Rattle.step_record.specs.declared.step.Answer.{Answer}
-use Rattle.step_record.specs.declared.step.Answer.TheVariants as answer
-pub use Rattle.step_record.specs.declared.step.Reply.{Reply}
-use Rattle.step_record.specs.declared.step.Reply.TheVariants as reply
-pub use Rattle.step_record.specs.declared.step.Step.{Step}
-use Rattle.step_record.specs.declared.worker.TheConstants.{MAX_WORKERS}
+pub use Rattle.engine_base.specs.declared.entry.Entry.{Entry}
+pub use Rattle.engine_base.specs.declared.item.Item.{Item}
+pub use Rattle.engine_base.specs.declared.step.Act.{Act}
+use Rattle.engine_base.specs.declared.step.Act.TheVariants as act
+pub use Rattle.engine_base.specs.declared.step.Answer.{Answer}
+use Rattle.engine_base.specs.declared.step.Answer.TheVariants as answer
+pub use Rattle.engine_base.specs.declared.step.Reply.{Reply}
+use Rattle.engine_base.specs.declared.step.Reply.TheVariants as reply
+pub use Rattle.engine_base.specs.declared.step.Step.{Step}
+use Rattle.engine_base.specs.declared.worker.TheConstants.{MAX_WORKERS}
 use Rattle.streams.specs.Numbers.{number_of}
 use Rattle.streams.specs.Reads.{◌>>=◌, at_end, first_named, with_rest, Reads}
 

@@ -6,17 +6,17 @@ pub use Rattle.journal_text.specs.declared.version.Version.{Version}
 use Rattle.journal_text.specs.declared.version.Version.TheVariants.{One, Two}
 pub use Rattle.journal_text.specs.declared.line.JournalLine.{JournalLine}
 use Rattle.journal_text.specs.declared.line.JournalLine.TheVariants as line
-use Rattle.step_record.specs.Answers.{is_answer}
-use Rattle.step_record.specs.declared.entry.Entry.{Entry}
-pub use Rattle.step_record.specs.declared.item.Item.{Item}
-pub use Rattle.step_record.specs.declared.step.Act.{Act}
-use Rattle.step_record.specs.declared.step.Act.TheVariants as act
-use Rattle.step_record.specs.declared.step.Answer.{Answer}
-use Rattle.step_record.specs.declared.step.Answer.TheVariants as answer
-use Rattle.step_record.specs.declared.step.Reply.{Reply}
-use Rattle.step_record.specs.declared.step.Reply.TheVariants as reply
-use Rattle.step_record.specs.declared.step.Step.{Step}
-use Rattle.step_record.specs.declared.worker.TheConstants.{MAX_WORKERS}
+use Rattle.engine_base.specs.Answers.{is_answer}
+use Rattle.engine_base.specs.declared.entry.Entry.{Entry}
+pub use Rattle.engine_base.specs.declared.item.Item.{Item}
+pub use Rattle.engine_base.specs.declared.step.Act.{Act}
+use Rattle.engine_base.specs.declared.step.Act.TheVariants as act
+use Rattle.engine_base.specs.declared.step.Answer.{Answer}
+use Rattle.engine_base.specs.declared.step.Answer.TheVariants as answer
+use Rattle.engine_base.specs.declared.step.Reply.{Reply}
+use Rattle.engine_base.specs.declared.step.Reply.TheVariants as reply
+use Rattle.engine_base.specs.declared.step.Step.{Step}
+use Rattle.engine_base.specs.declared.worker.TheConstants.{MAX_WORKERS}
 
 -- a word of a line: a name, or the number of a worker, of a stripe, or of a key, a node or a count
 pub data Word : Type 0 where

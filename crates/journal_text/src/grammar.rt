@@ -8,7 +8,7 @@ ghost use Rattle.streams.specs.Reads.{with_rest};
 use super::table::{EQUALS, STEPS, is_answer_in};
 use super::words::JournalWords;
 use super::{JournalLine, Version};
-use step_record::{Act, Entry, Reply, Step};
+use engine_base::{Act, Entry, Reply, Step};
 
 /// The line of the table that the text is, without its line feed.
 pub fn line(version: Version, text: &[u8]) -> Option<JournalLine>

@@ -8,8 +8,8 @@ ghost use Rattle.journal_text.specs.declared.line.JournalLine.TheVariants.{Made,
 ghost use Rattle.journal_text.specs.declared.line_text.TheConstants.{MAX_LINE};
 
 use super::table::{EQUALS, STEPS, act_word, answer_reply, reply_word};
+use engine_base::{Act, Entry, Reply, Step};
 use itoa::Buffer;
-use step_record::{Act, Entry, Reply, Step};
 
 /// The room that is asked for a line and its line feed. A line has nine words at most, each of
 /// at most 20 bytes and with one byte after it.

@@ -1,6 +1,6 @@
 //! A session's journal from a reader.
 ghost use Rattle.std.specs.Prelude.{◌≡◌, ◌<◌, [], Err, OnOk, IfErr, IfSome, length};
-ghost use Rattle.step_record.specs.History.{Entries};
+ghost use Rattle.engine_base.specs.History.{Entries};
 ghost use Rattle.journal_text.specs.Faults.{Accepts, IsFault, IsRefusedAsLarge, IsUnread};
 ghost use Rattle.journal_text.specs.Journal.{IsJournalText};
 ghost use Rattle.journal.specs.Session.{IsSameSession};
@@ -8,9 +8,9 @@ ghost use Rattle.streams.specs.Tally.{FailsWhere};
 
 use super::JournalFault;
 use super::replay::read_text;
+use engine_base::{Engine, Reply, Step};
 use journal::Session;
 use std::alloc::Global;
-use step_record::{Engine, Reply, Step};
 use streams::CountedRead;
 
 /// As many bytes as a journal has at most.

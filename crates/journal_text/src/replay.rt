@@ -5,12 +5,12 @@ ghost use Rattle.streams.specs.Feeds.{HasNoFeed};
 ghost use Rattle.journal_text.specs.Journal.{ended_line, header, IsTextOf};
 ghost use Rattle.journal_text.specs.declared.version.Version.TheVariants.{One};
 ghost use Rattle.journal.specs.Session.{IsSameSession};
-ghost use Rattle.step_record.specs.History.{IsLegal};
+ghost use Rattle.engine_base.specs.History.{IsLegal};
 
 use super::steps::take;
 use super::{JournalFault, Version};
+use engine_base::{Engine, Reply, Step};
 use journal::Session;
-use step_record::{Engine, Reply, Step};
 use streams::cut;
 
 /// Reads the bytes as a journal, into a session that has made no step: makes the step of each line

@@ -1,14 +1,14 @@
 //! The step of a line, made in a session.
 ghost use Rattle.std.specs.Prelude.{◌≡◌, ◌≢◌, true, false, ◌∷◌, [], ◌++◌, ◌+◌, ◌≤◌, length, IfErr, IfOk, OnOk};
 ghost use Rattle.journal_text.specs.Faults.{Version, IsWrong, KeepsSession, TakesLine};
-ghost use Rattle.step_record.specs.History.{IsLegal};
+ghost use Rattle.engine_base.specs.History.{IsLegal};
 ghost use Rattle.journal_text.specs.Table.{text_of, IsLine};
 ghost use Rattle.journal_text.specs.declared.line.JournalLine.TheVariants.{Made};
 
 use super::grammar::line;
 use super::{JournalFault, JournalLine, Version};
+use engine_base::{Engine, Entry, Reply, Step};
 use journal::{Session, SessionFault};
-use step_record::{Engine, Entry, Reply, Step};
 
 /// Takes a line, without its line feed: makes its step, and returns `false`; or it is the count of
 /// the steps that are applied, and `true` says so.

@@ -5,7 +5,7 @@ ghost use Rattle.journal_text.specs.Table.{act_word, answer_reply, is_answer_in,
 ghost use Rattle.streams.specs.Reads.{first_named};
 
 use super::Version;
-use step_record::{Act, Answer, Item, Reply};
+use engine_base::{Act, Answer, Item, Reply};
 
 /// The word between an act and its reply.
 pub const EQUALS: &[u8] = b"=";

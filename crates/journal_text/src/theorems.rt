@@ -5,9 +5,9 @@ ghost use Rattle.journal_text.specs.Journal.{Step, Reply, Version, journal_of, A
 ghost use Rattle.journal_text.specs.Table.{JournalLine, text_of, IsLine};
 ghost use Rattle.journal_text.specs.declared.reader.TheConstants.{MAX_JOURNAL_BYTES};
 ghost use Rattle.journal_text.specs.declared.version.Version.TheVariants.{Two};
-ghost use Rattle.step_record.specs.History.{Entries};
+ghost use Rattle.engine_base.specs.History.{Entries};
 
-use step_record::{Engine, Reply, Step};
+use engine_base::{Engine, Reply, Step};
 
 /// No text is that of two lines of the grammar.
 pub fn one_line()

@@ -1,7 +1,7 @@
 //! A session's journal to a writer.
 ghost use Rattle.std.specs.Prelude.{◌≡◌, ◌≤◌, ◌+◌, Err, OnOk, OnErr, [], true, vec_len, vec_capacity};
 ghost use Rattle.std.specs.Io.KnownBytes.{Appends};
-ghost use Rattle.step_record.specs.Answers.{AnswersItsActs};
+ghost use Rattle.engine_base.specs.Answers.{AnswersItsActs};
 ghost use Rattle.journal_text.specs.Journal.{begun, journal_of, AreLines};
 ghost use Rattle.journal_text.specs.TextBuffer.{AreFit, IsTextWritten};
 ghost use Rattle.streams.specs.Part.{AppendsPart};
@@ -12,9 +12,9 @@ ghost use Rattle.journal_text.specs.declared.version.Version.TheVariants.{Two};
 
 use super::WriteFault;
 use super::line_text::{MAX_LINE, push_bytes, push_count_line, push_entry_line};
+use engine_base::{Engine, Reply, Step};
 use journal::Session;
 use std::alloc::Global;
-use step_record::{Engine, Reply, Step};
 use streams::{CountedWrite, RetryBudget, WriteAllFault, flush, write_some};
 
 // How many bytes are gathered before they are written.

@@ -1,6 +1,6 @@
 -- A session of the concurrent cache in which nothing happened yet.
 use Rattle.std.specs.Prelude.{◌≡◌, [], None}
-use Rattle.step_record.specs.declared.limits.TheConstants.{MAX_JOURNAL_LIMIT}
+use Rattle.engine_base.specs.declared.limits.TheConstants.{MAX_JOURNAL_LIMIT}
 use Rattle.journal.specs.Session.{SessionState}
 use Rattle.shell_model.specs.Shell.{Step, Reply, Shell}
 use Rattle.maintenance.specs.EmptyShell.{Config, IsOpened}

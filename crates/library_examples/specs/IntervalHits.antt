@@ -1,7 +1,7 @@
 -- The hits of a run, interval by interval.
 use Rattle.std.specs.Prelude.{◌≡◌, ◌≢◌, ℕ, List, [], ◌∷◌, take, drop, count_by}
-use Rattle.step_record.specs.declared.outcome.Outcome.{Outcome}
-use Rattle.step_record.specs.Stats.{is_hit}
+use Rattle.engine_base.specs.declared.outcome.Outcome.{Outcome}
+use Rattle.engine_base.specs.Stats.{is_hit}
 
 -- The numbers are the hits of each `every` outcomes, in order; after the last interval, which may be shorter, no
 -- outcome is left.

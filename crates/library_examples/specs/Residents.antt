@@ -1,6 +1,6 @@
 -- Where a session is left that was to go to a number of steps and back.
 use Rattle.std.specs.Prelude.{ℕ, ◌+◌, ◌<◌, length}
-use Rattle.step_record.specs.declared.outcome.Outcome.{Outcome}
+use Rattle.engine_base.specs.declared.outcome.Outcome.{Outcome}
 use Rattle.journal.specs.Session.{SessionState, IsMovedTo}
 use Rattle.journal.specs.declared.fault.GotoFault.{GotoFault}
 use Rattle.journal.specs.declared.fault.GotoFault.TheVariants.{OutOfMemory, PastEnd}

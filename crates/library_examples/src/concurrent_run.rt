@@ -1,7 +1,7 @@
 //! The concurrent cache on threads: driven by workers, settled, written as text and read back.
 ghost use Rattle.std.specs.Prelude.{◌≡◌, Ok, None, IfOk};
-ghost use Rattle.step_record.specs.Config.{config_fault};
-ghost use Rattle.step_record.specs.History.{IsLegal};
+ghost use Rattle.engine_base.specs.Config.{config_fault};
+ghost use Rattle.engine_base.specs.History.{IsLegal};
 ghost use Rattle.shell_model.specs.Shell.{act};
 ghost use Rattle.maintenance.specs.EmptyShell.{IsOpened};
 ghost use Rattle.library_examples.specs.ConcurrentRun.{IsNew};

@@ -1,7 +1,7 @@
 //! A policy over the keys of a trace, and its hits by interval.
 ghost use Rattle.std.specs.Prelude.{◌≡◌, ◌≤◌, Ok, IfOk, take, drop, count_by};
-ghost use Rattle.step_record.specs.Config.{config_fault};
-ghost use Rattle.step_record.specs.Stats.{is_hit};
+ghost use Rattle.engine_base.specs.Config.{config_fault};
+ghost use Rattle.engine_base.specs.Stats.{is_hit};
 ghost use Rattle.policies.specs.AnyPolicy.{outcomes_on};
 ghost use Rattle.library_examples.specs.IntervalHits.{AreHitsByInterval};
 

@@ -1,7 +1,7 @@
 //! A session that goes back and forth.
 ghost use Rattle.std.specs.Prelude.{◌≡◌, ◌++◌, Ok, [], IfOk, IfErr, OnOk, length, take};
-ghost use Rattle.step_record.specs.Config.{config_fault};
-ghost use Rattle.step_record.specs.History.{data_after};
+ghost use Rattle.engine_base.specs.Config.{config_fault};
+ghost use Rattle.engine_base.specs.History.{data_after};
 ghost use Rattle.journal.specs.Session.{IsMovedTo};
 ghost use Rattle.policies.specs.AnyPolicy.{any_residents, HasAccessed};
 ghost use Rattle.policies.specs.AnyStep.{any_act};

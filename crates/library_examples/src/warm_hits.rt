@@ -1,6 +1,6 @@
 //! Hits after a warm-up.
 ghost use Rattle.std.specs.Prelude.{◌≡◌, Ok};
-ghost use Rattle.step_record.specs.Config.{config_fault};
+ghost use Rattle.engine_base.specs.Config.{config_fault};
 
 use policies::AnyPolicy;
 use std::alloc::{AllocError, Global};

@@ -1,6 +1,6 @@
 //! Workers side by side.
 ghost use Rattle.std.specs.Prelude.{◌≡◌, ◌≤◌, ◌<◌, ℕ, Ok, IfOk, map, vec_len, slice_index_or};
-ghost use Rattle.step_record.specs.declared.worker.TheConstants.{MAX_WORKERS};
+ghost use Rattle.engine_base.specs.declared.worker.TheConstants.{MAX_WORKERS};
 ghost use Rattle.turn_book.specs.declared.book.TheConstants.{MAX_TURNS};
 ghost use Rattle.turn_book.specs.Passes.{id_of};
 ghost use Rattle.library_examples.specs.LogLines.{IsFresh, IsWritten, Wrote};

@@ -2,7 +2,7 @@
 use Rattle.std.proofs.Common.{◌≡◌, ℕ, suc, ◌+◌, ◌*◌, ◌<◌, ◌≤◌, List, [], ◌∷◌, ◌++◌, length, take, sym, ap, subst, ◌∙◌, arith, length-append}
 use Rattle.std.specs.Int.{div_ceil}
 use Rattle.std.proofs.lemmas.List.{take_all}
-use Rattle.step_record.specs.Stats.{stats_of}
+use Rattle.engine_base.specs.Stats.{stats_of}
 use Rattle.policies.specs.AnyPolicy.{Stats, Outcome, Job, HasAccessed, outcomes_on, stats_in}
 use Rattle.policies.proofs.FirstAccesses.{first-counts}
 use Rattle.policies.proofs.StepLaws.{any_covers_trace}

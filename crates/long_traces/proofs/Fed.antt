@@ -3,7 +3,7 @@ use Rattle.std.proofs.Common.{◌≡◌, ℕ, ◌+◌, ◌≤◌, List, [], ◌+
 use Rattle.std.specs.Result.{is_ok}
 use Rattle.std.proofs.Math.Seq.{drop-append_seam, take-add}
 use Rattle.std.proofs.lemmas.List.{drop-take, append_cancel_right, take_all}
-use Rattle.step_record.specs.declared.limits.TheConstants.{MAX_STEPS}
+use Rattle.engine_base.specs.declared.limits.TheConstants.{MAX_STEPS}
 use Rattle.long_traces.specs.Taking.{AreNext, CanTake, HasTakenAll, IsFed}
 
 -- keys behind the beginning of a trace, with which it goes on

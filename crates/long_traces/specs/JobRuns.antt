@@ -1,7 +1,7 @@
 -- What a run of a job has of a trace whose accesses come in pieces.
 use Rattle.std.specs.Prelude.{◌≡◌, ◌≤◌, ◌<◌, ℕ, ◌+◌, ◌*◌, List, length, map, take}
 use Rattle.std.specs.List.{All}
-use Rattle.step_record.specs.Stats.{stats_of}
+use Rattle.engine_base.specs.Stats.{stats_of}
 use Rattle.policies.specs.AnyPolicy.{HasAccessed, outcomes_on}
 use Rattle.sweeps.specs.Intervals.{first_intervals}
 use Rattle.long_traces.specs.Taking.{Task}

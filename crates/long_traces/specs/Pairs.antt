@@ -1,6 +1,6 @@
 -- What two caches have of a trace whose accesses come in pieces.
 use Rattle.std.specs.Prelude.{◌≡◌, ◌≤◌, ℕ, ◌+◌, IfNone, IfSome, List, [], ◌∷◌, Some, length, take}
-use Rattle.step_record.specs.declared.limits.TheConstants.{MAX_STEPS}
+use Rattle.engine_base.specs.declared.limits.TheConstants.{MAX_STEPS}
 use Rattle.policies.specs.AnyPolicy.{Job, HasAccessed, outcomes_on}
 use Rattle.policy_comparison.specs.Comparison.{hits_beside}
 use Rattle.policy_comparison.specs.ComparedRows.{HasCounted}

@@ -1,8 +1,8 @@
 -- What takes the accesses of a trace, piece by piece.
 use Rattle.std.specs.Prelude.{◌≡◌, ◌≤◌, ℕ, ◌+◌, false, List, Ok, Option, IfSome, length, drop, take}
-use Rattle.step_record.specs.Config.{config_fault}
+use Rattle.engine_base.specs.Config.{config_fault}
 pub use Rattle.step_record.specs.declared.job.Job.{Job}
-use Rattle.step_record.specs.declared.limits.TheConstants.{MAX_STEPS}
+use Rattle.engine_base.specs.declared.limits.TheConstants.{MAX_STEPS}
 use Rattle.queue_cache.specs.Design.{knows_trace}
 
 -- what accesses are taken for: jobs, and how many accesses an interval has

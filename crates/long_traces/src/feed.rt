@@ -1,6 +1,6 @@
 //! How the accesses of a trace reach what takes them while it is read.
 ghost use Rattle.std.specs.Prelude.{◌≡◌, ◌≤◌, ◌+◌, ℕ, List, Option, Some, Err, IfOk, IfSome, OnOk, length, take, drop};
-ghost use Rattle.step_record.specs.declared.limits.TheConstants.{MAX_STEPS};
+ghost use Rattle.engine_base.specs.declared.limits.TheConstants.{MAX_STEPS};
 ghost use Rattle.streams.specs.Tally.{FailsWhere};
 ghost use Rattle.trace_read.specs.ReadTrace.{IsReadWithin};
 ghost use Rattle.trace_read.specs.TraceText.{AreOfFile};
@@ -121,7 +121,7 @@ struct Fed<S: ReadTrace, K: Taker> {
 
 impl<S: ReadTrace, K: Taker> Model for Fed<S, K> {
     ghost use Rattle.std.specs.Prelude.{◌≡◌, ◌≤◌, ℕ, true};
-    ghost use Rattle.step_record.specs.declared.limits.TheConstants.{MAX_STEPS};
+    ghost use Rattle.engine_base.specs.declared.limits.TheConstants.{MAX_STEPS};
     ghost use Rattle.long_traces.specs.Taking.{IsFed};
 
     ghost Value = { K × ℕ };

@@ -1,6 +1,6 @@
 -- An eviction that was carried out by its plan is the definition's.
 use Rattle.std.proofs.Common.{◌≡◌, Bool, Option, Some, None, ap, subst, sym, ◌∙◌, refl}
-use Rattle.step_record.specs.declared.drain.Phase.TheVariants.{Evictions}
+use Rattle.engine_base.specs.declared.drain.Phase.TheVariants.{Evictions}
 use Rattle.segments.specs.Queues.{Queues, IsDistinct}
 use Rattle.replacement.specs.Table.{Outcome, Item, Response}
 use Rattle.replacement.specs.Rules.{three_queues}

@@ -1,8 +1,8 @@
 -- What the core's step ensures gives what the engine promises of every reachable state.
 use Rattle.std.proofs.Common.{◌≡◌, ◌+◌, Some, subst, sym, Ok, Err, Result}
 use Rattle.std.specs.Prelude.{IfOk, OnErr}
-use Rattle.step_record.specs.declared.engine.StepFault.{StepFault}
-use Rattle.step_record.specs.Pace.{words_of_halvings}
+use Rattle.engine_base.specs.declared.engine.StepFault.{StepFault}
+use Rattle.engine_base.specs.Pace.{words_of_halvings}
 use Rattle.admission.specs.Frequency.{pace_of}
 use Rattle.shell_model.specs.declared.record.ShellRecord.{ShellRecord}
 use Rattle.shell_model.specs.Shell.{Reply, Step, Shell, act}

@@ -1,7 +1,7 @@
 -- A shell just opened, and what its readers show.
 use Rattle.std.specs.Prelude.{◌≡◌, ℕ}
-pub use Rattle.step_record.specs.declared.config.Config.{Config}
-pub use Rattle.step_record.specs.declared.drain.Phase.{Phase}
+pub use Rattle.engine_base.specs.declared.config.Config.{Config}
+pub use Rattle.engine_base.specs.declared.drain.Phase.{Phase}
 use Rattle.admission.specs.Shape.{Shape}
 pub use Rattle.shell_model.specs.declared.holder.Holder.{Holder}
 use Rattle.shell_model.specs.Shell.{Shell}

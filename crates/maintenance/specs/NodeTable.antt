@@ -1,6 +1,6 @@
 -- The entries of a map from keys to nodes, as items.
 use Rattle.std.specs.Prelude.{ℕ, List, [], ◌∷◌}
-use Rattle.step_record.specs.declared.item.Item.{Item}
+use Rattle.engine_base.specs.declared.item.Item.{Item}
 
 abbrev pub table_items : List (ℕ × ℕ) → List Item
 table_items [] = []

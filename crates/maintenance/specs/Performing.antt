@@ -1,6 +1,6 @@
 -- What performing an act makes, and which acts may be out of memory.
 use Rattle.std.specs.Prelude.{◌≡◌, ℕ, ◌≤◌, Option, Some, None}
-use Rattle.step_record.specs.declared.step.Act.TheVariants.{Put, DrainRead, DrainWrite}
+use Rattle.engine_base.specs.declared.step.Act.TheVariants.{Put, DrainRead, DrainWrite}
 pub use Rattle.shell_model.specs.declared.holder.Holder.{Holder}
 use Rattle.shell_model.specs.declared.record.Change.{Change}
 use Rattle.shell_model.specs.Changes.{after_change}

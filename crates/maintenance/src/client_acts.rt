@@ -1,16 +1,16 @@
 //! What readers and writers do.
 ghost use Rattle.std.specs.Prelude.{◌≡◌, ◌<◌, length, Some, None, IfOk, OnErr};
-ghost use Rattle.step_record.specs.declared.limits.TheConstants.{MAX_STEPS};
+ghost use Rattle.engine_base.specs.declared.limits.TheConstants.{MAX_STEPS};
 ghost use Rattle.shell_model.specs.declared.record.Change.TheVariants.{Requested};
 ghost use Rattle.shell_model.specs.Changes.{after_change};
 ghost use Rattle.shell_model.specs.Shell.{look_reply, node_of, put_reply, remove_at, begin_reply, offer_reply};
 ghost use Rattle.shell_model.specs.Shell.{after_write, after_read, held_by};
 
 use crate::shell_core::ShellCore;
+use engine_base::{Answer, Drain, Item, Key, Phase, Reply, Worker};
 use shell_buffers::{MAX_TASKS, Task};
 use shell_model::{Change, Holder};
 use std::alloc::AllocError;
-use step_record::{Answer, Drain, Item, Key, Phase, Reply, Worker};
 
 impl ShellCore {
     pub(crate) fn look(&self, key: Key) -> Reply

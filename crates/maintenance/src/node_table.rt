@@ -4,10 +4,10 @@ ghost use Rattle.segments.specs.Items.{items_without};
 ghost use Rattle.shell_model.specs.Shell.{node_of, table_with, is_listed};
 ghost use Rattle.maintenance.specs.NodeTable.{table_items};
 
+use engine_base::{Item, Key, Node};
 use std::alloc::{AllocError, Global};
 use std::collections::BTreeMap;
 use std::marker::Model;
-use step_record::{Item, Key, Node};
 
 /// The keys of the cache with their nodes, shown as a list of items in the order of their keys.
 #[derive(Drop)]
@@ -17,7 +17,7 @@ pub(crate) struct NodeTable {
 
 impl Model for NodeTable {
     ghost use Rattle.std.specs.Prelude.{List};
-    ghost use Rattle.step_record.specs.declared.item.Item.{Item as ItemValue};
+    ghost use Rattle.engine_base.specs.declared.item.Item.{Item as ItemValue};
     ghost use Rattle.maintenance.specs.NodeTable.{table_items};
     ghost use Rattle.shell_model.specs.Consistency.{IsAscending};
 

@@ -1,9 +1,9 @@
 //! The acts of a round of maintenance: it drains the reads and the writes, evicts, and ends.
 ghost use Rattle.std.specs.Prelude.{◌≡◌, ◌<◌, ◌≤◌, true, false, length, Some, None};
 ghost use Rattle.std.specs.Prelude.{IfOk, IsSome, OnOk, OnErr};
-ghost use Rattle.step_record.specs.declared.item.Item.{Item as ItemValue};
-ghost use Rattle.step_record.specs.declared.limits.TheConstants.{MAX_STEPS};
-ghost use Rattle.step_record.specs.declared.step.Act.TheVariants as act;
+ghost use Rattle.engine_base.specs.declared.item.Item.{Item as ItemValue};
+ghost use Rattle.engine_base.specs.declared.limits.TheConstants.{MAX_STEPS};
+ghost use Rattle.engine_base.specs.declared.step.Act.TheVariants as act;
 ghost use Rattle.shell_buffers.specs.declared.task.Task.TheVariants.{Add};
 ghost use Rattle.shell_buffers.specs.Buffers.{stripe_at};
 ghost use Rattle.segments.specs.Queues.{IsDistinct, queue_holding};
@@ -23,12 +23,12 @@ ghost use Rattle.maintenance.specs.Performing.{HasTask, IsPerformed};
 
 use crate::shell_core::ShellCore;
 use admission::{FreqRecord, Frequency};
+use engine_base::{Drain, Item, Key, Outcome, Phase, Reply, Worker};
 use replacement::{Effect, KeptMoves, Moves, Rules};
 use segments::{MoveRecord, Queue, Segments};
 use shell_buffers::Task;
 use shell_model::{Change, EvictionRecord, Holder, UseRecord};
 use std::alloc::AllocError;
-use step_record::{Drain, Item, Key, Outcome, Phase, Reply, Worker};
 
 impl ShellCore {
     /// Drains the oldest item of a read buffer, or gives `None` where the act may not come now.

@@ -1,8 +1,8 @@
 //! The shell as an engine.
 ghost use Rattle.std.specs.Prelude.{◌≡◌, ◌<◌, ◌≤◌, Ok, Some, None, IfOk, length};
 ghost use Rattle.std.specs.Prelude.{option_map};
-ghost use Rattle.step_record.specs.declared.limits.TheConstants.{MAX_STRIPES};
-ghost use Rattle.step_record.specs.Config.{config_fault};
+ghost use Rattle.engine_base.specs.declared.limits.TheConstants.{MAX_STRIPES};
+ghost use Rattle.engine_base.specs.Config.{config_fault};
 ghost use Rattle.segments.specs.Queues.{queue_of};
 ghost use Rattle.shell_buffers.specs.Buffers.{stripe_at};
 ghost use Rattle.shell_model.specs.Shell.{node_of};
@@ -12,13 +12,13 @@ ghost use Rattle.maintenance.specs.EmptyShell.{IsOpened, holder_parts};
 use crate::node_table::NodeTable;
 use crate::shell_core::ShellCore;
 use admission::Frequency;
+use engine_base::{Config, Drain, Engine, Item, Key, Node, Phase, Reply, Step, StepFault, Worker};
 use replacement::Rules;
 use segments::{Queue, Segments};
 use shell_buffers::{Stripes, Task, WriteTasks};
 use shell_model::{Change, ShellRecord, ShellStats};
 use std::alloc::{AllocError, Global};
 use std::marker::Model;
-use step_record::{Config, Drain, Engine, Item, Key, Node, Phase, Reply, Step, StepFault, Worker};
 
 /// The concurrent cache: a table from keys to nodes, three queues, read buffers, a write queue, an access
 /// frequency, and the state of the maintenance. It takes steps of readers, writers and the maintenance, in any order,
@@ -110,7 +110,7 @@ impl Shell {
 
     /// How many read buffers there are: 1 to [`MAX_STRIPES`].
     ///
-    /// [`MAX_STRIPES`]: step_record::MAX_STRIPES
+    /// [`MAX_STRIPES`]: engine_base::MAX_STRIPES
     pub fn stripes(&self) -> u8
         ensures stripes { result ≡ self.now.config.stripes }
         ensures count { length self.now.stripes ≡ result }

@@ -1,6 +1,6 @@
 //! The parts of the shell together, and one step of it.
 ghost use Rattle.std.specs.Prelude.{◌≡◌, ◌<◌, ◌≤◌, ◌↔◌, Some, None, IfOk, OnErr, Err, IsSome};
-ghost use Rattle.step_record.specs.declared.limits.TheConstants.{MAX_STEPS};
+ghost use Rattle.engine_base.specs.declared.limits.TheConstants.{MAX_STEPS};
 ghost use Rattle.shell_model.specs.Shell.{act as acted, act_reply, in_phase};
 ghost use Rattle.shell_model.specs.Records.{shell_record_of};
 ghost use Rattle.shell_model.specs.ShellStats.{AreAtMost};
@@ -9,13 +9,13 @@ ghost use Rattle.maintenance.specs.Performing.{IsPerformed, MayAllocate};
 
 use crate::node_table::NodeTable;
 use admission::Frequency;
+use engine_base::{Act, Config, Drain, MAX_STEPS, Phase, Reply, Step, StepFault, Worker};
 use replacement::Rules;
 use segments::Segments;
 use shell_buffers::{Stripes, WriteTasks};
 use shell_model::{Change, Counted, Holder, ShellRecord, ShellStats};
 use std::alloc::AllocError;
 use std::marker::Model;
-use step_record::{Act, Config, Drain, MAX_STEPS, Phase, Reply, Step, StepFault, Worker};
 
 /// The state of a shell. Its invariant only bounds its numbers; the shell around it keeps that it is reachable.
 #[derive(Drop)]
@@ -36,7 +36,7 @@ pub(crate) struct ShellCore {
 
 impl Model for ShellCore {
     ghost use Rattle.std.specs.Prelude.{◌≡◌, ◌≤◌};
-    ghost use Rattle.step_record.specs.declared.limits.TheConstants.{MAX_STEPS};
+    ghost use Rattle.engine_base.specs.declared.limits.TheConstants.{MAX_STEPS};
     ghost use Rattle.shell_model.specs.Shell.{Shell};
     ghost use Rattle.shell_model.specs.Consistency.{IsLeft};
     ghost use Rattle.replacement.specs.Rules.{three_queues};

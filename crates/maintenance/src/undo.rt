@@ -10,11 +10,11 @@ ghost use Rattle.shell_model.specs.declared.record.Change.TheVariants.{Applied, 
 
 use crate::shell_core::ShellCore;
 use admission::{FreqRecord, Frequency};
+use engine_base::{Item, Phase};
 use segments::MoveRecord;
 use shell_buffers::Task;
 use shell_model::{Change, EvictionRecord, ShellRecord, UseRecord};
 use std::alloc::AllocError;
-use step_record::{Item, Phase};
 
 impl ShellCore {
     /// Undoes the step that the record is of. Where it finds no memory, it hands the record back.

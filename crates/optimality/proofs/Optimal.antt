@@ -2,16 +2,16 @@
 use Rattle.std.proofs.Common.{◌≡◌, ℕ, ◌+◌, ◌≤◌, Bool, true, false, cond, eqb, List, [], ◌∷◌, length, refl, arith, suc, ◌<◌, nat_lt, Option, Some, None, get_or, ap, ◌∙◌, sym, inl, inr, ◌⊎◌, zero}
 use Rattle.std.proofs.lemmas.Bool.{eq-eqb, cases_eq, cases_Bool, eqb-true, lt-ltb, le-ltb, cond_both, cases_lt, ltb-false}
 use Rattle.std.proofs.lemmas.Bool.Decides.{nat_tests}
-use Rattle.step_record.specs.Stats.{one_if}
-use Rattle.step_record.specs.Keys.{has_key, keys_without}
+use Rattle.engine_base.specs.Stats.{one_if}
+use Rattle.engine_base.specs.Keys.{has_key, keys_without}
 use Rattle.clairvoyant.specs.Keys.{IsAscendingKeys, residents_with}
 use Rattle.clairvoyant.proofs.Keys.{has-without, below-none, has-put, ascending-put, ascending-without}
 use Rattle.clairvoyant.proofs.Belady.{later, residents-ascending, put-has, without-has, served-has, soon, farthest-in, full-length, hit-resident, residents-fit}
-use Rattle.step_record.proofs.Counting.{one-few, stats-snoc}
+use Rattle.engine_base.proofs.Counting.{one-few, stats-snoc}
 use Rattle.trace_index.specs.Uses.{next_from}
 use Rattle.clairvoyant.specs.Belady.{further, leaves_first, farthest, belady_residents_after, belady_residents, belady_outcome, belady_outcomes}
 use Rattle.trace_index.proofs.Uses.{next-own, next-other, next-found}
-use Rattle.step_record.specs.declared.stats.Stats.{Stats}
+use Rattle.engine_base.specs.declared.stats.Stats.{Stats}
 use Rattle.optimality.specs.Strategy.{IsStrategy, strategy_hits}
 use Rattle.optimality.specs.Theorems.{belady_hits, BeladyIsOptimal, BeladyIsStrategy, BeladyHitsGrow}
 

@@ -1,7 +1,7 @@
 -- Where no job is faulty, each one's configuration is accepted.
 use Rattle.std.proofs.Common.{◌≡◌, ℕ, zero, suc, ◌+◌, ◌<◌, Option, None, Result, Ok, Err, List, [], ◌∷◌, length, refl, arith}
 use Rattle.std.specs.Prelude.{slice_index_or}
-use Rattle.step_record.specs.Config.{config_fault}
+use Rattle.engine_base.specs.Config.{config_fault}
 use Rattle.policies.specs.FaultyJobs.{ActorFault, Job, ConfigFault, config_or, faulty_from}
 
 both : (r : Result (Unit {0}) ConfigFault) (i : ℕ) (next : Option ActorFault) → config_or r i next ≡ None → (r ≡ Ok tt) × (next ≡ None)

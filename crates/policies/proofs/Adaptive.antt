@@ -2,9 +2,9 @@
 use Rattle.std.proofs.lemmas.Bool.Decides.{nat_tests}
 use Rattle.std.proofs.Common.{◌≡◌, ℕ, ◌+◌, ◌≤◌, Result, Ok, List, [], ◌∷◌, ◌++◌, length, ap, ◌∙◌, sym, refl, subst, arith, append-nil, append_assoc}
 use Rattle.std.proofs.lemmas.List.{length-map}
-use Rattle.step_record.specs.Config.{config_fault}
-use Rattle.step_record.specs.Stats.{stats_of, stats_with}
-use Rattle.step_record.proofs.Counting.{stats-snoc}
+use Rattle.engine_base.specs.Config.{config_fault}
+use Rattle.engine_base.specs.Stats.{stats_of, stats_with}
+use Rattle.engine_base.proofs.Counting.{stats-snoc}
 use Rattle.policy_page.specs.Residents.{Outcome, state_after_all, outcomes_of_all}
 use Rattle.adaptive_window.specs.AdaptiveCache.{AdaptiveCacheState, cache_access}
 use Rattle.adaptive_window.specs.Residents.{cache_residents, IsCache, CacheKeeps}

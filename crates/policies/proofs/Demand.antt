@@ -5,9 +5,9 @@ use Rattle.std.specs.List.{count_by}
 use Rattle.std.proofs.lemmas.Bool.{cases_Bool, eqb-true}
 use Rattle.std.proofs.lemmas.List.{length-map}
 use Rattle.std.proofs.lemmas.List.Sums.{sum_by-cons}
-use Rattle.step_record.specs.Keys.{has_key}
-use Rattle.step_record.specs.Stats.{stats_of, stats_with, one_if}
-use Rattle.step_record.proofs.Counting.{stats-snoc}
+use Rattle.engine_base.specs.Keys.{has_key}
+use Rattle.engine_base.specs.Stats.{stats_of, stats_with, one_if}
+use Rattle.engine_base.proofs.Counting.{stats-snoc}
 use Rattle.policy_page.specs.Residents.{Outcome, times, IsAccess, AreResidents, KeepsResidents, state_after_all, outcomes_of_all}
 use Rattle.policy_page.proofs.Residents.{times-none, times-some, counts-residents, state-push, outcomes-push, outcomes-long, kept-after}
 use Rattle.demand_cache.specs.DemandQueues.{DemandQueues, empty_cache, queues_act, queues_residents, IsQueues}
@@ -16,7 +16,7 @@ use Rattle.demand_cache.specs.Theorems.{DemandKeeps}
 use Rattle.demand_cache.proofs.Keeping.{page-outcomes}
 use Rattle.demand_cache.specs.declared.demand_policy.DemandPolicy.{DemandPolicy}
 use Rattle.demand_cache.specs.DemandPolicy.{Job, demand_policy}
-use Rattle.step_record.specs.declared.limits.TheConstants.{MAX_STEPS}
+use Rattle.engine_base.specs.declared.limits.TheConstants.{MAX_STEPS}
 use Rattle.policies.specs.declared.any_policy.AnyPolicy.TheVariants.{Demand}
 use Rattle.policies.specs.Accesses.{IsNext}
 use Rattle.policies.specs.AnyPolicy.{IsDemandAfter, demand_run, demand_outcomes}

@@ -5,15 +5,15 @@ use Rattle.std.proofs.lemmas.Bool.{cases_lt}
 use Rattle.std.proofs.lemmas.List.{get_or_append_left, take_more}
 use Rattle.std.proofs.Math.Seq.{get_or-append_seam}
 use Rattle.clairvoyant.specs.Belady.{Outcome, belady_outcomes, belady_outcome as outcome_at, belady_residents}
-use Rattle.step_record.specs.declared.limits.TheConstants.{MAX_STEPS}
-use Rattle.step_record.specs.declared.outcome.Outcome.TheVariants.{Hit, Rejected}
-use Rattle.step_record.specs.Stats.{is_eviction, stats_of, is_hit, one_if}
+use Rattle.engine_base.specs.declared.limits.TheConstants.{MAX_STEPS}
+use Rattle.engine_base.specs.declared.outcome.Outcome.TheVariants.{Hit, Rejected}
+use Rattle.engine_base.specs.Stats.{is_eviction, stats_of, is_hit, one_if}
 use Rattle.clairvoyant.specs.Theorems.{ClairvoyantStepLaw, ClairvoyantAccepts}
 use Rattle.clairvoyant.specs.Clairvoyant.{ClairvoyantState, clairvoyant_at, clairvoyant_act, Stats}
 use Rattle.policies.specs.declared.any_policy.AnyPolicy.TheVariants.{Queues, Optimal, Demand, Adaptive}
 use Rattle.queue_cache.specs.QueueCache.{Job, state_after, outcomes_after, QueueState}
-use Rattle.step_record.specs.Limited.{lifted}
-use Rattle.step_record.proofs.Limited.{accepted-in, refused-in, accepted-where}
+use Rattle.engine_base.specs.Limited.{lifted}
+use Rattle.engine_base.proofs.Limited.{accepted-in, refused-in, accepted-where}
 use Rattle.queue_cache.specs.QueueStep.{queue_access, queue_count, recorded_in}
 use Rattle.demand_cache.specs.DemandCache.{demand_access, demand_count}
 use Rattle.demand_cache.specs.DemandQueues.{queues_act, empty_cache, DemandQueues, queues_residents, IsQueues}
@@ -38,14 +38,14 @@ use Rattle.std.specs.List.{count_by}
 use Rattle.segments.specs.Queues.{residents_in}
 use Rattle.std.proofs.lemmas.List.Sums.{sum_by-cons}
 use Rattle.policy_page.proofs.Residents.{counts-residents}
-use Rattle.step_record.specs.Config.{config_fault}
+use Rattle.engine_base.specs.Config.{config_fault}
 use Rattle.queue_cache.proofs.Counting.{after-counts, hits-misses}
-use Rattle.step_record.specs.Keys.{has_key}
+use Rattle.engine_base.specs.Keys.{has_key}
 use Rattle.clairvoyant.specs.Keys.{IsAscendingKeys}
 use Rattle.clairvoyant.proofs.Belady.{residents-ascending, served-has, hit-resident, residents-fit as belady-residents-fit}
 use Rattle.clairvoyant.proofs.Reached.{held-count}
 use Rattle.clairvoyant.proofs.Listing.{times-sum, times-has}
-use Rattle.step_record.proofs.Counting.{one-few}
+use Rattle.engine_base.proofs.Counting.{one-few}
 use Rattle.policies.specs.Residents.{StatsAddUp, MissesFit, ResidentsFit, ResidentsDistinct, ResidentsCounted, HitsAreResidents, FetchesOnDemand}
 use Rattle.replacement.proofs.Residents.{residents-length, resident-queued, resident-once}
 use Rattle.queue_cache.proofs.Balance.{IsBalancedCache, step-balanced, after-balanced, residents-fit, came-from}

@@ -1,7 +1,7 @@
 -- Accesses that a cache is ready for.
 use Rattle.std.specs.Prelude.{◌≡◌, ℕ, ◌≤◌, List, ◌++◌, length}
 pub use Rattle.step_record.specs.declared.job.Job.{Job}
-use Rattle.step_record.specs.declared.limits.TheConstants.{MAX_STEPS}
+use Rattle.engine_base.specs.declared.limits.TheConstants.{MAX_STEPS}
 pub use Rattle.policies.specs.declared.any_policy.AnyPolicy.{AnyPolicy}
 use Rattle.policies.specs.AnyPolicy.{HasAccessed}
 

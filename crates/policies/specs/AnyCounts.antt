@@ -1,10 +1,10 @@
 -- How the count of accesses and the age of the frequency go on in a cache of any policy.
 use Rattle.std.specs.Prelude.{◌≡◌, ℕ, ◌+◌, true, Option, Some, None}
 use Rattle.std.proofs.Common.{ap, sym, subst}
-use Rattle.step_record.specs.declared.limits.TheConstants.{MAX_STEPS}
-use Rattle.step_record.specs.Pace.{IsPaced, still-paced}
-use Rattle.step_record.specs.Limited.{lifted}
-use Rattle.step_record.proofs.Limited.{accepted-where, accepted-in, ended}
+use Rattle.engine_base.specs.declared.limits.TheConstants.{MAX_STEPS}
+use Rattle.engine_base.specs.Pace.{IsPaced, still-paced}
+use Rattle.engine_base.specs.Limited.{lifted}
+use Rattle.engine_base.proofs.Limited.{accepted-where, accepted-in, ended}
 use Rattle.adaptive_window.specs.AdaptiveCache.{Outcome, cache_access, cache_count, cache_pace}
 use Rattle.admission.proofs.Weighing.{recorded_paced}
 use Rattle.clairvoyant.specs.Clairvoyant.{ClairvoyantState, clairvoyant_act}

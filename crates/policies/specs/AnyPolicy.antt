@@ -1,12 +1,12 @@
 -- What a cache of any policy shows, and what a job over a trace comes to.
 use Rattle.std.specs.Prelude.{◌≡◌, ℕ, zero, suc, ◌≤◌, true, Option, Some, None, Result, Ok, Err, List, length, map, take}
-pub use Rattle.step_record.specs.declared.config.ConfigFault.{ConfigFault}
+pub use Rattle.engine_base.specs.declared.config.ConfigFault.{ConfigFault}
 pub use Rattle.step_record.specs.declared.job.Job.{Job}
-pub use Rattle.step_record.specs.declared.outcome.Outcome.{Outcome}
-use Rattle.step_record.specs.declared.outcome.Outcome.TheVariants.{Rejected}
-pub use Rattle.step_record.specs.declared.stats.Stats.{Stats}
-use Rattle.step_record.specs.Config.{config_fault}
-use Rattle.step_record.specs.Stats.{stats_of}
+pub use Rattle.engine_base.specs.declared.outcome.Outcome.{Outcome}
+use Rattle.engine_base.specs.declared.outcome.Outcome.TheVariants.{Rejected}
+pub use Rattle.engine_base.specs.declared.stats.Stats.{Stats}
+use Rattle.engine_base.specs.Config.{config_fault}
+use Rattle.engine_base.specs.Stats.{stats_of}
 use Rattle.admission.specs.Frequency.{FrequencyData}
 use Rattle.adaptive_window.specs.AdaptiveCache.{AdaptiveCacheState, cache_access}
 use Rattle.adaptive_window.specs.AdaptiveCache.{empty_cache as empty_adaptive_cache}

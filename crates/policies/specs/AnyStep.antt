@@ -1,8 +1,8 @@
 -- How one access changes what a cache of any policy shows, and how its undo record undoes it: by the policy's own
 -- engine.
 use Rattle.std.specs.Prelude.{ℕ, Option}
-use Rattle.step_record.specs.Pace.{Pace, pace_without_sketch}
-use Rattle.step_record.specs.Limited.{lifted}
+use Rattle.engine_base.specs.Pace.{Pace, pace_without_sketch}
+use Rattle.engine_base.specs.Limited.{lifted}
 use Rattle.adaptive_window.specs.AdaptiveCache.{Outcome, cache_act, cache_record_of, cache_undone, cache_asks}
 use Rattle.adaptive_window.specs.AdaptiveCache.{cache_may_ask, cache_words, cache_pace, CacheFits}
 use Rattle.clairvoyant.specs.Clairvoyant.{clairvoyant_act}

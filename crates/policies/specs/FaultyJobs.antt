@@ -1,7 +1,7 @@
 -- Which job is refused, and which fault that is.
 use Rattle.std.specs.Prelude.{◌≡◌, ℕ, ◌+◌, Option, Some, None, Result, Ok, Err, IfErr, List, [], ◌∷◌}
-use Rattle.step_record.specs.Config.{config_fault}
-pub use Rattle.step_record.specs.declared.config.ConfigFault.{ConfigFault}
+use Rattle.engine_base.specs.Config.{config_fault}
+pub use Rattle.engine_base.specs.declared.config.ConfigFault.{ConfigFault}
 pub use Rattle.step_record.specs.declared.job.Job.{Job}
 pub use Rattle.policies.specs.declared.actor_fault.ActorFault.{ActorFault}
 use Rattle.policies.specs.declared.actor_fault.ActorFault.TheVariants.{OutOfMemory, Config}

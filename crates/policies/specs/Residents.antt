@@ -1,7 +1,7 @@
 -- What every policy keeps of its residents, and what follows for its statistics.
 use Rattle.std.specs.Prelude.{◌≡◌, ◌⊎◌, ℕ, ◌+◌, ◌≤◌, true, eqb, Some, List, length, count_by}
-use Rattle.step_record.specs.Keys.{has_key}
-use Rattle.step_record.specs.Stats.{is_hit}
+use Rattle.engine_base.specs.Keys.{has_key}
+use Rattle.engine_base.specs.Stats.{is_hit}
 pub use Rattle.step_record.specs.declared.job.Job.{Job}
 use Rattle.policies.specs.AnyPolicy.{AnyPolicy, Outcome, HasAccessed, any_residents, stats_in, stats_on}
 use Rattle.policies.specs.AnyStep.{any_act}

@@ -1,8 +1,8 @@
 -- What the definitions of the policies promise to callers that see a cache by its steps alone.
 use Rattle.std.specs.Prelude.{◌≡◌, ℕ, ◌≤◌, true, Some, None, List, [], ◌∷◌, ◌++◌, length, slice_index_or}
-use Rattle.step_record.specs.declared.limits.TheConstants.{MAX_STEPS}
-use Rattle.step_record.specs.declared.outcome.Outcome.TheVariants.{Hit}
-use Rattle.step_record.specs.Stats.{is_eviction}
+use Rattle.engine_base.specs.declared.limits.TheConstants.{MAX_STEPS}
+use Rattle.engine_base.specs.declared.outcome.Outcome.TheVariants.{Hit}
+use Rattle.engine_base.specs.Stats.{is_eviction}
 use Rattle.policies.specs.AnyPolicy.{AnyPolicy, Outcome, Job, HasAccessed, stats_in, stats_on, outcomes_on}
 use Rattle.policies.specs.AnyStep.{any_act, any_record_of, any_asks, recorded_outcome}
 

@@ -38,7 +38,7 @@ pub enum AnyRecord {
 }
 
 impl AnyPolicy {
-    ghost use Rattle.step_record.specs.Config.{config_fault};
+    ghost use Rattle.engine_base.specs.Config.{config_fault};
     ghost use Rattle.policies.specs.AnyPolicy.{HasAccessed, stats_in, any_residents, frequency_in};
     ghost use Rattle.queue_cache.specs.Design.{knows_trace};
     ghost use Rattle.policies.specs.AnyStep.{any_act, MayAllocate};

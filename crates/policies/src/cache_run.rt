@@ -1,6 +1,6 @@
 //! A job's run over a trace whose accesses come in batches.
 ghost use Rattle.std.specs.Prelude.{◌≡◌, ◌++◌, [], ℕ, List, Ok, IfOk, IfSome, OnOk};
-ghost use Rattle.step_record.specs.Config.{config_fault};
+ghost use Rattle.engine_base.specs.Config.{config_fault};
 ghost use Rattle.policies.specs.AnyPolicy.{Job, HasAccessed};
 ghost use Rattle.policies.specs.Accesses.{IsNext};
 ghost use Rattle.policies.specs.CacheRun.{CanTake, HasTaken};

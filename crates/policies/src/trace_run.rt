@@ -1,6 +1,6 @@
 //! The accesses of a trace by a cache, and its report at their end.
 ghost use Rattle.std.specs.Prelude.{◌≡◌, ◌++◌, [], ℕ, List, take, drop, Ok, IfOk, IfSome, OnOk};
-ghost use Rattle.step_record.specs.Config.{config_fault};
+ghost use Rattle.engine_base.specs.Config.{config_fault};
 ghost use Rattle.policies.specs.AnyPolicy.{Job, HasAccessed};
 ghost use Rattle.policies.specs.Accesses.{IsNext};
 ghost use Rattle.policies.specs.Reports.{report_on};

@@ -2,7 +2,7 @@
 use Rattle.std.proofs.Common.{◌≡◌, ℕ, ◌+◌, ◌*◌, ◌<◌, ◌≤◌, List, [], ◌++◌, length, take, drop, Option, Some, None, IfSome, IsTrue, ⊎_elim, sym, ap, subst, ◌∙◌, arith, append-nil, length-append}
 use Rattle.std.specs.Prelude.{◌↔◌}
 use Rattle.std.proofs.lemmas.Bool.{cases_lt}
-use Rattle.step_record.specs.declared.limits.TheConstants.{MAX_STEPS}
+use Rattle.engine_base.specs.declared.limits.TheConstants.{MAX_STEPS}
 use Rattle.policy_actors.specs.Following.{Job, CanFollow}
 use Rattle.policy_actors.specs.CacheRuns.{CacheRun, IsAfter}
 use Rattle.policies.specs.CacheRun.{CanTake, HasTaken}

@@ -1,7 +1,7 @@
 -- Which fault comes of actors, and where none is due.
 use Rattle.std.specs.Prelude.{ℕ, cond, nat_le, Option, Some, List, length}
-use Rattle.step_record.specs.Config.{is_from_one}
-use Rattle.step_record.specs.declared.limits.TheConstants.{MAX_BATCH}
+use Rattle.engine_base.specs.Config.{is_from_one}
+use Rattle.engine_base.specs.declared.limits.TheConstants.{MAX_BATCH}
 pub use Rattle.step_record.specs.declared.job.Job.{Job}
 use Rattle.policies.specs.FaultyJobs.{faulty_in}
 use Rattle.policies.specs.declared.actor_fault.ActorFault.{ActorFault}

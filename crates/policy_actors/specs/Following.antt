@@ -1,7 +1,7 @@
 -- Which jobs can be run over a trace that is not kept.
 use Rattle.std.specs.Prelude.{◌≡◌, ◌≤◌, ℕ, true}
 pub use Rattle.step_record.specs.declared.job.Job.{Job}
-use Rattle.step_record.specs.declared.limits.TheConstants.{MAX_ACCESSES}
+use Rattle.engine_base.specs.declared.limits.TheConstants.{MAX_ACCESSES}
 use Rattle.queue_cache.specs.Design.{knows_trace}
 
 -- The job can be run over a trace of at most so many accesses: a policy that has to know the whole trace notes them

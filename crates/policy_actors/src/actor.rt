@@ -1,7 +1,7 @@
 //! One actor: a job's policy, fed with batches.
 ghost use Rattle.std.specs.Prelude.{◌≡◌, ◌≤◌, ℕ, List, Ok, Some, IfSome};
-ghost use Rattle.step_record.specs.Config.{config_fault};
-ghost use Rattle.step_record.specs.declared.limits.TheConstants.{MAX_STEPS};
+ghost use Rattle.engine_base.specs.Config.{config_fault};
+ghost use Rattle.engine_base.specs.declared.limits.TheConstants.{MAX_STEPS};
 ghost use Rattle.policies.specs.Reports.{report_on};
 ghost use Rattle.policy_actors.specs.Following.{CanFollow};
 

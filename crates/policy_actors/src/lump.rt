@@ -2,7 +2,7 @@
 ghost use Rattle.std.specs.Prelude.{◌≡◌, ◌+◌, ◌-◌, ◌*◌, ◌<◌, ◌≤◌, ℕ, List, Option, IfOk, IfSome, length, take, drop, true, false};
 ghost use Rattle.std.specs.Arc.{arc_value};
 ghost use Rattle.std.proofs.Props.{props};
-ghost use Rattle.step_record.specs.declared.limits.TheConstants.{MAX_STEPS};
+ghost use Rattle.engine_base.specs.declared.limits.TheConstants.{MAX_STEPS};
 ghost use Rattle.policy_actors.specs.ChannelProtocol.{IsBatch};
 ghost use Rattle.policy_actors.specs.Lumps.{AreAt, batches_of};
 

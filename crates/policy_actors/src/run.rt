@@ -1,8 +1,8 @@
 //! Each job on a thread of its own.
 ghost use Rattle.std.specs.Prelude.{◌≡◌, ◌<◌, ◌≤◌, ◌++◌, ◌∷◌, [], ℕ, List, All, length, map, Ok, Err, None, Some, IfOk, IsOk, OnOk, IfSome, IsSome, MatchResult};
 ghost use denote.Param.Send.{IsSync};
-ghost use Rattle.step_record.specs.Config.{config_fault};
-ghost use Rattle.step_record.specs.declared.limits.TheConstants.{MAX_STEPS};
+ghost use Rattle.engine_base.specs.Config.{config_fault};
+ghost use Rattle.engine_base.specs.declared.limits.TheConstants.{MAX_STEPS};
 ghost use Rattle.policies.specs.declared.job_checks.TheConstants.{MAX_ACTORS};
 ghost use Rattle.policy_actors.specs.Actors.{jobs_of};
 ghost use Rattle.policy_actors.specs.Faults.{actor_fault};

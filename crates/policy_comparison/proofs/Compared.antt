@@ -3,8 +3,8 @@ use Rattle.std.proofs.Common.{◌≡◌, ◌∙◌, ℕ, zero, suc, ◌+◌, ◌
 use Rattle.std.specs.Prelude.{not, ◌&&◌, slice_index_or}
 use Rattle.std.proofs.lemmas.List.{get_or_default, take_more}
 use Rattle.std.proofs.lemmas.List.Sums.{sum_by-append}
-use Rattle.step_record.specs.declared.outcome.Outcome.TheVariants.{Kept}
-use Rattle.step_record.specs.Stats.{is_hit, one_if}
+use Rattle.engine_base.specs.declared.outcome.Outcome.TheVariants.{Kept}
+use Rattle.engine_base.specs.Stats.{is_hit, one_if}
 use Rattle.policies.specs.AnyPolicy.{Outcome, Job, outcomes_on}
 use Rattle.policies.proofs.StepLaws.{any_covers_trace}
 use Rattle.policy_comparison.specs.CacheAccess.{StandsAt}

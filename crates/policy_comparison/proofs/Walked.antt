@@ -4,9 +4,9 @@ use Rattle.std.specs.Prelude.{slice_index, slice_index_or}
 use Rattle.std.proofs.lemmas.Bool.{cases_lt}
 use Rattle.std.proofs.lemmas.List.{length-take-le, get_or_default, get_or_past}
 use mathlib.Core.Bool.{not, beq}
-use Rattle.step_record.specs.declared.limits.TheConstants.{MAX_STEPS}
-use Rattle.step_record.specs.declared.outcome.Outcome.TheVariants.{Kept}
-use Rattle.step_record.specs.Stats.{is_hit}
+use Rattle.engine_base.specs.declared.limits.TheConstants.{MAX_STEPS}
+use Rattle.engine_base.specs.declared.outcome.Outcome.TheVariants.{Kept}
+use Rattle.engine_base.specs.Stats.{is_hit}
 use Rattle.policies.specs.AnyPolicy.{Outcome, Job, HasAccessed, outcomes_on}
 use Rattle.policies.specs.AnyStep.{any_act}
 use Rattle.policies.specs.Theorems.{AnyStepLaw, AnyAccepts, AnyAnswers}

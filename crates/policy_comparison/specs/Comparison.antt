@@ -2,7 +2,7 @@
 use Rattle.std.specs.Prelude.{ℕ, ◌+◌, ◌≤◌, Bool, not, ◌&&◌, List, [], ◌∷◌, ◌++◌, codes, count_by, flat_map, length, map, zip}
 pub use Rattle.step_record.specs.declared.job.Job.{Job}
 use Rattle.step_record.specs.Job.{word_of}
-use Rattle.step_record.specs.Stats.{is_hit, one_if}
+use Rattle.engine_base.specs.Stats.{is_hit, one_if}
 use Rattle.policies.specs.AnyPolicy.{Outcome, outcomes_on}
 use Rattle.debug_commands.specs.Texts.{count_text}
 pub use Rattle.policy_comparison.specs.declared.comparison.Comparison.{Comparison}

@@ -3,9 +3,9 @@ use Rattle.std.specs.Prelude.{◌≡◌, ◌≢◌, ℕ, zero, suc, ◌<◌, Boo
 use Rattle.std.specs.Prelude.{codes, slice_index_or, take}
 use Rattle.std.specs.Fmt.{decimal}
 pub use Rattle.step_record.specs.declared.job.Job.{Job}
-pub use Rattle.step_record.specs.declared.outcome.Outcome.{Outcome}
-use Rattle.step_record.specs.declared.outcome.Outcome.TheVariants.{Kept}
-use Rattle.step_record.specs.Stats.{is_hit}
+pub use Rattle.engine_base.specs.declared.outcome.Outcome.{Outcome}
+use Rattle.engine_base.specs.declared.outcome.Outcome.TheVariants.{Kept}
+use Rattle.engine_base.specs.Stats.{is_hit}
 use Rattle.policies.specs.declared.any_policy.AnyPolicy.{AnyPolicy}
 use Rattle.policies.specs.AnyPolicy.{HasAccessed}
 

@@ -1,6 +1,6 @@
 -- Two caches over one trace, which made the same accesses, and which accesses of the last stretch hit.
 use Rattle.std.specs.Prelude.{◌≡◌, ℕ, ◌+◌, ◌-◌, ◌<◌, ◌≤◌, Bool, false, List, length, min, slice_index_or, take}
-use Rattle.step_record.specs.declared.limits.TheConstants.{MAX_ACCESSES}
+use Rattle.engine_base.specs.declared.limits.TheConstants.{MAX_ACCESSES}
 use Rattle.policies.specs.AnyPolicy.{Outcome, Job, HasAccessed, outcomes_on}
 use Rattle.policy_comparison.specs.declared.two_caches.NotedCache.{NotedCache}
 pub use Rattle.policy_comparison.specs.declared.two_caches.TwoCaches.{TwoCaches}

@@ -1,6 +1,6 @@
 //! One access of a cache.
 ghost use Rattle.std.specs.Prelude.{◌≡◌, ◌≢◌, ◌<◌, ◌+◌, Ok, None, Some, List, ℕ, length, take, slice_index, IfOk, OnOk};
-ghost use Rattle.step_record.specs.Stats.{is_hit};
+ghost use Rattle.engine_base.specs.Stats.{is_hit};
 ghost use Rattle.policies.specs.AnyPolicy.{Job, HasAccessed, outcomes_on};
 ghost use Rattle.policies.specs.AnyStep.{any_act};
 ghost use Rattle.policy_comparison.specs.CacheAccess.{IsReadyFor, StandsAt};

@@ -1,6 +1,6 @@
 //! How often two policies hit at the same accesses.
 ghost use Rattle.std.specs.Prelude.{◌≡◌, ◌++◌, OnOk};
-ghost use Rattle.step_record.specs.declared.limits.TheConstants.{MAX_STEPS};
+ghost use Rattle.engine_base.specs.declared.limits.TheConstants.{MAX_STEPS};
 ghost use Rattle.policy_comparison.specs.Comparison.{comparison_text, counts_with, IsUpTo, no_counts, pair_row};
 
 use debug_commands::{push_count, push_numbers_line, push_pieces};

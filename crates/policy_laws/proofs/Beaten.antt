@@ -3,10 +3,10 @@ use Rattle.std.proofs.lemmas.Bool.Decides.{nat_tests}
 use Rattle.std.proofs.Common.{◌≡◌, ℕ, ◌+◌, ◌≤◌, true, false, cond, Result, Ok, Err, map, count_by, List, [], ◌∷◌, ◌++◌, length, take, ap, ◌∙◌, sym, refl, arith, inl, inr}
 use Rattle.std.proofs.lemmas.Bool.{cases_Bool, cases_lt}
 use Rattle.std.proofs.lemmas.List.Sums.{sum_by-cons}
-use Rattle.step_record.specs.Keys.{has_key}
-use Rattle.step_record.specs.Stats.{is_hit, one_if}
-use Rattle.step_record.specs.Config.{config_fault}
-use Rattle.step_record.specs.declared.outcome.Outcome.TheVariants.{Rejected}
+use Rattle.engine_base.specs.Keys.{has_key}
+use Rattle.engine_base.specs.Stats.{is_hit, one_if}
+use Rattle.engine_base.specs.Config.{config_fault}
+use Rattle.engine_base.specs.declared.outcome.Outcome.TheVariants.{Rejected}
 use Rattle.segments.specs.Queues.{residents_in}
 use Rattle.replacement.proofs.Residents.{resident-queued}
 use Rattle.demand_cache.specs.DemandQueues.{DemandQueues, empty_cache, queues_act, queues_residents, IsQueues}

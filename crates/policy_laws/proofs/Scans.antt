@@ -2,7 +2,7 @@
 use Rattle.std.proofs.Common.{◌≡◌, ◌⊎◌, ℕ, Bool, true, false, eqb, None, List, [], ◌∷◌, ◌++◌, ap, ◌∙◌, sym, arith, append-nil, append_assoc}
 use Rattle.std.proofs.lemmas.Bool.Decides.{nat_tests}
 use Rattle.std.proofs.lemmas.Bool.{lt-ltb, cases_eq}
-use Rattle.step_record.specs.Keys.{has_key}
+use Rattle.engine_base.specs.Keys.{has_key}
 use Rattle.step_record.specs.declared.job.Policy.TheVariants.{SegmentedLru, TinyLfuSegmented}
 use Rattle.segments.specs.declared.records.Queue.TheVariants.{Probation}
 use Rattle.segments.specs.Items.{Item, nodeless_item}

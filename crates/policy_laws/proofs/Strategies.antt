@@ -4,8 +4,8 @@ use Rattle.std.proofs.Common.{◌≡◌, ◌⊎◌, ℕ, zero, suc, ◌+◌, ◌
 use Rattle.std.proofs.Math.Seq.{take-suc}
 use Rattle.std.proofs.lemmas.List.{take_all}
 use Rattle.std.proofs.lemmas.List.Sums.{sum_by-append}
-use Rattle.step_record.specs.Keys.{has_key}
-use Rattle.step_record.specs.Stats.{is_hit, one_if}
+use Rattle.engine_base.specs.Keys.{has_key}
+use Rattle.engine_base.specs.Stats.{is_hit, one_if}
 use Rattle.optimality.specs.Strategy.{IsStrategy, strategy_hits}
 use Rattle.policy_page.specs.Residents.{Outcome, KeepsResidents, state_after_all, outcomes_of_all}
 use Rattle.policy_page.proofs.Residents.{state-push, outcomes-push}

@@ -1,6 +1,6 @@
 -- Scan resistance: keys that come once do not push out keys that came again.
 use Rattle.std.specs.Prelude.{◌≡◌, ◌⊎◌, ℕ, false, List, [], ◌∷◌, ◌++◌}
-use Rattle.step_record.specs.Keys.{has_key}
+use Rattle.engine_base.specs.Keys.{has_key}
 use Rattle.step_record.specs.declared.job.Policy.TheVariants.{SegmentedLru, TinyLfuSegmented}
 use Rattle.segments.specs.Queues.{residents_in}
 use Rattle.queue_cache.specs.QueueCache.{Job, state_after}

@@ -3,7 +3,7 @@ use Rattle.std.proofs.Common.{◌≡◌, ℕ, ◌+◌, ◌≤◌, true, cond, na
 use Rattle.std.proofs.lemmas.Bool.{eq-eqb}
 use Rattle.std.proofs.lemmas.List.{length-map, map-append}
 use Rattle.std.proofs.lemmas.Bool.Decides.{nat_tests}
-use Rattle.step_record.specs.Keys.{has_key}
+use Rattle.engine_base.specs.Keys.{has_key}
 use Rattle.queue_table.specs.Entries.{oldest_of, occurrences, entries_counted}
 use Rattle.queue_table.specs.Queues.{Queues, QUEUES}
 use Rattle.queue_table.proofs.QueueLists.{times-append, with-queue-same, with-queue-other}

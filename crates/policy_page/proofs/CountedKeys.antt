@@ -2,7 +2,7 @@
 use Rattle.std.proofs.Common.{◌≡◌, ℕ, suc, ◌+◌, ◌≤◌, false, if◌then◌else◌, eqb, List, [], ◌∷◌, ◌++◌, length, ap, sym, ◌∙◌, refl, arith, length-append}
 use Rattle.std.proofs.lemmas.Bool.{cases_Bool}
 use Rattle.std.proofs.lemmas.Bool.Decides.{nat_tests}
-use Rattle.step_record.specs.Keys.{has_key}
+use Rattle.engine_base.specs.Keys.{has_key}
 use Rattle.policy_page.specs.Residents.{times}
 use Rattle.policy_page.specs.CountedKeys.{CountedKey, keys_of, count_of, with_count, AreCounted, total_count}
 use Rattle.policy_page.proofs.Residents.{times-append, no-times}

@@ -2,8 +2,8 @@
 use Rattle.std.proofs.Common.{◌≡◌, ℕ, ◌+◌, ◌≤◌, false, eqb, List, [], ◌∷◌, length, refl, arith, length-append}
 use Rattle.std.proofs.lemmas.Bool.{cases_eq}
 use Rattle.std.proofs.lemmas.Bool.Decides.{nat_tests}
-use Rattle.step_record.specs.Keys.{has_key, keys_without}
-use Rattle.step_record.specs.Stats.{one_if}
+use Rattle.engine_base.specs.Keys.{has_key, keys_without}
+use Rattle.engine_base.specs.Stats.{one_if}
 use Rattle.policy_page.specs.Residents.{Outcome, times, keys_evicted, keys_brought}
 use Rattle.policy_page.specs.Ghost.{ghost_with}
 use Rattle.policy_page.proofs.Residents.{times-append, times-none, brought-few}

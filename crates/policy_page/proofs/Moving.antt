@@ -2,7 +2,7 @@
 use Rattle.std.proofs.Common.{map, ◌≡◌, ℕ, ◌≤◌, Bool, true, false, cond, eqb, Option, Some, None, List, [], ◌∷◌, ◌++◌, length, take, drop, ap, ◌∙◌, sym, refl, arith, ◌<◌, nat_lt, ◌||◌, zero, suc, ◌-◌, if◌then◌else◌, inl, inr}
 use Rattle.std.proofs.lemmas.List.{length-map}
 use Rattle.std.proofs.lemmas.Bool.Decides.{nat_tests}
-use Rattle.step_record.specs.Keys.{has_key, keys_without}
+use Rattle.engine_base.specs.Keys.{has_key, keys_without}
 use Rattle.queue_table.specs.declared.records.Entry.{Entry}
 use Rattle.queue_table.specs.Entries.{entry, entries_without, Item, oldest_of, occurrences, entries_counted}
 use Rattle.queue_table.specs.Queues.{Queues, with_queue, after_send, QUEUES, after_push, after_removal, after_count, times_below}
@@ -17,7 +17,7 @@ use Rattle.policy_page.specs.Ghost.{ghost_with}
 use Rattle.policy_page.proofs.Weights.{has-append}
 use Rattle.queue_table.proofs.QueueLists.{IsAbsent, absent, with-queue-other}
 use Rattle.policy_page.specs.Planned.{IsWithin, resident_plan, IsPlannedWithin}
-use Rattle.step_record.specs.declared.outcome.Outcome.TheVariants.{Hit, Kept}
+use Rattle.engine_base.specs.declared.outcome.Outcome.TheVariants.{Hit, Kept}
 
 pub length-keys : (l : List Entry) → length (keys_of l) ≡ length l
 length-keys l = length-map l (λ (e : Entry). e.item.key)

@@ -2,9 +2,9 @@
 -- them the traces tell the rules from a hundred and twenty-six others that differ in a number, a comparison, a queue or an
 -- order.
 use Rattle.std.specs.Prelude.{ℕ, List, [], ◌∷◌}
-use Rattle.step_record.specs.Stats.{stats_of}
-pub use Rattle.step_record.specs.declared.outcome.Outcome.{Outcome}
-use Rattle.step_record.specs.declared.stats.Stats.{Stats}
+use Rattle.engine_base.specs.Stats.{stats_of}
+pub use Rattle.engine_base.specs.declared.outcome.Outcome.{Outcome}
+use Rattle.engine_base.specs.declared.stats.Stats.{Stats}
 use Rattle.policy_page.specs.Residents.{state_after_all, outcomes_of_all}
 use Rattle.policy_page.specs.CountedKeys.{CountedKey}
 

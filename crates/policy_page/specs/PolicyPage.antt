@@ -1,6 +1,6 @@
 -- A policy that keeps each missed key, as one value, and what has to be known of it: all else is the same for every policy.
 use Rattle.std.specs.Prelude.{◌≡◌, ℕ, ◌≤◌, ◌⊎◌, true, false, nat_lt, Option, Some, None, List, ◌++◌, length}
-use Rattle.step_record.specs.Keys.{has_key}
+use Rattle.engine_base.specs.Keys.{has_key}
 use Rattle.queue_table.specs.Queues.{Queues, empty_queues}
 use Rattle.policy_page.specs.Residents.{Outcome, KeepsResidents}
 use Rattle.queue_moves.specs.Moves.{item_of, Plan, after_all}

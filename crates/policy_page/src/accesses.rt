@@ -6,8 +6,8 @@ ghost use Rattle.queue_moves.specs.Undoing.{IsRun, IsLeft, IsOwn, IsAccessed, ou
 ghost use Rattle.policy_page.specs.Planned.{Run, leaver_plan};
 
 use crate::misses::{LeftKeys, missed_after};
+use engine_base::Outcome;
 use queue_moves::{Accessed, KeyMove, Left, Moves, Run};
-use step_record::Outcome;
 
 /// A hit.
 #[inline(always)]

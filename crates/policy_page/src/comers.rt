@@ -9,9 +9,9 @@ ghost use Rattle.policy_page.specs.Comers.{Comes};
 ghost use Rattle.policy_page.specs.Misses.{leavers_for_ghost, IsEntered};
 
 use crate::misses::LeftKeys;
+use engine_base::Key;
 use queue_moves::{KeyMove, KeyQueues, Left};
 use queue_table::Found;
-use step_record::Key;
 
 /// The key goes to the recent end of a queue. One that stands nowhere takes room.
 ///

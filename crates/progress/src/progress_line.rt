@@ -1,11 +1,11 @@
 //! The line on a terminal that shows how far a subcommand is.
+use engine_base::Gate;
 use std::fmt;
 use std::rt::Clock;
 use std::sync::OnceLock;
 use std::sync::atomic::AtomicU64;
 use std::sync::atomic::Ordering::SeqCst;
 use std::time::{Duration, Instant};
-use step_record::Gate;
 
 /// What watches a subcommand at work: the gate is called around each batch.
 pub trait Watch: Gate {

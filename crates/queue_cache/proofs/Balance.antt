@@ -1,7 +1,7 @@
 -- What holds of every cache of queues that made some accesses.
 use Rattle.std.proofs.lemmas.Bool.Decides.{nat_tests}
 use Rattle.std.proofs.Common.{◌≡◌, ◌⊎◌, ℕ, ◌+◌, ◌≤◌, true, Option, List, [], ◌∷◌, ◌++◌, length, refl, arith}
-use Rattle.step_record.specs.Keys.{has_key}
+use Rattle.engine_base.specs.Keys.{has_key}
 use Rattle.segments.specs.Items.{nodeless_item}
 use Rattle.segments.specs.Queues.{empty_queues, residents_in, total_items, IsDistinct}
 use Rattle.admission.specs.Frequency.{FrequencyData}

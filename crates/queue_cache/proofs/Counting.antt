@@ -2,8 +2,8 @@
 use Rattle.std.proofs.lemmas.Bool.Decides.{nat_tests}
 use Rattle.std.proofs.Common.{◌≡◌, ℕ, ◌+◌, Bool, List, [], ◌∷◌, ◌++◌, length, count_by, ap, ◌∙◌, sym, refl, arith, append-nil, append_assoc}
 use Rattle.std.proofs.lemmas.List.Sums.{sum_by-cons}
-use Rattle.step_record.specs.Stats.{is_hit, is_miss, one_if, stats_of, stats_with}
-use Rattle.step_record.proofs.Counting.{stats-snoc}
+use Rattle.engine_base.specs.Stats.{is_hit, is_miss, one_if, stats_of, stats_with}
+use Rattle.engine_base.proofs.Counting.{stats-snoc}
 use Rattle.queue_cache.specs.QueueCache.{Outcome, Job, QueueState, access_response, queue_state_after, frequency_after, state_from, empty_queue_state, state_after, outcomes_from, outcomes_after}
 
 from-counts : (j : Job) (past : List ℕ) (d : QueueState) (os : List Outcome) (keys : List ℕ) → d.stats ≡ stats_of os

@@ -1,9 +1,9 @@
 -- Which item the record of an access moves out.
 use Rattle.std.proofs.lemmas.Bool.Decides.{nat_tests}
 use Rattle.std.proofs.Common.{arith, ◌≡◌, ℕ, true, List, Some, None, option_map, sym, subst}
-use Rattle.step_record.specs.declared.outcome.Outcome.TheVariants.{Hit}
-use Rattle.step_record.specs.Stats.{is_eviction}
-use Rattle.step_record.proofs.Limited.{accepted}
+use Rattle.engine_base.specs.declared.outcome.Outcome.TheVariants.{Hit}
+use Rattle.engine_base.specs.Stats.{is_eviction}
+use Rattle.engine_base.proofs.Limited.{accepted}
 use Rattle.segments.specs.Queues.{IsDistinct}
 use Rattle.replacement.proofs.Leaving.{hit-keeps, leaver-shown, asks-evicts}
 use Rattle.queue_cache.specs.Design.{Job}

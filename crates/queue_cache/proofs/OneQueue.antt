@@ -4,7 +4,7 @@ use Rattle.std.proofs.lemmas.List.{append_assoc, length-map, map-append}
 use Rattle.std.proofs.lemmas.Bool.{eq-eqb}
 use Rattle.std.proofs.lemmas.Bool.Decides.{nat_tests}
 use Rattle.step_record.specs.declared.job.Policy.TheVariants.{Lru}
-use Rattle.step_record.specs.Keys.{has_key, keys_without as without_key}
+use Rattle.engine_base.specs.Keys.{has_key, keys_without as without_key}
 use Rattle.segments.specs.declared.records.Queue.TheVariants.{Window}
 use Rattle.segments.specs.Items.{has_item, items_without, oldest_of, nodeless_item}
 use Rattle.segments.specs.Queues.{queue_holding, queues_after_push}

@@ -3,12 +3,12 @@ use Rattle.std.proofs.Common.{◌≡◌, ◌≢◌, ℕ, ◌+◌, ◌≤◌, Boo
 use Rattle.std.proofs.lemmas.List.{append_assoc}
 use Rattle.std.proofs.lemmas.List.Sums.{count_by-le-length}
 use Rattle.std.proofs.lemmas.Bool.Decides.{nat_tests}
-use Rattle.step_record.specs.declared.limits.TheConstants.{MAX_STEPS}
-use Rattle.step_record.specs.Config.{config_fault}
-use Rattle.step_record.specs.Pace.{words_of_halvings}
-use Rattle.step_record.specs.Stats.{stats_of, stats_with, IsSmall}
+use Rattle.engine_base.specs.declared.limits.TheConstants.{MAX_STEPS}
+use Rattle.engine_base.specs.Config.{config_fault}
+use Rattle.engine_base.specs.Pace.{words_of_halvings}
+use Rattle.engine_base.specs.Stats.{stats_of, stats_with, IsSmall}
 use Rattle.segments.specs.Queues.{Queues, empty_queues}
-use Rattle.step_record.proofs.Limited.{accepted}
+use Rattle.engine_base.proofs.Limited.{accepted}
 use Rattle.admission.specs.Frequency.{FrequencyData, frequency_of}
 use Rattle.admission.proofs.Recording.{recorded_freq}
 use Rattle.admission.proofs.Weighing.{halvings_bounded, weight_falls}

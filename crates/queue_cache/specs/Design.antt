@@ -1,7 +1,7 @@
 -- What each policy is: the one table of policies. The design of a policy of queues stands in the module of its name,
 -- with the source.
 use Rattle.std.specs.Prelude.{Bool, true, false}
-pub use Rattle.step_record.specs.declared.config.Config.{Config}
+pub use Rattle.engine_base.specs.declared.config.Config.{Config}
 pub use Rattle.step_record.specs.declared.job.Job.{Job}
 pub use Rattle.step_record.specs.declared.job.Policy.{Policy}
 use Rattle.step_record.specs.declared.job.Policy.TheVariants.{Lru, SegmentedLru, TinyLfuLru, TinyLfuSegmented}

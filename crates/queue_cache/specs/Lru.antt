@@ -1,9 +1,9 @@
 -- The least recently used policy, over a whole list of accesses: a cache holds the last distinct keys in order of last
 -- access. (The textbook definition of Lru.)
 use Rattle.std.specs.Prelude.{ℕ, ◌-◌, nat_lt, Bool, false, ◌&&◌, if◌then◌else◌, List, [], ◌∷◌, length, drop}
-use Rattle.step_record.specs.Keys.{has_key}
-pub use Rattle.step_record.specs.declared.outcome.Outcome.{Outcome}
-use Rattle.step_record.specs.declared.outcome.Outcome.TheVariants.{Hit, Kept, Evicted}
+use Rattle.engine_base.specs.Keys.{has_key}
+pub use Rattle.engine_base.specs.declared.outcome.Outcome.{Outcome}
+use Rattle.engine_base.specs.declared.outcome.Outcome.TheVariants.{Hit, Kept, Evicted}
 pub use Rattle.queue_cache.specs.declared.design.QueueDesign.{QueueDesign}
 use Rattle.queue_cache.specs.declared.design.Layout.TheVariants.{OneQueue}
 

@@ -3,10 +3,10 @@
 -- the module of its name.
 use Rattle.std.specs.Prelude.{◌≡◌, ℕ, Bool, true, false, Option, Some, None, Ok, List, [], ◌∷◌, ◌++◌}
 pub use Rattle.step_record.specs.declared.job.Job.{Job}
-pub use Rattle.step_record.specs.declared.outcome.Outcome.{Outcome}
-pub use Rattle.step_record.specs.declared.stats.Stats.{Stats}
-use Rattle.step_record.specs.Config.{config_fault}
-use Rattle.step_record.specs.Stats.{stats_of, stats_with}
+pub use Rattle.engine_base.specs.declared.outcome.Outcome.{Outcome}
+pub use Rattle.engine_base.specs.declared.stats.Stats.{Stats}
+use Rattle.engine_base.specs.Config.{config_fault}
+use Rattle.engine_base.specs.Stats.{stats_of, stats_with}
 use Rattle.segments.specs.Items.{nodeless_item}
 use Rattle.segments.specs.Queues.{Queues, empty_queues}
 use Rattle.admission.specs.Shape.{Shape}

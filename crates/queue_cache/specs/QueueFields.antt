@@ -1,7 +1,7 @@
 -- What ties the fields of a cache of queues to what it shows.
 use Rattle.std.specs.Prelude.{◌≡◌, ◌+◌, ◌≤◌, Option, Some, None}
-use Rattle.step_record.specs.declared.limits.TheConstants.{MAX_STEPS}
-use Rattle.step_record.specs.declared.stats.Stats.{Stats}
+use Rattle.engine_base.specs.declared.limits.TheConstants.{MAX_STEPS}
+use Rattle.engine_base.specs.declared.stats.Stats.{Stats}
 use Rattle.segments.specs.Queues.{Queues}
 use Rattle.admission.specs.Frequency.{FrequencyData}
 use Rattle.queue_cache.specs.Design.{Rules, Job, rules_of}

@@ -1,6 +1,6 @@
 -- How the frequency of a cache of queues ages with an access, as every engine promises.
 use Rattle.std.specs.Prelude.{ℕ, Option, Some, None}
-use Rattle.step_record.specs.Pace.{IsPaced, still-paced}
+use Rattle.engine_base.specs.Pace.{IsPaced, still-paced}
 use Rattle.admission.specs.Frequency.{FrequencyData}
 use Rattle.admission.proofs.Weighing.{recorded_paced}
 use Rattle.queue_cache.specs.QueueStep.{recorded_in, pace_by}

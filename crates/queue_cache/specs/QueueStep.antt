@@ -1,9 +1,9 @@
 -- How one access changes what a cache of queues shows, its undo record, and how the record undoes it.
 use Rattle.std.specs.Prelude.{◌≡◌, ◌≢◌, ◌⊎◌, ℕ, ◌≤◌, true, Option, Some, None, List, length}
-use Rattle.step_record.specs.declared.limits.TheConstants.{MAX_STEPS}
-use Rattle.step_record.specs.Stats.{stats_without, IsCounted}
-use Rattle.step_record.specs.Pace.{Pace, pace_without_sketch}
-use Rattle.step_record.specs.Limited.{limited}
+use Rattle.engine_base.specs.declared.limits.TheConstants.{MAX_STEPS}
+use Rattle.engine_base.specs.Stats.{stats_without, IsCounted}
+use Rattle.engine_base.specs.Pace.{Pace, pace_without_sketch}
+use Rattle.engine_base.specs.Limited.{limited}
 pub use Rattle.admission.specs.declared.freq_record.FreqRecord.{FreqRecord}
 use Rattle.admission.specs.Frequency.{FrequencyData, frequency_with, halves, pace_of as frequency_pace}
 use Rattle.admission.specs.declared.freq_record.FreqRecord.TheVariants.{Nothing}

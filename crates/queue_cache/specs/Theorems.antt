@@ -1,8 +1,8 @@
 -- What the definitions of the policies of queues promise to callers that see a cache by its steps alone.
 use Rattle.std.specs.Prelude.{◌≡◌, ℕ, ◌≤◌, Some, None, option_map, List, [], ◌∷◌, ◌++◌}
-use Rattle.step_record.specs.declared.limits.TheConstants.{MAX_STEPS}
+use Rattle.engine_base.specs.declared.limits.TheConstants.{MAX_STEPS}
 use Rattle.step_record.specs.declared.job.Policy.TheVariants.{Lru}
-use Rattle.step_record.specs.declared.outcome.Outcome.TheVariants.{Hit}
+use Rattle.engine_base.specs.declared.outcome.Outcome.TheVariants.{Hit}
 use Rattle.queue_cache.specs.Lru.{Outcome, lru_residents, lru_outcome}
 use Rattle.queue_cache.specs.SingleQueue.{single_queue}
 use Rattle.queue_cache.specs.QueueCache.{Job, QueueState, access_response, state_after, outcome_after, StandsFor}

@@ -1,6 +1,6 @@
 //! What each policy is: the one table of policies.
 ghost use Rattle.std.specs.Prelude.{◌≡◌, Ok};
-ghost use Rattle.step_record.specs.Config.{config_fault};
+ghost use Rattle.engine_base.specs.Config.{config_fault};
 ghost use Rattle.queue_cache.specs.Design.{design_of, placement_by, rules_by};
 
 use replacement::{Placement, Rules};

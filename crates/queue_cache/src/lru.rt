@@ -1,6 +1,6 @@
 //! The policy that evicts the key whose last access is oldest.
 ghost use Rattle.std.specs.Prelude.{◌≡◌, IfOk, Ok, []};
-ghost use Rattle.step_record.specs.Config.{config_fault};
+ghost use Rattle.engine_base.specs.Config.{config_fault};
 ghost use Rattle.step_record.specs.Job.{published_tuning};
 
 use crate::design::LRU;

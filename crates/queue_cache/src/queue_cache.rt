@@ -1,9 +1,9 @@
 //! The policies of queues, as one engine.
 ghost use Rattle.std.specs.Prelude.{◌≡◌, ◌≢◌, ◌+◌, ◌≤◌, ◌<◌, ◌↔◌, [], ◌++◌, option_map, map, length, false};
 ghost use Rattle.std.specs.Prelude.{IfOk, OnOk, OnErr, Ok, Option, Some, None};
-ghost use Rattle.step_record.specs.declared.limits.TheConstants.{MAX_STEPS};
-ghost use Rattle.step_record.specs.Config.{config_fault};
-ghost use Rattle.step_record.specs.Stats.{is_eviction};
+ghost use Rattle.engine_base.specs.declared.limits.TheConstants.{MAX_STEPS};
+ghost use Rattle.engine_base.specs.Config.{config_fault};
+ghost use Rattle.engine_base.specs.Stats.{is_eviction};
 ghost use Rattle.segments.specs.Queues.{queue_holding};
 ghost use Rattle.replacement.specs.Shape.{shape_of};
 ghost use Rattle.queue_cache.specs.declared.design.Design.TheVariants.{Queues};
@@ -193,8 +193,8 @@ impl<P: Drop> QueueCache<P> {
 
 impl<P: Drop> Engine for QueueCache<P> {
     ghost use Rattle.std.specs.Prelude.{refl};
-    ghost use Rattle.step_record.specs.Pace.{IsPaced};
-    ghost use Rattle.step_record.proofs.Limited.{related, ended};
+    ghost use Rattle.engine_base.specs.Pace.{IsPaced};
+    ghost use Rattle.engine_base.proofs.Limited.{related, ended};
     ghost use Rattle.queue_cache.specs.QueueStep.{queue_act, queue_record_of, queue_undone, queue_asks, QueueFits};
     ghost use Rattle.queue_cache.specs.QueueStep.{queue_access, queue_count, queue_may_ask, queue_words, queue_pace};
     ghost use Rattle.queue_cache.specs.QueuePace.{paced-by};

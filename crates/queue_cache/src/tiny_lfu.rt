@@ -1,6 +1,6 @@
 //! Lru or segmented Lru behind an admission filter (TinyLFU, 2017).
 ghost use Rattle.std.specs.Prelude.{◌≡◌, IfOk, Ok, [], cond};
-ghost use Rattle.step_record.specs.Config.{config_fault};
+ghost use Rattle.engine_base.specs.Config.{config_fault};
 ghost use Rattle.step_record.specs.Job.{published_tuning};
 
 use crate::design::{TINY_LFU_LRU, TINY_LFU_SEGMENTED};

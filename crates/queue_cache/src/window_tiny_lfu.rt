@@ -1,6 +1,6 @@
 //! W-TinyLFU: a window before a filtered segmented Lru (TinyLFU, 2017; Caffeine's Design page).
 ghost use Rattle.std.specs.Prelude.{◌≡◌, IfOk, Ok, []};
-ghost use Rattle.step_record.specs.Config.{config_fault};
+ghost use Rattle.engine_base.specs.Config.{config_fault};
 ghost use Rattle.step_record.specs.Job.{published_tuning};
 
 use crate::design::WINDOW_TINY_LFU;

@@ -7,7 +7,7 @@ use Rattle.queue_moves.specs.Tabled.{IsTabled, nodes_of, keys_of, StandsAs, lowe
 use Rattle.std.proofs.lemmas.Bool.{cases_eq, cases_lt, lt-ltb, le-ltb}
 use Rattle.std.proofs.lemmas.List as ListLemmas
 use Rattle.std.proofs.lemmas.Bool.Decides.{nat_tests}
-use Rattle.step_record.specs.Keys.{has_key, keys_without}
+use Rattle.engine_base.specs.Keys.{has_key, keys_without}
 use Rattle.queue_table.specs.Entries.{Item, is_same_item, entry, occurrences, entries_without, entries_counted, oldest_of, before}
 use Rattle.queue_table.proofs.QueueLists.{same-true, same-refl, times-append, IsAbsent, absent, absent-taken, placed, queue-few, distinct-taken, with-queue-same, with-queue-other, times-with, times-none, StandsIn, front-none, back-none, rest, without-none}
 use Rattle.queue_table.proofs.Counting.{distinct-counted}

@@ -1,7 +1,7 @@
 -- The plan of an access: what it moves between numbered queues, in its order, and the queues after it.
 use Rattle.std.specs.Prelude.{ℕ, zero, suc, ◌-◌, ◌<◌, nat_lt, Bool, if◌then◌else◌, Option, Some, None, List, [], ◌∷◌}
-pub use Rattle.step_record.specs.declared.outcome.Outcome.{Outcome}
-use Rattle.step_record.specs.declared.outcome.Outcome.TheVariants.{Hit, Kept, Evicted}
+pub use Rattle.engine_base.specs.declared.outcome.Outcome.{Outcome}
+use Rattle.engine_base.specs.declared.outcome.Outcome.TheVariants.{Hit, Kept, Evicted}
 pub use Rattle.queue_table.specs.declared.records.Entry.{Entry}
 use Rattle.queue_table.specs.Entries.{Item, is_same_item, entry, oldest_of}
 use Rattle.queue_table.specs.Queues.{QUEUES, Queues, queue_holding, after_removal, after_send, after_count}

@@ -8,10 +8,10 @@ ghost use Rattle.queue_moves.specs.Undoing.{IsTurn, IsRun, IsLeft, IsOwn, outs, 
 ghost use Rattle.queue_moves.specs.Tabled.{IsTabled, keys_of};
 
 use crate::records::{Change, Departure, KeyMove, Left, Run};
+use engine_base::{Item, Key};
 use queue_table::{AHEAD, Entry, Found, QueueTable};
 use std::alloc::{AllocError, Global};
 use std::marker::Model;
-use step_record::{Item, Key};
 
 // The least number of keys in the queues at which it is read ahead. Smaller queues stay in the processor's caches, where
 // that costs more than it spares.

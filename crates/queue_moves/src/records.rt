@@ -4,7 +4,7 @@ ghost use Rattle.queue_table.specs.Queues.{Item, Queues};
 ghost use Rattle.queue_moves.specs.Moves.{item_of, Leaving, Own, stays, own_plan, outcome_after};
 ghost use Rattle.queue_moves.specs.Undoing.{left_of, IsOwn, IsCarried};
 
-use step_record::{Key, Outcome};
+use engine_base::{Key, Outcome};
 
 /// A run: the oldest key of one queue goes to the recent end of another one, or of the same, again and again.
 #[derive(Clone, Copy)]

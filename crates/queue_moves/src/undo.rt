@@ -10,9 +10,9 @@ ghost use Rattle.queue_moves.specs.Undoing.{item_in};
 
 use crate::key_queues::KeyQueues;
 use crate::records::{Change, Departure, KeyMove, Left, Moves, Run};
+use engine_base::{Item, Key};
 use queue_table::{Entry, Place};
 use std::alloc::AllocError;
-use step_record::{Item, Key};
 
 impl KeyQueues {
     /// Undoes the last access, by its record. The one error is out of memory; the queues are then as before.

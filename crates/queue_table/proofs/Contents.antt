@@ -10,7 +10,7 @@ use Rattle.queue_table.specs.Queues.{QUEUES, queue_holding, times_below, after_p
 use Rattle.queue_table.proofs.QueueLists.{same-true, same-refl, times-append, put_behind-at, IsAbsent, is_absent, placed, queue-few, times-none, times-with}
 use Rattle.queue_table.specs.Ring.{slot_entry, slot_item, count, put_before, FIRST, Order, used, order_without, sent, lists_of, item_or, IsShort}
 use Rattle.queue_table.specs.QueueTable.{IsBehind}
-use Rattle.step_record.specs.Keys.{keys_without}
+use Rattle.engine_base.specs.Keys.{keys_without}
 use Rattle.queue_table.proofs.Splices.{count-append, count-here, end_of}
 use Rattle.queue_table.proofs.Turning.{map-without, put-sentinel, without-none}
 use Rattle.queue_table.proofs.Orders.{put-end, section-in, section-used, short-without, with-other}

@@ -10,7 +10,7 @@ use Rattle.std.proofs.lemmas.Bool.{cases_eq, ne_eqb}
 use Rattle.std.proofs.lemmas.List.{map-append}
 use Rattle.std.proofs.lemmas.Bool.Decides.{nat_tests}
 use Rattle.queue_table.specs.Queues.{QUEUES, queue_holding}
-use Rattle.step_record.specs.Keys.{keys_without}
+use Rattle.engine_base.specs.Keys.{keys_without}
 use Rattle.queue_table.specs.QueueTable.{IsBehind}
 use Rattle.queue_table.proofs.Orders.{section-few, section-used, used-real}
 use Rattle.queue_table.proofs.Contents.{IsCutAt, cut_at, alone, placed-at}

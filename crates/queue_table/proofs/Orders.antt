@@ -5,7 +5,7 @@ use Rattle.std.proofs.lemmas.Bool.{cases_eq, cases_lt, ne_eqb, eq-eqb, lt-ltb, l
 use Rattle.std.proofs.lemmas.Bool.Decides.{nat_tests}
 use Rattle.queue_table.specs.Queues.{QUEUES}
 use Rattle.queue_table.specs.Ring.{count, IsRing, ring_of, put_before, moved_before, SECTIONS, FIRST, Order, ring, ring_from, used, used_below, with_section, until, past, order_in, order_without, sent, IsShort, IsPlace}
-use Rattle.step_record.specs.Keys.{keys_without}
+use Rattle.engine_base.specs.Keys.{keys_without}
 use Rattle.queue_table.proofs.Splices.{count-append, count-here}
 use Rattle.queue_table.proofs.Turning.{ring-is, without-append, put-sentinel, put-past, put-there, gone, count-left, count-without}
 

@@ -2,7 +2,7 @@
 use Rattle.std.proofs.Common.{◌≡◌, ℕ, ◌+◌, ◌≤◌, Bool, cond, eqb, List, [], ◌∷◌, ◌++◌, length, ◌∙◌, refl, arith, map, ◌-◌, ◌<◌, false, get_or, set, ap, sym, subst, ◌⊎◌, inl, inr, length-set, length-append, append-nil}
 use Rattle.std.proofs.lemmas.Bool.Decides.{nat_tests}
 use Rattle.queue_table.specs.Ring.{count, put_before, IsLinked, IsRing, walk, ring_of, moved_before}
-use Rattle.step_record.specs.Keys.{keys_without}
+use Rattle.engine_base.specs.Keys.{keys_without}
 use Rattle.std.proofs.lemmas.Bool.{eqb-true, ne_eqb, cases_Bool, cases_eq, cond-true, cond-false}
 use Rattle.queue_table.proofs.Splices.{count-append, end_of, start_of, end-stands, start-stands, older-end, newer-start, linked-split, unlinked, linked, walked}
 

@@ -1,6 +1,6 @@
 -- Lists of entries, oldest first: an item with a small count beside it.
 use Rattle.std.specs.Prelude.{◌≡◌, ℕ, ◌+◌, Bool, cond, ◌&&◌, eqb, Option, Some, None, List, [], ◌∷◌, ◌++◌, map}
-pub use Rattle.step_record.specs.declared.item.Item.{Item}
+pub use Rattle.engine_base.specs.declared.item.Item.{Item}
 pub use Rattle.queue_table.specs.declared.records.Entry.{Entry}
 
 -- one key with one node: two stays of a key are different items

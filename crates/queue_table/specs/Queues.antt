@@ -1,7 +1,7 @@
 -- Queues by number, and what each call makes of them.
 use Rattle.std.specs.Prelude.{ℕ, suc, zero, ◌+◌, ◌≤◌, nat_lt, cond, eqb, Option, Some, None, List, [], ◌∷◌, ◌++◌}
 use Rattle.std.specs.Prelude.{length}
-pub use Rattle.step_record.specs.declared.item.Item.{Item}
+pub use Rattle.engine_base.specs.declared.item.Item.{Item}
 use Rattle.queue_table.specs.declared.records.Entry.{Entry}
 pub use Rattle.queue_table.specs.declared.records.Place.{Place}
 use Rattle.queue_table.specs.Entries.{occurrences, entries_without, entries_counted, last_item, before, put_behind}

@@ -1,6 +1,6 @@
 -- The slots, linked into one ring, and the ring cut by number into the free slots and the queues.
 use Rattle.std.specs.Prelude.{◌≡◌, ℕ, suc, zero, nat_lt, ◌⊎◌, Option, Some, None, ◌+◌, ◌-◌, ◌<◌, ◌≤◌, eqb, cond}
-use Rattle.step_record.specs.Keys.{keys_without}
+use Rattle.engine_base.specs.Keys.{keys_without}
 use Rattle.std.specs.Prelude.{List, [], ◌∷◌, ◌++◌, length, map, slice_index, slice_index_or, slice_set}
 pub use Rattle.queue_table.specs.declared.slot.Slot.{Slot}
 use Rattle.queue_table.specs.Entries.{Entry, Item, entry}

@@ -1,7 +1,7 @@
 -- Search trees of slots, and what a slot more or less makes of one.
 use Rattle.std.specs.Prelude.{◌≡◌, ℕ, suc, ◌+◌, ◌*◌, ◌/◌, ◌%◌, ◌^◌, ◌≤◌, ◌<◌, eqb, cond, Bool, true, false}
 use Rattle.std.specs.Prelude.{List, length, slice_index}
-pub use Rattle.step_record.specs.declared.item.Item.{Item}
+pub use Rattle.engine_base.specs.declared.item.Item.{Item}
 
 -- a binary tree of slots
 pub data Tree : Type 0 where

@@ -9,8 +9,8 @@ ghost use Rattle.queue_table.specs.QueueTable.{bits_of_first, bits_of_wider, bit
 use crate::links::{FIRST_SLOT, link};
 use crate::slot::Slot;
 use crate::slot_index::SlotIndex;
+use engine_base::Item;
 use std::alloc::{AllocError, Global};
-use step_record::Item;
 
 /// The most slots: the largest index, of 2^31 buckets, has branches for them.
 const MAX_SLOTS: usize = 1 << 30;

@@ -19,8 +19,8 @@ ghost use Rattle.queue_table.specs.Ring.{IsQueued, HasItems, CanGo, IsSent, IsFr
 
 use crate::records::{Entry, Place};
 use crate::slot::{Slot, set_entry, set_newer, set_older, set_queue};
+use engine_base::Item;
 use std::alloc::{AllocError, Global};
-use step_record::Item;
 
 /// The first slot that holds an item.
 pub(crate) const FIRST_SLOT: u32 = 6;

@@ -18,9 +18,9 @@ use crate::links::{
 use crate::records::{Entry, Found, Place};
 use crate::slot::{RingItems, Slot, entry_of, set_entry};
 use crate::slot_index::SlotIndex;
+use engine_base::{Item, Key};
 use std::alloc::{AllocError, Global};
 use std::marker::Model;
-use step_record::{Item, Key};
 
 /// Queues by number, each item once, with a count beside it. A call that works on an item takes its slot, as `find`,
 /// `oldest` and `newest` give it.

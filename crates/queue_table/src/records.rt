@@ -1,5 +1,5 @@
 //! Entries, places in queues, and what a search finds.
-use step_record::Item;
+use engine_base::Item;
 
 /// An item with the count beside it.
 #[derive(Clone, Copy)]

@@ -4,7 +4,7 @@ ghost use Rattle.queue_table.specs.Ring.{entries, olders, newers, tags, slot_ent
 
 use crate::records::Entry;
 use crate::slot_index::SlotItems;
-use step_record::Item;
+use engine_base::Item;
 
 /// A place for one item, with its neighbours in the ring of all slots.
 #[derive(Clone, Copy)]

@@ -6,8 +6,8 @@ ghost use Rattle.queue_table.specs.Places.{IsWhole, IsBare, IsFree, IsThere, Rep
 ghost use Rattle.queue_table.specs.Index.{bucket, capacity, IsIndexed, LacksSlot, HasSlot, IsAdded, IsRemoved, CanFind, IsFound, IsInBucket};
 ghost use Rattle.queue_table.specs.Walks.{HasTree, HasTreeWithin, IsOnWay};
 
+use engine_base::Item;
 use std::alloc::{AllocError, Global};
-use step_record::Item;
 
 // 2^64 over the golden ratio, to the nearest odd number (Knuth's multiplicative hashing).
 const MULTIPLIER: u64 = 11400714819323198485;

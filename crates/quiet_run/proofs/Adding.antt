@@ -1,9 +1,9 @@
 -- Steps that came to the end of a session.
 use Rattle.std.proofs.Common.{◌≡◌, ℕ, ◌+◌, ◌-◌, Option, Some, None, option_map, [], ◌∷◌, ◌++◌, length, length-append, refl, sym, ap, ◌∙◌, subst, arith}
 use Rattle.std.proofs.lemmas.List.{append_assoc, append-nil}
-use Rattle.step_record.specs.declared.drain.Phase.TheVariants.{Reads, Writes, Evictions}
-use Rattle.step_record.specs.History.{Entries, tail_after}
-use Rattle.step_record.proofs.Undone.{tail_joined}
+use Rattle.engine_base.specs.declared.drain.Phase.TheVariants.{Reads, Writes, Evictions}
+use Rattle.engine_base.specs.History.{Entries, tail_after}
+use Rattle.engine_base.proofs.Undone.{tail_joined}
 use Rattle.shell_model.specs.ReachableShell.{Step, Reply, worker_of}
 use Rattle.maintenance.specs.EmptyShell.{Holder, Phase, holder_parts}
 use Rattle.walks.specs.declared.place.Local.{Local}

@@ -2,11 +2,11 @@
 use Rattle.std.proofs.Common.{◌≡◌, ◌≢◌, ℕ, ◌≤◌, true, false, eqb, Option, Some, None, IsSome, [], ◌∷◌, ◌++◌, length, refl, sym, ap, ◌∙◌, subst, inl, inr, arith}
 use Rattle.std.proofs.lemmas.Bool.{cases_Bool, eqb-true, eq-eqb}
 use Rattle.std.proofs.lemmas.List.{append_assoc, append-nil, map-append}
-use Rattle.step_record.specs.declared.step.Act.TheVariants as act
-use Rattle.step_record.specs.declared.step.Reply.TheVariants as reply
-use Rattle.step_record.specs.declared.drain.Phase.TheVariants.{Reads, Writes, Evictions}
-use Rattle.step_record.specs.Answers.{is_answer}
-use Rattle.step_record.specs.History.{Entries}
+use Rattle.engine_base.specs.declared.step.Act.TheVariants as act
+use Rattle.engine_base.specs.declared.step.Reply.TheVariants as reply
+use Rattle.engine_base.specs.declared.drain.Phase.TheVariants.{Reads, Writes, Evictions}
+use Rattle.engine_base.specs.Answers.{is_answer}
+use Rattle.engine_base.specs.History.{Entries}
 use Rattle.shell_model.specs.ReachableShell.{Step, Reply, IsReachable, worker_of}
 use Rattle.shell_model.specs.Laws.{Phase, Act, Entry, is_ending}
 use Rattle.shell_model.specs.Shell.{Shell, held_by, act_reply, act as acted}

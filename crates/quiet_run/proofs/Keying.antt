@@ -1,10 +1,10 @@
 -- Keys one after another.
 use Rattle.std.proofs.Common.{◌≡◌, ◌≢◌, ℕ, ◌+◌, ◌<◌, List, [], ◌∷◌, ◌++◌, length, get_or, drop, refl, sym, ap, ◌∙◌, subst, add-one, drop-cons}
 use Rattle.std.proofs.lemmas.List.{append_assoc, append-nil}
-use Rattle.step_record.specs.declared.outcome.Outcome.TheVariants as outcome
-use Rattle.step_record.specs.declared.step.Act.TheVariants as act
-use Rattle.step_record.specs.declared.step.Reply.TheVariants as reply
-use Rattle.step_record.specs.History.{Entries}
+use Rattle.engine_base.specs.declared.outcome.Outcome.TheVariants as outcome
+use Rattle.engine_base.specs.declared.step.Act.TheVariants as act
+use Rattle.engine_base.specs.declared.step.Reply.TheVariants as reply
+use Rattle.engine_base.specs.History.{Entries}
 use Rattle.walks.specs.Walks.{step_of}
 use Rattle.quiet_run.specs.Outcomes.{Outcome, outcome_from}
 use Rattle.quiet_run.specs.QuietWalks.{IsQuietWalk, AreQuietWalks, BeginQuietWalks}

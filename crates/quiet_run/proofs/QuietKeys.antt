@@ -2,13 +2,13 @@
 use Rattle.std.proofs.Common.{◌≡◌, ℕ, suc, ◌+◌, ◌<◌, ◌≤◌, true, nat_lt, Some, None, List, [], ◌∷◌, length, refl, sym, subst, arith}
 use Rattle.std.proofs.Math.Nat.{zero-mod}
 use Rattle.std.proofs.lemmas.Bool.Decides.{nat_tests}
-use Rattle.step_record.specs.declared.config.Config.{Config}
-use Rattle.step_record.specs.declared.outcome.Outcome.TheVariants as outcome
-use Rattle.step_record.specs.declared.step.Act.TheVariants as a
-use Rattle.step_record.specs.declared.step.Answer.TheVariants as answer
-use Rattle.step_record.specs.declared.step.Reply.TheVariants as reply
-use Rattle.step_record.specs.declared.drain.Drain.TheVariants as drain
-use Rattle.step_record.specs.declared.drain.Phase.TheVariants.{Reads, Writes}
+use Rattle.engine_base.specs.declared.config.Config.{Config}
+use Rattle.engine_base.specs.declared.outcome.Outcome.TheVariants as outcome
+use Rattle.engine_base.specs.declared.step.Act.TheVariants as a
+use Rattle.engine_base.specs.declared.step.Answer.TheVariants as answer
+use Rattle.engine_base.specs.declared.step.Reply.TheVariants as reply
+use Rattle.engine_base.specs.declared.drain.Drain.TheVariants as drain
+use Rattle.engine_base.specs.declared.drain.Phase.TheVariants.{Reads, Writes}
 use Rattle.admission.specs.Frequency.{FrequencyData}
 use Rattle.segments.specs.declared.records.Queue.TheVariants.{Window}
 use Rattle.segments.specs.Queues.{Queues, queues_after_push}

@@ -3,12 +3,12 @@ use Rattle.std.proofs.Common.{◌≡◌, ℕ, suc, zero, ◌+◌, ◌<◌, ◌�
 use Rattle.std.specs.Prelude.{MatchBool, ◌==◌}
 use Rattle.std.proofs.lemmas.Bool.{cases_Bool, eq-eqb}
 use Rattle.std.proofs.lemmas.Bool.Decides.{nat_tests}
-use Rattle.step_record.specs.declared.outcome.Outcome.TheVariants as outcome
-use Rattle.step_record.specs.declared.step.Act.TheVariants as a
-use Rattle.step_record.specs.declared.step.Reply.TheVariants as reply
-use Rattle.step_record.specs.declared.drain.Drain.TheVariants as drain
-use Rattle.step_record.specs.declared.drain.Phase.TheVariants.{Reads, Writes, Evictions}
-use Rattle.step_record.specs.History.{Entries}
+use Rattle.engine_base.specs.declared.outcome.Outcome.TheVariants as outcome
+use Rattle.engine_base.specs.declared.step.Act.TheVariants as a
+use Rattle.engine_base.specs.declared.step.Reply.TheVariants as reply
+use Rattle.engine_base.specs.declared.drain.Drain.TheVariants as drain
+use Rattle.engine_base.specs.declared.drain.Phase.TheVariants.{Reads, Writes, Evictions}
+use Rattle.engine_base.specs.History.{Entries}
 use Rattle.admission.specs.Frequency.{FrequencyData}
 use Rattle.segments.specs.declared.records.Queue.TheVariants.{Probation}
 use Rattle.segments.specs.Items.{Item, is_same_item, occurrences, items_without, oldest_of}

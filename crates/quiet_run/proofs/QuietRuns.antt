@@ -1,8 +1,8 @@
 -- Keys one after another.
 use Rattle.std.proofs.Common.{◌≡◌, ℕ, ◌≤◌, Option, Some, Ok, List, [], ◌∷◌, ◌++◌, ap, subst, ◌∙◌, sym, refl, arith}
 use Rattle.std.proofs.lemmas.List.{append_assoc, append-nil}
-use Rattle.step_record.specs.Config.{config_fault}
-use Rattle.step_record.specs.History.{next_data, data_after, IsLegal, Entries}
+use Rattle.engine_base.specs.Config.{config_fault}
+use Rattle.engine_base.specs.History.{next_data, data_after, IsLegal, Entries}
 use Rattle.admission.specs.Shape.{Shape, IsShape}
 use Rattle.admission.specs.Frequency.{FrequencyData, frequency_of, pace_of}
 use Rattle.admission.proofs.Recording.{recorded_freq}

@@ -1,8 +1,8 @@
 -- What the entries of a walk come to, read one after another: the definition of the cache fixes each reply.
 use Rattle.std.proofs.Common.{◌≡◌, ℕ, nat_lt, Option, Some, None, List, [], ◌∷◌, ap, subst, ◌∙◌, sym, refl, inl, inr}
 use Rattle.std.proofs.lemmas.Bool.{cases_Bool}
-use Rattle.step_record.specs.declared.drain.Drain.TheVariants as drain
-use Rattle.step_record.specs.History.{next_data, data_after, IsLegal, Entries}
+use Rattle.engine_base.specs.declared.drain.Drain.TheVariants as drain
+use Rattle.engine_base.specs.History.{next_data, data_after, IsLegal, Entries}
 use Rattle.admission.specs.Frequency.{FrequencyData}
 use Rattle.segments.specs.Queues.{Queues}
 use Rattle.shell_model.specs.declared.holder.Holder.{Holder}

@@ -1,9 +1,9 @@
 -- A round has no report: it is the same with a round behind each report.
 use Rattle.std.proofs.Common.{◌≡◌, ℕ, ◌+◌, ◌==◌, ◌↔◌, Bool, true, false, [], ◌∷◌, refl, MatchBool}
-use Rattle.step_record.specs.declared.step.Act.TheVariants as act
-use Rattle.step_record.specs.declared.step.Answer.TheVariants as answer
-use Rattle.step_record.specs.declared.step.Reply.TheVariants as reply
-use Rattle.step_record.specs.History.{Entries}
+use Rattle.engine_base.specs.declared.step.Act.TheVariants as act
+use Rattle.engine_base.specs.declared.step.Answer.TheVariants as answer
+use Rattle.engine_base.specs.declared.step.Reply.TheVariants as reply
+use Rattle.engine_base.specs.History.{Entries}
 use Rattle.walks.specs.Walks.{Step, Reply, Act, step_of, IsRound, FollowsBegin, IsReading, FollowsDrainRead, IsWriting, FollowsDrainWrite, IsEvicting, FollowsEvict, IsEnding, FollowsEnd}
 use Rattle.walks.specs.WalkPlaces.{IsWalkFrom, is_place}
 use Rattle.walks.proofs.Finishing.{finish}

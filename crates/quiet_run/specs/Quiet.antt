@@ -1,9 +1,9 @@
 -- The simulation: a concurrent cache at which nothing is under way, beside a cache of W-TinyLFU.
 use Rattle.std.specs.Prelude.{◌≡◌, ◌≤◌, Some, None, [], length, replicate}
-pub use Rattle.step_record.specs.declared.config.Config.{Config}
+pub use Rattle.engine_base.specs.declared.config.Config.{Config}
 use Rattle.step_record.specs.declared.job.Policy.TheVariants.{WindowTinyLfu}
 use Rattle.step_record.specs.Job.{published_tuning}
-use Rattle.step_record.specs.declared.drain.Drain.TheVariants.{Idle}
+use Rattle.engine_base.specs.declared.drain.Drain.TheVariants.{Idle}
 use Rattle.segments.specs.Items.{Item, occurrences}
 use Rattle.queue_cache.specs.QueueCache.{Job, QueueState}
 use Rattle.shell_model.specs.Shell.{Shell, window_size}

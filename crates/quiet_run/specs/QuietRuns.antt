@@ -1,7 +1,7 @@
 -- What a quiet run of the concurrent cache is to W-TinyLFU.
 use Rattle.std.specs.Prelude.{◌≡◌, ℕ, Some, List, ◌++◌}
-use Rattle.step_record.specs.declared.outcome.Outcome.TheVariants.{Kept}
-use Rattle.step_record.specs.History.{data_after, IsLegal, Entries}
+use Rattle.engine_base.specs.declared.outcome.Outcome.TheVariants.{Kept}
+use Rattle.engine_base.specs.History.{data_after, IsLegal, Entries}
 use Rattle.queue_cache.specs.QueueCache.{Outcome, QueueState, outcomes_after, state_after}
 use Rattle.queue_cache.specs.QueueStep.{queue_act}
 use Rattle.shell_model.specs.Shell.{Shell, act}

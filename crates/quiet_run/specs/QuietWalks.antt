@@ -1,11 +1,11 @@
 -- The walk of worker 0 over one key where a round of maintenance comes after each, whatever the reports were answered.
 -- (This project's own: with it the concurrent cache is W-TinyLFU.)
 use Rattle.std.specs.Prelude.{◌≡◌, ℕ, List, [], ◌∷◌, ◌++◌, length, map}
-pub use Rattle.step_record.specs.declared.entry.Entry.{Entry}
-use Rattle.step_record.specs.declared.outcome.Outcome.TheVariants.{Kept}
-use Rattle.step_record.specs.declared.step.Call.TheVariants as call
-use Rattle.step_record.specs.declared.step.Reply.TheVariants as reply
-use Rattle.step_record.specs.History.{Entries}
+pub use Rattle.engine_base.specs.declared.entry.Entry.{Entry}
+use Rattle.engine_base.specs.declared.outcome.Outcome.TheVariants.{Kept}
+use Rattle.engine_base.specs.declared.step.Call.TheVariants as call
+use Rattle.engine_base.specs.declared.step.Reply.TheVariants as reply
+use Rattle.engine_base.specs.History.{Entries}
 use Rattle.journal.specs.declared.fault.SessionFault.TheVariants as cause
 use Rattle.quiet_run.specs.declared.run.QuietFault.{QuietFault}
 use Rattle.quiet_run.specs.declared.run.QuietFault.TheVariants as fault

@@ -1,8 +1,8 @@
 -- The rest of a round of maintenance, from the phase that its holder is at.
 use Rattle.std.specs.Prelude.{◌≡◌, ℕ, ◌<◌, Option, Some, None, [], ◌++◌, length}
-use Rattle.step_record.specs.declared.step.Act.TheVariants.{Look}
-use Rattle.step_record.specs.declared.drain.Phase.TheVariants.{Reads, Writes, Evictions}
-use Rattle.step_record.specs.History.{Entries, tail_after}
+use Rattle.engine_base.specs.declared.step.Act.TheVariants.{Look}
+use Rattle.engine_base.specs.declared.drain.Phase.TheVariants.{Reads, Writes, Evictions}
+use Rattle.engine_base.specs.History.{Entries, tail_after}
 use Rattle.journal.specs.Session.{SessionState}
 pub use Rattle.journal.specs.declared.fault.SessionFault.{SessionFault}
 use Rattle.journal.specs.declared.fault.SessionFault.TheVariants.{OutOfMemory, JournalFull, NotNow}

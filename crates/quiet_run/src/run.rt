@@ -1,7 +1,7 @@
 //! Accesses by one worker, with the maintenance finished after each.
 ghost use Rattle.std.specs.Prelude.{◌≡◌, ◌≤◌, ◌↔◌, ℕ, None, Err, IsSome, IfOk, IfErr, OnOk, OnErr, length, [], List};
-ghost use Rattle.step_record.specs.declared.limits.TheConstants.{MAX_STRIPES};
-ghost use Rattle.step_record.specs.declared.outcome.Outcome.TheVariants.{Kept};
+ghost use Rattle.engine_base.specs.declared.limits.TheConstants.{MAX_STRIPES};
+ghost use Rattle.engine_base.specs.declared.outcome.Outcome.TheVariants.{Kept};
 ghost use Rattle.queue_cache.specs.QueueCache.{state_after};
 ghost use Rattle.shell_model.specs.ReachableShell.{IsReachable};
 ghost use Rattle.quiet_run.specs.Quiet.{Config, IsQuiet, quiet_job};

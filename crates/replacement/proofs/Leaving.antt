@@ -2,8 +2,8 @@
 use Rattle.std.proofs.lemmas.Bool.Decides.{nat_tests}
 use Rattle.std.proofs.Common.{arith, ◌≡◌, ℕ, Bool, true, false, nat_lt, Option, Some, None, option_map, length, refl, ap, ◌∙◌}
 use Rattle.std.proofs.lemmas.Bool.{cond_both}
-use Rattle.step_record.specs.declared.outcome.Outcome.TheVariants.{Hit}
-use Rattle.step_record.specs.Stats.{is_eviction, is_hit}
+use Rattle.engine_base.specs.declared.outcome.Outcome.TheVariants.{Hit}
+use Rattle.engine_base.specs.Stats.{is_eviction, is_hit}
 use Rattle.segments.specs.Items.{Item, oldest_of}
 use Rattle.segments.specs.Queues.{Queues, queue_holding, IsDistinct, queues_after_move}
 use Rattle.replacement.specs.Table.{Rules, Placement, Queue, Response, kept_in, trial_of, eviction, miss_by, access_in, access}

@@ -3,8 +3,8 @@ use Rattle.std.proofs.Common.{◌≡◌, ◌⊎◌, ℕ, suc, ◌+◌, ◌≤◌
 use Rattle.std.proofs.lemmas.Bool.Decides.{nat_tests}
 use Rattle.std.specs.List.{count_by}
 use Rattle.std.proofs.lemmas.List.Sums.{sum_by-append, sum_by-cons}
-use Rattle.step_record.specs.Keys.{has_key}
-use Rattle.step_record.specs.Stats.{one_if}
+use Rattle.engine_base.specs.Keys.{has_key}
+use Rattle.engine_base.specs.Stats.{one_if}
 use Rattle.segments.specs.Items.{Item, nodeless_item, is_same_item, occurrences}
 use Rattle.segments.specs.Queues.{Queues, residents_in, total_items, IsDistinct}
 use Rattle.segments.proofs.QueueLists.{same-true, same-refl}

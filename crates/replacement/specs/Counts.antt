@@ -1,6 +1,6 @@
 -- How many items stand where in the queues.
 use Rattle.std.specs.Prelude.{ℕ, ◌+◌, length}
-pub use Rattle.step_record.specs.declared.item.Item.{Item}
+pub use Rattle.engine_base.specs.declared.item.Item.{Item}
 use Rattle.segments.specs.Items.{occurrences}
 use Rattle.segments.specs.Queues.{Queues}
 

@@ -1,6 +1,6 @@
 -- How the moves of an access are kept: which moves have a packed form, and what the form shows.
 use Rattle.std.specs.Prelude.{◌≡◌, Bool, true, false, Option, Some, None}
-use Rattle.step_record.specs.declared.item.Item.{Item}
+use Rattle.engine_base.specs.declared.item.Item.{Item}
 pub use Rattle.segments.specs.declared.records.Queue.{Queue}
 use Rattle.segments.specs.declared.records.Queue.TheVariants as queue
 use Rattle.segments.specs.declared.records.QueuePlace.{QueuePlace}

@@ -1,9 +1,9 @@
 -- How the code carries out the table of moves: an access is planned from the queues before it. A candidate goes
 -- straight from the window to its place in probation, or out.
 use Rattle.std.specs.Prelude.{ℕ, nat_lt, Bool, if◌then◌else◌, Option, Some, None, length}
-pub use Rattle.step_record.specs.declared.item.Item.{Item}
-pub use Rattle.step_record.specs.declared.outcome.Outcome.{Outcome}
-use Rattle.step_record.specs.declared.outcome.Outcome.TheVariants.{Hit, Kept, Evicted, Rejected}
+pub use Rattle.engine_base.specs.declared.item.Item.{Item}
+pub use Rattle.engine_base.specs.declared.outcome.Outcome.{Outcome}
+use Rattle.engine_base.specs.declared.outcome.Outcome.TheVariants.{Hit, Kept, Evicted, Rejected}
 pub use Rattle.segments.specs.declared.records.Queue.{Queue}
 use Rattle.segments.specs.declared.records.Queue.TheVariants.{Window, Probation, Protected}
 use Rattle.segments.specs.Items.{oldest_of}

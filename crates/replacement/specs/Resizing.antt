@@ -2,7 +2,7 @@
 -- BoundedLocalCache: what the window has more, protected has less, and what falls out goes to the oldest or the recent end
 -- of the queue beside it.)
 use Rattle.std.specs.Prelude.{ℕ, ◌+◌, nat_lt, if◌then◌else◌, Option, None, length}
-use Rattle.step_record.specs.declared.outcome.Outcome.TheVariants.{Hit}
+use Rattle.engine_base.specs.declared.outcome.Outcome.TheVariants.{Hit}
 use Rattle.segments.specs.declared.records.Queue.TheVariants.{Window, Probation}
 use Rattle.segments.specs.Items.{oldest_of}
 use Rattle.segments.specs.Queues.{Queues}

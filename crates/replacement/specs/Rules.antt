@@ -1,7 +1,7 @@
 -- What a policy of queues goes by: its sizes, and where new items go. The shares are defined by this
 -- project; a window before a segmented main part is Caffeine's.
 use Rattle.std.specs.Prelude.{ℕ, ◌*◌, ◌/◌, ◌-◌}
-pub use Rattle.step_record.specs.declared.config.Config.{Config}
+pub use Rattle.engine_base.specs.declared.config.Config.{Config}
 use Rattle.segments.specs.declared.records.Queue.TheVariants.{Window, Probation}
 use Rattle.replacement.specs.declared.rules.Placement.TheVariants.{Direct, Windowed}
 use Rattle.replacement.specs.declared.rules.Rules.{Rules}

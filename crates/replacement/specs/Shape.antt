@@ -1,6 +1,6 @@
 -- How large the tables of a configuration's frequency are.
 use Rattle.std.specs.Prelude.{ℕ, zero, suc, ◌*◌, max, nat_le, if◌then◌else◌}
-pub use Rattle.step_record.specs.declared.config.Config.{Config}
+pub use Rattle.engine_base.specs.declared.config.Config.{Config}
 use Rattle.admission.specs.Shape.{Shape}
 
 -- p, doubled until it is at least n, but only so many times

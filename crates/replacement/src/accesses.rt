@@ -13,9 +13,9 @@ use crate::misses::{direct, windowed};
 use crate::record::Effect;
 use crate::rules::{Placement, Rules};
 use admission::Frequency;
+use engine_base::{Item, Key, Node, Outcome};
 use segments::Segments;
 use std::alloc::AllocError;
-use step_record::{Item, Key, Node, Outcome};
 
 /// Makes the room that an access to the item needs, ahead of it. The one error is that an allocation failed where the
 /// item stands in no queue; the queues are then as before.

@@ -1,6 +1,6 @@
 //! The admission filter: who stays where one of two keys has to go.
 ghost use Rattle.std.specs.Prelude.{◌≡◌, [], Ok, IfOk, option_map};
-ghost use Rattle.step_record.specs.Config.{config_fault};
+ghost use Rattle.engine_base.specs.Config.{config_fault};
 ghost use Rattle.admission.specs.Frequency.{frequency_of};
 ghost use Rattle.replacement.specs.Admission.{admits_in};
 ghost use Rattle.replacement.specs.Shape.{shape_of, open_shape_of};
@@ -8,8 +8,8 @@ ghost use Rattle.std.specs.Prelude.{◌≤◌};
 ghost use Rattle.std.specs.Int.{IsPowerOfTwo};
 
 use admission::Frequency;
+use engine_base::{Config, Key};
 use std::alloc::{AllocError, Global};
-use step_record::{Config, Key};
 
 /// The frequency of no key, as large as a configuration asks for. It requires one that `Config::check` accepts; the one
 /// error is that an allocation failed.

@@ -9,8 +9,8 @@ ghost use Rattle.replacement.specs.KeptMoves.{IsOldest, IsKeepable};
 
 use crate::queue_moves::send_oldest;
 use crate::record::Moves;
+use engine_base::Item;
 use segments::{MoveRecord, Queue, Segments};
-use step_record::Item;
 
 /// A hit on an item, where protected holds `size` items: an item of the window goes to the window's recent end, any
 /// other to protected's, and where one that came from probation takes protected over its size, the oldest item there

@@ -6,9 +6,9 @@ ghost use Rattle.replacement.specs.KeptMoves.{oldest_place as oldest_place_of, o
 ghost use Rattle.replacement.specs.KeptMoves.{IsOldest, IsKeepable, moves_in, target_of};
 
 use crate::record::Moves;
+use engine_base::Item;
 use segments::{MoveRecord, Queue, QueuePlace};
 use std::marker::Model;
-use step_record::Item;
 
 /// The undo record of an access or an eviction, packed: it has no room for what cannot come. Contracts see the moves,
 /// and the invariant says that it holds nothing beside them.

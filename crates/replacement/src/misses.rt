@@ -13,8 +13,8 @@ use crate::queue_moves::{drop_oldest, join, renew_oldest, send_oldest};
 use crate::record::{Effect, Moves};
 use crate::rules::Rules;
 use admission::Frequency;
+use engine_base::{Item, Outcome};
 use segments::{Queue, Segments};
-use step_record::{Item, Outcome};
 
 /// One eviction. Where the window is over its size, its oldest item goes to probation's recent end as the candidate;
 /// where the queues then hold more than the capacity, probation's oldest is the victim. Where these are one item it

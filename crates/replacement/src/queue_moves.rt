@@ -7,8 +7,8 @@ ghost use Rattle.replacement.specs.Plan.{transfer};
 ghost use Rattle.replacement.specs.PlanMoves.{queues_after_transfer, removed, transfer_record, removal_record};
 ghost use Rattle.replacement.specs.KeptMoves.{IsOldest, IsDrop};
 
+use engine_base::Item;
 use segments::{MoveRecord, Queue, Segments};
-use step_record::Item;
 
 /// Puts an item that stands in no queue at the recent end of one.
 #[inline(always)]

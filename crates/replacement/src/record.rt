@@ -1,6 +1,6 @@
 //! What an access came to, and the undo record of what it moved.
+use engine_base::Outcome;
 use segments::MoveRecord;
-use step_record::Outcome;
 
 /// The undo record of an access or an eviction: what was moved, in turn. At most one item left the queues.
 #[derive(Clone, Copy)]

@@ -1,10 +1,10 @@
 //! What a policy of queues goes by.
 ghost use Rattle.std.specs.Prelude.{◌≡◌, ◌≤◌, Ok};
-ghost use Rattle.step_record.specs.Config.{config_fault};
+ghost use Rattle.engine_base.specs.Config.{config_fault};
 ghost use Rattle.replacement.specs.Rules.{main_size, one_queue, two_queues, three_queues};
 
+use engine_base::Config;
 use segments::Queue;
-use step_record::Config;
 
 /// Where a new item goes.
 #[derive(Clone, Copy)]

@@ -2,7 +2,7 @@
 use Rattle.std.proofs.lemmas.Bool.Decides.{nat_tests}
 use Rattle.std.proofs.Common.{Bool, ◌≡◌, ℕ, zero, suc, ◌+◌, ◌<◌, ◌≤◌, false, nat_lt, List, [], ◌∷◌, ◌++◌, length, ◌∙◌, refl, arith, length-append}
 use Rattle.std.proofs.lemmas.Bool.{cond_both, ltb-true, ltb-false}
-use Rattle.step_record.specs.Keys.{has_key}
+use Rattle.engine_base.specs.Keys.{has_key}
 use Rattle.policy_page.specs.Residents.{Outcome, times, keys_evicted, IsAccess, KeepsResidents}
 use Rattle.policy_page.specs.CountedKeys.{CountedKey, keys_of, count_of, AreCounted}
 use Rattle.policy_page.specs.Turns.{after_turn}

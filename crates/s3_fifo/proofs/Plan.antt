@@ -2,7 +2,7 @@
 use Rattle.std.proofs.Common.{◌≡◌, ℕ, zero, suc, ◌+◌, ◌-◌, ◌*◌, ◌≤◌, true, false, if◌then◌else◌, eqb, ◌||◌, nat_lt, Bool, Some, List, [], ◌∷◌, ◌++◌, length, ap, sym, subst, ◌∙◌, refl, arith, inl, inr, length-append, ◌<◌, ◌==◌, Option, None}
 use Rattle.std.proofs.lemmas.Bool.{cases_Bool, ltb-false, le-ltb, or_parts, cond_both, eqb-true, eqb-false}
 use Rattle.std.proofs.lemmas.Bool.Decides.{nat_tests}
-use Rattle.step_record.specs.Keys.{has_key, keys_without}
+use Rattle.engine_base.specs.Keys.{has_key, keys_without}
 use Rattle.queue_table.specs.Entries.{oldest_of, entry, entries_counted}
 use Rattle.queue_table.specs.Queues.{Queues, with_queue, QUEUES, after_send}
 use Rattle.policy_page.specs.CountedKeys.{CountedKey, AreCounted, total_count, oldest_count, uncounted_key, count_of, with_count}
@@ -21,7 +21,7 @@ use Rattle.policy_page.specs.Misses.{Run, after_leavers, leavers_for_ghost, Leav
 use Rattle.s3_fifo.specs.Plan.{SMALL, MAIN, GHOST, s3_fifo_of, gives_main, main_turns, promotions, joins, s3_fifo_miss, plan_at, is_resident, s3_fifo_page}
 use Rattle.policy_page.proofs.Counted.{counted-append, length-counted, oldest-counted, turns-are, keys-counted, counted-with, both-counted, has-both, its-count, turns-keep}
 use Rattle.policy_page.proofs.Moving.{sent, kept, leavers-gone, ghost-keys, leavers-low, first-of, apart-first, own-low, AreLow, tabled-leavers, without-keys}
-use Rattle.step_record.specs.declared.outcome.Outcome.TheVariants as outcome
+use Rattle.engine_base.specs.declared.outcome.Outcome.TheVariants as outcome
 use Rattle.queue_table.proofs.QueueLists.{queue-few, without-none}
 use Rattle.policy_page.specs.Residents.{Outcome, times}
 use Rattle.policy_page.specs.CountedKeys as counted

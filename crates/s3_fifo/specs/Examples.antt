@@ -1,7 +1,7 @@
 -- Worked examples.
 use Rattle.std.specs.Prelude.{◌≡◌, ℕ, List, [], ◌∷◌}
-use Rattle.step_record.specs.Job.{part_size}
-use Rattle.step_record.specs.declared.outcome.Outcome.TheVariants.{Hit, Kept, Evicted}
+use Rattle.engine_base.specs.PartSize.{part_size}
+use Rattle.engine_base.specs.declared.outcome.Outcome.TheVariants.{Hit, Kept, Evicted}
 use Rattle.policy_page.specs.Examples.{Outcome, example_counts, counts_with, run_of, counted}
 use Rattle.s3_fifo.specs.S3Fifo.{S3FifoState, s3_fifo_act, empty_s3_fifo, s3_fifo_main_size}
 

@@ -4,9 +4,9 @@
 -- to main where its count is 2 or 3, or leaves for the ghost. This goes on until a key left.
 use Rattle.std.specs.Prelude.{ℕ, zero, suc, ◌+◌, ◌-◌, ◌≤◌, nat_lt, eqb, Bool, true, false, if◌then◌else◌}
 use Rattle.std.specs.Prelude.{List, [], ◌∷◌, ◌++◌, length}
-use Rattle.step_record.specs.Keys.{has_key, keys_without}
-pub use Rattle.step_record.specs.declared.outcome.Outcome.{Outcome}
-use Rattle.step_record.specs.declared.outcome.Outcome.TheVariants as outcome
+use Rattle.engine_base.specs.Keys.{has_key, keys_without}
+pub use Rattle.engine_base.specs.declared.outcome.Outcome.{Outcome}
+use Rattle.engine_base.specs.declared.outcome.Outcome.TheVariants as outcome
 use Rattle.policy_page.specs.Residents.{times, AreResidents}
 use Rattle.policy_page.specs.Queues.{is_empty}
 use Rattle.policy_page.specs.CountedKeys.{CountedKey, uncounted_key, keys_of, count_of, with_count}

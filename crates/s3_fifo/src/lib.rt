@@ -3,7 +3,7 @@
 #![tactic(auto)]
 
 ghost use Rattle.std.specs.Prelude.{◌≡◌, ◌≤◌, false, length, IfOk, OnErr};
-ghost use Rattle.step_record.specs.declared.limits.TheConstants.{MAX_CAPACITY};
+ghost use Rattle.engine_base.specs.declared.limits.TheConstants.{MAX_CAPACITY};
 ghost use Rattle.queue_table.specs.Queues.{Queues};
 ghost use Rattle.queue_table.specs.QueueTable.{queues};
 ghost use Rattle.s3_fifo.specs.S3Fifo.{s3_fifo_main_size, hit_count, IsS3Fifo};
@@ -14,13 +14,13 @@ ghost use Rattle.s3_fifo.specs.Plan.{SMALL as SmallQueue, MAIN as MainQueue, GHO
 ghost use Rattle.s3_fifo.specs.Plan.{joins, gives_main, eviction_plan, is_resident, s3_fifo_miss, s3_fifo_plan};
 ghost use Rattle.s3_fifo.specs.Examples.{WorkedExamples};
 
+use engine_base::Key;
 use policy_page::accesses::{hit, kept};
 use policy_page::comers::{enter_apart, enter_for_oldest, enter_for_remembered};
 use policy_page::misses::{LeftKeys, missed_after};
 use queue_moves::{Accessed, KeyQueues, Run};
 use queue_table::Found;
 use std::alloc::AllocError;
-use step_record::Key;
 
 const SMALL: u8 = 0;
 

@@ -9,10 +9,10 @@ ghost use Rattle.segments.specs.Moves.{IsMoveRecord, FitsMove, queues_before_mov
 
 use crate::names::{name, number, queue_place, table_place};
 use crate::records::{MoveRecord, Queue};
+use engine_base::{Item, Key};
 use queue_table::{Entry, QueueTable};
 use std::alloc::{AllocError, Global};
 use std::marker::Model;
-use step_record::{Item, Key};
 
 /// Three queues of items, each of which stands once, oldest first.
 #[derive(Drop)]

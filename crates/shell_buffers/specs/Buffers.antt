@@ -1,7 +1,7 @@
 -- The lists of the buffers, oldest first.
 use Rattle.std.specs.Prelude.{ℕ, ◌-◌, List, [], length, take, get_or}
 use Rattle.arrayvec.specs.ArrayVec.{ArrayVec}
-pub use Rattle.step_record.specs.declared.item.Item.{Item}
+pub use Rattle.engine_base.specs.declared.item.Item.{Item}
 
 -- the items of a stripe; none of a stripe that is not there
 abbrev pub stripe_at : ℕ → List (List Item) → List Item

@@ -2,13 +2,13 @@
 ghost use Rattle.std.specs.Prelude.{◌≡◌, ◌<◌, ◌≤◌, [], ◌∷◌, ◌++◌, length, drop, set, replicate, nat_lt, true, false};
 ghost use Rattle.std.specs.Prelude.{IfOk, IfSome, IfNone};
 ghost use Rattle.shell_buffers.specs.Buffers.{stripe_at, all_but_newest};
-ghost use Rattle.step_record.specs.declared.limits.TheConstants.{MAX_STRIPES};
+ghost use Rattle.engine_base.specs.declared.limits.TheConstants.{MAX_STRIPES};
 ghost use Rattle.shell_buffers.specs.declared.stripes.TheConstants.{MAX_ITEMS};
 
 use arrayvec::ArrayVec;
+use engine_base::Item;
 use std::alloc::{AllocError, Global};
 use std::marker::Model;
-use step_record::Item;
 
 /// How many items a stripe holds at most, as a read buffer of Caffeine does.
 pub const MAX_ITEMS: usize = 16;
@@ -22,7 +22,7 @@ pub struct Stripes {
 
 impl Model for Stripes {
     ghost use Rattle.std.specs.Prelude.{List, map};
-    ghost use Rattle.step_record.specs.declared.item.Item.{Item as ItemValue};
+    ghost use Rattle.engine_base.specs.declared.item.Item.{Item as ItemValue};
     ghost use Rattle.shell_buffers.specs.Buffers.{items_of};
 
     ghost Value = { List (List ItemValue) };
@@ -34,7 +34,7 @@ impl Stripes {
     /// So many empty stripes, at most [`MAX_STRIPES`], with room for all that they may hold. The only error is that
     /// the allocation failed.
     ///
-    /// [`MAX_STRIPES`]: step_record::MAX_STRIPES
+    /// [`MAX_STRIPES`]: engine_base::MAX_STRIPES
     pub fn new(alloc: Global, count: u8) -> Result<Stripes, AllocError>
         requires some { 1 ≤ count }
         requires few { count ≤ MAX_STRIPES }

@@ -1,5 +1,5 @@
 //! What a writer leaves to the maintenance.
-use step_record::Item;
+use engine_base::Item;
 
 /// What became of an entry of the table, which the queues are still to follow.
 #[derive(Clone, Copy)]

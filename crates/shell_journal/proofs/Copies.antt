@@ -1,8 +1,8 @@
 -- What is written of a reachable session is a journal that a session takes.
 use Rattle.std.proofs.Common.{◌≡◌, ◌≤◌, ℕ, List, length, sym, subst, Result, Ok, Err, false}
 use Rattle.std.specs.Prelude.{is_err, OnOk}
-use Rattle.step_record.specs.declared.limits.TheConstants.{MAX_JOURNAL_LIMIT}
-use Rattle.step_record.specs.History.{IsLegal, Entries}
+use Rattle.engine_base.specs.declared.limits.TheConstants.{MAX_JOURNAL_LIMIT}
+use Rattle.engine_base.specs.History.{IsLegal, Entries}
 use Rattle.shell_model.specs.Shell.{Shell, act}
 use Rattle.shell_model.specs.ReachableShell.{IsReachable}
 use Rattle.journal_text.specs.Journal.{journal_of, AreLines, IsJournalText}

@@ -3,7 +3,7 @@ use Rattle.std.proofs.Common.{◌≡◌, ◌∙◌, ℕ, ◌+◌, ◌^◌, ◌<�
 use Rattle.std.proofs.lemmas.Fmt.{length-decimal-le}
 use Rattle.std.specs.Fmt.{decimal}
 use Rattle.std.specs.List.{flat_map}
-use Rattle.step_record.specs.History.{Entries}
+use Rattle.engine_base.specs.History.{Entries}
 use Rattle.journal_text.specs.Journal.{begun, closing_line, ended_line, entry_line, header, journal_of}
 use Rattle.journal_text.specs.Table.{count_words, spaced, spaced_words, text_of, Named, Wide}
 use Rattle.journal_text.specs.declared.version.Version.TheVariants.{Two}

@@ -6,11 +6,11 @@ use Rattle.std.proofs.lemmas.Fmt.{length-decimal-le}
 use Rattle.std.proofs.lemmas.List.Elements.{All-head, All-tail}
 use Rattle.std.specs.Fmt.{decimal}
 use Rattle.std.specs.List.{AllByRecursion, flat_map}
-use Rattle.step_record.specs.declared.limits.TheConstants.{MAX_STEPS}
-use Rattle.step_record.specs.declared.step.Act.TheVariants as a
-use Rattle.step_record.specs.declared.step.Reply.TheVariants as reply
-use Rattle.step_record.specs.Answers.{is_answer}
-use Rattle.step_record.specs.History.{Entries}
+use Rattle.engine_base.specs.declared.limits.TheConstants.{MAX_STEPS}
+use Rattle.engine_base.specs.declared.step.Act.TheVariants as a
+use Rattle.engine_base.specs.declared.step.Reply.TheVariants as reply
+use Rattle.engine_base.specs.Answers.{is_answer}
+use Rattle.engine_base.specs.History.{Entries}
 use Rattle.journal_text.specs.Journal.{Entry, Step, Reply, entry_line, AreLines}
 use Rattle.journal_text.specs.Table.{Act, Item, act_word, act_words, answer_reply, behind, entry_words, is_answer_in, is_in_version, item_words, reply_word, reply_words, spaced, spaced_words, text_of, word_text, FitWords, IsLine, Word, Named, Worker, Stripe, Wide}
 use Rattle.journal_text.specs.declared.line.JournalLine.TheVariants.{Made}

@@ -1,7 +1,7 @@
 -- The text of a concurrent cache's journal fits what a reader takes.
 use Rattle.std.specs.Prelude.{◌≤◌, length}
-use Rattle.step_record.specs.declared.limits.TheConstants.{MAX_JOURNAL_LIMIT}
-use Rattle.step_record.specs.History.{IsLegal, Entries}
+use Rattle.engine_base.specs.declared.limits.TheConstants.{MAX_JOURNAL_LIMIT}
+use Rattle.engine_base.specs.History.{IsLegal, Entries}
 use Rattle.shell_model.specs.Shell.{Shell, act}
 use Rattle.shell_model.specs.ReachableShell.{IsReachable}
 use Rattle.journal_text.specs.Journal.{journal_of, AreLines}

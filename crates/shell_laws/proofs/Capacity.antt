@@ -4,8 +4,8 @@ use Rattle.std.proofs.lemmas.Bool.{cases_Bool, and_parts}
 use Rattle.std.proofs.lemmas.Bool.Decides.{nat_tests}
 use Rattle.std.proofs.lemmas.Nat.{mul-le}
 use Rattle.std.specs.Prelude.{nat_le}
-use Rattle.step_record.specs.Config.{config_fault, is_from_one}
-use Rattle.step_record.specs.declared.limits.TheConstants.{MAX_CAPACITY, MAX_MAIN_PERCENT}
+use Rattle.engine_base.specs.Config.{config_fault, is_from_one}
+use Rattle.engine_base.specs.declared.limits.TheConstants.{MAX_CAPACITY, MAX_MAIN_PERCENT}
 use Rattle.segments.specs.Items.{Item, occurrences}
 use Rattle.segments.specs.Queues.{Queues, total_items}
 use Rattle.segments.proofs.QueueLists.{times-append}

@@ -1,7 +1,7 @@
 -- An Evict takes one item out of a window that is over its size.
 use Rattle.std.proofs.Common.{◌≡◌, ℕ, ◌+◌, ◌<◌, ◌≤◌, true, List, length, refl, arith}
 use Rattle.std.proofs.lemmas.Bool.{ltb-true, ltb-false}
-use Rattle.step_record.specs.declared.step.Act.TheVariants as a
+use Rattle.engine_base.specs.declared.step.Act.TheVariants as a
 use Rattle.segments.specs.declared.records.Queue.TheVariants.{Probation}
 use Rattle.segments.specs.Items.{Item, occurrences, items_without}
 use Rattle.segments.specs.Queues.{IsDistinct}

@@ -1,9 +1,9 @@
 -- A worker holds the maintenance exactly where the drain state is ToIdle or ToRequired.
 use Rattle.std.proofs.Common.{◌≡◌, ◌∙◌, ℕ, Option, Some, None, is_some, List, [], ◌∷◌, ap, sym, subst, refl}
-use Rattle.step_record.specs.declared.drain.Drain.TheVariants.{Idle, Required, ToIdle, ToRequired}
-use Rattle.step_record.specs.History.{next_data, data_after, IsLegal}
+use Rattle.engine_base.specs.declared.drain.Drain.TheVariants.{Idle, Required, ToIdle, ToRequired}
+use Rattle.engine_base.specs.History.{next_data, data_after, IsLegal}
 use Rattle.shell_model.specs.declared.holder.Holder.{Holder}
-use Rattle.step_record.specs.declared.drain.Phase.TheVariants.{Writes, Evictions}
+use Rattle.engine_base.specs.declared.drain.Phase.TheVariants.{Writes, Evictions}
 use Rattle.shell_model.specs.ShellState.{Phase, Drain, holder_in_phase}
 use Rattle.shell_model.specs.Changes.{holder_after_task}
 use Rattle.shell_model.specs.Shell.{Reply, Act, Shell, act, after_write, drain_at_end}

@@ -1,11 +1,11 @@
 -- The window passes its size by no more items than tasks were applied in the maintenance under way.
 use Rattle.std.proofs.Common.{◌≡◌, ℕ, ◌+◌, ◌≤◌, Bool, true, false, nat_lt, Option, Some, None, List, [], ◌∷◌, length, ap, subst, sym, refl, arith, length-append}
 use Rattle.std.proofs.lemmas.Bool.{cond_both, ltb-false}
-use Rattle.step_record.specs.History.{next_data, data_after, IsLegal}
-use Rattle.step_record.specs.declared.config.Config.{Config}
-use Rattle.step_record.specs.declared.step.Reply.TheVariants as reply
-use Rattle.step_record.specs.declared.drain.Phase.{Phase}
-use Rattle.step_record.specs.declared.drain.Phase.TheVariants.{Writes, Evictions}
+use Rattle.engine_base.specs.History.{next_data, data_after, IsLegal}
+use Rattle.engine_base.specs.declared.config.Config.{Config}
+use Rattle.engine_base.specs.declared.step.Reply.TheVariants as reply
+use Rattle.engine_base.specs.declared.drain.Phase.{Phase}
+use Rattle.engine_base.specs.declared.drain.Phase.TheVariants.{Writes, Evictions}
 use Rattle.segments.specs.declared.records.Queue.TheVariants.{Probation, Protected}
 use Rattle.segments.specs.Items.{Item, items_without, oldest_of}
 use Rattle.segments.specs.Queues.{Queues, queue_holding, queues_after_move, IsDistinct}

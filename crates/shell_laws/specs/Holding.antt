@@ -1,6 +1,6 @@
 -- When a worker holds the maintenance.
 use Rattle.std.specs.Prelude.{◌≡◌, Bool, true, false, is_some}
-use Rattle.step_record.specs.declared.drain.Drain.TheVariants.{Idle, Required, ToIdle, ToRequired}
+use Rattle.engine_base.specs.declared.drain.Drain.TheVariants.{Idle, Required, ToIdle, ToRequired}
 use Rattle.shell_model.specs.Shell.{Drain, Shell}
 use Rattle.shell_model.specs.ReachableShell.{IsReachable}
 

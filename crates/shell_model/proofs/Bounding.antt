@@ -2,13 +2,13 @@
 use Rattle.std.proofs.Common.{◌≡◌, ℕ, ◌+◌, ◌*◌, eqb, ◌<◌, ◌≤◌, Bool, true, false, nat_lt, Some, None, List, [], ◌∷◌, ap, ◌∙◌, refl, arith, inl, inr}
 use Rattle.std.proofs.lemmas.Bool.{cases_Bool}
 use Rattle.std.proofs.lemmas.Bool.Decides.{nat_tests}
-use Rattle.step_record.specs.History.{next_data, data_after, IsLegal}
+use Rattle.engine_base.specs.History.{next_data, data_after, IsLegal}
 use Rattle.admission.specs.Shape.{Shape, IsShape}
 use Rattle.admission.specs.Frequency.{FrequencyData, frequency_of, frequency_with as recorded_key}
 use Rattle.shell_model.specs.Frequency.{frequency_recorded}
 use Rattle.shell_model.specs.declared.stats.Counted.TheVariants as counted
 use Rattle.shell_model.specs.ShellStats.{Counted, ShellStats, Reply, count_of, AllCounts, shell_stats_after, raises}
-use Rattle.step_record.specs.Stats.{one_if}
+use Rattle.engine_base.specs.Stats.{one_if}
 use Rattle.shell_model.specs.Shell.{Step, Act, Shell, act}
 use Rattle.shell_model.specs.Laws.{Config, MadeStep, IsShapeOf, empty_shell}
 use Rattle.shell_model.specs.ReachableShell.{IsBounded, BoundLaw}

@@ -1,10 +1,10 @@
 -- What the shell keeps as an engine: its replies belong to their acts, it counts its steps, its frequency ages as a
 -- sketch does, and a record's words are those of its halving.
 use Rattle.std.proofs.Common.{◌≡◌, ℕ, ◌+◌, ◌^◌, true, false, Option, Some, None, ap, subst, sym, ◌∙◌, refl, arith, inl}
-use Rattle.step_record.specs.declared.drain.Phase.TheVariants.{Writes, Evictions}
-use Rattle.step_record.specs.declared.step.Reply.TheVariants as reply
-use Rattle.step_record.specs.Answers.{is_answer, AnswersItsActs}
-use Rattle.step_record.specs.Pace.{Pace, IsPaced, words_of_halvings}
+use Rattle.engine_base.specs.declared.drain.Phase.TheVariants.{Writes, Evictions}
+use Rattle.engine_base.specs.declared.step.Reply.TheVariants as reply
+use Rattle.engine_base.specs.Answers.{is_answer, AnswersItsActs}
+use Rattle.engine_base.specs.Pace.{Pace, IsPaced, words_of_halvings}
 use Rattle.admission.specs.FreqRecord.{size_of}
 use Rattle.admission.specs.Frequency.{FrequencyData, pace_of}
 use Rattle.admission.proofs.Weighing.{recorded_paced, weight_falls}

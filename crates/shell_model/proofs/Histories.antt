@@ -2,9 +2,9 @@
 use Rattle.std.proofs.Common.{◌≡◌, ℕ, suc, zero, ◌+◌, ◌<◌, ◌≤◌, ◌↔◌, true, false, eqb, nat_lt, List, [], ◌∷◌, ◌++◌, length, set, drop, ap, ◌∙◌, sym, refl, arith, inl, inr, append-nil, append_assoc}
 use Rattle.std.proofs.lemmas.Bool.{cases_Bool, eqb-true, eq-eqb}
 use Rattle.std.proofs.lemmas.List.{drop-append-le, drop-drop, get_or-set_same, get_or-set_other}
-use Rattle.step_record.specs.declared.step.Act.TheVariants as a
-use Rattle.step_record.specs.declared.step.Reply.TheVariants as reply
-use Rattle.step_record.specs.History.{next_data, data_after, IsLegal}
+use Rattle.engine_base.specs.declared.step.Act.TheVariants as a
+use Rattle.engine_base.specs.declared.step.Reply.TheVariants as reply
+use Rattle.engine_base.specs.History.{next_data, data_after, IsLegal}
 use Rattle.segments.specs.Items.{Item, is_same_item, occurrences, items_without}
 use Rattle.segments.proofs.QueueLists.{same-true, times-append}
 use Rattle.admission.specs.Shape.{Shape, IsShape}
@@ -15,7 +15,7 @@ use Rattle.shell_model.specs.declared.stats.Counted.{Counted}
 use Rattle.shell_model.specs.declared.stats.Counted.TheVariants as counted
 use Rattle.shell_model.specs.Frequency.{frequency_recorded}
 use Rattle.shell_model.specs.ShellStats.{NONE, Reply, counted_of, count_of, shell_stats_with, raises, shell_stats_after}
-use Rattle.step_record.specs.Stats.{one_if}
+use Rattle.engine_base.specs.Stats.{one_if}
 use Rattle.shell_buffers.specs.Buffers.{stripe_at}
 use Rattle.shell_model.specs.Changes.{shell_after_touch}
 use Rattle.shell_model.specs.Shell.{Act, Shell, act}

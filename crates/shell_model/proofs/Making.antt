@@ -1,11 +1,11 @@
 -- A step is one of the cases.
 use Rattle.std.proofs.Common.{◌≡◌, ℕ, ◌<◌, ◌≤◌, true, false, ◌&&◌, eqb, nat_lt, Option, Some, None, List, [], ◌∷◌, length, ap, subst, sym, ◌∙◌, refl, arith, inl, inr}
 use Rattle.std.proofs.lemmas.Bool.{and_parts, cases_Bool, cond_both, eqb-true, eqb-false, ltb-true, ltb-false}
-use Rattle.step_record.specs.declared.step.Answer.TheVariants as answer
-use Rattle.step_record.specs.declared.step.Act.TheVariants as a
-use Rattle.step_record.specs.declared.drain.Drain.TheVariants as drain
-use Rattle.step_record.specs.declared.drain.Phase.TheVariants.{Writes, Evictions}
-use Rattle.step_record.specs.declared.step.Reply.TheVariants as reply
+use Rattle.engine_base.specs.declared.step.Answer.TheVariants as answer
+use Rattle.engine_base.specs.declared.step.Act.TheVariants as a
+use Rattle.engine_base.specs.declared.drain.Drain.TheVariants as drain
+use Rattle.engine_base.specs.declared.drain.Phase.TheVariants.{Writes, Evictions}
+use Rattle.engine_base.specs.declared.step.Reply.TheVariants as reply
 use Rattle.replacement.specs.Rules.{three_queues}
 use Rattle.replacement.specs.Plan.{Item, Plan, candidate_of, eviction_plan}
 use Rattle.shell_buffers.specs.declared.task.Task.TheVariants.{Add, Update, Remove}

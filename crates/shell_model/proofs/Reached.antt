@@ -1,7 +1,7 @@
 -- Reached states, and the laws of records over them.
 use Rattle.std.proofs.Common.{◌≡◌, ℕ, Some, Ok, List, [], ◌∷◌, ◌++◌, ap, subst, ◌∙◌, sym, refl, arith}
-use Rattle.step_record.specs.Config.{config_fault}
-use Rattle.step_record.specs.History.{next_data, data_after, IsLegal}
+use Rattle.engine_base.specs.Config.{config_fault}
+use Rattle.engine_base.specs.History.{next_data, data_after, IsLegal}
 use Rattle.shell_model.specs.Shell.{Reply, Step, Act, Shell, act}
 use Rattle.shell_model.specs.Consistency.{IsConsistent}
 use Rattle.shell_model.specs.Records.{shell_record_of}

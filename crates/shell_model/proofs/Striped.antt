@@ -3,9 +3,9 @@ use Rattle.std.proofs.Common.{◌≡◌, ℕ, suc, zero, ◌≤◌, nat_le, true
 use Rattle.std.specs.Int.{is_power_of_two}
 use Rattle.std.proofs.lemmas.Bool.{cases_Bool, and_parts}
 use Rattle.std.proofs.lemmas.Bool.Decides.{nat_tests}
-use Rattle.step_record.specs.declared.limits.TheConstants.{MAX_CAPACITY, MAX_MAIN_PERCENT, MAX_STRIPES}
-use Rattle.step_record.specs.Config.{is_from_one, config_fault}
-use Rattle.step_record.specs.History.{next_data, data_after, IsLegal}
+use Rattle.engine_base.specs.declared.limits.TheConstants.{MAX_CAPACITY, MAX_MAIN_PERCENT, MAX_STRIPES}
+use Rattle.engine_base.specs.Config.{is_from_one, config_fault}
+use Rattle.engine_base.specs.History.{next_data, data_after, IsLegal}
 use Rattle.shell_model.specs.Shell.{Reply, Act, Item, Shell, act}
 use Rattle.shell_model.specs.Laws.{Config, MadeStep, empty_shell}
 use Rattle.shell_model.specs.ReachableShell.{IsReachable}

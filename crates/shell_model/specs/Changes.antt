@@ -2,9 +2,9 @@
 -- change are there for undoing alone.
 use Rattle.std.specs.Prelude.{◌≡◌, ◌≢◌, ℕ, ◌+◌, ◌-◌, ◌<◌, Bool, true, false, Option, Some, None}
 use Rattle.std.specs.Prelude.{List, [], ◌∷◌, ◌++◌, drop, length, set}
-use Rattle.step_record.specs.declared.drain.Drain.TheVariants.{ToIdle}
-pub use Rattle.step_record.specs.declared.drain.Phase.{Phase}
-use Rattle.step_record.specs.declared.drain.Phase.TheVariants.{Reads, Writes, Evictions}
+use Rattle.engine_base.specs.declared.drain.Drain.TheVariants.{ToIdle}
+pub use Rattle.engine_base.specs.declared.drain.Phase.{Phase}
+use Rattle.engine_base.specs.declared.drain.Phase.TheVariants.{Reads, Writes, Evictions}
 use Rattle.segments.specs.declared.records.Queue.TheVariants.{Window}
 use Rattle.segments.specs.Items.{Item, items_without}
 use Rattle.segments.specs.Queues.{queues_after_push}

@@ -2,17 +2,17 @@
 use Rattle.std.specs.Prelude.{◌≡◌, ℕ, ◌+◌, ◌<◌, ◌≤◌, ◌↔◌, Bool, true, false, eqb, if◌then◌else◌, Option, Some, None}
 use Rattle.std.specs.Prelude.{List}
 use Rattle.std.specs.Prelude.{[], ◌∷◌, ◌++◌, drop, replicate}
-pub use Rattle.step_record.specs.declared.config.Config.{Config}
-pub use Rattle.step_record.specs.declared.step.Act.{Act}
-use Rattle.step_record.specs.declared.step.Act.TheVariants.{Offer, Put, Remove as RemoveKey, DrainRead, DrainWrite}
-use Rattle.step_record.specs.declared.step.Act.TheVariants.{Evict}
-pub use Rattle.step_record.specs.declared.entry.Entry.{Entry}
-pub use Rattle.step_record.specs.declared.drain.Phase.{Phase}
-use Rattle.step_record.specs.declared.drain.Phase.TheVariants.{Reads, Writes, Evictions}
-use Rattle.step_record.specs.declared.drain.Drain.TheVariants as drain
-use Rattle.step_record.specs.declared.step.Reply.TheVariants.{Kept, Present, Added, Removed, Drained, Applied, Cleared}
-use Rattle.step_record.specs.declared.step.Reply.TheVariants.{Evicted, Rejected, Idle, Again}
-use Rattle.step_record.specs.History.{data_after, IsLegal}
+pub use Rattle.engine_base.specs.declared.config.Config.{Config}
+pub use Rattle.engine_base.specs.declared.step.Act.{Act}
+use Rattle.engine_base.specs.declared.step.Act.TheVariants.{Offer, Put, Remove as RemoveKey, DrainRead, DrainWrite}
+use Rattle.engine_base.specs.declared.step.Act.TheVariants.{Evict}
+pub use Rattle.engine_base.specs.declared.entry.Entry.{Entry}
+pub use Rattle.engine_base.specs.declared.drain.Phase.{Phase}
+use Rattle.engine_base.specs.declared.drain.Phase.TheVariants.{Reads, Writes, Evictions}
+use Rattle.engine_base.specs.declared.drain.Drain.TheVariants as drain
+use Rattle.engine_base.specs.declared.step.Reply.TheVariants.{Kept, Present, Added, Removed, Drained, Applied, Cleared}
+use Rattle.engine_base.specs.declared.step.Reply.TheVariants.{Evicted, Rejected, Idle, Again}
+use Rattle.engine_base.specs.History.{data_after, IsLegal}
 use Rattle.segments.specs.Items.{Item, occurrences}
 use Rattle.segments.specs.Queues.{empty_queues}
 use Rattle.admission.specs.Shape.{Shape, IsShape}
@@ -20,7 +20,7 @@ use Rattle.admission.specs.Frequency.{frequency_of}
 use Rattle.shell_buffers.specs.declared.task.Task.TheVariants.{Add, Update, Remove}
 use Rattle.shell_model.specs.declared.stats.Counted.TheVariants as counted
 use Rattle.shell_model.specs.ShellStats.{Counted, NONE, ShellStats, Reply, count_of, raises}
-use Rattle.step_record.specs.Stats.{one_if}
+use Rattle.engine_base.specs.Stats.{one_if}
 use Rattle.shell_buffers.specs.Buffers.{stripe_at}
 use Rattle.replacement.specs.Rules.{main_size}
 use Rattle.shell_model.specs.Shell.{Holder, Task, Step, Shell, act}

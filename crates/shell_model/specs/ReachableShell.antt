@@ -1,11 +1,11 @@
 -- The states that steps lead to from an opened shell, and where a record of the shell fits.
 use Rattle.std.specs.Prelude.{◌≡◌, ℕ, ◌<◌, ◌≤◌, false, Option, Some, None, List, Ok}
-use Rattle.step_record.specs.declared.limits.TheConstants.{MAX_STEPS}
-use Rattle.step_record.specs.Config.{config_fault}
-use Rattle.step_record.specs.History.{data_after, IsLegal}
-pub use Rattle.step_record.specs.declared.step.Step.{Step}
-pub use Rattle.step_record.specs.declared.step.Reply.{Reply}
-use Rattle.step_record.specs.declared.step.Reply.TheVariants.{Began}
+use Rattle.engine_base.specs.declared.limits.TheConstants.{MAX_STEPS}
+use Rattle.engine_base.specs.Config.{config_fault}
+use Rattle.engine_base.specs.History.{data_after, IsLegal}
+pub use Rattle.engine_base.specs.declared.step.Step.{Step}
+pub use Rattle.engine_base.specs.declared.step.Reply.{Reply}
+use Rattle.engine_base.specs.declared.step.Reply.TheVariants.{Began}
 use Rattle.admission.specs.Shape.{Shape}
 use Rattle.shell_model.specs.ShellStats.{AreAtMost}
 use Rattle.shell_model.specs.Shell.{Item, Holder, Shell, act}

@@ -1,22 +1,22 @@
 -- The acts of the concurrent cache: the reply to each, and what it changes.
 use Rattle.std.specs.Prelude.{ℕ, ◌+◌, nat_lt, Bool, true, false, ◌&&◌, eqb, if◌then◌else◌, Option, Some, None}
 use Rattle.std.specs.Prelude.{List, [], ◌∷◌, length}
-use Rattle.step_record.specs.declared.limits.TheConstants.{MAX_STEPS}
-pub use Rattle.step_record.specs.declared.item.Item.{Item}
-pub use Rattle.step_record.specs.declared.outcome.Outcome.{Outcome}
-use Rattle.step_record.specs.declared.outcome.Outcome.TheVariants as outcome
-pub use Rattle.step_record.specs.declared.step.Answer.{Answer}
-use Rattle.step_record.specs.declared.step.Answer.TheVariants as answer
-pub use Rattle.step_record.specs.declared.step.Act.{Act}
-use Rattle.step_record.specs.declared.step.Act.TheVariants.{Look, Offer, Lose, Put, Remove as RemoveKey, AfterRead}
-use Rattle.step_record.specs.declared.step.Act.TheVariants.{AfterWrite, Begin, DrainRead, DrainWrite, Evict, End}
-pub use Rattle.step_record.specs.declared.step.Step.{Step}
-pub use Rattle.step_record.specs.declared.step.Reply.{Reply}
-use Rattle.step_record.specs.declared.step.Reply.TheVariants as reply
-pub use Rattle.step_record.specs.declared.drain.Drain.{Drain}
-use Rattle.step_record.specs.declared.drain.Drain.TheVariants as drain
-pub use Rattle.step_record.specs.declared.drain.Phase.{Phase}
-use Rattle.step_record.specs.declared.drain.Phase.TheVariants.{Reads, Writes, Evictions}
+use Rattle.engine_base.specs.declared.limits.TheConstants.{MAX_STEPS}
+pub use Rattle.engine_base.specs.declared.item.Item.{Item}
+pub use Rattle.engine_base.specs.declared.outcome.Outcome.{Outcome}
+use Rattle.engine_base.specs.declared.outcome.Outcome.TheVariants as outcome
+pub use Rattle.engine_base.specs.declared.step.Answer.{Answer}
+use Rattle.engine_base.specs.declared.step.Answer.TheVariants as answer
+pub use Rattle.engine_base.specs.declared.step.Act.{Act}
+use Rattle.engine_base.specs.declared.step.Act.TheVariants.{Look, Offer, Lose, Put, Remove as RemoveKey, AfterRead}
+use Rattle.engine_base.specs.declared.step.Act.TheVariants.{AfterWrite, Begin, DrainRead, DrainWrite, Evict, End}
+pub use Rattle.engine_base.specs.declared.step.Step.{Step}
+pub use Rattle.engine_base.specs.declared.step.Reply.{Reply}
+use Rattle.engine_base.specs.declared.step.Reply.TheVariants as reply
+pub use Rattle.engine_base.specs.declared.drain.Drain.{Drain}
+use Rattle.engine_base.specs.declared.drain.Drain.TheVariants as drain
+pub use Rattle.engine_base.specs.declared.drain.Phase.{Phase}
+use Rattle.engine_base.specs.declared.drain.Phase.TheVariants.{Reads, Writes, Evictions}
 use Rattle.segments.specs.declared.records.Queue.TheVariants.{Window}
 pub use Rattle.segments.specs.declared.records.MoveRecord.{MoveRecord}
 use Rattle.segments.specs.Queues.{Queues, queue_holding}

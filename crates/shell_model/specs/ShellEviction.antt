@@ -1,6 +1,6 @@
 -- An eviction of the maintenance in its own words.
 use Rattle.std.specs.Prelude.{◌≡◌, nat_lt, Bool, true, false, Some}
-use Rattle.step_record.specs.declared.step.Reply.TheVariants as reply
+use Rattle.engine_base.specs.declared.step.Reply.TheVariants as reply
 use Rattle.segments.specs.declared.records.Queue.TheVariants.{Probation}
 use Rattle.segments.specs.Items.{Item, is_same_item, oldest_of}
 use Rattle.segments.specs.Queues.{queues_without, queues_after_move, total_items}

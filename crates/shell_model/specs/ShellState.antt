@@ -1,10 +1,10 @@
 -- The state of the concurrent cache, and what steps look up in it.
 use Rattle.std.specs.Prelude.{ℕ, nat_lt, Bool, false, eqb, if◌then◌else◌, Option, Some, None}
 use Rattle.std.specs.Prelude.{List, [], ◌∷◌, length}
-pub use Rattle.step_record.specs.declared.item.Item.{Item}
-pub use Rattle.step_record.specs.declared.config.Config.{Config}
-pub use Rattle.step_record.specs.declared.drain.Drain.{Drain}
-pub use Rattle.step_record.specs.declared.drain.Phase.{Phase}
+pub use Rattle.engine_base.specs.declared.item.Item.{Item}
+pub use Rattle.engine_base.specs.declared.config.Config.{Config}
+pub use Rattle.engine_base.specs.declared.drain.Drain.{Drain}
+pub use Rattle.engine_base.specs.declared.drain.Phase.{Phase}
 pub use Rattle.segments.specs.declared.records.Queue.{Queue}
 use Rattle.segments.specs.Items.{items_without}
 use Rattle.segments.specs.Queues.{Queues, queue_holding, queues_without}

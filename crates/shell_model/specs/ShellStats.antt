@@ -1,8 +1,8 @@
 -- The statistics: how often each kind of reply was given.
 use Rattle.std.specs.Prelude.{ℕ, ◌+◌, ◌≤◌, nat_lt, Bool}
-pub use Rattle.step_record.specs.declared.step.Reply.{Reply}
-use Rattle.step_record.specs.declared.step.Reply.TheVariants.{Hit, Miss, Kept, Full, Lost, WritesFull, Present, Added}
-use Rattle.step_record.specs.declared.step.Reply.TheVariants.{Removed, Began, Busy, Evicted, Rejected}
+pub use Rattle.engine_base.specs.declared.step.Reply.{Reply}
+use Rattle.engine_base.specs.declared.step.Reply.TheVariants.{Hit, Miss, Kept, Full, Lost, WritesFull, Present, Added}
+use Rattle.engine_base.specs.declared.step.Reply.TheVariants.{Removed, Began, Busy, Evicted, Rejected}
 pub use Rattle.shell_model.specs.declared.stats.Counted.{Counted}
 use Rattle.shell_model.specs.declared.stats.Counted.TheVariants as counted
 pub use Rattle.shell_model.specs.declared.stats.ShellStats.{ShellStats}

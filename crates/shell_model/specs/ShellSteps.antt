@@ -1,8 +1,8 @@
 -- What a step makes of the state, one case for each reply.
 use Rattle.std.specs.Prelude.{◌≡◌, ℕ, ◌<◌, ◌≤◌, true, false, Some, None, List, [], ◌∷◌, length}
-use Rattle.step_record.specs.declared.step.Act.TheVariants as a
-use Rattle.step_record.specs.declared.step.Reply.TheVariants as reply
-use Rattle.step_record.specs.declared.drain.Phase.TheVariants.{Writes, Evictions}
+use Rattle.engine_base.specs.declared.step.Act.TheVariants as a
+use Rattle.engine_base.specs.declared.step.Reply.TheVariants as reply
+use Rattle.engine_base.specs.declared.drain.Phase.TheVariants.{Writes, Evictions}
 use Rattle.segments.specs.Items.{Item, is_same_item}
 use Rattle.shell_buffers.specs.Buffers.{stripe_at}
 use Rattle.shell_buffers.specs.declared.stripes.TheConstants.{MAX_ITEMS}

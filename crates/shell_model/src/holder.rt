@@ -1,5 +1,5 @@
 //! Who does the maintenance.
-use step_record::{Phase, Worker};
+use engine_base::{Phase, Worker};
 
 /// The worker that does the maintenance: which one, at which phase, and how many more tasks it may apply.
 #[derive(Clone, Copy)]

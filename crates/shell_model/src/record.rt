@@ -2,9 +2,9 @@
 use crate::holder::Holder;
 use crate::stats::Counted;
 use admission::FreqRecord;
+use engine_base::{Drain, Item, Phase, Worker};
 use replacement::KeptMoves;
 use segments::MoveRecord;
-use step_record::{Drain, Item, Phase, Worker};
 
 /// A key that was recorded, and the moves that came with it: where its item went, and what that pushed out of
 /// protected.

@@ -1,9 +1,9 @@
 //! What a shell counts.
 ghost use Rattle.std.specs.Prelude.{◌≡◌, ◌+◌, ◌-◌, ◌≤◌};
-ghost use Rattle.step_record.specs.declared.limits.TheConstants.{MAX_STEPS};
+ghost use Rattle.engine_base.specs.declared.limits.TheConstants.{MAX_STEPS};
 ghost use Rattle.shell_model.specs.ShellStats.{counted_of, shell_stats_with, AllCounts};
 
-use step_record::Reply;
+use engine_base::Reply;
 
 /// How often each kind of reply was given by the applied steps.
 #[derive(Clone, Copy)]

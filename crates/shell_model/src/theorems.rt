@@ -4,7 +4,7 @@ ghost use Rattle.shell_model.specs.Laws.{HistoryLaws};
 ghost use Rattle.shell_model.specs.ReachableShell.{RecordLaw, LaterLaws, BoundLaw, HoldLaws};
 ghost use Rattle.shell_model.specs.Shell.{act};
 ghost use Rattle.shell_model.specs.ShellSteps.{StepsByReply};
-ghost use Rattle.step_record.specs.Answers.{AnswersItsActs};
+ghost use Rattle.engine_base.specs.Answers.{AnswersItsActs};
 
 /// The replies so far determine the state of a shell that was opened empty: each read buffer is the offers kept less
 /// those drained, the write queue is the tasks of puts and removals less those applied, each statistic is a count of

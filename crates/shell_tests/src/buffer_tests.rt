@@ -1,6 +1,7 @@
 //! A journal that is longer than the buffer that it is written through.
 use super::assertions::assert_equal;
 use super::sessions::{CONFIG, ask, opened};
+use engine_base::{Act, Reply};
 use journal::Session;
 use journal_text::write_journal;
 use maintenance::Shell;
@@ -8,7 +9,6 @@ use std::alloc::Global;
 use std::io::{Result as IoResult, Write};
 use std::process::Abort;
 use std::test::Fail;
-use step_record::{Act, Reply};
 use streams::CountedWriter;
 
 /// Keeps what it is given, and how many bytes it was given at once at most.

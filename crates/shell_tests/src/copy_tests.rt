@@ -5,13 +5,13 @@ ghost use Rattle.shell_journal.specs.Copy.{CanHold};
 
 use super::assertions::assert_equal;
 use super::sessions::CONFIG;
+use engine_base::{Act, Config, Reply, Step, Worker};
 use journal::Session;
 use maintenance::Shell;
 use shell_journal::{copy_journal, theorems};
 use std::alloc::Global;
 use std::process::Abort;
 use std::test::Fail;
-use step_record::{Act, Config, Reply, Step, Worker};
 
 // A session of at most three steps over an empty shell.
 fn fresh(rt: &impl Abort, alloc: Global, config: &Config) -> Result<Session<Shell>, Fail>

@@ -1,13 +1,13 @@
 //! Journals worked out by hand: each is read, undone to its start, redone, and written as it was.
 use super::assertions::assert_equal;
 use super::sessions::{CONFIG, read};
+use engine_base::Config;
 use journal::Session;
 use journal_text::write_journal;
 use maintenance::Shell;
 use std::alloc::Global;
 use std::process::Abort;
 use std::test::Fail;
-use step_record::Config;
 use streams::CountedWriter;
 
 // A key is read, removed and read again, each with a round.

@@ -1,12 +1,12 @@
 //! Calls at both ends of their ranges, with ample memory: none of them may answer that it is out of memory.
 use super::assertions::assert_equal;
 use super::sessions::{CONFIG, ask, opened};
+use engine_base::{Act, Config, Reply};
 use journal::Session;
 use maintenance::Shell;
 use std::alloc::Global;
 use std::process::Abort;
 use std::test::Fail;
-use step_record::{Act, Config, Reply};
 
 // The entries, the main part and the read buffers of new caches.
 const RANGES: [(u32, u8, u8); 4] = [

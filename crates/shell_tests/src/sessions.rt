@@ -1,14 +1,14 @@
 //! Sessions to test.
 ghost use Rattle.std.specs.Prelude.{◌≡◌, ◌≤◌, [], IfOk};
-ghost use Rattle.step_record.specs.declared.limits.TheConstants.{MAX_JOURNAL_LIMIT};
+ghost use Rattle.engine_base.specs.declared.limits.TheConstants.{MAX_JOURNAL_LIMIT};
 
+use engine_base::{Act, Config, Reply, Spread, Step, Worker};
 use journal::{Session, SessionFault};
 use journal_text::read_journal;
 use maintenance::Shell;
 use std::alloc::Global;
 use std::process::Abort;
 use std::test::Fail;
-use step_record::{Act, Config, Reply, Spread, Step, Worker};
 
 /// A configuration of one read buffer.
 pub const CONFIG: Config = Config {

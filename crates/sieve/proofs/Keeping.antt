@@ -2,7 +2,7 @@
 use Rattle.std.proofs.Common.{◌≡◌, ℕ, zero, suc, ◌≤◌, false, eqb, nat_lt, List, [], ◌∷◌, ◌++◌, length, ap, sym, ◌∙◌, refl, arith, length-append, append_assoc, append-nil}
 use Rattle.std.proofs.lemmas.Bool.{cond_both, ltb-false}
 use Rattle.std.proofs.lemmas.Bool.Decides.{nat_tests}
-use Rattle.step_record.specs.Keys.{has_key}
+use Rattle.engine_base.specs.Keys.{has_key}
 use Rattle.policy_page.specs.Residents.{Outcome, times, IsAccess, KeepsResidents}
 use Rattle.policy_page.specs.CountedKeys.{CountedKey, uncounted_key, keys_of, AreCounted, total_count, oldest_count}
 use Rattle.sieve.specs.Sieve.{SieveState, sieve_residents, after_wrap, after_pass, pass_count_within, pass_count, after_passes, sieve_with_key, sieve_eviction, sieve_act, HasAhead, empty_sieve, IsSieve}

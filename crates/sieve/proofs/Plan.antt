@@ -15,7 +15,7 @@ use Rattle.sieve.specs.Plan.{passed_queue, sieve_of, queue_ahead, pass_run, afte
 use Rattle.policy_page.specs.Counted.{counted_keys}
 use Rattle.policy_page.proofs.Counted.{counted-append, length-counted, oldest-counted, key-both, counted-with, both-counted}
 use Rattle.std.proofs.lemmas.Grind.{common_steps}
-use Rattle.step_record.specs.Keys.{has_key}
+use Rattle.engine_base.specs.Keys.{has_key}
 use Rattle.policy_page.specs.Queues.{is_empty}
 use Rattle.policy_page.proofs.CountedKeys.{by-oldest, length-keys, counted-second}
 use Rattle.policy_page.specs.Planned.{IsWithin, resident_plan, IsPlannedWithin, leaver_plan}

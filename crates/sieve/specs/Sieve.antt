@@ -2,9 +2,9 @@
 -- a full cache it clears the bits that are set until it finds one that is clear, and that key leaves. A bit is a count
 -- of 0 or 1.
 use Rattle.std.specs.Prelude.{ℕ, zero, suc, nat_lt, if◌then◌else◌, eqb, List, [], ◌∷◌, ◌++◌, length}
-use Rattle.step_record.specs.Keys.{has_key}
-pub use Rattle.step_record.specs.declared.outcome.Outcome.{Outcome}
-use Rattle.step_record.specs.declared.outcome.Outcome.TheVariants as outcome
+use Rattle.engine_base.specs.Keys.{has_key}
+pub use Rattle.engine_base.specs.declared.outcome.Outcome.{Outcome}
+use Rattle.engine_base.specs.declared.outcome.Outcome.TheVariants as outcome
 use Rattle.policy_page.specs.Residents.{AreResidents}
 use Rattle.policy_page.specs.CountedKeys.{CountedKey, uncounted_key, counted_less, keys_of, with_count}
 use Rattle.policy_page.specs.CountedKeys.{AreCounted, total_count, oldest_count}

@@ -1,9 +1,9 @@
 -- SIEVE as its paper lists it: one queue, and a hand that points at a key of it, or nowhere. (Zhang and others, NSDI
 -- 2024, algorithm 1.) A cache by two lists has the same outcomes.
 use Rattle.std.specs.Prelude.{ℕ, zero, suc, nat_lt, if◌then◌else◌, eqb, Option, Some, None, List, [], ◌∷◌, ◌++◌, length}
-use Rattle.step_record.specs.Keys.{has_key}
-use Rattle.step_record.specs.declared.outcome.Outcome.{Outcome}
-use Rattle.step_record.specs.declared.outcome.Outcome.TheVariants.{Hit, Kept, Evicted}
+use Rattle.engine_base.specs.Keys.{has_key}
+use Rattle.engine_base.specs.declared.outcome.Outcome.{Outcome}
+use Rattle.engine_base.specs.declared.outcome.Outcome.TheVariants.{Hit, Kept, Evicted}
 use Rattle.policy_page.specs.Queues.{oldest_of}
 use Rattle.policy_page.specs.CountedKeys.{CountedKey, uncounted_key, keys_of, count_of, with_count, total_count}
 

@@ -15,10 +15,10 @@ ghost use Rattle.sieve.specs.Sieve.{SieveState, empty_sieve, pass_count, after_p
 ghost use Rattle.sieve.specs.SieveListing.{empty_listing, listing_act};
 ghost use Rattle.sieve.specs.Examples.{WorkedExamples};
 
+use engine_base::Key;
 use policy_page::accesses::{evicted, hit, kept};
 use queue_moves::{Accessed, KeyQueues, Run};
 use std::alloc::AllocError;
-use step_record::Key;
 
 /// An access to a key: a hit sets its visited bit; in a full cache the hand passes over the keys whose bits are set,
 /// clearing these, and the key at which it stops leaves. `scalar` is the number of the queue ahead of the hand. The one

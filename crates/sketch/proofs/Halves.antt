@@ -3,15 +3,15 @@ use Rattle.std.proofs.Common.{◌≡◌, ℕ, ◌+◌, ◌*◌, ◌/◌, ◌%◌
 use Rattle.std.proofs.lemmas.Bool.Decides.{nat_tests}
 use Rattle.std.proofs.lemmas.List.{get_or-map, get_or_past, length-map, get_or-set_same, get_or-set_other, length-set}
 use Rattle.std.specs.Int.{bit_at}
-use Rattle.step_record.specs.Bits.{bit_of, bits_of}
+use Rattle.engine_base.specs.Bits.{bit_of, bits_of}
 use Rattle.sketch.specs.Counters.{nibble, counter_at}
 use Rattle.sketch.specs.Laws.{halved_word, odd_bits, lost_word, lost_of_word, unhalved_words, lost_bit}
-use Rattle.step_record.specs.Places.{by_place}
+use Rattle.engine_base.specs.Places.{by_place}
 use Rattle.sketch.specs.HalveRecord.{HalveRecord, counter_kept, kept_at, halve_record_of, table_before_halving}
 use Rattle.sketch.specs.Sketch.{Spread, Table, halved_table, IsTable}
 use Rattle.std.proofs.lemmas.Nat.{and_le_r, shr-shr, mul-le}
 use Rattle.sketch.proofs.Digits.{same_digits, nibble_is, nibble_lt, zero_nibble, nibble_halved, nibble_odd, lost_digit, nibble_doubled, low_word}
-use Rattle.step_record.proofs.Places.{length-by_place, get_or-by_place, by_place_same, by_place_whole}
+use Rattle.engine_base.proofs.Places.{length-by_place, get_or-by_place, by_place_same, by_place_whole}
 use Rattle.sketch.proofs.RowLists.{small_by_place}
 use Rattle.sketch.proofs.Tables.{table}
 use Rattle.std.proofs.lemmas.List.FromFn.{fill_by_all}

@@ -2,8 +2,8 @@
 use Rattle.std.proofs.Common.{◌≡◌, ◌≢◌, ℕ, ◌+◌, ◌*◌, ◌/◌, ◌%◌, ◌<◌, ◌≤◌, cond, eqb, nat_lt, ◌&&◌, get_or, arith}
 use Rattle.std.proofs.lemmas.Nat.{div-mul-add, mod-mul-add, div-add-mod'}
 use Rattle.std.proofs.lemmas.Bool.Decides.{nat_tests}
-use Rattle.step_record.specs.Places.{by_place}
-use Rattle.step_record.proofs.Places.{get_or-by_place, past-by_place}
+use Rattle.engine_base.specs.Places.{by_place}
+use Rattle.engine_base.proofs.Places.{get_or-by_place, past-by_place}
 
 module _ (w : ℕ) (c : ℕ → ℕ) (g : ℕ → ℕ → ℕ) (f0 f f' : ℕ → ℕ) (r : ℕ) (within : c r < w)
     (before : (i : ℕ) → f i ≡ cond (nat_lt (i / w) r && eqb (c (i / w)) (i % w)) (g (i / w) (f0 i)) (f0 i))

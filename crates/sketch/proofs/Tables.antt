@@ -5,10 +5,10 @@ use Rattle.std.proofs.lemmas.Bool.{eq-eqb, ltb-false}
 use Rattle.std.proofs.lemmas.Bool.Decides.{nat_tests}
 use Rattle.sketch.specs.declared.touch_record.RaisedRows.{RaisedRows}
 use Rattle.sketch.specs.Columns.{Spread, column, column_below}
-use Rattle.step_record.specs.Places.{by_place}
+use Rattle.engine_base.specs.Places.{by_place}
 use Rattle.sketch.specs.Sketch.{Table, counter_of, is_of, at_key, touched_table, least_counter}
 use Rattle.sketch.specs.TouchRecord.{TouchRecord, touch_record_of, rose, table_before_touch, FitsTouch}
-use Rattle.step_record.proofs.Places.{get_or-by_place, by_place_same}
+use Rattle.engine_base.proofs.Places.{get_or-by_place, by_place_same}
 
 -- the least of two counters that rise is the least of the two, risen
 up_min : (a b : ℕ) → min (min 15 (a + 1)) (min 15 (b + 1)) ≡ min 15 (min a b + 1)

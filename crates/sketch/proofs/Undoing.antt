@@ -6,7 +6,7 @@ use Rattle.sketch.specs.Sketch.{Table, counter_of, touched_table, halved_table, 
 use Rattle.sketch.specs.Columns.{column}
 use Rattle.sketch.specs.TouchRecord.{TouchRecord, touch_record_of, table_before_touch, FitsTouch}
 use Rattle.sketch.specs.HalveRecord.{counter_kept, kept_at, halve_record_of, table_before_halving, FitsHalve}
-use Rattle.step_record.proofs.Places.{length-by_place, get_or-by_place, by_place_same, by_place_whole}
+use Rattle.engine_base.proofs.Places.{length-by_place, get_or-by_place, by_place_same, by_place_whole}
 use Rattle.sketch.proofs.RowLists.{small_by_place}
 use Rattle.sketch.proofs.Tables as tables
 

@@ -2,7 +2,7 @@
 -- the bits of 64 counters fill a word, where those of each sixteen stand four places apart (defined by this project).
 use Rattle.std.specs.Prelude.{◌≡◌, ℕ, ◌+◌, ◌*◌, ◌/◌, ◌%◌, ◌<◌, ◌≤◌, false, cond, ◌==◌, length, slice_index}
 use Rattle.std.specs.Prelude.{slice_index_or}
-use Rattle.step_record.specs.Places.{by_place}
+use Rattle.engine_base.specs.Places.{by_place}
 pub use Rattle.sketch.specs.declared.halve_record.HalveRecord.{HalveRecord}
 use Rattle.sketch.specs.Sketch.{Table, changed}
 

@@ -1,7 +1,7 @@
 -- Words of counters, halved all at once, and the bits that are lost (defined by this project).
 use Rattle.std.specs.Prelude.{ℕ, ◌+◌, ◌*◌, ◌/◌, ◌%◌, ◌^◌, List, length, slice_index, bit_and, bit_or}
 use Rattle.sketch.specs.Counters.{nibble}
-use Rattle.step_record.specs.Places.{by_place}
+use Rattle.engine_base.specs.Places.{by_place}
 
 -- each of a word's counters floored to its half: the bit that comes from the counter above is masked out
 abbrev pub halved_word : ℕ → ℕ

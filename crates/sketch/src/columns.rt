@@ -2,9 +2,9 @@
 ghost use Rattle.std.specs.Prelude.{◌≡◌, ◌<◌, ◌≤◌, ◌+◌, ◌*◌, ◌^◌, slice_index, ℕ};
 ghost use Rattle.std.specs.Int.{IsPowerOfTwo};
 ghost use Rattle.sketch.specs.Columns.{column as column_of, mix as mix_of, wrap};
-ghost use Rattle.step_record.specs.Places.{by_place};
+ghost use Rattle.engine_base.specs.Places.{by_place};
 
-use step_record::{Key, MAX_CAPACITY, Spread};
+use engine_base::{Key, MAX_CAPACITY, Spread};
 
 /// The most columns of a row: four for each entry of the largest cache.
 pub const MAX_WIDTH: u32 = 4 * MAX_CAPACITY;

@@ -1,8 +1,8 @@
 //! The undo record of a halving.
 ghost use Rattle.std.specs.Prelude.{◌≡◌, ◌≤◌, ◌/◌, length};
-ghost use Rattle.step_record.specs.declared.bit_list.TheConstants.{MAX_LIST_WORDS};
+ghost use Rattle.engine_base.specs.declared.bit_list.TheConstants.{MAX_LIST_WORDS};
 
-use step_record::BitList;
+use engine_base::BitList;
 
 /// The bits that a halving lost, one for each counter. Contracts see the field, so that they say all that it holds.
 #[derive(Drop)]

@@ -2,7 +2,7 @@
 ghost use Rattle.std.specs.Prelude.{◌≡◌, ◌<◌, ◌≤◌, ◌+◌, ◌*◌, ◌/◌, ◌^◌, length, map, ℕ, slice_index};
 ghost use Rattle.sketch.specs.Counters.{nibble, counter_at};
 ghost use Rattle.sketch.specs.Laws.{halved_word, odd_bits, lost_word, lost_of_word, unhalved_words};
-ghost use Rattle.step_record.specs.Places.{by_place};
+ghost use Rattle.engine_base.specs.Places.{by_place};
 
 use crate::blocks::{ONES, SEVENS, halve_block, unhalve_block};
 

@@ -4,14 +4,14 @@ ghost use Rattle.std.specs.Prelude.{length, slice_index, ℕ};
 ghost use Rattle.sketch.specs.declared.columns.TheConstants.{MAX_WIDTH};
 ghost use Rattle.sketch.specs.Counters.{counter_at};
 ghost use Rattle.sketch.specs.Columns.{column as column_of};
-ghost use Rattle.step_record.specs.Places.{by_place};
+ghost use Rattle.engine_base.specs.Places.{by_place};
 ghost use Rattle.sketch.specs.Sketch.{is_of};
 ghost use Rattle.sketch.specs.TouchRecord.{rose as rose_of};
 
 use crate::columns::column;
 use crate::counters::{lower, raise};
 use crate::touch_record::TouchRecord;
-use step_record::{Key, Spread};
+use engine_base::{Key, Spread};
 
 /// Raises the counter at a column of each row, and returns what the four were.
 pub fn raise_rows(words: &mut [u64], width: u32, columns: [u32; 4]) -> [u32; 4]

@@ -2,7 +2,7 @@
 ghost use Rattle.std.specs.Prelude.{◌≡◌, ◌<◌, ◌≤◌, ◌*◌, min, slice_index, ℕ, IfOk, OnOk, OnErr};
 ghost use Rattle.std.specs.Int.{IsPowerOfTwo};
 ghost use Rattle.sketch.specs.declared.columns.TheConstants.{MAX_WIDTH};
-ghost use Rattle.step_record.specs.Places.{by_place};
+ghost use Rattle.engine_base.specs.Places.{by_place};
 ghost use Rattle.sketch.specs.Columns.{column as column_of};
 ghost use Rattle.sketch.specs.Sketch.{counter as counter_of, touched_table, halved_table, least_counter as least_of};
 ghost use Rattle.sketch.specs.TouchRecord.{touch_record_of, table_before_touch, FitsTouch};
@@ -14,9 +14,9 @@ use crate::halve_record::HalveRecord;
 use crate::laws::{halve_words, unhalve_words};
 use crate::rows::{lower_rows, raise_rows};
 use crate::touch_record::{RaisedRows, TouchRecord};
+use engine_base::{BitList, Key, Spread};
 use std::alloc::{AllocError, Global};
 use std::marker::Model;
-use step_record::{BitList, Key, Spread};
 
 /// Four rows of counters from 0 to 15. Contracts see a table: the width, the spread and the list of the counters, row
 /// after row.
@@ -38,7 +38,7 @@ pub struct Sketch {
 impl Model for Sketch {
     ghost use Rattle.std.specs.Prelude.{◌≡◌, ◌≤◌, ◌*◌, ◌/◌, length, IfSome};
     ghost use Rattle.sketch.specs.Sketch.{Table, least_counter as least_of};
-    ghost use Rattle.step_record.specs.Places.{by_place};
+    ghost use Rattle.engine_base.specs.Places.{by_place};
     ghost use Rattle.sketch.specs.Counters.{counter_at};
     ghost use Rattle.sketch.specs.Columns.{column as column_of};
     ghost use Rattle.std.specs.Int.{IsPowerOfTwo};

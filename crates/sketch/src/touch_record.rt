@@ -2,7 +2,7 @@
 ghost use Rattle.std.specs.Prelude.{◌≡◌, ◌<◌};
 ghost use Rattle.sketch.specs.TouchRecord.{rose};
 
-use step_record::Key;
+use engine_base::Key;
 
 /// Which of a key's four counters a touch raised: all that it takes to undo it. It holds no list.
 #[derive(Clone, Copy)]

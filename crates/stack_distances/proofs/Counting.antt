@@ -2,7 +2,7 @@
 use Rattle.std.proofs.Common.{◌≡◌, ℕ, suc, zero, ◌≤◌, true, false, cond, eqb, List, [], ◌∷◌, ◌++◌, length, drop, refl, arith, ◌+◌, ◌<◌, nat_lt, take, get_or, ap, ◌∙◌, sym, inl, inr, drop-cons, min, Option, count_by, append_assoc, append-nil}
 use Rattle.std.proofs.lemmas.Bool.{eqb-true, cases_lt, eq-eqb}
 use Rattle.std.proofs.lemmas.Bool.Decides.{nat_tests}
-use Rattle.step_record.specs.Keys.{has_key}
+use Rattle.engine_base.specs.Keys.{has_key}
 use Rattle.queue_cache.specs.Lru.{distinct_keys, keys_since, Outcome, is_lru_hit, lru_outcome}
 use Rattle.queue_cache.proofs.Recency.{has-drop, two}
 use Rattle.std.proofs.lemmas.Grind.{common_steps}
@@ -11,7 +11,7 @@ use Rattle.std.proofs.Math.ListN.{drop_of_length-le}
 use Rattle.trace_index.specs.Uses.{last_below, number_of}
 use Rattle.std.proofs.lemmas.List.Sums.{sum_by-le-sum_by}
 use Rattle.step_record.specs.declared.job.Policy.TheVariants.{Lru}
-use Rattle.step_record.specs.Stats.{is_hit, is_miss, is_eviction, is_rejection, one_if}
+use Rattle.engine_base.specs.Stats.{is_hit, is_miss, is_eviction, is_rejection, one_if}
 use Rattle.queue_cache.specs.QueueCache.{Job, state_after, outcomes_from, outcomes_after, outcome_after}
 use Rattle.policies.specs.AnyPolicy.{stats_on}
 use Rattle.queue_cache.proofs.Counting.{count-cons, hits-misses}

@@ -4,8 +4,8 @@ use Rattle.std.proofs.lemmas.Bool.{eqb-true, ne_eqb, cases_eq, cases_lt, eq-eqb}
 use Rattle.std.proofs.lemmas.Bool.Decides.{nat_tests}
 use Rattle.std.proofs.lemmas.List.{take_more, get_or_past}
 use Rattle.std.proofs.lemmas.List.Sums.{sum_by_push, count_by-le-length}
-use Rattle.step_record.specs.Keys.{has_key}
-use Rattle.step_record.specs.Bits.{bit_of}
+use Rattle.engine_base.specs.Keys.{has_key}
+use Rattle.engine_base.specs.Bits.{bit_of}
 use Rattle.queue_cache.specs.Lru.{distinct_keys, keys_since}
 use Rattle.queue_cache.proofs.Recency.{has-drop, two}
 use Rattle.trace_index.specs.KeyPlaces.{place_of}
@@ -16,7 +16,7 @@ use Rattle.stack_distances.specs.Histogram.{Histogram, is_last, is_at, IsHistogr
 use Rattle.stack_distances.proofs.Bits.{put-marks}
 use Rattle.stack_distances.proofs.Counting.{again-next, came-by, last_number, last-key, last-low, past-end, stack, stack-front, stack-next, since-beyond, since-within}
 use Rattle.std.proofs.lemmas.Grind.{get_or-set_at}
-use Rattle.step_record.specs.declared.limits.TheConstants.{MAX_ACCESSES}
+use Rattle.engine_base.specs.declared.limits.TheConstants.{MAX_ACCESSES}
 use Rattle.stack_distances.proofs.Prefix.{none-deeper}
 
 -- ---- the distances

@@ -4,8 +4,8 @@ use Rattle.std.proofs.Math.ListN.{length-set}
 use Rattle.std.proofs.lemmas.Bool.{cases_eq}
 use Rattle.std.proofs.lemmas.List.FromFn.{fill_by_all}
 use Rattle.std.proofs.lemmas.List.Sums.{count_by-le-length}
-use Rattle.step_record.specs.Places.{by_place}
-use Rattle.step_record.proofs.Places.{length-by_place, get_or-by_place}
+use Rattle.engine_base.specs.Places.{by_place}
+use Rattle.engine_base.proofs.Places.{length-by_place, get_or-by_place}
 use Rattle.queue_cache.specs.Lru.{distinct_keys}
 use Rattle.stack_distances.specs.Distances.{distances, is_within, hits_within}
 use Rattle.stack_distances.specs.Histogram.{is_at}

@@ -3,8 +3,8 @@ use Rattle.std.proofs.Common.{◌≡◌, ℕ, suc, zero, ◌+◌, ◌-◌, ◌<�
 use Rattle.std.proofs.lemmas.Bool.{cases_eq, cases_lt, ne_eqb}
 use Rattle.std.proofs.lemmas.Bool.Decides.{nat_tests}
 use Rattle.std.proofs.lemmas.List.{take_all}
-use Rattle.step_record.specs.Keys.{has_key}
-use Rattle.step_record.specs.Bits.{bit_of}
+use Rattle.engine_base.specs.Keys.{has_key}
+use Rattle.engine_base.specs.Bits.{bit_of}
 use Rattle.step_record.specs.declared.job.Policy.TheVariants.{Lru}
 use Rattle.queue_cache.specs.Lru.{distinct_keys}
 use Rattle.policies.specs.AnyPolicy.{Job, stats_on}

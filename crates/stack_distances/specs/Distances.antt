@@ -1,8 +1,8 @@
 -- The stack distances of a list of accesses, and what Lru counts by them (Mattson, Gecsei, Slutz and Traiger 1970).
 use Rattle.std.specs.Prelude.{ℕ, suc, ◌-◌, min, nat_le, Bool, false, if◌then◌else◌, Option, Some, None}
 use Rattle.std.specs.Prelude.{List, [], ◌∷◌, ◌++◌, length, count_by}
-use Rattle.step_record.specs.Keys.{has_key}
-use Rattle.step_record.specs.declared.stats.Stats.{Stats}
+use Rattle.engine_base.specs.Keys.{has_key}
+use Rattle.engine_base.specs.declared.stats.Stats.{Stats}
 use Rattle.queue_cache.specs.Lru.{distinct_keys, keys_since}
 
 -- The distance of an access to k after the accesses xs: how many distinct keys were accessed since the last access to

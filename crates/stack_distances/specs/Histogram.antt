@@ -1,9 +1,9 @@
 -- The places, marks and counts that stand for the accesses so far.
 use Rattle.std.specs.Prelude.{◌≡◌, ℕ, suc, ◌+◌, ◌*◌, ◌/◌, ◌≤◌, Bool, false, not, ◌&&◌, nat_lt, eqb, Option, Some, None}
 use Rattle.std.specs.Prelude.{List, length, take, drop, count_by, slice_index}
-use Rattle.step_record.specs.declared.limits.TheConstants.{MAX_ACCESSES}
-use Rattle.step_record.specs.Keys.{has_key}
-use Rattle.step_record.specs.Bits.{bit_of}
+use Rattle.engine_base.specs.declared.limits.TheConstants.{MAX_ACCESSES}
+use Rattle.engine_base.specs.Keys.{has_key}
+use Rattle.engine_base.specs.Bits.{bit_of}
 use Rattle.queue_cache.specs.Lru.{distinct_keys}
 use Rattle.trace_index.specs.Uses.{last_below}
 use Rattle.trace_index.specs.KeyPlaces.{place_of}

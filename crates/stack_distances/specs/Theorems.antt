@@ -1,7 +1,7 @@
 -- What the stack distances say about Lru at every capacity.
 use Rattle.std.specs.Prelude.{◌≡◌, ℕ, ◌≤◌, List}
 use Rattle.step_record.specs.declared.job.Policy.TheVariants.{Lru}
-use Rattle.step_record.specs.Stats.{is_hit}
+use Rattle.engine_base.specs.Stats.{is_hit}
 use Rattle.queue_cache.specs.QueueCache.{Job, outcome_after}
 use Rattle.policies.specs.AnyPolicy.{stats_on}
 use Rattle.stack_distances.specs.Distances.{distance, is_within, hits_within, stats_within}

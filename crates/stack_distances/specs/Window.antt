@@ -1,9 +1,9 @@
 -- The window of the trace whose keys Lru holds.
 use Rattle.std.specs.Prelude.{◌≡◌, ℕ, suc, ◌*◌, ◌<◌, ◌≤◌, true, false, List, length, take, drop}
 use Rattle.std.specs.Prelude.{slice_index}
-use Rattle.step_record.specs.declared.limits.TheConstants.{MAX_ACCESSES}
-use Rattle.step_record.specs.Keys.{has_key}
-use Rattle.step_record.specs.Bits.{bit_of}
+use Rattle.engine_base.specs.declared.limits.TheConstants.{MAX_ACCESSES}
+use Rattle.engine_base.specs.Keys.{has_key}
+use Rattle.engine_base.specs.Bits.{bit_of}
 use Rattle.queue_cache.specs.Lru.{distinct_keys}
 use Rattle.stack_distances.specs.Distances.{hits_within}
 pub use Rattle.stack_distances.specs.declared.window.Window.{Window}

@@ -1,6 +1,6 @@
 //! Counts by place, with their sums.
 ghost use Rattle.std.specs.Prelude.{◌≡◌, ℕ, ◌+◌, ◌<◌, ◌≤◌, cond, nat_lt, length, IfOk, OnOk};
-ghost use Rattle.step_record.specs.declared.limits.TheConstants.{MAX_ACCESSES};
+ghost use Rattle.engine_base.specs.declared.limits.TheConstants.{MAX_ACCESSES};
 ghost use Rattle.stack_distances.specs.FenwickTree.{IsFenwickTree};
 
 use std::alloc::{AllocError, Global};

@@ -1,6 +1,6 @@
 //! How many accesses of a trace have each stack distance.
 ghost use Rattle.std.specs.Prelude.{◌≡◌, ◌+◌, ◌<◌, ◌≤◌, ℕ, [], length, slice_index, IfOk, OnOk};
-ghost use Rattle.step_record.specs.declared.limits.TheConstants.{MAX_ACCESSES};
+ghost use Rattle.engine_base.specs.declared.limits.TheConstants.{MAX_ACCESSES};
 ghost use Rattle.stack_distances.specs.Histogram.{IsHistogram, IsNoted, count_at};
 
 use crate::marks::Marks;

@@ -1,7 +1,7 @@
 //! Marked places, and how many of them are below one.
 ghost use Rattle.std.specs.Prelude.{◌≡◌, ℕ, ◌+◌, ◌<◌, ◌≤◌, ◌*◌, ◌/◌, true, false, cond, eqb, get_or, IfOk, OnOk, length};
-ghost use Rattle.step_record.specs.declared.limits.TheConstants.{MAX_ACCESSES};
-ghost use Rattle.step_record.specs.Bits.{bit_of};
+ghost use Rattle.engine_base.specs.declared.limits.TheConstants.{MAX_ACCESSES};
+ghost use Rattle.engine_base.specs.Bits.{bit_of};
 ghost use Rattle.stack_distances.specs.declared.limits.TheConstants.{WORD_BITS};
 ghost use Rattle.stack_distances.specs.FenwickTree.{IsFenwickTree};
 ghost use Rattle.stack_distances.specs.Sums.{mark_of, marks_before, sum_below};

@@ -1,6 +1,6 @@
 //! The stretch of a trace whose keys Lru holds.
 ghost use Rattle.std.specs.Prelude.{◌≡◌, ℕ, ◌≤◌, List, IfOk, length};
-ghost use Rattle.step_record.specs.declared.limits.TheConstants.{MAX_ACCESSES};
+ghost use Rattle.engine_base.specs.declared.limits.TheConstants.{MAX_ACCESSES};
 ghost use Rattle.stack_distances.specs.Window.{IsWindow, IsFirstClear};
 
 use crate::limits::WORD_BITS;

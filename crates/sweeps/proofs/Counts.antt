@@ -1,7 +1,7 @@
 -- What two counts say of the accesses between them.
 use Rattle.std.proofs.Common.{◌≡◌, ◌+◌, ◌-◌, ◌<◌, Bool, cond, List, ◌++◌, length, count_by, refl, arith, length-append}
 use Rattle.std.proofs.lemmas.List.Sums.{sum_by-append}
-use Rattle.step_record.specs.Stats.{is_hit, is_miss, is_eviction, is_rejection, stats_of}
+use Rattle.engine_base.specs.Stats.{is_hit, is_miss, is_eviction, is_rejection, stats_of}
 use Rattle.sweeps.specs.Intervals.{Outcome, Job, between, interval_behind, IsLater}
 
 counted : (p : Outcome → Bool) (xs ys : List Outcome) → count_by p (xs ++ ys) ≡ count_by p xs + count_by p ys

@@ -5,7 +5,7 @@ use Rattle.std.proofs.lemmas.List.{take_more, map-append}
 use Rattle.std.proofs.lemmas.List.Elements.{All-append}
 use Rattle.std.proofs.Math.Nat.{mul-suc}
 use Rattle.std.specs.Option.{option_or}
-use Rattle.step_record.specs.Config.{config_fault}
+use Rattle.engine_base.specs.Config.{config_fault}
 use Rattle.policies.specs.declared.actor_fault.ActorFault.{ActorFault}
 use Rattle.policies.specs.FaultyJobs.{Job, at_capacity, faulty_in}
 use Rattle.policies.specs.Reports.{report_on}

@@ -3,7 +3,7 @@ use Rattle.std.proofs.Common.{◌≡◌, ◌∙◌, ◌+◌, ◌*◌, ◌≤◌,
 use Rattle.std.specs.Int.{div_ceil}
 use Rattle.std.proofs.lemmas.List.{take_all}
 use Rattle.std.proofs.lemmas.List.Sums.{sum_by-append, sum_by_push}
-use Rattle.step_record.specs.Stats.{is_hit, is_miss, is_eviction, is_rejection, stats_of}
+use Rattle.engine_base.specs.Stats.{is_hit, is_miss, is_eviction, is_rejection, stats_of}
 use Rattle.policies.specs.AnyPolicy.{Outcome, Job, outcomes_on, stats_on}
 use Rattle.policies.specs.Reports.{report_of, report_on}
 use Rattle.policies.specs.Theorems.{AnyCoversTrace}

@@ -3,10 +3,10 @@ use Rattle.std.specs.Int.{div_ceil}
 use Rattle.std.specs.Prelude.{ℕ, zero, suc, ◌+◌, ◌-◌, ◌*◌, ◌/◌, ◌%◌, ◌<◌, ◌≤◌, cond, nat_le, Option, Some}
 use Rattle.std.specs.Prelude.{List, [], ◌∷◌, ◌++◌, length, take, drop}
 pub use Rattle.step_record.specs.declared.job.Job.{Job}
-use Rattle.step_record.specs.declared.limits.TheConstants.{MAX_BATCH}
-pub use Rattle.step_record.specs.declared.outcome.Outcome.{Outcome}
-pub use Rattle.step_record.specs.declared.stats.Stats.{Stats}
-use Rattle.step_record.specs.Stats.{stats_of}
+use Rattle.engine_base.specs.declared.limits.TheConstants.{MAX_BATCH}
+pub use Rattle.engine_base.specs.declared.outcome.Outcome.{Outcome}
+pub use Rattle.engine_base.specs.declared.stats.Stats.{Stats}
+use Rattle.engine_base.specs.Stats.{stats_of}
 use Rattle.policies.specs.declared.actor_fault.ActorFault.{ActorFault}
 use Rattle.policies.specs.declared.actor_fault.ActorFault.TheVariants.{Actors}
 use Rattle.policies.specs.declared.job_checks.TheConstants.{MAX_ACTORS}

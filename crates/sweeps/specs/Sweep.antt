@@ -4,11 +4,11 @@ use Rattle.std.specs.List.{Any}
 use Rattle.std.specs.Option.{option_or}
 use Rattle.std.specs.Prelude.{◌≡◌, ℕ, ◌+◌, ◌*◌, All, Ok, Bool, true, false, if◌then◌else◌, cond, nat_le, Option, Some}
 use Rattle.std.specs.Prelude.{None, List, [], ◌∷◌, ◌++◌, length, map}
-use Rattle.step_record.specs.Config.{config_fault}
+use Rattle.engine_base.specs.Config.{config_fault}
 use Rattle.step_record.specs.declared.job.Job.{Job}
 use Rattle.step_record.specs.declared.job.Policy.{Policy}
 use Rattle.step_record.specs.declared.job.Policy.TheVariants.{Lru}
-use Rattle.step_record.specs.declared.limits.TheConstants.{MAX_BATCH}
+use Rattle.engine_base.specs.declared.limits.TheConstants.{MAX_BATCH}
 use Rattle.policies.specs.declared.job_checks.TheConstants.{MAX_ACTORS}
 pub use Rattle.policies.specs.declared.actor_fault.ActorFault.{ActorFault}
 use Rattle.policies.specs.declared.actor_fault.ActorFault.TheVariants.{Actors}

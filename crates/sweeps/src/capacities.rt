@@ -1,6 +1,6 @@
 //! Jobs at several capacities.
 ghost use Rattle.std.specs.Prelude.{◌≡◌, ◌++◌, ◌-◌, ◌^◌, None, Ok, IfOk, OnOk, length, map, min};
-ghost use Rattle.step_record.specs.Config.{config_fault};
+ghost use Rattle.engine_base.specs.Config.{config_fault};
 ghost use Rattle.policies.specs.FaultyJobs.{at_capacity, faulty_in, ReturnsFault};
 ghost use Rattle.policies.specs.Reports.{report_on};
 ghost use Rattle.sweeps.specs.Sweep.{first_config_fault, gated_batches, is_gated_policy, jobs_over, sweep_fault};

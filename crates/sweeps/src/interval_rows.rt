@@ -1,6 +1,6 @@
 //! What jobs make of each interval of a trace, side by side.
 ghost use Rattle.std.specs.Prelude.{◌≡◌, ◌≤◌, ◌*◌, ◌-◌, ◌^◌, None, Ok, IfOk, flat_map, length, min};
-ghost use Rattle.step_record.specs.Config.{config_fault};
+ghost use Rattle.engine_base.specs.Config.{config_fault};
 ghost use Rattle.policies.specs.FaultyJobs.{faulty_in, ReturnsFault};
 ghost use Rattle.sweeps.specs.Intervals.{interval_batches, intervals_fault, intervals_on};
 

@@ -1,6 +1,6 @@
 //! What one job makes of each interval of a trace, on this thread.
 ghost use Rattle.std.specs.Prelude.{◌≡◌, ◌≤◌, Ok, IfOk, []};
-ghost use Rattle.step_record.specs.Config.{config_fault};
+ghost use Rattle.engine_base.specs.Config.{config_fault};
 ghost use Rattle.policies.specs.AnyPolicy.{HasAccessed};
 ghost use Rattle.sweeps.specs.Intervals.{between, intervals_on, IsLater};
 

@@ -1,7 +1,7 @@
 //! A trace with what its reports at several capacities go by.
 ghost use Rattle.std.specs.Prelude.{◌≡◌, ◌<◌, ◌≤◌, ◌↔◌, Ok, IfOk, IfSome, IsSome, IsTrue};
 ghost use Rattle.std.proofs.Props.{props};
-ghost use Rattle.step_record.specs.Config.{config_fault};
+ghost use Rattle.engine_base.specs.Config.{config_fault};
 ghost use Rattle.policies.specs.Reports.{report_on};
 ghost use Rattle.stack_distances.specs.Curve.{curve_of};
 ghost use Rattle.sweeps.specs.Sweep.{AsksFor};

@@ -1,7 +1,7 @@
 //! What is made of each of several jobs, side by side.
 ghost use Rattle.std.specs.Prelude.{◌≡◌, Ok, IfOk};
 ghost use Rattle.std.specs.List.{AllZip};
-ghost use Rattle.step_record.specs.Config.{config_fault};
+ghost use Rattle.engine_base.specs.Config.{config_fault};
 ghost use Rattle.sweeps.specs.Sweep.{AreAccepted};
 
 use rayon::prelude::*;

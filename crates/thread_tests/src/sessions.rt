@@ -1,6 +1,6 @@
 //! Sessions of the concurrent cache, the calls of their workers, and what a run of them leaves.
 ghost use Rattle.std.specs.Prelude.{◌≤◌};
-ghost use Rattle.step_record.specs.declared.limits.TheConstants.{MAX_JOURNAL_LIMIT};
+ghost use Rattle.engine_base.specs.declared.limits.TheConstants.{MAX_JOURNAL_LIMIT};
 
 use super::assertions::assert_equal;
 use drive::{Cause, DriveFault, Driven, drive};

@@ -1,7 +1,7 @@
 -- Where a key comes next in a trace, and where it came before.
 use Rattle.std.specs.Prelude.{◌≡◌, ◌<◌, ◌≤◌, ℕ, zero, suc, ◌==◌, if◌then◌else◌, Option, Some, None}
 use Rattle.std.specs.Prelude.{List, [], ◌∷◌, length, drop, slice_index}
-use Rattle.step_record.specs.declared.limits.TheConstants.{MAX_ACCESSES}
+use Rattle.engine_base.specs.declared.limits.TheConstants.{MAX_ACCESSES}
 
 -- the least place that holds k, where the list begins at place n
 abbrev pub next_place_in : ℕ → ℕ → List ℕ → Option ℕ

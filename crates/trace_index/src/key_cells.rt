@@ -2,10 +2,10 @@
 ghost use Rattle.std.specs.Prelude.{◌≡◌, ◌≢◌, ℕ, ◌<◌, ◌≤◌, ◌+◌, ◌^◌, cond, nat_eq, None, IfOk, IfSome, OnSome, length, slice_index};
 ghost use Rattle.trace_index.specs.KeyCells.{home, number_among, len_of_larger, has_few_free, IsPlace};
 
+use engine_base::Key;
 use std::alloc::{AllocError, Global};
 use std::marker::Model;
 use std::mem;
-use step_record::Key;
 
 /// 2^64 over the golden ratio, to the nearest odd number (Knuth's multiplicative hashing).
 const MULTIPLIER: u64 = 11400714819323198485;

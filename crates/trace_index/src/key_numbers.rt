@@ -6,9 +6,9 @@ ghost use Rattle.trace_index.specs.KeyCells.{number_or};
 ghost use Rattle.trace_index.specs.KeyNumbers.{number_of_any, number_in_both, number_in};
 
 use crate::key_cells::KeyCells;
+use engine_base::Key;
 use std::alloc::{AllocError, Global};
 use std::collections::BTreeMap;
-use step_record::Key;
 
 /// A number for each key that was put. Nearly all have theirs in a table; those that find no cell near their home, which
 /// are few unless keys are chosen against the hash, have theirs in a balanced tree.

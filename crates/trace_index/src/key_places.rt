@@ -1,13 +1,13 @@
 //! The place of each key.
 ghost use Rattle.std.specs.Prelude.{◌≡◌, ℕ, suc, ◌<◌, ◌≤◌, cond, nat_eq, Some, None, IfOk, IfSome, OnOk, length, slice_index, ◌^◌};
-ghost use Rattle.step_record.specs.declared.limits.TheConstants.{MAX_ACCESSES};
+ghost use Rattle.engine_base.specs.declared.limits.TheConstants.{MAX_ACCESSES};
 ghost use Rattle.trace_index.specs.KeyPlaces.{place_in_table, place_of, number_of_key};
 
 use crate::key_numbers::KeyNumbers;
 use crate::packed_keys::PackedKeys;
+use engine_base::Key;
 use std::alloc::{AllocError, Global};
 use std::mem;
-use step_record::Key;
 
 /// A place of the trace for each key that was put. Keys that are low for the place, and not few, as those of blocks mostly
 /// are, have theirs in a table, by the key itself, in 4 bytes; every other key has it in a table by its hash, in 16 to 24

@@ -1,15 +1,15 @@
 //! A trace with the next use of each access.
 ghost use Rattle.std.specs.Prelude.{◌≡◌, ℕ, ◌<◌, ◌≤◌, IfOk, length, slice_index};
-ghost use Rattle.step_record.specs.declared.limits.TheConstants.{MAX_ACCESSES};
+ghost use Rattle.engine_base.specs.declared.limits.TheConstants.{MAX_ACCESSES};
 ghost use Rattle.trace_index.specs.Uses.{AreNextUses, next};
 ghost use Rattle.trace_index.specs.PackedKeys.{unpacked};
 
 use crate::next_use_finder::NextUseFinder;
 use crate::packed_keys::PackedKeys;
+use engine_base::{Key, Trace};
 use std::alloc::{AllocError, Global};
 use std::marker::Model;
 use std::sync::Arc;
-use step_record::{Key, Trace};
 
 /// The accesses of a trace, with the next use of each one's key: the place of the next access to it. Each access takes
 /// 8 bytes, or 12 where a key of the trace is 2^32 or more.

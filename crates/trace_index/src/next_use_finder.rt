@@ -1,16 +1,16 @@
 //! The next uses of a trace that is still read.
 ghost use Rattle.std.specs.Prelude.{◌≡◌, ◌+◌, ◌++◌, [], ◌≤◌, IfOk, OnOk, OnErr, length};
-ghost use Rattle.step_record.specs.declared.limits.TheConstants.{MAX_ACCESSES};
+ghost use Rattle.engine_base.specs.declared.limits.TheConstants.{MAX_ACCESSES};
 ghost use Rattle.trace_index.specs.Uses.{AreNextUses};
 ghost use Rattle.trace_index.specs.PackedKeys.{unpacked};
 
 use crate::key_places::KeyPlaces;
 use crate::next_use::NextUse;
 use crate::packed_keys::PackedKeys;
+use engine_base::Key;
 use std::alloc::{AllocError, Global};
 use std::marker::Model;
 use std::mem;
-use step_record::Key;
 
 /// The next uses of a trace whose accesses come one after another. It keeps their keys, packed, so that nobody has to keep
 /// the trace: 4 bytes an access, or 8 where a key of them is 2^32 or more. `finish` finds the next uses in one pass from
@@ -23,7 +23,7 @@ pub struct NextUseFinder {
 
 impl Model for NextUseFinder {
     ghost use Rattle.std.specs.Prelude.{ℕ, ◌≤◌, List, length};
-    ghost use Rattle.step_record.specs.declared.limits.TheConstants.{MAX_ACCESSES};
+    ghost use Rattle.engine_base.specs.declared.limits.TheConstants.{MAX_ACCESSES};
     ghost use Rattle.trace_index.specs.PackedKeys.{unpacked};
 
     ghost Value = { List ℕ };

@@ -4,8 +4,8 @@ ghost use Rattle.std.specs.Vec.{vec_len, vec_capacity};
 ghost use Rattle.trace_index.specs.PackedKeys.{unpacked};
 
 use crate::room::make_room;
+use engine_base::Key;
 use std::alloc::{AllocError, Global};
-use step_record::Key;
 
 /// The keys of a trace's accesses, in order: in 4 bytes each while all of them fit, as the numbers
 /// of blocks mostly do, else in 8.

@@ -1,12 +1,12 @@
 //! A trace with the previous use of each access.
 ghost use Rattle.std.specs.Prelude.{◌≡◌, ℕ, suc, ◌<◌, ◌≤◌, IfOk, length, slice_index};
-ghost use Rattle.step_record.specs.declared.limits.TheConstants.{MAX_ACCESSES};
+ghost use Rattle.engine_base.specs.declared.limits.TheConstants.{MAX_ACCESSES};
 ghost use Rattle.trace_index.specs.Uses.{ArePreviousUses, last_below, number_of};
 
 use crate::key_places::KeyPlaces;
+use engine_base::{Key, Trace};
 use std::alloc::{AllocError, Global};
 use std::marker::Model;
-use step_record::{Key, Trace};
 
 /// A trace, with the previous use of each access's key: the place of the last access to it before. It takes 4 bytes an
 /// access, and is found once.

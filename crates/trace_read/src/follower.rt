@@ -1,7 +1,7 @@
 //! What follows a trace while it is read.
 ghost use Rattle.std.specs.Prelude.{◌≡◌, ◌≤◌, ◌+◌, ◌-◌, ℕ, Bool, List, Option, IfSome, false, length, take, drop};
 
-use step_record::Key;
+use engine_base::Key;
 
 /// What follows a trace while it is read, and takes accesses of it.
 pub trait Follower {

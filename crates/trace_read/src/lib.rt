@@ -25,9 +25,9 @@ mod pieces;
 mod reader;
 mod scan;
 
+pub use engine_base::Trace;
 pub use fault::TraceFault;
 pub use follower::Follower;
 pub use format::Format;
 pub use limits::{Limits, MAX_LONG_ACCESSES, MAX_LONG_TRACE_BYTES};
 pub use reader::{read_followed, read_trace, read_trace_within};
-pub use step_record::Trace;

@@ -1,8 +1,8 @@
 //! The most that is read of a trace.
 ghost use Rattle.std.specs.Prelude.{◌≡◌, nat_lt};
-ghost use Rattle.step_record.specs.declared.limits.TheConstants.{MAX_ACCESSES};
+ghost use Rattle.engine_base.specs.declared.limits.TheConstants.{MAX_ACCESSES};
 
-use step_record::{MAX_ACCESSES, MAX_TRACE_BYTES};
+use engine_base::{MAX_ACCESSES, MAX_TRACE_BYTES};
 
 /// The largest number of accesses of a long trace, which is not kept: 2^32 - 1.
 pub const MAX_LONG_ACCESSES: usize = (1 << 32) - 1;

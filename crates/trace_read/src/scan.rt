@@ -17,9 +17,9 @@ use super::digits::{MAX_DIGITS, first_word};
 use super::follower::Follower;
 use super::format::Format;
 use super::lirs::{add_lirs_line, usual_number};
+use engine_base::Key;
 use std::alloc::Global;
 use std::mem;
-use step_record::Key;
 use streams::place_of;
 
 /// A scan of the lines of a trace file, whose bytes come in pieces. It keeps no byte but those of

@@ -4,11 +4,11 @@ ghost use Rattle.trace_sample.specs.Kept.{Keeps};
 ghost use Rattle.trace_sample.specs.Sample.{sample_of};
 
 use crate::rule::{BlockTest, SampleRule};
+use engine_base::Key;
 use itoa::Buffer;
 use std::alloc::{AllocError, Global};
 use std::collections::HashSet;
 use std::hash::{BuildHasherDefault, FoldHasher};
-use step_record::Key;
 
 /// What a sample kept: the blocks, how many accesses, and the text of the last of these.
 #[derive(Drop)]

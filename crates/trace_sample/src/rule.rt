@@ -3,8 +3,8 @@ ghost use Rattle.std.specs.Prelude.{◌≡◌, ◌≤◌, ◌+◌, ◌*◌, ◌/
 ghost use Rattle.sketch.specs.Columns.{wrap};
 ghost use Rattle.trace_sample.specs.Hash.{block_hash, is_sampled};
 
+use engine_base::Key;
 use sketch::mix;
-use step_record::Key;
 
 /// Which blocks a sample has.
 #[derive(Clone, Copy)]

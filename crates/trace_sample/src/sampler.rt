@@ -18,8 +18,8 @@ use crate::fault::SampleFault;
 use crate::kept::Kept;
 use crate::output::{Output, SampleStart};
 use crate::rule::SampleRule;
+use engine_base::{Gate, Key};
 use std::alloc::Global;
-use step_record::{Gate, Key};
 use streams::CountedWrite;
 use trace_read::{Follower, TraceFault};
 

@@ -15,9 +15,9 @@ use crate::fault::SampleFault;
 use crate::output::{LentWriter, Loan, SampleStart};
 use crate::rule::SampleRule;
 use crate::sampler::{Sampler, WatchedSampler};
+use engine_base::{Gate, Key};
 use std::alloc::Global;
 use std::marker::Brand;
-use step_record::{Gate, Key};
 use streams::{CountedRead, CountedWrite};
 use trace_read::{Format, Limits, TraceFault, read_followed};
 

@@ -1,4 +1,5 @@
 //! The line of progress: its text, and when it is drawn and cleared.
+use engine_base::Gate;
 use progress::{ProgressLine, ProgressText, Watch, Work};
 use std::fmt::{Display, Write};
 use std::rt::Clock;
@@ -7,7 +8,6 @@ use std::sync::atomic::Ordering::SeqCst;
 use std::test::Fail;
 use std::time::Duration;
 use std::{fmt, io};
-use step_record::Gate;
 
 // A runtime whose clock goes on by 100 milliseconds each time it is read, and whose standard error counts what it is
 // given: lines, and what clears them.

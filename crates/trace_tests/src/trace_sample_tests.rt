@@ -1,8 +1,8 @@
 //! Samples worked out from the rule by a calculator of its own, and readers and writers that fail.
 use super::assertions::assert_equal;
+use engine_base::OpenGate;
 use std::io::{self, Error, ErrorKind, Read, Write};
 use std::test::Fail;
-use step_record::OpenGate;
 use streams::{CountedReader, CountedWriter};
 use trace_read::{Format, TraceFault};
 use trace_sample::{SampleFault, SampleRule, write_sample};

@@ -1,6 +1,6 @@
 -- When each fault comes, and the value that it gives back.
 use Rattle.std.specs.Prelude.{ℕ, ◌<◌, ◌≤◌}
-use Rattle.step_record.specs.declared.worker.TheConstants.{MAX_WORKERS}
+use Rattle.engine_base.specs.declared.worker.TheConstants.{MAX_WORKERS}
 use Rattle.turn_book.specs.declared.book.TheConstants.{MAX_TURNS}
 use Rattle.turn_book.specs.declared.fault.OpenFault.{OpenFault}
 use Rattle.turn_book.specs.declared.fault.OpenFault.TheVariants.{OutOfMemory, Workers, Turns}

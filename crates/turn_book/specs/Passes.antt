@@ -1,6 +1,6 @@
 -- What callers see of a book, of a pass and of a turn, and what a book promises of them.
 use Rattle.std.specs.Prelude.{◌≡◌, ℕ, suc, ◌+◌, ◌≤◌, List, [], ◌∷◌, ◌++◌, length, Option, Some}
-use Rattle.step_record.specs.History.{tail_after}
+use Rattle.engine_base.specs.History.{tail_after}
 use Rattle.atomic_table.specs.Seated.{TableId}
 use Rattle.turn_book.specs.Turns.{Begins, Every, AddsInTurn, Shows, entries_by}
 

@@ -2,7 +2,7 @@
 use Rattle.std.specs.Prelude.{◌≡◌, ℕ, ◌≤◌, [], ◌∷◌, Some, None, Option}
 use Rattle.atomic_table.specs.Table.{Me}
 use Rattle.atomic_table.specs.Seated.{TableId}
-use Rattle.step_record.specs.declared.worker.TheConstants.{MAX_WORKERS}
+use Rattle.engine_base.specs.declared.worker.TheConstants.{MAX_WORKERS}
 use Rattle.turn_book.specs.Views.{View, Part, seat_number, own_of}
 use Rattle.turn_book.specs.Passes.{PassState, TurnState}
 

@@ -3,7 +3,7 @@
 //! value.
 ghost use Rattle.std.specs.Prelude.{◌≡◌, ◌≤◌, ◌<◌, List, map, length, vec_len, vec_capacity, [], IfOk};
 ghost use Rattle.std.specs.Prelude.{IfErr, OnOk};
-ghost use Rattle.step_record.specs.declared.worker.TheConstants.{MAX_WORKERS};
+ghost use Rattle.engine_base.specs.declared.worker.TheConstants.{MAX_WORKERS};
 ghost use Rattle.turn_book.specs.declared.book.TheConstants.{MAX_TURNS};
 ghost use Rattle.turn_book.specs.Faults.{value_in, IsOpenCause};
 ghost use Rattle.turn_book.specs.Passes.{book_id, id_of, InOrder, Takes, Gives, Ends};
@@ -18,11 +18,11 @@ use crate::rule::{Draw, Look, PassOn, PassParts, Turns};
 use crate::view::{Terms, View};
 use crate::waiting::WaitingArray;
 use atomic_table::{Seat, Table};
+use engine_base::{Kept, MAX_WORKERS};
 use std::alloc::Global;
 use std::marker::Model;
 use std::snapshot::Snapshot;
 use std::sync::Wait;
-use step_record::{Kept, MAX_WORKERS};
 
 /// How many turns a pass draws at most.
 pub const MAX_TURNS: u64 = 1 << 32;

@@ -1,7 +1,7 @@
 //! The rule of the table, and what each step reports.
 use crate::view::{Terms, View};
 use atomic_table::{Join, Play, Split, TableRule};
-use step_record::Kept;
+use engine_base::Kept;
 
 /// The rule that every step keeps.
 pub struct Turns;

@@ -1,8 +1,8 @@
 //! Where workers sleep until their turn comes, beside the table. No contract rests on it.
+use engine_base::MAX_WORKERS;
 use std::array;
 use std::sync::Wait;
 use std::thread::{Parker, yield_now};
-use step_record::MAX_WORKERS;
 
 // A worker whose turn is next looks so often before it sleeps: a short turn is over sooner than a sleeper is awake.
 const LOOKS: u32 = 64;

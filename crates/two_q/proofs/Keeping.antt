@@ -2,9 +2,9 @@
 use Rattle.std.proofs.lemmas.Bool.Decides.{nat_tests}
 use Rattle.std.proofs.Common.{Bool, ◌≡◌, ℕ, ◌+◌, ◌≤◌, false, true, cond, ◌==◌, nat_lt, ◌||◌, List, ◌++◌, length, ◌∙◌, refl, arith, inl, inr, length-append}
 use Rattle.std.proofs.lemmas.Bool.{cond_both, or_cases, or_parts, ltb-true, ltb-false, eqb-true, eqb-false}
-use Rattle.step_record.specs.Keys.{has_key}
-use Rattle.step_record.specs.Stats.{is_hit, is_eviction, is_rejection}
-use Rattle.step_record.specs.declared.outcome.Outcome.TheVariants.{Hit}
+use Rattle.engine_base.specs.Keys.{has_key}
+use Rattle.engine_base.specs.Stats.{is_hit, is_eviction, is_rejection}
+use Rattle.engine_base.specs.declared.outcome.Outcome.TheVariants.{Hit}
 use Rattle.policy_page.specs.Residents.{Outcome, times, keys_evicted, IsAccess, AreResidents, KeepsResidents}
 use Rattle.policy_page.proofs.Residents.{times-append, access-keeps}
 use Rattle.policy_page.proofs.Ghost.{with-times, with-fits, without-length, still-apart}

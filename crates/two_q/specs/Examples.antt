@@ -1,6 +1,6 @@
 -- Worked examples.
 use Rattle.std.specs.Prelude.{◌≡◌, ℕ, List, [], ◌∷◌}
-use Rattle.step_record.specs.declared.outcome.Outcome.TheVariants.{Kept, Hit, Evicted}
+use Rattle.engine_base.specs.declared.outcome.Outcome.TheVariants.{Kept, Hit, Evicted}
 use Rattle.policy_page.specs.Examples.{Outcome, example_counts, counts_with, run_of}
 use Rattle.two_q.specs.TwoQ.{TwoQSizes, TwoQState, empty_two_q, two_q_act}
 

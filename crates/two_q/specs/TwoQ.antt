@@ -2,8 +2,8 @@
 -- leaves it is remembered in a1out, and joins am, which is in order of last access, when it comes again.
 use Rattle.std.specs.Prelude.{Bool, true, false, ℕ, ◌+◌, ◌≤◌, nat_lt, ◌==◌, ◌||◌, if◌then◌else◌}
 use Rattle.std.specs.Prelude.{List, [], ◌∷◌, ◌++◌, length, drop}
-use Rattle.step_record.specs.Keys.{has_key, keys_without}
-use Rattle.step_record.specs.declared.outcome.Outcome.TheVariants.{Hit, Kept, Evicted}
+use Rattle.engine_base.specs.Keys.{has_key, keys_without}
+use Rattle.engine_base.specs.declared.outcome.Outcome.TheVariants.{Hit, Kept, Evicted}
 use Rattle.policy_page.specs.Residents.{Outcome, times}
 use Rattle.policy_page.specs.Ghost.{ghost_with}
 pub use Rattle.two_q.specs.declared.TwoQSizes.{TwoQSizes}

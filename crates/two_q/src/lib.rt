@@ -10,13 +10,13 @@ ghost use Rattle.policy_page.specs.Comers.{IsOutside};
 ghost use Rattle.two_q.specs.Plan.{A1IN, A1OUT, AM, joins, two_q_miss, two_q_plan};
 ghost use Rattle.two_q.specs.Examples.{WorkedExamples};
 
+use engine_base::Key;
 use policy_page::accesses::{hit, kept};
 use policy_page::comers::{enter_apart, enter_for_oldest, enter_for_remembered};
 use policy_page::misses::{LeftKeys, missed};
 use queue_moves::{Accessed, KeyMove, KeyQueues};
 use queue_table::Found;
 use std::alloc::AllocError;
-use step_record::Key;
 
 const A1IN: u8 = 0;
 

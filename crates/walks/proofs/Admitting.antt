@@ -1,7 +1,7 @@
 -- The shell takes each step that walks ask of it.
 use Rattle.std.proofs.Common.{◌≡◌, ℕ, ◌<◌, ◌≤◌, true, false, eqb, Option, Some, None, List, length, refl, ◌∙◌}
 use Rattle.std.proofs.lemmas.Bool.{eq-eqb}
-use Rattle.step_record.specs.History.{data_after, IsLegal, Entries}
+use Rattle.engine_base.specs.History.{data_after, IsLegal, Entries}
 use Rattle.shell_model.specs.declared.holder.Holder.{Holder}
 use Rattle.shell_model.specs.Shell.{Shell, act, held_by}
 use Rattle.shell_model.specs.ReachableShell.{IsReachable}

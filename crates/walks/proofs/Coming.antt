@@ -1,8 +1,8 @@
 -- The act that a worker makes next may be the next of its walks.
 use Rattle.std.proofs.Common.{◌≡◌, ℕ, List, [], ◌∷◌, ◌++◌, sym, ap, ◌∙◌, subst}
 use Rattle.std.proofs.lemmas.List.{append_assoc}
-use Rattle.step_record.specs.declared.entry.Entry.{Entry}
-use Rattle.step_record.specs.History.{Entries}
+use Rattle.engine_base.specs.declared.entry.Entry.{Entry}
+use Rattle.engine_base.specs.History.{Entries}
 use Rattle.walks.specs.declared.next.Next.TheVariants as next_act
 use Rattle.walks.specs.Walks.{Step, Reply, Call, Act, step_of, IsWalk, AreWalks}
 use Rattle.walks.specs.NextActs.{Next, Local, IsAheadOf, IsAskedNext}

@@ -1,14 +1,14 @@
 -- From each act on, a walk can be completed.
 use Rattle.std.proofs.Common.{◌≡◌, ℕ, zero, suc, ◌+◌, ◌-◌, ◌<◌, ◌%◌, ◌==◌, nat_lt, Bool, true, false, List, [], ◌∷◌, ◌++◌, refl, sym, subst, arith, MatchBool}
 use Rattle.std.proofs.lemmas.Bool.{eq-eqb, ltb-true, and_parts}
-use Rattle.step_record.specs.declared.entry.Entry.{Entry}
-use Rattle.step_record.specs.declared.step.Act.TheVariants as act
-use Rattle.step_record.specs.declared.step.Answer.TheVariants as answer
-use Rattle.step_record.specs.declared.step.Call.TheVariants as call
-use Rattle.step_record.specs.declared.step.Reply.{Reply}
-use Rattle.step_record.specs.declared.step.Reply.TheVariants as reply
-use Rattle.step_record.specs.declared.step.Step.{Step}
-use Rattle.step_record.specs.History.{Entries}
+use Rattle.engine_base.specs.declared.entry.Entry.{Entry}
+use Rattle.engine_base.specs.declared.step.Act.TheVariants as act
+use Rattle.engine_base.specs.declared.step.Answer.TheVariants as answer
+use Rattle.engine_base.specs.declared.step.Call.TheVariants as call
+use Rattle.engine_base.specs.declared.step.Reply.{Reply}
+use Rattle.engine_base.specs.declared.step.Reply.TheVariants as reply
+use Rattle.engine_base.specs.declared.step.Step.{Step}
+use Rattle.engine_base.specs.History.{Entries}
 use Rattle.walks.specs.Walks.{Call, Act, Item, step_of, IsWalk, AreWalks, IsReading, IsWriting, IsEvicting, IsEnding}
 use Rattle.walks.specs.WalkPlaces.{IsWalkFrom, is_place}
 

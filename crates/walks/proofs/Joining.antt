@@ -1,7 +1,7 @@
 -- Walks one after another.
 use Rattle.std.proofs.Common.{◌≡◌, ◌≢◌, ℕ, ◌+◌, ◌<◌, List, [], ◌∷◌, ◌++◌, length, get_or, drop, refl, sym, ap, ◌∙◌, subst, add-one, drop-cons}
 use Rattle.std.proofs.lemmas.List.{append_assoc, append-nil}
-use Rattle.step_record.specs.History.{Entries}
+use Rattle.engine_base.specs.History.{Entries}
 use Rattle.walks.specs.Walks.{Call, IsWalk, AreWalks}
 use Rattle.walks.specs.WorkerEntries.{Made, IsUnfinished}
 use Rattle.walks.proofs.Finishing.{finish_calls}

@@ -1,9 +1,9 @@
 -- One step of a walk, as its worker makes it.
 use Rattle.std.proofs.Common.{◌≡◌, ℕ, true, Some, [], ◌∷◌, ◌++◌, refl, sym, ap, ◌∙◌, subst, Result, Ok, Err, OnErr}
 use Rattle.std.proofs.lemmas.List.{append_assoc, append-nil}
-use Rattle.step_record.specs.declared.entry.Entry.{Entry}
-use Rattle.step_record.specs.Answers.{is_answer}
-use Rattle.step_record.specs.History.{Entries}
+use Rattle.engine_base.specs.declared.entry.Entry.{Entry}
+use Rattle.engine_base.specs.Answers.{is_answer}
+use Rattle.engine_base.specs.History.{Entries}
 use Rattle.walks.specs.declared.next.Next.TheVariants as next_act
 use Rattle.walks.specs.Walks.{Step, Reply, Call, Act, step_of, IsWalk}
 use Rattle.walks.specs.NextActs.{Next, Local, IsAheadOf, AheadAfter, IsRestOfWalk, IsAskedNext}

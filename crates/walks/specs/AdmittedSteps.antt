@@ -1,10 +1,10 @@
 -- When a machine takes each step that walks ask of it.
 use Rattle.std.specs.Prelude.{◌≡◌, ◌≢◌, ℕ, ◌<◌, List, ◌∷◌, ◌++◌, Option, None}
-use Rattle.step_record.specs.declared.limits.TheConstants.{MAX_STEPS}
-pub use Rattle.step_record.specs.declared.step.Call.{Call}
-pub use Rattle.step_record.specs.declared.step.Reply.{Reply}
-pub use Rattle.step_record.specs.declared.step.Step.{Step}
-use Rattle.step_record.specs.History.{data_after, IsLegal, Entries}
+use Rattle.engine_base.specs.declared.limits.TheConstants.{MAX_STEPS}
+pub use Rattle.engine_base.specs.declared.step.Call.{Call}
+pub use Rattle.engine_base.specs.declared.step.Reply.{Reply}
+pub use Rattle.engine_base.specs.declared.step.Step.{Step}
+use Rattle.engine_base.specs.History.{data_after, IsLegal, Entries}
 use Rattle.walks.specs.Walks.{Act, step_of, AreWalks}
 use Rattle.walks.specs.WorkerEntries.{entries_of}
 

@@ -1,6 +1,6 @@
 -- What a worker does next.
 use Rattle.std.specs.Prelude.{◌≡◌, ℕ, Option, Some, None, [], ◌∷◌}
-use Rattle.step_record.specs.History.{Entries}
+use Rattle.engine_base.specs.History.{Entries}
 pub use Rattle.walks.specs.declared.next.Next.{Next}
 use Rattle.walks.specs.declared.next.Next.TheVariants as next
 pub use Rattle.walks.specs.declared.place.Local.{Local}

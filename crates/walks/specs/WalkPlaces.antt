@@ -1,10 +1,10 @@
 -- What is left of a walk, by the act that its worker was asked to make last.
 use Rattle.std.specs.Prelude.{ℕ, nat_lt, Bool, true, false, ◌&&◌}
-use Rattle.step_record.specs.declared.drain.Phase.{Phase}
-use Rattle.step_record.specs.declared.drain.Phase.TheVariants.{Reads, Writes, Evictions}
-use Rattle.step_record.specs.declared.step.Act.TheVariants as act
-use Rattle.step_record.specs.declared.step.Call.TheVariants as call
-use Rattle.step_record.specs.History.{Entries}
+use Rattle.engine_base.specs.declared.drain.Phase.{Phase}
+use Rattle.engine_base.specs.declared.drain.Phase.TheVariants.{Reads, Writes, Evictions}
+use Rattle.engine_base.specs.declared.step.Act.TheVariants as act
+use Rattle.engine_base.specs.declared.step.Call.TheVariants as call
+use Rattle.engine_base.specs.History.{Entries}
 use Rattle.shell_buffers.specs.declared.stripes.TheConstants.{MAX_ITEMS}
 use Rattle.walks.specs.Walks.{Call, Act, Opens, FollowsOffer, IsReport, IsPut, FollowsLook, FollowsRemove, IsRound}
 use Rattle.walks.specs.Walks.{IsReading, IsWriting, IsEvicting, IsEnding}

@@ -1,7 +1,7 @@
 -- What a worker made, and how it stands in a list of entries.
 use Rattle.std.specs.Prelude.{◌≡◌, ◌≢◌, ℕ, ◌==◌, [], ◌++◌}
 use Rattle.std.specs.List.{filter}
-use Rattle.step_record.specs.History.{Entries}
+use Rattle.engine_base.specs.History.{Entries}
 
 -- the entries of worker w, in order
 abbrev pub entries_of : ℕ → Entries → Entries

@@ -1,14 +1,14 @@
 //! What a worker does next.
 ghost use Rattle.std.specs.Prelude.{◌≡◌, ◌<◌, ◌+◌, ◌==◌, ◌↔◌, ℕ, true, MatchBool, MatchOption, IfSome, Some, []};
-ghost use Rattle.step_record.specs.Answers.{is_answer};
-ghost use Rattle.step_record.specs.History.{Entries};
+ghost use Rattle.engine_base.specs.Answers.{is_answer};
+ghost use Rattle.engine_base.specs.History.{Entries};
 ghost use Rattle.walks.specs.Walks.{IsReading, IsWriting};
 ghost use Rattle.walks.specs.WalkPlaces.{is_place, IsWalkFrom};
 ghost use Rattle.walks.specs.NextActs.{AheadAfter, IsRestOfWalk, IsAskedNext};
 
 use super::place::Local;
+use engine_base::{Act, Answer, Item, Reply};
 use shell_buffers::MAX_ITEMS;
-use step_record::{Act, Answer, Item, Reply};
 
 /// What a worker does next: an act, with where it then stands, or nothing more for its call.
 #[derive(Clone, Copy)]

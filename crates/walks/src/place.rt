@@ -1,10 +1,10 @@
 //! Where a worker stands in the walk of one call.
 ghost use Rattle.std.specs.Prelude.{◌≡◌, ◌≤◌, true};
-ghost use Rattle.step_record.specs.declared.limits.TheConstants.{MAX_STRIPES};
-ghost use Rattle.step_record.specs.History.{Entries};
+ghost use Rattle.engine_base.specs.declared.limits.TheConstants.{MAX_STRIPES};
+ghost use Rattle.engine_base.specs.History.{Entries};
 ghost use Rattle.walks.specs.WalkPlaces.{is_place};
 
-use step_record::{Act, Call, Phase, Worker};
+use engine_base::{Act, Call, Phase, Worker};
 
 /// A worker in the walk of one call: the act that it was asked to make last, or is to make first.
 #[derive(Clone, Copy)]
@@ -27,7 +27,7 @@ impl Local {
 
     /// At the beginning of the walk of a call, of a cache with this number of read buffers: 1 to [`MAX_STRIPES`].
     ///
-    /// [`MAX_STRIPES`]: step_record::MAX_STRIPES
+    /// [`MAX_STRIPES`]: engine_base::MAX_STRIPES
     pub fn start(worker: Worker, stripes: u8, call: Call) -> Local
         requires { (1 ≤ stripes) × (stripes ≤ MAX_STRIPES) }
         ensures ahead { (es : Entries) → IsWalk worker stripes call es ↔ IsAheadOf result es }
@@ -49,7 +49,7 @@ impl Local {
     /// At the first act of a worker that holds the maintenance and is at this phase of it, in a
     /// cache with this number of read buffers: 1 to [`MAX_STRIPES`].
     ///
-    /// [`MAX_STRIPES`]: step_record::MAX_STRIPES
+    /// [`MAX_STRIPES`]: engine_base::MAX_STRIPES
     pub fn resume(worker: Worker, stripes: u8, phase: Phase) -> Local
         requires { (1 ≤ stripes) × (stripes ≤ MAX_STRIPES) }
         ensures place { (result.act ≡ phase_act phase) × (result.drained ≡ 0) }

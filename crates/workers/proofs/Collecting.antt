@@ -4,7 +4,7 @@ use Rattle.std.specs.Prelude.{IfSome}
 use Rattle.std.specs.Option.{IsSome}
 use Rattle.std.proofs.lemmas.List.{append_assoc, append_cancel_left, append-nil}
 use Rattle.std.proofs.lemmas.List.Elements.{filter-append}
-use Rattle.step_record.specs.History.{Entries}
+use Rattle.engine_base.specs.History.{Entries}
 use Rattle.shell_model.specs.Shell.{Step, Reply, Shell}
 use Rattle.turn_book.specs.Turns.{Every, Begins}
 use Rattle.turn_book.specs.Passes.{BookId, PassState, InOrder, OwnAll, Ends}

@@ -2,7 +2,7 @@
 use Rattle.std.proofs.Common.{◌≡◌, ℕ, ◌<◌, ◌≤◌, nat_lt, List, [], ◌++◌, length, get_or, Option, Some, None, IfNone, refl, sym, ap, ◌∙◌, subst, arith, inl, inr}
 use Rattle.std.proofs.lemmas.Bool.{cases_Bool}
 use Rattle.std.proofs.lemmas.Bool.Decides.{nat_tests}
-use Rattle.step_record.specs.History.{data_after, IsLegal, Entries}
+use Rattle.engine_base.specs.History.{data_after, IsLegal, Entries}
 use Rattle.shell_model.specs.Shell.{Shell, act}
 use Rattle.shell_model.specs.ReachableShell.{IsReachable}
 use Rattle.walks.specs.Walks.{Call, AreWalks}

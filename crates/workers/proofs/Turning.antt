@@ -2,8 +2,8 @@
 use Rattle.std.proofs.Common.{◌≡◌, ℕ, ◌+◌, ◌<◌, ◌≤◌, ◌^◌, ◌==◌, List, [], ◌∷◌, ◌++◌, length, length-append, Option, None, refl, sym, ap, ◌∙◌, subst, arith, inl, inr, Result, Ok, Err, IfOk, IfErr, OnOk}
 use Rattle.std.proofs.lemmas.Bool.{cases_Bool}
 use Rattle.std.proofs.lemmas.List.{append_cancel_left}
-use Rattle.step_record.specs.declared.entry.Entry.{Entry}
-use Rattle.step_record.specs.History.{next_data, data_after, IsLegal, Entries}
+use Rattle.engine_base.specs.declared.entry.Entry.{Entry}
+use Rattle.engine_base.specs.History.{next_data, data_after, IsLegal, Entries}
 use Rattle.walks.specs.WorkerEntries.{entries_of}
 use Rattle.walks.specs.AdmittedSteps.{Step, Reply, AdmitsNext}
 use Rattle.workers.specs.Draws.{IsWithin}

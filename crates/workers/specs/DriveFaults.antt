@@ -1,8 +1,8 @@
 -- When a run of workers ends in a fault, and what each fault leaves.
 use Rattle.std.specs.Prelude.{◌≡◌, ◌<◌, ◌≤◌, List, Some, None, length}
-pub use Rattle.step_record.specs.declared.step.Call.{Call}
-use Rattle.step_record.specs.declared.worker.TheConstants.{MAX_WORKERS}
-use Rattle.step_record.specs.History.{IsLegal}
+pub use Rattle.engine_base.specs.declared.step.Call.{Call}
+use Rattle.engine_base.specs.declared.worker.TheConstants.{MAX_WORKERS}
+use Rattle.engine_base.specs.History.{IsLegal}
 use Rattle.shell_model.specs.Shell.{Step, Reply, Shell, act}
 use Rattle.shell_model.specs.ReachableShell.{worker_of}
 use Rattle.journal.specs.Session.{SessionState}

@@ -1,9 +1,9 @@
 -- What a run of workers on threads leaves.
 use Rattle.std.specs.Prelude.{◌≡◌, ℕ, ◌<◌, ◌≤◌, List, [], ◌∷◌, ◌++◌, Option, Some, None, IfSome, length, get_or}
-pub use Rattle.step_record.specs.declared.step.Call.{Call}
-pub use Rattle.step_record.specs.declared.step.Reply.{Reply}
-pub use Rattle.step_record.specs.declared.step.Step.{Step}
-use Rattle.step_record.specs.History.{Entries, tail_after}
+pub use Rattle.engine_base.specs.declared.step.Call.{Call}
+pub use Rattle.engine_base.specs.declared.step.Reply.{Reply}
+pub use Rattle.engine_base.specs.declared.step.Step.{Step}
+use Rattle.engine_base.specs.History.{Entries, tail_after}
 use Rattle.journal.specs.Session.{SessionState}
 use Rattle.walks.specs.Walks.{AreWalks}
 use Rattle.walks.specs.WorkerEntries.{entries_of, IsUnfinished}

@@ -1,7 +1,7 @@
 -- What a worker has that walks in turns.
 use Rattle.std.specs.Prelude.{◌≡◌, ℕ, ◌<◌, ◌≤◌, ◌++◌, List, Option, length}
-use Rattle.step_record.specs.declared.limits.TheConstants.{MAX_STRIPES}
-use Rattle.step_record.specs.History.{data_after, Entries}
+use Rattle.engine_base.specs.declared.limits.TheConstants.{MAX_STRIPES}
+use Rattle.engine_base.specs.History.{data_after, Entries}
 use Rattle.journal.specs.Session.{Entry, SessionState}
 use Rattle.turn_book.specs.Passes.{BookState, PassState, id_of}
 use Rattle.walks.specs.AdmittedSteps.{Step, Reply, Call, AdmitsWalks}

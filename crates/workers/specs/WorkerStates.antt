@@ -3,14 +3,14 @@ use Rattle.std.specs.Prelude.{◌≡◌, ℕ, suc, List, [], ◌∷◌, map, get
 use Rattle.std.specs.Option.{IsSome}
 use Rattle.std.specs.Global.{Vec}
 use Rattle.std.specs.Vec.{vec_items}
-pub use Rattle.step_record.specs.declared.entry.Entry.{Entry}
-pub use Rattle.step_record.specs.declared.step.Call.{Call}
+pub use Rattle.engine_base.specs.declared.entry.Entry.{Entry}
+pub use Rattle.engine_base.specs.declared.step.Call.{Call}
 use Rattle.journal.specs.Session.{SessionState}
 use Rattle.turn_book.specs.Passes.{BookId, PassState}
 pub use Rattle.workers.specs.declared.run.WorkerState.{WorkerState}
 use Rattle.workers.specs.Runs.{Step, Reply, AreWalksUpTo}
 use Rattle.workers.specs.Walkers.{WasRefused}
-use Rattle.step_record.specs.History.{data_after, Entries}
+use Rattle.engine_base.specs.History.{data_after, Entries}
 use Rattle.shell_model.specs.Shell.{Shell, act}
 use Rattle.walks.specs.AdmittedSteps.{AdmitsWalks}
 

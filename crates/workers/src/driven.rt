@@ -2,10 +2,10 @@
 ghost use Rattle.std.specs.Prelude.{◌≡◌, ◌∷◌, ◌++◌, [], IfOk, OnOk, drop};
 ghost use Rattle.walks.specs.WorkerEntries.{entries_of};
 
+use engine_base::{Entry, Reply, Step, Worker};
 use journal::Session;
 use maintenance::Shell;
 use std::alloc::{AllocError, Global};
-use step_record::{Entry, Reply, Step, Worker};
 
 /// What a run of workers made: the session, whose entries past the earlier ones are those of the workers, and how many
 /// steps were applied before the run. The list of one worker's entries is made on demand.

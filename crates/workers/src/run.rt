@@ -2,10 +2,10 @@
 //! work side by side.
 ghost use Rattle.std.specs.Prelude.{◌≡◌, ◌<◌, ◌≤◌, ◌∷◌, ◌++◌, true, Some, None, Err, [], All};
 ghost use Rattle.std.specs.Prelude.{IfOk, IfErr, OnOk, OnErr, IfSome, IfNone, IsSome, length, map, vec_capacity};
-ghost use Rattle.step_record.specs.declared.limits.TheConstants.{MAX_STRIPES};
-ghost use Rattle.step_record.specs.declared.worker.TheConstants.{MAX_WORKERS};
-ghost use Rattle.step_record.specs.Answers.{AnswersItsActs, is_answer};
-ghost use Rattle.step_record.specs.History.{IsLegal, data_after};
+ghost use Rattle.engine_base.specs.declared.limits.TheConstants.{MAX_STRIPES};
+ghost use Rattle.engine_base.specs.declared.worker.TheConstants.{MAX_WORKERS};
+ghost use Rattle.engine_base.specs.Answers.{AnswersItsActs, is_answer};
+ghost use Rattle.engine_base.specs.History.{IsLegal, data_after};
 ghost use Rattle.shell_model.specs.Shell.{act};
 ghost use Rattle.turn_book.specs.Turns.{Every};
 ghost use Rattle.turn_book.specs.Passes.{id_of};
@@ -19,13 +19,13 @@ ghost use Rattle.workers.specs.Walkers.{CanWalk, WasRefused};
 ghost use Rattle.workers.specs.WorkerStates.{HoldsPass, HasWorked, AreNumbered, AdmitsAll, calls_of};
 
 use super::driven::Driven;
+use engine_base::{Call, Engine, Gate, MAX_WORKERS, Reply, Step, Worker};
 use journal::{Session, SessionFault};
 use maintenance::Shell;
 use std::alloc::{AllocError, Global};
 use std::sync::Wait;
 use std::thread;
 use std::thread::Threads;
-use step_record::{Call, Engine, Gate, MAX_WORKERS, Reply, Step, Worker};
 use turn_book::{MAX_TURNS, OpenFault, Pass, TurnBook};
 use walks::{Local, Next, next_step};
 

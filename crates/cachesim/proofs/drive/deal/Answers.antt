@@ -1,5 +1,5 @@
 use Rattle.std.proofs.Common.{◌∙◌, ◌+◌, ◌%◌, [], ◌∷◌, ◌++◌, get_or, map, set, sym, ap, subst, vec_items}
-use Rattle.step_record.specs.declared.step.Call.TheVariants.{Read}
+use Rattle.engine_base.specs.declared.step.Call.TheVariants.{Read}
 use Rattle.std.proofs.lemmas.List.{append-nil, at_drop_all, length-map, length-set}
 use Rattle.cachesim.specs.WorkerReads.{IsDealt, reads_of}
 use Rattle.cachesim.proofs.Dealing.{IsDealtUpTo, dealt_more}

@@ -4,11 +4,11 @@ use Rattle.std.specs.Io.KnownBytes.{Appends}
 use Rattle.std.proofs.lemmas.Grind.{pieces}
 use Rattle.std.proofs.lemmas.Option.{IfSome_then}
 use Rattle.std.proofs.lemmas.Result.{IfErr-at_err, IfErr-weaker, on_ok_weaker}
-use Rattle.step_record.specs.History.{Entries, IsLegal}
-use Rattle.step_record.specs.declared.worker.TheConstants.{MAX_WORKERS}
+use Rattle.engine_base.specs.History.{Entries, IsLegal}
+use Rattle.engine_base.specs.declared.worker.TheConstants.{MAX_WORKERS}
 use Rattle.shell_model.specs.Shell.{Step, Reply, Shell, act}
 use Rattle.shell_model.specs.ReachableShell.{worker_of}
-use Rattle.step_record.specs.declared.limits.TheConstants.{MAX_TRACE_BYTES}
+use Rattle.engine_base.specs.declared.limits.TheConstants.{MAX_TRACE_BYTES}
 use Rattle.trace_read.specs.TraceText.{fault_in, keys_in}
 use Rattle.journal.specs.Session.{SessionState}
 use Rattle.journal_text.specs.Journal.{journal_of}

@@ -1,6 +1,6 @@
 use Rattle.std.proofs.Common.{rules, ◌≡◌, ℕ, [], ◌∷◌, ◌++◌, List, map, get_or, sym, ap, ◌∙◌, subst, vec_items}
 use Rattle.std.proofs.lemmas.List.{map-append}
-use Rattle.step_record.specs.declared.step.Call.{Call}
+use Rattle.engine_base.specs.declared.step.Call.{Call}
 use Rattle.cachesim.proofs.Dealing.{empty_more}
 use Rattle.cachesim.proofs.drive.empty_pieces.Goals as goal
 

@@ -1,7 +1,7 @@
 use Rattle.std.proofs.Common.{rules, ◌≡◌, ◌≤◌, Ok}
-use Rattle.step_record.specs.Config.{config_fault}
-use Rattle.step_record.specs.declared.config.Config.{Config}
-use Rattle.step_record.specs.declared.limits.TheConstants.{MAX_JOURNAL_LIMIT}
+use Rattle.engine_base.specs.Config.{config_fault}
+use Rattle.engine_base.specs.declared.config.Config.{Config}
+use Rattle.engine_base.specs.declared.limits.TheConstants.{MAX_JOURNAL_LIMIT}
 use Rattle.cachesim.proofs.drive.open_session.Goals as goal
 
 -- an accepted configuration has a journal limit in its range

@@ -1,5 +1,5 @@
 use Rattle.std.proofs.Common.{◌≡◌, ◌∙◌, sym, Ok, true, false}
-use Rattle.step_record.specs.Config.{config_fault}
+use Rattle.engine_base.specs.Config.{config_fault}
 use Rattle.debug_policies.proofs.Facts.{accepted, done_held, no_fault, part_held, untouched, written_held}
 use Rattle.debug_policies.proofs.debugger.run_debug.Goals as goal
 

@@ -1,6 +1,6 @@
 use Rattle.std.proofs.Common.{◌∙◌, ◌++◌, [], ap, List, ℕ}
 use Rattle.std.specs.Prelude.{codes}
-use Rattle.step_record.specs.declared.stats.Stats.{Stats}
+use Rattle.engine_base.specs.declared.stats.Stats.{Stats}
 use Rattle.step_record.specs.Job.{word_of}
 use Rattle.debug_commands.specs.Texts.{count_text}
 use Rattle.debug_commands.proofs.Results.{at_success}

@@ -1,6 +1,6 @@
 use Rattle.std.proofs.Common.{◌≡◌, ℕ, List, Option, Some, None, sym, subst}
 use Rattle.std.specs.Prelude.{IfSome}
-use Rattle.step_record.specs.History.{Entries}
+use Rattle.engine_base.specs.History.{Entries}
 use Rattle.journal_text.specs.Faults.{Accepts}
 use Rattle.journal_text.specs.Journal.{IsJournalText}
 use Rattle.journal_text.proofs.Accepting.{accepts}

@@ -1,7 +1,7 @@
 use Rattle.std.proofs.lemmas.Grind.{common_steps}
 use Rattle.std.proofs.Common.{◌∙◌, ◌≤◌, ◌++◌, length, ap, sym, refl, subst, arith}
 use Rattle.std.proofs.lemmas.List.Elements.{All-nil}
-use Rattle.step_record.specs.History.{IsLegal}
+use Rattle.engine_base.specs.History.{IsLegal}
 use Rattle.journal_text.specs.Journal.{begun, AreLines}
 use Rattle.journal_text.specs.Table.{IsLine}
 use Rattle.journal_text.specs.declared.line.JournalLine.TheVariants.{Made}

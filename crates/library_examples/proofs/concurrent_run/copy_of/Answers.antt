@@ -1,5 +1,5 @@
 use Rattle.std.proofs.Common.{◌≡◌, ◌∙◌, ap, arith, sym}
-use Rattle.step_record.specs.History.{data_after, Entries}
+use Rattle.engine_base.specs.History.{data_after, Entries}
 use Rattle.shell_model.specs.Shell.{Shell, act}
 use Rattle.library_examples.proofs.concurrent_run.copy_of.Goals as goal
 

@@ -1,5 +1,5 @@
 use Rattle.std.proofs.Common.{◌≡◌, ◌≤◌, take, count_by}
-use Rattle.step_record.specs.Stats.{is_hit}
+use Rattle.engine_base.specs.Stats.{is_hit}
 use Rattle.library_examples.proofs.interval_hits.count_hits.Given as goal
 
 abbrev pub invariant-loop-outcome : goal.invariant-loop-outcome

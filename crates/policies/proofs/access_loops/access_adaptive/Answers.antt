@@ -1,6 +1,6 @@
 use Rattle.std.proofs.Common.{ap, ◌∙◌, sym, subst, arith, Err}
 use Rattle.adaptive_window.specs.AdaptiveCache.{AdaptiveCacheState}
-use Rattle.step_record.specs.Limited.{lifted}
+use Rattle.engine_base.specs.Limited.{lifted}
 use Rattle.policies.specs.declared.any_policy.AnyPolicy.TheVariants.{Adaptive}
 use Rattle.policies.proofs.Stretches.{HasMade, has-made-all, next-made, next-accepted}
 use Rattle.policies.proofs.access_loops.access_adaptive.Goals as goal

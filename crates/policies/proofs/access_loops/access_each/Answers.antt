@@ -1,5 +1,5 @@
 use Rattle.std.proofs.Common.{ap, ◌∙◌, sym, subst, Err}
-use Rattle.step_record.specs.Limited.{lifted}
+use Rattle.engine_base.specs.Limited.{lifted}
 use Rattle.policies.specs.declared.any_policy.AnyPolicy.TheVariants.{Queues}
 use Rattle.queue_cache.specs.QueueCache.{QueueState}
 use Rattle.policies.proofs.Stretches.{HasMade, next-made, next-accepted}

@@ -1,5 +1,5 @@
 use Rattle.std.proofs.Common.{ap, ◌∙◌, arith, Err}
-use Rattle.step_record.specs.Limited.{lifted}
+use Rattle.engine_base.specs.Limited.{lifted}
 use Rattle.policies.specs.declared.any_policy.AnyPolicy.TheVariants.{Optimal}
 use Rattle.policies.proofs.Stretches.{has-made-all, next-made, next-accepted}
 use Rattle.policies.proofs.access_loops.access_optimal.Goals as goal

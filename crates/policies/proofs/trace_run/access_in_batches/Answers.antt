@@ -1,6 +1,6 @@
 use Rattle.std.proofs.Common.{◌≡◌, ℕ, ◌*◌, ◌++◌, ◌≤◌, List, length, take, drop, ap, sym, ◌∙◌, subst, arith, append_assoc}
 use Rattle.std.proofs.lemmas.Grind.{div_ceil_times}
-use Rattle.step_record.specs.declared.limits.TheConstants.{MAX_BATCH}
+use Rattle.engine_base.specs.declared.limits.TheConstants.{MAX_BATCH}
 use Rattle.policies.specs.AnyPolicy.{HasAccessed}
 use Rattle.policies.proofs.Batches.{next-piece, next_rest, taken-more}
 use Rattle.policies.proofs.Stretches.{has-made-all}

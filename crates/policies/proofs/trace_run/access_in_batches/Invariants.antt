@@ -1,5 +1,5 @@
 use Rattle.std.proofs.Common.{◌≡◌, ◌*◌, drop}
-use Rattle.step_record.specs.declared.limits.TheConstants.{MAX_BATCH}
+use Rattle.engine_base.specs.declared.limits.TheConstants.{MAX_BATCH}
 use Rattle.policies.proofs.Stretches.{HasMade}
 use Rattle.policies.proofs.trace_run.access_in_batches.Given as goal
 

@@ -1,4 +1,4 @@
-use Rattle.step_record.proofs.Limited.{refused}
+use Rattle.engine_base.proofs.Limited.{refused}
 use Rattle.queue_cache.specs.QueueStep.{queue_access, queue_count}
 use Rattle.queue_cache.proofs.theorems.queues_accept.Goals as goal
 

@@ -1,5 +1,5 @@
 use Rattle.std.proofs.Common.{◌≡◌, ◌-◌, Some, length, option_map, sym, ap, subst, ◌∙◌}
-use Rattle.step_record.specs.History.{Entries}
+use Rattle.engine_base.specs.History.{Entries}
 use Rattle.shell_model.specs.Shell.{Shell}
 use Rattle.maintenance.specs.EmptyShell.{holder_parts}
 use Rattle.walks.specs.NextActs.{IsAheadOf}

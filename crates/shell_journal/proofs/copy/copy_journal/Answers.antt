@@ -1,8 +1,8 @@
 use Rattle.std.proofs.Common.{rules, arith, ◌≡◌, ◌≤◌, ◌∙◌, ◌++◌, [], List, ℕ, length, ap, sym, subst, false}
 use Rattle.std.specs.Prelude.{is_err}
-use Rattle.step_record.specs.Answers.{AnswersItsActs}
-use Rattle.step_record.specs.declared.limits.TheConstants.{MAX_JOURNAL_LIMIT}
-use Rattle.step_record.specs.History.{data_after}
+use Rattle.engine_base.specs.Answers.{AnswersItsActs}
+use Rattle.engine_base.specs.declared.limits.TheConstants.{MAX_JOURNAL_LIMIT}
+use Rattle.engine_base.specs.History.{data_after}
 use Rattle.shell_model.specs.Shell.{Shell, act}
 use Rattle.shell_model.specs.ReachableShell.{IsReachable}
 use Rattle.journal_text.specs.Journal.{journal_of, AreLines, IsJournalText}

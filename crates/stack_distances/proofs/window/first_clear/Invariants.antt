@@ -1,5 +1,5 @@
 use Rattle.std.proofs.Common.{◌≡◌, ℕ, ◌-◌, ◌*◌, ◌<◌, ◌≤◌, true, length}
-use Rattle.step_record.specs.Bits.{bit_of}
+use Rattle.engine_base.specs.Bits.{bit_of}
 use Rattle.stack_distances.proofs.window.first_clear.Given as goal
 
 abbrev pub invariant-words : goal.invariant-words

@@ -1,7 +1,7 @@
 use Rattle.std.proofs.Common.{◌≡◌, ℕ, ◌+◌, ◌*◌, ◌^◌, ◌-◌, ◌∙◌, arith, ap, sym, length, min, if◌then◌else◌}
 use Rattle.std.specs.Int.{div_ceil}
 use Rattle.std.proofs.lemmas.List.{take_all}
-use Rattle.step_record.specs.declared.limits.TheConstants.{MAX_BATCH}
+use Rattle.engine_base.specs.declared.limits.TheConstants.{MAX_BATCH}
 use Rattle.sweeps.specs.Sweep.{gated_jobs}
 use Rattle.sweeps.proofs.Rows.{more-gated, one-at-most, saturated}
 use Rattle.sweeps.proofs.capacities.sweep_batches.Goals as goal

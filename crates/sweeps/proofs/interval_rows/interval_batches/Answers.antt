@@ -1,6 +1,6 @@
 use Rattle.std.proofs.Common.{◌≡◌, ℕ, ◌+◌, ◌*◌, ◌/◌, ◌%◌, ◌^◌, ◌-◌, ◌∙◌, arith, ap, length, min}
 use Rattle.std.specs.Int.{div_ceil}
-use Rattle.step_record.specs.declared.limits.TheConstants.{MAX_BATCH}
+use Rattle.engine_base.specs.declared.limits.TheConstants.{MAX_BATCH}
 use Rattle.sweeps.proofs.Rows.{saturated}
 use Rattle.sweeps.proofs.interval_rows.interval_batches.Goals as goal
 

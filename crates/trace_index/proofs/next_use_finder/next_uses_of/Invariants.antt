@@ -1,5 +1,5 @@
 use Rattle.std.proofs.Common.{◌≡◌, ℕ, ◌-◌, ◌<◌, ◌≤◌, length, get_or}
-use Rattle.step_record.specs.declared.limits.TheConstants.{MAX_ACCESSES}
+use Rattle.engine_base.specs.declared.limits.TheConstants.{MAX_ACCESSES}
 use Rattle.trace_index.specs.Uses.{next, next_from, number_of}
 use Rattle.trace_index.specs.PackedKeys.{unpacked}
 use Rattle.trace_index.specs.KeyPlaces.{number_of_key}

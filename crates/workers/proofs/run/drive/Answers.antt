@@ -1,7 +1,7 @@
 use Rattle.std.proofs.lemmas.Grind.{common_steps, elements}
 use Rattle.std.proofs.Common.{rules, arith, ◌≤◌, map, vec_items, sym, ap, subst, ◌∙◌}
 use Rattle.std.proofs.lemmas.List.{length-map}
-use Rattle.step_record.specs.declared.worker.TheConstants.{MAX_WORKERS}
+use Rattle.engine_base.specs.declared.worker.TheConstants.{MAX_WORKERS}
 use Rattle.workers.specs.DriveFaults.{CanRun}
 use Rattle.workers.specs.Runs.{IsRunUpTo}
 use Rattle.workers.proofs.RunResults.{whole_run, free_of}

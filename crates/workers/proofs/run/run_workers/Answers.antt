@@ -3,7 +3,7 @@ use Rattle.std.proofs.Common.{arith, ◌≤◌, ◌<◌, map, vec_items, length,
 use Rattle.std.proofs.lemmas.List.{length-map}
 use Rattle.turn_book.specs.declared.book.TheConstants.{MAX_TURNS}
 use Rattle.workers.specs.Runs.{IsRunUpTo}
-use Rattle.step_record.specs.History.{data_after}
+use Rattle.engine_base.specs.History.{data_after}
 use Rattle.shell_model.specs.Shell.{act}
 use Rattle.shell_model.specs.ReachableShell.{IsReachable}
 use Rattle.walks.specs.AdmittedSteps.{AdmitsWalks}

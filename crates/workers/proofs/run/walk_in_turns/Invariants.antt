@@ -1,5 +1,5 @@
 use Rattle.std.proofs.Common.{◌≡◌, ◌++◌}
-use Rattle.step_record.specs.History.{Entries}
+use Rattle.engine_base.specs.History.{Entries}
 use Rattle.walks.specs.Walks.{IsWalk}
 use Rattle.walks.specs.WorkerEntries.{Made}
 use Rattle.workers.specs.Draws.{IsWithin}

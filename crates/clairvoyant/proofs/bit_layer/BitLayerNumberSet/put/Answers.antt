@@ -5,7 +5,7 @@ use Rattle.std.proofs.Math.ListN.{length-set}
 use Rattle.std.proofs.lemmas.Bool.{ne_eqb}
 use Rattle.std.proofs.lemmas.List.{get_or_read}
 use Rattle.clairvoyant.proofs.Words.{set-some}
-use Rattle.step_record.proofs.OneBit.{bit_put}
+use Rattle.engine_base.proofs.OneBit.{bit_put}
 use Rattle.clairvoyant.proofs.bit_layer.BitLayerNumberSet.put.Goals as goal
 
 pub invariant_of-self-else-old-eq0 : goal.invariant_of-self-else-old-eq0

@@ -1,7 +1,7 @@
 use Rattle.std.proofs.lemmas.Bool.Decides.{nat_tests}
 use Rattle.std.proofs.Common.{arith}
 use Rattle.std.proofs.lemmas.List.{get_or_read}
-use Rattle.step_record.proofs.OneBit.{bit_taken}
+use Rattle.engine_base.proofs.OneBit.{bit_taken}
 use Rattle.clairvoyant.proofs.bit_layer.BitLayerNumberSet.take.Goals as goal
 
 pub returns-then-left-eq0-clause-takes : goal.returns-then-left-eq0-clause-takes

@@ -1,5 +1,5 @@
 use Rattle.std.proofs.Common.{◌≡◌, ℕ}
-use Rattle.step_record.specs.Stats.{one_if}
+use Rattle.engine_base.specs.Stats.{one_if}
 use Rattle.clairvoyant.specs.Belady.{belady_residents}
 use Rattle.clairvoyant.proofs.Listing.{times, is_listed}
 use Rattle.clairvoyant.proofs.clairvoyant.Clairvoyant.residents.Given as goal

@@ -2,7 +2,7 @@ use Rattle.std.proofs.lemmas.Bool.Decides.{nat_tests}
 use Rattle.std.proofs.Common.{arith, subst, sym}
 use Rattle.clairvoyant.specs.RankSet.{IsTied}
 use Rattle.clairvoyant.specs.Belady.{belady_residents}
-use Rattle.step_record.specs.Stats.{IsCounted}
+use Rattle.engine_base.specs.Stats.{IsCounted}
 use Rattle.clairvoyant.proofs.Undoing.{fitting, up, back-counted, back-shown, back-keeping}
 use Rattle.clairvoyant.proofs.clairvoyant.ClairvoyantEngine.undo.Goals as goal
 

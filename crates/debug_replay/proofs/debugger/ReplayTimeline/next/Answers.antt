@@ -1,7 +1,7 @@
 use Rattle.std.proofs.lemmas.Grind.{common_steps}
 use Rattle.std.proofs.Common.{◌≡◌, ◌∙◌, ◌+◌, ◌-◌, ◌++◌, ap, sym, ℕ, length, arith}
 use Rattle.std.specs.Prelude.{nat_lt}
-use Rattle.step_record.specs.History.{Entries}
+use Rattle.engine_base.specs.History.{Entries}
 use Rattle.journal.specs.Session.{IsMovedTo}
 use Rattle.admission.specs.Frequency.{FrequencyData}
 use Rattle.shell_model.specs.Shell.{Shell}

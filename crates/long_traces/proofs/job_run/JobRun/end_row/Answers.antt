@@ -1,5 +1,5 @@
 use Rattle.std.proofs.Common.{◌≡◌, ◌∙◌, ◌+◌, ◌*◌, ℕ, List, length, take, ap, sym, arith}
-use Rattle.step_record.specs.Stats.{stats_of}
+use Rattle.engine_base.specs.Stats.{stats_of}
 use Rattle.policies.specs.AnyPolicy.{outcomes_on}
 use Rattle.policies.specs.declared.report.Interval.{Interval}
 use Rattle.policies.proofs.FirstAccesses.{first-counts}

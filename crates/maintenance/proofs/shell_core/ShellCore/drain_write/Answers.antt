@@ -1,8 +1,8 @@
 use Rattle.std.proofs.lemmas.Grind.{common_steps}
 use Rattle.std.proofs.Common.{◌≡◌, Some, true, not, refl, ap, sym, ◌∙◌, arith}
 use denote.Enum.Bare.{sameb}
-use Rattle.step_record.specs.declared.drain.Phase.TheVariants as phase
-use Rattle.step_record.specs.contracts.drain.Phase.{the_type}
+use Rattle.engine_base.specs.declared.drain.Phase.TheVariants as phase
+use Rattle.engine_base.specs.contracts.drain.Phase.{the_type}
 use Rattle.shell_model.specs.declared.record.Change.{Change}
 use Rattle.shell_model.specs.Changes.{Phase, after_change, without_task}
 use Rattle.shell_model.specs.Shell.{Reply, Shell, may_write}

@@ -1,6 +1,6 @@
 use Rattle.std.proofs.Common.{◌≡◌, ap, sym, subst, ◌∙◌}
 use Rattle.segments.specs.Queues.{IsDistinct}
-use Rattle.step_record.specs.declared.drain.Phase.TheVariants.{Evictions}
+use Rattle.engine_base.specs.declared.drain.Phase.TheVariants.{Evictions}
 use Rattle.replacement.specs.Rules.{three_queues}
 use Rattle.replacement.specs.Plan.{candidate_of}
 use Rattle.shell_model.specs.Changes.{shell_eviction, shell_after_eviction}

@@ -1,5 +1,5 @@
 use Rattle.std.proofs.Common.{◌≡◌, ◌∙◌, ◌+◌, ◌*◌, ◌≤◌, Bool, ℕ, List, length, take, ap, sym, subst, arith, length-take-le}
-use Rattle.step_record.specs.declared.limits.TheConstants.{MAX_STEPS}
+use Rattle.engine_base.specs.declared.limits.TheConstants.{MAX_STEPS}
 use Rattle.policy_comparison.specs.CacheAccess.{StandsAt}
 use Rattle.policy_comparison.specs.Comparison.{IsUpTo}
 use Rattle.policy_comparison.specs.ComparedRows.{EndsRow, HasCounted, HasCut, rows_in}

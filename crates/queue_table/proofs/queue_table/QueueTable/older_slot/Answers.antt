@@ -3,7 +3,7 @@ use Rattle.std.proofs.lemmas.Grind.{common_steps}
 use Rattle.std.proofs.Common.{◌<◌, ℕ, List, Option, Some, None, length, arith}
 use Rattle.std.specs.Prelude.{IfSome}
 use Rattle.std.specs.Option.{unwrap_or}
-use Rattle.step_record.specs.declared.item.Item.{Item}
+use Rattle.engine_base.specs.declared.item.Item.{Item}
 use Rattle.queue_table.specs.Ring.{Slot, order_of, IsQueued}
 use Rattle.queue_table.specs.QueueTable.{IsSlotOf}
 use Rattle.queue_table.proofs.Calls.{slot-within}

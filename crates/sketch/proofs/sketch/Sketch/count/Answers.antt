@@ -1,6 +1,6 @@
 use Rattle.std.proofs.Common.{sym, ◌+◌, ◌*◌, ◌<◌}
 use Rattle.sketch.specs.Counters.{counter_at}
-use Rattle.step_record.proofs.Places.{get_or-by_place}
+use Rattle.engine_base.proofs.Places.{get_or-by_place}
 use Rattle.sketch.proofs.Tables.{cell_within}
 use Rattle.sketch.proofs.sketch.Sketch.count.Goals as goal
 

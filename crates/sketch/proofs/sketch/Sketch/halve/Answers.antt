@@ -2,11 +2,11 @@ use Rattle.std.proofs.Common.{◌≡◌, arith, ◌∙◌, ◌*◌, ◌<◌, Boo
 use Rattle.std.specs.Vec.{with_items}
 use Rattle.std.proofs.lemmas.List.{with_items_is}
 use Rattle.sketch.specs.Laws.{lost_word}
-use Rattle.step_record.specs.Places.{by_place}
+use Rattle.engine_base.specs.Places.{by_place}
 use Rattle.sketch.specs.Sketch.{IsTable}
 use Rattle.sketch.proofs.Halves.{halve_after, lost_is, table_is}
 use Rattle.sketch.proofs.Undoing.{unhalved_is, halve_fits}
-use Rattle.step_record.specs.Bits.{bits_of}
+use Rattle.engine_base.specs.Bits.{bits_of}
 use Rattle.sketch.specs.HalveRecord.{HalveRecord, halve_record_of}
 use Rattle.sketch.proofs.sketch.Sketch.halve.Goals as goal
 

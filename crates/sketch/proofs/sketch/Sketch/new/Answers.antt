@@ -1,6 +1,6 @@
 use Rattle.std.proofs.lemmas.Bool.Decides.{nat_tests}
 use Rattle.std.proofs.Common.{arith, ◌≡◌, ◌*◌, ◌/◌, length}
-use Rattle.step_record.proofs.Places.{by_place_same}
+use Rattle.engine_base.proofs.Places.{by_place_same}
 use Rattle.sketch.proofs.Digits.{nibble_zero}
 use Rattle.sketch.proofs.Masks.{whole_parts}
 use Rattle.sketch.proofs.sketch.Sketch.new.Goals as goal

@@ -2,8 +2,8 @@ use Rattle.std.proofs.lemmas.Bool.Decides.{nat_tests}
 use Rattle.std.proofs.Common.{◌≡◌, ap, arith, ◌*◌, ◌<◌, length}
 use Rattle.std.specs.Vec.{with_items}
 use Rattle.std.proofs.lemmas.List.{with_items_is}
-use Rattle.step_record.specs.Bits.{bit_of}
-use Rattle.step_record.proofs.Places.{length-by_place, get_or-by_place}
+use Rattle.engine_base.specs.Bits.{bit_of}
+use Rattle.engine_base.proofs.Places.{length-by_place, get_or-by_place}
 use Rattle.sketch.specs.Counters.{counter_at}
 use Rattle.sketch.proofs.Halves.{unhalve_after, low_everywhere}
 use Rattle.sketch.proofs.sketch.Sketch.unhalve.Goals as goal

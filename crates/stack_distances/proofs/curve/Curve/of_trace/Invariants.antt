@@ -1,5 +1,5 @@
 use Rattle.std.proofs.Common.{◌≡◌, ◌≤◌, length}
-use Rattle.step_record.specs.declared.limits.TheConstants.{MAX_ACCESSES}
+use Rattle.engine_base.specs.declared.limits.TheConstants.{MAX_ACCESSES}
 use Rattle.queue_cache.specs.Lru.{distinct_keys}
 use Rattle.stack_distances.specs.Histogram.{IsHistogram}
 use Rattle.stack_distances.proofs.Reading.{IsSummed}

@@ -2,7 +2,7 @@ use Rattle.std.proofs.lemmas.Bool.Decides.{nat_tests}
 use Rattle.std.proofs.Common.{◌≡◌, ◌∙◌, refl, ap, length, get_or, arith}
 use Rattle.std.specs.Vec.{with_items}
 use Rattle.std.proofs.lemmas.List.{with_items_is}
-use Rattle.step_record.specs.Bits.{bit_of}
+use Rattle.engine_base.specs.Bits.{bit_of}
 use Rattle.trace_index.specs.Uses.{last_below, number_of}
 use Rattle.stack_distances.proofs.Windows.{hit-window, filled-window, moved-window, oldest-low, hits-small}
 use Rattle.stack_distances.proofs.reuses.Reuses.access.Goals as goal

@@ -1,0 +1,11 @@
+pub mod Answers
+pub mod BitList
+pub mod Bits
+pub mod Config
+pub mod History
+pub mod Keys
+pub mod Pace
+pub mod PartSize
+pub mod Places
+pub mod Stats
+pub mod Limited

@@ -1,5 +1,0 @@
-use Rattle.step_record.proofs.OneBit.{bit_cleared}
-use Rattle.step_record.proofs.bits.clear.Goals as goal
-
-pub returns-then-was : goal.returns-then-was
-returns-then-was c = λ i. rw c.if-was.true (bit_cleared c.args.words.now c.args.at c.requires i)
