@@ -1,7 +1,7 @@
 -- Worked examples.
 use Rattle.std.specs.Prelude.{◌≡◌, [], ◌∷◌}
 use Rattle.engine_base.specs.declared.outcome.Outcome.TheVariants.{Hit, Kept, Evicted}
-use Rattle.policy_page.specs.Residents.{outcomes_of_all}
+use Rattle.engine_base.specs.Machine.{outcomes_of_all}
 use Rattle.policy_page.specs.Examples.{example_counts, counts_with, run_of, counted}
 use Rattle.clock.specs.Clock.{clock_act}
 

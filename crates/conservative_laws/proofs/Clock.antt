@@ -7,7 +7,8 @@ use Rattle.engine_base.specs.Keys.{has_key}
 use Rattle.engine_base.specs.Stats.{one_if}
 use Rattle.queue_cache.specs.Lru.{distinct_keys}
 use Rattle.optimality.specs.Strategy.{strategy_misses}
-use Rattle.policy_page.specs.Residents.{times, state_after_all}
+use Rattle.engine_base.specs.Machine.{state_after_all}
+use Rattle.policy_page.specs.Residents.{times}
 use Rattle.policy_page.specs.CountedKeys.{CountedKey, keys_of, with_count, oldest_count, AreCounted}
 use Rattle.policy_page.specs.Turns.{after_turn, turn_count_within, after_turns}
 use Rattle.clock.specs.Clock.{marked_key, clock_eviction, clock_act, IsClock}

@@ -3,7 +3,7 @@ use Rattle.std.proofs.Common.{◌≡◌, ◌⊎◌, ℕ, ◌≤◌, List, [], ta
 use Rattle.engine_base.specs.PartSize.{part_size}
 use Rattle.engine_base.specs.Stats.{is_miss}
 use Rattle.step_record.specs.declared.job.Policy.TheVariants.{Fifo, Clock, Sieve, S3Fifo}
-use Rattle.policy_page.specs.Residents.{outcomes_of_all}
+use Rattle.engine_base.specs.Machine.{outcomes_of_all}
 use Rattle.fifo.specs.Fifo.{fifo_act}
 use Rattle.clock.specs.Clock.{clock_act}
 use Rattle.demand_cache.specs.declared.demand_policy.DemandPolicy.TheVariants as sized

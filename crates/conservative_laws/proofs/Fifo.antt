@@ -7,7 +7,8 @@ use Rattle.engine_base.specs.Keys.{has_key}
 use Rattle.engine_base.specs.Stats.{one_if}
 use Rattle.queue_cache.specs.Lru.{distinct_keys}
 use Rattle.optimality.specs.Strategy.{strategy_misses}
-use Rattle.policy_page.specs.Residents.{times, AreResidents, state_after_all}
+use Rattle.engine_base.specs.Machine.{state_after_all}
+use Rattle.policy_page.specs.Residents.{times, AreResidents}
 use Rattle.fifo.specs.Fifo.{fifo_eviction, fifo_act}
 use Rattle.policy_page.proofs.Residents.{times-append, times-none}
 use Rattle.fifo.proofs.Keeping.{keeps}

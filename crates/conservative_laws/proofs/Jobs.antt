@@ -7,9 +7,10 @@ use Rattle.replacement.proofs.Residents.{has-append}
 use Rattle.engine_base.specs.Keys.{has_key}
 use Rattle.engine_base.specs.Stats.{is_hit, is_miss, is_eviction, one_if}
 use Rattle.optimality.specs.Strategy.{IsStrategy, strategy_misses}
-use Rattle.policy_page.specs.Residents.{IsAccess, AreResidents, KeepsResidents, state_after_all, outcomes_of_all, Outcome}
+use Rattle.engine_base.specs.Machine.{state_after_all, outcomes_of_all}
+use Rattle.policy_page.specs.Residents.{IsAccess, AreResidents, KeepsResidents, Outcome}
 use Rattle.queue_cache.proofs.Counting.{hits-misses, count-cons}
-use Rattle.policy_page.proofs.Residents.{outcomes-long}
+use Rattle.engine_base.proofs.Machine.{outcomes-long}
 use Rattle.policies.proofs.Demand.{with-room}
 use Rattle.policy_laws.proofs.Strategies.{IsOnline, strategy, hits-are, serves, served, state_at, residents_at, next-is, kept-at}
 use Rattle.conservative_laws.specs.Conservative.{FillsFirst, misses_on, IsConservative}

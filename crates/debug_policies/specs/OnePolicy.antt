@@ -17,7 +17,7 @@ use Rattle.debug_commands.specs.Texts.{count_text}
 use Rattle.journal.specs.Session.{Entry, SessionState}
 use Rattle.segments.specs.Queues.{residents_in}
 pub use Rattle.policies.specs.declared.any_policy.AnyPolicy.{AnyPolicy}
-use Rattle.policy_page.specs.Residents.{state_after_all}
+use Rattle.engine_base.specs.Machine.{state_after_all}
 use Rattle.demand_cache.specs.DemandQueues.{empty_cache, queues_act, queues_residents}
 use Rattle.queue_cache.specs.declared.design.Design.TheVariants.{KnowsTrace, Queues as OfQueues, Demand as OfDemand, Adaptive as OfAdaptive}
 use Rattle.queue_cache.specs.Design.{design_of}

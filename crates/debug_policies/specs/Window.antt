@@ -12,7 +12,7 @@ use Rattle.queue_cache.specs.declared.design.Layout.{Layout}
 use Rattle.queue_cache.specs.declared.design.Layout.TheVariants.{OneQueue, TwoQueues, ThreeQueues}
 use Rattle.queue_cache.specs.Design.{design_of, rules_by}
 use Rattle.policies.specs.AnyPolicy.{Design, adaptive_start}
-use Rattle.policy_page.specs.Residents.{state_after_all}
+use Rattle.engine_base.specs.Machine.{state_after_all}
 pub use Rattle.debug_policies.specs.declared.window.Window.{Window}
 use Rattle.debug_policies.specs.declared.window.Window.TheVariants.{Absent, Fixed, Moving}
 

@@ -4,8 +4,9 @@ use Rattle.std.specs.Prelude.{slice_index}
 use Rattle.std.proofs.lemmas.List.{take_more, take_all}
 use Rattle.engine_base.specs.declared.limits.TheConstants.{MAX_STEPS}
 use Rattle.engine_base.proofs.Limited.{accepted, refused}
-use Rattle.policy_page.specs.Residents.{Outcome, state_after_all}
-use Rattle.policy_page.proofs.Residents.{state-push}
+use Rattle.engine_base.specs.Machine.{state_after_all}
+use Rattle.policy_page.specs.Residents.{Outcome}
+use Rattle.engine_base.proofs.Machine.{state-push}
 use Rattle.demand_cache.specs.DemandCache.{DemandState, demand_access, demand_act, demand_count}
 
 -- the cache d is the one from the start after the first i of the keys

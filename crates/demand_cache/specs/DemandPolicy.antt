@@ -7,7 +7,8 @@ use Rattle.step_record.specs.declared.job.Tuning.{Tuning}
 use Rattle.engine_base.specs.PartSize.{part_size}
 use Rattle.queue_table.specs.Queues.{Queues}
 use Rattle.queue_moves.specs.Moves.{Plan}
-use Rattle.policy_page.specs.Residents.{Outcome, outcomes_of_all}
+use Rattle.engine_base.specs.Machine.{outcomes_of_all}
+use Rattle.policy_page.specs.Residents.{Outcome}
 use Rattle.policy_page.specs.PolicyPage.{PolicyPage}
 use Rattle.fifo.specs.Plan.{fifo_page}
 use Rattle.clock.specs.Plan.{clock_page}

@@ -2,7 +2,8 @@
 use Rattle.std.specs.Prelude.{◌≡◌, ℕ, ◌≤◌, true, List}
 use Rattle.engine_base.specs.Stats.{is_eviction}
 use Rattle.engine_base.specs.declared.outcome.Outcome.TheVariants.{Hit}
-use Rattle.policy_page.specs.Residents.{KeepsResidents, CountsResidents, outcomes_of_all}
+use Rattle.engine_base.specs.Machine.{outcomes_of_all}
+use Rattle.policy_page.specs.Residents.{KeepsResidents, CountsResidents}
 use Rattle.policy_page.specs.PolicyPage.{IsSoundPage}
 use Rattle.demand_cache.specs.DemandQueues.{DemandPolicy, DemandQueues, empty_cache, queues_act, queues_record_of, queues_asks, queues_residents}
 use Rattle.demand_cache.specs.DemandQueues.{IsQueues}

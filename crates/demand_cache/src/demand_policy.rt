@@ -8,7 +8,7 @@ ghost use Rattle.queue_table.specs.Queues.{QUEUES, Item, Queues};
 ghost use Rattle.queue_moves.specs.Moves.{Plan, item_of};
 ghost use Rattle.queue_moves.specs.Undoing.{IsAccessed};
 ghost use Rattle.demand_cache.specs.DemandPolicy.{page_of, plan_by, demand_policy, two_q_sizes};
-ghost use Rattle.policy_page.specs.Residents.{state_after_all};
+ghost use Rattle.engine_base.specs.Machine.{state_after_all};
 ghost use Rattle.demand_cache.specs.DemandCache.{IsCountedBy, demand_access};
 
 use crate::demand_cache::DemandCache;

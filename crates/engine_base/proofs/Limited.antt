@@ -1,6 +1,6 @@
 -- What an access came to that was accepted, and where it is not.
 use Rattle.std.proofs.lemmas.Bool.Decides.{nat_tests}
-use Rattle.std.proofs.Common.{arith, ◌≡◌, ℕ, ◌==◌, Bool, true, if◌then◌else◌, Option, Some, None, ap, sym, subst, refl}
+use Rattle.std.proofs.Common.{arith, ◌≡◌, ℕ, ◌==◌, Bool, true, if◌then◌else◌, Some, None, ap, sym, subst, refl}
 use Rattle.std.proofs.lemmas.Bool.{eqb-true, eq-eqb}
 use Rattle.engine_base.specs.declared.limits.TheConstants.{MAX_STEPS}
 use Rattle.engine_base.specs.Limited.{Outcome, limited, lifted, IsAccepted}

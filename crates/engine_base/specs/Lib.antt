@@ -9,3 +9,4 @@ pub mod PartSize
 pub mod Places
 pub mod Stats
 pub mod Limited
+pub mod Machine

@@ -5,11 +5,12 @@ use Rattle.std.proofs.lemmas.List.{length-map}
 use Rattle.engine_base.specs.Config.{config_fault}
 use Rattle.engine_base.specs.Stats.{stats_of, stats_with}
 use Rattle.engine_base.proofs.Counting.{stats-snoc}
-use Rattle.policy_page.specs.Residents.{Outcome, state_after_all, outcomes_of_all}
+use Rattle.engine_base.specs.Machine.{state_after_all, outcomes_of_all}
+use Rattle.policy_page.specs.Residents.{Outcome}
 use Rattle.adaptive_window.specs.AdaptiveCache.{AdaptiveCacheState, cache_access}
 use Rattle.adaptive_window.specs.Residents.{cache_residents, IsCache, CacheKeeps}
 use Rattle.policies.specs.AnyPolicy.{Job, ConfigFault, IsAdaptiveAfter, adaptive_start, adaptive_outcomes}
-use Rattle.policy_page.proofs.Residents.{state-push, outcomes-long, kept-from}
+use Rattle.engine_base.proofs.Machine.{state-push, outcomes-long, kept-from}
 
 -- ---- the accesses that it made
 

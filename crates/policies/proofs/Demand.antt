@@ -8,8 +8,10 @@ use Rattle.std.proofs.lemmas.List.Sums.{sum_by-cons}
 use Rattle.engine_base.specs.Keys.{has_key}
 use Rattle.engine_base.specs.Stats.{stats_of, stats_with, one_if}
 use Rattle.engine_base.proofs.Counting.{stats-snoc}
-use Rattle.policy_page.specs.Residents.{Outcome, times, IsAccess, AreResidents, KeepsResidents, state_after_all, outcomes_of_all}
-use Rattle.policy_page.proofs.Residents.{times-none, times-some, counts-residents, state-push, outcomes-push, outcomes-long, kept-after}
+use Rattle.engine_base.specs.Machine.{state_after_all, outcomes_of_all}
+use Rattle.policy_page.specs.Residents.{Outcome, times, IsAccess, AreResidents, KeepsResidents}
+use Rattle.engine_base.proofs.Machine.{state-push, outcomes-push, outcomes-long}
+use Rattle.policy_page.proofs.Residents.{times-none, times-some, counts-residents, kept-after}
 use Rattle.demand_cache.specs.DemandQueues.{DemandQueues, empty_cache, queues_act, queues_residents, IsQueues}
 use Rattle.demand_cache.specs.DemandCache.{Stats, DemandState, demand_access}
 use Rattle.demand_cache.specs.Theorems.{DemandKeeps}

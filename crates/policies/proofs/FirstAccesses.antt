@@ -13,7 +13,7 @@ use Rattle.policies.specs.Theorems.{AnyReports}
 use Rattle.policies.proofs.StepLaws.{outcomes-length, any_covers_trace, outcomes-of-queues, outcomes-of-optimal}
 use Rattle.adaptive_window.specs.AdaptiveCache.{cache_access}
 use Rattle.queue_cache.specs.Design.{design_of}
-use Rattle.policy_page.proofs.Residents.{outcomes-first}
+use Rattle.engine_base.proofs.Machine.{outcomes-first}
 use Rattle.policies.proofs.Demand.{with-room, demand-room}
 use Rattle.policies.proofs.Adaptive.{adaptive-stats}
 use Rattle.queue_cache.proofs.Counting.{after-counts}

@@ -18,7 +18,8 @@ use Rattle.queue_cache.specs.QueueStep.{queue_access, queue_count, recorded_in}
 use Rattle.demand_cache.specs.DemandCache.{demand_access, demand_count}
 use Rattle.demand_cache.specs.DemandQueues.{queues_act, empty_cache, DemandQueues, queues_residents, IsQueues}
 use Rattle.demand_cache.specs.Theorems.{DemandKeeps, HitsAskNothing, AsksWhereOneLeft}
-use Rattle.policy_page.specs.Residents.{state_after_all, outcomes_of_all, KeepsResidents}
+use Rattle.engine_base.specs.Machine.{state_after_all, outcomes_of_all}
+use Rattle.policy_page.specs.Residents.{KeepsResidents}
 use Rattle.adaptive_window.specs.AdaptiveCache.{cache_access, cache_count}
 use Rattle.adaptive_window.specs.Residents.{CacheKeeps, CacheHitsAskNothing, CacheAsksWhereOneLeft}
 use Rattle.queue_cache.specs.declared.design.Design.{Design}
@@ -30,7 +31,8 @@ use Rattle.policies.specs.Theorems.{AnyStepLaw, AnyAccepts, AnyIsOne, AnyAnswers
 use Rattle.clairvoyant.proofs.Records.{outcome-is}
 use Rattle.queue_cache.proofs.Leaving.{hit-keeps-all, queue-asks-evicts}
 use Rattle.queue_cache.proofs.Answered.{after-answers, after-length}
-use Rattle.policy_page.proofs.Residents.{outcomes-at, kept-after}
+use Rattle.engine_base.proofs.Machine.{outcomes-at}
+use Rattle.policy_page.proofs.Residents.{kept-after}
 use Rattle.policies.proofs.Demand.{demand_stands, demand-accesses, with-room, demand-room, demand-long, demand-sound, demand-holds, demand-is-access, demand-counted, demand-came-from, times-by}
 use Rattle.policies.proofs.Adaptive.{adaptive_stands, adaptive-accesses, adaptive-sound, adaptive-long, adaptive-counted, adaptive-fit}
 use Rattle.queue_cache.proofs.Reached.{stands-step, stands-outcome, stands-accesses}

@@ -13,7 +13,7 @@ use Rattle.adaptive_window.specs.AdaptiveCache.{empty_cache as empty_adaptive_ca
 use Rattle.adaptive_window.specs.Residents.{cache_residents}
 use Rattle.clairvoyant.specs.Belady.{belady_outcomes}
 use Rattle.clairvoyant.specs.Clairvoyant.{ClairvoyantState, clairvoyant_at}
-use Rattle.policy_page.specs.Residents.{state_after_all, outcomes_of_all}
+use Rattle.engine_base.specs.Machine.{state_after_all, outcomes_of_all}
 pub use Rattle.demand_cache.specs.declared.demand_policy.DemandPolicy.{DemandPolicy}
 use Rattle.demand_cache.specs.DemandQueues.{empty_cache, queues_act, queues_residents}
 use Rattle.demand_cache.specs.DemandPolicy.{outcomes_of_page, demand_policy}

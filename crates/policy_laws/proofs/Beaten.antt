@@ -11,7 +11,7 @@ use Rattle.segments.specs.Queues.{residents_in}
 use Rattle.replacement.proofs.Residents.{resident-queued}
 use Rattle.demand_cache.specs.DemandQueues.{DemandQueues, empty_cache, queues_act, queues_residents, IsQueues}
 use Rattle.demand_cache.specs.Theorems.{DemandKeeps}
-use Rattle.policy_page.specs.Residents.{state_after_all}
+use Rattle.engine_base.specs.Machine.{state_after_all}
 use Rattle.adaptive_window.specs.AdaptiveCache.{Stats, cache_access}
 use Rattle.adaptive_window.specs.Residents.{cache_residents, IsCache, CacheKeeps}
 use Rattle.queue_cache.specs.declared.design.Design.TheVariants as design

@@ -7,8 +7,9 @@ use Rattle.std.proofs.lemmas.List.Sums.{sum_by-append}
 use Rattle.engine_base.specs.Keys.{has_key}
 use Rattle.engine_base.specs.Stats.{is_hit, one_if}
 use Rattle.optimality.specs.Strategy.{IsStrategy, strategy_hits}
-use Rattle.policy_page.specs.Residents.{Outcome, KeepsResidents, state_after_all, outcomes_of_all}
-use Rattle.policy_page.proofs.Residents.{state-push, outcomes-push}
+use Rattle.engine_base.specs.Machine.{state_after_all, outcomes_of_all}
+use Rattle.policy_page.specs.Residents.{Outcome, KeepsResidents}
+use Rattle.engine_base.proofs.Machine.{state-push, outcomes-push}
 use Rattle.policies.proofs.Demand.{demand-came-from}
 
 -- what a cache of capacity c holds after some accesses, and how many of them were hits: a hit is an access to a resident

@@ -4,9 +4,11 @@ use Rattle.std.proofs.lemmas.Bool.{cases_eq}
 use Rattle.std.proofs.lemmas.List.Sums.{sum_by-append}
 use Rattle.std.proofs.lemmas.Bool.Decides.{nat_tests}
 use Rattle.engine_base.specs.Keys.{has_key}
+use Rattle.engine_base.specs.Machine.{state_after_all, outcomes_of_all}
 use Rattle.engine_base.specs.Stats.{is_miss, is_eviction, one_if}
 use Rattle.engine_base.specs.declared.outcome.Outcome.TheVariants.{Hit, Kept, Evicted}
-use Rattle.policy_page.specs.Residents.{Outcome, times, keys_brought, IsAccess, AreResidents, KeepsResidents, state_after_all, outcomes_of_all, CountsResidents}
+use Rattle.engine_base.proofs.Machine.{kept-from}
+use Rattle.policy_page.specs.Residents.{Outcome, times, keys_brought, IsAccess, AreResidents, KeepsResidents, CountsResidents}
 
 pub times-append : (x : ℕ) (a b : List ℕ) → times x (a ++ b) ≡ times x a + times x b
 times-append x [] b = omega arith
@@ -68,36 +70,6 @@ module _ {S : Type 0} (c : ℕ) (start : S) (act : ℕ → S → Outcome × S) (
 
   pub counts-residents : CountsResidents start act residents
   counts-residents keys = grind (arith, nat_tests, counts-from start all.starts.0 keys)
-
--- ---- any machine over lists
-
-module _ {S : Type 0} (act : ℕ → S → Outcome × S) where
-  pub state-push : (s : S) (keys : List ℕ) (k : ℕ) → state_after_all act s (keys ++ k ∷ []) ≡ (act k (state_after_all act s keys)).1
-  state-push s [] k = refl
-  state-push s (a ∷ keys) k = state-push (act a s).1 keys k
-
-  pub outcomes-push : (s : S) (keys : List ℕ) (k : ℕ) → outcomes_of_all act s (keys ++ k ∷ []) ≡ outcomes_of_all act s keys ++ (act k (state_after_all act s keys)).0 ∷ []
-  outcomes-push s [] k = refl
-  outcomes-push s (a ∷ keys) k = ap (λ l. (act a s).0 ∷ l) (outcomes-push (act a s).1 keys k)
-
-  pub outcomes-long : (s : S) (keys : List ℕ) → length (outcomes_of_all act s keys) ≡ length keys
-  outcomes-long s [] = refl
-  outcomes-long s (a ∷ keys) = ap suc (outcomes-long (act a s).1 keys)
-
-  pub outcomes-at : (s : S) (keys rest : List ℕ) (k : ℕ) (x : Outcome) → get_or (outcomes_of_all act s (keys ++ k ∷ rest)) (length keys) x ≡ (act k (state_after_all act s keys)).0
-  outcomes-at s [] rest k x = refl
-  outcomes-at s (a ∷ keys) rest k x = outcomes-at (act a s).1 keys rest k x
-
-  pub outcomes-first : (s : S) (n : ℕ) (keys : List ℕ) → outcomes_of_all act s (take n keys) ≡ take n (outcomes_of_all act s keys)
-  outcomes-first s zero keys = refl
-  outcomes-first s (suc n) [] = refl
-  outcomes-first s (suc n) (a ∷ keys) = ap (λ l. (act a s).0 ∷ l) (outcomes-first (act a s).1 n keys)
-
-  -- what each access keeps
-  module _ (Holds : S → Type 0) (keeps : (k : ℕ) (s : S) → Holds s → Holds (act k s).1) where
-    pub kept-from : (s : S) (keys : List ℕ) → Holds s → Holds (state_after_all act s keys)
-    kept-from s [] h = h
-    kept-from s (k ∷ keys) h = kept-from (act k s).1 keys (keeps k s h)
 
 pub kept-after : {S : Type 0} (c : ℕ) (start : S) (act : ℕ → S → Outcome × S) (residents : S → List ℕ) (IsState : S → Type 0) → KeepsResidents c start act residents IsState
     → (keys : List ℕ) → IsState (state_after_all act start keys)

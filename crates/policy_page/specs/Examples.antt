@@ -5,7 +5,7 @@ use Rattle.std.specs.Prelude.{ℕ, List, [], ◌∷◌}
 use Rattle.engine_base.specs.Stats.{stats_of}
 pub use Rattle.engine_base.specs.declared.outcome.Outcome.{Outcome}
 use Rattle.engine_base.specs.declared.stats.Stats.{Stats}
-use Rattle.policy_page.specs.Residents.{state_after_all, outcomes_of_all}
+use Rattle.engine_base.specs.Machine.{state_after_all, outcomes_of_all}
 use Rattle.policy_page.specs.CountedKeys.{CountedKey}
 
 -- ---- the keys 1, 2, 3, 1, 4 and 2 at capacity 3

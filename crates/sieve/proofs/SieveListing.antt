@@ -3,7 +3,8 @@ use Rattle.std.proofs.lemmas.Bool.Decides.{nat_tests}
 use Rattle.std.proofs.Common.{◌≡◌, ℕ, zero, suc, ◌<◌, ◌≤◌, eqb, Option, Some, None, List, [], ◌∷◌, ◌++◌, length, ap, sym, ◌∙◌, refl, arith, inl, inr, append-nil, append_assoc}
 use Rattle.std.proofs.lemmas.Bool.{cases_Bool, eq-eqb, ltb-false, eqb-false}
 use Rattle.engine_base.specs.Keys.{has_key}
-use Rattle.policy_page.specs.Residents.{Outcome, times, outcomes_of_all}
+use Rattle.engine_base.specs.Machine.{outcomes_of_all}
+use Rattle.policy_page.specs.Residents.{Outcome, times}
 use Rattle.policy_page.specs.Queues.{oldest_of}
 use Rattle.policy_page.specs.CountedKeys.{CountedKey, uncounted_key, keys_of, count_of, with_count, AreCounted, counted_less}
 use Rattle.sieve.specs.Sieve.{SieveState, empty_sieve, after_wrap, after_pass, pass_count_within, after_passes, sieve_eviction, sieve_act, HasAhead, IsSieve}

@@ -10,7 +10,7 @@ ghost use Rattle.queue_moves.specs.Moves.{item_of, count_or, leaving, after_leav
 ghost use Rattle.queue_moves.specs.Undoing.{IsRun, IsAccessed};
 ghost use Rattle.sieve.specs.Plan.{queue_ahead, pass_run, sieve_plan, sieve_eviction_plan};
 ghost use Rattle.policy_page.specs.CountedKeys.{oldest_count};
-ghost use Rattle.policy_page.specs.Residents.{outcomes_of_all};
+ghost use Rattle.engine_base.specs.Machine.{outcomes_of_all};
 ghost use Rattle.sieve.specs.Sieve.{SieveState, empty_sieve, pass_count, after_passes, sieve_act};
 ghost use Rattle.sieve.specs.SieveListing.{empty_listing, listing_act};
 ghost use Rattle.sieve.specs.Examples.{WorkedExamples};
