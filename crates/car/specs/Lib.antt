@@ -1,0 +1,4 @@
+pub mod Car
+pub mod Plan
+pub mod Step
+pub mod Examples
