@@ -29,7 +29,7 @@ class Sources:
         self.specs = {crate: {it.stem: it.read_text() for it in (top / "crates" / crate).glob("specs/**/*.antt")}
                       for crate in self.crates}
         self.mutations = {it.stem for it in top.glob("crates/*/must-fail/*.edit")}
-        more = [it.read_text(errors="replace") for pattern in ("crates/*/proofs/**/*.antt", "tools/*", "tools/*/*.py")
+        more = [it.read_text(errors="replace") for pattern in ("crates/*/proofs/**/*.antt", "checks/*", "checks/*/*.py", "tools/*", "tools/lib/*")
                 for it in top.glob(pattern) if it.is_file() and it.name not in NAMING_OTHERS]
         texts = [text for kind in (self.src, self.specs) for files in kind.values() for text in files.values()]
         self.words = set(re.findall(r"\w+", "\n".join(texts + more))) | self.mutations | {*self.crates}

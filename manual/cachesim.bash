@@ -1,4 +1,4 @@
-# Completions of cachesim for bash. Made by tools/make_manual of the program's help; not to be edited.
+# Completions of cachesim for bash. Made by checks/make_manual of the program's help; not to be edited.
 
 # What can stand in each place of a call, as words, of which <FILE> is any file. With no option, or one that
 # takes no value, these are the subcommand's options and what stands without a name.

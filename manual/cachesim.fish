@@ -1,4 +1,4 @@
-# Completions of cachesim for fish. Made by tools/make_manual of the program's help; not to be edited.
+# Completions of cachesim for fish. Made by checks/make_manual of the program's help; not to be edited.
 
 # Whether the subcommand that was typed is this one; with none, whether none was typed.
 function __cachesim_is

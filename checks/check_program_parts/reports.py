@@ -1,4 +1,4 @@
-"""The words of a call, and reports of as much as a call takes; tools/check_random has the others."""
+"""The words of a call, and reports of as much as a call takes; checks/check_random has the others."""
 import itertools
 import re
 

@@ -19,8 +19,8 @@ def crowd(check, name, times=1):
 
 
 def check_walks(check, name, *words, typed=""):
-    """What tools/check_walks says."""
-    call = [sys.executable, TOP / "tools/check_walks", *words]
+    """What checks/check_walks says."""
+    call = [sys.executable, TOP / "checks/check_walks", *words]
     check.compare(name, ended(call, SECONDS_OF_A_LONG_CALL, typed), Ended(0, b"", b""))
 
 
@@ -31,7 +31,7 @@ def steps_of(journal):
 
 
 def journal_of(check, name, trace, workers, capacity, stripes, main, spread, *more):
-    """Has the program read the journal of workers back and forth. Returns the line of it for tools/check_walks."""
+    """Has the program read the journal of workers back and forth. Returns the line of it for checks/check_walks."""
     cache = "--capacity", capacity, "--stripes", stripes, "--main", main, "--spread", spread, *more
     journal = check.answer(name, "drive", "--workers", workers, *cache, stdin=trace)
     path, steps = check.file(f"journal_of_{check.tried}", journal), steps_of(journal)

@@ -361,16 +361,16 @@ def check_slurm(corpus, folder, program):
 
 
 MISTAKES = {
-    "percentiles from outside": Mistake(check_known_report, "reductions.py", 'method="inclusive"', 'method="exclusive"'),
-    "misses more": Mistake(check_known_report, "reductions.py", "100 * (baseline - misses)", "100 * (misses - baseline)"),
-    "wins of one alone": Mistake(check_known_report, "reductions.py", "more <= 0 for", "more < 0 for"),
-    "a picture without its mean": Mistake(check_known_report, "reductions.py", ", statistics.mean(it.parts))]\n            for", ", 0)]\n            for"),
-    "a scatter of one policy": Mistake(check_known_report, "reductions.py", "policy] for policy in pair", "pair[0]] for policy in pair"),
-    "a whole point for half": Mistake(check_beside_reference, "reductions.py", "200 * more", "100 * more"),
-    "Belady's among the best": Mistake(check_beside_reference, "reductions.py", "policy != OPTIMAL or", "True or"),
-    "a size of another footprint": Mistake(check_beside_reference, "measures.py", "footprint * percent / 100", "footprint * percent / 50"),
-    "a footprint of short traces alone": Mistake(check_long, "jobs.py", "[MAX_CAPACITY], part=LONG", "[MAX_CAPACITY]"),
-    "names by lines": Mistake(check_faults, "jobs.py", 'split(b"\\0")', "split()"),
+    "percentiles from outside": Mistake(check_known_report, "lib/reductions.py", 'method="inclusive"', 'method="exclusive"'),
+    "misses more": Mistake(check_known_report, "lib/reductions.py", "100 * (baseline - misses)", "100 * (misses - baseline)"),
+    "wins of one alone": Mistake(check_known_report, "lib/reductions.py", "more <= 0 for", "more < 0 for"),
+    "a picture without its mean": Mistake(check_known_report, "lib/reductions.py", ", statistics.mean(it.parts))]\n            for", ", 0)]\n            for"),
+    "a scatter of one policy": Mistake(check_known_report, "lib/reductions.py", "policy] for policy in pair", "pair[0]] for policy in pair"),
+    "a whole point for half": Mistake(check_beside_reference, "lib/reductions.py", "200 * more", "100 * more"),
+    "Belady's among the best": Mistake(check_beside_reference, "lib/reductions.py", "policy != OPTIMAL or", "True or"),
+    "a size of another footprint": Mistake(check_beside_reference, "lib/measures.py", "footprint * percent / 100", "footprint * percent / 50"),
+    "a footprint of short traces alone": Mistake(check_long, "lib/jobs.py", "[MAX_CAPACITY], part=LONG", "[MAX_CAPACITY]"),
+    "names by lines": Mistake(check_faults, "lib/jobs.py", 'split(b"\\0")', "split()"),
     "failed traces in silence": Mistake(check_faults, "corpus", 'return [it for it in results if "fault" in it]', "return []"),
     "finished jobs done again": Mistake(check_faults, "corpus", "st_mtime_ns < os.stat(name).st_mtime_ns", "st_mtime_ns > 0"),
     "jobs of changed traces not done": Mistake(check_faults, "corpus", "st_mtime_ns < os.stat(name).st_mtime_ns", "st_mtime_ns < 0"),
@@ -379,6 +379,6 @@ MISTAKES = {
 }
 if shutil.which("parallel"):
     MISTAKES |= {
-        "names that are not quoted": Mistake(check_faults, "jobs.py", 'shlex.join([*job, "--", name])', '" ".join([*job, "--", name])'),
-        "jobs that go on": Mistake(check_interrupt, "jobs.py", "os.killpg(self.process.pid, signal.SIGTERM)", "self.process.kill()"),
+        "names that are not quoted": Mistake(check_faults, "lib/jobs.py", 'shlex.join([*job, "--", name])', '" ".join([*job, "--", name])'),
+        "jobs that go on": Mistake(check_interrupt, "lib/jobs.py", "os.killpg(self.process.pid, signal.SIGTERM)", "self.process.kill()"),
     }

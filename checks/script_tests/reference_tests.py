@@ -1,5 +1,5 @@
 """Tests of tools/reference, beside calls of the program."""
-from policies import POLICIES
+from lib.policies import POLICIES
 from script_tests.frame import Mistake, expect, expect_full_disk, run
 
 CACHE, PAIR = ("--capacity", 20), ("--first", "arc", "--second", "wtinylfu")
@@ -38,8 +38,8 @@ def check_beside_program(reference, _, program):
 MISTAKES = {
     "reports that may pass for the program's": Mistake(check_beside_program, "reference", "    print(NOTE, file=sys.stderr)\n", ""),
     "a spread that is not handed on": Mistake(check_beside_program, "reference", "**asked}", '**asked, "spread": "mixed"}'),
-    "the second policy as the first": Mistake(check_beside_program, "cache_reference/reports.py",
+    "the second policy as the first": Mistake(check_beside_program, "../checks/cache_reference/reports.py",
                                               'options.get("first"), options.get("second")', 'options.get("second"), options.get("first")'),
-    "a sample by one seed": Mistake(check_beside_program, "cache_reference/reports.py", 'options["seed"])', "1)"),
+    "a sample by one seed": Mistake(check_beside_program, "../checks/cache_reference/reports.py", 'options["seed"])', "1)"),
     "more policies than a call takes": Mistake(check_beside_program, "reference", "> MAX_POLICIES", "> 99"),
 }

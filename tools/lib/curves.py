@@ -3,7 +3,7 @@ refused of them."""
 import sys
 from collections import namedtuple
 
-from policies import OPTIMAL
+from .policies import OPTIMAL
 
 SWEEP = "policy,capacity,accesses,hits,misses,evictions,rejections,rate"
 INTERVALS = "policy,capacity,first,last,hits,misses,evictions,rejections,rate"

@@ -15,9 +15,9 @@ from concurrent.futures import ThreadPoolExecutor, as_completed
 from decimal import Decimal
 from pathlib import Path
 
-from measures import part_of
-from reports import MAX_CAPACITY, Options, Program, Trace
-from traces import Unreadable, times_of_blocks
+from .measures import part_of
+from .reports import MAX_CAPACITY, Options, Program, Trace
+from .traces import Unreadable, times_of_blocks
 
 # What a job takes at most beside its caches, of the longest trace and with clairvoyant.
 JOB_MEMORY = 1 << 29
@@ -94,12 +94,12 @@ def has_gnu_parallel():
 
 def sent_files(folder, program):
     """The name of a folder in this one, which other hosts get too, with the program and all that a job imports."""
-    name, tools = f"corpus-{os.urandom(8).hex()}", Path(__file__).resolve().parent
+    name, tools = f"corpus-{os.urandom(8).hex()}", Path(__file__).resolve().parent.parent
     (folder / name).mkdir()
     with zipfile.ZipFile(folder / name / "jobs.pyz", "w") as scripts:
         scripts.write(tools / "corpus", "__main__.py")
-        for it in tools.glob("*.py"):
-            scripts.write(it, it.name)
+        for it in tools.glob("lib/*.py"):
+            scripts.write(it, f"lib/{it.name}")
     shutil.copy(program, folder / name / "cachesim")
     return name
 

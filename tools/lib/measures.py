@@ -6,10 +6,10 @@ import sys
 from collections import namedtuple
 from decimal import Decimal
 
-from policies import MONOTONE, OPTIMAL, WINDOWED, has_sketch
-from reports import MAX_CAPACITY, rate
-from samples import check_accesses
-from traces import blocks_of, times_of_blocks
+from .policies import MONOTONE, OPTIMAL, WINDOWED, has_sketch
+from .reports import MAX_CAPACITY, rate
+from .samples import check_accesses
+from .traces import blocks_of, times_of_blocks
 
 PERCENTS = ["1", "2", "5", "10", "20", "50"]
 # The main parts of wtinylfu that are tried, in percent of the capacity, as --main names them; the rest is its window. The

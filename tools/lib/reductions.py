@@ -5,8 +5,8 @@ import statistics
 from collections import namedtuple
 from fractions import Fraction
 
-from pictures import ends_around, marks_of, quoted, terminal_of
-from policies import OPTIMAL, POLICIES
+from .pictures import ends_around, marks_of, quoted, terminal_of
+from .policies import OPTIMAL, POLICIES
 
 HEADS = ("% of footprint", "policy", "traces", "mean", "P10", "P25", "P50", "P75", "P90", "best on", "near on")
 NOTE = """(percent of misses fewer than {baseline} has, over the traces; P50: the median, between two traces linearly)

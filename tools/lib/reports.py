@@ -10,8 +10,8 @@ import tempfile
 from collections import namedtuple
 from pathlib import Path
 
-from policies import tip_for
-from traces import FORMATS, TraceFile, beginning_of
+from .policies import tip_for
+from .traces import FORMATS, TraceFile, beginning_of
 
 MAX_CAPACITY = 1 << 20
 SWEEP = "policy,capacity,accesses,hits,misses,evictions,rejections,rate".split(",")

@@ -3,7 +3,7 @@ import argparse
 import re
 from collections import namedtuple
 
-from option_types import whole_number
+from .option_types import whole_number
 
 # What is known of a sample: the N of its rate 1/N, how many accesses the whole trace has, and how many it has itself.
 Sample = namedtuple("Sample", "inverse accesses kept", defaults=(None, None))

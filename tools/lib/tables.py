@@ -6,9 +6,9 @@ import csv
 import io
 from itertools import groupby
 
-from measures import MAINS, PARTS, best_of, capacities_in, nearly_best
-from policies import CAFFEINE, OPTIMAL
-from reports import MAX_CAPACITY, rate
+from .measures import MAINS, PARTS, best_of, capacities_in, nearly_best
+from .policies import CAFFEINE, OPTIMAL
+from .reports import MAX_CAPACITY, rate
 
 # How wide a table for people is at most, but for a trace's name, and how many names of a cell it shows.
 MAX_WIDTH, MAX_NAMES = 100, 3
