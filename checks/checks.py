@@ -6,6 +6,7 @@ import select
 import signal
 import subprocess
 import sys
+import tempfile
 import time
 from collections import namedtuple
 from pathlib import Path
@@ -46,6 +47,13 @@ def conclude(wrong, right):
         print(right)
 
 
+def run_pytest(folder, *words, jobs=os.cpu_count()):
+    """Runs the tests of a folder beside this file, so many side by side, by Debian's pytest, and ends as it does."""
+    with tempfile.TemporaryDirectory() as room:
+        call = ["pytest-3", TOP / "checks" / folder, "-n", jobs, "--basetemp", f"{room}/tests", *words]
+        sys.exit(subprocess.run([str(it) for it in call], check=False).returncode)
+
+
 def named_program(own="crates/cachesim/out/cachesim"):
     """The program that the call names, or the repository's own."""
     program = Path(sys.argv[1] if len(sys.argv) > 1 else TOP / own).resolve()
@@ -67,7 +75,7 @@ def becomes(is_so, seconds):
     return found
 
 
-class Wrong(Exception):
+class Wrong(AssertionError):
     """What a file or a call does other than it should."""
 
 

@@ -16,7 +16,7 @@ from pathlib import Path
 
 import cache_reference
 from checks import becomes
-from script_tests.frame import (NOTING, SECONDS, Mistake, Wrong, expect, expect_full_disk, expect_parts, fake, file_of, gnuplot_by,
+from frame import (NOTING, SECONDS, Mistake, Wrong, expect, expect_full_disk, expect_parts, fake, file_of, gnuplot_by,
                                 opened_by_a_reader, rows_of, run, without_texts)
 
 BOTH = "--policy=fifo", "--policy=lru"
@@ -85,7 +85,7 @@ def pass_over(what):
     print(f"tools/corpus: passed over, since this machine has no {what}", file=sys.stderr)
 
 
-def check_known_report(corpus, folder, _):
+def check_known_report(corpus, folder):
     """A report that was worked out by hand, and its pictures."""
     program = fake(folder, KNOWN, policies=["fifo", "lru"])
     run(corpus, "run", "--program", program, "--percent=10", "--out", folder / "out", *known_traces(folder), cwd=folder,

@@ -1,4 +1,6 @@
-"""What the tests of the scripts share: running one, comparing, files, programs whose reports are known, and a gnuplot."""
+"""What the tests of the scripts share: running one, comparing, files, programs whose reports are known, and a gnuplot. What
+pytest hands to a test by the name of a parameter stands in conftest.py; checks/check_scripts PROGRAM -k WORD runs some alone.
+"""
 import csv
 import io
 import os

@@ -1,7 +1,7 @@
 """Tests of tools/journal, over journals that were counted by hand, and beside what `replay` counts."""
 import re
 
-from script_tests.frame import (Mistake, expect, expect_full_disk, expect_parts, expect_quiet_interrupt, file_of,
+from frame import (Mistake, expect, expect_full_disk, expect_parts, expect_quiet_interrupt, file_of,
                                 rows_of, run)
 
 # Worker 0 adds two blocks and takes the maintenance, while worker 1 finds blocks, offers one to a full read buffer, and
@@ -42,7 +42,7 @@ all,5,3,60.00,1,2,2,2,1,2,1,1,26,5.20
 """
 
 
-def check_counts(journal, folder, _):
+def check_counts(journal, folder):
     """A journal of three workers, counted by hand, and where it may not be believed."""
     whole = f"cachesim journal 2\n{STEPS}steps 26\n"
     path = file_of(folder, "whole", whole)
@@ -89,7 +89,7 @@ def check_beside_replay(journal, folder, program):
         expect("steps", path.read_text().splitlines()[-1], f"steps {whole['steps']}")
 
 
-def check_many(journal, folder, _):
+def check_many(journal, folder):
     """All workers at all read buffers, a key of twenty digits, a worker of many steps, and the most tasks twice."""
     steps = [f"{it} offer {it} {2**64 - 1 - it} {it} = kept" for it in range(64)] + ["3 look 7 = miss"] + ["3 begin = busy"] * 1201
     steps += ["4 put 5 = added 0", "4 drainwrite = applied 5 0"] * 2
@@ -105,13 +105,13 @@ def check_many(journal, folder, _):
         expect(f"workers one after the other, {workers}", "went one after the other" in said, are_apart)
 
 
-def check_large(journal, folder, _):
+def check_large(journal, folder):
     """A journal of many steps."""
     steps = "0 begin = busy\n" * 120000 + "0 put 5 = added 0\n"
     expect_parts("many steps", run(journal, typed=f"cachesim journal 2\n{steps}steps 120001\n")[0], " 120001 ", "first after step 120001\n")
 
 
-def check_ways(journal, folder, _):
+def check_ways(journal, folder):
     """A journal by a file, by a pipe and on the standard input; one that cannot be read, and tables that cannot be written."""
     refused = "cachesim journal 2\n0 look 1 = miss\n0 put 1 = writesfull\nsteps 2\n"
     path = file_of(folder, "refused", refused)

@@ -5,7 +5,7 @@ import subprocess
 import sys
 from xml.etree import ElementTree
 
-from script_tests.frame import (EVERY, NOTING, POLICIES, UNSAFE, Mistake, expect, expect_full_disk, expect_parts,
+from frame import (EVERY, NOTING, POLICIES, UNSAFE, Mistake, expect, expect_full_disk, expect_parts,
                                 expect_quiet_interrupt, file_of, gnuplot_by, run, without_texts)
 
 SWEEP = "policy,capacity,accesses,hits,misses,evictions,rejections,rate\n"
@@ -46,7 +46,7 @@ def drawn(plot, *words):
     return curves_in(run(plot, "--commands", *words)[0])
 
 
-def check_curves(plot, folder, _):
+def check_curves(plot, folder):
     """Two curves, in any order of their rows, and what stands around them."""
     path = file_of(folder, "two.csv", SWEEP + sweep_rows("lru", (40, 501), (10, 204), (20, 307), accesses=1000) +
                    sweep_rows("clairvoyant", (10, 450), (20, 500), (40, 600), accesses=1000))
@@ -64,7 +64,7 @@ def check_curves(plot, folder, _):
     expect_full_disk(plot, "--commands", path)
 
 
-def check_dense(plot, folder, _):
+def check_dense(plot, folder):
     """Curves of many places have them all, in steps; one of a single place has that in its middle."""
     for count, ends, every in ((160, "200:1790", 14), (80, "200:990", 7), (30, "200:490", 3), (29, "200:480", 1), (1, "199.5:200.5", 1)):
         many = file_of(folder, "many.csv", SWEEP + sweep_rows("lru", *((200 + 10 * it, it) for it in range(count)), accesses=200))
@@ -74,7 +74,7 @@ def check_dense(plot, folder, _):
         expect("its steps", ("with steps" in rest, "unset logscale" in rest, "logarithmic" in rest), (count > 29, True, False))
 
 
-def check_heights(plot, folder, _):
+def check_heights(plot, folder):
     """The vertical axis has all heights in it, of curves that are nearly level, at the bottom or at the top."""
     for hits in ((501, 502, 503), (0, 0, 0), (1000, 1000, 1000), (0, 3, 997)):
         rows = file_of(folder, "level.csv", SWEEP + sweep_rows("lru", *zip((10, 20, 40), hits), accesses=1000))
@@ -84,7 +84,7 @@ def check_heights(plot, folder, _):
                ([[(place, it / 10) for place, it in zip((10, 20, 40), hits)]], True))
 
 
-def check_marks(plot, folder, _):
+def check_marks(plot, folder):
     """On a logarithmic axis each power of ten has a mark."""
     for first, last in ((1000, 362038), (1000, 750378), (5, 1280), (1, 1000000)):
         places = sorted({round(first * (last / first) ** (at / 16)) for at in range(17)})
@@ -93,7 +93,7 @@ def check_marks(plot, folder, _):
         expect_parts(f"marks from {first} to {last}", rest, *(f"'{it}' {it}" for it in [first, *powers]))
 
 
-def check_styles(plot, folder, _):
+def check_styles(plot, folder):
     """Each policy has a colour, a marker and a dash that no other one has, and its colour in every picture."""
     rows = file_of(folder, "all.csv", SWEEP + "".join(sweep_rows(it, (5, 1), (6, 2)) for it in EVERY))
     rest = drawn(plot, rows)[1]
@@ -114,7 +114,7 @@ def check_styles(plot, folder, _):
     expect_parts("an unknown policy", run(plot, "--commands", status=1, typed=SWEEP + sweep_rows("mine", (5, 1)))[1], "mine")
 
 
-def check_refusals(plot, folder, _):
+def check_refusals(plot, folder):
     """What is not drawn, and the line that is named."""
     for name, text, words, parts in (
             ("hidden", SWEEP + sweep_rows("lru", (10, 20), (20, 30)) + SWEEP + sweep_rows("lru", (20, 31)), [],
@@ -141,7 +141,7 @@ def check_refusals(plot, folder, _):
     expect_quiet_interrupt(plot, folder, "--commands")
 
 
-def check_files(plot, folder, _):
+def check_files(plot, folder):
     """Curves of several files are named by these."""
     mains = [file_of(folder, f"main{it}.csv", SWEEP + sweep_rows("wtinylfu", (10, it), (20, 99))) for it in (80, 90)]
     curves, rest = drawn(plot, *mains)
@@ -153,7 +153,7 @@ def check_files(plot, folder, _):
     run(plot, "--commands", mains[0], mains[0], status=1)
 
 
-def check_intervals(plot, folder, _):
+def check_intervals(plot, folder):
     """Intervals are drawn from their first access to their last one, the last and shorter one too."""
     rows = file_of(folder, "it.csv", INTERVALS + "lru,9,1,10,5,5,0,0,50.00\nlru,9,11,20,2,8,0,0,20.00\n"
                    "lru,9,21,24,3,1,0,0,75.00\n")
@@ -176,7 +176,7 @@ def check_intervals(plot, folder, _):
     expect_parts("its markers", commands, "$curve0 every 50::1 with points ", "$curve1 every 50::25 with points ")
 
 
-def check_comparisons(plot, folder, _):
+def check_comparisons(plot, folder):
     """A comparison by interval: the part of the accesses that each policy alone hits."""
     rows = file_of(folder, "compare.csv", COMPARISONS + "lru,wtinylfu,9,1,10,2,3,1,4\nlru,wtinylfu,9,11,14,1,0,2,1\n")
     curves, rest = drawn(plot, rows)
@@ -189,7 +189,7 @@ def check_comparisons(plot, folder, _):
     run(plot, "--commands", "--below-optimal", rows, status=1)
 
 
-def check_below_optimal_intervals(plot, folder, _):
+def check_below_optimal_intervals(plot, folder):
     """Points below Belady's policy are those of all accesses up to the end of an interval."""
     rows = file_of(folder, "it.csv", INTERVALS + interval_rows("lru", 10, 5, 9, 0) + interval_rows("clairvoyant", 10, 9, 8, 3))
     curves, rest = drawn(plot, "--below-optimal", rows)
@@ -203,7 +203,7 @@ def check_below_optimal_intervals(plot, folder, _):
            [[(10, 40), (20, 15)], [(10, 40), (20, 25)]])
 
 
-def check_sampled(plot, folder, _):
+def check_sampled(plot, folder):
     """A sweep of one block in 8: eight times the misses at eight times the capacity."""
     rows = file_of(folder, "sample.csv", SWEEP + sweep_rows("lru", (10, 20), (20, 90), (40, 100)))
     curves, rest = drawn(plot, "--sampled", "1/8", "--accesses", "800", rows)
@@ -219,7 +219,7 @@ def check_sampled(plot, folder, _):
     run(plot, "--commands", "--sampled", "1/2", rows, status=2)
 
 
-def check_unsafe_texts(plot, folder, _):
+def check_unsafe_texts(plot, folder):
     """What a user names reaches gnuplot in single quotes alone, or not at all; and nothing of it is run."""
     environment = gnuplot_by(folder, NOTING)
     given, files = [], SWEEP + sweep_rows("lru", (5, 1), (6, 2))
@@ -240,7 +240,7 @@ def check_unsafe_texts(plot, folder, _):
     expect("a command that was run", (folder / "made").exists(), False)
 
 
-def check_pictures(plot, folder, _):
+def check_pictures(plot, folder):
     """What gnuplot draws, where it is there: an SVG with every name and the data in it, and a PNG."""
     if not shutil.which("gnuplot"):
         print("no picture is drawn, since gnuplot is not on this machine", file=sys.stderr)
@@ -279,7 +279,7 @@ MISTAKES = {
                                                   "for _, end, height in curve.points[::2 if len(curve.points) > 60 else 1]]"),
     "--title ignored": Mistake(check_curves, "plot", "(args.title or what)", "what"),
     "points below the optimum of the first interval": Mistake(
-        check_below_optimal_intervals, "curves.py", "best.get((row.begin, row.end, row.capacity))",
+        check_below_optimal_intervals, "lib/curves.py", "best.get((row.begin, row.end, row.capacity))",
         "best.get((0, rows[0].end, row.capacity))"),
     "points below the optimum of one interval": Mistake(check_below_optimal_intervals, "lib/curves.py", "lost + optimal.hits", "optimal.hits"),
     "the hits of both": Mistake(check_comparisons, "lib/curves.py", "of[it] for it in", "of[it] + of['both'] * (it[0] == 's') for it in"),

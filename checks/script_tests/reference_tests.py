@@ -1,6 +1,6 @@
 """Tests of tools/reference, beside calls of the program."""
 from lib.policies import POLICIES
-from script_tests.frame import Mistake, expect, expect_full_disk, run
+from frame import Mistake, expect, expect_full_disk, run
 
 CACHE, PAIR = ("--capacity", 20), ("--first", "arc", "--second", "wtinylfu")
 # Calls over a trace that both answer alike, with the status of each.
@@ -18,7 +18,7 @@ TEXTS = [(1, "lirs", "5\n7 x\n"), (1, "arc", "5 1\n\n7\n"), (1, "arc", "5 1\n-7 
          (1, "arc", "1 16777217\n"), (0, "arc", "5 0 x\n"), (0, "lirs", f" {'0' * 5000}7\r\n*\n"), (0, "lirs", "")]
 
 
-def check_beside_program(reference, _, program):
+def check_beside_program(reference, program):
     """The same rows, faults and statuses, and a note that they are not proved."""
     ranges = [(it * it % 391, it % 3) for it in range(300)]
     for status, *words in CALLS:

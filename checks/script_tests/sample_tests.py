@@ -2,7 +2,7 @@
 in N is."""
 import gzip
 
-from script_tests.frame import Mistake, expect, expect_parts, expect_quiet_interrupt, file_of, run
+from frame import Mistake, expect, expect_parts, expect_quiet_interrupt, file_of, run
 
 
 def by(program, sample):

@@ -9,11 +9,11 @@ import shutil
 import subprocess
 import sys
 
-from script_tests.frame import (EVERY, NOTING, POLICIES, UNSAFE, Mistake, expect, expect_full_disk, expect_parts,
+from frame import (EVERY, NOTING, POLICIES, UNSAFE, Mistake, expect, expect_full_disk, expect_parts,
                                 expect_quiet_interrupt, fake, file_of, gnuplot_by, rows_of, run, without_texts)
 
 
-def check_best(survey, folder, _):
+def check_best(survey, folder):
     """A thousand accesses to twenty blocks, of which one comes once: all within half a point are the best."""
     trace = file_of(folder, "trace", "".join(f"{it % 19}\n" for it in range(999)) + "500\n")
     percent = {("lru", 2): 10, ("slru", 2): 12, ("tinylfu-lru", 2): 11, ("wtinylfu", 2): 12, ("clairvoyant", 2): 30,
@@ -31,7 +31,7 @@ def check_best(survey, folder, _):
            f"{trace},10.0,2,900,880,slru,2.2\n{trace},50.0,10,600,700,lru,0.0\n")
 
 
-def check_nearly_best(survey, folder, _):
+def check_nearly_best(survey, folder):
     """Half a point below the best is as good, more is not, nor are more than 5 percent more misses: of 20 misses 21 are, 22 are
     not."""
     trace = file_of(folder, "trace", "0 19\n" * 526 + "0 6\n")
@@ -47,7 +47,7 @@ def check_nearly_best(survey, folder, _):
     expect("the best main part", rows_of(run(*words, "--csv", "--table", "windows")[0])[0]["best --main"], "20")
 
 
-def check_windows(survey, folder, _):
+def check_windows(survey, folder):
     """The best window of wtinylfu counts, and is named."""
     trace = file_of(folder, "trace", "".join(f"{it % 300}\n" for it in range(3000)))
     program = fake(folder, "None if capacity >= distinct else "
@@ -63,7 +63,7 @@ def check_windows(survey, folder, _):
     expect("caffeine beside them", run(*beside, "--table", "windows")[0].splitlines()[1], f"{trace},10.0,30,11.00,10.00,8.00,5.00,2.00,61.00,99")
 
 
-def check_parts(survey, folder, _):
+def check_parts(survey, folder):
     """Each part has its own sizes, beside the program's own, of the policies that have such parts."""
     trace = file_of(folder, "trace", "".join(f"{it % 300}\n" for it in range(3000)))
     program = fake(folder, "None if capacity >= distinct else int(option.get('--small', 60)) if policy == 's3-fifo' else "
@@ -78,7 +78,7 @@ def check_parts(survey, folder, _):
     expect("no such policy", run(*words, "--policy", "lru")[0], "trace,% of footprint,capacity\n")
 
 
-def check_columns(survey, folder, _):
+def check_columns(survey, folder):
     """The policies that are named, or at most eight of those that the program takes."""
     trace = file_of(folder, "trace", "1\n2\n1\n")
     heads = run(survey, trace, "--csv", "--program", fake(folder, policies=EVERY))[0].splitlines()[0].split(",")
@@ -92,7 +92,7 @@ def check_columns(survey, folder, _):
         expect_parts(word, run(*words, word, status=1)[1], f"--policy {word} is none of ", f"did you mean {meant}?\n")
 
 
-def check_width(survey, folder, _):
+def check_width(survey, folder):
     """No table is wider than 100 columns, and each column is in it, also of all policies where they are as good as each other."""
     trace = file_of(folder, "trace", "".join(f"{it % 320}\n" for it in range(3200)))
     # Of thirteen policies all columns but `best` fill a block, of twelve they leave room for it alone.
@@ -110,7 +110,7 @@ def check_width(survey, folder, _):
     expect("the best as CSV", best.split(" or "), [it.replace("wtinylfu", "wtinylfu --main 99") for it in policies if it != "clairvoyant"])
 
 
-def check_many_rows(survey, folder, _):
+def check_many_rows(survey, folder):
     """A table has a row for each of thirty capacities."""
     many = [word for it in range(30) for word in ("--capacity", 211 + it)]
     rows = run(survey, file_of(folder, "trace", "1\n2\n1\n"), "--program", fake(folder), *many, "--policy", "slru", "--table", "policies")[0]
@@ -132,7 +132,7 @@ def on_terminal(script, *words):
     return drawn.decode()
 
 
-def check_progress(survey, folder, _):
+def check_progress(survey, folder):
     """At a terminal a survey says which of its steps is under way, of each trace, and leaves nothing there."""
     traces = [file_of(folder, name, "".join(f"{it % 50}\n" for it in range(500))) for name in ("one", "two")]
     words = "--program", fake(folder, "None if capacity >= distinct else 50"), "--policy", "lru", "--policy", "wtinylfu"
@@ -148,7 +148,7 @@ def check_progress(survey, folder, _):
     expect_parts("all tables", on_terminal(survey, traces[0], *words, "--reach", "9"), "1 of 11: footprint, ", "11 of 11: powers of two, ")
 
 
-def check_cliffs(survey, folder, _):
+def check_cliffs(survey, folder):
     """Of policies that may lose by a larger capacity, changes within one percent of a capacity, or one entry. Of 8 entries one
     more is many percent: a gain of 10 points is no jump, a loss of 3 is one."""
     trace = file_of(folder, "trace", "".join(f"{it % 300}\n" for it in range(3000)))
@@ -165,7 +165,7 @@ def check_cliffs(survey, folder, _):
     expect_parts("the picture", (folder / "given").read_text(), "\n198 60.000000\n200 40.000000\n202 61.000000\n")
 
 
-def check_reach(survey, folder, _):
+def check_reach(survey, folder):
     """A program whose lru jumps, and whose Belady's policy gains two points by each five entries."""
     trace = file_of(folder, "loop", "".join(f"{it % 200}\n" for it in range(1000)))
     rates = "(5 if capacity < 123 else 60) if policy == 'lru' else capacity * 2 // 5 if policy == 'clairvoyant' else None"
@@ -189,7 +189,7 @@ def check_reach(survey, folder, _):
     expect("large jumps", run(survey, trace, "--program", program, "--csv", "--table", "jumps", "--jump", "30")[0].count("\n"), 2)
 
 
-def check_percent_of_reach(survey, folder, _):
+def check_percent_of_reach(survey, folder):
     """Of a large trace the capacity that reaches a ratio is found to one percent, by over sixty readings."""
     trace = file_of(folder, "large", "0 30000\n0 30000\n0 30000\n")
     program = fake(folder, "None if capacity >= 30000 else (capacity >= 2000) * 40 + capacity // 1000", policies=[*POLICIES, "fifo", "arc"])
@@ -206,7 +206,7 @@ def large(survey, folder):
     return trace, (survey, trace, "--format", "arc", "--csv", "--program", fake(folder), "--policy", "lru", "--policy", "tinylfu-lru")
 
 
-def check_large(survey, folder, _):
+def check_large(survey, folder):
     """The highest ratio of a large trace."""
     trace, words = large(survey, folder)
     # Of the last 500000 accesses 200000 are the first to their block.
@@ -218,7 +218,7 @@ def check_large(survey, folder, _):
     expect("no reach in a sample", rows_of(sample.partition("19.99\n")[2])[0]["capacity"], "> 8388608")
 
 
-def check_large_capacities(survey, folder, _):
+def check_large_capacities(survey, folder):
     """Capacities of a large trace that are left out, and ratios that no cache reaches."""
     _, words = large(survey, folder)
     out, error = run(*words, "--percent", "1", "--percent", "95")
@@ -228,7 +228,7 @@ def check_large_capacities(survey, folder, _):
     expect("no reach", [row["capacity"] for row in reach], ["> 1048576"] * 2 + ["never"] * 2)
 
 
-def check_jumps_and_powers(survey, folder, _):
+def check_jumps_and_powers(survey, folder):
     """A jump at many entries, and both sides of large powers of two."""
     small = file_of(folder, "small", "0 20000\n0 20000\n")
     words = survey, small, "--format", "arc", "--csv"
@@ -338,11 +338,11 @@ def check_after(survey, folder, program):
     expect("of ranges", rows_of(run(*words)[0])[0]["lru"], f"{hits * 10000 // 200 / 100:.2f}")
 
 
-def check_sampled(survey, folder, real):
+def check_sampled(survey, folder, program):
     """Of a sample of one block in 8 the misses are those of the sample eight times, and the capacities too."""
     trace = file_of(folder, "sample", "".join(f"{it % 100}\n" for it in range(1000)))
-    program = fake(folder, "None if capacity >= distinct else {'lru': 20, 'clairvoyant': 95}.get(policy, 0)")
-    words = survey, trace, "--program", program, "--sampled", "1/8", "--accesses", "16000", "--policy", "lru", "--policy", "clairvoyant"
+    faked = fake(folder, "None if capacity >= distinct else {'lru': 20, 'clairvoyant': 95}.get(policy, 0)")
+    words = survey, trace, "--program", faked, "--sampled", "1/8", "--accesses", "16000", "--policy", "lru", "--policy", "clairvoyant"
     # 800 misses are 6400 of 16000, 50 are 400.
     expect("policies", run(*words, "--csv", "--capacity", "160", "--table", "policies", "--table", "misses")[0],
            "trace,% of footprint,capacity,lru,clairvoyant,best,below optimal\n"
@@ -362,16 +362,16 @@ def check_sampled(survey, folder, real):
     jump = fake(folder, "None if capacity >= distinct else 5 if capacity < 50 else 60")
     expect_parts("a jump", run(*words[:3], jump, *words[4:], "--table", "jumps")[0], "known to some percent", "  392  400 ")
     whole = file_of(folder, "whole", "".join(f"{it % 700}\n" for it in range(7000)))
-    kept, line = run(survey.with_name("sample"), "--program", real, "--rate", "1/8", whole)
+    kept, line = run(survey.with_name("sample"), "--program", program, "--rate", "1/8", whole)
     kept, said = file_of(folder, "kept", kept), file_of(folder, "said", line)
-    out = run(survey, kept, "--program", program, "--sampled", said, "--csv", "--table", "traces")[0]
+    out = run(survey, kept, "--program", faked, "--sampled", said, "--csv", "--table", "traces")[0]
     expect("what the sample says", out.splitlines()[1].split(",")[1], "7000")
     for wrong in (["--sampled", "1/7"], ["--sampled", "0.5"], ["--accesses", "5"], ["--sampled", "1/8", "--accesses", "3999"],
                   ["--sampled", said], ["--sampled", said, "--accesses", "7000"], ["--sampled", trace]):
-        run(survey, trace, "--program", program, *wrong, status=2)
+        run(survey, trace, "--program", faked, *wrong, status=2)
 
 
-def check_sampled_once(survey, folder, _):
+def check_sampled_once(survey, folder):
     """Of a sample with a block that comes once, all blocks and capacities are eight times its own: 808 misses of 16000."""
     program = fake(folder, "None if capacity >= distinct else 20")
     trace = file_of(folder, "once", "".join(f"{it % 100}\n" for it in range(1000)) + "100\n")
@@ -388,7 +388,7 @@ def check_sampled_once(survey, folder, _):
     expect("the picture's ends", (places[0], places[-1]), ("8", "808"))
 
 
-def check_unsafe_name(survey, folder, _):
+def check_unsafe_name(survey, folder):
     """The name of a trace is no more than a text for gnuplot."""
     trace = file_of(folder, f"-{UNSAFE}", "1\n2\n1\n").name
     words = survey, "--program", fake(folder), "--plot", "picture.svg", "--table", "traces", "--", trace
@@ -399,7 +399,7 @@ def check_unsafe_name(survey, folder, _):
     expect("a command that was run", (folder / "made").exists(), False)
 
 
-def check_kept_picture(survey, folder, _):
+def check_kept_picture(survey, folder):
     """Where no picture is drawn, or none can be written, what stood there stays, and nothing beside it."""
     trace, picture = file_of(folder, "trace", "1\n2\n1\n"), file_of(folder, "picture.svg", "an old picture")
     words = survey, trace, "--program", fake(folder), "--table", "traces", "--plot"
@@ -420,7 +420,7 @@ def check_kept_picture(survey, folder, _):
     expect("what is there", sorted(folder.iterdir()), sorted([*here, folder / "none", folder / "link.svg"]))
 
 
-def check_best_of_sample(survey, folder, _):
+def check_best_of_sample(survey, folder):
     """Of a sample half a point, and two points where one of both policies has a sketch. Of 1000 accesses 10 more misses are 80
     of 8000, a point."""
     trace = file_of(folder, "sample", "".join(f"{it % 100}\n" for it in range(1000)))

@@ -1,0 +1,30 @@
+"""Each test is worth something: over a copy of the scripts with a mistake that is its own to find, it fails."""
+import inspect
+import os
+import shutil
+
+import corpus_tests
+import journal_tests
+import plot_tests
+import pytest
+import reference_tests
+import sample_tests
+import survey_tests
+from checks import replaced
+
+MODULES = {"survey": survey_tests, "plot": plot_tests, "corpus": corpus_tests, "sample": sample_tests, "journal": journal_tests,
+           "reference": reference_tests}
+
+
+@pytest.mark.parametrize("script, mistake", [pytest.param(script, mistake, id=f"{script}: {words}")
+                                             for script, module in MODULES.items() for words, mistake in module.MISTAKES.items()])
+def check_mistake(script, mistake, tools, folder, program):
+    copy = shutil.copytree(tools.parent, folder / "copy", copy_function=os.link) / "tools"
+    file = copy / mistake.file
+    text = replaced(mistake.old, mistake.new)(file.read_text())
+    file.unlink()
+    file.write_text(text)
+    (folder / "files").mkdir()
+    given = {script: copy / script, "folder": folder / "files", "program": program}
+    with pytest.raises(AssertionError):
+        mistake.test(**{name: given[name] for name in inspect.signature(mistake.test).parameters})
