@@ -7,10 +7,10 @@ use Rattle.engine_base.specs.Stats.{is_hit, is_eviction, is_rejection, one_if}
 use Rattle.engine_base.specs.declared.outcome.Outcome.TheVariants.{Hit, Evicted}
 use Rattle.policy_page.specs.Residents.{Outcome, times, keys_evicted, IsAccess, AreResidents, KeepsResidents}
 use Rattle.arc.specs.Arc.{ArcState, arc_residents, arc_total, arc_target, arc_replace, arc_plan, plan_of_new_key, oldest_forgotten, OfB1, OfB2, oldest_leaver, Dropped, arc_after_recall, arc_after_forgetting, arc_after_eviction, arc_after_join, arc_after_miss, arc_outcome, arc_act, IsArc, ArcForgets, ArcGhost, ArcLeaver, ArcPlan, NoLeaver, InB1, InB2, NoGhost, NoneForgotten, empty_arc}
-use Rattle.policy_page.proofs.Residents.{times-append, times-none}
+use Rattle.policy_page.proofs.Residents.{times-append, times-none, times-some}
 use Rattle.policy_page.proofs.CountedKeys.{by-oldest}
 use Rattle.policy_page.proofs.Weights.{weight, length-weight, times-weight, weight-append, weight-push, weight-first, weight-without, weight-out, weight-renewed, hit-moves, miss-moves, has-append}
-use Rattle.policy_page.proofs.Ghost.{without-none}
+use Rattle.policy_page.proofs.Ghost.{without-none, without-both}
 use Rattle.arc.proofs.Cases.{new-cases, replace-cases}
 
 -- what the four queues weigh
@@ -176,17 +176,16 @@ module _ (c k : ℕ) (h : 1 ≤ c) (s : ArcState) (i : IsArc c s) where
     miss : IsNext c k s (arc_outcome (arc_plan c k s).leaver, arc_after_miss c k (arc_plan c k s) s)
     miss =
         let d = i.distinct k in let once = i.l1_fits in
-        let out = λ (f : ℕ → ℕ) (l : List ℕ) (n : times k l ≤ 1). weight-without f k l n in
         elim (cases_Bool (has_key k s.b1)) as (λ _. IsNext c k s (arc_outcome (arc_plan c k s).leaver, arc_after_miss c k (arc_plan c k s) s)) [
           | inl e ↦
               let some : 1 ≤ length s.b1 = has-length k s.b1 e in
               rw e (recalled InB1 false (omega (arith, some)) (inr (omega (arith, some, once))) (λ n. refl)
-              (λ f. omega (arith, weight-out f k s.b1 (omega (arith, d)) e, out f s.b2 (omega (arith, d)))))
+              (λ f. omega (arith, without-both f k s.b1 s.b2 (omega (arith, d, times-some k s.b1 e)))))
           | inr e ↦ rw e (elim (cases_Bool (has_key k s.b2)) [
             | inl f ↦
                 let some : 1 ≤ length s.b2 = has-length k s.b2 f in
                 rw f (recalled InB2 true (omega (arith, some)) (inl refl) (λ n. refl)
-                (λ g. omega (arith, weight-out g k s.b2 (omega (arith, d)) f, out g s.b1 (omega (arith, d)))))
+                (λ g. omega (arith, without-both g k s.b1 s.b2 (omega (arith, d, times-some k s.b2 f)))))
             | inr f ↦ rw f (new e f)
           ])
         ]

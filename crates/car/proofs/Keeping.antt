@@ -1,45 +1,31 @@
 -- CAR: what an access makes of the residents, and that it keeps the invariant.
-use Rattle.std.proofs.Common.{◌≡◌, ℕ, zero, suc, ◌+◌, ◌-◌, ◌*◌, ◌<◌, ◌≤◌, ◌⊎◌, Bool, true, false, cond, eqb, max, nat_lt, List, [], ◌∷◌, ◌++◌, length, drop, ap, sym, subst, ◌∙◌, refl, arith, inl, inr, length-append}
-use Rattle.std.proofs.lemmas.Bool.{cases_Bool, cases_eq, cases_lt, cond_both, eqb-true, eqb-false, ltb-true, ltb-false, le-ltb, lt-ltb}
+use Rattle.std.proofs.Common.{◌≡◌, ℕ, zero, suc, ◌+◌, ◌*◌, ◌<◌, ◌≤◌, true, false, cond, eqb, max, nat_lt, List, [], ◌∷◌, ◌++◌, length, drop, ap, sym, subst, ◌∙◌, refl, arith, inl, inr, length-append}
+use Rattle.std.proofs.lemmas.Bool.{cases_Bool, cases_eq, cases_lt, cond_both, eqb-true, eqb-false, ltb-true, ltb-false, le-ltb}
 use Rattle.std.proofs.lemmas.Bool.Decides.{nat_tests}
 use Rattle.engine_base.specs.Keys.{has_key, keys_without}
 use Rattle.engine_base.specs.Stats.{is_hit, is_eviction, is_rejection, one_if}
 use Rattle.engine_base.specs.declared.outcome.Outcome.TheVariants.{Hit, Kept, Evicted}
-use Rattle.policy_page.specs.Residents.{Outcome, times, keys_evicted, IsAccess, AreResidents, KeepsResidents}
-use Rattle.policy_page.specs.CountedKeys.{CountedKey, uncounted_key, counted_less, keys_of, with_count, AreCounted}
+use Rattle.policy_page.specs.Residents.{Outcome, times, keys_evicted, IsAccess, KeepsResidents}
+use Rattle.policy_page.specs.CountedKeys.{CountedKey, uncounted_key, keys_of, with_count, AreCounted}
 use Rattle.policy_page.specs.Turns.{after_turn}
-use Rattle.policy_page.proofs.Residents.{times-none, times-some, no-times}
-use Rattle.policy_page.proofs.CountedKeys.{keys-append, length-keys, keys-with, counted-append, counted-with}
+use Rattle.policy_page.proofs.Residents.{times-none, times-some}
+use Rattle.policy_page.proofs.CountedKeys.{length-keys, keys-with, counted-append, counted-with}
 use Rattle.policy_page.proofs.Turns.{turned-counted}
-use Rattle.policy_page.proofs.Weights.{weight, length-weight, times-weight, weight-append, weight-push, weight-without, hit-moves, miss-moves, has-append}
-use Rattle.policy_page.proofs.Ghost.{without-length}
-use Rattle.car.specs.Car.{CarState, empty_car, car_residents, car_total, t2_gives, after_promotion, after_move, is_settled, t1_eviction, t2_eviction, car_departure, car_eviction_within, most_moves, car_eviction, CarGhost, NoGhost, InB1, InB2, car_ghost, after_history, car_room, after_recall, after_join, car_act, IsCar}
+use Rattle.policy_page.proofs.Weights.{weight, length-weight, times-weight, weight-push, total_weight, length-total, total-append, total-push, total-turned, hit-moves, miss-moves}
+use Rattle.policy_page.proofs.Ghost.{without-length, without-both}
+use Rattle.car.specs.Car.{CarState, empty_car, car_residents, car_total, t2_gives, after_promotion, after_move, is_settled, t1_eviction, t2_eviction, car_departure, car_eviction_within, most_moves, car_eviction, CarGhost, NoGhost, car_ghost, after_history, car_room, after_recall, after_join, car_act, IsCar}
 
 -- ---- weights
 
--- what the keys of a queue weigh
-abbrev pub heavy : (ℕ → ℕ) → List CountedKey → ℕ
-heavy f l = weight f (keys_of l)
-
-pub long : (l : List CountedKey) → heavy (λ _. 1) l ≡ length l
-long l = sym (length-weight (keys_of l)) ∙ length-keys l
-
-pub heavy-push : (f : ℕ → ℕ) (l : List CountedKey) (e : CountedKey) → heavy f (l ++ e ∷ []) ≡ heavy f l + f e.key
-heavy-push f l e = ap (weight f) (keys-append l (e ∷ [])) ∙ weight-push f (keys_of l) e.key
-
-heavy-turn : (f : ℕ → ℕ) (l : List CountedKey) → heavy f (after_turn l) ≡ heavy f l
-heavy-turn f [] = refl
-heavy-turn f (e ∷ l) = omega (arith, heavy-push f l (counted_less e))
-
 -- of the residents, of the ghosts
 abbrev pub held : (ℕ → ℕ) → CarState → ℕ
-held f s = heavy f s.t1 + heavy f s.t2
+held f s = total_weight f s.t1 + total_weight f s.t2
 
 abbrev pub ghosts : (ℕ → ℕ) → CarState → ℕ
 ghosts f s = weight f s.b1 + weight f s.b2
 
 pub held-is : (f : ℕ → ℕ) (s : CarState) → weight f (car_residents s) ≡ held f s
-held-is f s = ap (weight f) (keys-append s.t1 s.t2) ∙ weight-append f (keys_of s.t1) (keys_of s.t2)
+held-is f s = total-append f s.t1 s.t2
 
 pub many : (s : CarState) → length (car_residents s) ≡ length s.t1 + length s.t2
 many s = length-keys (s.t1 ++ s.t2) ∙ length-append s.t1 s.t2
@@ -75,34 +61,12 @@ pub record IsMoved (s d : CarState) : Type 0 where
 pub unmoved : (s : CarState) → AreCounted 1 s.t1 → AreCounted 1 s.t2 → IsMoved s s
 unmoved s h g = record { keys = λ f. refl; less = omega arith; bits1 = h; bits2 = g; b1 = refl; b2 = refl; p = refl }
 
-lowered : (e : CountedKey) → e.count ≤ 1 → (counted_less e).count ≤ 1
-lowered e h = omega (arith, h)
-
 module _ (s : CarState) where
   pub promoted : (l : List CountedKey) (d : CarState) → d.t1 ≡ l → IsMoved s d → IsMoved s (after_promotion l d)
-  promoted [] d h m = m
-  promoted (e ∷ l) d h m =
-      let bits : AreCounted 1 (e ∷ l) = subst (AreCounted 1) h m.bits1 in
-      record {
-        keys = λ f. omega (arith, m.keys f, heavy-push f d.t2 (counted_less e), ap (heavy f) h);
-        less = omega (arith, m.less, ap (λ (x : List CountedKey). length x) h);
-        bits1 = bits.1;
-        bits2 = counted-append 1 d.t2 (counted_less e ∷ []) m.bits2 (lowered e bits.0, tt);
-        b1 = m.b1;
-        b2 = m.b2;
-        p = m.p;
-      }
+  promoted v d h m = grind (arith, nat_tests, total-push, counted-append)
 
   turned : (d : CarState) → IsMoved s d → IsMoved s (record d { t2 = after_turn d.t2 })
-  turned d m = record {
-    keys = λ f. omega (arith, m.keys f, heavy-turn f d.t2);
-    less = m.less;
-    bits1 = m.bits1;
-    bits2 = turned-counted 1 d.t2 m.bits2;
-    b1 = m.b1;
-    b2 = m.b2;
-    p = m.p;
-  }
+  turned d m = grind (arith, nat_tests, total-turned, turned-counted)
 
   moved : (d : CarState) → IsMoved s d → IsMoved s (after_move d)
   moved d m = cond_both (t2_gives d) _ _ (IsMoved s) (λ e. turned d m) (λ e. promoted d.t1 d refl m)
@@ -123,38 +87,16 @@ pub record HasLeft (s : CarState) (r : Outcome × CarState) : Type 0 where
 module _ (s : CarState) where
   t1-left : (l : List CountedKey) (d : CarState) → d.t1 ≡ l → 1 ≤ length l → IsMoved s d → HasLeft s (t1_eviction l d)
   t1-left [] d h n m = absurd (omega (arith, n))
-  t1-left (e ∷ l) d h n m =
-      let bits : AreCounted 1 (e ∷ l) = subst (AreCounted 1) h m.bits1 in
-      record {
-        key = e.key;
-        outcome = refl;
-        keys = λ f. omega (arith, m.keys f, ap (heavy f) h);
-        remembers = λ f. omega (arith, weight-push f d.b1 e.key, ap (weight f) m.b1, ap (weight f) m.b2);
-        l1 = omega (arith, m.less, ap (λ (x : List CountedKey). length x) h, length-append d.b1 (e.key ∷ []), ap (λ (x : List ℕ). length x) m.b1);
-        bits1 = bits.1;
-        bits2 = m.bits2;
-        p = m.p;
-      }
+  t1-left (e ∷ l) d h n m = search (arith, weight-push, length-append)
 
   t2-left : (l : List CountedKey) (d : CarState) → d.t2 ≡ l → 1 ≤ length l → IsMoved s d → HasLeft s (t2_eviction l d)
   t2-left [] d h n m = absurd (omega (arith, n))
-  t2-left (e ∷ l) d h n m =
-      let bits : AreCounted 1 (e ∷ l) = subst (AreCounted 1) h m.bits2 in
-      record {
-        key = e.key;
-        outcome = refl;
-        keys = λ f. omega (arith, m.keys f, ap (heavy f) h);
-        remembers = λ f. omega (arith, weight-push f d.b2 e.key, ap (weight f) m.b1, ap (weight f) m.b2);
-        l1 = omega (arith, m.less, ap (λ (x : List ℕ). length x) m.b1);
-        bits1 = m.bits1;
-        bits2 = bits.1;
-        p = m.p;
-      }
+  t2-left (e ∷ l) d h n m = search (arith, weight-push)
 
   module _ (some : 1 ≤ length s.t1 + length s.t2) (fits : s.p ≤ length s.t1 + length s.t2) where
     departs : (d : CarState) → IsMoved s d → HasLeft s (car_departure d)
     departs d m =
-        let same : length d.t1 + length d.t2 ≡ length s.t1 + length s.t2 = omega (arith, m.keys (λ _. 1), long) in
+        let same : length d.t1 + length d.t2 ≡ length s.t1 + length s.t2 = omega (arith, m.keys (λ _. 1), length-total) in
         cond_both (t2_gives d) _ _ (HasLeft s)
         (λ e. let low = ltb-true (length d.t1) (max 1 d.p) e in t2-left d.t2 d refl (omega (arith, low, same, some, fits, m.p)) m)
         (λ e. let high = ltb-false (length d.t1) (max 1 d.p) e in t1-left d.t1 d refl (omega (arith, high)) m)
@@ -165,26 +107,6 @@ module _ (s : CarState) where
 
     pub evicted : AreCounted 1 s.t1 → AreCounted 1 s.t2 → HasLeft s (car_eviction s)
     evicted h g = within (most_moves s) s (unmoved s h g)
-
--- ---- a key that a ghost remembers leaves it
-
-pub without-both : (f : ℕ → ℕ) (k : ℕ) (a b : List ℕ) → times k a + times k b ≡ 1 → weight f (keys_without k a) + weight f (keys_without k b) + f k ≡ weight f a + weight f b
-without-both f k a b h =
-    elim (cases_Bool (has_key k a)) [
-      | inl e ↦
-          let out = rw e at (weight-without f k a (omega (arith, h))) in
-          let other : times k b ≤ 0 = omega (arith, h, times-some k a e) in
-          let none = rw (no-times k b other) at (weight-without f k b (omega (arith, h))) in
-          omega (arith, out, none)
-      | inr e ↦
-          let none = rw e at (weight-without f k a (omega (arith, h))) in
-          let there : has_key k b ≡ true = elim (cases_Bool (has_key k b)) [
-            | inl g ↦ g
-            | inr g ↦ absurd (omega (arith, h, times-none k a e, times-none k b g))
-          ] in
-          let out = rw there at (weight-without f k b (omega (arith, h))) in
-          omega (arith, out, none)
-    ]
 
 -- ---- an access
 
@@ -214,22 +136,10 @@ module _ (c k : ℕ) (some : 1 ≤ c) (s : CarState) (i : IsCar c s) where
   -- bits are set, and keys stay where they are
   hit : has_key k (car_residents s) ≡ true → IsNext c k s (Hit, record s { t1 = with_count k 1 s.t1; t2 = with_count k 1 s.t2 })
   hit e =
-      let same1 = keys-with k 1 s.t1 in
-      let same2 = keys-with k 1 s.t2 in
-      let long1 : length (with_count k 1 s.t1) ≡ length s.t1 = sym (length-keys (with_count k 1 s.t1)) ∙ ap (λ (l : List ℕ). length l) same1 ∙ length-keys s.t1 in
-      let long2 : length (with_count k 1 s.t2) ≡ length s.t2 = sym (length-keys (with_count k 1 s.t2)) ∙ ap (λ (l : List ℕ). length l) same2 ∙ length-keys s.t2 in
-      let fits = i.fits in let l1 = i.l1_fits in let all = i.all_fit in let full = i.full in
+      let long : (l : List CountedKey) → length (with_count k 1 l) ≡ length l = λ l. sym (length-keys (with_count k 1 l)) ∙ ap (λ (x : List ℕ). length x) (keys-with k 1 l) ∙ length-keys l in
       record {
-        access = hit-moves c k (car_residents s) _ e (λ f. held-is f (record s { t1 = with_count k 1 s.t1; t2 = with_count k 1 s.t2 }) ∙ rw (same1, same2) (sym (held-is f s)));
-        state = record {
-          fits = omega (arith, fits, long1, long2);
-          l1_fits = omega (arith, l1, long1);
-          all_fit = omega (arith, all, long1, long2);
-          full = λ n. omega (arith, full n, long1, long2);
-          p_fits = i.p_fits;
-          bits = (counted-with 1 k 1 s.t1 (omega arith) i.bits.0, counted-with 1 k 1 s.t2 (omega arith) i.bits.1);
-          distinct = λ x. rw (same1, same2) (i.distinct x);
-        };
+        access = hit-moves c k (car_residents s) _ e (λ f. held-is f (record s { t1 = with_count k 1 s.t1; t2 = with_count k 1 s.t2 }) ∙ rw (keys-with k 1 s.t1, keys-with k 1 s.t2) (sym (held-is f s)));
+        state = grind (arith, nat_tests, long, counted-with, keys-with);
       }
 
   module _ (absent : has_key k (car_residents s) ≡ false) where
@@ -247,21 +157,13 @@ module _ (c k : ℕ) (some : 1 ≤ c) (s : CarState) (i : IsCar c s) where
         let distinct : (x : ℕ) → held (one_of x) d + ghosts (one_of x) d ≤ 1 = λ x. omega (arith, m.keys (one_of x), m.remembers (one_of x), i.distinct x, total-times x) in
         let once : times k d.b1 + times k d.b2 ≡ 1 = omega (arith, there, m.remembers (one_of k), distinct k, times-weight) in
         let out : (f : ℕ → ℕ) → weight f (keys_without k d.b1) + weight f (keys_without k d.b2) + f k ≡ ghosts f d = λ f. without-both f k d.b1 d.b2 once in
-        let joined : (f : ℕ → ℕ) → held f (after_recall p k d) ≡ held f d + f k = λ f. omega (arith, heavy-push f d.t2 (uncounted_key k)) in
+        let joined : (f : ℕ → ℕ) → held f (after_recall p k d) ≡ held f d + f k = λ f. omega (arith, total-push f d.t2 (uncounted_key k)) in
         let less : length (keys_without k d.b1) ≤ length d.b1 = without-length k d.b1 in
         record {
           access = miss-moves c k (car_residents s) (car_residents (after_recall p k d)) r.0 absent (ap is_hit m.outcome) (ap is_rejection m.outcome)
               (ap is_eviction m.outcome ∙ rw (le-ltb (length (car_residents s)) c (omega (arith, full, many s))) refl)
               (λ f. omega (arith, ap (λ o. weight f (keys_evicted o)) m.outcome, held-is, joined f, m.keys f));
-          state = record {
-            fits = omega (arith, joined (λ _. 1), m.keys (λ _. 1), full, long);
-            l1_fits = omega (arith, less, m.l1, i.l1_fits);
-            all_fit = omega (arith, joined (λ _. 1), m.keys (λ _. 1), m.remembers (λ _. 1), out (λ _. 1), i.all_fit, long, length-weight);
-            full = λ n. omega (arith, joined (λ _. 1), m.keys (λ _. 1), full, long);
-            p_fits = fits;
-            bits = (m.bits1, counted-append 1 d.t2 (uncounted_key k ∷ []) m.bits2 (omega arith, tt));
-            distinct = λ x. omega (arith, joined (one_of x), out (one_of x), distinct x, times-weight);
-          };
+          state = search (arith, joined, out, distinct, without-length, counted-append, length-total, length-weight, times-weight);
         }
 
     -- ---- a new key
@@ -280,21 +182,11 @@ module _ (c k : ℕ) (some : 1 ≤ c) (s : CarState) (i : IsCar c s) where
 
       joined : (r : Outcome × CarState) → HasRoom c s r → IsNext c k s (r.0, record r.1 { t1 = r.1.t1 ++ uncounted_key k ∷ [] })
       joined r m =
-          let d : CarState = r.1 in
-          let t : CarState = record d { t1 = d.t1 ++ uncounted_key k ∷ [] } in
-          let more : (f : ℕ → ℕ) → held f t ≡ held f d + f k = λ f. omega (arith, heavy-push f d.t1 (uncounted_key k)) in
-          let longer : length t.t1 ≡ length d.t1 + 1 = length-append d.t1 (uncounted_key k ∷ []) in
+          let t : CarState = record r.1 { t1 = r.1.t1 ++ uncounted_key k ∷ [] } in
+          let more : (f : ℕ → ℕ) → held f t ≡ held f r.1 + f k = λ f. omega (arith, total-push f r.1.t1 (uncounted_key k)) in
           record {
             access = miss-moves c k (car_residents s) (car_residents t) r.0 absent m.misses m.keeps m.evicts (λ f. omega (arith, m.moves f, more f, held-is));
-            state = record {
-              fits = omega (arith, m.fits, longer);
-              l1_fits = omega (arith, m.l1_fits, longer);
-              all_fit = omega (arith, m.all_fit, longer);
-              full = λ n. omega (arith, m.full n, longer);
-              p_fits = m.p_fits;
-              bits = (counted-append 1 d.t1 (uncounted_key k ∷ []) m.bits1 (omega arith, tt), m.bits2);
-              distinct = λ x. omega (arith, more (one_of x), m.grows (one_of x), once x, times-weight);
-            };
+            state = search (arith, more, length-append, counted-append, once, times-weight);
           }
 
       -- a key left, and ghosts became b1 and b2
@@ -303,29 +195,15 @@ module _ (c k : ℕ) (some : 1 ≤ c) (s : CarState) (i : IsCar c s) where
           → length r.1.t1 + length b1 + 1 ≤ c → length r.1.t1 + length r.1.t2 + length b1 + length b2 + 1 ≤ 2 * c
           → HasRoom c s (r.0, record r.1 { b1 = b1; b2 = b2 })
       forgotten r b1 b2 m full less1 less2 l1 all =
-          let gone : length r.1.t1 + length r.1.t2 + 1 ≡ c = omega (arith, m.keys (λ _. 1), long, full) in
-          let p = m.p in let p_fits = i.p_fits in
-          record {
-            misses = ap is_hit m.outcome;
-            keeps = ap is_rejection m.outcome;
-            evicts = ap is_eviction m.outcome ∙ rw (le-ltb (length (car_residents s)) c (omega (arith, full, many s))) refl;
-            moves = λ f. omega (arith, m.keys f, ap (λ o. weight f (keys_evicted o)) m.outcome);
-            grows = λ f. omega (arith, less1 f, less2 f, m.keys f, m.remembers f);
-            l1_fits = l1;
-            all_fit = all;
-            fits = omega (arith, gone);
-            full = λ n. gone;
-            p_fits = omega (arith, p, p_fits);
-            bits1 = m.bits1;
-            bits2 = m.bits2;
-          }
+          let gone : length r.1.t1 + length r.1.t2 + 1 ≡ c = omega (arith, m.keys (λ _. 1), length-total, full) in
+          search (arith, le-ltb, many)
 
       history : (r : Outcome × CarState) → HasLeft s r → length s.t1 + length s.t2 ≡ c → HasRoom c s (r.0, after_history c NoGhost r.1)
       history r m full =
           let d : CarState = r.1 in
-          let gone : length d.t1 + length d.t2 + 1 ≡ c = omega (arith, m.keys (λ _. 1), long, full) in
+          let gone : length d.t1 + length d.t2 + 1 ≡ c = omega (arith, m.keys (λ _. 1), length-total, full) in
           let l1 : length d.t1 + length d.b1 ≤ c = omega (arith, m.l1, i.l1_fits) in
-          let all : car_total d ≤ 2 * c = omega (arith, m.keys (λ _. 1), m.remembers (λ _. 1), i.all_fit, long, length-weight) in
+          let all : car_total d ≤ 2 * c = omega (arith, m.keys (λ _. 1), m.remembers (λ _. 1), i.all_fit, length-total, length-weight) in
           let P : CarState → Type 0 = λ t. HasRoom c s (r.0, t) in
           cond_both (eqb (length d.t1 + length d.b1) c) _ _ P
           (λ e.
@@ -381,20 +259,7 @@ module _ (c k : ℕ) (some : 1 ≤ c) (s : CarState) (i : IsCar c s) where
                   let low = ltb-true (length (car_residents s)) c h in
                   let few : length s.t1 + length s.t2 < c = omega (arith, low, many s) in
                   let empty : length s.b1 + length s.b2 < 1 = no-ghosts few in
-                  rw h (joined e g (Kept, s) record {
-                    misses = refl;
-                    keeps = refl;
-                    evicts = rw h refl;
-                    moves = λ f. omega arith;
-                    grows = λ f. omega arith;
-                    l1_fits = omega (arith, few, empty);
-                    all_fit = omega (arith, few, empty);
-                    fits = omega (arith, few);
-                    full = λ n. absurd (omega (arith, n, empty));
-                    p_fits = i.p_fits;
-                    bits1 = i.bits.0;
-                    bits2 = i.bits.1;
-                  })
+                  rw h (joined e g (Kept, s) (grind (arith, nat_tests)))
               | inr h ↦
                   let high = ltb-false (length (car_residents s)) c h in
                   let fits = i.fits in

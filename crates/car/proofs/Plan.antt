@@ -1,17 +1,16 @@
 -- CAR's plan is its definition.
 use Rattle.std.proofs.lemmas.Bool.Decides.{nat_tests}
-use Rattle.std.proofs.Common.{◌≡◌, ℕ, zero, suc, ◌+◌, ◌-◌, ◌*◌, ◌/◌, ◌<◌, ◌≤◌, min, max, Bool, true, false, cond, eqb, ◌||◌, ◌==◌, nat_lt, if◌then◌else◌, Option, Some, None, List, [], ◌∷◌, ◌++◌, map, length, take, drop, append-nil, ap, ◌∙◌, sym, subst, refl, arith, inl, inr, ◌⊎◌, length-append}
-use Rattle.std.proofs.lemmas.Bool.{cases_Bool, cases_lt, cond_both, eq-eqb, ne_eqb, eqb-true, eqb-false, ltb-true, ltb-false, lt-ltb, le-ltb}
-use Rattle.engine_base.specs.Keys.{has_key, keys_without}
-use Rattle.engine_base.specs.declared.outcome.Outcome.TheVariants.{Hit, Kept, Evicted}
-use Rattle.queue_table.specs.Entries.{Item, entry, oldest_of, occurrences, entries_counted, entries_without}
-use Rattle.queue_table.specs.Queues.{QUEUES, Queues, with_queue, queue_holding, after_push, after_send, after_count}
+use Rattle.std.proofs.Common.{◌≡◌, ℕ, zero, suc, ◌+◌, ◌-◌, ◌*◌, ◌<◌, ◌≤◌, max, Bool, true, false, cond, eqb, ◌==◌, nat_lt, if◌then◌else◌, Option, Some, None, List, [], ◌∷◌, ◌++◌, length, drop, ap, ◌∙◌, sym, subst, refl, arith, inl, inr, length-append}
+use Rattle.std.proofs.lemmas.Bool.{cases_Bool, cond_both, ne_eqb, ltb-true, ltb-false, lt-ltb, le-ltb}
+use Rattle.engine_base.specs.Keys.{has_key}
+use Rattle.queue_table.specs.Entries.{Item, entry, oldest_of, occurrences, entries_counted}
+use Rattle.queue_table.specs.Queues.{QUEUES, Queues, with_queue, queue_holding, after_send}
 use Rattle.queue_table.proofs.QueueLists.{IsAbsent, is_absent, absent, queue-few, without-none as entries-none}
-use Rattle.queue_moves.specs.Moves.{Entry, item_of, standing, count_or, turns_due, after_turn, after_turns, after_run, Leaving, leaving, after_leaving, IsLowLeaving, departed, evicted, outcome_after, Own, counts, goes, Plan, own_plan, IsLowOwn, IsLowPlan, no_run}
-use Rattle.queue_moves.specs.Tabled.{IsTabled, keys_of, nodes_of, lowered_entry, StandsAs}
+use Rattle.queue_moves.specs.Moves.{Entry, item_of, standing, count_or, turns_due, after_turn, after_turns, after_run, Leaving, after_leaving, IsLowLeaving, outcome_after, Own, counts, goes, Plan, own_plan, IsLowOwn, IsLowPlan, after_runs}
+use Rattle.queue_moves.specs.Tabled.{IsTabled, keys_of, lowered_entry, StandsAs}
 use Rattle.queue_moves.specs.declared.records.Left.{Left}
 use Rattle.queue_moves.specs.Undoing.{outs, IsRun, IsLeft}
-use Rattle.queue_moves.proofs.Tabled.{keys-append, absent-gone, stands, stands-nowhere, tabled-leaving, tabled-turn, tabled-turns, turn-is, oldest-gone, elsewhere, has-occurs}
+use Rattle.queue_moves.proofs.Tabled.{keys-append, absent-gone, stands, stands-nowhere, tabled-leaving, tabled-runs, tabled-turn, tabled-turns, turn-is, elsewhere, has-occurs}
 use Rattle.policy_page.specs.Residents.{Outcome}
 use Rattle.policy_page.specs.CountedKeys as counted
 use Rattle.policy_page.specs.CountedKeys.{CountedKey, AreCounted, total_count, oldest_count, uncounted_key, counted_less, with_count}
@@ -19,17 +18,18 @@ use Rattle.policy_page.specs.Turns as page
 use Rattle.policy_page.specs.Counted.{counted_key, counted_keys}
 use Rattle.policy_page.specs.Planned.{IsPlannedBy}
 use Rattle.policy_page.specs.Misses.{Run}
-use Rattle.policy_page.specs.PolicyPage.{LeavesNone, LeavesWhere, IsPlannedPage, IsSoundPage}
-use Rattle.policy_page.proofs.CountedKeys.{total-append, keys-with}
+use Rattle.policy_page.specs.PolicyPage.{LeavesWhere, IsPlannedPage, IsSoundPage}
+use Rattle.policy_page.proofs.CountedKeys.{total-append, total-few, keys-with}
+use Rattle.policy_page.proofs.Weights.{length-total}
 use Rattle.policy_page.proofs.Counted.{counted-append, length-counted, oldest-counted, keys-counted, both-counted, counted-with, has-both, turns-are, turns-keep}
-use Rattle.policy_page.proofs.Moving.{length-keys, nowhere, own-low, AreLow, without-keys, held}
-use Rattle.policy_page.proofs.Leaving.{any-out, off-run, none-left, still-absent, HitsAlone, own-alone, never, either, one-of, own-none, both-length, not-less}
-use Rattle.car.specs.Car.{CarState, car_residents, car_total, t2_gives, after_promotion, after_move, is_settled, t1_eviction, t2_eviction, car_departure, car_eviction_within, most_moves, car_eviction, CarGhost, NoGhost, InB1, InB2, car_ghost, after_history, car_room, after_recall, after_join, car_act, IsCar}
-use Rattle.car.specs.Plan.{T1, T2, B1, B2, car_of, total, promotions, after_promotions, giver, ghost_of, giver_turns, after_giver_turns, leaver, after_departure, after_replacing, forgotten, step_size, target_after, full_plan, new_key_plan, recall_plan, is_resident, plan_at, car_page}
+use Rattle.policy_page.proofs.Moving.{length-keys, nowhere, own-low, without-keys, held}
+use Rattle.policy_page.proofs.Leaving.{by-departure, any-out, off-run, off-first, absent-first, still-absent, HitsAlone, own-alone, never, either, one-of, own-none, both-length, not-less}
+use Rattle.car.specs.Car.{CarState, car_residents, car_total, t2_gives, after_promotion, is_settled, t1_eviction, t2_eviction, car_departure, car_eviction_within, most_moves, car_eviction, NoGhost, InB1, InB2, after_history, after_recall, after_join, car_act, IsCar}
+use Rattle.car.specs.Plan.{T1, T2, B1, B2, car_of, total, promotions, after_promotions, giver, ghost_of, giver_turns, after_giver_turns, leaver, after_departure, after_replacing, forgotten, target_after, full_plan, new_key_plan, recall_plan, is_resident, plan_at, car_page}
 use Rattle.car.specs.Step.{IsReplaced}
 use Rattle.car.specs.declared.Replaced.{Replaced}
 use Rattle.car.proofs.Keeping as page_of
-use Rattle.car.proofs.Keeping.{IsMoved, unmoved, long, many, keeps}
+use Rattle.car.proofs.Keeping.{IsMoved, unmoved, keeps}
 
 -- ---- the state, queue by queue
 
@@ -59,11 +59,6 @@ t2-turns (suc n) d g =
     same-rest [] = refl
     same-rest (e ∷ l) = refl
 
--- bits are at most 1
-total-few : (l : List CountedKey) → AreCounted 1 l → total_count l ≤ length l
-total-few [] h = omega arith
-total-few (e ∷ l) h = let rest = total-few l h.1 in let own = h.0 in omega (arith, rest, own)
-
 -- ---- the promotions
 
 module _ (c p : ℕ) (v : CarState) (fits : length v.t1 + length v.t2 ≤ c) where
@@ -80,30 +75,19 @@ module _ (c p : ℕ) (v : CarState) (fits : length v.t1 + length v.t2 ≤ c) whe
     pub moved : IsMoved v (car_of p a)
     pub clear : t2_gives (car_of p a) ≡ false → oldest_count (counted_keys (a T1)) ≡ 0
 
+  settled : (n : ℕ) (d : CarState) → is_settled d ≡ true → car_eviction_within n d ≡ car_departure d
+  settled v d h = grind (arith, nat_tests)
+
   stays : (n : ℕ) (s : Queues) → IsTabled s → IsMoved v (car_of p s) → most_moves (car_of p s) ≤ n → (t2_gives (car_of p s) ≡ false → oldest_count (counted_keys (s T1)) ≡ 0) → IsPromoted n s s
-  stays n s t m enough clear = record { comes = at; moved = m; clear = clear }
-    where
-      few : total_count (counted_keys (s T2)) ≤ c
-      few = let same = m.keys (λ _. 1) in omega (arith, same, fits, long, total-few (counted_keys (s T2)) m.bits2)
-
-      settled : (n : ℕ) → is_settled (car_of p s) ≡ true → car_eviction_within n (car_of p s) ≡ car_departure (car_of p s)
-      settled zero e = refl
-      settled (suc n) e = rw e refl
-
-      at : car_eviction_within n (car_of p s) ≡ last_eviction s
-      at = elim (cases_Bool (t2_gives (car_of p s))) [
-        | inl g ↦ t2-turns n (car_of p s) g ∙ rw g (ap (λ l. t2_eviction l (car_of p s)) (sym (turns-are T2 c n s (omega arith) t few (omega (arith, enough)))))
-        | inr g ↦ settled n (rw g (eq-eqb (oldest_count (counted_keys (s T1))) 0 (clear g))) ∙ rw g refl
-      ]
+  stays n s t m enough clear = grind (arith, nat_tests, cases_Bool, t2-turns, turns-are, total-few 1, length-counted, length-total, settled)
 
   one-promoted : (s : Queues) → IsTabled s → (e : Entry) (l : List Entry) → s T1 ≡ e ∷ l → car_of p (after_turn T1 T2 1 s) ≡ after_promotion (counted_keys (s T1)) (car_of p s)
   one-promoted s t e l h = grind (arith, nat_tests, turn-is s t T1 T2 1 e l h, counted-append (s T2) (lowered_entry 1 e ∷ []))
 
   pub promotes : (m n : ℕ) (s : Queues) (l : List Entry) → IsTabled s → s T1 ≡ l → length (s T1) + 1 - max 1 p ≡ m → most_moves (car_of p s) ≤ n → IsMoved v (car_of p s)
       → IsPromoted n s (after_turns (turns_due m T1 T2 1 1 s) T1 T2 1 s)
-  promotes zero n s l t h room enough moved =
-      stays n s t moved enough (λ g. absurd (let high = ltb-false (length (counted_keys (s T1))) (max 1 p) g in omega (arith, high, room, length-counted (s T1))))
-  promotes (suc m) n s [] t h room enough moved = absurd (let none = ap (λ (x : List Entry). length x) h in omega (arith, none, room))
+  promotes zero n s l t h room enough moved = grind (arith, nat_tests, stays, length-counted, ltb-false)
+  promotes (suc m) n s [] t h room enough moved = absurd (grind arith)
   promotes (suc m) zero s (e ∷ l) t h room enough moved =
       elim (cases_Bool (nat_lt (count_or 0 (oldest_of (s T1))) 1)) [
         | inl f ↦ rw f (stays zero s t moved enough (λ g. let low = ltb-true (count_or 0 (oldest_of (s T1))) 1 f in omega (arith, low, oldest-counted (s T1))))
@@ -140,24 +124,14 @@ pub record IsGone (p : ℕ) (u : Queues) (o : Outcome) (r : Outcome × CarState)
   pub state : car_of p u ≡ r.1
 
 sent-t1 : (p : ℕ) (b : Queues) → IsTabled b → IsGone p (after_leaving (leaver T1) b) (outcome_after (leaver T1) b) (t1_eviction (counted_keys (b T1)) (car_of p b))
-sent-t1 p b t = at (b T1) refl
-  where
-    at : (x : List Entry) → b T1 ≡ x → IsGone p (departed (Some (B1, 0)) (oldest_of x) b) (evicted (oldest_of x)) (t1_eviction (counted_keys x) (car_of p b))
-    at [] h = record { outcome = refl; state = same-state (ap counted_keys h) refl refl refl refl }
-    at (y ∷ x) h = record {
-      outcome = refl;
-      state = ap (λ (w : Queues). car_of p (after_push B1 (entry y.item 0) w)) (oldest-gone b t T1 y x h) ∙ same-state refl refl (keys-append (b B1) (entry y.item 0 ∷ [])) refl refl;
-    }
+sent-t1 p b t =
+    by-departure (λ u o x. IsGone p u o (t1_eviction (counted_keys x) (car_of p b))) b t T1 B1
+    (λ h. grind (arith, nat_tests, same-state)) (λ e l h. grind (arith, nat_tests, keys-append, same-state))
 
 sent-t2 : (p : ℕ) (b : Queues) → IsTabled b → IsGone p (after_leaving (leaver T2) b) (outcome_after (leaver T2) b) (t2_eviction (counted_keys (b T2)) (car_of p b))
-sent-t2 p b t = at (b T2) refl
-  where
-    at : (x : List Entry) → b T2 ≡ x → IsGone p (departed (Some (B2, 0)) (oldest_of x) b) (evicted (oldest_of x)) (t2_eviction (counted_keys x) (car_of p b))
-    at [] h = record { outcome = refl; state = same-state refl (ap counted_keys h) refl refl refl }
-    at (y ∷ x) h = record {
-      outcome = refl;
-      state = ap (λ (w : Queues). car_of p (after_push B2 (entry y.item 0) w)) (oldest-gone b t T2 y x h) ∙ same-state refl refl refl (keys-append (b B2) (entry y.item 0 ∷ [])) refl;
-    }
+sent-t2 p b t =
+    by-departure (λ u o x. IsGone p u o (t2_eviction (counted_keys x) (car_of p b))) b t T2 B2
+    (λ h. grind (arith, nat_tests, same-state)) (λ e l h. grind (arith, nat_tests, keys-append, same-state))
 
 -- where the oldest has no count, none turns
 no-turn : (n q : ℕ) (s : Queues) → oldest_count (counted_keys (s q)) ≡ 0 → turns_due n q q 1 1 s ≡ 0
@@ -207,41 +181,37 @@ module _ (c p : ℕ) (s : Queues) (t : IsTabled s) (i : IsCar c (car_of p s)) wh
       same-eviction [] d e h1 h2 h3 h4 = cc
       same-eviction (y ∷ l) d e h1 h2 h3 h4 = cc
 
--- ---- queues without the key stay so
+-- ---- once a key left
 
-module _ (i : Item) (c p : ℕ) (s : Queues) (off1 : occurrences i (s T1) ≡ 0) (off2 : occurrences i (s T2) ≡ 0) where
-  abbrev early : Queues
-  early = after_promotions p s
+giver-low : (p : ℕ) (s : Queues) → giver p s < 2
+giver-low p s = giver-cases (λ q. q < 2) p s (λ g. omega arith) (λ g. omega arith)
 
-  off-early : (j : ℕ) → occurrences i (s j) ≡ 0 → occurrences i (early j) ≡ 0
-  off-early j z = off-run i (promotions p s) T1 j s early refl refl off1 z
+full-low : (c p x : ℕ) (second : Option Leaving) (own : Own) (s : Queues) → IsLowLeaving second → IsLowOwn own → IsLowPlan (full_plan c p second own x s)
+full-low c p x second own s w h =
+    let q = giver-low p (after_promotions p s) in
+    record { early = (omega arith, omega arith); late = (omega (arith, q), omega (arith, q)); first = (omega (arith, q), omega (arith, q)); second = w; own = h }
 
-  abbrev IsOff : ℕ → Type 0
-  IsOff q = (j : ℕ) → occurrences i (early j) ≡ 0 → occurrences i (after_departure c q early j) ≡ 0
+module _ (c p : ℕ) (s : Queues) where
+  -- a plan by which a key leaves
+  abbrev some_plan : Plan
+  some_plan = full_plan c p None (goes T2 0) p s
 
-  off-given : (q : ℕ) → occurrences i (early q) ≡ 0 → IsOff q
-  off-given q zq j z =
-      let late : Queues = after_giver_turns c q early in
-      let still = λ (m : ℕ) (y : occurrences i (early m) ≡ 0). off-run i (giver_turns c q early) q m early late refl refl zq y in
-      none-left i q (Some (ghost_of q, 0)) late j (still q zq) (still j z)
+  low : IsLowPlan some_plan
+  low = full-low c p p None (goes T2 0) s tt (omega arith)
 
-  pub off-replaced : (j : ℕ) → occurrences i (s j) ≡ 0 → occurrences i (after_replacing c p s j) ≡ 0
-  off-replaced j z = giver-cases IsOff p early (λ g. off-given T2 (off-early T2 off2)) (λ g. off-given T1 (off-early T1 off1)) j (off-early j z)
+  pub tabled-replaced : IsTabled s → IsTabled (after_replacing c p s)
+  tabled-replaced t = tabled-leaving (after_runs some_plan s) (tabled-runs s t some_plan low) some_plan.first low.first
 
--- ---- they stay tabled
+  pub absent-replaced : (i : Item) → IsAbsent i s → IsAbsent i (after_replacing c p s)
+  absent-replaced i h = absent-first i some_plan s low h
 
-module _ (c p : ℕ) (s : Queues) (t : IsTabled s) where
-  tabled-given : (q : ℕ) → q < 2 → IsTabled (after_departure c q (after_promotions p s))
-  tabled-given q w =
+  -- an item of a ghost stays there
+  pub off-replaced : (i : Item) → occurrences i (s T1) ≡ 0 → occurrences i (s T2) ≡ 0 → (j : ℕ) → occurrences i (s j) ≡ 0 → occurrences i (after_replacing c p s j) ≡ 0
+  off-replaced i off1 off2 =
       let a : Queues = after_promotions p s in
-      let a-tabled : IsTabled a = tabled-turns s t (promotions p s).times T1 T2 1 (omega arith) in
-      tabled-leaving (after_giver_turns c q a) (tabled-turns a a-tabled (giver_turns c q a).times q q 1 (omega (arith, w))) (leaver q) (omega (arith, w), omega (arith, w))
-
-  pub giver-low : giver p (after_promotions p s) < 2
-  giver-low = giver-cases (λ q. q < 2) p (after_promotions p s) (λ g. omega arith) (λ g. omega arith)
-
-  pub tabled-replaced : IsTabled (after_replacing c p s)
-  tabled-replaced = tabled-given (giver p (after_promotions p s)) giver-low
+      let q = giver p a in
+      let off : occurrences i (s q) ≡ 0 = giver-cases (λ x. occurrences i (s x) ≡ 0) p a (λ g. off2) (λ g. off1) in
+      off-first i (promotions p s) (giver_turns c q a) q (Some (ghost_of q, 0)) s off1 off off
 
 -- ---- what is forgotten
 
@@ -249,15 +219,7 @@ low-forgotten : (c : ℕ) (u : Queues) → IsLowLeaving (forgotten c u)
 low-forgotten c u = grind (arith, nat_tests)
 
 history : (c p : ℕ) (u : Queues) → IsTabled u → car_of p (after_leaving (forgotten c u) u) ≡ after_history c NoGhost (car_of p u)
-history c p u t =
-    let l1 : length (counted_keys (u T1)) + length (keys_of (u B1)) ≡ length (u T1) + length (u B1) = omega (arith, length-counted (u T1), length-keys (u B1)) in
-    rw (l1, lengths u p) (elim (cases_Bool (eqb (length (u T1) + length (u B1)) c)) [
-      | inl e ↦ rw e (ap (car_of p) (any-out u t B1) ∙ same-state refl refl (keys-drop (u B1)) refl refl)
-      | inr e ↦ rw e (elim (cases_Bool (eqb (total u) (2 * c))) [
-        | inl g ↦ rw g (ap (car_of p) (any-out u t B2) ∙ same-state refl refl refl (keys-drop (u B2)) refl)
-        | inr g ↦ rw g refl
-      ])
-    ])
+history c p u t = grind (arith, nat_tests, length-counted, length-keys, any-out u t, keys-drop)
 
 -- ---- the accessed key
 
@@ -267,17 +229,9 @@ joined k p u t none = ap (λ w. car_of p (with_queue T1 (w T1 ++ entry (item_of 
 
 -- it goes from its ghost to t2
 recalled : (k p : ℕ) (u : Queues) → IsTabled u → occurrences (item_of k) (u T1) ≡ 0 → occurrences (item_of k) (u T2) ≡ 0 → car_of p (after_send (entry (item_of k) 0) T2 u) ≡ after_recall p k (car_of p u)
-recalled k p u t off1 off2 =
-    same-state (ap counted_keys (entries-none (item_of k) (u T1) off1))
-    (ap (λ l. counted_keys (l ++ entry (item_of k) 0 ∷ [])) (entries-none (item_of k) (u T2) off2) ∙ counted-append (u T2) (entry (item_of k) 0 ∷ []))
-    (without-keys k (u B1) (t.keys B1)) (without-keys k (u B2) (t.keys B2)) refl
+recalled k p u t off1 off2 = grind (arith, nat_tests, entries-none, counted-append, without-keys, same-state)
 
 -- ---- an access
-
-full-low : (c p x : ℕ) (second : Option Leaving) (own : Own) (s : Queues) → IsTabled s → IsLowLeaving second → IsLowOwn own → IsLowPlan (full_plan c p second own x s)
-full-low c p x second own s t w h =
-    let q = giver-low c p s t in
-    record { early = (omega arith, omega arith); late = (omega (arith, q), omega (arith, q)); first = (omega (arith, q), omega (arith, q)); second = w; own = h }
 
 module _ (c k p : ℕ) (s : Queues) (t : IsTabled s) (i : IsCar c (car_of p s)) where
   abbrev before : CarState
@@ -292,11 +246,8 @@ module _ (c k p : ℕ) (s : Queues) (t : IsTabled s) (i : IsCar c (car_of p s)) 
   gone : IsGone p u (outcome_after (leaver (giver p (after_promotions p s))) (after_giver_turns c (giver p (after_promotions p s)) (after_promotions p s))) (car_eviction before)
   gone = replaced c p s t i
 
-  has-in : (q : ℕ) (b : Bool) → has_key k (keys_of (s q)) ≡ b → has_key k (counted.keys_of (counted_keys (s q))) ≡ b
-  has-in q b h = ap (has_key k) (keys-counted (s q)) ∙ h
-
   resident : (b1 b2 : Bool) → has_key k (keys_of (s T1)) ≡ b1 → has_key k (keys_of (s T2)) ≡ b2 → has_key k (car_residents before) ≡ cond b1 true b2
-  resident b1 b2 h1 h2 = has-both k (counted_keys (s T1)) (counted_keys (s T2)) ∙ rw (has-in T1 b1 h1, has-in T2 b2 h2) refl
+  resident b1 b2 h1 h2 = grind (arith, nat_tests, has-both, keys-counted)
 
   same-count : length (car_residents before) ≡ length (s T1) + length (s T2)
   same-count = both-length (s T1) (s T2)
@@ -310,12 +261,7 @@ module _ (c k p : ℕ) (s : Queues) (t : IsTabled s) (i : IsCar c (car_of p s)) 
   ghost-stays q low = sym (keys-counted (entries_counted (item_of k) 1 (s q))) ∙ ap counted.keys_of (counted-in q low) ∙ keys-with k 1 (counted_keys (s q)) ∙ keys-counted (s q)
 
   hit : has_key k (car_residents before) ≡ true → IsPlan (own_plan true (counts 1) p)
-  hit there = rw there record {
-    outcome = refl;
-    state = same-state (counted-in T1 (omega arith)) (counted-in T2 (omega arith)) (ghost-stays B1 (omega arith)) (ghost-stays B2 (omega arith)) refl;
-    hits = refl;
-    low = own-low (counts 1) tt;
-  }
+  hit there = grind (arith, nat_tests, same-state, counted-in, ghost-stays, own-low (counts 1) tt)
 
   -- ---- a new key
 
@@ -324,9 +270,7 @@ module _ (c k p : ℕ) (s : Queues) (t : IsTabled s) (i : IsCar c (car_of p s)) 
     off j = (stands-nowhere s t k none j).0
 
     absent-u : IsAbsent (item_of k) u
-    absent-u =
-        let n = nowhere (item_of k) s none in
-        λ q w. off-replaced (item_of k) c p s (n T1 (omega arith)) (n T2 (omega arith)) q (n q w)
+    absent-u = absent-replaced c p s (item_of k) (nowhere (item_of k) s none)
 
     new : IsPlan (new_key_plan c p s)
     new =
@@ -337,7 +281,7 @@ module _ (c k p : ℕ) (s : Queues) (t : IsTabled s) (i : IsCar c (car_of p s)) 
             state = joined k p (after_leaving (forgotten c u) u) (tabled-leaving u (tabled-replaced c p s t) (forgotten c u) (low-forgotten c u)) (still-absent (item_of k) (forgotten c u) u (low-forgotten c u) absent-u)
                 ∙ ap (λ (d : CarState). record d { t1 = d.t1 ++ uncounted_key k ∷ [] }) (history c p u (tabled-replaced c p s t) ∙ ap (after_history c NoGhost) gone.state);
             hits = refl;
-            low = full-low c p p (forgotten c u) (goes T1 0) s t (low-forgotten c u) (omega arith);
+            low = full-low c p p (forgotten c u) (goes T1 0) s (low-forgotten c u) (omega arith);
           }
         ])
 
@@ -360,7 +304,7 @@ module _ (c k p : ℕ) (s : Queues) (t : IsTabled s) (i : IsCar c (car_of p s)) 
     back x =
         let off1 = off-in T1 (omega arith) in
         let off2 = off-in T2 (omega arith) in
-        recalled k x u (tabled-replaced c p s t) (off-replaced (item_of k) c p s off1 off2 T1 off1) (off-replaced (item_of k) c p s off1 off2 T2 off2)
+        recalled k x u (tabled-replaced c p s t) (off-replaced c p s (item_of k) off1 off2 T1 off1) (off-replaced c p s (item_of k) off1 off2 T2 off2)
 
     not-resident : has_key k (car_residents before) ≡ false
     not-resident = resident false false (at.off T1 (λ e. omega (arith, e, high))) (at.off T2 (λ e. omega (arith, e, high)))
@@ -377,7 +321,7 @@ module _ (c k p : ℕ) (s : Queues) (t : IsTabled s) (i : IsCar c (car_of p s)) 
         outcome = gone.outcome;
         state = back B1 n at high (target_after c p true u) ∙ (rw (length-keys (u B1), length-keys (u B2)) refl) ∙ ap (after_join c k InB1) gone.state;
         hits = refl;
-        low = full-low c p (target_after c p true u) None (goes T2 0) s t tt (omega arith);
+        low = full-low c p (target_after c p true u) None (goes T2 0) s tt (omega arith);
       }
   recall (suc (suc (suc zero))) n at high =
       let some_key = some-key B2 n at in
@@ -385,7 +329,7 @@ module _ (c k p : ℕ) (s : Queues) (t : IsTabled s) (i : IsCar c (car_of p s)) 
         outcome = gone.outcome;
         state = back B2 n at high (target_after c p false u) ∙ (rw (length-keys (u B1), length-keys (u B2)) refl) ∙ ap (after_join c k InB2) gone.state;
         hits = refl;
-        low = full-low c p (target_after c p false u) None (goes T2 0) s t tt (omega arith);
+        low = full-low c p (target_after c p false u) None (goes T2 0) s tt (omega arith);
       }
   recall (suc (suc (suc (suc q)))) n at high = absurd (let low = at.low in omega (arith, low))
 
@@ -420,8 +364,7 @@ planned : IsPlannedPage car_page
 planned c k p s some t shown i = (planned-at c k p s t i (standing (item_of k) s) refl, tt)
 
 alone-at : (c p : ℕ) (s : Queues) (at : Option (ℕ × ℕ)) → HitsAlone (plan_at c p at s)
-alone-at c p s None = either (nat_lt (length (s T1) + length (s T2)) c) _ _ (own-alone false _ p) (never _ refl)
-alone-at c p s (Some at) = either (is_resident at.0) _ _ (own-alone true _ p) (never _ refl)
+alone-at c p s v = grind (arith, nat_tests, either, own-alone, never)
 
 pub car-sound : IsSoundPage car_page
 car-sound = record {
@@ -462,17 +405,14 @@ off-both i r s a from after off1 off2 q w = at-giver (λ j. occurrences i (a j) 
 -- ---- what is forgotten
 
 pub forgets-none : (c : ℕ) (s : Queues) → (length (s T1) + length (s B1) ≡ c → ⊥) → (total s ≡ 2 * c → ⊥) → None ≡ forgotten c s
-forgets-none c s e g = rw (ne_eqb (length (s T1) + length (s B1)) c e, ne_eqb (total s) (2 * c) g) refl
+forgets-none c s e g = grind (arith, nat_tests, ne_eqb)
 
 pub replaced-none : (c p : ℕ) (i : Item) (s w : Queues) (r : Replaced) → IsReplaced c p s w r → queue_holding i s ≡ None → queue_holding i w ≡ None
-replaced-none c p i s w r h none =
-    let n = absent i s none in
-    is_absent i w (subst (IsAbsent i) (sym h.left.after) (λ q low. off-replaced i c p s (n T1 (omega arith)) (n T2 (omega arith)) q (n q low)))
+replaced-none c p i s w r h none = is_absent i w (subst (IsAbsent i) (sym h.left.after) (absent-replaced c p s i (absent i s none)))
 
 pub off-ghost : (k q n : ℕ) (s : Queues) → IsTabled s → standing (item_of k) s ≡ Some (q, n) → is_resident q ≡ false → (occurrences (item_of k) (s T1) ≡ 0) × (occurrences (item_of k) (s T2) ≡ 0)
 off-ghost k q n s t h f =
-    let at = stands s t k q n h in
-    let some : 1 ≤ occurrences (item_of k) (s q) = ltb-true 0 _ (sym (has-occurs k (s q) (t.keys q)) ∙ at.here) in
+    let some = held k s t (q, n) h in
     (elsewhere s t q (item_of k) some T1 (λ e. absurd (apart T1 e refl)), elsewhere s t q (item_of k) some T2 (λ e. absurd (apart T2 e refl)))
   where
     apart : (j : ℕ) → j ≡ q → is_resident j ≡ true → ⊥

@@ -8,15 +8,11 @@ use Rattle.policy_page.specs.CountedKeys.{CountedKey, keys_of, AreCounted, total
 use Rattle.policy_page.specs.Turns.{turn_count, after_turns}
 use Rattle.clock.specs.Clock.{marked_key, clock_eviction, clock_act, IsClock}
 use Rattle.policy_page.proofs.Residents.{hit-stays, miss-joins, miss-replaces, access-keeps, none-held}
-use Rattle.policy_page.proofs.CountedKeys.{joined-times, joined-length, length-keys, keys-with, counted-append, counted-with}
+use Rattle.policy_page.proofs.CountedKeys.{joined-times, joined-length, length-keys, total-few, keys-with, counted-append, counted-with}
 use Rattle.policy_page.proofs.Turns.{turn-count-few, turns-times, turns-length, turns-counted}
 
-pub counted-total : (queue : List CountedKey) → AreCounted 1 queue → total_count queue ≤ length queue
-counted-total [] h = omega arith
-counted-total (e ∷ l) h = let one : e.count ≤ 1 = h.0 in omega (arith, one, counted-total l h.1)
-
 pub turns_few : (c : ℕ) (queue : List CountedKey) → IsClock c queue → turn_count queue ≤ c
-turns_few c queue s = let fits = s.residents.fits in omega (arith, fits, length-keys queue, counted-total queue s.bits, turn-count-few (total_count queue) queue)
+turns_few c queue s = let fits = s.residents.fits in omega (arith, fits, length-keys queue, total-few 1 queue s.bits, turn-count-few (total_count queue) queue)
 
 -- ---- its residents and bits
 

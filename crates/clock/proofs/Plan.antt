@@ -8,8 +8,8 @@ use Rattle.queue_table.proofs.QueueLists.{IsAbsent, queue-few, without-none}
 use Rattle.policy_page.specs.CountedKeys.{CountedKey, with_count, keys_of, total_count}
 use Rattle.policy_page.specs.Turns.{after_turns as page_turns, turn_count}
 use Rattle.clock.specs.Clock.{marked_key, clock_eviction, IsClock}
-use Rattle.policy_page.proofs.CountedKeys.{length-keys}
-use Rattle.clock.proofs.Keeping.{counted-total, keeps}
+use Rattle.policy_page.proofs.CountedKeys.{length-keys, total-few}
+use Rattle.clock.proofs.Keeping.{keeps}
 use Rattle.queue_moves.specs.Moves.{Entry, item_of, after_turns, turns_due, evicted, departed, leaving, after_leaving, counts}
 use Rattle.queue_moves.specs.Tabled.{IsTabled}
 use Rattle.policy_page.specs.Counted.{counted_keys}
@@ -47,7 +47,7 @@ module _ (c k x : ℕ) (s : Queues) (t : IsTabled s) (first : IsWithin 1 s) (sta
   full = after_turns (turns_due c 0 0 1 1 s) 0 0 1 s
 
   few : total_count (clock_of s) ≤ c
-  few = grind (arith, nat_tests, length-keys (clock_of s), counted-total (clock_of s) state.bits)
+  few = grind (arith, nat_tests, length-keys (clock_of s), total-few 1 (clock_of s) state.bits)
 
   turned-full : counted_keys (full 0) ≡ page_turns (turn_count (clock_of s)) (clock_of s)
   turned-full = turns-are 0 c (total_count (clock_of s)) s (omega arith) t few (omega arith)

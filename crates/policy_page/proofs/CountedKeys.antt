@@ -1,5 +1,6 @@
 -- Keys and counts of a queue.
-use Rattle.std.proofs.Common.{◌≡◌, ℕ, suc, ◌+◌, ◌≤◌, false, if◌then◌else◌, eqb, List, [], ◌∷◌, ◌++◌, length, ap, sym, ◌∙◌, refl, arith, length-append}
+use Rattle.std.proofs.Common.{◌≡◌, ℕ, suc, ◌+◌, ◌*◌, ◌≤◌, false, if◌then◌else◌, eqb, List, [], ◌∷◌, ◌++◌, length, ap, sym, ◌∙◌, refl, arith, length-append}
+use Rattle.std.proofs.Math.Nat.{suc-mul}
 use Rattle.std.proofs.lemmas.Bool.{cases_Bool}
 use Rattle.std.proofs.lemmas.Bool.Decides.{nat_tests}
 use Rattle.engine_base.specs.Keys.{has_key}
@@ -58,6 +59,10 @@ counted-both m k n a b l h = counted-append m (with_count k n a) (with_count k n
 pub total-append : (a b : List CountedKey) → total_count (a ++ b) ≡ total_count a + total_count b
 total-append [] b = omega arith
 total-append (e ∷ a) b = omega (arith, total-append a b)
+
+pub total-few : (m : ℕ) (l : List CountedKey) → AreCounted m l → total_count l ≤ length l * m
+total-few m [] h = omega arith
+total-few m (e ∷ l) h = let own = h.0 in omega (arith, own, total-few m l h.1, suc-mul (length l) m)
 
 -- ---- a count in one of two queues
 

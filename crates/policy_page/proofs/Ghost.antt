@@ -6,7 +6,8 @@ use Rattle.engine_base.specs.Keys.{has_key, keys_without}
 use Rattle.engine_base.specs.Stats.{one_if}
 use Rattle.policy_page.specs.Residents.{Outcome, times, keys_evicted, keys_brought}
 use Rattle.policy_page.specs.Ghost.{ghost_with}
-use Rattle.policy_page.proofs.Residents.{times-append, times-none, brought-few}
+use Rattle.policy_page.proofs.Residents.{times-append, times-none, times-some, no-times, brought-few}
+use Rattle.policy_page.proofs.Weights.{weight, weight-without}
 
 -- ---- a key that left is remembered
 
@@ -44,3 +45,8 @@ pub still-apart : (x k : ℕ) (ghost residents new_ghost new : List ℕ) (o : Ou
     → times x new_ghost ≤ times x (keys_without k ghost) + times x (keys_evicted o) → times x new + times x (keys_evicted o) ≡ times x residents + times x (keys_brought k o)
     → times x new_ghost + times x new ≤ 1
 still-apart x k ghost residents new_ghost new o absent apart grows moves = omega (arith, grows, moves, once x k ghost residents absent apart, brought-few x k o)
+
+-- ---- a key of one of two ghosts leaves it
+
+pub without-both : (f : ℕ → ℕ) (k : ℕ) (a b : List ℕ) → times k a + times k b ≡ 1 → weight f (keys_without k a) + weight f (keys_without k b) + f k ≡ weight f a + weight f b
+without-both f k a b h = grind (arith, nat_tests, weight-without f k a, weight-without f k b, times-none, times-some, no-times)

@@ -8,7 +8,8 @@ use Rattle.queue_table.specs.Queues.{QUEUES, Queues, with_queue, queue_holding, 
 use Rattle.queue_table.proofs.QueueLists.{times-without, IsAbsent, absent, is_absent}
 use Rattle.queue_moves.specs.declared.records.Left.{Left}
 use Rattle.queue_moves.specs.declared.records.Run.{Run}
-use Rattle.queue_moves.specs.Moves.{Entry, turned, after_turn, after_turns, after_run, Leaving, departed, leaving, after_leaving, IsLowLeaving, Own, Plan, own_plan}
+use Rattle.queue_moves.specs.Moves.{Outcome, Entry, turned, after_turn, after_turns, after_run, after_runs, after_first, Leaving, departed, leaving, after_leaving, evicted, outcome_after, IsLowLeaving, IsLowPlan, Own, Plan, own_plan}
+use Rattle.engine_base.specs.declared.outcome.Outcome.TheVariants.{Kept, Evicted}
 use Rattle.queue_moves.specs.Tabled.{IsTabled, keys_of}
 use Rattle.queue_moves.specs.Undoing.{IsLeft, IsRun}
 use Rattle.queue_moves.proofs.Laws.{first-other, off-after-send}
@@ -54,6 +55,16 @@ any-sent s t q to n = at (s q) refl
     at [] h = grind (arith, nat_tests, with-same q s, with-same to s, append-nil (s to))
     at (e ∷ l) h = ap (λ o. departed (Some (to, n)) o s) (ap oldest_of h) ∙ ap (after_push to (entry e.item n)) (oldest-gone s t q e l h) ∙ ap after (sym h)
 
+-- what the queues and the outcome are, by what the queue has, once its oldest left for a ghost
+pub by-departure : (P : Queues → Outcome → List Entry → Type 0) (s : Queues) → IsTabled s → (from to : ℕ) → (s from ≡ [] → P s Kept [])
+    → ((e : Entry) (l : List Entry) → s from ≡ e ∷ l → P (after_push to (entry e.item 0) (with_queue from l s)) (Evicted e.item.key) (e ∷ l))
+    → P (after_leaving (leaving from (Some (to, 0))) s) (outcome_after (leaving from (Some (to, 0))) s) (s from)
+by-departure P s t from to none some = at (s from) refl
+  where
+    at : (l : List Entry) → s from ≡ l → P (departed (Some (to, 0)) (oldest_of l) s) (evicted (oldest_of l)) l
+    at [] h = none h
+    at (e ∷ l) h = subst (λ (u : Queues). P u (Evicted e.item.key) (e ∷ l)) (sym (ap (after_push to (entry e.item 0)) (oldest-gone s t from e l h))) (some e l h)
+
 -- ---- an entry of other queues stays out of those that keys leave
 
 off-turn : (i : Item) (from to less j : ℕ) (s : Queues) → occurrences i (s from) ≡ 0 → occurrences i (s j) ≡ 0 → occurrences i (after_turn from to less s j) ≡ 0
@@ -82,6 +93,15 @@ none-left i from to s j a z = at (oldest_of (s from)) refl
     at None h = z
     at (Some e) h = gone to e (first-other (entry i 0) e (s from) h a)
 
+-- after two runs and a leaver that take from queues without it
+pub off-first : (i : Item) (early late : Run) (from : ℕ) (to : Option (ℕ × ℕ)) (s : Queues) → occurrences i (s early.from) ≡ 0 → occurrences i (s late.from) ≡ 0 → occurrences i (s from) ≡ 0
+    → (j : ℕ) → occurrences i (s j) ≡ 0 → occurrences i (after_leaving (leaving from to) (after_run late (after_run early s)) j) ≡ 0
+off-first i early late from to s off_early off_late off_from j off =
+    let a : Queues = after_run early s in
+    let after_early = λ (q : ℕ) (z : occurrences i (s q) ≡ 0). off-run i early early.from q s a refl refl off_early z in
+    let after_late = λ (q : ℕ) (z : occurrences i (s q) ≡ 0). off-run i late late.from q a (after_run late a) refl refl (after_early late.from off_late) (after_early q z) in
+    none-left i from to (after_run late a) j (after_late from off_from) (after_late j off)
+
 -- ---- an item that stands nowhere still does
 
 pub absent-turns : (i : Item) (n from to less : ℕ) (s : Queues) → from < QUEUES → IsAbsent i s → IsAbsent i (after_turns n from to less s)
@@ -90,6 +110,12 @@ absent-turns i n from to less s w h = λ q v. off-turns i n from to less q s (h 
 pub still-absent : (i : Item) (l : Option Leaving) (s : Queues) → IsLowLeaving l → IsAbsent i s → IsAbsent i (after_leaving l s)
 still-absent i None s w h = h
 still-absent i (Some l) s w h = λ q v. none-left i l.from l.to s q (h l.from w.0) (h q v)
+
+pub absent-first : (i : Item) (p : Plan) (s : Queues) → IsLowPlan p → IsAbsent i s → IsAbsent i (after_first p s)
+absent-first i p s w h =
+    let early = absent-turns i p.early.times p.early.from p.early.to p.early.less s w.early.0 h in
+    let late = absent-turns i p.late.times p.late.from p.late.to p.late.less (after_run p.early s) w.late.0 early in
+    still-absent i p.first (after_runs p s) w.first late
 
 pub absent-left : (i : Item) (l : Option Leaving) (s u : Queues) (r : Left) → IsLowLeaving l → IsLeft l s u r → queue_holding i s ≡ None → queue_holding i u ≡ None
 absent-left i l s u r w left h = is_absent i u (subst (IsAbsent i) (sym left.after) (still-absent i l s w (absent i s h)))

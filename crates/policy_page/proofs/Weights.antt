@@ -7,7 +7,10 @@ use Rattle.engine_base.specs.Keys.{has_key, keys_without}
 use Rattle.engine_base.specs.Stats.{is_hit, is_eviction, is_rejection, one_if}
 use Rattle.engine_base.specs.declared.outcome.Outcome.TheVariants.{Hit, Kept, Evicted, Rejected}
 use Rattle.policy_page.specs.Residents.{Outcome, times, keys_evicted, IsAccess}
+use Rattle.policy_page.specs.CountedKeys.{CountedKey, counted_less, keys_of}
+use Rattle.policy_page.specs.Turns.{after_turn}
 use Rattle.policy_page.proofs.Residents.{no-times}
+use Rattle.policy_page.proofs.CountedKeys.{keys-append, length-keys}
 
 abbrev pub weight : (ℕ → ℕ) → List ℕ → ℕ
 weight f [] = 0
@@ -42,6 +45,24 @@ weight-out f k l d h = rw h at (weight-without f k l d)
 
 pub weight-renewed : (f : ℕ → ℕ) (k : ℕ) (l : List ℕ) → times k l ≤ 1 → has_key k l ≡ true → weight f (keys_without k l ++ k ∷ []) ≡ weight f l
 weight-renewed f k l d h = weight-push f (keys_without k l) k ∙ weight-out f k l d h
+
+-- ---- of a queue of keys with counts
+
+abbrev pub total_weight : (ℕ → ℕ) → List CountedKey → ℕ
+total_weight f l = weight f (keys_of l)
+
+pub length-total : (l : List CountedKey) → length l ≡ total_weight (λ _. 1) l
+length-total l = sym (length-keys l) ∙ length-weight (keys_of l)
+
+pub total-append : (f : ℕ → ℕ) (l m : List CountedKey) → total_weight f (l ++ m) ≡ total_weight f l + total_weight f m
+total-append f l m = ap (weight f) (keys-append l m) ∙ weight-append f (keys_of l) (keys_of m)
+
+pub total-push : (f : ℕ → ℕ) (l : List CountedKey) (e : CountedKey) → total_weight f (l ++ e ∷ []) ≡ total_weight f l + f e.key
+total-push f l e = omega (arith, total-append f l (e ∷ []))
+
+pub total-turned : (f : ℕ → ℕ) (l : List CountedKey) → total_weight f (after_turn l) ≡ total_weight f l
+total-turned f [] = refl
+total-turned f (e ∷ l) = omega (arith, total-push f l (counted_less e))
 
 -- ---- the two ways of an access, by weight
 

@@ -8,7 +8,7 @@ use Rattle.queue_table.specs.Queues.{Queues, with_queue, QUEUES, after_send}
 use Rattle.policy_page.specs.CountedKeys.{CountedKey, AreCounted, total_count, oldest_count, uncounted_key, count_of, with_count}
 use Rattle.policy_page.specs.Turns.{after_turn, turn_count_within, after_turns}
 use Rattle.s3_fifo.specs.S3Fifo.{S3FifoState, s3_fifo_residents, main_gives, after_promotion, is_settled, main_eviction, small_eviction, s3_fifo_departure, s3_fifo_eviction_within, most_moves, without_ghost_key, s3_fifo_main_size, IsS3Fifo, s3_fifo_room, s3_fifo_with_key, hit_count, s3_fifo_act}
-use Rattle.policy_page.proofs.CountedKeys.{length-keys, total-append, keys-times, count-append, keys-with}
+use Rattle.policy_page.proofs.CountedKeys.{length-keys, total-append, total-few, keys-times, count-append, keys-with}
 use Rattle.s3_fifo.proofs.Keeping as page
 use Rattle.s3_fifo.proofs.Keeping.{made, IsMoved, unmoved, join-times, room-made, keeps}
 use Rattle.policy_page.proofs.Turns.{turned-length}
@@ -49,11 +49,6 @@ turns zero size small main ghost g = rw g refl
 turns (suc n) size small main ghost g =
     grind (arith, nat_tests, turned-length, turns n size small (after_turn main) ghost)
 
--- counts are at most 3
-total-few : (l : List CountedKey) → AreCounted 3 l → total_count l ≤ 3 * length l
-total-few [] h = omega arith
-total-few (e ∷ l) h = let rest = total-few l h.1 in let own = h.0 in omega (arith, rest, own)
-
 -- ---- the promotions
 
 -- the eviction, once no promotion is left
@@ -79,12 +74,12 @@ module _ (size k : ℕ) (residents remembered : List ℕ) where
 
   pub promotes : (m n : ℕ) (s : Queues) (small : List Entry) → IsTabled s → s SMALL ≡ small → size + 1 - length (s MAIN) ≡ m → most_moves (state_without k s) ≤ n → IsMoved residents remembered (state_without k s)
       → IsPromoted n s (moves.after_turns (turns_due m SMALL MAIN 0 2 s) SMALL MAIN 0 s)
-  promotes zero n s small t h room many moved = grind (arith, nat_tests, cases_Bool, turns, turns-are, total-few, length-counted, within-settled, ltb-false, or_parts)
-  promotes (suc m) n s [] t h room many moved = grind (arith, nat_tests, cases_Bool, turns, turns-are, total-few, length-counted, within-settled)
+  promotes zero n s small t h room many moved = grind (arith, nat_tests, cases_Bool, turns, turns-are, total-few 3, length-counted, within-settled, ltb-false, or_parts)
+  promotes (suc m) n s [] t h room many moved = grind (arith, nat_tests, cases_Bool, turns, turns-are, total-few 3, length-counted, within-settled)
   promotes (suc m) zero s (e ∷ l) t h room many moved = absurd (let some = ap (λ x. length (counted_keys x)) h in omega (arith, some, many))
   promotes (suc m) (suc n) s (e ∷ l) t h room many moved =
       elim (cases_Bool (nat_lt (count_or 0 (oldest_of (s SMALL))) 2)) [
-        | inl f ↦ rw f (grind (arith, nat_tests, cases_Bool, turns, turns-are, total-few, length-counted, within-settled))
+        | inl f ↦ rw f (grind (arith, nat_tests, cases_Bool, turns, turns-are, total-few 3, length-counted, within-settled))
         | inr f ↦
             let u : Queues = moves.after_turn SMALL MAIN 0 s in
             let main : List CountedKey = counted_keys (s MAIN) in

@@ -1,8 +1,8 @@
-use Rattle.std.proofs.Common.{ap, arith, rules, ◌≡◌, ◌+◌}
+use Rattle.std.proofs.Common.{ap, rules, ◌≡◌}
 use Rattle.queue_table.specs.Queues.{Queues}
 use Rattle.queue_table.specs.QueueTable.{queues}
 use Rattle.queue_table.specs.Entries.{occurrences}
-use Rattle.car.specs.Plan.{Run, T1, T2, promotions, giver_turns}
+use Rattle.car.specs.Plan.{Run, promotions, giver_turns}
 use Rattle.policy_page.proofs.Leaving.{off-run}
 use Rattle.car.proofs.Plan.{is-replaced, off-both}
 use Rattle.car.proofs.replace.Goals as goal
