@@ -1,7 +1,7 @@
 -- The index after a slot came or went.
 use Rattle.std.proofs.lemmas.Bool.Decides.{nat_tests}
 use Rattle.std.proofs.Common.{◌≡◌, ℕ, ◌+◌, ◌^◌, ◌<◌, ◌≤◌, Bool, true, false, List, length, get_or, ◌∙◌, sym, refl, arith, suc, zero, ◌*◌, cond, eqb, replicate, ap, inl, inr}
-use Rattle.std.proofs.lemmas.Bool.{cases_eq, eq-eqb, ne_eqb, cases_Bool}
+use Rattle.std.proofs.lemmas.Bool.{cases_eq, eq-eqb, ne_eqb, cases_Bool, cond-true, cond-false}
 use Rattle.queue_table.specs.Trees.{Item, Tree, leaf, fork, tally, size, branch, turn, IsSorted, IsTree, grafted, detached}
 use Rattle.queue_table.specs.Places.{IsWhole, IsThere, IsBare, IsFree, Replaces}
 use Rattle.queue_table.specs.Index.{SlotIndex, IsFound, IsMapped, IsIndexed, IsAdded, IsRemoved, IsInBucket, CanFind, bucket, capacity}
@@ -24,7 +24,15 @@ pub record IsStep (links : List ℕ) (roots next below : ℕ) (t : Tree) : Type 
 pub step : (links : List ℕ) (roots place next below : ℕ) (side : Bool) (t : Tree) → IsWhole links roots place t → next ≡ get_or links place 0 → (next ≡ 0 → ⊥) → below ≡ branch roots next side → IsStep links roots next below t
 step links roots place next below side leaf w n z b = absurd (z (n ∙ w.tree))
 step links roots place next below side (fork i l r) w n z b =
-    search (arith, branch-whole roots links place i l r w side, side-size side l r, side-tally, tally-here i l r)
+    let is : next ≡ i = n ∙ w.tree.0 in
+    record {
+      branch_shown = on_side side l r;
+      whole = rw (b, is) (branch-whole roots links place i l r w side);
+      fewer = omega (arith, side-size side l r);
+      inside = λ k. omega (arith, side-tally side k l r);
+      here = rw is (omega (arith, tally-here i l r));
+      room = rw is w.tree.2;
+    }
 
 -- the links have both branches of the first slot
 pub top-room : (index : SlotIndex) (place at : ℕ) → HasTree index place 0 → get_or index.links.items place 0 ≡ at → 1 ≤ at → branch (2 ^ index.bits) at true < length index.links.items
@@ -49,7 +57,12 @@ has-top index place depth h = record { shown = h.shown; whole = h.whole; few = (
 
 pub smaller : (links : List ℕ) (roots place next below : ℕ) (side : Bool) (t : Tree) → IsWhole links roots place t → next ≡ get_or links place 0 → (next ≡ 0 → ⊥) → below ≡ branch roots next side →
     size (tree_at links roots below (length links)) < size (tree_at links roots place (length links))
-smaller links roots place next below side t w n z b = grind (arith, nat_tests, step, tree-is, size-few)
+smaller links roots place next below side t w n z b =
+    let s = step links roots place next below side t w n z b in
+    let whole = ap size (tree-is links roots place t (length links) w.tree (size-few links roots place t w.tree w.once)) in
+    let part = ap size (tree-is links roots below s.branch_shown (length links) s.whole.tree (size-few links roots below s.branch_shown s.whole.tree s.whole.once)) in
+    let fewer = s.fewer in
+    omega (arith, whole, part, fewer)
 
 -- the slot at a place with a slot on its way below
 pub way-below : (index : SlotIndex) (place at next below : ℕ) (item : Item) (depth : ℕ) → IsOnWay index place at item depth → next ≡ get_or index.links.items place 0 → (next ≡ at → ⊥) →
@@ -75,7 +88,8 @@ found-none links roots place item item_of (fork i l r) w z = absurd (let a = w.t
 
 pub found-here : (links : List ℕ) (roots place at : ℕ) (item : Item) (item_of : ℕ → Item) (t : Tree) → IsWhole links roots place t → at ≡ get_or links place 0 → (at ≡ 0 → ⊥) → item_of at ≡ item → IsFound item item_of (λ k. tally k t) at
 found-here links roots place at item item_of t w n z e =
-    grind (arith, nat_tests, step links roots place at (branch roots at true) true t w n z refl)
+    let s = step links roots place at (branch roots at true) true t w n z refl in
+    record { there = λ _. (s.here, e); missing = λ none k m same. z none }
 
 pub found-on : (links : List ℕ) (roots place depth next below result : ℕ) (item : Item) (item_of : ℕ → Item) (t : Tree) → IsWhole links roots place t → IsSorted item_of depth t → next ≡ get_or links place 0 → (next ≡ 0 → ⊥) →
     (item_of next ≡ item → ⊥) → below ≡ branch roots next (turn depth item) → ((u : Tree) → IsWhole links roots below u → IsSorted item_of (depth + 1) u → IsFound item item_of (λ k. tally k u) result) →
@@ -84,30 +98,56 @@ found-on links roots place depth next below result item item_of leaf w s n z oth
 found-on links roots place depth next below result item item_of (fork i l r) w s n z other b ih =
     let is : next ≡ i = n ∙ w.tree.0 in
     let f = ih (on_side (turn depth item) l r) (rw (b, is) (branch-whole roots links place i l r w (turn depth item))) (side-sorted item_of depth (turn depth item) i l r s) in
-    grind (arith, nat_tests, side-tally (turn depth item) result l r, cases_eq, its-side)
+    record {
+      there = λ m. (let t = f.there m in let in_side = t.0 in let few = side-tally (turn depth item) result l r in omega (arith, in_side, few), (f.there m).1);
+      missing = λ none k m e. f.missing none k (its-side item_of depth item k i l r s e (λ q. other (ap item_of (is ∙ sym q) ∙ e)) m) e;
+    }
+
+cond-below : (b : Bool) (n : ℕ) → cond b n 0 ≤ n
+cond-below true n = omega arith
+cond-below false n = omega arith
+
+-- a count with one more at a number: there, and elsewhere
+more-there : (k n m : ℕ) → m ≡ cond (eqb k k) 1 0 + n → m ≡ 1 + n
+more-there k n m e = rw (eq-eqb k k refl) at e
+
+more-elsewhere : (k at n m : ℕ) → (k ≡ at → ⊥) → m ≡ cond (eqb k at) 1 0 + n → m ≡ n
+more-elsewhere k at n m d e = let f : m ≡ 0 + n = rw (ne_eqb k at d) at e in omega (arith, f)
 
 module _ (links : List ℕ) (bits : ℕ) (item_of : ℕ → Item) (used : ℕ → ℕ) (x : IsMapped links bits item_of used) where
   -- a tree has slots in use alone
   pub placed-used : (b k : ℕ) → b < 2 ^ bits → tally k (x.trees b) ≤ used k
-  placed-used b k w = let p = x.placed b k w in grind (arith, nat_tests)
+  placed-used b k w = let p = x.placed b k w in let m = cond-below (eqb (bucket bits (item_of k)) b) (used k) in omega (arith, p, m)
 
   placed-once : (b k : ℕ) → b < 2 ^ bits → tally k (x.trees b) ≤ 1
   placed-once b k w = let p = placed-used b k w in let o = x.once k in omega (arith, p, o)
 
   -- a slot stands in the tree of its bucket
   pub placed-here : (b k : ℕ) → b < 2 ^ bits → bucket bits (item_of k) ≡ b → tally k (x.trees b) ≡ used k
-  placed-here b k w e = let p = x.placed b k w in grind (arith, nat_tests)
+  placed-here b k w e = x.placed b k w ∙ cond-true (eqb (bucket bits (item_of k)) b) (used k) 0 (eq-eqb _ _ e)
+
+  placed-elsewhere : (b k : ℕ) → b < 2 ^ bits → (bucket bits (item_of k) ≡ b → ⊥) → tally k (x.trees b) ≡ 0
+  placed-elsewhere b k w n = x.placed b k w ∙ cond-false (eqb (bucket bits (item_of k)) b) (used k) 0 (ne_eqb _ _ n)
 
   -- a slot stands in one tree at most
   placed-apart : (b c k : ℕ) → b < 2 ^ bits → c < 2 ^ bits → (c ≡ b → ⊥) → 1 ≤ tally k (x.trees c) → tally k (x.trees b) ≡ 0
-  placed-apart b c k v u d m = grind (arith, nat_tests)
+  placed-apart b c k v u d m = placed-elsewhere b k v (λ e. let z = placed-elsewhere c k u (λ s. d (sym s ∙ e)) in omega (arith, z, m))
 
   pub root-whole : (b : ℕ) → b < 2 ^ bits → IsWhole links (2 ^ bits) b (x.trees b)
-  root-whole b w = grind (arith, nat_tests, placed-once)
+  root-whole b w =
+      let size = x.size in
+      record {
+        tree = x.rooted b w;
+        once = λ k. placed-once b k w;
+        outside = λ k side m e. omega (arith, w, e);
+        within = omega (arith, w, size);
+      }
 
   -- a slot that is not in use can be put into the tree of a bucket
   pub free : (at b : ℕ) → used at ≡ 0 → b < 2 ^ bits → IsFree links (2 ^ bits) b at (x.trees b)
-  free at b z v = grind (arith, nat_tests, placed-used b at v)
+  free at b z v =
+      let few = placed-used b at v in
+      record { fresh = omega (arith, few, z); bare = x.bare at z; apart = λ side e. omega (arith, v, e) }
 
   -- another tree in one bucket
   module _ (links2 : List ℕ) (b : ℕ) (t2 : Tree) (v : b < 2 ^ bits) (p : Replaces (2 ^ bits) links links2 b (x.trees b) t2) where
@@ -122,7 +162,10 @@ module _ (links : List ℕ) (bits : ℕ) (item_of : ℕ → Item) (used : ℕ �
 
     -- a slot that is not in use has no branches still
     bared : (k : ℕ) → used k ≡ 0 → IsBare links2 (2 ^ bits) k
-    bared k z side = grind (arith, nat_tests, same-slot, placed-used)
+    bared k z side =
+        p.others (branch (2 ^ bits) k side) (λ e. omega (arith, v, e))
+        (λ j other n e. let s = same-slot (2 ^ bits) k j side other e in let few = placed-used b j v in let zero = ap used s in omega (arith, few, zero, z, n))
+        ∙ x.bare k z side
 
     -- the slot k is in this tree as often as it is in use, and in no other, and nothing else has changed
     changed : (item_of2 : ℕ → Item) (used2 : ℕ → ℕ) (k : ℕ) → bucket bits (item_of2 k) ≡ b →
@@ -143,30 +186,46 @@ module _ (links : List ℕ) (bits : ℕ) (item_of : ℕ → Item) (used : ℕ �
             let none = past c u q in
             rw e (sorted-same item_of item_of2 0 (x.trees c) (λ j m. others j (λ s. let a = ap (λ i. tally i (x.trees c)) s in omega (arith, a, m, none))) (x.sorted c u))
       ];
-      once = λ j. (let m = uses j in let o = x.once j in let e = cases_eq j k in grind (arith, nat_tests));
+      once = λ j. elim (cases_eq j k) [
+        | inl s ↦ rw s few
+        | inr d ↦ let m = uses j d in let o = x.once j in omega (arith, m, o)
+      ];
       bare = λ j z. elim (cases_eq j k) [
         | inl s ↦ rw s (own (ap used2 (sym s) ∙ z))
         | inr d ↦ bared j (sym (uses j d) ∙ z)
       ];
     }
       where
+        own_tree : (c : ℕ) → c < 2 ^ bits → tally k (cond (eqb c b) t2 (x.trees c)) ≡ cond (eqb (bucket bits (item_of2 k)) c) (used2 k) 0
+        own_tree c u = elim (cases_eq c b) as (λ _. tally k (cond (eqb c b) t2 (x.trees c)) ≡ cond (eqb (bucket bits (item_of2 k)) c) (used2 k) 0) [
+          | inl q ↦ rw (eq-eqb c b q, eq-eqb _ c (bk ∙ sym q)) here
+          | inr q ↦ rw (ne_eqb c b q, ne_eqb _ c (λ e. q (sym e ∙ bk))) (past c u q)
+        ]
+
+        other_tree : (c j : ℕ) → c < 2 ^ bits → (j ≡ k → ⊥) → tally j (cond (eqb c b) t2 (x.trees c)) ≡ tally j (x.trees c)
+        other_tree c j u d = elim (cases_eq c b) as (λ _. tally j (cond (eqb c b) t2 (x.trees c)) ≡ tally j (x.trees c)) [
+          | inl q ↦ rw (eq-eqb c b q, q) (tallies j d)
+          | inr q ↦ rw (ne_eqb c b q) refl
+        ]
+
         placed2 : (c j : ℕ) → c < 2 ^ bits → tally j (cond (eqb c b) t2 (x.trees c)) ≡ cond (eqb (bucket bits (item_of2 j)) c) (used2 j) 0
         placed2 c j u =
-            let p = x.placed c j u in
-            let i = λ (d : j ≡ k → ⊥). ap (bucket bits) (others j d) in
-            grind (arith, nat_tests, uses j, tallies j, past c u, cases_eq j k, cases_eq c b)
+            elim (cases_eq j k) [
+              | inl s ↦ rw s (own_tree c u)
+              | inr d ↦ rw (others j d, uses j d) (other_tree c j u d ∙ x.placed c j u)
+            ]
 
   -- a slot comes
   module _ (at : ℕ) (item : Item) (item_of2 : ℕ → Item) (used2 : ℕ → ℕ) (j : IsAdded at item item_of item_of2 used used2) (b : ℕ) (bk : b ≡ bucket bits item) (v : b < 2 ^ bits) where
     pub added : (links2 : List ℕ) → Replaces (2 ^ bits) links links2 b (x.trees b) (grafted 0 item at (x.trees b)) → IsMapped links2 bits item_of2 used2
     added links2 p =
-        let more : used2 at ≡ 1 + used at = (let c = j.counted at in grind (arith, nat_tests)) in
-        let one : tally at (grafted 0 item at (x.trees b)) ≡ 1 + tally at (x.trees b) = (let g = grafted-tally 0 item at at (x.trees b) in grind (arith, nat_tests)) in
+        let more : used2 at ≡ 1 + used at = more-there at _ _ (j.counted at) in
+        let one : tally at (grafted 0 item at (x.trees b)) ≡ 1 + tally at (x.trees b) = more-there at _ _ (grafted-tally 0 item at at (x.trees b)) in
         let none : tally at (x.trees b) ≡ 0 = omega (arith, placed-used b at v) in
         let st : IsSorted item_of2 0 (x.trees b) = sorted-same item_of item_of2 0 (x.trees b) (λ k m. j.others k (λ e. let q = ap (λ i. tally i (x.trees b)) e in omega (arith, q, m, none))) (x.sorted b v) in
         changed links2 b (grafted 0 item at (x.trees b)) v p item_of2 used2 at (ap (bucket bits) j.its ∙ sym bk) j.others
-        (λ k d. let n = j.counted k in grind (arith, nat_tests))
-        (λ k d. let g = grafted-tally 0 item at k (x.trees b) in grind (arith, nat_tests))
+        (λ k d. more-elsewhere k at _ _ d (j.counted k))
+        (λ k d. more-elsewhere k at _ _ d (grafted-tally 0 item at k (x.trees b)))
         (omega (arith, one, more, none))
         (omega (arith, more))
         (λ c u d. let pc = placed-used c at u in omega (arith, pc))
@@ -179,31 +238,42 @@ module _ (links : List ℕ) (bits : ℕ) (item_of : ℕ → Item) (used : ℕ �
     here = ap (bucket bits) j.its ∙ sym bk
 
     pub stands : IsThere item_of at item 0 (x.trees b)
-    stands = grind (arith, nat_tests, placed-here b at v here, here)
+    stands =
+        let there = j.there in
+        let whole = placed-here b at v here in
+        record { stands = omega (arith, there, whole); its = j.its; sorted = x.sorted b v }
 
     pub removed : (links2 : List ℕ) → Replaces (2 ^ bits) links links2 b (x.trees b) (detached 0 item at (x.trees b)) → IsBare links2 (2 ^ bits) at → IsMapped links2 bits item_of used2
     removed links2 p bare =
         let left : (k : ℕ) → tally k (x.trees b) ≡ cond (eqb k at) 1 0 + tally k (detached 0 item at (x.trees b)) = λ k. detached-tally item_of 0 item at k (x.trees b) (x.sorted b v) j.its stands.stands in
-        let m : used2 at ≡ 0 = (let c = j.counted at in grind (arith, nat_tests)) in
+        let m : used2 at ≡ 0 = j.counted at ∙ cond-true (eqb at at) 0 (used at) (eq-eqb at at refl) in
+        let one = more-there at _ _ (left at) in
+        let few = placed-once b at v in
         changed links2 b (detached 0 item at (x.trees b)) v p item_of used2 at here (λ k d. refl)
-        (λ k d. let n = j.counted k in grind (arith, nat_tests))
-        (λ k d. let n = left k in grind (arith, nat_tests))
-        (let one = left at in let few = placed-once b at v in grind (arith, nat_tests))
+        (λ k d. j.counted k ∙ cond-false (eqb k at) 0 (used k) (ne_eqb k at d))
+        (λ k d. sym (more-elsewhere k at _ _ d (left k)))
+        (let there = stands.stands in omega (arith, one, few, m, there))
         (omega (arith, m))
-        (λ c u d. (let p = x.placed c at u in grind (arith, nat_tests)))
+        (λ c u d. placed-elsewhere c at u (λ e. d (sym e ∙ here)))
         (detached-sorted item_of 0 item at (x.trees b) (x.sorted b v) j.its stands.stands)
         (λ z. bare)
 
   -- what is found in the tree of the item's bucket
   pub found-root : (b : ℕ) (item : Item) (r : ℕ) → b ≡ bucket bits item → (v : b < 2 ^ bits) → IsFound item item_of (λ k. tally k (x.trees b)) r → IsFound item item_of used r
-  found-root b item r bk v f = grind (arith, nat_tests, placed-used b r v, placed-here)
+  found-root b item r bk v f = record {
+    there = λ m. (let t = (f.there m).0 in let few = placed-used b r v in omega (arith, t, few), (f.there m).1);
+    missing = λ z k m e. f.missing z k (let p = placed-here b k v (ap (bucket bits) e ∙ sym bk) in omega (arith, p, m)) e;
+  }
 
   -- the first slot of the item's bucket
   pub first-in-bucket : (b : ℕ) (item : Item) (r : ℕ) → b ≡ bucket bits item → b < 2 ^ bits → r ≡ get_or links b 0 → IsInBucket item bits item_of used r
   first-in-bucket b item r bk v n = record {
     there = λ m.
         let h = (step links (2 ^ bits) b r (branch (2 ^ bits) r true) true (x.trees b) (root-whole b v) n (λ z. omega (arith, m, z)) refl).here in
-        grind (arith, nat_tests, cases_eq (bucket bits (item_of r)) b, placed-used b r v);
+        elim (cases_eq (bucket bits (item_of r)) b) [
+          | inl s ↦ (let few = placed-used b r v in omega (arith, h, few), s ∙ bk)
+          | inr d ↦ absurd (let z = placed-elsewhere b r v d in omega (arith, z, h))
+        ];
     missing = λ z k m e.
         let p = placed-here b k v (e ∙ sym bk) in
         no-slots links (2 ^ bits) b (x.trees b) k (sym n ∙ z) (x.rooted b v) (omega (arith, p, m));
@@ -211,7 +281,16 @@ module _ (links : List ℕ) (bits : ℕ) (item_of : ℕ → Item) (used : ℕ �
 
 -- the same map in other words
 pub same-map : (links : List ℕ) (bits : ℕ) (item_of item_of2 : ℕ → Item) (used used2 : ℕ → ℕ) → ((k : ℕ) → item_of2 k ≡ item_of k) → ((k : ℕ) → used2 k ≡ used k) → IsMapped links bits item_of used → IsMapped links bits item_of2 used2
-same-map links bits item_of item_of2 used used2 f g x = grind (arith, nat_tests, sorted-same)
+same-map links bits item_of item_of2 used used2 f g x = record {
+  size = x.size;
+  some = x.some;
+  trees = x.trees;
+  rooted = x.rooted;
+  placed = λ b k w. rw (f k, g k) (x.placed b k w);
+  sorted = λ b w. sorted-same item_of item_of2 0 (x.trees b) (λ k _. f k) (x.sorted b w);
+  once = λ k. rw (g k) (x.once k);
+  bare = λ k z. x.bare k (sym (g k) ∙ z);
+}
 
 -- what the walks begin with
 abbrev pub root-has : (index : SlotIndex) (item_of : ℕ → Item) (used : ℕ → ℕ) (x : IsIndexed index item_of used) (b : ℕ) → b < 2 ^ index.bits → HasTree index b 0

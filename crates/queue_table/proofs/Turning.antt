@@ -107,6 +107,20 @@ pub record IsTurned (ns os l : List ℕ) (k b : ℕ) : Type 0 where
   pub ring : (let e = get_or (set os (get_or ns k 0) (get_or os k 0)) b 0 in
       IsRing (set (set (set ns (get_or os k 0) (get_or ns k 0)) e k) k b) (set (set (set os (get_or ns k 0) (get_or os k 0)) k e) b k) (moved_before k b l))
 
+-- a ring of the same slots in another order
+same-slots : (ns os ns2 os2 l l2 : List ℕ) → IsRing ns os l → IsLinked ns2 os2 0 l2 0 → ((j : ℕ) → count j (0 ∷ l2) ≡ count j (0 ∷ l)) → length ns2 ≡ length ns → length os2 ≡ length os → length l2 ≡ length l → IsRing ns2 os2 l2
+same-slots ns os ns2 os2 l l2 r linked2 c n o m =
+    let same = r.same in
+    let long = r.long in
+    record {
+      linked = linked2;
+      once = λ j. (let a = r.once j in let e = c j in omega (arith, a, e));
+      within = λ j h. (let a = r.within j (let e = c j in omega (arith, e, h)) in omega (arith, a, n));
+      all = λ j h. (let a = r.all j (omega (arith, h, n)) in let e = c j in omega (arith, a, e));
+      same = omega (arith, same, n, o);
+      long = omega (arith, long, n, m);
+    }
+
 -- the same facts, in the words of the code
 turned_to : (ns os l : List ℕ) (k b : ℕ) (r : IsRing ns os l) (xs ys us vs : List ℕ) → l ≡ xs ++ k ∷ ys → ((j : ℕ) → count j us + count j vs ≡ count j xs + count j ys) →
     keys_without k l ≡ xs ++ ys → put_before k b (xs ++ ys) ≡ us ++ k ∷ vs → xs ++ ys ≡ us ++ vs →
@@ -117,8 +131,12 @@ turned_to : (ns os l : List ℕ) (k b : ℕ) (r : IsRing ns os l) (xs ys us vs :
 turned_to ns os l k b r xs ys us vs wh sc wo pu mi oe ne ob st oi ni ui fin =
     let ct : (j : ℕ) → count j (0 ∷ us ++ k ∷ vs) ≡ count j (0 ∷ l) = λ j. (let a = (count-append j us (k ∷ vs)) in let c = (count-append j xs (k ∷ ys)) in let d = ap (count j) wh in let f = sc j in omega (arith, a, c, d, f)) in
     let lo : length (us ++ k ∷ vs) ≡ length l = (let a = ap length wh in let d = ap length mi in let f1 = length-append us (k ∷ vs) in let f2 = length-append xs (k ∷ ys) in let f3 = length-append us vs in let f4 = length-append xs ys in omega (arith, a, d, f1, f2, f3, f4)) in
-    let same = r.same in
-    grind (arith, nat_tests, linked, length-set {A = ℕ})
+    record {
+      older_in = oi;
+      newer_in = ni;
+      next_in = rw (ne, oe, ob) ui;
+      ring = rw (ne, oe, ob, wo, pu) (same-slots ns os _ _ l (us ++ k ∷ vs) r (rw st at fin) ct (simp (length-set)) (simp (length-set)) lo);
+    }
 
 module _ (ns os l : List ℕ) (k b : ℕ) (r : IsRing ns os l) where
   stands_in : (j : ℕ) (xs ys : List ℕ) → l ≡ xs ++ k ∷ ys → count j (0 ∷ l) ≡ cond (eqb j 0) 1 0 + (count j xs + (cond (eqb j k) 1 0 + count j ys))
@@ -176,4 +194,7 @@ pub moved : (ns os ns1 os1 ns2 os2 : List ℕ) (k b : ℕ) → IsTurned ns os (r
     ns1 ≡ set ns (get_or os k 0) (get_or ns k 0) → os1 ≡ set os (get_or ns k 0) (get_or os k 0) →
     ns2 ≡ set (set ns1 (get_or os1 b 0) k) k b → os2 ≡ set (set os1 k (get_or os1 b 0)) b k →
     IsMoved ns os ns2 os2 k b
-moved ns os ns1 os1 ns2 os2 k b t n1 o1 n2 o2 = grind (arith, nat_tests, ring-is)
+moved ns os ns1 os1 ns2 os2 k b t n1 o1 n2 o2 =
+    let ring : IsRing ns2 os2 (moved_before k b (ring_of ns)) = rw (n2, o2, n1, o1) t.ring in
+    let order : ring_of ns2 ≡ moved_before k b (ring_of ns) = ring-is ns2 os2 (moved_before k b (ring_of ns)) ring in
+    record { order = order; ring = subst (IsRing ns2 os2) (sym order) ring }

@@ -80,10 +80,8 @@ fn begin(alloc: Global, slots: &mut Vec<Slot>, index: &mut SlotIndex) -> Result<
     if !slots.is_empty() {
         return Ok(());
     }
-    let first = first_slots(alloc)?;
-    let bits = first_bits(index.bits());
-    *index = SlotIndex::new(alloc, bits)?;
-    *slots = first;
+    *index = SlotIndex::new(alloc, first_bits(index.bits()))?;
+    *slots = first_slots(alloc)?;
     Ok(())
 }
 
@@ -118,29 +116,32 @@ fn fill(slots: &[Slot], index: &mut SlotIndex)
     }
 }
 
-/// Spreads the items over twice as many buckets where there are fewer than two for a slot; all slots are in use.
+/// Makes the index ready for one more slot: spreads the items over twice as many buckets where there are fewer than two
+/// for a slot. All slots are in use. Fails where there are MAX_SLOTS, or out of memory.
 fn widen(alloc: Global, slots: &[Slot], index: &mut SlotIndex) -> Result<(), AllocError>
     requires held { IsInSlots slots.now index.old (order_of slots.now) }
     requires free { order_of slots.now 0 ≡ [] }
-    requires few { length slots.now ≤ 2 ^ 30 }
     requires load { IsLoaded (length slots.now) index.old.bits }
     ensures held { IsInSlots slots.now index.new (order_of slots.now) }
+    ensures few { OnOk result (length slots.now < 2 ^ 30) }
     ensures load { IsLoaded (length slots.now) index.new.bits }
     ensures bits { OnOk result (index.new.bits ≡ bits_of_wider (length slots.now) index.old.bits) }
     ensures roomy { OnOk result (2 * length slots.now ≤ 2 ^ index.new.bits) }
 {
+    if slots.len() >= MAX_SLOTS {
+        return Err(AllocError);
+    }
     let bits = index.bits();
     let buckets = 1usize << bits;
     if slots.len() <= buckets / 2 || bits >= 31 {
         return Ok(());
     }
-    let mut wider = SlotIndex::new(alloc, bits + 1)?;
-    fill(slots, &mut wider);
-    *index = wider;
+    *index = SlotIndex::new(alloc, bits + 1)?;
+    fill(slots, index);
     Ok(())
 }
 
-/// Adds a free slot where there is none, and buckets where there are too few. All room is made first.
+/// Adds a free slot where there is none, and buckets where there are too few.
 #[cold]
 #[inline(never)]
 pub(crate) fn grow(
@@ -163,10 +164,6 @@ pub(crate) fn grow(
         (bits_once_begun (length slots.old.items) index.old.bits)) }
 {
     begin(alloc, slots, index)?;
-    if slots.len() >= MAX_SLOTS {
-        return Err(AllocError);
-    }
-    slots.reserve(1)?;
     widen(alloc, slots, index)?;
     add_slot(slots)
 }

@@ -1,19 +1,21 @@
 use Rattle.std.proofs.lemmas.Bool.Decides.{nat_tests}
-use Rattle.std.proofs.Common.{◌≤◌, length, arith}
+use Rattle.std.proofs.Common.{◌≡◌, ◌≤◌, List, length, sym, subst, arith}
 use Rattle.std.proofs.lemmas.List.{nil_from_length}
 use Rattle.queue_table.specs.Index.{capacity}
+use Rattle.queue_table.specs.QueueTable.{Slot, IsSame}
 use Rattle.queue_table.proofs.Growing.{held-first, same-first, first_loaded, sixteen}
 use Rattle.queue_table.proofs.growth.begin.Goals as goal
 
 pub returns-clause-held : goal.returns-clause-held
 returns-clause-held c =
-    let some = sixteen c.first_bits-bits.result c.first_bits-bits.ensures.range.0 in
-    let room : length c.in_ok-first.first.items ≤ capacity c.in_ok-index.field-0.bits = rw c.in_ok-index.ensures.bits (omega (arith, c.in_ok-first.ensures.len, some)) in
-    held-first c.in_ok-first.first.items c.in_ok-index.field-0 c.in_ok-first.ensures.queued (c.in_ok-index.ensures.empty _) room
+    let some = sixteen c.first_bits.result c.first_bits.ensures.range.0 in
+    let room : length c.in_ok-slots.field-0.items ≤ capacity c.in_ok-index.field-0.bits = rw c.in_ok-index.ensures.bits (omega (arith, c.in_ok-slots.ensures.len, some)) in
+    held-first c.in_ok-slots.field-0.items c.in_ok-index.field-0 c.in_ok-slots.ensures.queued (c.in_ok-index.ensures.empty _) room
 
 pub returns-clause-load : goal.returns-clause-load
-returns-clause-load c = first_loaded _ _ c.in_ok-first.ensures.len (omega (arith, c.in_ok-index.ensures.bits, c.first_bits-bits.ensures.range.0))
+returns-clause-load c = first_loaded _ _ c.in_ok-slots.ensures.len (omega (arith, c.in_ok-index.ensures.bits, c.first_bits.ensures.range.0))
 
 pub returns-clause-same : goal.returns-clause-same
 returns-clause-same c =
-    grind (arith, nat_tests, nil_from_length, same-first c.in_ok-first.first.items c.in_ok-first.ensures.queued)
+    let none : length c.args.slots.now.items ≡ 0 = grind (arith, nat_tests) in
+    subst (λ (old : List Slot). IsSame old c.in_ok-slots.field-0.items) (sym (nil_from_length _ none)) (same-first c.in_ok-slots.field-0.items c.in_ok-slots.ensures.queued)

@@ -9,12 +9,11 @@ use Rattle.queue_table.proofs.growth.grow.Goals.{After-add_slot}
 
 grown-here : (c : goal.After-add_slot) → IsGrown c.add_slot.result c.args.slots.now.items c.add_slot.new.slots.items c.widen.new.index
 grown-here c =
-    let lent : c.deref.result.now ≡ c.reserve.new.self.items = c.deref.ensures.value in
+    let lent : c.deref.result.now ≡ c.begin.new.slots.items = c.deref.ensures.value in
     let held = subst (λ (s : List Slot). IsInSlots s c.widen.new.index (order_of s)) lent c.widen.ensures.held in
-    let same = subst (IsSame c.args.slots.now.items) (sym c.reserve.ensures.items) c.begin.ensures.same in
     let roomy = subst (λ (s : List Slot). 2 * length s ≤ 2 ^ c.widen.new.index.bits) lent c.in_ok-widen.ensures.roomy in
     let e = c.add_slot.ensures in
-    grown c.add_slot.result c.args.slots.now.items c.reserve.new.self.items c.add_slot.new.slots.items c.widen.new.index record { held = held; same = same } (room_for _ _ roomy) e.ring e.entries e.tags e.err
+    grown c.add_slot.result c.args.slots.now.items c.begin.new.slots.items c.add_slot.new.slots.items c.widen.new.index record { held = held; same = c.begin.ensures.same } (room_for _ _ roomy) e.ring e.entries e.tags e.err
 
 pub returns-clause-sound : goal.returns-clause-sound
 returns-clause-sound c = (grown-here (goal.at.returns-clause-sound c).After-add_slot).sound
@@ -26,7 +25,7 @@ pub returns-clause-ok : goal.returns-clause-ok
 returns-clause-ok c = (grown-here (goal.at.returns-clause-ok c).After-add_slot).ok
 
 pub widen-requires-clause-free : goal.widen-requires-clause-free
-widen-requires-clause-free c = nil_from_length _ (ap (λ (s : List Slot). length (order_of s 0)) (c.deref.ensures.value ∙ c.reserve.ensures.items) ∙ (c.begin.ensures.same.lengths 0 ∙ ap length c.requires.none))
+widen-requires-clause-free c = nil_from_length _ (ap (λ (s : List Slot). length (order_of s 0)) c.deref.ensures.value ∙ (c.begin.ensures.same.lengths 0 ∙ ap length c.requires.none))
 
 pub returns-clause-few : goal.returns-clause-few
 returns-clause-few c = grind (arith, common_steps)

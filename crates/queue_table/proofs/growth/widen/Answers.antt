@@ -9,7 +9,7 @@ pub returns-clause-held : goal.returns-clause-held
 returns-clause-held c =
     let h = c.requires.held in
     held-spread c.args.slots.now c.fill.new.index (order_of c.args.slots.now) h.queued c.requires.free c.fill.ensures.indexed
-    (wider_room _ c.args.index.now.bits _ (c.fill.ensures.bits ∙ (c.in_ok-wider.ensures.bits ∙ ap (λ n. n + 1) c.bits-bits.ensures)) h.room)
+    (wider_room _ c.args.index.now.bits _ (c.fill.ensures.bits ∙ (c.in_ok-index.ensures.bits ∙ ap (λ n. n + 1) c.bits-bits.ensures)) h.room)
 
 pub fill-requires-clause-few : goal.fill-requires-clause-few
 fill-requires-clause-few c = grind (arith, common_steps)
