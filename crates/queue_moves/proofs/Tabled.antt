@@ -21,8 +21,7 @@ lists-shown s t = fun_ext at
     at (suc zero) = refl
     at (suc (suc zero)) = refl
     at (suc (suc (suc zero))) = refl
-    at (suc (suc (suc (suc zero)))) = refl
-    at (suc (suc (suc (suc (suc q))))) = sym (t.high (suc (suc (suc (suc (suc q))))) (omega arith))
+    at (suc (suc (suc (suc q)))) = sym (t.high (suc (suc (suc (suc q)))) (omega arith))
 
 -- ---- lists of entries
 

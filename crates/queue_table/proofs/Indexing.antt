@@ -1,5 +1,4 @@
 -- The index after a slot came or went.
-use Rattle.std.proofs.lemmas.Bool.Decides.{nat_tests}
 use Rattle.std.proofs.Common.{◌≡◌, ℕ, ◌+◌, ◌^◌, ◌<◌, ◌≤◌, Bool, true, false, List, length, get_or, ◌∙◌, sym, refl, arith, suc, zero, ◌*◌, cond, eqb, replicate, ap, inl, inr}
 use Rattle.std.proofs.lemmas.Bool.{cases_eq, eq-eqb, ne_eqb, cases_Bool, cond-true, cond-false}
 use Rattle.queue_table.specs.Trees.{Item, Tree, leaf, fork, tally, size, branch, turn, IsSorted, IsTree, grafted, detached}

@@ -223,16 +223,6 @@ impl QueueTable {
         Some((at, entry_of(&self.slots, at)))
     }
 
-    /// Where the item of a slot stands.
-    #[inline(always)]
-    pub fn place(&self, at: u32) -> Place
-        requires { IsUsed at self.now }
-        ensures low { result.queue < QUEUES }
-        ensures place { Some result ≡ place_in (entry_at at self.now).item (queues self.now) }
-    {
-        place_of_slot(&self.slots, at)
-    }
-
     // The slot before a place: that of its older neighbour, or the one that stands before the queue.
     fn older_slot(&self, place: Place) -> u32
         requires queue { place.queue < QUEUES }

@@ -1,8 +1,8 @@
 use Rattle.std.proofs.lemmas.Grind.{common_steps}
-use Rattle.std.proofs.Common.{◌≡◌, ◌≤◌, ◌*◌, ◌^◌, List, length, sym, ap, ◌∙◌, subst, arith}
+use Rattle.std.proofs.Common.{◌≡◌, ◌≤◌, ◌*◌, ◌^◌, List, length, ap, ◌∙◌, subst, arith}
 use Rattle.std.proofs.lemmas.List.{nil_from_length}
 use Rattle.queue_table.specs.Ring.{Slot, order_of}
-use Rattle.queue_table.specs.QueueTable.{IsInSlots, IsSame}
+use Rattle.queue_table.specs.QueueTable.{IsInSlots}
 use Rattle.queue_table.proofs.Growing.{IsGrown, grown, room_for}
 use Rattle.queue_table.proofs.growth.grow.Goals as goal
 use Rattle.queue_table.proofs.growth.grow.Goals.{After-add_slot}
