@@ -24,7 +24,7 @@ use Rattle.policy_page.proofs.Weights.{length-total}
 use Rattle.policy_page.proofs.Counted.{counted-append, length-counted, oldest-counted, keys-counted, both-counted, counted-with, has-both, turns-are, turns-keep}
 use Rattle.policy_page.proofs.Moving.{length-keys, nowhere, own-low, without-keys, held}
 use Rattle.policy_page.proofs.Leaving.{by-departure, any-out, off-run, off-first, absent-first, still-absent, HitsAlone, own-alone, never, either, one-of, own-none, both-length, not-less}
-use Rattle.car.specs.Car.{CarState, car_residents, car_total, t2_gives, after_promotion, is_settled, t1_eviction, t2_eviction, car_departure, car_eviction_within, most_moves, car_eviction, NoGhost, InB1, InB2, after_history, after_recall, after_join, car_act, IsCar}
+use Rattle.car.specs.Car.{CarState, car_residents, t2_gives, after_promotion, is_settled, t1_eviction, t2_eviction, car_departure, car_eviction_within, most_moves, car_eviction, NoGhost, InB1, InB2, after_history, after_recall, after_join, car_act, IsCar}
 use Rattle.car.specs.Plan.{T1, T2, B1, B2, car_of, total, promotions, after_promotions, giver, ghost_of, giver_turns, after_giver_turns, leaver, after_departure, after_replacing, forgotten, target_after, full_plan, new_key_plan, recall_plan, is_resident, plan_at, car_page}
 use Rattle.car.specs.Step.{IsReplaced}
 use Rattle.car.specs.declared.Replaced.{Replaced}
@@ -40,9 +40,6 @@ same-state ea eb ex ey ep = cc
 keys-drop : (l : List Entry) → keys_of (drop 1 l) ≡ drop 1 (keys_of l)
 keys-drop [] = refl
 keys-drop (e ∷ l) = refl
-
-lengths : (s : Queues) (p : ℕ) → car_total (car_of p s) ≡ total s
-lengths s p = omega (arith, length-counted (s T1), length-counted (s T2), length-keys (s B1), length-keys (s B2))
 
 -- ---- an eviction of the definition
 

@@ -16,7 +16,8 @@ use Rattle.sieve.proofs.Plan.{sieve-sound}
 use Rattle.s3_fifo.proofs.Plan.{s3-fifo-sound}
 use Rattle.two_q.proofs.Plan.{two-q-sound}
 use Rattle.arc.proofs.Plan.{arc-sound}
-use Rattle.demand_cache.specs.declared.demand_policy.DemandPolicy.TheVariants.{Fifo, Clock, Sieve, S3Fifo, TwoQ, Arc}
+use Rattle.car.proofs.Plan.{car-sound}
+use Rattle.demand_cache.specs.declared.demand_policy.DemandPolicy.TheVariants.{Fifo, Clock, Sieve, S3Fifo, TwoQ, Arc, Car}
 use Rattle.demand_cache.specs.DemandQueues.{DemandPolicy, DemandQueues, queues_of, plan_of, queues_residents, queues_act, IsQueues}
 use Rattle.demand_cache.specs.DemandPolicy.{page_of, plan_by, residents_by, IsStateOf}
 use Rattle.demand_cache.specs.Theorems.{PagesAreSound, DemandKeeps, RunsByPage, HitsAskNothing, AsksWhereOneLeft}
@@ -33,6 +34,7 @@ pages-sound Sieve = sieve-sound
 pages-sound (S3Fifo part) = s3-fifo-sound part
 pages-sound (TwoQ z) = two-q-sound z
 pages-sound Arc = arc-sound
+pages-sound Car = car-sound
 
 -- what an access by the plan p comes to, in a cache of the policy
 pub record IsKept (p : DemandPolicy) (c k x : ℕ) (s : Queues) (plan : Plan) : Type 0 where

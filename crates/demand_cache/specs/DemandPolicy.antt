@@ -17,8 +17,9 @@ use Rattle.s3_fifo.specs.Plan.{s3_fifo_page}
 use Rattle.two_q.specs.declared.TwoQSizes.{TwoQSizes}
 use Rattle.two_q.specs.Plan.{two_q_page}
 use Rattle.arc.specs.Plan.{arc_page}
+use Rattle.car.specs.Plan.{car_page}
 pub use Rattle.demand_cache.specs.declared.demand_policy.DemandPolicy.{DemandPolicy}
-use Rattle.demand_cache.specs.declared.demand_policy.DemandPolicy.TheVariants.{Fifo, Clock, Sieve, S3Fifo, TwoQ, Arc}
+use Rattle.demand_cache.specs.declared.demand_policy.DemandPolicy.TheVariants.{Fifo, Clock, Sieve, S3Fifo, TwoQ, Arc, Car}
 
 -- ---- each policy
 
@@ -30,6 +31,7 @@ page_of Sieve = sieve_page
 page_of (S3Fifo part) = s3_fifo_page part
 page_of (TwoQ z) = two_q_page z
 page_of Arc = arc_page
+page_of Car = car_page
 
 -- ---- of a job
 

@@ -32,6 +32,8 @@ pub enum DemandPolicy {
     TwoQ(TwoQSizes),
     /// Recency beside frequency, each with a ghost, and a target that adapts (FAST 2003).
     Arc,
+    /// Recency beside frequency by two clocks, each with a ghost, and a target that adapts (FAST 2004).
+    Car,
 }
 
 // Selects the instance of an access that is part of each policy's loop.
@@ -46,6 +48,8 @@ struct S3FifoLoop;
 struct TwoQLoop;
 
 struct ArcLoop;
+
+struct CarLoop;
 
 /// What is read of an access that is not to be undone.
 #[derive(Clone, Copy)]
@@ -99,6 +103,7 @@ impl DemandPolicy {
                 cache.access_each::<TwoQLoop>(DemandPolicy::TwoQ(sizes), keys)
             }
             DemandPolicy::Arc => cache.access_each::<ArcLoop>(DemandPolicy::Arc, keys),
+            DemandPolicy::Car => cache.access_each::<CarLoop>(DemandPolicy::Car, keys),
         }
     }
 
@@ -116,7 +121,7 @@ impl DemandPolicy {
                 let ahead = scalar as u8;
                 (1 - ahead, Some(ahead))
             }
-            DemandPolicy::S3Fifo(_) | DemandPolicy::Arc => (0, Some(1)),
+            DemandPolicy::S3Fifo(_) | DemandPolicy::Arc | DemandPolicy::Car => (0, Some(1)),
             DemandPolicy::TwoQ(_) => (0, Some(2)),
         }
     }
@@ -129,7 +134,10 @@ impl DemandPolicy {
     {
         match self {
             DemandPolicy::Fifo | DemandPolicy::Clock | DemandPolicy::Sieve => capacity,
-            DemandPolicy::S3Fifo(_) | DemandPolicy::TwoQ(_) | DemandPolicy::Arc => 2 * capacity,
+            DemandPolicy::S3Fifo(_)
+            | DemandPolicy::TwoQ(_)
+            | DemandPolicy::Arc
+            | DemandPolicy::Car => 2 * capacity,
         }
     }
 
@@ -165,6 +173,7 @@ impl DemandPolicy {
                 queues, sizes, capacity, scalar, key,
             )),
             DemandPolicy::Arc => without_record(arc::step::<C>(queues, capacity, scalar, key)),
+            DemandPolicy::Car => without_record(car::step::<C>(queues, capacity, scalar, key)),
         }
     }
 
@@ -197,6 +206,7 @@ impl DemandPolicy {
                 queues, sizes, capacity, scalar, key,
             ),
             DemandPolicy::Arc => arc::step::<Accessed>(queues, capacity, scalar, key),
+            DemandPolicy::Car => car::step::<Accessed>(queues, capacity, scalar, key),
         }
     }
 }

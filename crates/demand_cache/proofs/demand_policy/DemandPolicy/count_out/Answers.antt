@@ -8,3 +8,6 @@ step-requires-in-S3Fifo-clause-state g c = subst (λ p. (page_of p).IsState c.ar
 
 pub step-requires-in-Arc-clause-state : goal.step-requires-in-Arc-clause-state
 step-requires-in-Arc-clause-state g c = subst (λ p. (page_of p).IsState c.args.capacity ((page_of p).view c.args.scalar (queues c.args.queues.now))) c.in-Arc.is c.requires.state
+
+pub step-requires-in-Car-clause-state : goal.step-requires-in-Car-clause-state
+step-requires-in-Car-clause-state g c = subst (λ p. (page_of p).IsState c.args.capacity ((page_of p).view c.args.scalar (queues c.args.queues.now))) c.in-Car.is c.requires.state
