@@ -1,5 +1,5 @@
 use Rattle.std.proofs.lemmas.Bool.Decides.{nat_tests}
-use Rattle.std.proofs.Common.{◌≡◌, ◌≤◌, List, length, sym, subst, arith}
+use Rattle.std.proofs.Common.{◌≡◌, ◌≤◌, List, length, refl, sym, subst, arith}
 use Rattle.std.proofs.lemmas.List.{nil_from_length}
 use Rattle.queue_table.specs.Index.{capacity}
 use Rattle.queue_table.specs.QueueTable.{Slot, IsSame}
@@ -19,3 +19,18 @@ pub returns-clause-same : goal.returns-clause-same
 returns-clause-same c =
     let none : length c.args.slots.now.items ≡ 0 = grind (arith, nat_tests) in
     subst (λ (old : List Slot). IsSame old c.in_ok-slots.field-0.items) (sym (nil_from_length _ none)) (same-first c.in_ok-slots.field-0.items c.in_ok-slots.ensures.queued)
+
+-- where memory for the slots fails there are none, whatever the index is
+pub returns-in_err-slots-clause-load : goal.returns-in_err-slots-clause-load
+returns-in_err-slots-clause-load c =
+    let none : length c.args.slots.now.items ≡ 0 = grind (arith, nat_tests) in
+    λ some. absurd (omega (arith, some, none))
+
+pub returns-in_err-slots-clause-same : goal.returns-in_err-slots-clause-same
+returns-in_err-slots-clause-same c = record { lists = refl; lengths = λ s. refl }
+
+pub returns-in_err-index-clause-same : goal.returns-in_err-index-clause-same
+returns-in_err-index-clause-same c = record { lists = refl; lengths = λ s. refl }
+
+pub returns-then-not-is_empty-clause-same : goal.returns-then-not-is_empty-clause-same
+returns-then-not-is_empty-clause-same c = record { lists = refl; lengths = λ s. refl }

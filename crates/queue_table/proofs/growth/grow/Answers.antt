@@ -1,5 +1,5 @@
 use Rattle.std.proofs.lemmas.Grind.{common_steps}
-use Rattle.std.proofs.Common.{◌≡◌, ◌≤◌, ◌*◌, ◌^◌, List, length, ap, ◌∙◌, subst, arith}
+use Rattle.std.proofs.Common.{◌≡◌, ◌≤◌, ◌*◌, ◌^◌, List, length, sym, ap, ◌∙◌, subst, arith}
 use Rattle.std.proofs.lemmas.List.{nil_from_length}
 use Rattle.queue_table.specs.Ring.{Slot, order_of}
 use Rattle.queue_table.specs.QueueTable.{IsInSlots}
@@ -32,3 +32,21 @@ returns-clause-few c = grind (arith, common_steps)
 
 pub returns-clause-load : goal.returns-clause-load
 returns-clause-load c = grind (arith, common_steps)
+
+pub widen-requires-clause-held : goal.widen-requires-clause-held
+widen-requires-clause-held c = subst (λ (s : List Slot). IsInSlots s c.begin.new.index (order_of s)) (sym c.deref.ensures.value) c.in_ok-begin.ensures.held
+
+pub add_slot-requires-clause-ring : goal.add_slot-requires-clause-ring
+add_slot-requires-clause-ring c = c.in_ok-begin.ensures.held.queued.linked
+
+pub returns-in_err-begin-clause-sound : goal.returns-in_err-begin-clause-sound
+returns-in_err-begin-clause-sound c = c.in_err-begin.ensures.err
+
+pub returns-in_err-begin-clause-lists : goal.returns-in_err-begin-clause-lists
+returns-in_err-begin-clause-lists c = c.begin.ensures.same.lists
+
+pub returns-in_err-widen-clause-sound : goal.returns-in_err-widen-clause-sound
+returns-in_err-widen-clause-sound c = λ _. subst (λ (s : List Slot). IsInSlots s c.widen.new.index (order_of s)) c.deref.ensures.value c.widen.ensures.held
+
+pub returns-in_err-widen-clause-lists : goal.returns-in_err-widen-clause-lists
+returns-in_err-widen-clause-lists c = c.begin.ensures.same.lists
