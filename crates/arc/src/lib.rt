@@ -34,8 +34,7 @@ const B2: u8 = 3;
 /// An access to a key, by ARC's plan, where `t1` is to have `scalar` keys. The one error is out of memory; the queues
 /// are then as before.
 ///
-/// `C` selects an instance: one that is called at a single place becomes part of its caller, and a caller that reads no
-/// record then makes none.
+/// `C` selects an instance (docs/ARCHITECTURE.md).
 #[inline(always)]
 pub fn step<C>(
     table: &mut KeyQueues,

@@ -44,8 +44,7 @@ pub struct Replaced {
 /// An access to a key, by CAR's plan, where `t1` is to have `scalar` keys. The one error is out of memory; the queues
 /// are then as before.
 ///
-/// `C` selects an instance: one that is called at a single place becomes part of its caller, and a caller that reads no
-/// record then makes none.
+/// `C` selects an instance (docs/ARCHITECTURE.md).
 #[inline(always)]
 pub fn step<C>(
     table: &mut KeyQueues,

@@ -23,8 +23,7 @@ const QUEUE: u8 = 0;
 /// An access to a key: a hit sets its reference bit; in a full cache a miss passes over the oldest keys whose bits are
 /// set, clearing these, and the oldest leaves. The one error is out of memory; the queues are then as before.
 ///
-/// `C` selects an instance: one that is called at a single place becomes part of its caller, and a caller that reads no
-/// record then makes none.
+/// `C` selects an instance (docs/ARCHITECTURE.md).
 #[inline(always)]
 pub fn step<C>(
     table: &mut KeyQueues,

@@ -19,8 +19,7 @@ const QUEUE: u8 = 0;
 /// An access to a key: a hit moves nothing, and at a miss of a full cache the oldest key leaves. The one error is out of
 /// memory; the queues are then as before.
 ///
-/// `C` selects an instance: one that is called at a single place becomes part of its caller, and a caller that reads no
-/// record then makes none.
+/// `C` selects an instance (docs/ARCHITECTURE.md).
 #[inline(always)]
 pub fn step<C>(
     table: &mut KeyQueues,

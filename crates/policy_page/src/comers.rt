@@ -15,7 +15,7 @@ use queue_table::Found;
 
 /// The key goes to the recent end of a queue. One that stands nowhere takes room.
 ///
-/// `C` selects an instance, which becomes part of its caller.
+/// `C` selects an instance (docs/ARCHITECTURE.md).
 #[inline(always)]
 pub fn enter<C>(table: &mut KeyQueues, key: Key, found: Option<Found>, queue: u8) -> KeyMove
     requires queue { queue < QUEUES }

@@ -31,8 +31,7 @@ const GHOST: u8 = 2;
 /// An access to a key, by S3-FIFO's plan, where the small queue is to have `part` keys, any number. The one error is
 /// out of memory; the queues are then as before. S3-FIFO has no number of its own.
 ///
-/// `C` selects an instance: one that is called at a single place becomes part of its caller, and a caller that reads no
-/// record then makes none.
+/// `C` selects an instance (docs/ARCHITECTURE.md).
 #[inline(always)]
 pub fn step<C>(
     table: &mut KeyQueues,

@@ -24,8 +24,7 @@ use std::alloc::AllocError;
 /// clearing these, and the key at which it stops leaves. `scalar` is the number of the queue ahead of the hand. The one
 /// error is out of memory; the queues are then as before.
 ///
-/// `C` selects an instance: one that is called at a single place becomes part of its caller, and a caller that reads no
-/// record then makes none.
+/// `C` selects an instance (docs/ARCHITECTURE.md).
 #[inline(always)]
 pub fn step<C>(
     table: &mut KeyQueues,

@@ -36,8 +36,7 @@ pub struct TwoQSizes {
 /// An access to a key, by 2Q's plan, with parts of any sizes. The one error is out of memory; the queues are then as before. 2Q has no number of
 /// its own.
 ///
-/// `C` selects an instance: one that is called at a single place becomes part of its caller, and a caller that reads no
-/// record then makes none.
+/// `C` selects an instance (docs/ARCHITECTURE.md).
 #[inline(always)]
 pub fn step<C>(
     table: &mut KeyQueues,
