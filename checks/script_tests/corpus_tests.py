@@ -4,7 +4,10 @@ traces, of runs that were ended, and of jobs on other hosts.
 import contextlib
 import fcntl
 import functools
+import hashlib
+import json
 import os
+import re
 import shutil
 import signal
 import socket
@@ -20,10 +23,14 @@ from frame import (NOTING, SECONDS, Mistake, Wrong, expect, expect_full_disk, ex
                                 opened_by_a_reader, rows_of, run, without_texts)
 
 BOTH = "--policy=fifo", "--policy=lru"
+# What is shown of a line of 65 characters, of which a terminal would obey the second.
+FAULTY = r"'x\x1b[2J-----------------------------------' .."
 # A name that a shell, a list by lines and a list by blanks would each take for something else.
 ODD = "a 'b\" $(touch made) {} {#}\n-c\\d.lirs"
-# By the number of distinct blocks of a trace of 100 accesses: fifo hits 50 percent, and lru 45, 50, 55, 60 and 65.
-KNOWN = "None if capacity > 1000 else 50 if policy == 'fifo' else 40 + distinct // 2"
+# By the number of distinct blocks of a trace of 100 accesses: fifo hits 50 percent, lru 45, 50, 55, 60 and 65, and sieve 52;
+# with a cache of half of them 60, 62 to 70 and 61.
+KNOWN = ("None if capacity > 1000 else {'fifo': 60, 'lru': 60 + distinct // 5, 'sieve': 61}[policy] if 2 * capacity == distinct "
+         "else {'fifo': 50, 'lru': 40 + distinct // 2, 'sieve': 52}[policy]")
 SECONDS_TO_END = 30
 SSHD, SLURM = ("parallel", "rsync", "ssh", "ssh-keygen", "sshd"), ("sbatch", "slurmctld", "slurmd", "munged")
 # A Slurm of one node.
@@ -49,9 +56,20 @@ NodeName={host} NodeAddr=127.0.0.1 CPUs=2 State=UNKNOWN
 PartitionName=all Nodes={host} Default=YES MaxTime=INFINITE State=UP
 """
 TABLE = """% of footprint,policy,traces,mean,P10,P25,P50,P75,P90,best on,near on
-10,fifo,5,0.00,0.00,0.00,0.00,0.00,0.00,2,2
-10,lru,5,10.00,-6.00,0.00,10.00,20.00,26.00,4,4
+10,fifo,5,0.00,0.00,0.00,0.00,0.00,0.00,0,0
+10,lru,5,10.00,-6.00,0.00,10.00,20.00,26.00,3,3
+10,sieve,5,4.00,4.00,4.00,4.00,4.00,4.00,2,2
+50,fifo,5,0.00,0.00,0.00,0.00,0.00,0.00,0,0
+50,lru,5,15.00,7.00,10.00,15.00,20.00,23.00,5,5
+50,sieve,5,2.50,2.50,2.50,2.50,2.50,2.50,0,0
 """
+# What gnuplot is given of that: the rows of each policy, its boxes, whiskers and median, and where the sizes are named.
+BOXES = [
+    "$policy0 << END\n0 -6.000000 0.000000 10.000000 20.000000 26.000000 10.000000\n"
+    "3 7.000000 10.000000 15.000000 20.000000 23.000000 15.000000\nEND",
+    "$policy1 << END\n1 4.000000 4.000000 4.000000 4.000000 4.000000 4.000000\n4 2.500000",
+    "set yrange [-10:30]", "set xrange [-1:5]", "'10 %% of the footprint' 0.5, '50 %% of the footprint' 3.5",
+    "Misses fewer than fifo' . \"\\n\" . 'P10, P25, P50, P75, P90 and mean of 5 traces"]
 
 
 def trace_of(folder, name, blocks):
@@ -87,9 +105,9 @@ def pass_over(what):
 
 def check_known_report(corpus, folder):
     """A report that was worked out by hand, and its pictures."""
-    program = fake(folder, KNOWN, policies=["fifo", "lru"])
-    run(corpus, "run", "--program", program, "--percent=10", "--out", folder / "out", *known_traces(folder), cwd=folder,
-        env=without_parallel(folder))
+    program = fake(folder, KNOWN, policies=["fifo", "lru", "sieve"])
+    run(corpus, "run", "--program", program, "--percent=10", "--percent=50", "--out", folder / "out", *known_traces(folder),
+        cwd=folder, env=without_parallel(folder))
     expect("the table", run(corpus, "report", "--csv", folder / "out")[0], TABLE)
     of_lru = run(corpus, "report", "--csv", "--baseline=lru", folder / "out")[0]
     # 55 of 50 misses are 10 percent more, 45 are 1/9 fewer, 40 are 1/4 more, 35 are 3/7 more.
@@ -97,12 +115,30 @@ def check_known_report(corpus, folder):
     environment = gnuplot_by(folder, NOTING)
     run(corpus, "report", folder / "out", "--plot", folder / "boxes.svg", cwd=folder, env=environment)
     given = (folder / "given").read_text()
-    expect_parts("the boxes", given, "$policy0 << END\n0 -6.000000 0.000000 10.000000 20.000000 26.000000 10.000000\nEND",
-                 "set yrange [-10:30]", "'10 %% of the footprint'")
+    expect_parts("the boxes", given, *BOXES)
+    drawn = re.findall(r"(\$\w+) using ([0-9:]+) with (\w+).*? (title '\w+'|notitle)", given)
+    expect("what is drawn", drawn, [(f"${name}", using, how, title) for name, policy in (("policy0", "lru"), ("policy1", "sieve"))
+                                    for using, how, title in (("1:3:2:6:5", "candlesticks", f"title '{policy}'"),
+                                                              ("1:4:4:4:4", "candlesticks", "notitle"), ("1:7", "points", "notitle"))])
     run(corpus, "report", folder / "out", "--plot", folder / "points.svg", "--scatter", "lru", "fifo", cwd=folder, env=environment)
-    expect_parts("the points", (folder / "given").read_text(), "<< END\n-10.000000 0.000000\n0.000000 0.000000\n10.000000 0.000000\n")
+    points = (folder / "given").read_text()
+    expect_parts("the points", points, "$size0 << END\n-10.000000 0.000000\n0.000000 0.000000\n10.000000 0.000000\n",
+                 "$size1 << END\n5.000000 0.000000\n", "each point a trace; above the line fifo has fewer", "set xlabel 'lru: ")
+    expect("the sizes", re.findall(r"(\$\w+) with points .*? title '(\d+) % of", points), [("$size0", "10"), ("$size1", "50")])
     expect("texts in quotes", '"' in without_texts(given), False)
     expect_full_disk(corpus, "report", folder / "out")
+
+
+def check_near(corpus, folder):
+    """Near to the best is who is within half a point with at most 5 percent more misses, at two hit ratios."""
+    program = fake(folder, "None if capacity > 1000 else __import__('fractions').Fraction(distinct - (policy == 'lru') * 4, 10)",
+                   policies=["fifo", "lru"])
+    # Of 1000 accesses fifo misses 100 and 40, and lru 104 and 44: 4 and 10 percent more.
+    for distinct, near in ((900, "1"), (960, "0")):
+        trace = trace_of(folder, f"{distinct}.lirs", [it % distinct for it in range(1000)])
+        run(corpus, "run", "--program", program, "--percent=1", "--out", folder / str(distinct), trace, env=without_parallel(folder))
+        rows = rows_of(run(corpus, "report", "--csv", folder / str(distinct))[0])
+        expect("the wins", [(row["best on"], row["near on"]) for row in rows], [("1", "1"), ("0", near)])
 
 
 def linear(parts, percent):
@@ -118,11 +154,11 @@ def check_beside_reference(corpus, folder, program):
     for seed in range(1, 5):
         lists.append([(it * it * seed + it // 7) % (90 + seed) for it in range(600)])
     traces = [trace_of(folder, f"{at}.lirs", blocks) for at, blocks in enumerate(lists)]
-    run(corpus, "run", "--program", program, *(f"--policy={it}" for it in policies), "--percent=50", "--percent=5.0", "--out",
+    run(corpus, "run", "--program", program, *(f"--policy={it}" for it in policies), "--percent=50", "--percent=9.0", "--out",
         folder / "out", *traces, env=without_parallel(folder))
     rows = {(row["% of footprint"], row["policy"]): row for row in rows_of(run(corpus, "report", "--csv", folder / "out")[0])}
-    expect("the rows", list(rows), [(percent, policy) for percent in ("5", "50") for policy in policies])
-    for percent in ("5", "50"):
+    expect("the rows", list(rows), [(percent, policy) for percent in ("9", "50") for policy in policies])
+    for percent in ("9", "50"):
         counts = [{row["policy"]: int(row["misses"]) for row in rows_of(cache_reference.sweep(
             blocks, policies, [max(1, len(set(blocks)) * int(percent) // 100)]))} for blocks in lists]
         for policy in policies:
@@ -136,26 +172,115 @@ def check_beside_reference(corpus, folder, program):
 
 
 def check_long(corpus, folder, program):
-    """A trace that is too long to be kept, of 17 times the same million blocks, and too long for Belady's policy."""
+    """Traces that are too long to be kept, for Belady's policy too, and of more blocks than the largest cache has."""
     trace = file_of(folder, "long", "0 1000000\n" * 17)
-    words = "run", "--program", program, "--format=arc", "--percent=50", *BOTH, "--out"
-    run(corpus, *words, folder / "out", trace)
+    words = "run", "--program", program, "--format=arc", *BOTH, "--out"
+    run(corpus, *words, folder / "out", "--percent=50", trace)
     expect("the rows", [row["mean"] for row in rows_of(run(corpus, "report", "--csv", folder / "out")[0])], ["0.00", "0.00"])
     held = next(it.read_text() for it in (folder / "out/results").iterdir())
     expect_parts("the result", held, '"footprint": 1000000', '"accesses": 17000000', '"fifo": 17000000, "lru": 17000000')
-    _, error = run(corpus, *words, folder / "optimal", "--policy=clairvoyant", trace, status=1)
+    _, error = run(corpus, *words, folder / "optimal", "--percent=50", "--policy=clairvoyant", trace, status=1)
     expect_parts("with Belady's policy", error, "fault: TooLong line 17")
+    traces = file_of(folder, "large", "0 2000000\n"), file_of(folder, "small", "0 50\n" * 2)
+    run(corpus, *words, folder / "sizes", "--percent=90", "--percent=10", *traces)
+    out, error = run(corpus, "report", "--csv", folder / "sizes", "--plot", folder / "boxes.svg", cwd=folder, env=gnuplot_by(folder, NOTING))
+    expect("the traces at each size", [(row["% of footprint"], row["traces"]) for row in rows_of(out)],
+           [("10", "2"), ("10", "2"), ("90", "1"), ("90", "1")])
+    expect("what is left out", error, "at 90 % of the footprint without 1, whose cache would be too large\n")
+    expect_parts("the title", (folder / "given").read_text(), "mean of 2 traces")
+
+
+def check_defaults(corpus, folder, program):
+    """What a plain call runs: its baseline, and the sizes in their order."""
+    trace, sizes = trace_of(folder, "some", range(300)), ("--percent=10", "--percent=9", "--percent=100")
+    for name, words, percents in (("plain", (), ["1", "10"]), ("sizes", sizes, ["9", "10", "100"])):
+        run(corpus, "run", "--program", program, *words, "--out", folder / name, trace)
+        settings = json.loads((folder / name / "corpus.json").read_text())
+        expect("the settings", (settings["policies"][:2], settings["percents"], "clairvoyant" in settings["policies"]),
+               (["fifo", "lru"], percents, True))
+        expect("the rows", len(rows_of(run(corpus, "report", "--csv", folder / name)[0])), len(percents) * len(settings["policies"]))
+
+
+def twins_in(folder):
+    """Two names whose results are kept below names that begin alike, as some do where there are hundreds of traces."""
+    seen = {}
+    for at in range(1 << 16):
+        name = str(folder / f"{at}.lirs")
+        begun = hashlib.sha256(os.fsencode(name)).hexdigest()[:4]
+        if begun in seen:
+            return seen[begun], name
+        seen[begun] = name
+    raise Wrong("there are no such names")
+
+
+def check_results(corpus, folder, program):
+    """A result counts for its own trace alone, as that was when its job began, and whole."""
+    traces = [trace_of(folder, name, [*range(count)] * 2) for name, count in zip(twins_in(folder), (40, 7))]
+    words = "run", "--program", program, *BOTH, "--percent=100", "--out", folder / "out", *traces
+    run(corpus, *words)
+    footprints = {it["trace"]: it["footprint"] for it in map(json.loads, (it.read_text() for it in folder.glob("out/results/*")))}
+    expect("the footprints", footprints, {str(traces[0]): 40, str(traces[1]): 7})
+    trace_of(folder, "older", range(5)).rename(traces[0])
+    os.utime(traces[0], (1, 1))
+    expect_parts("an older file", run(corpus, "report", folder / "out")[0], "1 of 2 traces has no result", "it has changed since its job")
+    run(corpus, *words)
+    held = {it: json.loads(it.read_text()) for it in folder.glob("out/results/*")}
+    expect("its footprint", {it["footprint"] for it in held.values()}, {5, 7})
+    place = next(it for it, result in held.items() if result["footprint"] == 7)
+    for text in ("", place.read_text()[:40], '"x"', json.dumps({"trace": str(traces[1])}), place.read_text().replace('"lru": 7', '"lru": 0'),
+                 place.read_text().replace('"trace": "', '"trace": "x'), "[" * 99999):
+        place.write_text(text)
+        expect_parts(f"a result that is {text[:40]}", run(corpus, "report", folder / "out")[0], "1 of 2 traces has no result", "did not end")
+        run(corpus, *words)
+        expect("its result", json.loads(place.read_text()), held[place])
+    traces[0].unlink()
+    expect("a trace that is gone", "no result" in run(corpus, "report", folder / "out")[0], False)
+
+
+def check_changing(corpus, folder, program):
+    """A trace that grows while its job reads it, in the beginning or at its end."""
+    for name, script in (("before", f"echo 77 >>{folder}/log; exec {program} \"$@\""), ("after", f"{program} \"$@\"; echo 77 >>{folder}/log")):
+        trace, program_of_log = trace_of(folder, "log", range(40)), file_of(folder, "growing", f"#!/bin/sh\n{script}\n")
+        program_of_log.chmod(0o755)
+        _, error = run(corpus, "run", "--program", program_of_log, *BOTH, "--out", folder / name, trace, status=1)
+        expect_parts("a trace that grows", error, "1 of 1 traces has no result", "it has changed ")
+
+
+def check_other_files(corpus, folder, program):
+    """What is no file of a corpus, and names that others have chosen."""
+    trace, out = trace_of(folder, "some", range(40)), folder / "out"
+    words = "run", "--program", program, *BOTH, "--out", out, trace
+    run(corpus, *words)
+    before, settings = trace.read_bytes(), (out / "corpus.json").read_text()
+    expect_parts("a picture", run(corpus, "report", out, "--plot", trace, status=1)[1], "some is the trace ")
+    expect("the trace", trace.read_bytes(), before)
+    # A link of the name that a process of this number might choose.
+    (folder / "precious").write_text("precious")
+    script = 'ln -s "$1/precious" "$1/.cachesim.$$"; exec "$2" "$3" report "$1/out" --plot "$1/boxes.svg"'
+    run("/bin/sh", "-c", script, "sh", folder, sys.executable, corpus, cwd=folder, env=gnuplot_by(folder, NOTING))
+    expect("what a link led to", ((folder / "precious").read_text(), (folder / "boxes.svg").is_symlink()), ("precious", False))
+    expect("what is left", len([*folder.glob(".cachesim.*")]), 1)
+    for text in ("1", '{"traces": []}', settings.replace('"some"', "[1]").replace("{", "[", 1), "[" * 99999, "\udcff"):
+        (out / "corpus.json").write_bytes(text.encode(errors="surrogateescape"))
+        for call in (words, ("report", out)):
+            expect_parts("its file", run(corpus, *call, status=1)[1], "corpus.json is no file of a corpus")
+    (out / "corpus.json").write_text(settings)
+    (out / "list").unlink()
+    (out / "list").mkdir()
+    trace_of(folder, "some", range(9))
+    expect_parts("a folder", run(corpus, *words, status=1, env=without_parallel(folder))[1], "list: Is a directory")
 
 
 def check_faults(corpus, folder, program):
     """Traces that are faulty, empty, gone, and one with an odd name, by each program that runs jobs; and what is refused."""
     odd = trace_of(folder, ODD, [1, 2, 1])
-    bad, empty, gone = file_of(folder, "bad", "1\n2\nx\n"), file_of(folder, "empty", "*\n"), folder / "gone"
+    bad, empty, gone = file_of(folder, "bad\x1b[2J", b"1\n2\nx\x1b[2J" + b"-" * 60 + b"\n"), file_of(folder, "empty", "*\n"), folder / "gone"
     for name, environment in environments(folder):
         how = {"cwd": folder, "env": environment}
         words = "run", "--program", program, *BOTH, "--out", name
         _, error = run(corpus, *words, bad, gone, odd, empty, status=1, **how)
-        faults = ["3 of 4 traces have no result:", "  bad: fault: BadNumber line 3", "  gone: No such file", "  empty: it has no accesses"]
+        faults = ["3 of 4 traces have no result:", rf"  'bad\x1b[2J': line 3 is no line of the format lirs: {FAULTY}", "  gone: No such file",
+                  "  empty: it has no accesses"]
         expect_parts("what is said", error, *faults)
         out, _ = run(corpus, "report", name, cwd=folder)
         expect_parts("the report", out, *faults)
@@ -165,7 +290,8 @@ def check_faults(corpus, folder, program):
         run(corpus, *words, status=1, **how)
         redone = sum(before[it] != it.stat().st_mtime_ns for it in (folder / name / "results").iterdir())
         expect("the jobs done again", (len(before), redone), (4, 3))
-        expect_parts("other settings", run(corpus, *words, "--percent=7", odd, status=1, **how)[1], "results of other percents")
+        for other, what in (("--percent=7", "percents"), ("--format=arc", "format"), ("--policy=sieve", "policies")):
+            expect_parts("other settings", run(corpus, *words, other, odd, status=1, **how)[1], f"results of other {what}: name")
     with open(folder / "pool/lock", "rb") as held:
         fcntl.flock(held, fcntl.LOCK_EX)
         refused = run(corpus, "run", "--program", program, *BOTH, "--out", "pool", status=1, cwd=folder)[1]
@@ -173,7 +299,6 @@ def check_faults(corpus, folder, program):
     expect_parts("another's folder", run(corpus, "run", "--program", program, "--out", folder, odd, status=1)[1], "has other files in it")
     expect_parts("no folder", run(corpus, "report", folder, status=1)[1], "is no folder of")
     expect_parts("no policy", run(corpus, "report", folder / "pool", "--baseline=sieve", status=1)[1], "sieve is none of")
-    time.sleep(0.01)
     trace_of(folder, ODD, [1] * 9)
     expect_parts("a trace that changed", run(corpus, "report", "pool", cwd=folder)[0], "4 of 4 traces have no result", "it has changed since")
     run(corpus, "run", "--program", program, *BOTH, "--out", "pool", status=1, cwd=folder, env=without_parallel(folder / "bin"))
@@ -372,8 +497,35 @@ MISTAKES = {
     "a footprint of short traces alone": Mistake(check_long, "lib/jobs.py", "[MAX_CAPACITY], part=LONG", "[MAX_CAPACITY]"),
     "names by lines": Mistake(check_faults, "lib/jobs.py", 'split(b"\\0")', "split()"),
     "failed traces in silence": Mistake(check_faults, "corpus", 'return [it for it in results if "fault" in it]', "return []"),
-    "finished jobs done again": Mistake(check_faults, "corpus", "st_mtime_ns < os.stat(name).st_mtime_ns", "st_mtime_ns > 0"),
-    "jobs of changed traces not done": Mistake(check_faults, "corpus", "st_mtime_ns < os.stat(name).st_mtime_ns", "st_mtime_ns < 0"),
+    "finished jobs done again": Mistake(check_faults, "corpus", "not in (None, stamp)", "is not None"),
+    "jobs of changed traces not done": Mistake(check_faults, "corpus", "not in (None, stamp)", "is False"),
+    "times of traces alone": Mistake(check_results, "lib/traces.py", "[it.st_size, it.st_mtime_ns]", "[it.st_mtime_ns > 10**18]"),
+    "a trace that changes while it is read": Mistake(check_changing, "corpus", "traces.update({name: stamp_of(name) for name in left})",
+                                                     "traces.update(dict.fromkeys(left))"),
+    "results of any name": Mistake(check_results, "corpus", 'result["trace"] == name and', ""),
+    "half a result": Mistake(check_results, "corpus", "(OSError, ValueError, TypeError", "(OSError, TypeError"),
+    "a result without a policy": Mistake(check_results, "corpus", "self.is_counted(result))", "True)"),
+    "names that begin alike": Mistake(check_results, "corpus", "hexdigest()[:32]", "hexdigest()[:4]"),
+    "settings without the format": Mistake(check_faults, "corpus", "for it in settings if known[it]", 'for it in settings if it != "format" and known[it]'),
+    "settings without the policies": Mistake(check_faults, "corpus", "for it in settings if known[it]", 'for it in settings if it != "policies" and known[it]'),
+    "a name that is foretold": Mistake(check_other_files, "lib/traces.py", 'os.urandom(8).hex()}" if is_file else name\n    try:\n        with open(beside, "xb"',
+                                       'os.getpid()}" if is_file else name\n    try:\n        with open(beside, "wb"'),
+    "a trace in a picture's place": Mistake(check_other_files, "corpus", "        refuse_own(args.plot, corpus.settings[\"traces\"], TOOL)\n", ""),
+    "anything as a corpus": Mistake(check_other_files, "corpus", "== KINDS:", "== KINDS or settings:"),
+    "a size past the limit as the largest": Mistake(check_long, "lib/jobs.py", "part_of(footprint, Decimal(percent))",
+                                                    "min(MAX_CAPACITY, part_of(footprint, Decimal(percent)))"),
+    "traces left out in silence": Mistake(check_long, "corpus", "for percent, count in counts.items() if count)", "for percent, count in counts.items() if False)"),
+    "as many traces as at the smallest size": Mistake(check_long, "lib/reductions.py", "max(len(it.parts) for it in drawn)", "min(len(it.parts) for it in drawn)"),
+    "no baseline": Mistake(check_defaults, "corpus", "*[BASELINE] * (BASELINE in taken), ", ""),
+    "sizes by their text": Mistake(check_defaults, "corpus", ", key=Decimal)", ")"),
+    "escapes of a name": Mistake(check_faults, "corpus", "name if name.isprintable() else ascii(name)", "name"),
+    "escapes of a line": Mistake(check_faults, "lib/traces.py", "ascii(text[:SHOWN])", "text[:SHOWN]"),
+    "near by half a point alone": Mistake(check_near, "lib/reductions.py", " and 20 * (misses - lowest) <= lowest", ""),
+    "boxes over one another": Mistake(check_known_report, "lib/reductions.py", "percents.index(percent) * wide + at", "percents.index(percent) + at"),
+    "whiskers as boxes": Mistake(check_known_report, "lib/reductions.py", "using 1:3:2:6:5 with", "using 1:2:2:6:6 with"),
+    "each box as the first": Mistake(check_known_report, "lib/reductions.py", "title {quoted(policy)}, ", "title {quoted('lru')}, "),
+    "the points of one size": Mistake(check_known_report, "lib/reductions.py", 'f"$size{at} with points', 'f"$size0 with points'),
+    "the line of the other policy": Mistake(check_known_report, "lib/reductions.py", "above the line {pair[1]} has", "above the line {pair[0]} has"),
     "two runs at once": Mistake(check_faults, "corpus", "fcntl.LOCK_EX | fcntl.LOCK_NB", "fcntl.LOCK_UN"),
     "a signal that the status does not say": Mistake(check_interrupt, "corpus", "os.kill(os.getpid(), engine.ended_by)", "sys.exit(1)"),
 }

@@ -10,14 +10,15 @@ import pytest
 import reference_tests
 import sample_tests
 import survey_tests
+import traces_tests
 from checks import replaced
 
-MODULES = {"survey": survey_tests, "plot": plot_tests, "corpus": corpus_tests, "sample": sample_tests, "journal": journal_tests,
-           "reference": reference_tests}
+MODULES = [("survey", survey_tests), ("survey", traces_tests), ("plot", plot_tests), ("corpus", corpus_tests),
+           ("sample", sample_tests), ("journal", journal_tests), ("reference", reference_tests)]
 
 
 @pytest.mark.parametrize("script, mistake", [pytest.param(script, mistake, id=f"{script}: {words}")
-                                             for script, module in MODULES.items() for words, mistake in module.MISTAKES.items()])
+                                             for script, module in MODULES for words, mistake in module.MISTAKES.items()])
 def check_mistake(script, mistake, tools, folder, program):
     copy = shutil.copytree(tools.parent, folder / "copy", copy_function=os.link) / "tools"
     file = copy / mistake.file

@@ -251,14 +251,14 @@ def check_lost_row(survey, folder, program):
     expect_parts("a report that is left out", error, "other reports")
     failing = fake(folder)
     failing.write_text(f"{failing.read_text()}sys.exit(1)\n")
-    run(survey, trace, "--program", failing, status=1)
+    expect_parts("a long trace", run(survey, trace, "--program", failing, status=1)[1], "of a longer trace tools/sample makes a sample")
     for name, part in ((folder / "none", "none: No such file"), (folder, "Is a directory")):
         expect_parts("no file", run(survey, name, "--program", program, status=1)[1], part)
     arc = file_of(folder, "arc", "0 7\n")
     for words, hint in ((("--format", "lirs"), "--format arc"), (("--format", "arc", "--capacity", "1"), "--format lirs")):
-        text = arc if "lirs" in words else trace
-        expect_parts("a trace in another format", run(survey, *words, text, "--program", program, status=1)[1], f"refused {text}: another format is {hint}, and ",
-                     "tools/sample")
+        text, line = (arc, "0 7") if "lirs" in words else (trace, "1")
+        expect_parts("a trace in another format", run(survey, *words, text, "--program", program, status=1)[1],
+                     f"tools/survey: {text}: line 1 is no line of the format {words[1]}: '{line}': another format is {hint}, and docs/TRACES.md converts")
     for word in ("1M", "1048577"):
         expect_parts("a word", run(survey, trace, "--capacity", word, "--program", program, status=2)[1], f"{word} is not a whole number")
     for option in ("--percent", "--reach", "--jump"):

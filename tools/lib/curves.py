@@ -3,12 +3,14 @@ refused of them."""
 import sys
 from collections import namedtuple
 
+from .names import as_called
 from .policies import OPTIMAL
 
 SWEEP = "policy,capacity,accesses,hits,misses,evictions,rejections,rate"
 INTERVALS = "policy,capacity,first,last,hits,misses,evictions,rejections,rate"
 COMPARISONS = "first,second,capacity,from,to,both,first_only,second_only,neither"
 HEADERS = (SWEEP, INTERVALS, COMPARISONS)
+TOOL = as_called("tools/plot")
 
 # A report of a file: the line that it is in, the place of the horizontal axis where it begins and that where it ends,
 # and its counts.
@@ -18,7 +20,7 @@ Curve = namedtuple("Curve", "name policy variant points")
 
 
 def refuse(text):
-    sys.exit(f"tools/plot: {text}")
+    sys.exit(f"{TOOL}: {text}")
 
 
 def number_of(text):

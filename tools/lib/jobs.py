@@ -32,14 +32,15 @@ SECONDS_TO_END = 0.5
 
 
 class JobProgram(Program):
-    """The program as a job calls it: what it refuses is the fault of the trace."""
+    """The program as a job calls it, which says nothing by itself."""
 
     def output(self, words, **how):
-        ended = super().output(words, stderr=subprocess.PIPE, **how)
-        if ended.returncode:
-            said = ended.stderr.decode(errors="replace").strip().splitlines()
-            raise Unreadable(said[-1] if said else f"the program ended with status {ended.returncode}")
-        return ended
+        return super().output(words, stderr=subprocess.PIPE, **how)
+
+    @staticmethod
+    def refusal(ended, faulty_line, _):
+        said = ended.stderr.decode(errors="replace").strip().splitlines()
+        return faulty_line or (said[-1] if said else f"the program ended with status {ended.returncode}")
 
 
 def line_of(program, settings, name):

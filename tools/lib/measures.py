@@ -73,7 +73,7 @@ def survey_of(trace, policies, args, progress):
     # Without an eviction the misses are the distinct blocks.
     footprint = len(counts) if report.evictions else report.misses
     if counts and (report.accesses, footprint) != (counts.total(), len(counts)):
-        sys.exit(f"tools/survey: {trace.name} has other accesses than the program says")
+        sys.exit(f"{trace.program.tool}: {trace.name} has other accesses than the program says")
     if not trace.leave_out(report.accesses):
         progress.erase()
         return Survey(trace, 0, footprint, 0, "0.00", policies, {}, {}, {}, [], [], [])
@@ -119,7 +119,7 @@ def capacities_of(trace, footprint, args, progress):
     for capacity in sorted(found):
         if capacity > MAX_CAPACITY:
             progress.erase()
-            print(f"tools/survey: {trace.name}: {trace.shown(capacity)} entries are left out: the largest cache has "
+            print(f"{trace.program.tool}: {trace.name}: {trace.shown(capacity)} entries are left out: the largest cache has "
                   f"{trace.shown(MAX_CAPACITY)}", file=sys.stderr)
     return sorted(it for it in found if it <= MAX_CAPACITY)
 

@@ -10,7 +10,8 @@ from .policies import OPTIMAL, POLICIES
 
 HEADS = ("% of footprint", "policy", "traces", "mean", "P10", "P25", "P50", "P75", "P90", "best on", "near on")
 NOTE = """(percent of misses fewer than {baseline} has, over the traces; P50: the median, between two traces linearly)
-(best on: so many traces; near on: within half a point of the best hit ratio there; clairvoyant is left out)
+(best on: so many traces; near on: within half a point of the best hit ratio there and 5 % of its misses;
+clairvoyant is left out)
 """
 # The colours of the sizes in a scatter.
 COLOURS = [POLICIES[it].colour for it in ("lru", "wtinylfu", "tinylfu-lru", "tinylfu-slru", "slru", "clock", "arc", "sieve")]
@@ -31,9 +32,14 @@ def columns_of(results, settings, baseline):
         lowest = [min(count for policy, count in misses.items() if policy != OPTIMAL or len(misses) == 1)
                   for misses, _ in traces]
         for policy in settings["policies"]:
-            above = [(misses[policy] - low, accesses) for (misses, accesses), low in zip(traces, lowest)]
+            counts = [(misses[policy], low, accesses) for (misses, accesses), low in zip(traces, lowest)]
             yield Column(percent, policy, [fewer(misses[policy], misses[baseline]) for misses, _ in traces],
-                         sum(more <= 0 for more, _ in above), sum(200 * more <= accesses for more, accesses in above))
+                         sum(count <= low for count, low, _ in counts), sum(is_near(*it) for it in counts))
+
+
+def is_near(misses, lowest, accesses):
+    """Whether the hit ratio is within half a point of the best one, with at most 5 percent more misses."""
+    return 200 * (misses - lowest) <= accesses and 20 * (misses - lowest) <= lowest
 
 
 def percentiles_of(parts):

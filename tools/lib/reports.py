@@ -10,8 +10,9 @@ import tempfile
 from collections import namedtuple
 from pathlib import Path
 
+from .names import as_called
 from .policies import tip_for
-from .traces import FORMATS, TraceFile, beginning_of
+from .traces import FORMATS, TraceFile, Unreadable, beginning_of, ranges_of
 
 MAX_CAPACITY = 1 << 20
 SWEEP = "policy,capacity,accesses,hits,misses,evictions,rejections,rate".split(",")
@@ -60,17 +61,23 @@ class Program:
                 sys.exit(f"{self.tool}: --policy {policy} is none of {', '.join(taken)}{tip_for(policy, taken)}")
         return list(dict.fromkeys(named or []))
 
-    def rows(self, words, trace, name):
-        """The rows of a sweep of a trace, with their rate left out."""
-        ended = self.output(words, stdin=trace)
+    def rows(self, words, file, trace):
+        """The rows of a sweep of a trace, of which this is an open file, with their rate left out."""
+        ended = self.output(words, stdin=file)
         if ended.returncode:
-            other = next(it for it in FORMATS if it != words[words.index("--format") + 1])
-            sys.exit(f"{self.tool}: the program refused {name}: another format is --format {other}, and of a longer trace "
-                     "tools/sample makes a sample")
+            raise Unreadable(f"{trace.name}: {self.refusal(ended, trace.faulty_line(), trace.options.format)}")
         found, *rows = csv.reader(ended.stdout.decode().splitlines())
         if found != SWEEP:
-            self.refuse_reports(name)
+            self.refuse_reports(trace.name)
         return [(policy, *map(int, numbers)) for policy, *numbers, _ in rows]
+
+    @staticmethod
+    def refusal(_, faulty_line, form):
+        """Why the program refused a trace. It has said which fault that is."""
+        other = next(it for it in FORMATS if it != form)
+        if not faulty_line:
+            return as_called("the program refused it: of a longer trace tools/sample makes a sample")
+        return as_called(f"{faulty_line}: another format is --format {other}, and docs/TRACES.md converts what is in none")
 
     def refuse_reports(self, name):
         sys.exit(f"{self.tool}: the program printed other reports of {name} than were asked for")
@@ -103,6 +110,15 @@ class Trace:
     def lines(self):
         return self.file.lines()
 
+    def faulty_line(self):
+        """The first line that the program refuses, if it refuses one."""
+        try:
+            for _ in ranges_of(self.lines(), self.options.format):
+                pass
+        except ValueError as fault:
+            return str(fault)
+        return None
+
     def warm_up_lines(self):
         os.lseek(self.warm_up.fileno(), 0, os.SEEK_SET)
         return os.fdopen(os.dup(self.warm_up.fileno()), "rb")
@@ -131,7 +147,8 @@ class Trace:
         options = self.options
         words = ["sweep", "--format", options.format, "--spread", options.spread, "--main", main or options.main, *part]
         words += [*(word for policy in policies for word in ("--policy", policy)), *capacities]
-        rows = self.program.rows(words, trace, self.name)
+        rows = self.program.rows(words, trace, self)
+        self.file.begun()  # as at first, or it has changed meanwhile
         if [row[:2] for row in rows] != [(policy, capacity) for policy in policies for capacity in capacities]:
             self.program.refuse_reports(self.name)
         return {row[:2]: Row(*row[:6]) for row in rows}

@@ -3,6 +3,7 @@ import argparse
 import re
 from collections import namedtuple
 
+from .names import as_called
 from .option_types import whole_number
 
 # What is known of a sample: the N of its rate 1/N, how many accesses the whole trace has, and how many it has itself.
@@ -33,14 +34,14 @@ def named(text):
         kept, accesses, rate = said[-1]
         return Sample(inverse_of_rate(rate), int(accesses), int(kept))
     except ValueError as fault:
-        raise argparse.ArgumentTypeError(f"{fault}, nor a file with what tools/sample said") from None
+        raise argparse.ArgumentTypeError(as_called(f"{fault}, nor a file with what tools/sample said")) from None
 
 
 def add_options(parser, what):
     """The options of a script that takes a sample, or what was made of one."""
     parser.add_argument("--sampled", type=named, metavar="1/N",
-                        help=f"{what} from a sample by tools/sample, of this rate: estimate the whole trace. In place of 1/N and "
-                             "--accesses also a file with what tools/sample said of it, which has to fit exactly")
+                        help=as_called(f"{what} from a sample by tools/sample, of this rate: estimate the whole trace. In place of 1/N "
+                                       "and --accesses also a file with what tools/sample said of it, which has to fit exactly"))
     parser.add_argument("--accesses", type=whole_number(1 << 60), metavar="N",
                         help="with --sampled 1/N: the accesses of the whole trace. Refused where those of the sample times N are "
                              "over twice as many or under half, or where it has no fewer")
@@ -70,5 +71,5 @@ def check_accesses(args, where, accesses):
     if kept is not None and accesses != kept:
         args.usage_error(f"{where}it has {accesses} accesses, and the sample that --sampled names has {kept}")
     if kept is None and not (whole <= 2 * stands_for and stands_for <= 2 * whole and accesses < whole):
-        args.usage_error(f"{where}its {accesses} accesses at 1/{args.sampled} stand for {stands_for}, far from --accesses {whole}: is "
-                         "it that sample? Where a few blocks have most accesses, name the file with what tools/sample said")
+        args.usage_error(as_called(f"{where}its {accesses} accesses at 1/{args.sampled} stand for {stands_for}, far from --accesses {whole}: is "
+                         "it that sample? Where a few blocks have most accesses, name the file with what tools/sample said"))

@@ -19,6 +19,8 @@ GZIP, ZSTD = b"\x1f\x8b", b"\x28\xb5\x2f\xfd"
 COPIED = 1 << 20
 # The number of a block is below this one.
 BLOCKS = 1 << 64
+# So many characters of a faulty line are shown.
+SHOWN = 40
 
 # An interrupt ends a script at once and without a word, but where its caller has it ignore interrupts.
 if signal.getsignal(signal.SIGINT) == signal.default_int_handler:
@@ -33,21 +35,36 @@ class TraceFile:
     """The text of a trace, which can be read again and again: the file, or an unpacked copy of it or of a pipe."""
 
     def __init__(self, name):
+        self.name = name
         try:
             source = os.fdopen(os.dup(0), "rb") if name == "-" else open(name, "rb")
             first = source.peek(len(ZSTD))[:len(ZSTD)]
-            is_file = stat.S_ISREG(os.fstat(source.fileno()).st_mode)
-            self.file = source if is_file and not first.startswith((GZIP, ZSTD)) else copy_of(source, first)
+            is_file = stat.S_ISREG(os.fstat(source.fileno()).st_mode) and not first.startswith((GZIP, ZSTD))
+            # A caller may have read lines of a standard input.
+            self.start = source.tell() if is_file else 0
+            self.file = source if is_file else copy_of(source, first)
         except (OSError, EOFError, zlib.error) as fault:
             raise Unreadable(f"{name}: {getattr(fault, 'strerror', None) or fault}") from None
+        self.stamp = stamp_of(self.file.fileno())
 
     def begun(self):
-        """The number of the open file, set to its beginning."""
-        os.lseek(self.file.fileno(), 0, os.SEEK_SET)
+        """The number of the open file, set to where the trace begins, if it is as it was at first."""
+        if stamp_of(self.file.fileno()) != self.stamp:
+            raise Unreadable(f"{self.name}: it has changed while it was read")
+        os.lseek(self.file.fileno(), self.start, os.SEEK_SET)
         return self.file.fileno()
 
     def lines(self):
         return os.fdopen(os.dup(self.begun()), "rb")
+
+
+def stamp_of(file):
+    """The size of a file and the time of its last change, by which a change is seen, or None where it is not here."""
+    try:
+        it = os.stat(file)
+        return [it.st_size, it.st_mtime_ns]
+    except OSError:
+        return None
 
 
 def copy_of(source, first):
@@ -83,9 +100,15 @@ def ranges_of(lines, form):
             fields = [it for it in text.replace(b"\t", b" ").split(b" ") if it]
             block, count = number_of(fields[0]), number_of(fields[1]) if len(fields) > 1 else BLOCKS
         if max(block, count) == BLOCKS or block + count > BLOCKS:
-            raise ValueError(f"line {number} is no line of the format {form}: {line.decode(errors='replace').rstrip()}")
+            raise ValueError(f"line {number} is no line of the format {form}: {shown(line)}")
         if count:
             yield block, count
+
+
+def shown(line):
+    """The first 40 characters of a line, as Python writes them: a terminal obeys none of these."""
+    text = line.decode(errors="replace").rstrip("\r\n")
+    return ascii(text[:SHOWN]) + " .." * (len(text) > SHOWN)
 
 
 def number_of(field):
@@ -126,14 +149,22 @@ def write(output, tool):
         sys.exit(f"{tool}: the output cannot be written: {fault.strerror}")
 
 
+def refuse_own(picture, traces, tool):
+    """Ends a script whose picture would take the place of one of its traces."""
+    for trace in traces:
+        if os.path.exists(picture) and os.path.exists(trace) and os.path.samefile(picture, trace):
+            sys.exit(f"{tool}: {picture} is the trace {trace}: name another file for the picture")
+
+
 def replace_file(name, data, tool):
     """Writes a file beside its place and moves it there, so that what stood there stays where that fails. What is no file,
     as a pipe, is written as it is."""
     place = os.path.realpath(name)
     is_file = os.path.isfile(name) or not os.path.exists(name)
-    beside = f"{os.path.dirname(place)}/.cachesim.{os.getpid()}" if is_file else name
+    # Nobody else knows the name, whatever runs on other machines.
+    beside = f"{os.path.dirname(place)}/.cachesim.{os.urandom(8).hex()}" if is_file else name
     try:
-        with open(beside, "wb") as file:
+        with open(beside, "xb" if is_file else "wb") as file:
             file.write(data)
         if is_file:
             os.replace(beside, place)
