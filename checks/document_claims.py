@@ -16,7 +16,7 @@ FENCED = re.compile(r"^```.*?^```$", re.M | re.S)
 # Tools that have names of small repositories of their own.
 NAMING_OTHERS = ("check_tools", "check_new_policy")
 # Documents of which each name in the sources is looked up.
-NAMING = ("CONTRIBUTING.md", *(f"docs/{it}.md" for it in ("PROOFS", "MUTATIONS", "PROVING", "ARCHITECTURE", "DECISIONS")))
+NAMING = ("CONTRIBUTING.md", *(f"docs/{it}.md" for it in ("PROOFS", "PROVING", "ARCHITECTURE", "DECISIONS")))
 
 
 class Sources:
