@@ -119,8 +119,8 @@ def call(*words, **how):
 
 def listed_policies(program):
     """The policies that a program lists."""
-    listed = re.search(r"\[possible values: (lru, [^]]*)\]", call(program, "run", "--help")[0])
-    return listed[1].split(", ") if listed else []
+    listed = re.search(r"\[possible values: (lru,\s[^]]*)\]", call(program, "run", "--help")[0])
+    return re.split(r",\s+", listed[1]) if listed else []
 
 
 def read_until(file, end, seconds):
