@@ -63,10 +63,15 @@ fn subcommand<'a>(
 fn without_options<'a>(alloc: Global, row: &Subcommand) -> Command<'a>
     ensures { IsCommandOf (new_app row.now.name.now) result }
 {
-    Command::new(alloc, row.name)
+    let command = Command::new(alloc, row.name)
         .about(row.about)
         .long_about(row.whole)
         .after_help(row.example)
+        .next_line_help(true);
+    match row.usage {
+        Some(usage) => command.override_usage(usage),
+        None => command,
+    }
 }
 
 // The argument of an option.
@@ -77,7 +82,8 @@ fn arg<'a>(alloc: Global, row: &OptionRow, lists: &WordLists<'a>) -> Arg<'a>
     let arg = placed(alloc, row)
         .value_parser(parser(row.value, lists))
         .value_name(row.value_name)
-        .help(row.help);
+        .help(row.help)
+        .hide_possible_values(has_many_words(row.value));
     match row.default {
         Some(word) => arg.default_value(word),
         None => arg.required(is_required(row.place)),
@@ -103,6 +109,11 @@ fn is_required(place: Place) -> bool
     ensures { result ≡ is_required place }
 {
     !matches!(place, Place::Optional | Place::Switch)
+}
+
+// Whether a value is one of so many words that they do not fit a line.
+fn has_many_words(value: ValueKind) -> bool {
+    matches!(value, ValueKind::Policy | ValueKind::Rate)
 }
 
 // What `clap` takes as a value.

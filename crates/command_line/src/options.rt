@@ -1,5 +1,6 @@
 //! The program's options and subcommands, each a row: the commands that `clap` reads, their help, the arguments and the
-//! definition of what words ask for are all made of these.
+//! definition of what words ask for are all made of these. A text of help is broken where its line would be over 80
+//! columns wide: help sets those of options in by 10, and those in the list of subcommands by 13.
 ghost use Rattle.std.specs.Prelude.{◌≡◌};
 ghost use Rattle.command_line.specs.Options.{defined, row_of};
 
@@ -21,6 +22,8 @@ pub struct Subcommand {
     pub about: &'static str,
     /// The top of `--help`: what is read from where.
     pub whole: &'static str,
+    /// Its usage line, where that of `clap` is over 80 columns wide.
+    pub usage: Option<&'static str>,
     /// The end of help: a call.
     pub example: &'static str,
     /// In the order in which help lists them.
@@ -34,7 +37,7 @@ pub struct OptionRow {
     pub id: &'static str,
     /// What help calls a value.
     pub value_name: &'static str,
-    /// What help says of it.
+    /// What help says of it. Of many words it lists the possible values too, which `clap` would write into one line.
     pub help: &'static str,
     pub value: ValueKind,
     pub place: Place,
@@ -120,10 +123,11 @@ pub enum Place {
 pub static SUBCOMMANDS: [Subcommand; 9] = [
     Subcommand {
         name: "run",
-        about: "Runs policies over the trace on standard input and prints a report of each",
+        about: "Runs policies over the trace on standard input: a report of each",
         whole: "Runs policies over the trace on standard input and prints a report of each.
-The trace comes by a redirection (< FILE) or a pipe. Without one, at a terminal, the program waits
-for you to type the trace, a line each, up to Ctrl-D.",
+The trace comes by a redirection (< FILE) or a pipe. Without one, at a terminal,
+the program waits for you to type the trace, a line each, up to Ctrl-D.",
+        usage: None,
         example: "Example: cachesim run --capacity 100 lru wtinylfu clairvoyant < trace.lirs",
         options: &[
             Capacity, Main, Small, In, Out, Period, Spread, Format, Long, Batch, Policies,
@@ -131,9 +135,10 @@ for you to type the trace, a line each, up to Ctrl-D.",
     },
     Subcommand {
         name: "sweep",
-        about: "Runs policies over the trace on standard input and prints a report of each at each capacity",
-        whole: "Runs policies over the trace on standard input and prints a report of each at each capacity.
-The trace comes by a redirection (< FILE) or a pipe.",
+        about: "Runs policies at several capacities: a report of each at each",
+        whole: "Runs policies over the trace on standard input and prints a report of each at
+each capacity. The trace comes by a redirection (< FILE) or a pipe.",
+        usage: None,
         example: "Example: cachesim sweep --policy wtinylfu 50 100 200 400 < trace.lirs",
         options: &[
             Main,
@@ -150,20 +155,24 @@ The trace comes by a redirection (< FILE) or a pipe.",
     },
     Subcommand {
         name: "intervals",
-        about: "Runs policies over the trace on standard input and prints what each makes of each interval of it",
-        whole: "Runs policies over the trace on standard input and prints what each makes of each interval of it: a row for
-each --every accesses. The caches stay as they are from one interval to the next. The trace comes by a
-redirection (< FILE) or a pipe.",
-        example: "Example: cachesim intervals --capacity 100 --every 1000 lru wtinylfu < trace.lirs",
+        about: "Runs policies and prints what each makes of each interval",
+        whole: "Runs policies over the trace on standard input and prints what each makes of
+each interval of it: a row for each --every accesses. The caches stay as they
+are from one interval to the next. The trace comes by a redirection (< FILE) or
+a pipe.",
+        usage: None,
+        example: "Example: cachesim intervals --capacity 100 --every 1000 lru arc < trace.lirs",
         options: &[
             Capacity, Every, Main, Small, In, Out, Period, Spread, Format, Long, Policies,
         ],
     },
     Subcommand {
         name: "part",
-        about: "Prints the first access of the trace on standard input at which just one of two policies hits",
-        whole: "Prints where two policies diverge: `part P`, P the first access of the trace on standard input, counted
-from 1, at which just one of them hits, or `part none`. The trace comes by a redirection (< FILE) or a pipe.",
+        about: "Prints the first access at which just one of two policies hits",
+        whole: "Prints where two policies diverge: `part P`, P the first access of the trace on
+standard input, counted from 1, at which just one of them hits, or `part none`.
+The trace comes by a redirection (< FILE) or a pipe.",
+        usage: None,
         example: "Example: cachesim part --capacity 100 --first lru --second slru < trace.lirs",
         options: &[
             Capacity, Main, Small, In, Out, Period, Spread, Format, Long, First, Second,
@@ -171,10 +180,15 @@ from 1, at which just one of them hits, or `part none`. The trace comes by a red
     },
     Subcommand {
         name: "compare",
-        about: "Prints at how many accesses of the trace on standard input both of two policies hit, one alone, or neither",
-        whole: "Prints at how many accesses of the trace on standard input both of two policies hit, only the first, only
-the second, and neither; with --every M at how many of each M accesses, a row for each. The trace comes by a
-redirection (< FILE) or a pipe.",
+        about: "Counts the accesses at which both policies hit, one, or neither",
+        whole: "Prints at how many accesses of the trace on standard input both of two policies
+hit, only the first, only the second, and neither; with --every M at how many of
+each M accesses, a row for each. The trace comes by a redirection (< FILE) or a
+pipe.",
+        usage: Some(
+            "cachesim compare [OPTIONS] --capacity <N> --first <POLICY>
+                        --second <POLICY>",
+        ),
         example: "Example: cachesim compare --capacity 100 --first lru --second slru < trace.lirs",
         options: &[
             Capacity,
@@ -193,18 +207,22 @@ redirection (< FILE) or a pipe.",
     },
     Subcommand {
         name: "sample",
-        about: "Writes a sample of the trace on standard input: all accesses to one block in N",
-        whole: "Writes a sample of the trace on standard input, a block number a line: all accesses to one block in N, and
-none to the others. The trace may have 4294967295 accesses and 2^40 bytes; it comes by a redirection (< FILE)
-or a pipe. At its end a line on standard error says what the sample is.",
+        about: "Writes a sample of the trace: all accesses to one block in N",
+        whole: "Writes a sample of the trace on standard input, a block number a line: all
+accesses to one block in N, and none to the others. The trace may have
+4294967295 accesses and 2^40 bytes; it comes by a redirection (< FILE) or a
+pipe. At its end a line on standard error says what the sample is.",
+        usage: None,
         example: "Example: cachesim sample --rate 1/8 < trace.lirs > eighth.lirs",
         options: &[Rate, Seed, Format],
     },
     Subcommand {
         name: "drive",
-        about: "Runs the concurrent cache on threads over the trace on standard input and prints its journal",
-        whole: "Runs the concurrent cache on threads over the trace on standard input and prints its journal, which
-`replay` reads. The trace comes by a redirection (< FILE) or a pipe.",
+        about: "Runs the concurrent cache on threads and prints its journal",
+        whole: "Runs the concurrent cache on threads over the trace on standard input and prints
+its journal, which `replay` reads. The trace comes by a redirection (< FILE) or
+a pipe.",
+        usage: None,
         example: "Example: cachesim drive --capacity 100 --workers 4 < trace.lirs > run.journal",
         options: &[
             Capacity, Main, Small, In, Out, Period, Spread, Format, Workers, Stripes, Limit,
@@ -212,21 +230,28 @@ or a pipe. At its end a line on standard error says what the sample is.",
     },
     Subcommand {
         name: "debug",
-        about: "Answers commands on standard input about two policies over the trace of a file",
-        whole: "Answers commands on standard input about two policies over the trace of a file. A command is a line:
-step N, back N, goto N, run, break hit K, break evict K, break halve, break part, clear, show, window, part, quit.
-Here standard input has the commands, and --trace names the file of the trace.",
-        example: "Example: cachesim debug --trace trace.lirs --capacity 100 --first lru --second slru",
+        about: "Answers commands about two policies over the trace of a file",
+        whole: "Answers commands on standard input about two policies over the trace of a file.
+A command is a line: step N, back N, goto N, run, break hit K, break evict K,
+break halve, break part, clear, show, window, part, quit. Here standard input
+has the commands, and --trace names the file of the trace.",
+        usage: Some(
+            "cachesim debug [OPTIONS] --capacity <N> --first <POLICY>
+                      --second <POLICY> --trace <FILE>",
+        ),
+        example: "Example: cachesim debug --trace t.lirs --capacity 100 --first lru --second slru",
         options: &[
             Capacity, Main, Small, In, Out, Period, Spread, Format, First, Second, Trace,
         ],
     },
     Subcommand {
         name: "replay",
-        about: "Answers commands on standard input about the concurrent run whose journal is in a file",
-        whole: "Answers commands on standard input about the concurrent run whose journal is in a file. A command is a
-line: step N, back N, goto N, run, break hit K, break evict K, break halve, break drop, clear, show, save, quit.
-Give --capacity, --stripes, --main, --spread and --limit as they were given to `drive`.",
+        about: "Answers commands about the concurrent run of a journal",
+        whole: "Answers commands on standard input about the concurrent run whose journal is in
+a file. A command is a line: step N, back N, goto N, run, break hit K, break
+evict K, break halve, break drop, clear, show, save, quit. Give --capacity,
+--stripes, --main, --spread and --limit as they were given to `drive`.",
+        usage: None,
         example: "Example: cachesim replay --journal run.journal --capacity 100",
         options: &[
             Capacity, Main, Small, In, Out, Period, Spread, Journal, Stripes, Limit,
@@ -247,7 +272,8 @@ static OPTIONS: [OptionRow; 24] = [
     OptionRow {
         id: "capacities",
         value_name: "CAPACITY",
-        help: "How many entries the caches hold, from 1 to 1048576 each, in the order of their reports",
+        help: "How many entries the caches hold, from 1 to 1048576 each, in the
+order of their reports",
         value: ValueKind::Number(1, MAX_CAPACITY),
         place: Place::Positional,
         default: None,
@@ -255,7 +281,9 @@ static OPTIONS: [OptionRow; 24] = [
     OptionRow {
         id: "main",
         value_name: "N",
-        help: "How much of the capacity of wtinylfu, and of caffeine at first, is the main part, in percent, from 0 to 99; the rest is the window",
+        help: "How much of the capacity of wtinylfu, and of caffeine at first, is
+the main part, in percent, from 0 to 99;
+the rest is the window",
         value: ValueKind::Number(0, MAX_MAIN_PERCENT as u32),
         place: Place::Named,
         default: Some("99"),
@@ -263,7 +291,8 @@ static OPTIONS: [OptionRow; 24] = [
     OptionRow {
         id: "small",
         value_name: "P",
-        help: "How much of the capacity of s3-fifo is its small queue, in percent, from 1 to 99",
+        help: "How much of the capacity of s3-fifo is its small queue, in percent,
+from 1 to 99",
         value: ValueKind::Number(1, MAX_PART_PERCENT as u32),
         place: Place::Named,
         default: Some("10"),
@@ -271,7 +300,8 @@ static OPTIONS: [OptionRow; 24] = [
     OptionRow {
         id: "in",
         value_name: "P",
-        help: "How much of the capacity of 2q is its queue of new keys, in percent, from 1 to 99",
+        help: "How much of the capacity of 2q is its queue of new keys, in percent,
+from 1 to 99",
         value: ValueKind::Number(1, MAX_PART_PERCENT as u32),
         place: Place::Named,
         default: Some("25"),
@@ -279,7 +309,8 @@ static OPTIONS: [OptionRow; 24] = [
     OptionRow {
         id: "out",
         value_name: "P",
-        help: "How many keys that left the ghost of 2q remembers, in percent of the capacity, from 1 to 100",
+        help: "How many keys that left the ghost of 2q remembers, in percent of the
+capacity, from 1 to 100",
         value: ValueKind::Number(1, MAX_GHOST_PERCENT as u32),
         place: Place::Named,
         default: Some("50"),
@@ -287,7 +318,8 @@ static OPTIONS: [OptionRow; 24] = [
     OptionRow {
         id: "period",
         value_name: "N",
-        help: "After how many accesses caffeine moves its window, from 1 to 4294967295, though no fewer than its entries; by itself 10 an entry",
+        help: "After how many accesses caffeine moves its window, from 1 to
+4294967295, though no fewer than its entries; by itself 10 an entry",
         value: ValueKind::Number(1, u32::MAX),
         place: Place::Optional,
         default: None,
@@ -295,7 +327,8 @@ static OPTIONS: [OptionRow; 24] = [
     OptionRow {
         id: "spread",
         value_name: "SPREAD",
-        help: "How keys are spread over the columns of a sketch: mixed by a mixing function, plain by remainders",
+        help: "How keys are spread over the columns of a sketch: mixed by a hash,
+plain by remainders",
         value: ValueKind::Spread,
         place: Place::Named,
         default: Some("mixed"),
@@ -303,7 +336,8 @@ static OPTIONS: [OptionRow; 24] = [
     OptionRow {
         id: "format",
         value_name: "FORMAT",
-        help: "The format of the trace: lirs has a block number a line, arc a first block and how many blocks",
+        help: "The format of the trace: lirs has a block number a line, arc a first
+block and how many blocks",
         value: ValueKind::Format,
         place: Place::Named,
         default: Some("lirs"),
@@ -311,7 +345,8 @@ static OPTIONS: [OptionRow; 24] = [
     OptionRow {
         id: "long",
         value_name: "",
-        help: "The trace may have 4294967295 accesses and 2^40 bytes, in place of 16777216 and 2^30; not for clairvoyant",
+        help: "The trace may have 4294967295 accesses and 2^40 bytes, in place of
+16777216 and 2^30; not for clairvoyant",
         value: ValueKind::Flag,
         place: Place::Switch,
         default: None,
@@ -319,7 +354,8 @@ static OPTIONS: [OptionRow; 24] = [
     OptionRow {
         id: "batch",
         value_name: "N",
-        help: "How many accesses a policy is given at once, from 1 to 65536; no report depends on it",
+        help: "How many accesses a policy is given at once, from 1 to 65536; no
+report depends on it",
         value: ValueKind::Number(1, MAX_BATCH),
         place: Place::Named,
         default: Some("1024"),
@@ -327,7 +363,8 @@ static OPTIONS: [OptionRow; 24] = [
     OptionRow {
         id: "every",
         value_name: "M",
-        help: "How many accesses an interval has, from 1 to 16777216, or to 4294967295 with --long; the last one may have fewer",
+        help: "How many accesses an interval has, from 1 to 16777216, or to
+4294967295 with --long; the last one may have fewer",
         value: ValueKind::Number(1, u32::MAX),
         place: Place::Named,
         default: None,
@@ -335,7 +372,8 @@ static OPTIONS: [OptionRow; 24] = [
     OptionRow {
         id: "every",
         value_name: "M",
-        help: "A row for each interval of M accesses, from 1 to 16777216, or to 4294967295 with --long; the last one may have fewer",
+        help: "A row for each interval of M accesses, from 1 to 16777216, or to
+4294967295 with --long; the last one may have fewer",
         value: ValueKind::Number(1, u32::MAX),
         place: Place::Optional,
         default: None,
@@ -343,7 +381,10 @@ static OPTIONS: [OptionRow; 24] = [
     OptionRow {
         id: "policy",
         value_name: "POLICY",
-        help: "The policies to run, in the order of their reports; no file is named here",
+        help: "The policies to run, in the order of their reports;
+no file is named here
+[possible values: lru, slru, tinylfu-lru, tinylfu-slru, wtinylfu,
+clairvoyant, fifo, clock, sieve, s3-fifo, 2q, arc, caffeine]",
         value: ValueKind::Policy,
         place: Place::Positional,
         default: None,
@@ -351,7 +392,10 @@ static OPTIONS: [OptionRow; 24] = [
     OptionRow {
         id: "policy",
         value_name: "POLICY",
-        help: "A policy to run; given more than once, the reports of the first come first",
+        help: "A policy to run; given more than once,
+the reports of the first come first
+[possible values: lru, slru, tinylfu-lru, tinylfu-slru, wtinylfu,
+clairvoyant, fifo, clock, sieve, s3-fifo, 2q, arc, caffeine]",
         value: ValueKind::Policy,
         place: Place::NamedOften,
         default: None,
@@ -359,7 +403,7 @@ static OPTIONS: [OptionRow; 24] = [
     OptionRow {
         id: "first",
         value_name: "POLICY",
-        help: "The one policy",
+        help: "The one policy, by a word of `run`",
         value: ValueKind::Policy,
         place: Place::Named,
         default: None,
@@ -367,7 +411,7 @@ static OPTIONS: [OptionRow; 24] = [
     OptionRow {
         id: "second",
         value_name: "POLICY",
-        help: "The other policy",
+        help: "The other policy, by a word of `run`",
         value: ValueKind::Policy,
         place: Place::Named,
         default: None,
@@ -375,7 +419,8 @@ static OPTIONS: [OptionRow; 24] = [
     OptionRow {
         id: "workers",
         value_name: "N",
-        help: "How many threads read the keys of the trace, from 1 to 64; access i is made by thread i modulo their number",
+        help: "How many threads read the keys of the trace, from 1 to 64; access i
+is made by thread i modulo their number",
         value: ValueKind::Number(1, MAX_WORKERS as u32),
         place: Place::Named,
         default: Some("2"),
@@ -383,7 +428,8 @@ static OPTIONS: [OptionRow; 24] = [
     OptionRow {
         id: "stripes",
         value_name: "N",
-        help: "How many read buffers the cache has, a power of two from 1 to 64",
+        help: "How many read buffers the cache has,
+a power of two from 1 to 64",
         value: ValueKind::AnyNumber,
         place: Place::Named,
         default: Some("4"),
@@ -391,7 +437,8 @@ static OPTIONS: [OptionRow; 24] = [
     OptionRow {
         id: "limit",
         value_name: "N",
-        help: "How many steps the journal holds, from 1 to 16777216",
+        help: "How many steps the journal holds,
+from 1 to 16777216",
         value: ValueKind::Number(1, MAX_JOURNAL_LIMIT),
         place: Place::Named,
         default: Some("1048576"),
@@ -415,7 +462,10 @@ static OPTIONS: [OptionRow; 24] = [
     OptionRow {
         id: "rate",
         value_name: "1/N",
-        help: "How many of the blocks: one in N, by a hash of its number",
+        help: "How many of the blocks: one in N, by a hash of its number
+[possible values: 1/2, 1/4, 1/8, 1/16, 1/32, 1/64, 1/128, 1/256,
+1/512, 1/1024, 1/2048, 1/4096, 1/8192, 1/16384, 1/32768, 1/65536,
+1/131072, 1/262144, 1/524288, 1/1048576]",
         value: ValueKind::Rate,
         place: Place::Named,
         default: None,
@@ -423,7 +473,8 @@ static OPTIONS: [OptionRow; 24] = [
     OptionRow {
         id: "seed",
         value_name: "S",
-        help: "Another number keeps other blocks, from 0 to 18446744073709551615",
+        help: "Another number keeps other blocks,
+from 0 to 18446744073709551615",
         value: ValueKind::AnyNumber,
         place: Place::Named,
         default: Some("1"),
