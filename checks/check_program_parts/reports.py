@@ -13,7 +13,8 @@ REQUIRED = """error: the following required arguments were not provided:
   --second <POLICY>
   --trace <FILE>
 
-Usage: cachesim debug --capacity <N> --first <POLICY> --second <POLICY> --trace <FILE>
+Usage: cachesim debug [OPTIONS] --capacity <N> --first <POLICY>
+                      --second <POLICY> --trace <FILE>
 
 For more information, try '--help'.
 """
