@@ -138,49 +138,95 @@ turned_to ns os l k b r xs ys us vs wh sc wo pu mi oe ne ob st oi ni ui fin =
       ring = rw (ne, oe, ob, wo, pu) (same-slots ns os _ _ l (us ++ k ∷ vs) r (rw st at fin) ct (simp (length-set)) (simp (length-set)) lo);
     }
 
-module _ (ns os l : List ℕ) (k b : ℕ) (r : IsRing ns os l) where
-  stands_in : (j : ℕ) (xs ys : List ℕ) → l ≡ xs ++ k ∷ ys → count j (0 ∷ l) ≡ cond (eqb j 0) 1 0 + (count j xs + (cond (eqb j k) 1 0 + count j ys))
-  stands_in j xs ys e = ap (λ t. count j (0 ∷ t)) e ∙ ap (λ n. cond (eqb j 0) 1 0 + n) (count-append j xs (k ∷ ys))
+module _ (ns os l : List ℕ) (k b : ℕ) (r : IsRing ns os l) (some : 1 ≤ k) (within : k < length ns) (there : b < length ns) (apart : b ≡ k → ⊥) where
+  -- the slot between what stands before it and after it
+  module _ (xs ys : List ℕ) (whole : l ≡ xs ++ k ∷ ys) where
+    stands_in : (j : ℕ) → count j (0 ∷ l) ≡ cond (eqb j 0) 1 0 + (count j xs + (cond (eqb j k) 1 0 + count j ys))
+    stands_in j = ap (λ t. count j (0 ∷ t)) whole ∙ ap (λ n. cond (eqb j 0) 1 0 + n) (count-append j xs (k ∷ ys))
 
-  pub turned : 1 ≤ k → k < length ns → b < length ns → (b ≡ k → ⊥) → IsTurned ns os l k b
-  turned p w v n =
-      let k0 : eqb k 0 ≡ false = ne_eqb k 0 (λ z. omega (arith, z)) in
-      let there : 1 ≤ 0 + count k l = rw k0 at (r.all k w) in
+    old : IsLinked ns os 0 (xs ++ k ∷ ys) 0
+    old = subst (λ (t : List ℕ). IsLinked ns os 0 t 0) whole r.linked
+
+    older-is : get_or os k 0 ≡ end_of 0 xs
+    older-is = older-end ns os 0 xs k (linked-split ns os 0 xs k ys 0 old).0
+
+    newer-is : get_or ns k 0 ≡ start_of ys 0
+    newer-is = newer-start ns os k ys 0 (linked-split ns os 0 xs k ys 0 old).1
+
+    few-front : (j : ℕ) → count j (0 ∷ xs) + (cond (eqb j k) 1 0 + count j ys) ≤ 1
+    few-front j = let c = stands_in j in let o = r.once j in omega (arith, c, o)
+
+    few-back : (j : ℕ) → count j xs + (cond (eqb j k) 1 0 + count j (ys ++ 0 ∷ [])) ≤ 1
+    few-back j = let c = stands_in j in let o = r.once j in let a = count-append j ys (0 ∷ []) in omega (arith, c, o, a)
+
+    older-in : end_of 0 xs < length ns
+    older-in = r.within (end_of 0 xs) (let c = stands_in (end_of 0 xs) in let a = end-stands 0 xs in omega (arith, c, a))
+
+    newer-in : start_of ys 0 < length ns
+    newer-in = r.within (start_of ys 0) (let c = stands_in (start_of ys 0) in let a = start-stands ys 0 in let d = count-append (start_of ys 0) ys (0 ∷ []) in omega (arith, c, a, d))
+
+    -- and out
+    out : IsLinked (set ns (end_of 0 xs) (start_of ys 0)) (set os (start_of ys 0) (end_of 0 xs)) 0 (xs ++ ys) 0
+    out = unlinked ns os 0 xs k 0 ys few-front few-back older-in (let a = newer-in in let same = r.same in omega (arith, a, same)) old
+
+    reached : 1 ≤ cond (eqb b 0) 1 0 + (count b xs + (0 + count b ys))
+    reached =
+        let other : eqb b k ≡ false = ne_eqb b k apart in
+        let c = stands_in b in
+        let a = r.all b there in
+        let d = rw other at c in
+        omega (arith, d, a)
+
+    spot-there : (1 ≤ count b (xs ++ ys)) ⊎ (b ≡ 0)
+    spot-there = elim (cases_eq b 0) [
+      | inl z ↦ inr z
+      | inr z ↦ inl (
+          let inner : eqb b 0 ≡ false = ne_eqb b 0 z in
+          let c = reached in
+          let d = rw inner at c in
+          let a = count-append b xs ys in
+          omega (arith, d, a))
+    ]
+
+    -- back between two others
+    module _ (us vs : List ℕ) (mid : xs ++ ys ≡ us ++ vs) (start : start_of vs 0 ≡ b) where
+      same-count : (j : ℕ) → count j us + count j vs ≡ count j xs + count j ys
+      same-count j = sym (count-append j us vs) ∙ (ap (count j) (sym mid) ∙ count-append j xs ys)
+
+      parted : IsLinked (set ns (end_of 0 xs) (start_of ys 0)) (set os (start_of ys 0) (end_of 0 xs)) 0 (us ++ vs) 0
+      parted = subst (λ (q : List ℕ). IsLinked (set ns (end_of 0 xs) (start_of ys 0)) (set os (start_of ys 0) (end_of 0 xs)) 0 q 0) mid out
+
+      next-is : get_or (set os (start_of ys 0) (end_of 0 xs)) b 0 ≡ end_of 0 us
+      next-is = ap (λ q. get_or (set os (start_of ys 0) (end_of 0 xs)) q 0) (sym start) ∙ older-start _ _ 0 us vs 0 parted
+
+      next-in : end_of 0 us < length ns
+      next-in = r.within (end_of 0 us) (let c = stands_in (end_of 0 us) in let a = end-stands 0 us in let d = same-count (end_of 0 us) in omega (arith, c, a, d))
+
+      back : IsLinked (set (set (set ns (end_of 0 xs) (start_of ys 0)) (end_of 0 us) k) k (start_of vs 0)) (set (set (set os (start_of ys 0) (end_of 0 xs)) k (end_of 0 us)) (start_of vs 0) k) 0 (us ++ k ∷ vs) 0
+      back =
+          let ln = length-set ns (end_of 0 xs) (start_of ys 0) in
+          let lo = length-set os (start_of ys 0) (end_of 0 xs) in
+          let same = r.same in
+          let n = next-in in
+          linked _ _ 0 us k 0 vs
+          (λ j. (let a = few-front j in let c = same-count j in omega (arith, a, c)))
+          (λ j. (let a = few-back j in let c = same-count j in let f = count-append j vs (0 ∷ []) in let g = count-append j ys (0 ∷ []) in omega (arith, a, c, f, g)))
+          (omega (arith, n, ln)) (omega (arith, within, ln)) (omega (arith, within, lo, same)) (rw start (omega (arith, there, lo, same))) parted
+
+      pub turned-at : keys_without k l ≡ xs ++ ys → put_before k b (xs ++ ys) ≡ us ++ k ∷ vs → IsTurned ns os l k b
+      turned-at rest put =
+          let a = older-in in
+          let c = newer-in in
+          turned_to ns os l k b r xs ys us vs whole same-count rest put mid older-is newer-is next-is start (omega (arith, a, older-is)) (omega (arith, c, newer-is)) next-in back
+
+  pub turned : IsTurned ns os l k b
+  turned =
+      let k0 : eqb k 0 ≡ false = ne_eqb k 0 (λ z. omega (arith, z, some)) in
+      let stands : 1 ≤ 0 + count k l = rw k0 at (r.all k within) in
       let few : 0 + count k l ≤ 1 = rw k0 at (r.once k) in
-      let s = split_at k l (omega arith) (omega arith) in
-      let xs : List ℕ = s.front in
-      let ys : List ℕ = s.back in
-      let old : IsLinked ns os 0 (xs ++ k ∷ ys) 0 = subst (λ (t : List ℕ). IsLinked ns os 0 t 0) s.whole r.linked in
-      let parts = linked-split ns os 0 xs k ys 0 old in
-      let oe : get_or os k 0 ≡ end_of 0 xs = older-end ns os 0 xs k parts.0 in
-      let ne : get_or ns k 0 ≡ start_of ys 0 = newer-start ns os k ys 0 parts.1 in
-      let d1 : (j : ℕ) → count j (0 ∷ xs) + (cond (eqb j k) 1 0 + count j ys) ≤ 1 = λ j. (let c = stands_in j xs ys s.whole in let o = r.once j in omega (arith, c, o)) in
-      let d2 : (j : ℕ) → count j xs + (cond (eqb j k) 1 0 + count j (ys ++ 0 ∷ [])) ≤ 1 = λ j. (let c = stands_in j xs ys s.whole in let o = r.once j in let a = count-append j ys (0 ∷ []) in omega (arith, c, o, a)) in
-      let eb : end_of 0 xs < length ns = r.within (end_of 0 xs) (let c = stands_in (end_of 0 xs) xs ys s.whole in let a = end-stands 0 xs in omega (arith, c, a)) in
-      let sb : start_of ys 0 < length ns = r.within (start_of ys 0) (let c = stands_in (start_of ys 0) xs ys s.whole in let a = start-stands ys 0 in let d = count-append (start_of ys 0) ys (0 ∷ []) in omega (arith, c, a, d)) in
-      let out = unlinked ns os 0 xs k 0 ys d1 d2 eb (omega arith) old in
-      let ns1 : List ℕ = set ns (end_of 0 xs) (start_of ys 0) in
-      let os1 : List ℕ = set os (start_of ys 0) (end_of 0 xs) in
-      let bk : eqb b k ≡ false = ne_eqb b k n in
-      let bt : 1 ≤ cond (eqb b 0) 1 0 + (count b xs + (0 + count b ys)) = (let c = stands_in b xs ys s.whole in let a = r.all b v in let c2 = rw bk at c in omega (arith, c2, a)) in
-      let there_b : (1 ≤ count b (xs ++ ys)) ⊎ (b ≡ 0) = elim (cases_eq b 0) [ inl z ↦ inr z | inr z ↦ inl (let f : eqb b 0 ≡ false = ne_eqb b 0 z in let g = rw f at bt in let a = count-append b xs ys in omega (arith, g, a)) ] in
-      let t = spot k b (xs ++ ys) there_b in
-      let us : List ℕ = t.front in
-      let vs : List ℕ = t.back in
-      let mid : IsLinked ns1 os1 0 (us ++ vs) 0 = subst (λ (q : List ℕ). IsLinked ns1 os1 0 q 0) t.whole out in
-      let ob : get_or os1 b 0 ≡ end_of 0 us = ap (λ q. get_or os1 q 0) (sym t.start) ∙ older-start ns1 os1 0 us vs 0 mid in
-      let same_count : (j : ℕ) → count j us + count j vs ≡ count j xs + count j ys = λ j. sym (count-append j us vs) ∙ (ap (count j) (sym t.whole) ∙ count-append j xs ys) in
-      let e1 : (j : ℕ) → count j (0 ∷ us) + (cond (eqb j k) 1 0 + count j vs) ≤ 1 = λ j. (let a = d1 j in let c = same_count j in omega (arith, a, c)) in
-      let e2 : (j : ℕ) → count j us + (cond (eqb j k) 1 0 + count j (vs ++ 0 ∷ [])) ≤ 1 = λ j. (let a = d2 j in let c = same_count j in let f = count-append j vs (0 ∷ []) in let g = count-append j ys (0 ∷ []) in omega (arith, a, c, f, g)) in
-      let ln = length-set ns (end_of 0 xs) (start_of ys 0) in
-      let lo = length-set os (start_of ys 0) (end_of 0 xs) in
-      let ub : end_of 0 us < length ns = r.within (end_of 0 us) (let c = stands_in (end_of 0 us) xs ys s.whole in let a = end-stands 0 us in let d = same_count (end_of 0 us) in omega (arith, c, a, d)) in
-      let ub1 : end_of 0 us < length ns1 = omega arith in
-      let kb1 : k < length ns1 = omega arith in
-      let kb2 : k < length os1 = omega arith in
-      let vb : start_of vs 0 < length os1 = rw t.start (omega arith) in
-      let final = linked ns1 os1 0 us k 0 vs e1 e2 ub1 kb1 kb2 vb mid in
-      turned_to ns os l k b r xs ys us vs s.whole same_count s.rest t.put t.whole oe ne ob t.start (omega (arith, oe)) (omega (arith, ne)) (omega arith) final
+      let s = split_at k l (omega (arith, few)) (omega (arith, stands)) in
+      let t = spot k b (s.front ++ s.back) (spot-there s.front s.back s.whole) in
+      turned-at s.front s.back s.whole t.front t.back t.whole t.start s.rest t.put
 
 pub ring-is : (ns os l : List ℕ) → IsRing ns os l → ring_of ns ≡ l
 ring-is ns os l r = ap (walk ns 0) (let n = r.long in let e : length ns - 1 ≡ length l = omega (arith, n) in e) ∙ walked ns os 0 l 0 r.linked
