@@ -15,13 +15,12 @@ abbrev pub outcomes_of_all : {S : Type 0} → (ℕ → S → Outcome × S) → S
 outcomes_of_all act s [] = []
 outcomes_of_all act s (k ∷ keys) = (act k s).0 ∷ outcomes_of_all act (act k s).1 keys
 
--- The state before the first access, an access to a key, what is counted and which keys are resident in a state, and what
--- holds of each state that the machine can be in.
+-- The state before the first access, an access to a key, which keys are resident in a state, and what holds of each state
+-- that the machine can be in.
 pub record Machine : Type 1 where
   pub State : Type 0
   pub start : State
   pub access : ℕ → State → Outcome × State
-  pub stats : State → Stats
   pub residents : State → List ℕ
   pub IsState : State → Type 0
 
@@ -33,10 +32,10 @@ after m keys = state_after_all m.access m.start keys
 abbrev pub outcomes : Machine → List ℕ → List Outcome
 outcomes m keys = outcomes_of_all m.access m.start keys
 
--- It counts its outcomes.
-pub record IsCounting (m : Machine) : Type 0 where
-  pub starts : m.stats m.start ≡ stats_of []
-  pub counts : (k : ℕ) (s : m.State) → m.stats (m.access k s).1 ≡ stats_with (m.access k s).0 (m.stats s)
+-- Its states show what is counted of the outcomes so far.
+pub record IsCounting (m : Machine) (stats : m.State → Stats) : Type 0 where
+  pub starts : stats m.start ≡ stats_of []
+  pub counts : (k : ℕ) (s : m.State) → stats (m.access k s).1 ≡ stats_with (m.access k s).0 (stats s)
 
 -- An access to k, whose outcome is o, took the residents from old to new. It is a hit exactly where k is resident, and no
 -- key came in but k.
@@ -47,7 +46,6 @@ pub record IsServed (k : ℕ) (old : List ℕ) (o : Outcome) (new : List ℕ) : 
 
 -- It keeps its residents: they are none at the start, each access serves its key, and they fit the capacity c, each once.
 pub record KeepsKeys (c : ℕ) (m : Machine) : Type 0 where
-  pub counting : IsCounting m
   pub empty : m.residents m.start ≡ []
   pub starts : m.IsState m.start
   pub keeps : (k : ℕ) (s : m.State) → m.IsState s → m.IsState (m.access k s).1
@@ -55,3 +53,8 @@ pub record KeepsKeys (c : ℕ) (m : Machine) : Type 0 where
       → IsServed k (m.residents s) (m.access k s).0 (m.residents (m.access k s).1)
   pub fits : (s : m.State) → m.IsState s → length (m.residents s) ≤ c
   pub distinct : (s : m.State) (k : ℕ) → m.IsState s → count_by (eqb k) (m.residents s) ≤ 1
+
+-- After any accesses the residents are the misses minus the evictions.
+abbrev pub CountsResidents : Machine → Type 0
+CountsResidents m = (keys : List ℕ) →
+    length (m.residents (after m keys)) + count_by is_eviction (outcomes m keys) ≡ count_by is_miss (outcomes m keys)
