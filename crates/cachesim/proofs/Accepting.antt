@@ -8,7 +8,8 @@ use Rattle.engine_base.specs.Config.{config_fault, is_from_one}
 use Rattle.step_record.specs.declared.job.Policy.TheVariants.{Clairvoyant}
 use Rattle.engine_base.specs.declared.config.ConfigFault.TheVariants.{Capacity}
 use Rattle.engine_base.specs.declared.limits.TheConstants.{MAX_ACCESSES, MAX_BATCH, MAX_CAPACITY}
-use Rattle.queue_cache.specs.Design.{Policy, Job, Config, knows_trace}
+use Rattle.engine_base.specs.declared.config.Config.{Config}
+use Rattle.policies.specs.Design.{Policy, Job, knows_trace}
 use Rattle.policies.specs.FaultyJobs.{ConfigFault, at_capacity, faulty_from, faulty_in, ReturnsFault}
 use Rattle.policies.specs.declared.actor_fault.ActorFault.TheVariants.{OutOfMemory}
 use Rattle.sweeps.specs.Sweep.{ActorFault, first_config_fault, jobs_over, sweep_fault}

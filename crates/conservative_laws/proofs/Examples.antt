@@ -10,9 +10,10 @@ use Rattle.demand_cache.specs.declared.demand_policy.DemandPolicy.TheVariants as
 use Rattle.demand_cache.specs.DemandPolicy.{outcomes_of_page}
 use Rattle.demand_cache.specs.Theorems.{RunsByPage}
 use Rattle.policies.specs.AnyPolicy.{Job, stats_on}
-use Rattle.queue_cache.specs.Design.{design_of}
+use Rattle.policies.specs.declared.design.Design.TheVariants as design
+use Rattle.policies.proofs.Designs.{design-named}
 use Rattle.conservative_laws.specs.Examples.{anomalous_trace, FifoAndClockHaveAnomaly, sieve_trace, SieveIsNotConservative, s3_fifo_trace, S3FifoIsNotConservative}
-use Rattle.conservative_laws.proofs.Jobs.{page-misses, policy-named}
+use Rattle.conservative_laws.proofs.Jobs.{page-misses}
 use Rattle.std.proofs.lemmas.Bool.Decides.{nat_tests}
 use Rattle.std.specs.Prelude.{slice_index_or}
 use Rattle.std.proofs.lemmas.List.Elements.{All-map}
@@ -25,8 +26,8 @@ use Rattle.conservative_laws.specs.ReportLaws.{Report, AddsUp, AreOrdered, Repor
 misses-at : RunsByPage → (j : Job) (c m : ℕ) → (j.policy ≡ Fifo) ⊎ (j.policy ≡ Clock) → j.config.capacity ≡ c → 1 ≤ c
     → count_by is_miss (outcomes_of_all (fifo_act c) [] anomalous_trace) ≡ m → count_by is_miss (outcomes_of_all (clock_act c) [] anomalous_trace) ≡ m
     → (stats_on j anomalous_trace).misses ≡ m
-misses-at page j c m (inl is) at room fifo clock = page-misses page sized.Fifo j anomalous_trace (ap design_of is) (policy-named j Fifo is) (omega (arith, at, room)) ∙ (ap (λ x. count_by is_miss (outcomes_of_all (fifo_act x) [] anomalous_trace)) at ∙ fifo)
-misses-at page j c m (inr is) at room fifo clock = page-misses page sized.Clock j anomalous_trace (ap design_of is) (policy-named j Clock is) (omega (arith, at, room)) ∙ (ap (λ x. count_by is_miss (outcomes_of_all (clock_act x) [] anomalous_trace)) at ∙ clock)
+misses-at page j c m (inl is) at room fifo clock = page-misses page sized.Fifo j anomalous_trace (design-named j Fifo is) (omega (arith, at, room)) ∙ (ap (λ x. count_by is_miss (outcomes_of_all (fifo_act x) [] anomalous_trace)) at ∙ fifo)
+misses-at page j c m (inr is) at room fifo clock = page-misses page sized.Clock j anomalous_trace (design-named j Clock is) (omega (arith, at, room)) ∙ (ap (λ x. count_by is_miss (outcomes_of_all (clock_act x) [] anomalous_trace)) at ∙ clock)
 
 pub have_anomaly : RunsByPage → FifoAndClockHaveAnomaly
 have_anomaly page small large is same at_small at_large = search (arith, misses-at)
@@ -34,7 +35,7 @@ have_anomaly page small large is same at_small at_large = search (arith, misses-
 pub sieve_is_not_conservative : RunsByPage → SieveIsNotConservative
 sieve_is_not_conservative page j is at all =
     let misses : (keys : List ℕ) → (stats_on j keys).misses ≡ count_by is_miss (outcomes_of_page sized.Sieve 2 keys) =
-    λ keys. page-misses page sized.Sieve j keys (ap design_of is) (policy-named j Sieve is) (omega (arith, at)) ∙ ap (λ c. count_by is_miss (outcomes_of_page sized.Sieve c keys)) at in
+    λ keys. page-misses page sized.Sieve j keys (design-named j Sieve is) (omega (arith, at)) ∙ ap (λ c. count_by is_miss (outcomes_of_page sized.Sieve c keys)) at in
     let before : (stats_on j (take 2 sieve_trace)).misses ≡ 1 = misses (take 2 sieve_trace) in
     let after : (stats_on j (take 5 sieve_trace)).misses ≡ 4 = misses (take 5 sieve_trace) in
     let most = all 2 5 (omega arith) (omega arith) (omega arith) in
@@ -44,7 +45,7 @@ pub s3_fifo_is_not_conservative : RunsByPage → S3FifoIsNotConservative
 s3_fifo_is_not_conservative page j is at few all =
     let one : part_size j.tuning.small j.config.capacity ≡ 1 = ap (part_size j.tuning.small) at ∙ (omega (arith, few)) in
     let misses : (keys : List ℕ) → (stats_on j keys).misses ≡ count_by is_miss (outcomes_of_page (sized.S3Fifo 1) 2 keys) =
-    λ keys. page-misses page (sized.S3Fifo 1) j keys (ap design_of is) (policy-named j S3Fifo is ∙ ap sized.S3Fifo one) (omega (arith, at)) ∙ ap (λ c. count_by is_miss (outcomes_of_page (sized.S3Fifo 1) c keys)) at in
+    λ keys. page-misses page (sized.S3Fifo 1) j keys (design-named j S3Fifo is ∙ ap (λ n. design.Demand (sized.S3Fifo n)) one) (omega (arith, at)) ∙ ap (λ c. count_by is_miss (outcomes_of_page (sized.S3Fifo 1) c keys)) at in
     let before : (stats_on j (take 3 s3_fifo_trace)).misses ≡ 1 = misses (take 3 s3_fifo_trace) in
     let after : (stats_on j (take 6 s3_fifo_trace)).misses ≡ 4 = misses (take 6 s3_fifo_trace) in
     let most = all 3 6 (omega arith) (omega arith) (omega arith) in

@@ -15,7 +15,6 @@ use Rattle.policies.proofs.Demand.{with-room}
 use Rattle.policy_laws.proofs.Strategies.{IsOnline, strategy, hits-are, serves, served, state_at, residents_at, next-is, kept-at}
 use Rattle.conservative_laws.specs.Conservative.{FillsFirst, misses_on, IsConservative}
 use Rattle.conservative_laws.proofs.Stretches.{misses-next, once-few, stretch-next, none-hit, at-most-twice, stats-misses, misses-by, lru-misses, empty-conservative}
-use Rattle.step_record.specs.declared.job.Policy.{Policy}
 use Rattle.step_record.specs.declared.job.Policy.TheVariants.{Lru, Fifo, Clock}
 use Rattle.engine_base.specs.declared.outcome.Outcome.TheVariants.{Rejected}
 use Rattle.policy_page.specs.CountedKeys.{keys_of}
@@ -26,11 +25,12 @@ use Rattle.clock.proofs.Keeping.{keeps as clock-keeps}
 use Rattle.adaptive_window.specs.Residents.{CacheKeeps}
 use Rattle.demand_cache.specs.Theorems.{DemandKeeps, RunsByPage}
 use Rattle.demand_cache.specs.declared.demand_policy.DemandPolicy.TheVariants as sized
-use Rattle.queue_cache.specs.declared.design.Design.TheVariants as design
-use Rattle.policies.specs.AnyPolicy.{Job, demand_run, outcomes_on, stats_on}
-use Rattle.queue_cache.specs.Design.{design_of}
+use Rattle.policies.specs.declared.design.Design.TheVariants as design
+use Rattle.policies.specs.AnyPolicy.{Job, demand_outcomes, outcomes_by, outcomes_on, stats_on}
+use Rattle.policies.specs.Design.{design_of}
+use Rattle.policies.proofs.Designs.{design-named}
 use Rattle.demand_cache.specs.declared.demand_policy.DemandPolicy.{DemandPolicy}
-use Rattle.demand_cache.specs.DemandPolicy.{outcomes_of_page, policy_for, demand_policy}
+use Rattle.demand_cache.specs.DemandPolicy.{outcomes_of_page}
 use Rattle.policies.specs.Theorems.{AnyCoversTrace}
 use Rattle.queue_cache.specs.Theorems.{LruStepLaw}
 use Rattle.optimality.specs.Theorems.{BeladyIsStrategy}
@@ -99,18 +99,11 @@ misses-counted : (j : Job) (keys : List ℕ) → (stats_on j keys).misses ≡ co
 unfolding stats_on
 misses-counted j keys = refl
 
-demand-misses : (j : Job) (keys : List ℕ) → design_of j.policy ≡ design.Demand → 1 ≤ j.config.capacity → (stats_on j keys).misses ≡ count_by is_miss (demand_run (demand_policy j) j.config.capacity keys)
-demand-misses j keys is room = cc (misses-counted j keys, with-room (demand_policy j) j.config.capacity keys room)
-
-pub page-misses : RunsByPage → (p : DemandPolicy) (j : Job) (keys : List ℕ) → design_of j.policy ≡ design.Demand → demand_policy j ≡ p → 1 ≤ j.config.capacity
+pub page-misses : RunsByPage → (p : DemandPolicy) (j : Job) (keys : List ℕ) → design_of j ≡ design.Demand p → 1 ≤ j.config.capacity
     → (stats_on j keys).misses ≡ count_by is_miss (outcomes_of_page p j.config.capacity keys)
-page-misses law p j keys is named room =
-    demand-misses j keys is room ∙ ap (count_by is_miss) (law (demand_policy j) j.config.capacity keys room)
-    ∙ ap (λ q. count_by is_miss (outcomes_of_page q j.config.capacity keys)) named
-
--- the policy of a job that this word names
-pub policy-named : (j : Job) (w : Policy) → j.policy ≡ w → demand_policy j ≡ policy_for w j.tuning j.config.capacity
-policy-named j w is = ap (λ p. policy_for p j.tuning j.config.capacity) is
+page-misses law p j keys is room =
+    misses-counted j keys ∙ ap (λ x. count_by is_miss (outcomes_by x j keys)) is
+    ∙ ap (count_by is_miss) (with-room p j.config.capacity keys room ∙ law p j.config.capacity keys room)
 
 -- without room each access is a miss
 pub all-rejected : (keys : List ℕ) → count_by is_miss (map (λ k. Rejected k) keys) ≡ length keys
@@ -144,29 +137,29 @@ acts-lru law covers j t is = record {
 
 -- of a policy that keeps each missed key, by its definition
 module _ {S : Type 0} (law : RunsByPage) (p : DemandPolicy) (j : Job) (t : List ℕ) (act : ℕ → ℕ → S → Outcome × S) (start : S) (residents : S → List ℕ) (IsState : ℕ → S → Type 0) where
-  acts-by-page : design_of j.policy ≡ design.Demand → demand_policy j ≡ p
+  acts-by-page : design_of j ≡ design.Demand p
       → ((keys : List ℕ) → outcomes_of_page p j.config.capacity keys ≡ outcomes_of_all (act j.config.capacity) start keys)
       → ((c : ℕ) → 1 ≤ c → KeepsResidents c start (act c) residents (IsState c))
       → ((c : ℕ) → 1 ≤ c → IsConservative c t (strategy_misses t (λ n. residents (state_after_all (act c) start (take n t)))))
       → ActsConservatively j t
-  acts-by-page is named page keeps conservative =
+  acts-by-page is page keeps conservative =
       let c : ℕ = j.config.capacity in
       elim (cases_lt 0 c) [
         | inl room ↦ record {
           cache = λ n. residents (state_after_all (act c) start (take n t));
-          misses = λ n l. page-misses law p j (take n t) is named room ∙ ap (count_by is_miss) (page (take n t)) ∙ misses-are c start (act c) residents (IsState c) (keeps c room) t n l;
+          misses = λ n l. page-misses law p j (take n t) is room ∙ ap (count_by is_miss) (page (take n t)) ∙ misses-are c start (act c) residents (IsState c) (keeps c room) t n l;
           conservative = conservative c room;
           fills = fills-first c start (act c) residents (IsState c) (keeps c room) t;
         }
-        | inr less ↦ let none : c ≡ 0 = omega (arith, less) in acts-empty j t none (λ keys. (grind (arith, nat_tests, misses-counted j keys, all-rejected keys)))
+        | inr less ↦ let none : c ≡ 0 = omega (arith, less) in acts-empty j t none (λ keys. (misses-counted j keys ∙ ap (λ x. count_by is_miss (outcomes_by x j keys)) is ∙ ap (λ n. count_by is_miss (demand_outcomes p n keys)) none ∙ all-rejected keys))
       ]
 
 acts-conservatively : LruStepLaw → RunsByPage → AnyCoversTrace → (j : Job) (t : List ℕ) → IsLruFifoOrClock j.policy → ActsConservatively j t
 acts-conservatively lru page covers j t (inl is) = acts-lru lru covers j t is
 acts-conservatively lru page covers j t (inr (inl is)) =
-    acts-by-page page sized.Fifo j t fifo_act [] (λ queue. queue) AreResidents (ap design_of is) (policy-named j Fifo is) (λ keys. refl) fifo-keeps (λ c room. fifo-conservative c t room)
+    acts-by-page page sized.Fifo j t fifo_act [] (λ queue. queue) AreResidents (design-named j Fifo is) (λ keys. refl) fifo-keeps (λ c room. fifo-conservative c t room)
 acts-conservatively lru page covers j t (inr (inr is)) =
-    acts-by-page page sized.Clock j t clock_act [] keys_of IsClock (ap design_of is) (policy-named j Clock is) (λ keys. refl) clock-keeps (λ c room. clock-conservative c t room)
+    acts-by-page page sized.Clock j t clock_act [] keys_of IsClock (design-named j Clock is) (λ keys. refl) clock-keeps (λ c room. clock-conservative c t room)
 
 -- ---- the laws
 

@@ -5,7 +5,6 @@ use Rattle.std.proofs.lemmas.Bool.{cases_Bool, cases_eq}
 use Rattle.std.proofs.lemmas.List.{take_more, drop-append-le, length-take-le}
 use Rattle.std.proofs.Math.Seq.{drop-length}
 use Rattle.engine_base.specs.Keys.{has_key}
-use Rattle.queue_cache.specs.Lru.{distinct_keys}
 use Rattle.replacement.proofs.Residents.{has-append}
 use Rattle.optimality.proofs.Optimal.{count_keys, count-short, count-subset, head-has}
 use Rattle.policy_page.specs.Residents.{times}
@@ -14,7 +13,10 @@ use Rattle.conservative_laws.specs.Conservative.{stretch, IsConservative}
 use Rattle.std.proofs.Math.Nat.{add-mul, mul-add, mul-le-mul_right, le_of_mul-le-mul_left}
 use Rattle.engine_base.specs.Stats.{one_if}
 use Rattle.step_record.specs.declared.job.Policy.TheVariants.{Lru}
-use Rattle.queue_cache.specs.Design.{Job, has_queues}
+use Rattle.queue_cache.specs.Lru.{lru, distinct_keys}
+use Rattle.queue_cache.specs.QueueCache.{QueueSetup}
+use Rattle.policies.specs.Design.{Job, queue_setup}
+use Rattle.policies.proofs.Designs.{design-named}
 use Rattle.policies.specs.AnyPolicy.{outcomes_on, stats_on}
 use Rattle.policies.specs.Theorems.{AnyCoversTrace}
 use Rattle.queue_cache.specs.Theorems.{LruStepLaw}
@@ -124,5 +126,6 @@ online-misses covers j held online trace n l =
 pub lru-misses : LruStepLaw → AnyCoversTrace → (j : Job) (trace : List ℕ) (n : ℕ) → j.policy ≡ Lru → n ≤ length trace
     → (stats_on j (take n trace)).misses ≡ strategy_misses trace (lru_at j.config.capacity trace) n
 lru-misses stands covers j trace n is l =
-    online-misses covers j (queue_residents j) (queues-online j (ap has_queues is)) trace n l
-    ∙ ap (λ m. n - m) (hits-agree trace (λ i. queue_residents j (take i trace)) (lru_at j.config.capacity trace) n (λ i. lru-kept stands j (take i trace) is))
+    let s : QueueSetup = queue_setup lru j in
+    online-misses covers j (queue_residents s) (queues-online j lru (design-named j Lru is)) trace n l
+    ∙ ap (λ m. n - m) (hits-agree trace (λ i. queue_residents s (take i trace)) (lru_at j.config.capacity trace) n (λ i. lru-kept stands s (take i trace) refl))

@@ -4,7 +4,7 @@ use Rattle.std.specs.Prelude.{◌≡◌, ◌⊎◌, ℕ, suc, ◌+◌, ◌-◌, 
 use Rattle.engine_base.specs.Keys.{has_key}
 use Rattle.step_record.specs.declared.job.Policy.TheVariants.{Lru, Fifo, Clock}
 use Rattle.policies.specs.AnyPolicy.{Job, stats_on}
-use Rattle.queue_cache.specs.Design.{Policy, knows_trace}
+use Rattle.policies.specs.Design.{Policy, knows_trace}
 use Rattle.optimality.specs.Strategy.{IsStrategy, strategy_misses}
 use Rattle.conservative_laws.specs.Conservative.{misses_on, IsConservative, FillsFirst}
 

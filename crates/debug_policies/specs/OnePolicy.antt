@@ -19,9 +19,8 @@ use Rattle.segments.specs.Queues.{residents_in}
 pub use Rattle.policies.specs.declared.any_policy.AnyPolicy.{AnyPolicy}
 use Rattle.engine_base.specs.Machine.{state_after_all}
 use Rattle.demand_cache.specs.DemandQueues.{empty_cache, queues_act, queues_residents}
-use Rattle.queue_cache.specs.declared.design.Design.TheVariants.{KnowsTrace, Queues as OfQueues, Demand as OfDemand, Adaptive as OfAdaptive}
-use Rattle.queue_cache.specs.Design.{design_of}
-use Rattle.demand_cache.specs.DemandPolicy.{demand_policy}
+use Rattle.policies.specs.declared.design.Design.TheVariants.{KnowsTrace, Queues as OfQueues, Demand as OfDemand, Adaptive as OfAdaptive}
+use Rattle.policies.specs.Design.{design_of, queue_setup}
 use Rattle.policies.specs.AnyPolicy.{Design, adaptive_start, outcomes_on, HasAccessed}
 use Rattle.queue_cache.specs.QueueCache.{frequency_after, state_after}
 
@@ -38,28 +37,28 @@ stats_at j trace n = stats_of (take n (outcomes_on j trace))
 
 -- the keys that are cached after them
 abbrev pub residents_by : Design → Job → List ℕ → ℕ → List ℕ
-residents_by (OfQueues d) j trace n = residents_in (state_after j (take n trace)).queues
+residents_by (OfQueues q) j trace n = residents_in (state_after (queue_setup q j) (take n trace)).queues
 residents_by KnowsTrace j trace n = belady_residents j.config.capacity trace n
-residents_by OfDemand j trace n =
-    queues_residents (state_after_all queues_act (empty_cache (demand_policy j) j.config.capacity) (take n trace))
+residents_by (OfDemand p) j trace n =
+    queues_residents (state_after_all queues_act (empty_cache p j.config.capacity) (take n trace))
 residents_by OfAdaptive j trace n = cache_residents (state_after_all cache_access (adaptive_start j) (take n trace))
 
 abbrev pub residents_at : Job → List ℕ → ℕ → List ℕ
-residents_at j trace n = residents_by (design_of j.policy) j trace n
+residents_at j trace n = residents_by (design_of j) j trace n
 
 abbrev pub age_in : Option FrequencyData → ℕ
 age_in None = 0
 age_in (Some f) = f.age
 
 abbrev pub age_by : Design → Job → List ℕ → ℕ
-age_by (OfQueues d) j keys = age_in (frequency_after j keys)
+age_by (OfQueues q) j keys = age_in (frequency_after (queue_setup q j) keys)
 age_by KnowsTrace j keys = 0
-age_by OfDemand j keys = 0
+age_by (OfDemand p) j keys = 0
 age_by OfAdaptive j keys = (state_after_all cache_access (adaptive_start j) keys).frequency.age
 
 -- the age of the sketch after them, 0 where there is none
 abbrev pub age_at : Job → List ℕ → ℕ → ℕ
-age_at j trace n = age_by (design_of j.policy) j (take n trace)
+age_at j trace n = age_by (design_of j) j (take n trace)
 
 -- ---- the text
 

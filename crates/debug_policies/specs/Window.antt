@@ -7,10 +7,11 @@ use Rattle.adaptive_window.specs.AdaptiveWindow.{AdaptiveState}
 use Rattle.debug_commands.specs.Texts.{count_text}
 use Rattle.policies.specs.declared.any_policy.AnyPolicy.{AnyPolicy}
 use Rattle.policies.specs.declared.any_policy.AnyPolicy.TheVariants as cache
-use Rattle.queue_cache.specs.declared.design.Design.TheVariants.{KnowsTrace, Queues, Demand, Adaptive}
+use Rattle.policies.specs.declared.design.Design.TheVariants.{KnowsTrace, Queues, Demand, Adaptive}
 use Rattle.queue_cache.specs.declared.design.Layout.{Layout}
 use Rattle.queue_cache.specs.declared.design.Layout.TheVariants.{OneQueue, TwoQueues, ThreeQueues}
-use Rattle.queue_cache.specs.Design.{design_of, rules_by}
+use Rattle.queue_cache.specs.Design.{rules_by}
+use Rattle.policies.specs.Design.{design_of}
 use Rattle.policies.specs.AnyPolicy.{Design, adaptive_start}
 use Rattle.engine_base.specs.Machine.{state_after_all}
 pub use Rattle.debug_policies.specs.declared.window.Window.{Window}
@@ -27,7 +28,7 @@ window_of_layout ThreeQueues size = Fixed size
 abbrev pub fixed_window : Design → Config → Window
 fixed_window (Queues d) c = window_of_layout d.layout (rules_by d.layout c).window
 fixed_window KnowsTrace c = Absent
-fixed_window Demand c = Absent
+fixed_window (Demand p) c = Absent
 fixed_window Adaptive c = Absent
 
 abbrev pub moving_window : AdaptiveState → Window
@@ -36,18 +37,18 @@ moving_window w = Moving w.size w.climber.target
 abbrev pub window_by : Design → Job → List ℕ → Window
 window_by (Queues d) j keys = fixed_window (Queues d) j.config
 window_by KnowsTrace j keys = fixed_window KnowsTrace j.config
-window_by Demand j keys = fixed_window Demand j.config
+window_by (Demand p) j keys = fixed_window (Demand p) j.config
 window_by Adaptive j keys = moving_window (state_after_all cache_access (adaptive_start j) keys).window
 
 -- after the first n accesses
 abbrev pub window_at : Job → List ℕ → ℕ → Window
-window_at j trace n = window_by (design_of j.policy) j (take n trace)
+window_at j trace n = window_by (design_of j) j (take n trace)
 
 -- what a cache shows of it
 abbrev pub window_in : AnyPolicy → Job → Window
-window_in (cache.Queues d) j = fixed_window (design_of j.policy) j.config
-window_in (cache.Optimal d) j = fixed_window (design_of j.policy) j.config
-window_in (cache.Demand d) j = fixed_window (design_of j.policy) j.config
+window_in (cache.Queues d) j = fixed_window (design_of j) j.config
+window_in (cache.Optimal d) j = fixed_window (design_of j) j.config
+window_in (cache.Demand d) j = fixed_window (design_of j) j.config
 window_in (cache.Adaptive d) j = moving_window d.window
 
 -- ---- the text

@@ -1,7 +1,7 @@
 //! The window of a policy.
 ghost use Rattle.std.specs.Prelude.{◌≡◌, ◌++◌, Ok, OnOk};
 ghost use Rattle.engine_base.specs.Config.{config_fault};
-ghost use Rattle.queue_cache.specs.Design.{design_of};
+ghost use Rattle.policies.specs.Design.{design_of};
 ghost use Rattle.debug_policies.specs.Window.{fixed_window, window_in, window_text};
 
 use debug_commands::push_counts_line;
@@ -39,16 +39,16 @@ pub(crate) fn window_in(cache: &AnyPolicy, job: &Job) -> Window
 // The window of a policy that never moves it.
 fn fixed_window(job: &Job) -> Window
     requires { config_fault job.now.config ≡ Ok tt }
-    ensures { result ≡ fixed_window (design_of job.now.policy) job.now.config }
+    ensures { result ≡ fixed_window (design_of job.now) job.now.config }
 {
-    match design_of(job.policy) {
+    match design_of(job) {
         Design::Queues(design) => match design.layout {
             Layout::OneQueue | Layout::TwoQueues => Window::Absent,
             Layout::ThreeQueues => Window::Fixed {
                 size: design.rules(&job.config).window,
             },
         },
-        Design::KnowsTrace | Design::Demand | Design::Adaptive => Window::Absent,
+        Design::KnowsTrace | Design::Demand(_) | Design::Adaptive => Window::Absent,
     }
 }
 

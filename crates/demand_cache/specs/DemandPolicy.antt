@@ -1,10 +1,5 @@
 -- The policies that keep each missed key: the one table of them.
 use Rattle.std.specs.Prelude.{ℕ, List}
-pub use Rattle.step_record.specs.declared.job.Job.{Job}
-use Rattle.step_record.specs.declared.job.Policy.{Policy}
-use Rattle.step_record.specs.declared.job.Policy.TheVariants as word
-use Rattle.step_record.specs.declared.job.Tuning.{Tuning}
-use Rattle.engine_base.specs.PartSize.{part_size}
 use Rattle.queue_table.specs.Queues.{Queues}
 use Rattle.queue_moves.specs.Moves.{Plan}
 use Rattle.engine_base.specs.Machine.{outcomes_of_all}
@@ -14,7 +9,6 @@ use Rattle.fifo.specs.Plan.{fifo_page}
 use Rattle.clock.specs.Plan.{clock_page}
 use Rattle.sieve.specs.Plan.{sieve_page}
 use Rattle.s3_fifo.specs.Plan.{s3_fifo_page}
-use Rattle.two_q.specs.declared.TwoQSizes.{TwoQSizes}
 use Rattle.two_q.specs.Plan.{two_q_page}
 use Rattle.arc.specs.Plan.{arc_page}
 use Rattle.car.specs.Plan.{car_page}
@@ -32,26 +26,6 @@ page_of (S3Fifo part) = s3_fifo_page part
 page_of (TwoQ z) = two_q_page z
 page_of Arc = arc_page
 page_of Car = car_page
-
--- ---- of a job
-
-abbrev pub two_q_sizes : Tuning → ℕ → TwoQSizes
-two_q_sizes tuning c = record { kin = part_size tuning.kin c; kout = part_size tuning.kout c }
-
--- the policy that a word names, with the sizes of its parts at capacity c; for one of another engine, which has no cache of
--- this kind, FIFO
-abbrev pub policy_for : Policy → Tuning → ℕ → DemandPolicy
-policy_for word.Fifo tuning c = Fifo
-policy_for word.Clock tuning c = Clock
-policy_for word.Sieve tuning c = Sieve
-policy_for word.S3Fifo tuning c = S3Fifo (part_size tuning.small c)
-policy_for word.TwoQ tuning c = TwoQ (two_q_sizes tuning c)
-policy_for word.Arc tuning c = Arc
-policy_for p tuning c = Fifo
-
--- the policy of a job
-abbrev pub demand_policy : Job → DemandPolicy
-demand_policy j = policy_for j.policy j.tuning j.config.capacity
 
 -- ---- all policies
 

@@ -7,10 +7,10 @@ ghost use Rattle.engine_base.specs.Machine.{state_after_all};
 ghost use Rattle.demand_cache.specs.DemandQueues.{empty_cache, queues_residents};
 
 use crate::demand_policy::DemandPolicy;
+use engine_base::{Engine, Key, MAX_STEPS, Outcome, Stats, StepFault};
 use queue_moves::{KeyQueues, Moves};
 use std::alloc::{AllocError, Global};
 use std::marker::Model;
-use step_record::{Engine, Key, MAX_STEPS, Outcome, Stats, StepFault};
 
 /// A cache of a policy that keeps each missed key.
 #[derive(Drop)]

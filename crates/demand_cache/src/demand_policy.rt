@@ -1,20 +1,18 @@
 //! The policies that keep each missed key: all that names one of them in code.
-ghost use Rattle.std.specs.Prelude.{◌≡◌, Bool, ℕ, ◌+◌, ◌≤◌, ◌<◌, false, length, Ok, IfOk, OnOk, OnErr, IfSome};
-ghost use Rattle.engine_base.specs.Config.{config_fault};
-ghost use Rattle.engine_base.specs.PartSize.{part_size};
+ghost use Rattle.std.specs.Prelude.{◌≡◌, Bool, ℕ, ◌+◌, ◌≤◌, ◌<◌, false, length, IfOk, OnOk, OnErr, IfSome};
 ghost use Rattle.engine_base.specs.declared.limits.TheConstants.{MAX_CAPACITY, MAX_STEPS};
 ghost use Rattle.queue_table.specs.QueueTable.{queues as queues_at};
 ghost use Rattle.queue_table.specs.Queues.{QUEUES, Item, Queues};
 ghost use Rattle.queue_moves.specs.Moves.{Plan, item_of};
 ghost use Rattle.queue_moves.specs.Undoing.{IsAccessed};
-ghost use Rattle.demand_cache.specs.DemandPolicy.{page_of, plan_by, demand_policy, two_q_sizes};
+ghost use Rattle.demand_cache.specs.DemandPolicy.{page_of, plan_by};
 ghost use Rattle.engine_base.specs.Machine.{state_after_all};
 ghost use Rattle.demand_cache.specs.DemandCache.{IsCountedBy, demand_access};
 
 use crate::demand_cache::DemandCache;
+use engine_base::{Key, Outcome};
 use queue_moves::{Accessed, KeyQueues};
 use std::alloc::AllocError;
-use step_record::{Job, Key, Outcome, Policy, Tuning};
 use two_q::TwoQSizes;
 
 /// A policy that keeps each missed key, with the sizes of its parts where they are a choice. Any sizes will do.
@@ -60,30 +58,6 @@ pub(crate) struct Counted {
 }
 
 impl DemandPolicy {
-    /// The policy of a job, with the sizes that the job gives its parts. It requires a configuration that `Config::check`
-    /// accepts. No cache of this kind is opened for a policy of another engine: FIFO stands for it here.
-    pub fn of(job: &Job) -> DemandPolicy
-        requires { config_fault job.now.config ≡ Ok tt }
-        ensures { result ≡ demand_policy job.now }
-    {
-        let capacity = job.config.capacity;
-        match job.policy {
-            Policy::Fifo => DemandPolicy::Fifo,
-            Policy::Clock => DemandPolicy::Clock,
-            Policy::Sieve => DemandPolicy::Sieve,
-            Policy::S3Fifo => DemandPolicy::S3Fifo(part_size(job.tuning.small, capacity)),
-            Policy::TwoQ => DemandPolicy::TwoQ(two_q_sizes(&job.tuning, capacity)),
-            Policy::Arc => DemandPolicy::Arc,
-            Policy::Lru
-            | Policy::SegmentedLru
-            | Policy::TinyLfuLru
-            | Policy::TinyLfuSegmented
-            | Policy::WindowTinyLfu
-            | Policy::Clairvoyant
-            | Policy::Caffeine => DemandPolicy::Fifo,
-        }
-    }
-
     /// The accesses of `DemandCache::access_all`, by a cache of this policy. Each policy has a loop of its own: the
     /// instructions that tell the policies apart would be a tenth of an access.
     #[inline(never)]
@@ -226,23 +200,4 @@ fn without_record(done: Result<Accessed, AllocError>) -> Result<Counted, AllocEr
         }),
         Err(fault) => Err(fault),
     }
-}
-
-// The sizes of 2Q's parts.
-fn two_q_sizes(tuning: &Tuning, capacity: u32) -> TwoQSizes
-    requires { capacity ≤ MAX_CAPACITY }
-    ensures { result ≡ two_q_sizes tuning.now capacity }
-{
-    TwoQSizes {
-        kin: part_size(tuning.kin, capacity),
-        kout: part_size(tuning.kout, capacity),
-    }
-}
-
-// A part of so many percent of the capacity.
-fn part_size(percent: u8, capacity: u32) -> u32
-    requires { capacity ≤ MAX_CAPACITY }
-    ensures { result ≡ part_size percent capacity }
-{
-    (capacity * u32::from(percent) / 100).max(1)
 }

@@ -1,7 +1,7 @@
 //! Jobs over a trace that is read and not kept, whose answers were worked out by hand.
 ghost use Rattle.std.specs.Prelude.{◌≡◌, ◌≤◌, IfOk, false};
 ghost use Rattle.trace_read.specs.declared.limits.TheConstants.{MAX_LONG_ACCESSES, MAX_LONG_TRACE_BYTES};
-ghost use Rattle.queue_cache.specs.Design.{knows_trace};
+ghost use Rattle.policies.specs.Design.{knows_trace};
 ghost use Rattle.long_traces.specs.Taking.{FollowsTrace};
 
 use super::assertions::assert_equal;

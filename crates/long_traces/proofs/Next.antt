@@ -6,7 +6,8 @@ use Rattle.std.proofs.lemmas.List.{drop-take, drop-drop, get_or-drop, get_or-tak
 use Rattle.engine_base.specs.declared.limits.TheConstants.{MAX_STEPS}
 use Rattle.policies.specs.Accesses.{Job, IsNext}
 use Rattle.policies.specs.AnyPolicy.{HasAccessed}
-use Rattle.queue_cache.specs.Design.{knows_trace}
+use Rattle.policies.specs.Design.{knows_trace}
+use Rattle.policies.proofs.Designs.{optimal-knows}
 use Rattle.policies.specs.declared.any_policy.AnyPolicy.TheVariants.{Adaptive, Demand, Optimal, Queues}
 use Rattle.policy_comparison.specs.CacheAccess.{AnyPolicy, StandsAt}
 use Rattle.long_traces.specs.Taking.{AreNext}
@@ -71,4 +72,4 @@ pub free : (job : Job) (trace other keys : List ℕ) (cache : AnyPolicy) → kno
 free job trace other keys (Queues d) follows s = s
 free job trace other keys (Demand d) follows s = s
 free job trace other keys (Adaptive d) follows s = s
-free job trace other keys (Optimal d) follows s = absurd (true≢false (sym s.policy ∙ follows))
+free job trace other keys (Optimal d) follows s = absurd (true≢false (sym (optimal-knows job s.design) ∙ follows))

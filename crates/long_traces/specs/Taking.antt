@@ -3,7 +3,7 @@ use Rattle.std.specs.Prelude.{◌≡◌, ◌≤◌, ℕ, ◌+◌, false, List, O
 use Rattle.engine_base.specs.Config.{config_fault}
 pub use Rattle.step_record.specs.declared.job.Job.{Job}
 use Rattle.engine_base.specs.declared.limits.TheConstants.{MAX_STEPS}
-use Rattle.queue_cache.specs.Design.{knows_trace}
+use Rattle.policies.specs.Design.{knows_trace}
 
 -- what accesses are taken for: jobs, and how many accesses an interval has
 pub record Task : Type 0 where

@@ -17,11 +17,10 @@ use Rattle.demand_cache.specs.DemandCache.{Stats, DemandState, demand_access}
 use Rattle.demand_cache.specs.Theorems.{DemandKeeps}
 use Rattle.demand_cache.proofs.Keeping.{page-outcomes}
 use Rattle.demand_cache.specs.declared.demand_policy.DemandPolicy.{DemandPolicy}
-use Rattle.demand_cache.specs.DemandPolicy.{Job, demand_policy}
 use Rattle.engine_base.specs.declared.limits.TheConstants.{MAX_STEPS}
 use Rattle.policies.specs.declared.any_policy.AnyPolicy.TheVariants.{Demand}
 use Rattle.policies.specs.Accesses.{IsNext}
-use Rattle.policies.specs.AnyPolicy.{IsDemandAfter, demand_run, demand_outcomes}
+use Rattle.policies.specs.AnyPolicy.{Job, IsDemandAfter, demand_run, demand_outcomes}
 use Rattle.queue_cache.proofs.Reached.{has-room}
 
 -- ---- with room for a key
@@ -38,7 +37,7 @@ demand-long p v keys = grind (arith, nat_tests, length-map, with-room, outcomes-
 -- ---- the accesses that it made
 
 abbrev start_of : (j : Job) (keys : List ℕ) (d : DemandState) → IsDemandAfter j keys d → DemandQueues
-start_of j keys d s = empty_cache (demand_policy j) j.config.capacity
+start_of j keys d s = empty_cache d.queues.policy j.config.capacity
 
 pub demand_stands : (j : Job) (keys : List ℕ) (d : DemandState) (k : ℕ) → IsDemandAfter j keys d → IsDemandAfter j (keys ++ k ∷ []) (demand_access k d).1
 demand_stands j keys d k s =
@@ -67,7 +66,7 @@ demand-accesses j keys d s = ap (λ (x : Stats). x.accesses) s.stats ∙ outcome
 
 pub demand-keeping : DemandKeeps → (j : Job) (keys : List ℕ) (d : DemandState) (s : IsDemandAfter j keys d)
     → KeepsResidents j.config.capacity (start_of j keys d s) queues_act queues_residents (IsQueues j.config.capacity)
-demand-keeping law j keys d s = law (demand_policy j) j.config.capacity (has-room j.config s.checked)
+demand-keeping law j keys d s = law d.queues.policy j.config.capacity (has-room j.config s.checked)
 
 pub demand-sound : DemandKeeps → (j : Job) (keys : List ℕ) (d : DemandState) → IsDemandAfter j keys d → IsQueues j.config.capacity d.queues
 demand-sound law j keys d s =

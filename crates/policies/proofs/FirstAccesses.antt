@@ -8,25 +8,15 @@ use Rattle.clairvoyant.specs.Belady.{belady_outcomes}
 use Rattle.policies.specs.declared.any_policy.AnyPolicy.{AnyPolicy}
 use Rattle.policies.specs.declared.any_policy.AnyPolicy.TheVariants.{Queues, Optimal, Demand, Adaptive}
 use Rattle.policies.specs.AnyPolicy.{Job, stats_in, stats_on, outcomes_on, HasAccessed, outcomes_by, adaptive_start, adaptive_outcomes}
-use Rattle.queue_cache.specs.QueueCache.{QueueState, queue_state_after, frequency_after, empty_queue_state, outcomes_after, outcomes_from, access_response}
+use Rattle.queue_cache.specs.QueueCache.{QueueState, queue_machine}
 use Rattle.policies.specs.Theorems.{AnyReports}
-use Rattle.policies.proofs.StepLaws.{outcomes-length, any_covers_trace, outcomes-of-queues, outcomes-of-optimal}
+use Rattle.policies.proofs.StepLaws.{outcomes-length, any_covers_trace}
 use Rattle.adaptive_window.specs.AdaptiveCache.{cache_access}
-use Rattle.queue_cache.specs.Design.{design_of}
-use Rattle.engine_base.proofs.Machine.{outcomes-first}
+use Rattle.policies.specs.Design.{queue_setup}
+use Rattle.engine_base.proofs.Machine.{outcomes-first, first-counted}
 use Rattle.policies.proofs.Demand.{with-room, demand-room}
 use Rattle.policies.proofs.Adaptive.{adaptive-stats}
-use Rattle.queue_cache.proofs.Counting.{after-counts}
-
-from_first : (j : Job) (past : List ℕ) (d : QueueState) (n : ℕ) (keys : List ℕ) → outcomes_from j past d (take n keys) ≡ take n (outcomes_from j past d keys)
-from_first j past d zero keys = refl
-from_first j past d (suc n) [] = refl
-from_first j past d (suc n) (k ∷ keys) =
-    ap (λ t. (access_response (frequency_after j (past ++ k ∷ [])) k d).outcome ∷ t) (from_first j (past ++ k ∷ []) (queue_state_after (frequency_after j (past ++ k ∷ [])) k d) n keys)
-
-queues_first : (j : Job) (n : ℕ) (keys : List ℕ) → outcomes_after j (take n keys) ≡ take n (outcomes_after j keys)
-unfolding outcomes_after
-queues_first j n keys = from_first j [] (empty_queue_state j) n keys
+use Rattle.queue_cache.proofs.Balance.{queue-counting}
 
 optimal_first : (c : ℕ) (t : List ℕ) (n m : ℕ) → n ≤ m → belady_outcomes c t n ≡ take n (belady_outcomes c t m)
 optimal_first c t n zero le = grind (arith, nat_tests)
@@ -42,8 +32,10 @@ optimal_first c t n (suc m) le =
 within_trace : (j : Job) (trace : List ℕ) (n : ℕ) (d : AnyPolicy) → n ≤ length trace → HasAccessed j trace (take n trace) d
     → stats_in d ≡ stats_of (take n (outcomes_on j trace))
 within_trace j trace n (Queues d) le s =
-    cc (after-counts j (take n trace), queues_first j n trace, outcomes-of-queues (design_of j.policy) j trace s.0)
-within_trace j trace n (Optimal d) le s = grind (arith, nat_tests, length-take-le, optimal_first, outcomes-of-optimal)
+    let setup = queue_setup d.setup.design j in
+    ap (λ (x : QueueState). x.stats) s.is ∙ first-counted (queue_machine setup) (queue-counting setup) n trace
+    ∙ ap (λ x. stats_of (take n (outcomes_by x j trace))) (sym s.design)
+within_trace j trace n (Optimal d) le s = grind (arith, nat_tests, length-take-le, optimal_first)
 within_trace j trace n (Demand d) le s = grind (arith, nat_tests, outcomes-first, with-room, demand-room)
 within_trace j trace n (Adaptive d) le s =
     adaptive-stats j (take n trace) d s ∙ ap stats_of (outcomes-first cache_access (adaptive_start j) n trace)

@@ -11,37 +11,34 @@ use Rattle.engine_base.specs.Stats.{is_eviction, stats_of, is_hit, one_if}
 use Rattle.clairvoyant.specs.Theorems.{ClairvoyantStepLaw, ClairvoyantAccepts}
 use Rattle.clairvoyant.specs.Clairvoyant.{ClairvoyantState, clairvoyant_at, clairvoyant_act, Stats}
 use Rattle.policies.specs.declared.any_policy.AnyPolicy.TheVariants.{Queues, Optimal, Demand, Adaptive}
-use Rattle.queue_cache.specs.QueueCache.{Job, state_after, outcomes_after, QueueState}
+use Rattle.queue_cache.specs.QueueCache.{QueueState, QueueSetup, queue_access, queue_machine, state_after, outcomes_after, empty_queue_state, IsQueueState, StandsFor}
+use Rattle.queue_cache.specs.declared.design.QueueDesign.{QueueDesign}
 use Rattle.engine_base.specs.Limited.{lifted}
 use Rattle.engine_base.proofs.Limited.{accepted-in, refused-in, accepted-where}
-use Rattle.queue_cache.specs.QueueStep.{queue_access, queue_count, recorded_in}
+use Rattle.queue_cache.specs.QueueStep.{queue_count}
 use Rattle.demand_cache.specs.DemandCache.{demand_access, demand_count}
 use Rattle.demand_cache.specs.DemandQueues.{queues_act, empty_cache, DemandQueues, queues_residents, IsQueues}
 use Rattle.demand_cache.specs.Theorems.{DemandKeeps, HitsAskNothing, AsksWhereOneLeft}
-use Rattle.engine_base.specs.Machine.{state_after_all, outcomes_of_all}
+use Rattle.engine_base.specs.Machine.{Machine, state_after_all, outcomes_of_all, IsCounting}
 use Rattle.policy_page.specs.Residents.{KeepsResidents}
 use Rattle.adaptive_window.specs.AdaptiveCache.{cache_access, cache_count}
 use Rattle.adaptive_window.specs.Residents.{CacheKeeps, CacheHitsAskNothing, CacheAsksWhereOneLeft}
-use Rattle.queue_cache.specs.declared.design.Design.{Design}
-use Rattle.queue_cache.specs.declared.design.Design.TheVariants as design
-use Rattle.queue_cache.specs.Design.{design_of, is_of_queues, is_optimal}
-use Rattle.demand_cache.specs.DemandPolicy.{demand_policy}
-use Rattle.policies.specs.AnyPolicy.{AnyPolicy, outcomes_by, adaptive_start, demand_run, IsBeladyAt, HasAccessed, adaptive_outcomes, ConfigFault, DemandPolicy, any_residents, outcomes_on, stats_on, demand_outcomes}
+use Rattle.policies.specs.declared.design.Design.TheVariants as design
+use Rattle.policies.specs.Design.{Job, Design, design_of, queue_setup}
+use Rattle.policies.specs.AnyPolicy.{AnyPolicy, IsAfter, outcomes_by, adaptive_start, demand_run, IsBeladyAt, HasAccessed, adaptive_outcomes, ConfigFault, DemandPolicy, any_residents, outcomes_on, stats_on, demand_outcomes}
 use Rattle.policies.specs.Theorems.{AnyStepLaw, AnyAccepts, AnyIsOne, AnyAnswers, AnyCoversTrace, AnyHitsKeepAll, AnyRecordsShowOutcome, AnyAsksWhereOneLeft}
 use Rattle.clairvoyant.proofs.Records.{outcome-is}
 use Rattle.queue_cache.proofs.Leaving.{hit-keeps-all, queue-asks-evicts}
-use Rattle.queue_cache.proofs.Answered.{after-answers, after-length}
-use Rattle.engine_base.proofs.Machine.{outcomes-at}
+use Rattle.engine_base.proofs.Machine.{outcomes-at, outcomes-long, next, made, residents-counted, residents-fit, misses-fit}
 use Rattle.policy_page.proofs.Residents.{kept-after}
 use Rattle.policies.proofs.Demand.{demand_stands, demand-accesses, with-room, demand-room, demand-long, demand-sound, demand-holds, demand-is-access, demand-counted, demand-came-from, times-by}
 use Rattle.policies.proofs.Adaptive.{adaptive_stands, adaptive-accesses, adaptive-sound, adaptive-long, adaptive-counted, adaptive-fit}
-use Rattle.queue_cache.proofs.Reached.{stands-step, stands-outcome, stands-accesses}
 use Rattle.std.specs.List.{count_by}
 use Rattle.segments.specs.Queues.{residents_in}
 use Rattle.std.proofs.lemmas.List.Sums.{sum_by-cons}
 use Rattle.policy_page.proofs.Residents.{counts-residents}
 use Rattle.engine_base.specs.Config.{config_fault}
-use Rattle.queue_cache.proofs.Counting.{after-counts, hits-misses}
+use Rattle.queue_cache.proofs.Counting.{hits-misses}
 use Rattle.engine_base.specs.Keys.{has_key}
 use Rattle.clairvoyant.specs.Keys.{IsAscendingKeys}
 use Rattle.clairvoyant.proofs.Belady.{residents-ascending, served-has, hit-resident, residents-fit as belady-residents-fit}
@@ -49,8 +46,22 @@ use Rattle.clairvoyant.proofs.Reached.{held-count}
 use Rattle.clairvoyant.proofs.Listing.{times-sum, times-has}
 use Rattle.engine_base.proofs.Counting.{one-few}
 use Rattle.policies.specs.Residents.{StatsAddUp, MissesFit, ResidentsFit, ResidentsDistinct, ResidentsCounted, HitsAreResidents, FetchesOnDemand}
-use Rattle.replacement.proofs.Residents.{residents-length, resident-queued, resident-once}
-use Rattle.queue_cache.proofs.Balance.{IsBalancedCache, step-balanced, after-balanced, residents-fit, came-from}
+use Rattle.queue_cache.proofs.Balance.{queue-counting, queue-keeps, after-stands}
+
+-- ---- what a machine comes to
+
+module _ (j : Job) (x : Design) (m : Machine) (keys : List ℕ) (d : m.State) (s : IsAfter j x m keys d) where
+  pub after-next : (k : ℕ) → IsAfter j x m (keys ++ k ∷ []) (m.access k d).1
+  after-next k = record { design = s.design; checked = s.checked; is = ap (λ y. (m.access k y).1) s.is ∙ sym (next m keys k) }
+
+  pub after-made : IsCounting m → (m.stats d).accesses ≡ length keys
+  after-made c = ap (λ y. (m.stats y).accesses) s.is ∙ made m c keys
+
+-- a new cache of queues
+pub queues_opened : (j : Job) (q : QueueDesign) (d : QueueState) → design_of j ≡ design.Queues q → StandsFor (queue_setup q j) [] d
+    → (trace : List ℕ) → HasAccessed j trace [] (Queues d)
+queues_opened j q d is s trace =
+    subst (λ (x : QueueState). HasAccessed j trace [] (Queues x)) (sym s.gives) record { design = is; checked = s.checked; is = refl }
 
 -- ---- the outcomes of Belady's optimal policy, by place
 
@@ -83,7 +94,8 @@ optimal_stands law j trace keys d k o e s h = grind (arith, nat_tests, at_place,
 
 pub any_step_law : ClairvoyantStepLaw → AnyStepLaw
 any_step_law law j trace keys (Queues d) k o e s h =
-    grind (arith, nat_tests, accepted-in queue_count queue_access Queues d k o e h, stands-step j keys k d s.1)
+    subst (HasAccessed j trace (keys ++ k ∷ [])) (sym (accepted-in queue_count queue_access Queues d k o e h).next)
+    (after-next j (design.Queues d.setup.design) (queue_machine (queue_setup d.setup.design j)) keys d s k)
 any_step_law law j trace keys (Optimal d) k o e s h = grind (arith, nat_tests, optimal_stands)
 any_step_law law j trace keys (Demand d) k o e s h = grind (arith, nat_tests, accepted-in, demand_stands)
 any_step_law law j trace keys (Adaptive d) k o e s h = grind (arith, nat_tests, accepted-in, adaptive_stands)
@@ -100,7 +112,11 @@ has-left : (trace keys rest : List ℕ) (k n : ℕ) → trace ≡ keys ++ k ∷ 
 has-left trace keys rest k n t few made all = grind (arith, nat_tests, length-append keys (k ∷ rest))
 
 pub any_accepts : ClairvoyantAccepts → AnyAccepts
-any_accepts law j trace keys rest k (Queues d) t few s h = search (arith, has-left, stands-accesses, refused-in)
+any_accepts law j trace keys rest k (Queues d) t few s h =
+    let setup : QueueSetup = queue_setup d.setup.design j in
+    has-left trace keys rest k d.stats.accesses t few
+    (after-made j (design.Queues d.setup.design) (queue_machine setup) keys d s (queue-counting setup))
+    (refused-in queue_count queue_access Queues d k h)
 any_accepts law j trace keys rest k (Optimal d) t few s h =
     let p : IsAtPlace j trace keys d = at_place j trace keys d s in
     let l : length trace ≡ length keys + length (k ∷ rest) = ap length t ∙ length-append keys (k ∷ rest) in
@@ -115,54 +131,45 @@ any_accepts law j trace keys rest k (Adaptive d) t few s h = search (arith, has-
 
 -- the cache of a design after the accesses to the keys
 abbrev cache_by : Design → Job → List ℕ → List ℕ → AnyPolicy
-cache_by (design.Queues q) j trace keys = Queues (state_after j keys)
+cache_by (design.Queues q) j trace keys = Queues (state_after (queue_setup q j) keys)
 cache_by design.KnowsTrace j trace keys = Optimal (clairvoyant_at j.config.capacity trace (length keys))
-cache_by design.Demand j trace keys = Demand record {
-  queues = state_after_all queues_act (empty_cache (demand_policy j) j.config.capacity) keys;
-  stats = stats_of (demand_run (demand_policy j) j.config.capacity keys);
+cache_by (design.Demand p) j trace keys = Demand record {
+  queues = state_after_all queues_act (empty_cache p j.config.capacity) keys;
+  stats = stats_of (demand_run p j.config.capacity keys);
 }
 cache_by design.Adaptive j trace keys = Adaptive (state_after_all cache_access (adaptive_start j) keys)
 
-module _ (j : Job) (trace keys : List ℕ) where
-  by-queues : (x : Design) → is_of_queues x ≡ true → Queues (state_after j keys) ≡ cache_by x j trace keys
-  by-queues v h = grind (arith, nat_tests)
-
-  by-trace : (x : Design) → is_optimal x ≡ true → Optimal (clairvoyant_at j.config.capacity trace (length keys)) ≡ cache_by x j trace keys
-  by-trace v h = grind (arith, nat_tests)
-
-  is-cache : (d : AnyPolicy) → HasAccessed j trace keys d → d ≡ cache_by (design_of j.policy) j trace keys
-  is-cache v s = grind (arith, nat_tests, by-queues, by-trace)
+is-cache : (j : Job) (trace keys : List ℕ) (d : AnyPolicy) → HasAccessed j trace keys d → d ≡ cache_by (design_of j) j trace keys
+is-cache j trace keys (Queues d) s = ap Queues s.is ∙ ap (λ x. cache_by x j trace keys) (sym s.design)
+is-cache j trace keys v s = grind (arith, nat_tests)
 
 pub any_one : AnyIsOne
 any_one j trace keys d e a b = is-cache j trace keys d a ∙ sym (is-cache j trace keys e b)
 
 -- the outcomes over the whole trace
 
-pub outcomes-of-queues : (x : Design) (j : Job) (trace : List ℕ) → is_of_queues x ≡ true → outcomes_by x j trace ≡ outcomes_after j trace
-outcomes-of-queues v j trace h = grind (arith, nat_tests)
-
-pub outcomes-of-optimal : (x : Design) (j : Job) (trace : List ℕ) → is_optimal x ≡ true
-    → outcomes_by x j trace ≡ belady_outcomes j.config.capacity trace (length trace)
-outcomes-of-optimal v j trace h = grind (arith, nat_tests)
-
 covers-by : (x : Design) (j : Job) (trace : List ℕ) → length (outcomes_by x j trace) ≡ length trace
-covers-by v j trace = grind (arith, nat_tests, after-length, outcomes-length, demand-long, adaptive-long)
+covers-by v j trace = grind (arith, nat_tests, outcomes-long, outcomes-length, demand-long, adaptive-long)
 
 pub any_covers_trace : AnyCoversTrace
-any_covers_trace j trace = covers-by (design_of j.policy) j trace
+any_covers_trace j trace = covers-by (design_of j) j trace
 
 pub any_answers : ClairvoyantStepLaw → AnyAnswers
 any_answers law j trace keys rest k (Queues d) o e x t s h =
-    grind (arith, nat_tests, accepted-in, stands-outcome, after-answers, outcomes-of-queues)
+    (accepted-in queue_count queue_access Queues d k o e h).outcome
+    ∙ ap (λ z. (queue_access k z).0) s.is
+    ∙ sym (outcomes-at queue_access (empty_queue_state (queue_setup d.setup.design j)) keys rest k x)
+    ∙ ap (λ l. get_or (outcomes_after (queue_setup d.setup.design j) l) (length keys) x) (sym t)
+    ∙ ap (λ z. get_or (outcomes_by z j trace) (length keys) x) (sym s.design)
 any_answers law j trace keys rest k (Optimal d) o e x t s h =
-    search (arith, at_place, length-append, at-answers, outcomes-of-optimal)
+    search (arith, at_place, length-append, at-answers)
 any_answers law j trace keys rest k (Demand d) o e x t s h =
-    let start = empty_cache (demand_policy j) j.config.capacity in
+    let start = empty_cache d.queues.policy j.config.capacity in
     (accepted-in demand_count demand_access Demand d k o e h).outcome
     ∙ ap (λ z. (queues_act k z).0) s.queues
     ∙ sym (outcomes-at queues_act start keys rest k x)
-    ∙ ap (λ l. get_or (demand_run (demand_policy j) j.config.capacity l) (length keys) x) (sym t)
-    ∙ ap (λ os. get_or os (length keys) x) (sym (with-room (demand_policy j) j.config.capacity trace (demand-room j keys d s)))
+    ∙ ap (λ l. get_or (demand_run d.queues.policy j.config.capacity l) (length keys) x) (sym t)
+    ∙ ap (λ os. get_or os (length keys) x) (sym (with-room d.queues.policy j.config.capacity trace (demand-room j keys d s)))
     ∙ ap (λ z. get_or (outcomes_by z j trace) (length keys) x) (sym s.design)
 any_answers law j trace keys rest k (Adaptive d) o e x t s h =
     (accepted-in cache_count cache_access Adaptive d k o e h).outcome
@@ -188,7 +195,7 @@ any_hits_keep_all law own (Adaptive d) k e h =
 
 pub any_asks_where_one_left : DemandKeeps → AsksWhereOneLeft → CacheKeeps → CacheAsksWhereOneLeft → AnyAsksWhereOneLeft
 any_asks_where_one_left keeps law kept own j trace keys (Queues d) k o e s h asks =
-    ap is_eviction (accepted-in queue_count queue_access Queues d k o e h).outcome ∙ queue-asks-evicts j keys d k s.1 asks
+    ap is_eviction (accepted-in queue_count queue_access Queues d k o e h).outcome ∙ queue-asks-evicts (queue_setup d.setup.design j) keys d k record { checked = s.checked; gives = s.is } asks
 any_asks_where_one_left keeps law kept own j trace keys (Optimal d) k o e s h asks = absurd asks
 any_asks_where_one_left keeps law kept own j trace keys (Demand d) k o e s h asks =
     grind (arith, nat_tests, accepted-in demand_count demand_access Demand d k o e h, demand-sound keeps j keys d s)
@@ -199,31 +206,27 @@ any_asks_where_one_left keeps law kept own j trace keys (Adaptive d) k o e s h a
 -- ---- how many keys are resident in a cache of any policy
 
 pub residents_fit : DemandKeeps → CacheKeeps → ResidentsFit
-residents_fit law own j trace keys (Queues d) s = grind (arith, nat_tests, residents-fit j keys)
+residents_fit law own j trace keys (Queues d) s =
+    subst (λ (x : QueueState). length (residents_in x.queues) ≤ j.config.capacity) (sym s.is)
+    (residents-fit j.config.capacity (queue_machine (queue_setup d.setup.design j)) (queue-keeps (queue_setup d.setup.design j)) keys)
 residents_fit law own j trace keys (Optimal d) s =
     subst (λ (x : ClairvoyantState). length x.residents ≤ j.config.capacity) (sym s.gives)
     (belady-residents-fit j.config.capacity trace (length keys))
 residents_fit law own j trace keys (Demand d) s = (demand-holds law j keys d s).fits
 residents_fit law own j trace keys (Adaptive d) s = (own j.config j.tuning.period s.checked).fits d (adaptive-sound own j keys d s)
 
-queues-counted : (d : QueueState) → IsBalancedCache d → length (residents_in d.queues) + d.stats.evictions ≡ d.stats.misses
-queues-counted d s = let counted = s.counted in omega (arith, counted, residents-length d.queues)
-
 pub residents_counted : DemandKeeps → CacheKeeps → ResidentsCounted
 residents_counted law own j trace keys (Demand d) s = demand-counted law j keys d s
-residents_counted law own j trace keys v s =
-    grind (arith, nat_tests, queues-counted, after-balanced, held-count, adaptive-counted)
+residents_counted law own j trace keys (Queues d) s =
+    subst (λ (x : QueueState). length (residents_in x.queues) + x.stats.evictions ≡ x.stats.misses) (sym s.is)
+    (residents-counted j.config.capacity (queue_machine (queue_setup d.setup.design j)) (queue-keeps (queue_setup d.setup.design j)) keys)
+residents_counted law own j trace keys v s = grind (arith, nat_tests, held-count, adaptive-counted)
 
 -- ---- the statistics of a job over a trace
 
 pub stats_add_up : AnyCoversTrace → StatsAddUp
 unfolding stats_on
 stats_add_up covers j trace = (covers j trace, hits-misses (outcomes_on j trace) ∙ covers j trace)
-
-queues-fit : (j : Job) (trace : List ℕ) → (state_after j trace).stats.misses ≤ (state_after j trace).stats.evictions + j.config.capacity
-queues-fit j trace =
-    let few = residents-fit j trace in
-    omega (arith, queues-counted (state_after j trace) (after-balanced j trace), few)
 
 optimal-fit : (c : ℕ) (t : List ℕ) (i : ℕ) → (stats_of (belady_outcomes c t i)).misses ≤ (stats_of (belady_outcomes c t i)).evictions + c
 optimal-fit c t i = let counted = held-count c t i in let few = belady-residents-fit c t i in omega (arith, counted, few)
@@ -249,24 +252,28 @@ unopened-fit law v j trace ok = grind (arith, nat_tests, adaptive-fit, none-kept
 
 fit-by : DemandKeeps → CacheKeeps → (x : Design) (j : Job) (trace : List ℕ)
     → (stats_of (outcomes_by x j trace)).misses ≤ (stats_of (outcomes_by x j trace)).evictions + j.config.capacity
-fit-by law own (design.Queues q) j trace = subst (λ (s : Stats). s.misses ≤ s.evictions + j.config.capacity) (after-counts j trace) (queues-fit j trace)
+fit-by law own (design.Queues q) j trace =
+    misses-fit j.config.capacity (queue_machine (queue_setup q j)) (queue-keeps (queue_setup q j)) trace
 fit-by law own design.KnowsTrace j trace = optimal-fit j.config.capacity trace (length trace)
-fit-by law own design.Demand j trace = demand-fit law (demand_policy j) j.config.capacity trace
+fit-by law own (design.Demand p) j trace = demand-fit law p j.config.capacity trace
 fit-by law own design.Adaptive j trace = unopened-fit own (config_fault j.config) j trace refl
 
 pub misses_fit : DemandKeeps → CacheKeeps → MissesFit
 unfolding stats_on
-misses_fit law own j trace = fit-by law own (design_of j.policy) j trace
+misses_fit law own j trace = fit-by law own (design_of j) j trace
 
 -- ---- no key twice
+
+queues-sound : (j : Job) (keys : List ℕ) (d : QueueState) (s : HasAccessed j [] keys (Queues d)) → IsQueueState (queue_setup d.setup.design j) d
+queues-sound j keys d s =
+    subst (IsQueueState (queue_setup d.setup.design j)) (sym s.is) (after-stands (queue_setup d.setup.design j) keys)
 
 ascending-once : (k : ℕ) (r : List ℕ) → IsAscendingKeys r → count_by (eqb k) r ≡ one_if (has_key k r)
 ascending-once k r s = sym (times-sum k r) ∙ times-has k r s
 
 pub residents_distinct : DemandKeeps → CacheKeeps → ResidentsDistinct
 residents_distinct law own j trace keys (Queues d) k s =
-    let sound : IsBalancedCache d = subst IsBalancedCache (sym s.1.gives) (after-balanced j keys) in
-    resident-once k d.queues sound.once sound.nodeless
+    (queue-keeps (queue_setup d.setup.design j)).distinct d k (queues-sound j keys d s)
 residents_distinct law own j trace keys (Optimal d) k s =
     let r : List ℕ = belady_residents j.config.capacity trace (length keys) in
     let once : count_by (eqb k) r ≤ 1 = omega (arith, ascending-once k r (residents-ascending j.config.capacity trace (length keys)), one-few (has_key k r)) in
@@ -279,8 +286,8 @@ residents_distinct law own j trace keys (Adaptive d) k s = (own j.config j.tunin
 
 pub hits_are_residents : DemandKeeps → CacheKeeps → HitsAreResidents
 hits_are_residents law own j trace keys (Queues d) k o e s h =
-    let sound : IsBalancedCache d = subst IsBalancedCache (sym s.1.gives) (after-balanced j keys) in
-    ap is_hit (accepted-in queue_count queue_access Queues d k o e h).outcome ∙ ((step-balanced (recorded_in k d.frequency) k d sound).hit ∙ sym (resident-queued k d.queues sound.nodeless))
+    ap is_hit (accepted-in queue_count queue_access Queues d k o e h).outcome
+    ∙ ((queue-keeps (queue_setup d.setup.design j)).accesses k d (queues-sound j keys d s)).hits
 hits_are_residents law own j trace keys (Optimal d) k o e s h =
     grind (arith, nat_tests, accepted-where, hit-resident d.capacity d.trace d.stats.accesses k d.residents)
 hits_are_residents law own j trace keys (Demand d) k o e s h =
@@ -293,7 +300,8 @@ there-in x same there = ap (λ y. has_key x (any_residents y)) same ∙ there
 
 pub fetches_on_demand : DemandKeeps → CacheKeeps → FetchesOnDemand
 fetches_on_demand law own j trace keys (Queues d) k o e x s h there =
-    grind (arith, nat_tests, after-balanced, came-from, there-in, accepted-in)
+    ((queue-keeps (queue_setup d.setup.design j)).accesses k d (queues-sound j keys d s)).came x
+    (there-in x (sym (accepted-in queue_count queue_access Queues d k o e h).next) there)
 fetches_on_demand law own j trace keys (Optimal d) k o e x s h there =
     grind (arith, nat_tests, accepted-where, served-has, there-in)
 fetches_on_demand law own j trace keys (Demand d) k o e x s h there =

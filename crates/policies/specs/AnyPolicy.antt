@@ -1,5 +1,5 @@
 -- What a cache of any policy shows, and what a job over a trace comes to.
-use Rattle.std.specs.Prelude.{◌≡◌, ℕ, zero, suc, ◌≤◌, true, Option, Some, None, Result, Ok, Err, List, length, map, take}
+use Rattle.std.specs.Prelude.{◌≡◌, ℕ, zero, suc, ◌≤◌, Option, Some, None, Result, Ok, Err, List, length, map, take}
 pub use Rattle.engine_base.specs.declared.config.ConfigFault.{ConfigFault}
 pub use Rattle.step_record.specs.declared.job.Job.{Job}
 pub use Rattle.engine_base.specs.declared.outcome.Outcome.{Outcome}
@@ -13,18 +13,18 @@ use Rattle.adaptive_window.specs.AdaptiveCache.{empty_cache as empty_adaptive_ca
 use Rattle.adaptive_window.specs.Residents.{cache_residents}
 use Rattle.clairvoyant.specs.Belady.{belady_outcomes}
 use Rattle.clairvoyant.specs.Clairvoyant.{ClairvoyantState, clairvoyant_at}
-use Rattle.engine_base.specs.Machine.{state_after_all, outcomes_of_all}
+use Rattle.engine_base.specs.Machine.{Machine, state_after_all, outcomes_of_all, after}
 pub use Rattle.demand_cache.specs.declared.demand_policy.DemandPolicy.{DemandPolicy}
 use Rattle.demand_cache.specs.DemandQueues.{empty_cache, queues_act, queues_residents}
-use Rattle.demand_cache.specs.DemandPolicy.{outcomes_of_page, demand_policy}
+use Rattle.demand_cache.specs.DemandPolicy.{outcomes_of_page}
 use Rattle.demand_cache.specs.DemandCache.{DemandState}
 use Rattle.segments.specs.Queues.{residents_in}
 pub use Rattle.policies.specs.declared.any_policy.AnyPolicy.{AnyPolicy}
 use Rattle.policies.specs.declared.any_policy.AnyPolicy.TheVariants.{Queues, Optimal, Demand, Adaptive}
-pub use Rattle.queue_cache.specs.declared.design.Design.{Design}
-use Rattle.queue_cache.specs.declared.design.Design.TheVariants as design
-use Rattle.queue_cache.specs.Design.{design_of, has_queues, knows_trace}
-use Rattle.queue_cache.specs.QueueCache.{outcomes_after, StandsFor}
+pub use Rattle.policies.specs.declared.design.Design.{Design}
+use Rattle.policies.specs.declared.design.Design.TheVariants as design
+use Rattle.policies.specs.Design.{design_of, queue_setup}
+use Rattle.queue_cache.specs.QueueCache.{queue_machine, outcomes_after}
 
 -- ---- a job over a trace
 
@@ -42,21 +42,21 @@ demand_outcomes p (suc c) trace = outcomes_of_page p (suc c) trace
 abbrev pub adaptive_start : Job → AdaptiveCacheState
 adaptive_start j = empty_adaptive_cache j.config j.tuning.period
 
--- The outcomes of the accesses to the keys of a trace. A cache whose configuration is not accepted would keep no key (none is
--- ever opened).
+-- The outcomes of the accesses to the keys of a trace. A cache whose configuration is not accepted would keep no key (none
+-- is ever opened).
 abbrev pub adaptive_outcomes : Result (Unit {0}) ConfigFault → Job → List ℕ → List Outcome
 adaptive_outcomes (Ok u) j trace = outcomes_of_all cache_access (adaptive_start j) trace
 adaptive_outcomes (Err e) j trace = map (λ k. Rejected k) trace
 
 abbrev pub outcomes_by : Design → Job → List ℕ → List Outcome
-outcomes_by (design.Queues d) j trace = outcomes_after j trace
+outcomes_by (design.Queues q) j trace = outcomes_after (queue_setup q j) trace
 outcomes_by design.KnowsTrace j trace = belady_outcomes j.config.capacity trace (length trace)
-outcomes_by design.Demand j trace = demand_outcomes (demand_policy j) j.config.capacity trace
+outcomes_by (design.Demand p) j trace = demand_outcomes p j.config.capacity trace
 outcomes_by design.Adaptive j trace = adaptive_outcomes (config_fault j.config) j trace
 
 -- the outcomes of a job's accesses to the keys of a trace, in order
 abbrev pub outcomes_on : Job → List ℕ → List Outcome
-outcomes_on j trace = outcomes_by (design_of j.policy) j trace
+outcomes_on j trace = outcomes_by (design_of j) j trace
 
 -- what is counted of them: a report shows these numbers
 unfoldable pub stats_on : Job → List ℕ → Stats
@@ -83,29 +83,36 @@ frequency_in (Optimal d) = None
 frequency_in (Demand d) = None
 frequency_in (Adaptive d) = Some d.frequency
 
+-- a cache of a job of this design made these accesses: its machine comes to what it shows
+pub record IsAfter (j : Job) (x : Design) (m : Machine) (keys : List ℕ) (d : m.State) : Type 0 where
+  pub design : design_of j ≡ x
+  pub checked : config_fault j.config ≡ Ok tt
+  pub is : d ≡ after m keys
+
 -- a cache of Belady's optimal policy made the first accesses of its trace
 pub record IsBeladyAt (j : Job) (trace keys : List ℕ) (d : ClairvoyantState) : Type 0 where
-  pub policy : knows_trace j.policy ≡ true
+  pub design : design_of j ≡ design.KnowsTrace
   pub first : keys ≡ take (length keys) trace
   pub within : length keys ≤ length trace
   pub gives : d ≡ clairvoyant_at j.config.capacity trace (length keys)
 
 -- a cache of a policy that keeps each missed key made these accesses
 pub record IsDemandAfter (j : Job) (keys : List ℕ) (d : DemandState) : Type 0 where
-  pub design : design_of j.policy ≡ design.Demand
+  pub design : design_of j ≡ design.Demand d.queues.policy
   pub checked : config_fault j.config ≡ Ok tt
-  pub queues : d.queues ≡ state_after_all queues_act (empty_cache (demand_policy j) j.config.capacity) keys
-  pub stats : d.stats ≡ stats_of (demand_run (demand_policy j) j.config.capacity keys)
+  pub queues : d.queues ≡ state_after_all queues_act (empty_cache d.queues.policy j.config.capacity) keys
+  pub stats : d.stats ≡ stats_of (demand_run d.queues.policy j.config.capacity keys)
 
 -- a cache with an adaptive window made these accesses
 pub record IsAdaptiveAfter (j : Job) (keys : List ℕ) (d : AdaptiveCacheState) : Type 0 where
-  pub design : design_of j.policy ≡ design.Adaptive
+  pub design : design_of j ≡ design.Adaptive
   pub checked : config_fault j.config ≡ Ok tt
   pub gives : d ≡ state_after_all cache_access (adaptive_start j) keys
 
 -- the cache runs the job over the trace, and the keys are the accesses that it made
 abbrev pub HasAccessed : Job → List ℕ → List ℕ → AnyPolicy → Type 0
-HasAccessed j trace keys (Queues d) = (has_queues j.policy ≡ true) × StandsFor j keys d
+HasAccessed j trace keys (Queues d) =
+    IsAfter j (design.Queues d.setup.design) (queue_machine (queue_setup d.setup.design j)) keys d
 HasAccessed j trace keys (Optimal d) = IsBeladyAt j trace keys d
 HasAccessed j trace keys (Demand d) = IsDemandAfter j keys d
 HasAccessed j trace keys (Adaptive d) = IsAdaptiveAfter j keys d

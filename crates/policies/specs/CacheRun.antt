@@ -2,9 +2,9 @@
 use Rattle.std.specs.Prelude.{⊤, ◌≡◌, ℕ, ◌+◌, ◌≤◌, true, List, length}
 pub use Rattle.step_record.specs.declared.job.Job.{Job}
 use Rattle.engine_base.specs.declared.limits.TheConstants.{MAX_ACCESSES}
+use Rattle.policies.specs.Design.{knows_trace}
 use Rattle.policies.specs.AnyPolicy.{HasAccessed}
 use Rattle.policies.specs.Accesses.{IsNext}
-use Rattle.queue_cache.specs.Design.{knows_trace}
 use Rattle.policies.specs.declared.cache_run.CacheRun.{CacheRun}
 use Rattle.policies.specs.declared.cache_run.CacheRun.TheVariants.{Cache, NextUses, OutOfMemory}
 

@@ -1,7 +1,8 @@
 //! The accesses of a trace by a cache: a loop for each policy of queues, compiled for its design, one for the adaptive
 //! window, and one for the optimal policy. The policies that keep each missed key have theirs in `demand_cache`.
 ghost use Rattle.std.specs.Prelude.{◌≡◌, ◌++◌, ◌≤◌, ℕ, List, OnOk, length};
-ghost use Rattle.queue_cache.specs.Design.{Job, design_of};
+ghost use Rattle.queue_cache.specs.Design.{CoversDesign};
+ghost use Rattle.policies.specs.Design.{Job};
 ghost use Rattle.policies.specs.AnyPolicy.{HasAccessed};
 ghost use Rattle.policies.specs.Accesses.{IsNext};
 
@@ -13,9 +14,9 @@ use queue_cache::fixed_design::{
     FixedDesign, LruDesign, SegmentedLruDesign, TinyLfuLruDesign, TinyLfuSegmentedDesign,
     WindowTinyLfuDesign,
 };
-use queue_cache::{Design, QueueCache};
+use queue_cache::{Layout, QueueCache};
 use std::alloc::AllocError;
-use step_record::{Engine, Key, Policy, StepFault};
+use step_record::{Engine, Key, StepFault};
 
 /// Makes the accesses in turn, which are the next ones of a trace. The one error is out of memory.
 pub(crate) fn access_queues(cache: &mut QueueCache, keys: &[Key]) -> Result<(), AllocError>
@@ -23,20 +24,22 @@ pub(crate) fn access_queues(cache: &mut QueueCache, keys: &[Key]) -> Result<(), 
     ensures { (j : Job) (trace done : List ℕ) → HasAccessed j trace done (AnyPolicy.Queues cache.old)
         → OnOk result (HasAccessed j trace (done ++ keys.now) (AnyPolicy.Queues cache.new)) }
 {
-    match cache.job().policy {
-        Policy::Lru => access_each::<LruDesign>(cache, keys),
-        Policy::SegmentedLru => access_each::<SegmentedLruDesign>(cache, keys),
-        Policy::TinyLfuLru => access_each::<TinyLfuLruDesign>(cache, keys),
-        Policy::TinyLfuSegmented => access_each::<TinyLfuSegmentedDesign>(cache, keys),
-        Policy::WindowTinyLfu => access_each::<WindowTinyLfuDesign>(cache, keys),
-        // A policy of another engine.
-        _ => unreachable!(),
+    let design = cache.design();
+    match design.layout {
+        Layout::OneQueue if design.counts_keys => access_each::<TinyLfuLruDesign>(cache, keys),
+        Layout::OneQueue => access_each::<LruDesign>(cache, keys),
+        Layout::TwoQueues if design.counts_keys => {
+            access_each::<TinyLfuSegmentedDesign>(cache, keys)
+        }
+        Layout::TwoQueues => access_each::<SegmentedLruDesign>(cache, keys),
+        // It serves a cache that counts no keys as well.
+        Layout::ThreeQueues => access_each::<WindowTinyLfuDesign>(cache, keys),
     }
 }
 
-// The same by a cache of one design. Each design has a loop of its own, which an access to it is part of.
+// The same, compiled for a design that serves the cache's. Each design has a loop of its own, which an access is part of.
 fn access_each<D: FixedDesign>(cache: &mut QueueCache, keys: &[Key]) -> Result<(), AllocError>
-    requires design { design_of cache.old.job.policy ≡ Design.Queues D.DESIGN }
+    requires design { CoversDesign D.DESIGN cache.old.setup.design }
     requires next { IsNext keys.now (AnyPolicy.Queues cache.old) }
     ensures { (j : Job) (trace done : List ℕ) → HasAccessed j trace done (AnyPolicy.Queues cache.old)
         → OnOk result (HasAccessed j trace (done ++ keys.now) (AnyPolicy.Queues cache.new)) }

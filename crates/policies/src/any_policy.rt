@@ -3,11 +3,12 @@ ghost use Rattle.std.specs.Prelude.{◌≡◌, ◌≤◌, ◌↔◌, ℕ, List, 
 ghost use Rattle.std.specs.Prelude.{Ok, Err, Some, None, [], option_map, length, true};
 ghost use Rattle.demand_cache.specs.DemandCache.{demand_act, demand_may_ask};
 
+use crate::design::{Design, design_of};
 use adaptive_window::{AdaptiveCache, AdaptiveRecord};
 use admission::Frequency;
 use clairvoyant::{Clairvoyant, NextUse, OptimalRecord};
-use demand_cache::{DemandCache, DemandPolicy, DemandRecord};
-use queue_cache::{AccessRecord, ByJob, Design, QueueCache, design_of};
+use demand_cache::{DemandCache, DemandRecord};
+use queue_cache::{AccessRecord, AnyDesign, QueueCache};
 use std::alloc::{AllocError, Global};
 use step_record::{Engine, Job, Key, Outcome, Stats, StepFault, Trace};
 
@@ -40,7 +41,7 @@ pub enum AnyRecord {
 impl AnyPolicy {
     ghost use Rattle.engine_base.specs.Config.{config_fault};
     ghost use Rattle.policies.specs.AnyPolicy.{HasAccessed, stats_in, any_residents, frequency_in};
-    ghost use Rattle.queue_cache.specs.Design.{knows_trace};
+    ghost use Rattle.policies.specs.Design.{design_of};
     ghost use Rattle.policies.specs.AnyStep.{any_act, MayAllocate};
 
     /// An empty cache for a job over a trace. It requires a configuration that `Config::check` accepts. The one error
@@ -74,19 +75,20 @@ impl AnyPolicy {
     }
 
     // An empty cache for a job, but where its policy is the optimal one.
+    #[tactic(auto, using(crate::proofs::StepLaws::queues_opened))]
     fn open_online(alloc: Global, job: &Job) -> Result<Option<AnyPolicy>, AllocError>
         requires { config_fault job.now.config ≡ Ok tt }
-        ensures stands { IfOk result (λ r. MatchOption r (knows_trace job.now.policy ≡ true)
+        ensures stands { IfOk result (λ r. MatchOption r (design_of job.now ≡ Design.KnowsTrace)
             (λ p. ((trace : List ℕ) → HasAccessed job.now trace [] p) × ((stats_in p).accesses ≡ 0))) }
     {
-        match design_of(job.policy) {
+        match design_of(job) {
             Design::KnowsTrace => Ok(None),
             Design::Queues(design) => {
-                let cache = QueueCache::with_design(alloc, *job, design)?;
+                let cache = QueueCache::with_design(alloc, design, &job.config)?;
                 Ok(Some(AnyPolicy::Queues(cache)))
             }
-            Design::Demand => {
-                let cache = DemandCache::new(alloc, DemandPolicy::of(job), job.config.capacity);
+            Design::Demand(policy) => {
+                let cache = DemandCache::new(alloc, policy, job.config.capacity);
                 Ok(Some(AnyPolicy::Demand(cache)))
             }
             Design::Adaptive => {
@@ -279,7 +281,7 @@ impl Engine for AnyPolicy {
 
     fn words(done: &AnyRecord) -> u64 {
         match done {
-            AnyRecord::Queues(done) => QueueCache::<ByJob>::words(done),
+            AnyRecord::Queues(done) => QueueCache::<AnyDesign>::words(done),
             AnyRecord::Adaptive(done) => AdaptiveCache::words(done),
             AnyRecord::Optimal(_) | AnyRecord::Demand(_) => 0,
         }

@@ -2,7 +2,7 @@
 use Rattle.std.specs.Prelude.{◌≡◌, ◌≤◌, ℕ, true}
 pub use Rattle.step_record.specs.declared.job.Job.{Job}
 use Rattle.engine_base.specs.declared.limits.TheConstants.{MAX_ACCESSES}
-use Rattle.queue_cache.specs.Design.{knows_trace}
+use Rattle.policies.specs.Design.{knows_trace}
 
 -- The job can be run over a trace of at most so many accesses: a policy that has to know the whole trace notes them
 -- all, so they are no more than those of a trace that is kept.

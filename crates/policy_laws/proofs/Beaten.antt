@@ -8,23 +8,20 @@ use Rattle.engine_base.specs.Stats.{is_hit, one_if}
 use Rattle.engine_base.specs.Config.{config_fault}
 use Rattle.engine_base.specs.declared.outcome.Outcome.TheVariants.{Rejected}
 use Rattle.segments.specs.Queues.{residents_in}
-use Rattle.replacement.proofs.Residents.{resident-queued}
 use Rattle.demand_cache.specs.DemandQueues.{DemandQueues, empty_cache, queues_act, queues_residents, IsQueues}
 use Rattle.demand_cache.specs.Theorems.{DemandKeeps}
-use Rattle.engine_base.specs.Machine.{state_after_all}
+use Rattle.engine_base.specs.Machine.{state_after_all, KeepsKeys}
 use Rattle.adaptive_window.specs.AdaptiveCache.{Stats, cache_access}
 use Rattle.adaptive_window.specs.Residents.{cache_residents, IsCache, CacheKeeps}
-use Rattle.queue_cache.specs.declared.design.Design.TheVariants as design
-use Rattle.queue_cache.specs.Design.{Job, design_of, is_of_queues, is_optimal, knows_trace}
-use Rattle.queue_cache.specs.QueueCache.{QueueState, access_response, frequency_after, state_after}
-use Rattle.queue_cache.proofs.Balance.{IsBalancedCache, step-balanced, after-balanced, came-from, residents-fit}
-use Rattle.queue_cache.proofs.Counting.{after-counts}
-use Rattle.queue_cache.proofs.Reached.{after-snoc}
+use Rattle.queue_cache.specs.declared.design.QueueDesign.{QueueDesign}
+use Rattle.queue_cache.specs.QueueCache.{QueueSetup, queue_access, queue_machine, empty_queue_state, state_after, IsQueueState}
+use Rattle.queue_cache.proofs.Balance.{queue-keeps}
 use Rattle.clairvoyant.specs.Belady.{belady_residents}
-use Rattle.demand_cache.specs.DemandPolicy.{demand_policy}
 use Rattle.policies.specs.declared.any_policy.AnyPolicy.TheVariants.{Queues, Optimal, Demand, Adaptive}
+use Rattle.policies.specs.declared.design.Design.TheVariants as design
+use Rattle.policies.specs.Design.{Job, design_of, knows_trace, queue_setup}
 use Rattle.policies.specs.AnyPolicy.{Design, ConfigFault, demand_outcomes, adaptive_start, adaptive_outcomes, outcomes_by, stats_in, stats_on, HasAccessed}
-use Rattle.policies.proofs.StepLaws.{outcomes-of-queues, outcomes-of-optimal}
+use Rattle.policies.proofs.Designs.{optimal-is, optimal-knows}
 use Rattle.policies.proofs.FirstAccesses.{any_reports}
 use Rattle.policies.proofs.Demand.{with-room}
 use Rattle.optimality.specs.Strategy.{IsStrategy, strategy_hits}
@@ -34,17 +31,12 @@ use Rattle.policy_laws.proofs.Strategies.{IsOnline, hits-by, strategy, hits-are,
 
 -- ---- the hits of a job
 
-hits-counted : (x : Design) (j : Job) (keys : List ℕ) → design_of j.policy ≡ x → (stats_on j keys).hits ≡ count_by is_hit (outcomes_by x j keys)
+hits-counted : (x : Design) (j : Job) (keys : List ℕ) → design_of j ≡ x → (stats_on j keys).hits ≡ count_by is_hit (outcomes_by x j keys)
 unfolding stats_on
 hits-counted x j keys is = ap (λ d. count_by is_hit (outcomes_by d j keys)) is
 
-stats-queues : (j : Job) (keys : List ℕ) → is_of_queues (design_of j.policy) ≡ true → (stats_on j keys).hits ≡ (state_after j keys).stats.hits
-stats-queues j keys e =
-    hits-counted (design_of j.policy) j keys refl ∙ ap (count_by is_hit) (outcomes-of-queues (design_of j.policy) j keys e)
-    ∙ ap (λ (s : Stats). s.hits) (sym (after-counts j keys))
-
 stats-optimal : (j : Job) (keys : List ℕ) → knows_trace j.policy ≡ true → (stats_on j keys).hits ≡ belady_hits j.config.capacity keys (length keys)
-stats-optimal j keys e = hits-counted (design_of j.policy) j keys refl ∙ ap (count_by is_hit) (outcomes-of-optimal (design_of j.policy) j keys e)
+stats-optimal j keys knows = hits-counted design.KnowsTrace j keys (optimal-is j knows)
 
 none-hit : (t : List ℕ) → count_by is_hit (map (λ k. Rejected k) t) ≡ 0
 none-hit [] = refl
@@ -56,27 +48,24 @@ pub record IsOnlineJob (j : Job) : Type 0 where
   pub held : List ℕ → List ℕ
   pub online : IsOnline j.config.capacity held (λ keys. (stats_on j keys).hits)
 
-abbrev pub queue_residents : Job → List ℕ → List ℕ
-queue_residents j keys = residents_in (state_after j keys).queues
+abbrev pub queue_residents : QueueSetup → List ℕ → List ℕ
+queue_residents s keys = residents_in (state_after s keys).queues
 
-after-none : (j : Job) → (queue_residents j [] ≡ []) × ((state_after j []).stats.hits ≡ 0)
-unfolding state_after
-after-none j = (refl, refl)
-
-pub queues-online : (j : Job) → is_of_queues (design_of j.policy) ≡ true → IsOnline j.config.capacity (queue_residents j) (λ keys. (stats_on j keys).hits)
-queues-online j is = hits-by j.config.capacity (queue_residents j) (λ keys. (state_after j keys).stats.hits) (λ keys. (stats_on j keys).hits) record {
-  starts = after-none j;
-  came = λ keys k x g.
-      came-from (frequency_after j (keys ++ k ∷ [])) k x (state_after j keys) (after-balanced j keys)
-      (ap (λ (d : QueueState). has_key x (residents_in d.queues)) (sym (after-snoc j keys k)) ∙ g);
-  counts = λ keys k.
-      let d : QueueState = state_after j keys in
-      let f = frequency_after j (keys ++ k ∷ []) in
-      let s : IsBalancedCache d = after-balanced j keys in
-      let hit : is_hit (access_response f k d).outcome ≡ has_key k (residents_in d.queues) = (step-balanced f k d s).hit ∙ sym (resident-queued k d.queues s.nodeless) in
-      ap (λ (x : QueueState). x.stats.hits) (after-snoc j keys k) ∙ ap (λ b. d.stats.hits + one_if b) hit;
-  fits = λ keys. residents-fit j keys;
-} (λ keys. stats-queues j keys is)
+pub queues-online : (j : Job) (q : QueueDesign) → design_of j ≡ design.Queues q
+    → IsOnline j.config.capacity (queue_residents (queue_setup q j)) (λ keys. (stats_on j keys).hits)
+queues-online j q is =
+    let c : ℕ = j.config.capacity in
+    let s : QueueSetup = queue_setup q j in
+    let all : KeepsKeys c (queue_machine s) = queue-keeps s in
+    let own : Serves c (empty_queue_state s) queue_access (λ d. residents_in d.queues) (IsQueueState s) = record {
+      starts = (all.starts, refl);
+      keeps = all.keeps;
+      hits = λ k d h. (all.accesses k d h).hits;
+      came = λ k d x h. (all.accesses k d h).came x;
+      fits = all.fits;
+    } in
+    hits-by c _ _ _ (served c (empty_queue_state s) queue_access (λ d. residents_in d.queues) (IsQueueState s) own)
+    (λ keys. hits-counted (design.Queues q) j keys is)
 
 empty-online : (j : Job) → ((keys : List ℕ) → (stats_on j keys).hits ≡ 0) → IsOnlineJob j
 empty-online j none = record {
@@ -107,26 +96,26 @@ adaptive-online law (Ok u) j ok hits =
       online = hits-by c _ _ _ (served c (adaptive_start j) cache_access cache_residents (IsCache c) own) hits;
     }
 
-online-by : DemandKeeps → CacheKeeps → (x : Design) (j : Job) → design_of j.policy ≡ x → is_optimal x ≡ false → IsOnlineJob j
-online-by law own (design.Queues q) j is h = record { held = queue_residents j; online = queues-online j (ap is_of_queues is) }
-online-by law own design.KnowsTrace j is h = absurd (cc (h))
-online-by law own design.Demand j is h =
+online-by : DemandKeeps → CacheKeeps → (x : Design) (j : Job) → design_of j ≡ x → knows_trace j.policy ≡ false → IsOnlineJob j
+online-by law own (design.Queues q) j is h = record { held = queue_residents (queue_setup q j); online = queues-online j q is }
+online-by law own design.KnowsTrace j is h = absurd (let no : true ≡ false = sym (optimal-knows j is) ∙ h in cc (no))
+online-by law own (design.Demand p) j is h =
     let c : ℕ = j.config.capacity in
-    let start : DemandQueues = empty_cache (demand_policy j) c in
+    let start : DemandQueues = empty_cache p c in
     elim (cases_lt 0 c) [
       | inl room ↦ record {
         held = λ keys. queues_residents (state_after_all queues_act start keys);
-        online = hits-by c _ _ _ (served c start queues_act queues_residents (IsQueues c) (serves (law (demand_policy j) c room)))
-            (λ keys. hits-counted design.Demand j keys is ∙ ap (count_by is_hit) (with-room (demand_policy j) c keys room));
+        online = hits-by c _ _ _ (served c start queues_act queues_residents (IsQueues c) (serves (law p c room)))
+            (λ keys. hits-counted (design.Demand p) j keys is ∙ ap (count_by is_hit) (with-room p c keys room));
       }
       | inr less ↦
           let none : c ≡ 0 = omega (arith, less) in
-          empty-online j (λ keys. hits-counted design.Demand j keys is ∙ (ap (λ n. count_by is_hit (demand_outcomes (demand_policy j) n keys)) none ∙ none-hit keys))
+          empty-online j (λ keys. hits-counted (design.Demand p) j keys is ∙ (ap (λ n. count_by is_hit (demand_outcomes p n keys)) none ∙ none-hit keys))
     ]
 online-by law own design.Adaptive j is h = adaptive-online own (config_fault j.config) j refl (λ keys. hits-counted design.Adaptive j keys is)
 
-pub online : DemandKeeps → CacheKeeps → (j : Job) → is_optimal (design_of j.policy) ≡ false → IsOnlineJob j
-online law own j other = online-by law own (design_of j.policy) j refl other
+pub online : DemandKeeps → CacheKeeps → (j : Job) → knows_trace j.policy ≡ false → IsOnlineJob j
+online law own j other = online-by law own (design_of j) j refl other
 
 -- ---- every policy as a strategy
 
@@ -139,7 +128,7 @@ pub record ActsAsStrategy (c : ℕ) (trace : List ℕ) (hits : ℕ) : Type 0 whe
 pub acts-as-strategy : BeladyIsStrategy → DemandKeeps → CacheKeeps → (j : Job) (trace : List ℕ) → ActsAsStrategy j.config.capacity trace (stats_on j trace).hits
 acts-as-strategy best law own j trace =
     let c : ℕ = j.config.capacity in
-    elim (cases_Bool (is_optimal (design_of j.policy))) [
+    elim (cases_Bool (knows_trace j.policy)) [
       | inl knows ↦ record {
         residents = belady_residents c trace;
         strategy = (best c trace).0;
@@ -162,16 +151,13 @@ record IsFirst (j : Job) (trace keys : List ℕ) (d : AnyPolicy) : Type 0 where
   within : length keys ≤ length trace
   hits : (stats_in d).hits ≡ belady_hits j.config.capacity trace (length keys)
 
-apart : (x : Design) → is_optimal x ≡ true → is_of_queues x ≡ true → ⊥
-apart v a b = grind (arith, nat_tests)
-
 first-accesses : (j : Job) (trace keys : List ℕ) (d : AnyPolicy) → knows_trace j.policy ≡ true → HasAccessed j trace keys d → IsFirst j trace keys d
-first-accesses j trace keys v knows s = grind (arith, nat_tests, apart)
+first-accesses j trace keys v knows s = grind (arith, nat_tests, optimal-is j knows)
 
 -- another has the hits of a job over its accesses
 own-hits : (j : Job) (trace keys : List ℕ) (d : AnyPolicy) → knows_trace j.policy ≡ false → HasAccessed j trace keys d → (stats_in d).hits ≡ (stats_on j keys).hits
 own-hits j trace keys (Queues d) other s = ap (λ (x : Stats). x.hits) (any_reports j keys (Queues d) s)
-own-hits j trace keys (Optimal d) other s = absurd (let no : true ≡ false = sym s.policy ∙ other in cc (no))
+own-hits j trace keys (Optimal d) other s = absurd (let no : true ≡ false = sym (optimal-knows j s.design) ∙ other in cc (no))
 own-hits j trace keys (Demand d) other s = ap (λ (x : Stats). x.hits) (any_reports j keys (Demand d) s)
 own-hits j trace keys (Adaptive d) other s = ap (λ (x : Stats). x.hits) (any_reports j keys (Adaptive d) s)
 

@@ -6,12 +6,15 @@ use Rattle.std.proofs.lemmas.List.{drop-drop}
 use Rattle.engine_base.specs.Keys.{has_key}
 use Rattle.step_record.specs.declared.job.Policy.TheVariants.{Lru}
 use Rattle.segments.specs.Queues.{residents_in}
-use Rattle.queue_cache.specs.Design.{Job, has_queues}
-use Rattle.queue_cache.specs.Lru.{distinct_keys, lru_residents}
+use Rattle.queue_cache.specs.Lru.{lru, distinct_keys, lru_residents}
+use Rattle.queue_cache.specs.QueueCache.{QueueSetup, queue_machine}
 use Rattle.queue_cache.specs.SingleQueue.{single_queue}
+use Rattle.policies.specs.Design.{Job, queue_setup}
 use Rattle.policies.specs.AnyPolicy.{stats_on}
+use Rattle.policies.proofs.Designs.{design-named}
 use Rattle.queue_cache.specs.Theorems.{LruStepLaw}
-use Rattle.queue_cache.proofs.Balance.{residents-fit}
+use Rattle.engine_base.proofs.Machine.{residents-fit}
+use Rattle.queue_cache.proofs.Balance.{queue-keeps}
 use Rattle.queue_cache.proofs.Recency.{has-drop}
 use Rattle.optimality.specs.Strategy.{strategy_hits}
 use Rattle.policy_laws.specs.Theorems.{LruHitsGrow}
@@ -39,12 +42,12 @@ nothing : (l : List ℕ) → length l ≤ 0 → l ≡ []
 nothing [] h = refl
 nothing (a ∷ l) h = absurd (omega (arith, h))
 
-pub lru-kept : LruStepLaw → (j : Job) (keys : List ℕ) → j.policy ≡ Lru → queue_residents j keys ≡ lru_residents j.config.capacity keys
-lru-kept stands j keys is =
-    let c : ℕ = j.config.capacity in
+pub lru-kept : LruStepLaw → (s : QueueSetup) (keys : List ℕ) → s.design ≡ lru → queue_residents s keys ≡ lru_residents s.config.capacity keys
+lru-kept stands s keys is =
+    let c : ℕ = s.config.capacity in
     elim (cases_lt 0 c) [
-      | inl room ↦ ap residents_in (stands j keys 0 is room).0 ∙ keys-in (lru_residents c keys)
-      | inr empty ↦ nothing (queue_residents j keys) (omega (arith, residents-fit j keys, empty)) ∙ sym (nothing (lru_residents c keys) (omega (arith, lru-fits c keys, empty)))
+      | inl room ↦ ap residents_in (stands s keys 0 is room).0 ∙ keys-in (lru_residents c keys)
+      | inr empty ↦ nothing (queue_residents s keys) (omega (arith, residents-fit c (queue_machine s) (queue-keeps s) keys, empty)) ∙ sym (nothing (lru_residents c keys) (omega (arith, lru-fits c keys, empty)))
     ]
 
 -- ---- a larger capacity
@@ -62,8 +65,9 @@ hits-more t r s (suc i) h = grind (arith, nat_tests, hits-more t r s i h)
 
 lru-hits : LruStepLaw → (j : Job) (trace : List ℕ) → j.policy ≡ Lru → (stats_on j trace).hits ≡ strategy_hits trace (lru_at j.config.capacity trace) (length trace)
 lru-hits stands j trace is =
-    sym (all-hits j.config.capacity (queue_residents j) _ (queues-online j (ap has_queues is)) trace)
-    ∙ hits-agree trace (λ i. queue_residents j (take i trace)) (lru_at j.config.capacity trace) (length trace) (λ i. lru-kept stands j (take i trace) is)
+    let s : QueueSetup = queue_setup lru j in
+    sym (all-hits j.config.capacity (queue_residents s) _ (queues-online j lru (design-named j Lru is)) trace)
+    ∙ hits-agree trace (λ i. queue_residents s (take i trace)) (lru_at j.config.capacity trace) (length trace) (λ i. lru-kept stands s (take i trace) refl)
 
 pub lru_hits_grow : LruStepLaw → LruHitsGrow
 lru_hits_grow stands small large trace is are le = grind (arith, nat_tests, lru-hits, hits-more, lru-among)

@@ -3,7 +3,6 @@ use Rattle.std.proofs.Common.{◌≡◌, ◌⊎◌, ℕ, Bool, true, false, eqb,
 use Rattle.std.proofs.lemmas.Bool.Decides.{nat_tests}
 use Rattle.std.proofs.lemmas.Bool.{lt-ltb, cases_eq}
 use Rattle.engine_base.specs.Keys.{has_key}
-use Rattle.step_record.specs.declared.job.Policy.TheVariants.{SegmentedLru, TinyLfuSegmented}
 use Rattle.segments.specs.declared.records.Queue.TheVariants.{Probation}
 use Rattle.segments.specs.Items.{Item, nodeless_item}
 use Rattle.segments.specs.Queues.{Queues, queue_holding, IsDistinct, residents_in}
@@ -13,10 +12,13 @@ use Rattle.replacement.specs.Table.{response_without_trial, access}
 use Rattle.replacement.proofs.Planned.{access-at}
 use Rattle.replacement.proofs.Balance.{stands-once}
 use Rattle.replacement.proofs.Residents.{resident-queued}
-use Rattle.queue_cache.specs.Design.{Rules, Job, rules_of}
-use Rattle.queue_cache.specs.QueueCache.{QueueState, state_after}
-use Rattle.queue_cache.proofs.Reached.{after-job, after-snoc}
-use Rattle.queue_cache.proofs.Balance.{IsBalancedCache, after-balanced, came-from}
+use Rattle.engine_base.specs.Machine.{state_after_all, KeepsKeys}
+use Rattle.engine_base.proofs.Machine.{state-append}
+use Rattle.queue_cache.specs.SegmentedLru.{segmented_lru}
+use Rattle.queue_cache.specs.TinyLfu.{tiny_lfu}
+use Rattle.queue_cache.specs.Design.{Rules, rules_of}
+use Rattle.queue_cache.specs.QueueCache.{QueueSetup, QueueState, queue_access, queue_machine, empty_queue_state, state_after, IsQueueState}
+use Rattle.queue_cache.proofs.Balance.{queue-keeps, after-stands}
 use Rattle.optimality.proofs.Optimal.{no}
 use Rattle.policy_laws.specs.Scans.{IsScan, ScansSpareProtected}
 
@@ -31,8 +33,8 @@ module _ (r : Rules) (admits : ℕ → ℕ → Bool) (i : Item) (s : Queues) (u 
 
 -- ---- a key that is not resident
 
-not-held : (k : ℕ) (d : QueueState) → IsBalancedCache d → has_key k (residents_in d.queues) ≡ false → queue_holding (nodeless_item k) d.queues ≡ None
-not-held k d s h = grind (arith, nat_tests, stands-once, stands, no, lt-ltb, resident-queued)
+not-held : (s : QueueSetup) (k : ℕ) (d : QueueState) → IsQueueState s d → has_key k (residents_in d.queues) ≡ false → queue_holding (nodeless_item k) d.queues ≡ None
+not-held s k d h none = grind (arith, nat_tests, stands-once, stands, no, lt-ltb, resident-queued)
 
 -- what else is to be scanned is not resident after the first of the keys
 scan-on : (k : ℕ) (r after ks : List ℕ) → ((x : ℕ) → has_key x after ≡ true → (x ≡ k) ⊎ (has_key x r ≡ true)) → has_key k ks ≡ false → IsScan r ks → IsScan after ks
@@ -44,18 +46,23 @@ scan-on k r after (a ∷ ks) came apart scan =
 
 -- ---- the scan
 
-module _ (j : Job) (places : (rules_of j).placement ≡ Direct Probation) where
-  one-spared : (keys : List ℕ) (k : ℕ) → has_key k (residents_in (state_after j keys).queues) ≡ false → (state_after j (keys ++ k ∷ [])).queues.protected ≡ (state_after j keys).queues.protected
-  one-spared keys k h = grind (arith, nat_tests, after-balanced, after-snoc, access-spares, after-job, not-held)
+module _ (s : QueueSetup) (places : (rules_of s).placement ≡ Direct Probation) where
+  one-spared : (d : QueueState) (k : ℕ) → IsQueueState s d → has_key k (residents_in d.queues) ≡ false → (queue_access k d).1.queues.protected ≡ d.queues.protected
+  one-spared d k h none = grind (arith, nat_tests, access-spares, not-held s k d h none)
 
-  all-spared : (keys scan : List ℕ) → IsScan (residents_in (state_after j keys).queues) scan → (state_after j (keys ++ scan)).queues.protected ≡ (state_after j keys).queues.protected
-  all-spared keys [] scan = ap (λ l. (state_after j l).queues.protected) (append-nil keys)
-  all-spared keys (k ∷ ks) scan =
-      ap (λ l. (state_after j l).queues.protected) (sym (append_assoc keys (k ∷ []) ks))
-      ∙ (all-spared (keys ++ k ∷ []) ks (search (arith, scan-on, came-from, after-balanced j keys, after-snoc j keys k)) ∙ one-spared keys k scan.0)
+  all-spared : (d : QueueState) (scan : List ℕ) → IsQueueState s d → IsScan (residents_in d.queues) scan → (state_after_all queue_access d scan).queues.protected ≡ d.queues.protected
+  all-spared d [] h scan = refl
+  all-spared d (k ∷ ks) h scan =
+      let all : KeepsKeys s.config.capacity (queue_machine s) = queue-keeps s in
+      let e : QueueState = (queue_access k d).1 in
+      let rest : IsScan (residents_in e.queues) ks = scan-on k (residents_in d.queues) (residents_in e.queues) ks (all.accesses k d h).came scan.1 scan.2 in
+      all-spared e ks (all.keeps k d h) rest ∙ one-spared d k h scan.0
 
-segmented-places : (j : Job) → (j.policy ≡ SegmentedLru) ⊎ (j.policy ≡ TinyLfuSegmented) → (rules_of j).placement ≡ Direct Probation
-segmented-places j v = grind (arith, nat_tests)
+segmented-places : (s : QueueSetup) → (s.design ≡ segmented_lru) ⊎ (s.design ≡ tiny_lfu segmented_lru) → (rules_of s).placement ≡ Direct Probation
+segmented-places s v = grind (arith, nat_tests)
 
+-- the accesses of a scan go on from those before it
 pub scans_spare_protected : ScansSpareProtected
-scans_spare_protected j keys scan segmented = all-spared j (segmented-places j segmented) keys scan
+scans_spare_protected s keys scan segmented is =
+    ap (λ (d : QueueState). d.queues.protected) (state-append queue_access (empty_queue_state s) keys scan)
+    ∙ all-spared s (segmented-places s segmented) (state_after s keys) scan (after-stands s keys) is

@@ -3,7 +3,7 @@ use Rattle.std.proofs.Common.{◌≡◌, ℕ, suc, zero, ◌-◌, ◌≤◌, tru
 use Rattle.std.proofs.lemmas.List.{append_assoc, length-map, map-append}
 use Rattle.std.proofs.lemmas.Bool.{eq-eqb}
 use Rattle.std.proofs.lemmas.Bool.Decides.{nat_tests}
-use Rattle.step_record.specs.declared.job.Policy.TheVariants.{Lru}
+use Rattle.engine_base.specs.Machine.{state_after_all}
 use Rattle.engine_base.specs.Keys.{has_key, keys_without as without_key}
 use Rattle.segments.specs.declared.records.Queue.TheVariants.{Window}
 use Rattle.segments.specs.Items.{has_item, items_without, oldest_of, nodeless_item}
@@ -13,9 +13,10 @@ use Rattle.replacement.specs.declared.rules.Rules.{Rules}
 use Rattle.replacement.specs.Admission.{admits_in}
 use Rattle.replacement.specs.Table.{Response, kept_in, hit_response, hit_in, response_with_victim, response_without_trial, access}
 use Rattle.replacement.proofs.Planned.{access-at}
-use Rattle.queue_cache.specs.Lru.{lru_residents, lru_outcome}
-use Rattle.queue_cache.specs.QueueCache.{Job, QueueState, access_response, queue_state_after, frequency_after, state_from, empty_queue_state, state_after, outcome_after}
+use Rattle.queue_cache.specs.Lru.{lru, lru_residents, lru_outcome}
+use Rattle.queue_cache.specs.QueueCache.{QueueSetup, QueueState, recorded_in, access_response, queue_access, empty_queue_state, state_after, outcome_after}
 use Rattle.queue_cache.specs.SingleQueue.{single_queue}
+use Rattle.queue_cache.specs.Theorems.{LruStepLaw}
 use Rattle.queue_cache.proofs.Recency.{IsDistinct, moved, answer, two, without-none, distinct-distinct, residents-snoc, outcome-residents}
 
 pub has-map : (k : ℕ) (l : List ℕ) → has_item (nodeless_item k) (map nodeless_item l) ≡ has_key k l
@@ -70,26 +71,38 @@ residents-one : (c k : ℕ) (xs : List ℕ) → 1 ≤ c → lru_residents c (xs 
 residents-one zero k xs h = absurd (omega arith)
 residents-one (suc c) k xs h = residents-snoc c k xs
 
-module _ (j : Job) (is_lru : j.policy ≡ Lru) (room : 1 ≤ j.config.capacity) where
-  -- the response of an Lru cache whose queue has the last distinct keys
-  response-lru : (past : List ℕ) (d : QueueState) (k : ℕ) (ks : List ℕ) → d.job ≡ j → d.queues ≡ single_queue (lru_residents j.config.capacity past)
-      → IsAccess j.config.capacity k (lru_residents j.config.capacity past) (access_response (frequency_after j ks) k d)
-  response-lru past d k ks ej eq = grind (arith, nat_tests, one-access, distinct-drop, distinct-distinct)
+-- a cache of Lru, whose one queue has the last distinct keys
+pub record IsLruAfter (s : QueueSetup) (keys : List ℕ) (d : QueueState) : Type 0 where
+  setup : d.setup ≡ s
+  frequency : d.frequency ≡ None
+  pub queues : d.queues ≡ single_queue (lru_residents s.config.capacity keys)
 
-  step-lru : (past : List ℕ) (d : QueueState) (k : ℕ) (ks : List ℕ) → d.job ≡ j → d.queues ≡ single_queue (lru_residents j.config.capacity past)
-      → (queue_state_after (frequency_after j ks) k d).queues ≡ single_queue (lru_residents j.config.capacity (past ++ k ∷ []))
-  step-lru past d k ks ej eq = (response-lru past d k ks ej eq).lists ∙ ap single_queue (sym (residents-one j.config.capacity k past room))
+module _ (s : QueueSetup) (is_lru : s.design ≡ lru) (room : 1 ≤ s.config.capacity) where
+  response-lru : (past : List ℕ) (d : QueueState) (k : ℕ) → IsLruAfter s past d → IsAccess s.config.capacity k (lru_residents s.config.capacity past) (access_response k d)
+  response-lru past d k h = grind (arith, nat_tests, one-access, distinct-drop, distinct-distinct)
 
-  from-lru : (past : List ℕ) (d : QueueState) (keys : List ℕ) → d.job ≡ j → d.queues ≡ single_queue (lru_residents j.config.capacity past)
-      → (state_from j past d keys).queues ≡ single_queue (lru_residents j.config.capacity (past ++ keys))
-  from-lru past d [] ej eq = rw (append-nil past) eq
-  from-lru past d (a ∷ keys) ej eq =
-      from-lru (past ++ a ∷ []) (queue_state_after (frequency_after j (past ++ a ∷ [])) a d) keys ej (step-lru past d a (past ++ a ∷ []) ej eq)
-      ∙ rw (append_assoc past (a ∷ []) keys) refl
+  step-lru : (past : List ℕ) (d : QueueState) (k : ℕ) → IsLruAfter s past d → IsLruAfter s (past ++ k ∷ []) (queue_access k d).1
+  step-lru past d k h = record {
+    setup = h.setup;
+    frequency = ap (recorded_in k) h.frequency;
+    queues = (response-lru past d k h).lists ∙ ap single_queue (sym (residents-one s.config.capacity k past room));
+  }
 
-  pub after-lru : (keys : List ℕ) → (state_after j keys).queues ≡ single_queue (lru_residents j.config.capacity keys)
-  unfolding state_after
-  after-lru keys = from-lru [] (empty_queue_state j) keys refl (ap single_queue (sym (residents-none j.config.capacity)))
+  from-lru : (past : List ℕ) (d : QueueState) (keys : List ℕ) → IsLruAfter s past d → IsLruAfter s (past ++ keys) (state_after_all queue_access d keys)
+  from-lru past d [] h = subst (λ l. IsLruAfter s l d) (sym (append-nil past)) h
+  from-lru past d (k ∷ keys) h =
+      subst (λ l. IsLruAfter s l (state_after_all queue_access d (k ∷ keys))) (append_assoc past (k ∷ []) keys)
+      (from-lru (past ++ k ∷ []) (queue_access k d).1 keys (step-lru past d k h))
 
-  pub outcome-lru : (keys : List ℕ) (k : ℕ) → (state_after j keys).job ≡ j → outcome_after j keys k ≡ lru_outcome j.config.capacity keys k
-  outcome-lru keys k ej = (response-lru keys (state_after j keys) k (keys ++ k ∷ []) ej (after-lru keys)).outcome ∙ sym (outcome-residents j.config.capacity k keys)
+  pub after-lru : (keys : List ℕ) → IsLruAfter s keys (state_after s keys)
+  after-lru keys = from-lru [] (empty_queue_state s) keys record {
+    setup = refl;
+    frequency = rw is_lru refl;
+    queues = ap single_queue (sym (residents-none s.config.capacity));
+  }
+
+  pub outcome-lru : (keys : List ℕ) (k : ℕ) → outcome_after s keys k ≡ lru_outcome s.config.capacity keys k
+  outcome-lru keys k = (response-lru keys (state_after s keys) k (after-lru keys)).outcome ∙ sym (outcome-residents s.config.capacity k keys)
+
+pub lru-steps : LruStepLaw
+lru-steps s keys k is room = ((after-lru s is room keys).queues, outcome-lru s is room keys k)

@@ -1,18 +1,12 @@
 -- What ties the fields of a cache of queues to what it shows.
-use Rattle.std.specs.Prelude.{◌≡◌, ◌+◌, ◌≤◌, Option, Some, None}
-use Rattle.engine_base.specs.declared.limits.TheConstants.{MAX_STEPS}
+use Rattle.std.specs.Prelude.{◌≡◌, Option}
 use Rattle.engine_base.specs.declared.stats.Stats.{Stats}
-use Rattle.segments.specs.Queues.{Queues}
 use Rattle.admission.specs.Frequency.{FrequencyData}
-use Rattle.queue_cache.specs.Design.{Rules, Job, rules_of}
-use Rattle.queue_cache.specs.QueueStep.{IsReached}
+use Rattle.queue_cache.specs.Design.{Rules, rules_of}
+use Rattle.queue_cache.specs.QueueCache.{QueueSetup}
+use Rattle.queue_cache.specs.QueueStep.{IsRunning}
 
--- the rules are the job's, and some list of accesses gives what is shown
-pub record IsHolding (j : Job) (r : Rules) (q : Queues) (f : Option FrequencyData) (s : Stats) : Type 0 where
-  pub rules : r ≡ rules_of j
-  pub reached : IsReached record { job = j; queues = q; frequency = f; stats = s }
-
--- as few halvings as a recording requires
-abbrev pub FewHalvings : Option FrequencyData → Type 0
-FewHalvings None = Unit {0}
-FewHalvings (Some f) = f.halvings ≤ MAX_STEPS + 1
+-- the rules are those of the design on the configuration
+pub record IsHolding (s : QueueSetup) (r : Rules) (f : Option FrequencyData) (t : Stats) : Type 0 where
+  pub rules : r ≡ rules_of s
+  pub running : IsRunning s f t

@@ -1,11 +1,10 @@
--- How one access changes what a cache of queues shows, its undo record, and how the record undoes it.
-use Rattle.std.specs.Prelude.{◌≡◌, ◌≢◌, ◌⊎◌, ℕ, ◌≤◌, true, Option, Some, None, List, length}
-use Rattle.engine_base.specs.declared.limits.TheConstants.{MAX_STEPS}
-use Rattle.engine_base.specs.Stats.{stats_without, IsCounted}
+-- Which access a cache of queues accepts, its undo record, and how the record undoes it.
+use Rattle.std.specs.Prelude.{◌≡◌, ◌≢◌, ◌⊎◌, ℕ, ◌≤◌, true, false, Option, Some, None}
+use Rattle.engine_base.specs.Stats.{stats_without, IsCounted, IsTally}
 use Rattle.engine_base.specs.Pace.{Pace, pace_without_sketch}
 use Rattle.engine_base.specs.Limited.{limited}
 pub use Rattle.admission.specs.declared.freq_record.FreqRecord.{FreqRecord}
-use Rattle.admission.specs.Frequency.{FrequencyData, frequency_with, halves, pace_of as frequency_pace}
+use Rattle.admission.specs.Frequency.{FrequencyData, halves, pace_of as frequency_pace}
 use Rattle.admission.specs.declared.freq_record.FreqRecord.TheVariants.{Nothing}
 use Rattle.admission.specs.FreqRecord.{frequency_record as freq_record_of, frequency_before as freq_undone, FitsRecord}
 use Rattle.admission.specs.FreqRecord.{size_of}
@@ -17,21 +16,9 @@ use Rattle.segments.specs.Items.{nodeless_item}
 use Rattle.segments.specs.Queues.{Queues, queue_holding}
 pub use Rattle.queue_cache.specs.declared.record.AccessRecord.{AccessRecord}
 use Rattle.queue_cache.specs.Design.{rules_of}
-use Rattle.queue_cache.specs.QueueCache.{QueueState, access_response, queue_state_after, StandsFor}
+use Rattle.queue_cache.specs.QueueCache.{Stats, QueueSetup, QueueState, recorded_in, access_response, queue_access}
 
 -- ---- an access
-
--- the frequency with the key, where keys are counted
-abbrev pub recorded_in : ℕ → Option FrequencyData → Option FrequencyData
-recorded_in k None = None
-recorded_in k (Some f) = Some (frequency_with k f)
-
--- an access records its key, then moves
-abbrev pub queue_access : ℕ → QueueState → Outcome × QueueState
-queue_access k d = (
-  (access_response (recorded_in k d.frequency) k d).outcome,
-  queue_state_after (recorded_in k d.frequency) k d,
-)
 
 abbrev pub queue_count : QueueState → ℕ
 queue_count d = d.stats.accesses
@@ -61,16 +48,17 @@ counting_record k None = Nothing
 counting_record k (Some f) = freq_record_of k f
 
 -- what the access moves, planned from the queues before it
-abbrev pub access_moves : Option FrequencyData → ℕ → QueueState → Moves
-access_moves f k d = moves_of (plan (rules_of d.job) (admits_in f) (nodeless_item k) d.queues) d.queues
+abbrev pub access_moves : ℕ → QueueState → Moves
+access_moves k d =
+    moves_of (plan (rules_of d.setup) (admits_in (recorded_in k d.frequency)) (nodeless_item k) d.queues) d.queues
 
 -- The record of an access to k, from the cache before it. It is this and nothing beside: its only lists are those of a
 -- halving that the recording of the key brought.
 abbrev pub queue_record_of : ℕ → QueueState → AccessRecord
 queue_record_of k d = record {
   counting = counting_record k d.frequency;
-  moves = access_moves (recorded_in k d.frequency) k d;
-  outcome = (access_response (recorded_in k d.frequency) k d).outcome;
+  moves = access_moves k d;
+  outcome = (access_response k d).outcome;
 }
 
 -- ---- undoing it
@@ -86,24 +74,28 @@ FitsCounting r (Some f) = FitsRecord r f
 -- the count is undone first, then the moves, and the recording of the key last
 abbrev pub queue_undone : AccessRecord → QueueState → QueueState
 queue_undone r d = record {
-  job = d.job;
+  setup = d.setup;
   queues = undone_moves r.moves d.queues;
   frequency = unrecorded r.counting d.frequency;
   stats = stats_without r.outcome d.stats;
 }
 
--- some list of accesses gives the state
-pub record IsReached (d : QueueState) : Type 0 where
-  pub keys : List ℕ
-  pub stands : StandsFor d.job keys d
-  pub few : length keys ≤ MAX_STEPS
+abbrev pub halvings_in : Option FrequencyData → ℕ
+halvings_in None = 0
+halvings_in (Some f) = f.halvings
 
--- each part of the record fits in its turn, and some list of accesses gives what undoing it leaves
+-- there were no more halvings than accesses, and no frequency where keys are not counted
+pub record IsRunning (s : QueueSetup) (f : Option FrequencyData) (t : Stats) : Type 0 where
+  pub tally : IsTally t
+  pub halvings : halvings_in f ≤ t.accesses
+  pub counting : s.design.counts_keys ≡ false → f ≡ None
+
+-- each part of the record fits in its turn, and what undoing it leaves holds of a cache
 pub record QueueFits (r : AccessRecord) (d : QueueState) : Type 0 where
   pub counts : IsCounted r.outcome d.stats
   pub moves : FitsMoves r.moves d.queues
   pub counting : FitsCounting r.counting d.frequency
-  pub reached : IsReached (queue_undone r d)
+  pub before : IsRunning d.setup (unrecorded r.counting d.frequency) (stats_without r.outcome d.stats)
 
 -- undoing the access takes memory: an item left in it, which comes back
 abbrev pub queue_asks : AccessRecord → Type 0

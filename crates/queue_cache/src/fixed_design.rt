@@ -4,9 +4,7 @@ ghost use Rattle.queue_cache.specs.SegmentedLru.{segmented_lru};
 ghost use Rattle.queue_cache.specs.TinyLfu.{tiny_lfu};
 ghost use Rattle.queue_cache.specs.WindowTinyLfu.{window_tiny_lfu};
 
-use crate::design::{
-    LRU, QueueDesign, SEGMENTED_LRU, TINY_LFU_LRU, TINY_LFU_SEGMENTED, WINDOW_TINY_LFU,
-};
+use crate::design::QueueDesign;
 
 /// A design that is known where a loop over accesses is compiled, so that the loop asks nothing of it.
 pub trait FixedDesign {
@@ -23,7 +21,7 @@ pub struct LruDesign;
 impl FixedDesign for LruDesign {
     ghost DESIGN = { lru };
 
-    const DESIGN: QueueDesign = LRU;
+    const DESIGN: QueueDesign = QueueDesign::LRU;
 }
 
 /// That of segmented LRU.
@@ -32,7 +30,7 @@ pub struct SegmentedLruDesign;
 impl FixedDesign for SegmentedLruDesign {
     ghost DESIGN = { segmented_lru };
 
-    const DESIGN: QueueDesign = SEGMENTED_LRU;
+    const DESIGN: QueueDesign = QueueDesign::SEGMENTED_LRU;
 }
 
 /// That of LRU behind the TinyLFU admission filter.
@@ -41,7 +39,7 @@ pub struct TinyLfuLruDesign;
 impl FixedDesign for TinyLfuLruDesign {
     ghost DESIGN = { tiny_lfu lru };
 
-    const DESIGN: QueueDesign = TINY_LFU_LRU;
+    const DESIGN: QueueDesign = QueueDesign::TINY_LFU_LRU;
 }
 
 /// That of segmented LRU behind the TinyLFU admission filter.
@@ -50,7 +48,7 @@ pub struct TinyLfuSegmentedDesign;
 impl FixedDesign for TinyLfuSegmentedDesign {
     ghost DESIGN = { tiny_lfu segmented_lru };
 
-    const DESIGN: QueueDesign = TINY_LFU_SEGMENTED;
+    const DESIGN: QueueDesign = QueueDesign::TINY_LFU_SEGMENTED;
 }
 
 /// That of W-TinyLFU.
@@ -59,5 +57,5 @@ pub struct WindowTinyLfuDesign;
 impl FixedDesign for WindowTinyLfuDesign {
     ghost DESIGN = { window_tiny_lfu };
 
-    const DESIGN: QueueDesign = WINDOW_TINY_LFU;
+    const DESIGN: QueueDesign = QueueDesign::WINDOW_TINY_LFU;
 }

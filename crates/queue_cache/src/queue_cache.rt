@@ -6,22 +6,20 @@ ghost use Rattle.engine_base.specs.Config.{config_fault};
 ghost use Rattle.engine_base.specs.Stats.{is_eviction};
 ghost use Rattle.segments.specs.Queues.{queue_holding};
 ghost use Rattle.replacement.specs.Shape.{shape_of};
-ghost use Rattle.queue_cache.specs.declared.design.Design.TheVariants.{Queues};
-ghost use Rattle.queue_cache.specs.Design.{design_of};
-ghost use Rattle.queue_cache.specs.QueueCache.{frequency_by};
-ghost use Rattle.queue_cache.specs.QueueStep.{recorded_in, counting_record, unrecorded, FitsCounting, FillsSample};
-ghost use Rattle.queue_cache.specs.QueueFields.{FewHalvings};
+ghost use Rattle.queue_cache.specs.Design.{CoversDesign};
+ghost use Rattle.queue_cache.specs.QueueCache.{frequency_by, recorded_in};
+ghost use Rattle.queue_cache.specs.QueueStep.{counting_record, halvings_in, unrecorded, FitsCounting, FillsSample};
 
-use crate::design::{Layout, QueueDesign};
+use crate::design::{Layout, QueueDesign, QueueSetup};
 use crate::fixed_design::FixedDesign;
 use crate::record::AccessRecord;
 use admission::{FreqRecord, Frequency};
+use engine_base::{Config, Engine, Item, Key, MAX_STEPS, Outcome, Stats, StepFault};
 use queue_table::AHEAD;
 use replacement::{KeptMoves, Rules, access, make_room, open_frequency, undo};
 use segments::{Queue, Segments};
 use std::alloc::{AllocError, Global};
 use std::marker::{Model, PhantomData};
-use step_record::{Config, Engine, Item, Job, Key, MAX_STEPS, Outcome, Stats, StepFault};
 
 // The least capacity at which it is read ahead. Smaller queues stay in the processor's caches, where that costs more
 // than it spares; where keys are counted, the sketch shares the caches with them.
@@ -29,14 +27,14 @@ const AHEAD_FROM: usize = 65_536;
 
 const AHEAD_FROM_WHERE_COUNTING: usize = 4096;
 
-/// Marks a cache whose policy is known by its job alone.
+/// Marks a cache whose design its type does not say.
 #[derive(Drop)]
-pub struct ByJob;
+pub struct AnyDesign;
 
 /// A cache of a policy of queues. `P` marks the types of single policies, as `Lru`, and is nothing to the cache.
 #[derive(Drop)]
-pub struct QueueCache<P = ByJob> {
-    job: Job,
+pub struct QueueCache<P = AnyDesign> {
+    setup: QueueSetup,
     rules: Rules,
     segments: Segments,
     frequency: Option<Frequency>,
@@ -50,9 +48,14 @@ impl<P> Model for QueueCache<P> {
 
     ghost Value = { QueueState };
 
-    ghost view = { λ q. record { job = q.job; queues = q.segments.lists; frequency = q.frequency; stats = q.stats } };
+    ghost view = { λ q. record {
+      setup = q.setup;
+      queues = q.segments.lists;
+      frequency = q.frequency;
+      stats = q.stats;
+    } };
 
-    ghost invariant = { λ q. IsHolding q.job q.rules q.segments.lists q.frequency q.stats };
+    ghost invariant = { λ q. IsHolding q.setup q.rules q.frequency q.stats };
 }
 
 impl<P: Drop> QueueCache<P> {
@@ -61,31 +64,32 @@ impl<P: Drop> QueueCache<P> {
     ghost use Rattle.queue_cache.specs.QueueStep.{queue_act, queue_record_of, queue_undone, queue_asks, QueueFits};
     ghost use Rattle.queue_cache.specs.QueueStep.{queue_may_ask, queue_words, queue_pace};
 
-    /// An empty cache for a job. It requires a configuration that `Config::check` accepts, and the design of the job's
-    /// policy. The one error is that an allocation failed.
+    /// An empty cache of a design. It requires a configuration that `Config::check` accepts. The one error is that an
+    /// allocation failed.
     pub fn with_design(
         alloc: Global,
-        job: Job,
         design: QueueDesign,
+        config: &Config,
     ) -> Result<QueueCache<P>, AllocError>
-        requires checked { config_fault job.config ≡ Ok tt }
-        requires design { design_of job.policy ≡ Queues design }
-        ensures stands { IfOk result (λ q. StandsFor job [] q) }
+        requires { config_fault config.now ≡ Ok tt }
+        ensures stands { IfOk result (λ q. StandsFor record { design = design; config = config.now } [] q) }
         ensures fresh { IfOk result (λ q. q.stats.accesses ≡ 0) }
     {
-        let frequency = first_frequency(alloc, design.counts_keys, &job.config)?;
+        let frequency = first_frequency(alloc, design.counts_keys, config)?;
+        let config = *config;
         Ok(QueueCache {
-            job,
-            rules: design.rules(&job.config),
-            segments: Segments::for_items(alloc, job.config.capacity),
+            setup: QueueSetup { design, config },
+            rules: design.rules(&config),
+            segments: Segments::for_items(alloc, config.capacity),
             frequency,
             stats: Stats::NONE,
             policy: PhantomData,
         })
     }
 
-    /// Reads ahead, once for each few keys, what accesses to the keys from the one at `i` on read first, where the queues
-    /// are larger than the processor's caches: to be called before each access of a loop over them. It changes nothing.
+    /// Reads ahead, once for each few keys, what accesses to the keys from the one at `i` on read first, where the
+    /// queues are larger than the processor's caches: to be called before each access of a loop over them. It changes
+    /// nothing.
     #[inline(always)]
     pub fn prefetch_at(&mut self, keys: &[Key], i: usize)
         requires { i ≤ length keys.now }
@@ -135,17 +139,17 @@ impl<P: Drop> QueueCache<P> {
         Ok(effect.outcome)
     }
 
-    /// Makes an access as `access` does, compiled for a design, which is that of the job's policy.
+    /// Makes an access as `access` does, compiled for a design: that of the cache, or one that counts keys as well.
     ///
     /// Errors: those of `access`.
     #[inline(always)]
     pub fn access_by<D: FixedDesign>(&mut self, key: Key) -> Result<Outcome, StepFault>
-        requires { design_of self.old.job.policy ≡ Queues D.DESIGN }
+        requires { CoversDesign D.DESIGN self.old.setup.design }
         ensures accepted { IfOk result (λ o. queue_act self.old key ≡ Some (o, self.new)) }
         ensures not_now { result ≡ Err StepFault.NotNow ↔ queue_act self.old key ≡ None }
         ensures memory { result ≡ Err StepFault.OutOfMemory → queue_may_ask self.old key }
         ensures err { OnErr result (self.new ≡ self.old) }
-        ensures job { self.new.job ≡ self.old.job }
+        ensures setup { self.new.setup ≡ self.old.setup }
     {
         let design = D::DESIGN;
         let item = Item { key, node: 0 };
@@ -161,11 +165,11 @@ impl<P: Drop> QueueCache<P> {
         Ok(effect.outcome)
     }
 
-    /// The job that it runs.
-    pub fn job(&self) -> Job
-        ensures { result ≡ self.now.job }
+    /// What its policy goes by.
+    pub fn design(&self) -> QueueDesign
+        ensures { result ≡ self.now.setup.design }
     {
-        self.job
+        self.setup.design
     }
 
     /// What was counted of the applied accesses.
@@ -196,7 +200,8 @@ impl<P: Drop> Engine for QueueCache<P> {
     ghost use Rattle.engine_base.specs.Pace.{IsPaced};
     ghost use Rattle.engine_base.proofs.Limited.{related, ended};
     ghost use Rattle.queue_cache.specs.QueueStep.{queue_act, queue_record_of, queue_undone, queue_asks, QueueFits};
-    ghost use Rattle.queue_cache.specs.QueueStep.{queue_access, queue_count, queue_may_ask, queue_words, queue_pace};
+    ghost use Rattle.queue_cache.specs.QueueCache.{queue_access};
+    ghost use Rattle.queue_cache.specs.QueueStep.{queue_count, queue_may_ask, queue_words, queue_pace};
     ghost use Rattle.queue_cache.specs.QueuePace.{paced-by};
 
     type Step = Key;
@@ -319,7 +324,7 @@ fn room_for(stats: &Stats, segments: &mut Segments, item: Item) -> Result<(), St
 // Records a key where keys are counted, for an access that is not to be undone.
 #[inline(always)]
 fn count_in(frequency: &mut Option<Frequency>, key: Key) -> Result<(), AllocError>
-    requires { FewHalvings frequency.old }
+    requires { halvings_in frequency.old ≤ MAX_STEPS }
     ensures after { OnOk result (frequency.new ≡ recorded_in key frequency.old) }
     ensures memory { OnErr result (FillsSample frequency.old) }
     ensures err { OnErr result (frequency.new ≡ frequency.old) }
@@ -337,7 +342,7 @@ fn count_where(
     frequency: &mut Option<Frequency>,
     key: Key,
 ) -> Result<(), AllocError>
-    requires few { FewHalvings frequency.old }
+    requires few { halvings_in frequency.old ≤ MAX_STEPS }
     requires counts { counts_keys ≡ false → frequency.old ≡ None }
     ensures after { OnOk result (frequency.new ≡ recorded_in key frequency.old) }
     ensures memory { OnErr result (FillsSample frequency.old) }
@@ -402,7 +407,7 @@ fn is_of_full_cache(outcome: Outcome) -> bool
 // Records a key where keys are counted.
 #[inline(always)]
 fn record_in(frequency: &mut Option<Frequency>, key: Key) -> Result<FreqRecord, AllocError>
-    requires { FewHalvings frequency.old }
+    requires { halvings_in frequency.old ≤ MAX_STEPS }
     ensures after { OnOk result (frequency.new ≡ recorded_in key frequency.old) }
     ensures memory { OnErr result (FillsSample frequency.old) }
     ensures record { IfOk result (λ r. r ≡ counting_record key frequency.old) }

@@ -1,7 +1,7 @@
 //! The undo record of an access.
 use admission::FreqRecord;
+use engine_base::Outcome;
 use replacement::KeptMoves;
-use step_record::Outcome;
 
 /// The undo record of an access to a cache of queues: that of the recording of its key, where keys are counted, what
 /// was moved, and the outcome that was counted. It holds lists only where the recording brought a halving.

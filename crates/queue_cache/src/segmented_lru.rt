@@ -1,12 +1,11 @@
 //! Segmented Lru: a key has to be hit once to be protected.
 ghost use Rattle.std.specs.Prelude.{◌≡◌, IfOk, Ok, []};
 ghost use Rattle.engine_base.specs.Config.{config_fault};
-ghost use Rattle.step_record.specs.Job.{published_tuning};
 
-use crate::design::SEGMENTED_LRU;
+use crate::design::QueueDesign;
 use crate::queue_cache::QueueCache;
+use engine_base::Config;
 use std::alloc::{AllocError, Global};
-use step_record::{Config, Job, Policy, Tuning};
 
 /// A cache of two queues. A new key joins probation, and goes to protected when it is hit; where protected is over four
 /// fifths of the capacity, its oldest key goes back to probation's recent end. A miss in a full cache evicts
@@ -18,20 +17,16 @@ pub type SegmentedLru = QueueCache<SegmentedLruMark>;
 pub struct SegmentedLruMark;
 
 impl QueueCache<SegmentedLruMark> {
+    ghost use Rattle.queue_cache.specs.SegmentedLru.{segmented_lru};
     ghost use Rattle.queue_cache.specs.QueueCache.{StandsFor};
 
     /// An empty cache. It requires a configuration that `Config::check` accepts. The one error is that an allocation
     /// failed.
     pub fn open(alloc: Global, config: &Config) -> Result<SegmentedLru, AllocError>
         requires { config_fault config.now ≡ Ok tt }
-        ensures stands { IfOk result (λ l. StandsFor record { policy = Policy.SegmentedLru; config = config.now; tuning = published_tuning } [] l) }
+        ensures stands { IfOk result (λ l. StandsFor record { design = segmented_lru; config = config.now } [] l) }
         ensures fresh { IfOk result (λ l. l.stats.accesses ≡ 0) }
     {
-        let job = Job {
-            policy: Policy::SegmentedLru,
-            config: *config,
-            tuning: Tuning::PUBLISHED,
-        };
-        QueueCache::with_design(alloc, job, SEGMENTED_LRU)
+        QueueCache::with_design(alloc, QueueDesign::SEGMENTED_LRU, config)
     }
 }

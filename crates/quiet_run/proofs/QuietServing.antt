@@ -17,8 +17,8 @@ use Rattle.replacement.specs.Rules.{Config, three_queues}
 use Rattle.replacement.specs.Table.{Queue, Outcome, Response, hit_response, hit_in, after_hit, access_in, access}
 use Rattle.replacement.proofs.Balance.{hit-renewed}
 use Rattle.replacement.proofs.Planned.{access-at}
-use Rattle.queue_cache.specs.QueueCache.{QueueState, access_response, queue_state_after}
-use Rattle.queue_cache.specs.QueueStep.{recorded_in, queue_act}
+use Rattle.queue_cache.specs.QueueCache.{QueueState, access_response, queue_access}
+use Rattle.queue_cache.specs.QueueStep.{queue_act}
 use Rattle.shell_buffers.specs.Buffers.{stripe_at}
 use Rattle.shell_model.specs.declared.stats.ShellStats.{ShellStats}
 use Rattle.shell_model.specs.Frequency.{frequency_recorded}
@@ -31,7 +31,7 @@ use Rattle.shell_model.proofs.Striped.{stripes_checked}
 use Rattle.quiet_run.specs.Outcomes.{outcome_from}
 use Rattle.quiet_run.specs.QuietWalks.{IsQuietWalk}
 use Rattle.quiet_run.specs.Nodes.{nodeless_queues, nodeless_response, IsOnly}
-use Rattle.quiet_run.specs.Quiet.{IsQuiet, quiet_job}
+use Rattle.quiet_run.specs.Quiet.{IsQuiet, quiet_setup}
 use Rattle.quiet_run.specs.QuietRuns.{KeysAgree}
 use Rattle.quiet_run.proofs.Accessing.{accesses-law}
 use Rattle.quiet_run.proofs.Residents.{resident, distinct-in, keys-once, not-queued, only-one}
@@ -40,10 +40,10 @@ use Rattle.quiet_run.proofs.QuietRounds.{evicted}
 use Rattle.quiet_run.proofs.QuietKeys.{hits, misses}
 
 abbrev outcome_at : QueueState → ℕ → Outcome
-outcome_at d k = (access_response (recorded_in k d.frequency) k d).outcome
+outcome_at d k = (queue_access k d).0
 
 abbrev accessed_at : QueueState → ℕ → QueueState
-accessed_at d k = queue_state_after (recorded_in k d.frequency) k d
+accessed_at d k = (queue_access k d).1
 
 -- the walk of the key comes to the policy's outcome, and leaves the shell quiet beside what the policy leaves
 abbrev Serves : Shell → QueueState → ℕ → Type 0
@@ -72,7 +72,7 @@ hit-access c admits i q apart one = by (queue_holding i q) (stands i q apart)
 -- a shell, by its parts, that is quiet beside a cache of the policy
 module _ (j : ℕ) (c : Config) (t : List Item) (n : ℕ) (q : Queues) (f : FrequencyData) (s : ShellStats) (m : ℕ) (d : QueueState) (k : ℕ)
     (p : IsPlaced t n q []) (striped : c.stripes ≡ suc j) (few : length q.window ≤ window_size c)
-    (same_job : d.job ≡ quiet_job c) (same_queues : d.queues ≡ nodeless_queues q) (same_frequency : d.frequency ≡ Some f) where
+    (same_setup : d.setup ≡ quiet_setup c) (same_queues : d.queues ≡ nodeless_queues q) (same_frequency : d.frequency ≡ Some f) where
   abbrev before : Shell
   before = state c t n q (nones (suc j)) [] f drain.Idle None s m
 
@@ -89,10 +89,10 @@ module _ (j : ℕ) (c : Config) (t : List Item) (n : ℕ) (q : Queues) (f : Freq
   unfolding frequency_recorded
   served node a only e walk =
       let agree = accesses-law (three_queues c) (admits_in (Some (frequency_recorded f k))) (item node) q (distinct-in t n q p) (keys-once t n q p) only in
-      let same : access_response (recorded_in k d.frequency) k d ≡ nodeless_response a = rw (same_job, same_queues, same_frequency) (agree ∙ ap nodeless_response e) in
+      let same : access_response k d ≡ nodeless_response a = rw (same_setup, same_queues, same_frequency) (agree ∙ ap nodeless_response e) in
       subst (λ (o : Outcome). Leads (IsQuietWalk c.stripes k) before outcome.Kept o Quiet) (sym (ap (λ (y : Response). y.outcome) same))
       (walk (λ u l fits s2 m2 v. record {
-        job = same_job;
+        setup = same_setup;
         queues = ap (λ (y : Response). y.queues) same;
         frequency = rw same_frequency refl;
         table = resident u l a.queues v.placed;
@@ -136,7 +136,7 @@ key-serves x d k v q b =
     let parts : x ≡ state x.config x.table x.next x.queues (nones (suc j)) [] x.frequency drain.Idle None x.stats x.applied =
     rw (← (q.stripes ∙ ap nones striped), ← q.writes, ← q.drain, ← q.holder) refl in
     subst (λ (y : Shell). Serves y d k) (sym parts)
-    (accessed j x.config x.table x.next x.queues x.frequency x.stats x.applied d k p striped q.window q.job q.queues q.frequency (node_of k x.table) refl)
+    (accessed j x.config x.table x.next x.queues x.frequency x.stats x.applied d k p striped q.window q.setup q.queues q.frequency (node_of k x.table) refl)
 
 pub key-served : (x : Shell) (d : QueueState) (k : ℕ) (es : Entries) → IsConsistent x → IsQuiet x d → 1 ≤ x.config.stripes
     → IsQuietWalk x.config.stripes k es → IsLegal act x es

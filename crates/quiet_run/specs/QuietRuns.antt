@@ -6,20 +6,20 @@ use Rattle.queue_cache.specs.QueueCache.{Outcome, QueueState, outcomes_after, st
 use Rattle.queue_cache.specs.QueueStep.{queue_act}
 use Rattle.shell_model.specs.Shell.{Shell, act}
 use Rattle.shell_model.specs.ReachableShell.{IsReachable}
-use Rattle.quiet_run.specs.Quiet.{Config, IsQuiet, quiet_job}
+use Rattle.quiet_run.specs.Quiet.{Config, IsQuiet, quiet_setup}
 use Rattle.quiet_run.specs.Outcomes.{outcome_from}
 use Rattle.quiet_run.specs.QuietWalks.{IsQuietWalk}
 
 -- the outcomes are those of the policy over the keys, and the shell x holds what the policy's cache holds after them
 abbrev pub IsPolicysRun : Config → List ℕ → List Outcome → Shell → Type 0
 IsPolicysRun c keys os x =
-    (os ≡ outcomes_after (quiet_job c) keys) × IsQuiet x (state_after (quiet_job c) keys)
+    (os ≡ outcomes_after (quiet_setup c) keys) × IsQuiet x (state_after (quiet_setup c) keys)
 
 -- the same of keys that came after those of the past
 abbrev pub QuietGoesOn : Config → List ℕ → List ℕ → List Outcome → Shell → Type 0
 QuietGoesOn c past keys os x =
-    (outcomes_after (quiet_job c) (past ++ keys) ≡ outcomes_after (quiet_job c) past ++ os)
-    × IsQuiet x (state_after (quiet_job c) (past ++ keys))
+    (outcomes_after (quiet_setup c) (past ++ keys) ≡ outcomes_after (quiet_setup c) past ++ os)
+    × IsQuiet x (state_after (quiet_setup c) (past ++ keys))
 
 -- Where the shell is quiet beside a cache of the policy, the walk of a key comes to the outcome of the policy's step,
 -- and leaves the shell quiet beside what the step leaves.

@@ -7,9 +7,9 @@ ghost use Rattle.walks.specs.WorkerEntries.{IsUnfinished};
 ghost use Rattle.quiet_run.specs.Settle.{AddsSteps, IsAtStart, IsRefusalCause, IsRest, BeginsRest, cause_of, steps_before};
 ghost use Rattle.quiet_run.specs.QuietWalks.{reply_with_round, with_rounds};
 
+use engine_base::{Outcome, Reply, Step};
 use journal::{Session, SessionFault};
 use maintenance::Shell;
-use step_record::{Outcome, Reply, Step};
 use thiserror::Error;
 use walks::{Local, Next, next_step};
 

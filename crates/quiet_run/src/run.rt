@@ -4,7 +4,7 @@ ghost use Rattle.engine_base.specs.declared.limits.TheConstants.{MAX_STRIPES};
 ghost use Rattle.engine_base.specs.declared.outcome.Outcome.TheVariants.{Kept};
 ghost use Rattle.queue_cache.specs.QueueCache.{state_after};
 ghost use Rattle.shell_model.specs.ReachableShell.{IsReachable};
-ghost use Rattle.quiet_run.specs.Quiet.{Config, IsQuiet, quiet_job};
+ghost use Rattle.quiet_run.specs.Quiet.{Config, IsQuiet, quiet_setup};
 ghost use Rattle.maintenance.specs.EmptyShell.{IsOpened};
 ghost use Rattle.quiet_run.specs.Outcomes.{outcome_from};
 ghost use Rattle.walks.specs.WorkerEntries.{IsUnfinished};
@@ -13,10 +13,10 @@ ghost use Rattle.quiet_run.specs.QuietWalks.{AreQuietWalks, BeginQuietWalks, IsQ
 ghost use Rattle.quiet_run.specs.QuietRuns.{QuietGoesOn, IsPolicysRun};
 
 use super::round::finish_walk;
+use engine_base::{Call, Key, Outcome, Worker};
 use journal::{Session, SessionFault};
 use maintenance::Shell;
 use std::alloc::Global;
-use step_record::{Call, Key, Outcome, Worker};
 use thiserror::Error;
 use walks::Local;
 
@@ -56,7 +56,7 @@ pub fn run_quiet(
     ensures new { (c : Config) → IsOpened c session.old.opening → session.old.kept ≡ [] →
         IfOk result (λ os. IsPolicysRun c keys.now os.items session.new.engine) }
     // So it goes on from a cache that holds what W-TinyLFU holds after the accesses of the past.
-    ensures later { (c : Config) (past : List ℕ) → IsQuiet session.old.engine (state_after (quiet_job c) past) →
+    ensures later { (c : Config) (past : List ℕ) → IsQuiet session.old.engine (state_after (quiet_setup c) past) →
         IfOk result (λ os. QuietGoesOn c past keys.now os.items session.new.engine) }
     // The first steps of these walks, but not all.
     ensures err { IfErr result (LeavesQuietFault session.old.engine.config.stripes keys.now session.old session.new) }

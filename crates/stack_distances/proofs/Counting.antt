@@ -3,20 +3,21 @@ use Rattle.std.proofs.Common.{◌≡◌, ℕ, suc, zero, ◌≤◌, true, false,
 use Rattle.std.proofs.lemmas.Bool.{eqb-true, cases_lt, eq-eqb}
 use Rattle.std.proofs.lemmas.Bool.Decides.{nat_tests}
 use Rattle.engine_base.specs.Keys.{has_key}
-use Rattle.queue_cache.specs.Lru.{distinct_keys, keys_since, Outcome, is_lru_hit, lru_outcome}
+use Rattle.queue_cache.specs.Lru.{lru, distinct_keys, keys_since, Outcome, is_lru_hit, lru_outcome}
 use Rattle.queue_cache.proofs.Recency.{has-drop, two}
 use Rattle.std.proofs.lemmas.Grind.{common_steps}
 use Rattle.std.proofs.lemmas.List.{get_or-take, drop-append-le, length-take-le, take_more}
 use Rattle.std.proofs.Math.ListN.{drop_of_length-le}
 use Rattle.trace_index.specs.Uses.{last_below, number_of}
 use Rattle.std.proofs.lemmas.List.Sums.{sum_by-le-sum_by}
-use Rattle.step_record.specs.declared.job.Policy.TheVariants.{Lru}
-use Rattle.engine_base.specs.Stats.{is_hit, is_miss, is_eviction, is_rejection, one_if}
-use Rattle.queue_cache.specs.QueueCache.{Job, state_after, outcomes_from, outcomes_after, outcome_after}
-use Rattle.policies.specs.AnyPolicy.{stats_on}
-use Rattle.queue_cache.proofs.Counting.{count-cons, hits-misses}
-use Rattle.queue_cache.proofs.Reached.{after-snoc, after-job}
+use Rattle.engine_base.specs.Machine.{outcomes_of_all}
+use Rattle.engine_base.specs.Stats.{is_hit, is_miss, is_eviction, is_rejection, one_if, stats_of}
+use Rattle.engine_base.proofs.Counting.{count-cons, hits-misses}
+use Rattle.engine_base.proofs.Machine.{next, counted as stats-counted}
+use Rattle.queue_cache.specs.QueueCache.{QueueSetup, queue_access, queue_machine, state_after, outcomes_after, outcome_after}
+use Rattle.queue_cache.proofs.Balance.{queue-counting}
 use Rattle.queue_cache.proofs.OneQueue.{outcome-lru}
+use Rattle.stack_distances.specs.Theorems.{LruHits, LruCounts}
 use Rattle.stack_distances.specs.Distances.{distance, distances_after, distances, is_within, hits_within, stats_by, stats_within}
 
 -- ---- the stack of the distinct keys, one access after another
@@ -144,8 +145,8 @@ within-hits c xs k = elim (two (has_key k xs)) [ inl h ↦ rw h refl | inr h ↦
 outcome-is : (c : ℕ) (xs : List ℕ) (k : ℕ) → (is_hit (lru_outcome c xs k) ≡ is_lru_hit c xs k) × (is_rejection (lru_outcome c xs k) ≡ false)
 outcome-is c xs k = (grind arith, grind arith)
 
-pub lru_hits : (j : Job) (keys : List ℕ) (k : ℕ) → j.policy ≡ Lru → 1 ≤ j.config.capacity → is_hit (outcome_after j keys k) ≡ is_within j.config.capacity (distance keys k)
-lru_hits j keys k p room = ap is_hit (outcome-lru j p room keys k (after-job j keys)) ∙ ((outcome-is j.config.capacity keys k).0 ∙ sym (within-hits j.config.capacity keys k))
+pub lru_hits : LruHits
+lru_hits s keys k is room = ap is_hit (outcome-lru s is room keys k) ∙ ((outcome-is s.config.capacity keys k).0 ∙ sym (within-hits s.config.capacity keys k))
 
 -- ---- a list of accesses
 
@@ -153,13 +154,15 @@ abbrev lru_outcomes : ℕ → List ℕ → List ℕ → List Outcome
 lru_outcomes c past [] = []
 lru_outcomes c past (k ∷ ks) = lru_outcome c past k ∷ lru_outcomes c (past ++ k ∷ []) ks
 
-module _ (j : Job) (is_lru : j.policy ≡ Lru) (room : 1 ≤ j.config.capacity) where
-  from-outcomes : (past keys : List ℕ) → outcomes_from j past (state_after j past) keys ≡ lru_outcomes j.config.capacity past keys
+module _ (s : QueueSetup) (is_lru : s.design ≡ lru) (room : 1 ≤ s.config.capacity) where
+  from-outcomes : (past keys : List ℕ) → outcomes_of_all queue_access (state_after s past) keys ≡ lru_outcomes s.config.capacity past keys
   from-outcomes past [] = refl
-  from-outcomes past (k ∷ ks) = search (arith, outcome-lru, after-job, after-snoc, from-outcomes (past ++ k ∷ []) ks)
+  from-outcomes past (k ∷ ks) =
+      ap (λ o. o ∷ outcomes_of_all queue_access (queue_access k (state_after s past)).1 ks) (outcome-lru s is_lru room past k)
+      ∙ ap (λ l. lru_outcome s.config.capacity past k ∷ l)
+        (ap (λ d. outcomes_of_all queue_access d ks) (sym (next (queue_machine s) past k)) ∙ from-outcomes (past ++ k ∷ []) ks)
 
-  all-outcomes : (keys : List ℕ) → outcomes_after j keys ≡ lru_outcomes j.config.capacity [] keys
-  unfolding outcomes_after state_after
+  all-outcomes : (keys : List ℕ) → outcomes_after s keys ≡ lru_outcomes s.config.capacity [] keys
   all-outcomes keys = from-outcomes [] keys
 
 -- ---- counts
@@ -179,14 +182,17 @@ counted c past (k ∷ ks) =
 
 -- ---- the statistics
 
-pub lru_counts : (j : Job) (keys : List ℕ) → j.policy ≡ Lru → 1 ≤ j.config.capacity → stats_on j keys ≡ stats_within j.config.capacity keys
-unfolding stats_on
-lru_counts j keys p room = grind (arith, nat_tests, all-outcomes j p room keys, counted, hits-misses)
+outcomes-counted : (c : ℕ) (keys : List ℕ) → stats_of (lru_outcomes c [] keys) ≡ stats_within c keys
+outcomes-counted c keys = grind (arith, nat_tests, counted, hits-misses)
+
+pub lru_counts : LruCounts
+lru_counts s keys is room =
+    stats-counted (queue_machine s) (λ d. d.stats) (queue-counting s) keys ∙ ap stats_of (all-outcomes s is room keys) ∙ outcomes-counted s.config.capacity keys
 
 -- as the misses less the keys that are left at the end
-pub stats-read : (j : Job) (keys : List ℕ) (n h held c : ℕ) → j.policy ≡ Lru → j.config.capacity ≡ c → 1 ≤ c → n ≡ length keys → h ≡ hits_within c keys → held ≡ min c (length (distinct_keys keys))
-    → stats_by n h held ≡ stats_on j keys
-stats-read j keys n h held c lru cap some all hits left = grind (arith, nat_tests, lru_counts j keys lru (rw cap some))
+pub stats-read : (s : QueueSetup) (keys : List ℕ) (n h held c : ℕ) → s.design ≡ lru → s.config.capacity ≡ c → 1 ≤ c → n ≡ length keys → h ≡ hits_within c keys → held ≡ min c (length (distinct_keys keys))
+    → stats_by n h held ≡ (state_after s keys).stats
+stats-read s keys n h held c is cap some all hits left = grind (arith, nat_tests, lru_counts s keys is (rw cap some))
 
 -- a miss fills a place of the cache, or evicts
 pub hits-and-held : (c : ℕ) (keys : List ℕ) → hits_within c keys + min c (length (distinct_keys keys)) ≤ length keys

@@ -6,7 +6,7 @@ use Rattle.engine_base.specs.Keys.{has_key}
 use Rattle.queue_cache.specs.Lru.{distinct_keys}
 use Rattle.stack_distances.specs.Distances.{distance, distances_after, is_within, hits_within}
 use Rattle.stack_distances.specs.Histogram.{is_at}
-use Rattle.queue_cache.proofs.Counting.{count-cons}
+use Rattle.engine_base.proofs.Counting.{count-cons}
 use Rattle.stack_distances.proofs.Counting.{grows, since-within}
 
 -- ---- one distance more

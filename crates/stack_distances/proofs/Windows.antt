@@ -5,9 +5,8 @@ use Rattle.std.proofs.lemmas.Bool.Decides.{nat_tests}
 use Rattle.std.proofs.lemmas.List.{take_all}
 use Rattle.engine_base.specs.Keys.{has_key}
 use Rattle.engine_base.specs.Bits.{bit_of}
-use Rattle.step_record.specs.declared.job.Policy.TheVariants.{Lru}
-use Rattle.queue_cache.specs.Lru.{distinct_keys}
-use Rattle.policies.specs.AnyPolicy.{Job, stats_on}
+use Rattle.queue_cache.specs.Lru.{lru, distinct_keys}
+use Rattle.queue_cache.specs.QueueCache.{QueueSetup, state_after}
 use Rattle.queue_cache.proofs.Recency.{has-drop}
 use Rattle.stack_distances.specs.Distances.{distance, is_within, hits_within, stats_by}
 use Rattle.trace_index.specs.Uses.{last_below, number_of}
@@ -102,5 +101,5 @@ module _ (keys : List ℕ) (w : Window) (place : ℕ) (all : length keys ≤ pla
   pub window-room : w.hits + w.held ≤ length keys
   window-room = omega (arith, hits-and-held w.capacity keys, whole-hits, whole-held)
 
-  pub window-stats : (j : Job) (n : ℕ) → j.policy ≡ Lru → j.config.capacity ≡ w.capacity → 1 ≤ w.capacity → n ≡ length keys → stats_by n w.hits w.held ≡ stats_on j keys
-  window-stats j n lru cap some e = stats-read j keys n w.hits w.held w.capacity lru cap some e whole-hits whole-held
+  pub window-stats : (s : QueueSetup) (n : ℕ) → s.design ≡ lru → s.config.capacity ≡ w.capacity → 1 ≤ w.capacity → n ≡ length keys → stats_by n w.hits w.held ≡ (state_after s keys).stats
+  window-stats s n is cap some e = stats-read s keys n w.hits w.held w.capacity is cap some e whole-hits whole-held

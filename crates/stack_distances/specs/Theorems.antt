@@ -1,20 +1,19 @@
 -- What the stack distances say about Lru at every capacity.
 use Rattle.std.specs.Prelude.{◌≡◌, ℕ, ◌≤◌, List}
-use Rattle.step_record.specs.declared.job.Policy.TheVariants.{Lru}
 use Rattle.engine_base.specs.Stats.{is_hit}
-use Rattle.queue_cache.specs.QueueCache.{Job, outcome_after}
-use Rattle.policies.specs.AnyPolicy.{stats_on}
+use Rattle.queue_cache.specs.Lru.{lru}
+use Rattle.queue_cache.specs.QueueCache.{QueueSetup, outcome_after, state_after}
 use Rattle.stack_distances.specs.Distances.{distance, is_within, hits_within, stats_within}
 
 -- An access is a hit of Lru exactly where its distance is at most the capacity.
 abbrev pub LruHits : Type 0
-LruHits = (j : Job) (keys : List ℕ) (k : ℕ) → j.policy ≡ Lru → 1 ≤ j.config.capacity
-    → is_hit (outcome_after j keys k) ≡ is_within j.config.capacity (distance keys k)
+LruHits = (s : QueueSetup) (keys : List ℕ) (k : ℕ) → s.design ≡ lru → 1 ≤ s.config.capacity
+    → is_hit (outcome_after s keys k) ≡ is_within s.config.capacity (distance keys k)
 
--- So the statistics of a job of Lru over a trace follow from the distances of its accesses.
+-- So what a cache of Lru counts over a trace follows from the distances of its accesses.
 abbrev pub LruCounts : Type 0
-LruCounts = (j : Job) (keys : List ℕ) → j.policy ≡ Lru → 1 ≤ j.config.capacity
-    → stats_on j keys ≡ stats_within j.config.capacity keys
+LruCounts = (s : QueueSetup) (keys : List ℕ) → s.design ≡ lru → 1 ≤ s.config.capacity
+    → (state_after s keys).stats ≡ stats_within s.config.capacity keys
 
 -- A larger capacity has no fewer hits.
 abbrev pub HitsGrow : Type 0

@@ -1,13 +1,14 @@
 //! The hits of Lru at every capacity.
 ghost use Rattle.std.specs.Prelude.{◌≡◌, ◌+◌, ℕ, List, ◌≤◌, IfOk};
-ghost use Rattle.policies.specs.AnyPolicy.{Job, stats_on};
+ghost use Rattle.queue_cache.specs.Lru.{lru};
+ghost use Rattle.queue_cache.specs.QueueCache.{QueueSetup, state_after};
 ghost use Rattle.stack_distances.specs.Curve.{curve_of};
 ghost use Rattle.stack_distances.specs.Distances.{stats_by};
 
 use crate::histogram::Histogram;
+use engine_base::{Stats, Trace};
 use std::alloc::{AllocError, Global};
 use std::marker::Model;
-use step_record::{Policy, Stats, Trace};
 
 /// How many hits Lru has over a trace at each capacity: its hit ratio curve, in counts (Mattson, Gecsei, Slutz and
 /// Traiger 1970). It takes 4 bytes for each distinct key of the trace.
@@ -58,8 +59,8 @@ impl Curve {
     /// cache of Lru of this capacity counts, with any configuration. It takes a look-up.
     pub fn stats(&self, capacity: u32) -> Stats
         requires { 1 ≤ capacity }
-        ensures { (j : Job) (keys : List ℕ) → self.now ≡ curve_of keys → j.policy ≡ Policy.Lru
-            → j.config.capacity ≡ capacity → result ≡ stats_on j keys }
+        ensures { (s : QueueSetup) (keys : List ℕ) → self.now ≡ curve_of keys → s.design ≡ lru
+            → s.config.capacity ≡ capacity → result ≡ (state_after s keys).stats }
     {
         let held = self.hits.len().min(capacity as usize);
         let hits = self.hits_at(held);

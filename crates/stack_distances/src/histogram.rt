@@ -4,8 +4,8 @@ ghost use Rattle.engine_base.specs.declared.limits.TheConstants.{MAX_ACCESSES};
 ghost use Rattle.stack_distances.specs.Histogram.{IsHistogram, IsNoted, count_at};
 
 use crate::marks::Marks;
+use engine_base::Key;
 use std::alloc::{AllocError, Global};
-use step_record::Key;
 use trace_index::KeyPlaces;
 
 /// How many accesses are read ahead at once.

@@ -1,13 +1,14 @@
 //! The hits of Lru at a capacity, by a window over the trace.
 ghost use Rattle.std.specs.Prelude.{◌≡◌, ◌+◌, ◌<◌, ◌≤◌, IfOk, length};
-ghost use Rattle.policies.specs.AnyPolicy.{Job, stats_on};
+ghost use Rattle.queue_cache.specs.Lru.{lru};
+ghost use Rattle.queue_cache.specs.QueueCache.{QueueSetup, state_after};
 ghost use Rattle.stack_distances.specs.Window.{IsWindow};
 
 use crate::curve::stats_by;
 use crate::window::Window;
+use engine_base::{Stats, Trace, bits};
 use std::alloc::{AllocError, Global};
 use std::marker::Model;
-use step_record::{Policy, Stats, Trace, bits};
 use trace_index::PreviousUse;
 
 /// A trace, with the place of the last access to its key before each access: 4 bytes an access.
@@ -43,8 +44,8 @@ impl<'a> Reuses<'a> {
     /// The only error is out of memory.
     pub fn stats(&self, alloc: Global, capacity: u32) -> Result<Stats, AllocError>
         requires { 1 ≤ capacity }
-        ensures { IfOk result (λ s. (j : Job) → j.policy ≡ Policy.Lru → j.config.capacity ≡ capacity
-            → s ≡ stats_on j self.now) }
+        ensures { IfOk result (λ t. (s : QueueSetup) → s.design ≡ lru → s.config.capacity ≡ capacity
+            → t ≡ (state_after s self.now).stats) }
     {
         let mut window = Window::new(alloc, capacity, self.uses.len())?;
         for place in 0..self.uses.len() {

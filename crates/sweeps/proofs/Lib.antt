@@ -1,3 +1,4 @@
+pub mod LruReports
 pub mod Rows
 mod Counts
 mod Joined

@@ -1,8 +1,8 @@
-use Rattle.std.proofs.Common.{ap, ◌∙◌, sym, subst, Err}
+use Rattle.std.proofs.Common.{arith, ap, ◌∙◌, sym, subst, Err}
 use Rattle.engine_base.specs.Limited.{lifted}
 use Rattle.policies.specs.declared.any_policy.AnyPolicy.TheVariants.{Queues}
 use Rattle.queue_cache.specs.QueueCache.{QueueState}
-use Rattle.policies.proofs.Stretches.{HasMade, next-made, next-accepted}
+use Rattle.policies.proofs.Stretches.{HasMade, has-made-all, next-made, next-accepted}
 use Rattle.policies.proofs.access_loops.access_each.Goals as goal
 
 pub unreachable-requires : goal.unreachable-requires
@@ -11,9 +11,13 @@ unreachable-requires g c =
     (subst (λ (d : QueueState). HasMade c.args.keys.now c.loop-i.i (Queues c.args.cache.now) (Queues d)) (sym c.prefetch_at.ensures) c.loop-i.invariant.1)
     c.any_accepts.ensures c.requires.next (ap (lifted Queues) (c.access_by.ensures.not_now.0 (c.in-Err-NotNow.is ∙ ap Err c.in-Err-NotNow.field-0-is)))
 
+pub returns : goal.returns
+returns g c =
+    has-made-all c.args.keys.now c.loop-i.i (Queues c.args.cache.now) (Queues c.loop-i.cache) (omega arith) c.loop-i.invariant.1
+
 pub loop-i-preserved : goal.loop-i-preserved
 loop-i-preserved g c = (
-  c.access_by.ensures.job ∙ ap (λ (d : QueueState). d.job) c.prefetch_at.ensures ∙ c.loop-i.invariant.0,
+  c.access_by.ensures.setup ∙ ap (λ (d : QueueState). d.setup) c.prefetch_at.ensures ∙ c.loop-i.invariant.0,
   next-made c.args.keys.now c.loop-i.i (Queues c.args.cache.now) (Queues c.prefetch_at.new.self) c.loop-i-test.true
       (subst (λ (d : QueueState). HasMade c.args.keys.now c.loop-i.i (Queues c.args.cache.now) (Queues d)) (sym c.prefetch_at.ensures) c.loop-i.invariant.1)
       c.any_step_law.ensures _ _ (ap (lifted Queues) c.in-Ok.ensures.accepted),

@@ -5,4 +5,4 @@ use Rattle.policies.proofs.access_loops.access_each.Given as goal
 
 abbrev pub invariant-loop-i : goal.invariant-loop-i
 invariant-loop-i g l =
-    (l.cache.job ≡ l.initial.cache.job) × HasMade l.keys l.i (Queues l.initial.cache) (Queues l.cache)
+    (l.cache.setup ≡ l.initial.cache.setup) × HasMade l.keys l.i (Queues l.initial.cache) (Queues l.cache)

@@ -1,0 +1,21 @@
+-- The report of a job of Lru has what a cache of Lru counts.
+use Rattle.std.proofs.Common.{◌≡◌, List, ℕ, ap, sym, ◌∙◌}
+use Rattle.step_record.specs.declared.job.Policy.TheVariants.{Lru}
+use Rattle.engine_base.proofs.Machine.{counted}
+use Rattle.engine_base.specs.Stats.{stats_of}
+use Rattle.queue_cache.specs.Lru.{lru}
+use Rattle.queue_cache.specs.QueueCache.{QueueSetup, queue_machine, state_after}
+use Rattle.queue_cache.proofs.Balance.{queue-counting}
+use Rattle.policies.specs.Design.{Job, queue_setup}
+use Rattle.policies.specs.AnyPolicy.{outcomes_by, stats_on}
+use Rattle.policies.specs.Reports.{report_of, report_on}
+use Rattle.policies.proofs.Designs.{design-named}
+
+lru-stats : (j : Job) (trace : List ℕ) → j.policy ≡ Lru → (state_after (queue_setup lru j) trace).stats ≡ stats_on j trace
+unfolding stats_on
+lru-stats j trace is =
+    let s : QueueSetup = queue_setup lru j in
+    counted (queue_machine s) (λ d. d.stats) (queue-counting s) trace ∙ ap (λ x. stats_of (outcomes_by x j trace)) (sym (design-named j Lru is))
+
+pub lru-report : (j : Job) (trace : List ℕ) → j.policy ≡ Lru → report_of j (state_after (queue_setup lru j) trace).stats ≡ report_on j trace
+lru-report j trace is = ap (report_of j) (lru-stats j trace is)
