@@ -26,7 +26,8 @@ use Rattle.adaptive_window.specs.declared.adaptive_cache.AdaptiveRecord.{Adaptiv
 use Rattle.adaptive_window.specs.AdaptiveCache.{Stats, Config, AdaptiveCacheState, cache_act, cache_record_of, cache_access, response_to}
 use Rattle.replacement.proofs.Residents.{residents-length, resident-queued, resident-once, still-nodeless, queued-from}
 use Rattle.replacement.proofs.Leaving.{hit-keeps, asks-evicts}
-use Rattle.adaptive_window.specs.Residents.{cache_residents, IsServed, IsCache, CacheKeeps, CacheHitsAskNothing, CacheAsksWhereOneLeft}
+use Rattle.engine_base.specs.Machine.{IsServed}
+use Rattle.adaptive_window.specs.Residents.{cache_residents, IsCache, CacheKeeps, CacheHitsAskNothing, CacheAsksWhereOneLeft}
 use Rattle.adaptive_window.proofs.Keeping.{starts, kept-access, access-is}
 
 -- ---- as the fields show it
@@ -142,6 +143,7 @@ pub cache_keeps : CacheKeeps
 cache_keeps c period ok =
     let fit = rules_fit c.capacity c.main_percent period (has-room c ok) (grind (arith, nat_tests, ok)) in
     record {
+      empty = refl;
       starts = record {
         rules = fit.0;
         capacity = refl;

@@ -1,10 +1,10 @@
 -- What an access makes of the queues, and that it keeps the invariant.
-use Rattle.std.proofs.Common.{◌≡◌, ℕ, ◌+◌, ◌-◌, ◌<◌, ◌≤◌, Bool, cond, nat_lt, Option, Some, None, List, [], ◌∷◌, length, ◌∙◌, refl, arith, inl, inr, length-append}
+use Rattle.std.proofs.Common.{◌≡◌, ℕ, ◌+◌, ◌-◌, ◌<◌, ◌≤◌, Bool, nat_lt, Option, Some, None, List, [], ◌∷◌, length, ◌∙◌, refl, arith, inl, inr, length-append}
 use Rattle.std.proofs.lemmas.Bool.Decides.{nat_tests}
 use Rattle.std.specs.Prelude.{count_by}
 use Rattle.std.proofs.lemmas.Bool.{cases_Bool, ltb-true, ltb-false}
-use Rattle.std.proofs.lemmas.List.Sums.{sum_by-append}
-use Rattle.engine_base.specs.Stats.{is_hit, is_miss, is_eviction, one_if}
+use Rattle.engine_base.specs.Stats.{is_hit, is_miss, is_eviction}
+use Rattle.engine_base.proofs.Counting.{count-cons}
 use Rattle.segments.specs.declared.records.Queue.TheVariants.{Window, Probation}
 use Rattle.segments.specs.Items.{Item, occurrences, items_without, oldest_of}
 use Rattle.segments.specs.Queues.{Queues, queues_after_move, total_items, IsDistinct}
@@ -183,9 +183,6 @@ starts r size are low high = grind (arith, nat_tests)
 
 pub keeps : AdaptiveKeeps
 keeps r size are low high = grind (arith, nat_tests, starts, starts r size are low high, kept-access, access-is)
-
-count-cons : (p : Outcome → Bool) (o : Outcome) (os : List Outcome) → count_by p (o ∷ os) ≡ one_if (p o) + count_by p os
-count-cons p o os = sum_by-append (λ x. cond (p x) 1 0) (o ∷ []) os ∙ omega arith
 
 counts-from : (r : ClimbRules) → AreClimbRules r → (accesses : List Access) (s : AdaptiveState) → IsAdaptive r s
     → total_items (adaptive_state_after r s accesses).queues + count_by is_eviction (adaptive_outcomes r s accesses) ≡ total_items s.queues + count_by is_miss (adaptive_outcomes r s accesses)

@@ -1,12 +1,12 @@
 -- Accesses in a loop over a list of keys.
-use Rattle.std.proofs.Common.{◌≡◌, ℕ, ◌+◌, ◌<◌, ◌≤◌, Some, None, List, take, length, ap, sym, ◌∙◌, arith}
+use Rattle.std.proofs.Common.{◌≡◌, ℕ, ◌+◌, ◌<◌, ◌≤◌, Some, None, List, [], ◌∷◌, take, length, ap, sym, ◌∙◌, arith}
 use Rattle.std.specs.Prelude.{slice_index}
 use Rattle.std.proofs.lemmas.List.{take_more, take_all}
 use Rattle.engine_base.specs.declared.limits.TheConstants.{MAX_STEPS}
 use Rattle.engine_base.proofs.Limited.{accepted, refused}
 use Rattle.engine_base.specs.Machine.{state_after_all}
 use Rattle.policy_page.specs.Residents.{Outcome}
-use Rattle.engine_base.proofs.Machine.{state-push}
+use Rattle.engine_base.proofs.Machine.{state-append}
 use Rattle.demand_cache.specs.DemandCache.{DemandState, demand_access, demand_act, demand_count}
 
 -- the cache d is the one from the start after the first i of the keys
@@ -22,7 +22,7 @@ has-made-next keys i start d e o below made same h =
     record {
       policy = same ∙ made.policy;
       state = next ∙ ap (λ s. (demand_access (slice_index keys i) s).1) made.state
-          ∙ sym (state-push demand_access start (take i keys) (slice_index keys i))
+          ∙ sym (state-append demand_access start (take i keys) (slice_index keys i ∷ []))
           ∙ ap (state_after_all demand_access start) (sym (take_more keys i 0 below));
       counts = let count = ap demand_count next in omega (arith, count, made.counts);
     }

@@ -4,7 +4,9 @@ use Rattle.std.proofs.Common.{◌≡◌, ℕ, ◌≤◌, Option, [], List, ◌�
 use Rattle.engine_base.specs.Keys.{has_key}
 use Rattle.queue_table.specs.Queues.{Queues, empty_queues}
 use Rattle.engine_base.specs.Machine.{outcomes_of_all}
+use Rattle.engine_base.specs.Stats.{stats_of}
 use Rattle.policy_page.specs.Residents.{IsAccess}
+use Rattle.policy_page.proofs.Residents.{served, each-once}
 use Rattle.queue_moves.specs.Moves.{item_of, Plan, after_all, outcome_of, IsLowPlan, Leaving, outcome_after, evicted}
 use Rattle.queue_moves.specs.Tabled.{IsTabled, keys_of}
 use Rattle.queue_moves.specs.Lists.{QueueLists, lists_of, queues_in}
@@ -20,7 +22,8 @@ use Rattle.car.proofs.Plan.{car-sound}
 use Rattle.demand_cache.specs.declared.demand_policy.DemandPolicy.TheVariants.{Fifo, Clock, Sieve, S3Fifo, TwoQ, Arc, Car}
 use Rattle.demand_cache.specs.DemandQueues.{DemandPolicy, DemandQueues, queues_of, plan_of, queues_residents, queues_act, IsQueues}
 use Rattle.demand_cache.specs.DemandPolicy.{page_of, plan_by, residents_by, IsStateOf}
-use Rattle.demand_cache.specs.Theorems.{PagesAreSound, DemandKeeps, RunsByPage, HitsAskNothing, AsksWhereOneLeft}
+use Rattle.demand_cache.specs.DemandCache.{Stats, DemandState, state_of, demand_access}
+use Rattle.demand_cache.specs.Theorems.{PagesAreSound, DemandKeeps, MissesAreKept, RunsByPage, HitsAskNothing, AsksWhereOneLeft}
 use Rattle.std.proofs.lemmas.Bool.{cases_Bool}
 use Rattle.engine_base.specs.declared.outcome.Outcome.TheVariants.{Hit}
 use Rattle.queue_table.specs.declared.records.Entry.{Entry}
@@ -74,9 +77,8 @@ next-tabled all c k d h i = tabled-all (queues_of d) i.tabled (plan_of k d) (kep
 pub next-keeps : PagesAreSound → (c : ℕ) → 1 ≤ c → (k : ℕ) (d : DemandQueues) → IsQueues c d → IsQueues c (queues_act k d).1
 next-keeps all c h k d i = search (arith, is-cache, next-tabled all c k d h i, kept-of all c k d h i)
 
-next-accesses : PagesAreSound → (c : ℕ) → 1 ≤ c → (k : ℕ) (d : DemandQueues) → IsQueues c d
-    → IsAccess c k (queues_residents d) (queues_act k d).0 (queues_residents (queues_act k d).1)
-next-accesses all c h k d i = search (arith, lists-shown, next-tabled all c k d h i, kept-of all c k d h i)
+pub misses-kept : PagesAreSound → MissesAreKept
+misses-kept all c k d i = search (arith, lists-shown, next-tabled all c k d i.least i, kept-of all c k d i.least i)
 
 empty-tabled : IsTabled empty_queues
 empty-tabled = record { keys = λ q. refl; distinct = λ i. omega arith; high = λ q w. refl }
@@ -93,10 +95,12 @@ started all p c h = is-cache p c 0 empty_queues h empty-tabled (empty-state all 
 
 pub demand-keeps : PagesAreSound → DemandKeeps
 demand-keeps all p c h = record {
-  starts = (started all p c h, ap (residents_by p 0) (lists-shown empty_queues empty-tabled) ∙ empty-residents all p c h);
-  keeps = next-keeps all c h;
-  accesses = next-accesses all c h;
-  holds = λ d i. ((all d.policy).keeps c h).holds _ i.state.1;
+  empty = ap (residents_by p 0) (lists-shown empty_queues empty-tabled) ∙ empty-residents all p c h;
+  starts = started all p c h;
+  keeps = λ k d i. next-keeps all c h k d.queues i;
+  accesses = λ k d i. served c k _ _ _ (misses-kept all c k d.queues i);
+  fits = λ d i. (((all d.queues.policy).keeps c h).holds _ i.state.1).fits;
+  distinct = λ d k i. each-once c k _ (((all d.queues.policy).keeps c h).holds _ i.state.1);
 }
 
 -- ---- the residents, by the queues in which they stand
@@ -111,22 +115,22 @@ module _ (all : PagesAreSound) (p : DemandPolicy) (c : ℕ) (h : 1 ≤ c) where
   abbrev page : PolicyPage
   page = page_of p
 
-  simulated : (keys : List ℕ) (x : ℕ) (l : QueueLists) → IsQueues c (record { policy = p; capacity = c; scalar = x; lists = l })
-      → outcomes_of_all queues_act (record { policy = p; capacity = c; scalar = x; lists = l }) keys ≡ outcomes_of_all (page.act c) (page.view x (queues_in l)) keys
-  simulated [] x l i = refl
-  simulated (k ∷ keys) x l i =
-      let d : DemandQueues = record { policy = p; capacity = c; scalar = x; lists = l } in
+  simulated : (keys : List ℕ) (x : ℕ) (l : QueueLists) (stats : Stats) → IsQueues c (state_of p c x l stats).queues
+      → outcomes_of_all demand_access (state_of p c x l stats) keys ≡ outcomes_of_all (page.act c) (page.view x (queues_in l)) keys
+  simulated [] x l stats i = refl
+  simulated (k ∷ keys) x l stats i =
+      let d : DemandState = state_of p c x l stats in
       let q = (all p).planned c k x (queues_in l) h i.tabled i.state.0 i.state.1 in
       let plan = plan_by p c k x (queues_in l) in
       let u = after_all plan (item_of k) (queues_in l) in
-      let rest = simulated keys plan.scalar (lists_of u) (next-keeps all c h k d i) in
-      ap (λ o. o ∷ outcomes_of_all queues_act (queues_act k d).1 keys) q.0.outcome
-      ∙ ap (λ r. (page.act c k (page.view x (queues_in l))).0 ∷ r) (rest ∙ ap (λ v. outcomes_of_all (page.act c) v keys) (ap (page.view plan.scalar) (lists-shown u (next-tabled all c k d h i)) ∙ q.0.state))
+      let rest = simulated keys plan.scalar (lists_of u) (demand_access k d).1.stats (next-keeps all c h k d.queues i) in
+      ap (λ o. o ∷ outcomes_of_all demand_access (demand_access k d).1 keys) q.0.outcome
+      ∙ ap (λ r. (page.act c k (page.view x (queues_in l))).0 ∷ r) (rest ∙ ap (λ v. outcomes_of_all (page.act c) v keys) (ap (page.view plan.scalar) (lists-shown u (next-tabled all c k d.queues h i)) ∙ q.0.state))
 
 pub runs-by-page : PagesAreSound → RunsByPage
 runs-by-page all p c keys h =
     let g : PolicyPage = page_of p in
-    simulated all p c h keys 0 (lists_of empty_queues) (started all p c h)
+    simulated all p c h keys 0 (lists_of empty_queues) (stats_of []) (started all p c h)
     ∙ ap (λ (v : g.State). outcomes_of_all (g.act c) v keys) (ap (g.view 0) (lists-shown empty_queues empty-tabled) ∙ (all p).starts.1)
 
 -- as an equation of any run

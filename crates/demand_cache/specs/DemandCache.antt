@@ -1,16 +1,17 @@
 -- What the engine shows, and one access to it as a step.
-use Rattle.std.specs.Prelude.{◌≡◌, ℕ, ◌≤◌, false, Option}
+use Rattle.std.specs.Prelude.{◌≡◌, ℕ, ◌≤◌, false, Option, []}
 use Rattle.engine_base.specs.declared.limits.TheConstants.{MAX_CAPACITY}
 pub use Rattle.engine_base.specs.declared.stats.Stats.{Stats}
 use Rattle.engine_base.specs.Keys.{has_key}
-use Rattle.engine_base.specs.Stats.{stats_with, stats_without, IsCounted, IsTally}
+use Rattle.engine_base.specs.Stats.{stats_of, stats_with, stats_without, IsCounted, IsTally}
 use Rattle.engine_base.specs.Limited.{limited}
+use Rattle.engine_base.specs.Machine.{Machine}
 use Rattle.queue_table.specs.Queues.{Item, Queues}
 use Rattle.queue_moves.specs.Moves.{Outcome, Plan, outcome_of, after_all}
 use Rattle.queue_moves.specs.Lists.{QueueLists}
 use Rattle.demand_cache.specs.declared.demand_cache.DemandRecord.{DemandRecord}
 use Rattle.demand_cache.specs.DemandQueues.{DemandQueues, queues_act, queues_record_of, queues_undone, queues_asks}
-use Rattle.demand_cache.specs.DemandQueues.{DemandPolicy, queues_residents, IsQueues, QueuesFits}
+use Rattle.demand_cache.specs.DemandQueues.{DemandPolicy, empty_cache, queues_residents, IsQueues, QueuesFits}
 
 -- the queues, and what was counted of the applied accesses
 pub record DemandState : Type 0 where
@@ -27,6 +28,16 @@ state_with stats a = record { queues = a.1; stats = stats_with a.0 stats }
 -- an access to k
 abbrev pub demand_access : ℕ → DemandState → Outcome × DemandState
 demand_access k d = ((queues_act k d.queues).0, state_with d.stats (queues_act k d.queues))
+
+-- the engine of a policy at capacity c as a machine over keys
+abbrev pub demand_machine : DemandPolicy → ℕ → Machine
+demand_machine p c = record {
+  State = DemandState;
+  start = record { queues = empty_cache p c; stats = stats_of [] };
+  access = demand_access;
+  residents = λ d. queues_residents d.queues;
+  IsState = λ d. IsQueues c d.queues;
+}
 
 abbrev pub demand_count : DemandState → ℕ
 demand_count d = d.stats.accesses

@@ -1,14 +1,14 @@
--- What an access does to the residents, and counts over a list of accesses.
-use Rattle.std.proofs.Common.{◌≡◌, ℕ, zero, suc, ◌+◌, ◌≤◌, Bool, true, false, cond, eqb, nat_lt, List, [], ◌∷◌, ◌++◌, length, take, get_or, count_by, ap, sym, ◌∙◌, refl, arith}
-use Rattle.std.proofs.lemmas.Bool.{cases_eq}
-use Rattle.std.proofs.lemmas.List.Sums.{sum_by-append}
+-- What an access does to the residents, and what that makes of a policy's definition.
+use Rattle.std.proofs.Common.{◌≡◌, ◌⊎◌, ℕ, suc, ◌+◌, ◌≤◌, true, false, eqb, nat_lt, List, [], ◌∷◌, ◌++◌, length, count_by, ap, sym, ◌∙◌, refl, arith}
+use Rattle.std.proofs.lemmas.Bool.{cases_Bool, cases_eq, eqb-true}
 use Rattle.std.proofs.lemmas.Bool.Decides.{nat_tests}
 use Rattle.engine_base.specs.Keys.{has_key}
-use Rattle.engine_base.specs.Machine.{state_after_all, outcomes_of_all}
-use Rattle.engine_base.specs.Stats.{is_miss, is_eviction, one_if}
+use Rattle.engine_base.specs.Machine.{IsServed, KeepsKeys}
+use Rattle.engine_base.specs.Stats.{one_if}
 use Rattle.engine_base.specs.declared.outcome.Outcome.TheVariants.{Hit, Kept, Evicted}
-use Rattle.engine_base.proofs.Machine.{kept-from}
-use Rattle.policy_page.specs.Residents.{Outcome, times, keys_brought, IsAccess, AreResidents, KeepsResidents, CountsResidents}
+use Rattle.engine_base.proofs.Counting.{count-cons}
+use Rattle.policy_page.specs.Residents.{Outcome, times, keys_brought, IsAccess, AreResidents, KeepsResidents}
+use Rattle.policy_page.specs.PolicyPage.{PolicyPage, page_machine}
 
 pub times-append : (x : ℕ) (a b : List ℕ) → times x (a ++ b) ≡ times x a + times x b
 times-append x [] b = omega arith
@@ -52,25 +52,28 @@ access-keeps c k old o new a r = record { fits = (grind (arith, nat_tests)); dis
 pub none-held : (c : ℕ) → AreResidents c []
 none-held c = record { fits = omega arith; distinct = λ k. omega arith }
 
--- ---- over a list of accesses
+-- no key comes in but the accessed one
+came-from : (c k x : ℕ) (old : List ℕ) (o : Outcome) (new : List ℕ) → IsAccess c k old o new → has_key x new ≡ true → (x ≡ k) ⊎ (has_key x old ≡ true)
+came-from c k x old o new a h =
+    grind (arith, nat_tests, cases_Bool (eqb x k), eqb-true, cases_Bool (has_key x old), times-some x new h, times-none)
 
-count-cons : (p : Outcome → Bool) (o : Outcome) (os : List Outcome) → count_by p (o ∷ os) ≡ one_if (p o) + count_by p os
-count-cons p o os = sum_by-append (λ x. cond (p x) 1 0) (o ∷ []) os ∙ omega arith
+pub served : (c k : ℕ) (old : List ℕ) (o : Outcome) (new : List ℕ) → IsAccess c k old o new → IsServed k old o new
+served c k old o new a = record { hits = a.hits; counts = a.counts; came = λ x h. came-from c k x old o new a h }
 
-module _ {S : Type 0} (c : ℕ) (start : S) (act : ℕ → S → Outcome × S) (residents : S → List ℕ) (IsState : S → Type 0) (all : KeepsResidents c start act residents IsState) where
-  counts-from : (s : S) → IsState s → (keys : List ℕ) → length (residents (state_after_all act s keys)) + count_by is_eviction (outcomes_of_all act s keys) ≡ length (residents s) + count_by is_miss (outcomes_of_all act s keys)
-  counts-from s h [] = refl
-  counts-from s h (k ∷ keys) =
-      let rest = counts-from (act k s).1 (all.keeps k s h) keys in
-      let one = (all.accesses k s h).counts in
-      let later : List Outcome = outcomes_of_all act (act k s).1 keys in
-      let evictions = count-cons is_eviction (act k s).0 later in
-      let misses = count-cons is_miss (act k s).0 later in
-      omega (arith, rest, one, evictions, misses)
+times-by : (x : ℕ) (l : List ℕ) → count_by (eqb x) l ≡ times x l
+times-by x [] = refl
+times-by x (a ∷ l) = count-cons (eqb x) a l ∙ ap (λ n. one_if (eqb x a) + n) (times-by x l)
 
-  pub counts-residents : CountsResidents start act residents
-  counts-residents keys = grind (arith, nat_tests, counts-from start all.starts.0 keys)
+pub each-once : (c k : ℕ) (l : List ℕ) → AreResidents c l → count_by (eqb k) l ≤ 1
+each-once c k l r = omega (arith, times-by k l, r.distinct k)
 
-pub kept-after : {S : Type 0} (c : ℕ) (start : S) (act : ℕ → S → Outcome × S) (residents : S → List ℕ) (IsState : S → Type 0) → KeepsResidents c start act residents IsState
-    → (keys : List ℕ) → IsState (state_after_all act start keys)
-kept-after c start act residents IsState all keys = kept-from act IsState all.keeps start keys all.starts.0
+-- a definition that keeps each missed key is a machine that keeps its residents
+pub page-keeps : (g : PolicyPage) (c : ℕ) → KeepsResidents c g.start (g.act c) g.residents (g.IsState c) → KeepsKeys c (page_machine g c)
+page-keeps g c all = record {
+  empty = all.starts.1;
+  starts = all.starts.0;
+  keeps = all.keeps;
+  accesses = λ k s h. served c k _ _ _ (all.accesses k s h);
+  fits = λ s h. (all.holds s h).fits;
+  distinct = λ s k h. each-once c k _ (all.holds s h);
+}

@@ -1,6 +1,7 @@
 -- A policy that keeps each missed key, as one value, and what has to be known of it: all else is the same for every policy.
 use Rattle.std.specs.Prelude.{◌≡◌, ℕ, ◌≤◌, ◌⊎◌, true, false, nat_lt, Option, Some, None, List, ◌++◌, length}
 use Rattle.engine_base.specs.Keys.{has_key}
+use Rattle.engine_base.specs.Machine.{Machine}
 use Rattle.queue_table.specs.Queues.{Queues, empty_queues}
 use Rattle.policy_page.specs.Residents.{Outcome, KeepsResidents}
 use Rattle.queue_moves.specs.Moves.{item_of, Plan, after_all}
@@ -20,6 +21,11 @@ pub record PolicyPage : Type 1 where
   pub IsShown : ℕ → Queues → Type 0
   pub plan : ℕ → ℕ → ℕ → Queues → Plan
   pub resident_queues : ℕ → ℕ × Option ℕ
+
+-- its definition as a machine over keys, at capacity c
+abbrev pub page_machine : PolicyPage → ℕ → Machine
+page_machine g c =
+    record { State = g.State; start = g.start; access = g.act c; residents = g.residents; IsState = g.IsState c }
 
 -- the keys, and those of one more queue
 abbrev pub keys_with : List ℕ → Option ℕ → Queues → List ℕ
