@@ -17,10 +17,9 @@ use Rattle.conservative_laws.specs.Conservative.{misses_on}
 use Rattle.conservative_laws.specs.Theorems.{IsWorstFor, NoFactorIsSmaller}
 use Rattle.conservative_laws.proofs.Stretches.{hits-few, once-few, distinct-few, online-misses}
 use Rattle.conservative_laws.proofs.Loads.{load, load-none, load-next, Heaviest, heaviest}
-use Rattle.demand_cache.specs.Theorems.{DemandKeeps}
-use Rattle.adaptive_window.specs.Residents.{CacheKeeps}
 use Rattle.policies.specs.Theorems.{AnyCoversTrace}
-use Rattle.policy_laws.proofs.Beaten.{IsOnlineJob, online}
+use Rattle.policies.proofs.Machines.{HasMachine, any_keeps}
+use Rattle.policy_laws.proofs.Beaten.{held_by, online}
 
 -- ---- hits of a cache that is a function of the accesses before
 
@@ -190,7 +189,7 @@ worst j held fits counts h n le =
 
 -- ---- no policy that does not know the trace competes by a smaller factor
 
-pub no_factor_is_smaller : DemandKeeps → CacheKeeps → AnyCoversTrace → NoFactorIsSmaller
-no_factor_is_smaller law own covers j h n is le =
-    let a : IsOnlineJob j = online law own j is in
-    worst j a.held a.online.fits (online-misses covers j a.held a.online) h n le
+pub no_factor_is_smaller : AnyCoversTrace → NoFactorIsSmaller
+no_factor_is_smaller covers j h n is le =
+    let a : HasMachine j = any_keeps j is in
+    worst j (held_by j a) (online j a).fits (online-misses covers j (held_by j a) (online j a)) h n le

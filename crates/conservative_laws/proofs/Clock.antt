@@ -12,13 +12,14 @@ use Rattle.policy_page.specs.Residents.{times}
 use Rattle.policy_page.specs.CountedKeys.{CountedKey, keys_of, with_count, oldest_count, AreCounted}
 use Rattle.policy_page.specs.Turns.{after_turn, turn_count_within, after_turns}
 use Rattle.clock.specs.Clock.{marked_key, clock_eviction, clock_act, IsClock}
-use Rattle.policy_page.proofs.Residents.{times-none, no-times}
+use Rattle.clock.specs.Plan.{clock_page}
+use Rattle.policy_page.specs.PolicyPage.{page_machine}
+use Rattle.policy_page.proofs.Residents.{times-none, no-times, page-keeps}
 use Rattle.policy_page.proofs.CountedKeys.{length-keys, keys-with}
 use Rattle.policy_page.proofs.Turns.{settled, turns-times, turns-length, turns-counted}
 use Rattle.clock.proofs.Keeping.{keeps}
-use Rattle.policy_laws.proofs.Strategies.{serves, next-is, kept-at}
 use Rattle.conservative_laws.specs.Conservative.{stretch, IsConservative}
-use Rattle.conservative_laws.proofs.Stretches.{misses-next, once-few, in-stretch}
+use Rattle.conservative_laws.proofs.Stretches.{misses-next, once-few, in-stretch, next-is, stands-at}
 use Rattle.conservative_laws.proofs.Fifo.{once-more}
 use Rattle.conservative_laws.proofs.Evictions.{any_of, is_stale, evictions_ahead, ahead-few, ahead-joined, ahead-turned, ahead-hit}
 
@@ -81,7 +82,7 @@ module _ (c : ℕ) (t : List ℕ) (room : 1 ≤ c) (i m : ℕ) (l : m ≤ length
   misses_at n = strategy_misses t (clock_keys c t) n
 
   is-clock : (n : ℕ) → IsClock c (clock_queue c t n)
-  is-clock n = kept-at c [] (clock_act c) keys_of (IsClock c) (serves (keeps c room)) t n
+  is-clock n = stands-at (page_machine clock_page c) t c (page-keeps clock_page c (keeps c room)) n
 
   abbrev IsAhead : ℕ → Type 0
   IsAhead n = misses_at n + evictions_ahead (stretch t i m) (clock_queue c t n) ≤ misses_at i + length (clock_queue c t n)
@@ -94,7 +95,7 @@ module _ (c : ℕ) (t : List ℕ) (room : 1 ≤ c) (i m : ℕ) (l : m ≤ length
       let k : ℕ = get_or t n 0 in
       let ks : List ℕ = stretch t i m in
       let next : misses_at (suc n) ≡ misses_at n + one_if (not (has_key k (clock_keys c t n))) = misses-next t (clock_keys c t) n in
-      let after : clock_queue c t (suc n) ≡ (clock_act c k (clock_queue c t n)).1 = next-is c [] (clock_act c) keys_of (IsClock c) (serves (keeps c room)) t n (omega (arith, g, l)) in
+      let after : clock_queue c t (suc n) ≡ (clock_act c k (clock_queue c t n)).1 = next-is (page_machine clock_page c) t n (omega (arith, g, l)) in
       let ahead : evictions_ahead ks (clock_queue c t (suc n)) ≡ evictions_ahead ks (clock_act c k (clock_queue c t n)).1 = ap (evictions_ahead ks) after in
       let long : length (clock_queue c t (suc n)) ≡ length (clock_act c k (clock_queue c t n)).1 = ap length after in
       let one = act-ahead c k ks (clock_queue c t n) (in-stretch t i n m h g l) few (is-clock n) in

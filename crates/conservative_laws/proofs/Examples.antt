@@ -8,7 +8,6 @@ use Rattle.fifo.specs.Fifo.{fifo_act}
 use Rattle.clock.specs.Clock.{clock_act}
 use Rattle.demand_cache.specs.declared.demand_policy.DemandPolicy.TheVariants as sized
 use Rattle.demand_cache.specs.DemandPolicy.{outcomes_of_page}
-use Rattle.demand_cache.specs.Theorems.{RunsByPage}
 use Rattle.policies.specs.AnyPolicy.{Job, stats_on}
 use Rattle.policies.specs.declared.design.Design.TheVariants as design
 use Rattle.policies.proofs.Designs.{design-named}
@@ -23,29 +22,29 @@ use Rattle.conservative_laws.specs.Theorems.{LruFifoClockCompeteWithAny}
 use Rattle.policies.specs.Reports.{report_on}
 use Rattle.conservative_laws.specs.ReportLaws.{Report, AddsUp, AreOrdered, ReportsObeyLaws}
 
-misses-at : RunsByPage → (j : Job) (c m : ℕ) → (j.policy ≡ Fifo) ⊎ (j.policy ≡ Clock) → j.config.capacity ≡ c → 1 ≤ c
+misses-at : (j : Job) (c m : ℕ) → (j.policy ≡ Fifo) ⊎ (j.policy ≡ Clock) → j.config.capacity ≡ c → 1 ≤ c
     → count_by is_miss (outcomes_of_all (fifo_act c) [] anomalous_trace) ≡ m → count_by is_miss (outcomes_of_all (clock_act c) [] anomalous_trace) ≡ m
     → (stats_on j anomalous_trace).misses ≡ m
-misses-at page j c m (inl is) at room fifo clock = page-misses page sized.Fifo j anomalous_trace (design-named j Fifo is) (omega (arith, at, room)) ∙ (ap (λ x. count_by is_miss (outcomes_of_all (fifo_act x) [] anomalous_trace)) at ∙ fifo)
-misses-at page j c m (inr is) at room fifo clock = page-misses page sized.Clock j anomalous_trace (design-named j Clock is) (omega (arith, at, room)) ∙ (ap (λ x. count_by is_miss (outcomes_of_all (clock_act x) [] anomalous_trace)) at ∙ clock)
+misses-at j c m (inl is) at room fifo clock = page-misses sized.Fifo j anomalous_trace (design-named j Fifo is) (omega (arith, at, room)) ∙ (ap (λ x. count_by is_miss (outcomes_of_all (fifo_act x) [] anomalous_trace)) at ∙ fifo)
+misses-at j c m (inr is) at room fifo clock = page-misses sized.Clock j anomalous_trace (design-named j Clock is) (omega (arith, at, room)) ∙ (ap (λ x. count_by is_miss (outcomes_of_all (clock_act x) [] anomalous_trace)) at ∙ clock)
 
-pub have_anomaly : RunsByPage → FifoAndClockHaveAnomaly
-have_anomaly page small large is same at_small at_large = search (arith, misses-at)
+pub have_anomaly : FifoAndClockHaveAnomaly
+have_anomaly small large is same at_small at_large = search (arith, misses-at)
 
-pub sieve_is_not_conservative : RunsByPage → SieveIsNotConservative
-sieve_is_not_conservative page j is at all =
+pub sieve_is_not_conservative : SieveIsNotConservative
+sieve_is_not_conservative j is at all =
     let misses : (keys : List ℕ) → (stats_on j keys).misses ≡ count_by is_miss (outcomes_of_page sized.Sieve 2 keys) =
-    λ keys. page-misses page sized.Sieve j keys (design-named j Sieve is) (omega (arith, at)) ∙ ap (λ c. count_by is_miss (outcomes_of_page sized.Sieve c keys)) at in
+    λ keys. page-misses sized.Sieve j keys (design-named j Sieve is) (omega (arith, at)) ∙ ap (λ c. count_by is_miss (outcomes_of_page sized.Sieve c keys)) at in
     let before : (stats_on j (take 2 sieve_trace)).misses ≡ 1 = misses (take 2 sieve_trace) in
     let after : (stats_on j (take 5 sieve_trace)).misses ≡ 4 = misses (take 5 sieve_trace) in
     let most = all 2 5 (omega arith) (omega arith) (omega arith) in
     absurd (omega (arith, most, before, after))
 
-pub s3_fifo_is_not_conservative : RunsByPage → S3FifoIsNotConservative
-s3_fifo_is_not_conservative page j is at few all =
+pub s3_fifo_is_not_conservative : S3FifoIsNotConservative
+s3_fifo_is_not_conservative j is at few all =
     let one : part_size j.tuning.small j.config.capacity ≡ 1 = ap (part_size j.tuning.small) at ∙ (omega (arith, few)) in
     let misses : (keys : List ℕ) → (stats_on j keys).misses ≡ count_by is_miss (outcomes_of_page (sized.S3Fifo 1) 2 keys) =
-    λ keys. page-misses page (sized.S3Fifo 1) j keys (design-named j S3Fifo is ∙ ap (λ n. design.Demand (sized.S3Fifo n)) one) (omega (arith, at)) ∙ ap (λ c. count_by is_miss (outcomes_of_page (sized.S3Fifo 1) c keys)) at in
+    λ keys. page-misses (sized.S3Fifo 1) j keys (design-named j S3Fifo is ∙ ap (λ n. design.Demand (sized.S3Fifo n)) one) (omega (arith, at)) ∙ ap (λ c. count_by is_miss (outcomes_of_page (sized.S3Fifo 1) c keys)) at in
     let before : (stats_on j (take 3 s3_fifo_trace)).misses ≡ 1 = misses (take 3 s3_fifo_trace) in
     let after : (stats_on j (take 6 s3_fifo_trace)).misses ≡ 4 = misses (take 6 s3_fifo_trace) in
     let most = all 3 6 (omega arith) (omega arith) (omega arith) in

@@ -10,11 +10,12 @@ use Rattle.optimality.specs.Strategy.{strategy_misses}
 use Rattle.engine_base.specs.Machine.{state_after_all}
 use Rattle.policy_page.specs.Residents.{times, AreResidents}
 use Rattle.fifo.specs.Fifo.{fifo_eviction, fifo_act}
-use Rattle.policy_page.proofs.Residents.{times-append, times-none}
+use Rattle.fifo.specs.Plan.{fifo_page}
+use Rattle.policy_page.specs.PolicyPage.{page_machine}
+use Rattle.policy_page.proofs.Residents.{times-append, times-none, page-keeps}
 use Rattle.fifo.proofs.Keeping.{keeps}
-use Rattle.policy_laws.proofs.Strategies.{serves, next-is, kept-at}
 use Rattle.conservative_laws.specs.Conservative.{stretch, IsConservative}
-use Rattle.conservative_laws.proofs.Stretches.{misses-next, once-few, one-of, in-stretch}
+use Rattle.conservative_laws.proofs.Stretches.{misses-next, once-few, one-of, in-stretch, next-is, stands-at}
 
 -- the queue before the access at each place
 abbrev pub fifo_queue : ℕ → List ℕ → ℕ → List ℕ
@@ -61,7 +62,7 @@ module _ (c : ℕ) (t : List ℕ) (room : 1 ≤ c) (i m : ℕ) (l : m ≤ length
       let q : List ℕ = fifo_queue c t n in
       let count : strategy_misses t (fifo_queue c t) n ≡ strategy_misses t (fifo_queue c t) i + length now.new = now.misses in
       let next : strategy_misses t (fifo_queue c t) (suc n) ≡ strategy_misses t (fifo_queue c t) n + one_if (not (has_key k q)) = misses-next t (fifo_queue c t) n in
-      let after : fifo_queue c t (suc n) ≡ (fifo_act c k q).1 = next-is c [] (fifo_act c) (λ queue. queue) (AreResidents c) (serves (keeps c room)) t n (omega (arith, g, l)) in
+      let after : fifo_queue c t (suc n) ≡ (fifo_act c k q).1 = next-is (page_machine fifo_page c) t n (omega (arith, g, l)) in
       elim (cases_Bool (has_key k q)) [
         | inl e ↦
             let same : (fifo_act c k q).1 ≡ q = rw e refl in
@@ -70,7 +71,7 @@ module _ (c : ℕ) (t : List ℕ) (room : 1 ≤ c) (i m : ℕ) (l : m ≤ length
         | inr e ↦
             let one : one_if (not (has_key k q)) ≡ 1 = ap (λ b. one_if (not b)) e in
             let out : has_key k (now.old ++ now.new) ≡ false = ap (has_key k) (sym now.queue) ∙ e in
-            let kept : AreResidents c q = kept-at c [] (fifo_act c) (λ queue. queue) (AreResidents c) (serves (keeps c room)) t n in
+            let kept : AreResidents c q = stands-at (page_machine fifo_page c) t c (page-keeps fifo_page c (keeps c room)) n in
             let once : (x : ℕ) → times x (now.old ++ now.new) ≤ 1 = λ x. (let d : times x q ≤ 1 = kept.distinct x in let same : times x q ≡ times x (now.old ++ now.new) = ap (times x) now.queue in omega (arith, d, same)) in
             let here : has_key k (stretch t i m) ≡ true = in-stretch t i n m h g l in
             let less : length (k ∷ now.new) ≤ length (distinct_keys (stretch t i m)) = once-few (k ∷ now.new) (stretch t i m) (once-more k now.old now.new out once)

@@ -3,8 +3,9 @@ use Rattle.std.proofs.Common.{◌≡◌, ◌⊎◌, ℕ, zero, suc, ◌<◌, ◌
 use Rattle.std.proofs.lemmas.Bool.Decides.{nat_tests}
 use Rattle.std.proofs.lemmas.Bool.{cases_Bool, cases_eq}
 use Rattle.std.proofs.lemmas.List.{take_more, drop-append-le, length-take-le}
-use Rattle.std.proofs.Math.Seq.{drop-length}
+use Rattle.std.proofs.Math.Seq.{drop-length, take-suc}
 use Rattle.engine_base.specs.Keys.{has_key}
+use Rattle.queue_cache.specs.Lru.{distinct_keys}
 use Rattle.replacement.proofs.Residents.{has-append}
 use Rattle.optimality.proofs.Optimal.{count_keys, count-short, count-subset, head-has}
 use Rattle.policy_page.specs.Residents.{times}
@@ -13,18 +14,17 @@ use Rattle.conservative_laws.specs.Conservative.{stretch, IsConservative}
 use Rattle.std.proofs.Math.Nat.{add-mul, mul-add, mul-le-mul_right, le_of_mul-le-mul_left}
 use Rattle.engine_base.specs.Stats.{one_if}
 use Rattle.step_record.specs.declared.job.Policy.TheVariants.{Lru}
-use Rattle.queue_cache.specs.Lru.{lru, distinct_keys}
-use Rattle.queue_cache.specs.QueueCache.{QueueSetup}
+use Rattle.engine_base.specs.Machine.{Machine, after, KeepsKeys}
+use Rattle.engine_base.proofs.Counting.{hits-misses}
+use Rattle.engine_base.proofs.Machine.{next, stands}
+use Rattle.queue_cache.specs.Lru.{lru}
 use Rattle.policies.specs.Design.{Job, queue_setup}
-use Rattle.policies.proofs.Designs.{design-named}
 use Rattle.policies.specs.AnyPolicy.{outcomes_on, stats_on}
 use Rattle.policies.specs.Theorems.{AnyCoversTrace}
 use Rattle.queue_cache.specs.Theorems.{LruStepLaw}
-use Rattle.queue_cache.proofs.Counting.{hits-misses}
 use Rattle.optimality.specs.Strategy.{strategy_hits, strategy_misses}
 use Rattle.policy_laws.proofs.Strategies.{IsOnline, hits-are}
-use Rattle.policy_laws.proofs.Beaten.{queue_residents, queues-online}
-use Rattle.policy_laws.proofs.Lru.{lru_at, hits-agree, lru-kept}
+use Rattle.policy_laws.proofs.Lru.{queue_residents, lru-online, lru_at, hits-agree, lru-kept}
 
 -- ---- keys
 
@@ -109,6 +109,19 @@ none-hit t (suc n) = let rest = none-hit t n in omega (arith, rest, misses-next 
 pub at-most-twice : (c h m k : ℕ) → 2 * h ≤ c + 1 → (c + 1 - h) * m ≤ (c + 1) * k → m ≤ 2 * k
 at-most-twice c h m k wide most = grind (arith, nat_tests, mul-le-mul_right, add-mul, mul-add, le_of_mul-le-mul_left)
 
+-- ---- a machine at the places of a trace
+
+module _ (m : Machine) (t : List ℕ) where
+  -- before the access at each place
+  abbrev pub state_at : ℕ → m.State
+  state_at n = after m (take n t)
+
+  pub next-is : (n : ℕ) → n < length t → state_at (suc n) ≡ (m.access (get_or t n 0) (state_at n)).1
+  next-is n h = ap (after m) (take-suc t n 0 h) ∙ next m (take n t) (get_or t n 0)
+
+  pub stands-at : (c : ℕ) → KeepsKeys c m → (n : ℕ) → m.IsState (state_at n)
+  stands-at c all n = stands c m all (take n t)
+
 -- ---- of a job
 
 pub stats-misses : AnyCoversTrace → (j : Job) (keys : List ℕ) → (stats_on j keys).misses ≡ length keys - (stats_on j keys).hits
@@ -125,7 +138,7 @@ online-misses covers j held online trace n l =
 
 pub lru-misses : LruStepLaw → AnyCoversTrace → (j : Job) (trace : List ℕ) (n : ℕ) → j.policy ≡ Lru → n ≤ length trace
     → (stats_on j (take n trace)).misses ≡ strategy_misses trace (lru_at j.config.capacity trace) n
-lru-misses stands covers j trace n is l =
-    let s : QueueSetup = queue_setup lru j in
-    online-misses covers j (queue_residents s) (queues-online j lru (design-named j Lru is)) trace n l
-    ∙ ap (λ m. n - m) (hits-agree trace (λ i. queue_residents s (take i trace)) (lru_at j.config.capacity trace) n (λ i. lru-kept stands s (take i trace) refl))
+lru-misses law covers j trace n is l =
+    let held : List ℕ → List ℕ = queue_residents (queue_setup lru j) in
+    online-misses covers j held (lru-online j is) trace n l
+    ∙ ap (λ m. n - m) (hits-agree trace (λ i. held (take i trace)) (lru_at j.config.capacity trace) n (λ i. lru-kept law (queue_setup lru j) (take i trace) refl))

@@ -41,7 +41,6 @@ pub fn lru_fifo_clock_are_conservative()
 {
     queue_cache::theorems::lru_step_law();
     policies::theorems::any_covers_trace();
-    demand_cache::theorems::runs_by_page();
 }
 
 /// At each place of every trace, their misses at capacity c are at most (c + 1) / (c + 1 - h) times those of any
@@ -53,7 +52,6 @@ pub fn lru_fifo_clock_compete()
     filling_competes();
     queue_cache::theorems::lru_step_law();
     policies::theorems::any_covers_trace();
-    demand_cache::theorems::runs_by_page();
 }
 
 /// Where the strategy never bypasses the cache, the factor is c / (c + 1 - h). (Sleator and Tarjan 1985.)
@@ -64,7 +62,6 @@ pub fn lru_fifo_clock_compete_without_bypass()
     filling_competes_without_bypass();
     queue_cache::theorems::lru_step_law();
     policies::theorems::any_covers_trace();
-    demand_cache::theorems::runs_by_page();
 }
 
 /// With twice the capacity of a strategy (one key less is enough), each has at most twice its misses.
@@ -82,8 +79,6 @@ pub fn lru_fifo_clock_compete_with_any()
     lru_fifo_clock_compete();
     policies::theorems::any_covers_trace();
     optimality::theorems::belady_is_strategy();
-    demand_cache::theorems::demand_keeps();
-    adaptive_window::theorems::cache_keeps();
 }
 
 /// So the reports of jobs over a trace, whichever call made them, obey laws that their reader can check: the counts add
@@ -106,29 +101,21 @@ pub fn no_factor_is_smaller()
     ensures { NoFactorIsSmaller }
 {
     policies::theorems::any_covers_trace();
-    demand_cache::theorems::demand_keeps();
-    adaptive_window::theorems::cache_keeps();
 }
 
 /// FIFO and CLOCK can miss more often in a larger cache. (Belady's anomaly: Belady, Nelson and Shedler 1969.)
 pub fn fifo_and_clock_have_anomaly()
     ensures { FifoAndClockHaveAnomaly }
-{
-    demand_cache::theorems::runs_by_page();
-}
+{}
 
 /// SIEVE is not conservative.
 #[tactic(auto, using(crate::proofs::Examples::sieve_is_not_conservative))]
 pub fn sieve_is_not_conservative()
     ensures { SieveIsNotConservative }
-{
-    demand_cache::theorems::runs_by_page();
-}
+{}
 
 /// S3-FIFO is not conservative.
 #[tactic(auto, using(crate::proofs::Examples::s3_fifo_is_not_conservative))]
 pub fn s3_fifo_is_not_conservative()
     ensures { S3FifoIsNotConservative }
-{
-    demand_cache::theorems::runs_by_page();
-}
+{}

@@ -10,19 +10,18 @@ use Rattle.engine_base.specs.Config.{config_fault}
 use Rattle.step_record.specs.Job.{word_of}
 use Rattle.engine_base.specs.Stats.{stats_of}
 use Rattle.admission.specs.Frequency.{FrequencyData}
-use Rattle.adaptive_window.specs.AdaptiveCache.{Stats, cache_access}
+use Rattle.engine_base.specs.Machine.{after}
 use Rattle.adaptive_window.specs.Residents.{cache_residents}
 use Rattle.clairvoyant.specs.Belady.{belady_residents}
 use Rattle.debug_commands.specs.Texts.{count_text}
+use Rattle.demand_cache.specs.DemandQueues.{queues_residents}
 use Rattle.journal.specs.Session.{Entry, SessionState}
+use Rattle.queue_cache.specs.QueueCache.{frequency_after}
 use Rattle.segments.specs.Queues.{residents_in}
 pub use Rattle.policies.specs.declared.any_policy.AnyPolicy.{AnyPolicy}
-use Rattle.engine_base.specs.Machine.{state_after_all}
-use Rattle.demand_cache.specs.DemandQueues.{empty_cache, queues_act, queues_residents}
 use Rattle.policies.specs.declared.design.Design.TheVariants.{KnowsTrace, Queues as OfQueues, Demand as OfDemand, Adaptive as OfAdaptive}
 use Rattle.policies.specs.Design.{design_of, queue_setup}
-use Rattle.policies.specs.AnyPolicy.{Design, adaptive_start, outcomes_on, HasAccessed}
-use Rattle.queue_cache.specs.QueueCache.{frequency_after, state_after}
+use Rattle.policies.specs.AnyPolicy.{Design, Stats, HasAccessed, adaptive_engine, demand_engine, outcomes_on, queues_engine}
 
 -- ---- by the definitions
 
@@ -37,11 +36,10 @@ stats_at j trace n = stats_of (take n (outcomes_on j trace))
 
 -- the keys that are cached after them
 abbrev pub residents_by : Design → Job → List ℕ → ℕ → List ℕ
-residents_by (OfQueues q) j trace n = residents_in (state_after (queue_setup q j) (take n trace)).queues
+residents_by (OfQueues q) j trace n = residents_in (after (queues_engine q j) (take n trace)).queues
 residents_by KnowsTrace j trace n = belady_residents j.config.capacity trace n
-residents_by (OfDemand p) j trace n =
-    queues_residents (state_after_all queues_act (empty_cache p j.config.capacity) (take n trace))
-residents_by OfAdaptive j trace n = cache_residents (state_after_all cache_access (adaptive_start j) (take n trace))
+residents_by (OfDemand p) j trace n = queues_residents (after (demand_engine p j) (take n trace)).queues
+residents_by OfAdaptive j trace n = cache_residents (after (adaptive_engine j) (take n trace))
 
 abbrev pub residents_at : Job → List ℕ → ℕ → List ℕ
 residents_at j trace n = residents_by (design_of j) j trace n
@@ -54,7 +52,7 @@ abbrev pub age_by : Design → Job → List ℕ → ℕ
 age_by (OfQueues q) j keys = age_in (frequency_after (queue_setup q j) keys)
 age_by KnowsTrace j keys = 0
 age_by (OfDemand p) j keys = 0
-age_by OfAdaptive j keys = (state_after_all cache_access (adaptive_start j) keys).frequency.age
+age_by OfAdaptive j keys = (after (adaptive_engine j) keys).frequency.age
 
 -- the age of the sketch after them, 0 where there is none
 abbrev pub age_at : Job → List ℕ → ℕ → ℕ

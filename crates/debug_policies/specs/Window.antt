@@ -2,18 +2,18 @@
 use Rattle.std.specs.Prelude.{ℕ, List, ◌++◌, codes, take}
 pub use Rattle.step_record.specs.declared.job.Job.{Job}
 use Rattle.step_record.specs.Job.{word_of}
-use Rattle.adaptive_window.specs.AdaptiveCache.{Config, cache_access}
+use Rattle.engine_base.specs.Machine.{after}
+use Rattle.adaptive_window.specs.AdaptiveCache.{Config}
 use Rattle.adaptive_window.specs.AdaptiveWindow.{AdaptiveState}
 use Rattle.debug_commands.specs.Texts.{count_text}
 use Rattle.policies.specs.declared.any_policy.AnyPolicy.{AnyPolicy}
 use Rattle.policies.specs.declared.any_policy.AnyPolicy.TheVariants as cache
-use Rattle.policies.specs.declared.design.Design.TheVariants.{KnowsTrace, Queues, Demand, Adaptive}
 use Rattle.queue_cache.specs.declared.design.Layout.{Layout}
 use Rattle.queue_cache.specs.declared.design.Layout.TheVariants.{OneQueue, TwoQueues, ThreeQueues}
 use Rattle.queue_cache.specs.Design.{rules_by}
+use Rattle.policies.specs.declared.design.Design.TheVariants.{KnowsTrace, Queues, Demand, Adaptive}
 use Rattle.policies.specs.Design.{design_of}
-use Rattle.policies.specs.AnyPolicy.{Design, adaptive_start}
-use Rattle.engine_base.specs.Machine.{state_after_all}
+use Rattle.policies.specs.AnyPolicy.{Design, adaptive_engine}
 pub use Rattle.debug_policies.specs.declared.window.Window.{Window}
 use Rattle.debug_policies.specs.declared.window.Window.TheVariants.{Absent, Fixed, Moving}
 
@@ -38,7 +38,7 @@ abbrev pub window_by : Design → Job → List ℕ → Window
 window_by (Queues d) j keys = fixed_window (Queues d) j.config
 window_by KnowsTrace j keys = fixed_window KnowsTrace j.config
 window_by (Demand p) j keys = fixed_window (Demand p) j.config
-window_by Adaptive j keys = moving_window (state_after_all cache_access (adaptive_start j) keys).window
+window_by Adaptive j keys = moving_window (after (adaptive_engine j) keys).window
 
 -- after the first n accesses
 abbrev pub window_at : Job → List ℕ → ℕ → Window

@@ -8,48 +8,49 @@ pub use Rattle.engine_base.specs.declared.stats.Stats.{Stats}
 use Rattle.engine_base.specs.Config.{config_fault}
 use Rattle.engine_base.specs.Stats.{stats_of}
 use Rattle.admission.specs.Frequency.{FrequencyData}
-use Rattle.adaptive_window.specs.AdaptiveCache.{AdaptiveCacheState, cache_access}
-use Rattle.adaptive_window.specs.AdaptiveCache.{empty_cache as empty_adaptive_cache}
-use Rattle.adaptive_window.specs.Residents.{cache_residents}
+use Rattle.engine_base.specs.Machine.{Machine, after, outcomes}
+use Rattle.adaptive_window.specs.Residents.{adaptive_machine, cache_residents}
 use Rattle.clairvoyant.specs.Belady.{belady_outcomes}
 use Rattle.clairvoyant.specs.Clairvoyant.{ClairvoyantState, clairvoyant_at}
-use Rattle.engine_base.specs.Machine.{Machine, state_after_all, outcomes_of_all, after}
 pub use Rattle.demand_cache.specs.declared.demand_policy.DemandPolicy.{DemandPolicy}
-use Rattle.demand_cache.specs.DemandQueues.{empty_cache, queues_act, queues_residents}
+use Rattle.demand_cache.specs.DemandQueues.{queues_residents}
 use Rattle.demand_cache.specs.DemandPolicy.{outcomes_of_page}
-use Rattle.demand_cache.specs.DemandCache.{DemandState}
+use Rattle.demand_cache.specs.DemandCache.{demand_machine}
 use Rattle.segments.specs.Queues.{residents_in}
 pub use Rattle.policies.specs.declared.any_policy.AnyPolicy.{AnyPolicy}
 use Rattle.policies.specs.declared.any_policy.AnyPolicy.TheVariants.{Queues, Optimal, Demand, Adaptive}
 pub use Rattle.policies.specs.declared.design.Design.{Design}
 use Rattle.policies.specs.declared.design.Design.TheVariants as design
 use Rattle.policies.specs.Design.{design_of, queue_setup}
-use Rattle.queue_cache.specs.QueueCache.{queue_machine, outcomes_after}
+use Rattle.queue_cache.specs.declared.design.QueueDesign.{QueueDesign}
+use Rattle.queue_cache.specs.QueueCache.{queue_machine}
 
 -- ---- a job over a trace
 
--- the outcomes of the accesses to the keys of a trace by the plans of a policy that keeps each missed key, at capacity c
-abbrev pub demand_run : DemandPolicy → ℕ → List ℕ → List Outcome
-demand_run p c trace = outcomes_of_all queues_act (empty_cache p c) trace
+-- the engine of a policy of this kind, at the job's configuration, as a machine over keys
+abbrev pub queues_engine : QueueDesign → Job → Machine
+queues_engine q j = queue_machine (queue_setup q j)
 
--- The same by the policy's definition. Without room each key is rejected (no configuration that is accepted has a
--- capacity of 0).
+abbrev pub demand_engine : DemandPolicy → Job → Machine
+demand_engine p j = demand_machine p j.config.capacity
+
+abbrev pub adaptive_engine : Job → Machine
+adaptive_engine j = adaptive_machine j.config j.tuning.period
+
+-- The outcomes of the accesses to the keys of a trace by the definition of a policy that keeps each missed key, at capacity
+-- c. Without room each key is rejected (no configuration that is accepted has a capacity of 0).
 abbrev pub demand_outcomes : DemandPolicy → ℕ → List ℕ → List Outcome
 demand_outcomes p zero trace = map (λ k. Rejected k) trace
 demand_outcomes p (suc c) trace = outcomes_of_page p (suc c) trace
 
--- an empty cache with an adaptive window
-abbrev pub adaptive_start : Job → AdaptiveCacheState
-adaptive_start j = empty_adaptive_cache j.config j.tuning.period
-
--- The outcomes of the accesses to the keys of a trace. A cache whose configuration is not accepted would keep no key (none
--- is ever opened).
+-- The outcomes of the accesses to the keys of a trace. A cache whose configuration is not accepted would keep no key (none is
+-- ever opened).
 abbrev pub adaptive_outcomes : Result (Unit {0}) ConfigFault → Job → List ℕ → List Outcome
-adaptive_outcomes (Ok u) j trace = outcomes_of_all cache_access (adaptive_start j) trace
+adaptive_outcomes (Ok u) j trace = outcomes (adaptive_engine j) trace
 adaptive_outcomes (Err e) j trace = map (λ k. Rejected k) trace
 
 abbrev pub outcomes_by : Design → Job → List ℕ → List Outcome
-outcomes_by (design.Queues q) j trace = outcomes_after (queue_setup q j) trace
+outcomes_by (design.Queues q) j trace = outcomes (queues_engine q j) trace
 outcomes_by design.KnowsTrace j trace = belady_outcomes j.config.capacity trace (length trace)
 outcomes_by (design.Demand p) j trace = demand_outcomes p j.config.capacity trace
 outcomes_by design.Adaptive j trace = adaptive_outcomes (config_fault j.config) j trace
@@ -83,7 +84,7 @@ frequency_in (Optimal d) = None
 frequency_in (Demand d) = None
 frequency_in (Adaptive d) = Some d.frequency
 
--- a cache of a job of this design made these accesses: its machine comes to what it shows
+-- A cache of a job of the design x, whose engine is the machine m, made these accesses.
 pub record IsAfter (j : Job) (x : Design) (m : Machine) (keys : List ℕ) (d : m.State) : Type 0 where
   pub design : design_of j ≡ x
   pub checked : config_fault j.config ≡ Ok tt
@@ -96,23 +97,11 @@ pub record IsBeladyAt (j : Job) (trace keys : List ℕ) (d : ClairvoyantState) :
   pub within : length keys ≤ length trace
   pub gives : d ≡ clairvoyant_at j.config.capacity trace (length keys)
 
--- a cache of a policy that keeps each missed key made these accesses
-pub record IsDemandAfter (j : Job) (keys : List ℕ) (d : DemandState) : Type 0 where
-  pub design : design_of j ≡ design.Demand d.queues.policy
-  pub checked : config_fault j.config ≡ Ok tt
-  pub queues : d.queues ≡ state_after_all queues_act (empty_cache d.queues.policy j.config.capacity) keys
-  pub stats : d.stats ≡ stats_of (demand_run d.queues.policy j.config.capacity keys)
-
--- a cache with an adaptive window made these accesses
-pub record IsAdaptiveAfter (j : Job) (keys : List ℕ) (d : AdaptiveCacheState) : Type 0 where
-  pub design : design_of j ≡ design.Adaptive
-  pub checked : config_fault j.config ≡ Ok tt
-  pub gives : d ≡ state_after_all cache_access (adaptive_start j) keys
-
 -- the cache runs the job over the trace, and the keys are the accesses that it made
 abbrev pub HasAccessed : Job → List ℕ → List ℕ → AnyPolicy → Type 0
 HasAccessed j trace keys (Queues d) =
-    IsAfter j (design.Queues d.setup.design) (queue_machine (queue_setup d.setup.design j)) keys d
+    IsAfter j (design.Queues d.setup.design) (queues_engine d.setup.design j) keys d
 HasAccessed j trace keys (Optimal d) = IsBeladyAt j trace keys d
-HasAccessed j trace keys (Demand d) = IsDemandAfter j keys d
-HasAccessed j trace keys (Adaptive d) = IsAdaptiveAfter j keys d
+HasAccessed j trace keys (Demand d) =
+    IsAfter j (design.Demand d.queues.policy) (demand_engine d.queues.policy j) keys d
+HasAccessed j trace keys (Adaptive d) = IsAfter j design.Adaptive (adaptive_engine j) keys d

@@ -75,7 +75,7 @@ impl AnyPolicy {
     }
 
     // An empty cache for a job, but where its policy is the optimal one.
-    #[tactic(auto, using(crate::proofs::StepLaws::queues_opened))]
+    #[tactic(auto, using(crate::proofs::Machines::queues_opened))]
     fn open_online(alloc: Global, job: &Job) -> Result<Option<AnyPolicy>, AllocError>
         requires { config_fault job.now.config ≡ Ok tt }
         ensures stands { IfOk result (λ r. MatchOption r (design_of job.now ≡ Design.KnowsTrace)

@@ -52,6 +52,7 @@ pub fn any_records_show_outcome()
 }
 
 /// Undoing a hit of a cache of any policy asks for no room, so it is never refused.
+#[tactic(auto, using(crate::proofs::StepLaws::any_hits_keep_all))]
 pub fn any_hits_keep_all()
     ensures { AnyHitsKeepAll }
 {
@@ -60,44 +61,34 @@ pub fn any_hits_keep_all()
 }
 
 /// A cache of any policy never holds more keys than its capacity.
+#[tactic(auto, using(crate::proofs::StepLaws::residents_fit))]
 pub fn residents_fit()
     ensures { ResidentsFit }
-{
-    demand_cache::theorems::demand_keeps();
-    adaptive_window::theorems::cache_keeps();
-}
+{}
 
 /// No key is resident twice.
+#[tactic(auto, using(crate::proofs::StepLaws::residents_distinct))]
 pub fn residents_distinct()
     ensures { ResidentsDistinct }
-{
-    demand_cache::theorems::demand_keeps();
-    adaptive_window::theorems::cache_keeps();
-}
+{}
 
 /// The residents of a cache of any policy are its misses minus its evictions.
+#[tactic(auto, using(crate::proofs::StepLaws::residents_counted))]
 pub fn residents_counted()
     ensures { ResidentsCounted }
-{
-    demand_cache::theorems::demand_keeps();
-    adaptive_window::theorems::cache_keeps();
-}
+{}
 
 /// An access is a hit exactly where its key is resident.
+#[tactic(auto, using(crate::proofs::StepLaws::hits_are_residents))]
 pub fn hits_are_residents()
     ensures { HitsAreResidents }
-{
-    demand_cache::theorems::demand_keeps();
-    adaptive_window::theorems::cache_keeps();
-}
+{}
 
 /// The one key that an access may bring in is its own.
+#[tactic(auto, using(crate::proofs::StepLaws::fetches_on_demand))]
 pub fn fetches_on_demand()
     ensures { FetchesOnDemand }
-{
-    demand_cache::theorems::demand_keeps();
-    adaptive_window::theorems::cache_keeps();
-}
+{}
 
 /// Each access of a trace is a hit or a miss of the job.
 pub fn stats_add_up()
@@ -107,19 +98,16 @@ pub fn stats_add_up()
 }
 
 /// The misses of a job minus its evictions are at most its capacity.
+#[tactic(auto, using(crate::proofs::StepLaws::misses_fit))]
 pub fn misses_fit()
     ensures { MissesFit }
-{
-    demand_cache::theorems::demand_keeps();
-    adaptive_window::theorems::cache_keeps();
-}
+{}
 
 /// Undoing an access of a cache of any policy asks for room only where an item left in it, so no other is ever refused.
+#[tactic(auto, using(crate::proofs::StepLaws::any_asks_where_one_left))]
 pub fn any_asks_where_one_left()
     ensures { AnyAsksWhereOneLeft }
 {
-    demand_cache::theorems::demand_keeps();
     demand_cache::theorems::asks_where_one_left();
-    adaptive_window::theorems::cache_keeps();
     adaptive_window::theorems::cache_asks_where_one_left();
 }

@@ -7,21 +7,28 @@ use Rattle.engine_base.specs.Keys.{has_key}
 use Rattle.step_record.specs.declared.job.Policy.TheVariants.{Lru}
 use Rattle.segments.specs.Queues.{residents_in}
 use Rattle.queue_cache.specs.Lru.{lru, distinct_keys, lru_residents}
-use Rattle.queue_cache.specs.QueueCache.{QueueSetup, queue_machine}
+use Rattle.queue_cache.specs.QueueCache.{QueueSetup, queue_machine, state_after}
 use Rattle.queue_cache.specs.SingleQueue.{single_queue}
 use Rattle.policies.specs.Design.{Job, queue_setup}
 use Rattle.policies.specs.AnyPolicy.{stats_on}
 use Rattle.policies.proofs.Designs.{design-named}
+use Rattle.policies.proofs.Machines.{of-queues}
 use Rattle.queue_cache.specs.Theorems.{LruStepLaw}
 use Rattle.engine_base.proofs.Machine.{residents-fit}
 use Rattle.queue_cache.proofs.Balance.{queue-keeps}
 use Rattle.queue_cache.proofs.Recency.{has-drop}
 use Rattle.optimality.specs.Strategy.{strategy_hits}
 use Rattle.policy_laws.specs.Theorems.{LruHitsGrow}
-use Rattle.policy_laws.proofs.Strategies.{all-hits}
-use Rattle.policy_laws.proofs.Beaten.{queue_residents, queues-online}
+use Rattle.policy_laws.proofs.Strategies.{IsOnline, all-hits}
+use Rattle.policy_laws.proofs.Beaten.{online}
 
 -- ---- the residents of Lru
+
+abbrev pub queue_residents : QueueSetup → List ℕ → List ℕ
+queue_residents s keys = residents_in (state_after s keys).queues
+
+pub lru-online : (j : Job) → j.policy ≡ Lru → IsOnline j.config.capacity (queue_residents (queue_setup lru j)) (λ keys. (stats_on j keys).hits)
+lru-online j is = online j (of-queues lru j (design-named j Lru is))
 
 -- before the access at each place
 abbrev pub lru_at : ℕ → List ℕ → ℕ → List ℕ
@@ -66,7 +73,7 @@ hits-more t r s (suc i) h = grind (arith, nat_tests, hits-more t r s i h)
 lru-hits : LruStepLaw → (j : Job) (trace : List ℕ) → j.policy ≡ Lru → (stats_on j trace).hits ≡ strategy_hits trace (lru_at j.config.capacity trace) (length trace)
 lru-hits stands j trace is =
     let s : QueueSetup = queue_setup lru j in
-    sym (all-hits j.config.capacity (queue_residents s) _ (queues-online j lru (design-named j Lru is)) trace)
+    sym (all-hits j.config.capacity (queue_residents s) _ (lru-online j is) trace)
     ∙ hits-agree trace (λ i. queue_residents s (take i trace)) (lru_at j.config.capacity trace) (length trace) (λ i. lru-kept stands s (take i trace) refl)
 
 pub lru_hits_grow : LruStepLaw → LruHitsGrow

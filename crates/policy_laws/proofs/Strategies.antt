@@ -1,16 +1,14 @@
 -- A cache that knows no access before it is made is a strategy that fetches on demand.
 use Rattle.std.proofs.lemmas.Bool.Decides.{nat_tests}
-use Rattle.std.proofs.Common.{◌≡◌, ◌⊎◌, ℕ, zero, suc, ◌+◌, ◌<◌, ◌≤◌, true, List, [], ◌∷◌, ◌++◌, length, take, get_or, count_by, ap, ◌∙◌, sym, arith}
+use Rattle.std.proofs.Common.{◌≡◌, ◌⊎◌, ℕ, zero, suc, ◌+◌, ◌≤◌, true, cond, List, [], ◌∷◌, ◌++◌, length, take, get_or, count_by, ap, ◌∙◌, sym, refl, arith}
 use Rattle.std.proofs.Math.Seq.{take-suc}
 use Rattle.std.proofs.lemmas.List.{take_all}
 use Rattle.std.proofs.lemmas.List.Sums.{sum_by-append}
 use Rattle.engine_base.specs.Keys.{has_key}
+use Rattle.engine_base.specs.Machine.{Outcome, Machine, after, outcomes, KeepsKeys}
 use Rattle.engine_base.specs.Stats.{is_hit, one_if}
+use Rattle.engine_base.proofs.Machine.{next, outcomes-append, stands, residents-fit}
 use Rattle.optimality.specs.Strategy.{IsStrategy, strategy_hits}
-use Rattle.engine_base.specs.Machine.{state_after_all, outcomes_of_all}
-use Rattle.policy_page.specs.Residents.{Outcome, KeepsResidents}
-use Rattle.engine_base.proofs.Machine.{state-push, outcomes-push}
-use Rattle.policies.proofs.Demand.{demand-came-from}
 
 -- what a cache of capacity c holds after some accesses, and how many of them were hits: a hit is an access to a resident
 -- key, and no key comes in but the accessed one
@@ -38,43 +36,22 @@ module _ (c : ℕ) (held : List ℕ → List ℕ) (hits : List ℕ → ℕ) (is 
   pub all-hits : strategy_hits t (λ i. held (take i t)) (length t) ≡ hits t
   all-hits = hits-are (length t) (omega arith) ∙ ap hits (take_all (length t) t (omega arith))
 
--- ---- a policy over states
+-- ---- a machine that keeps its residents
 
--- what makes it such a cache
-pub record Serves {S : Type 0} (c : ℕ) (start : S) (act : ℕ → S → Outcome × S) (residents : S → List ℕ) (IsState : S → Type 0) : Type 0 where
-  pub starts : IsState start × (residents start ≡ [])
-  pub keeps : (k : ℕ) (s : S) → IsState s → IsState (act k s).1
-  pub hits : (k : ℕ) (s : S) → IsState s → is_hit (act k s).0 ≡ has_key k (residents s)
-  pub came : (k : ℕ) (s : S) (x : ℕ) → IsState s → has_key x (residents (act k s).1) ≡ true → (x ≡ k) ⊎ (has_key x (residents s) ≡ true)
-  pub fits : (s : S) → IsState s → length (residents s) ≤ c
+more-hits : (os : List Outcome) (o : Outcome) → count_by is_hit (os ++ o ∷ []) ≡ count_by is_hit os + one_if (is_hit o)
+more-hits os o = sum_by-append (λ x. cond (is_hit x) 1 0) os (o ∷ []) ∙ omega arith
 
-pub serves : {S : Type 0} {c : ℕ} {start : S} {act : ℕ → S → Outcome × S} {residents : S → List ℕ} {IsState : S → Type 0}
-    → KeepsResidents c start act residents IsState → Serves c start act residents IsState
-serves {S} {c} {start} {act} {residents} {IsState} all = record {
-  starts = all.starts;
-  keeps = all.keeps;
-  hits = λ k s h. (all.accesses k s h).hits;
-  came = λ k s x h. demand-came-from c k x (residents s) (act k s).0 (residents (act k s).1) (all.accesses k s h);
-  fits = λ s h. (all.holds s h).fits;
-}
+module _ (c : ℕ) (m : Machine) (all : KeepsKeys c m) where
+  next-residents : (keys : List ℕ) (k : ℕ) → m.residents (m.access k (after m keys)).1 ≡ m.residents (after m (keys ++ k ∷ []))
+  next-residents keys k = ap m.residents (sym (next m keys k))
 
-module _ {S : Type 0} (c : ℕ) (start : S) (act : ℕ → S → Outcome × S) (residents : S → List ℕ) (IsState : S → Type 0) (all : Serves c start act residents IsState) where
-  kept-from : (s : S) (keys : List ℕ) → IsState s → IsState (state_after_all act s keys)
-  kept-from s [] h = h
-  kept-from s (k ∷ keys) h = kept-from (act k s).1 keys (all.keeps k s h)
-
-  pub served : IsOnline c (λ keys. residents (state_after_all act start keys)) (λ keys. count_by is_hit (outcomes_of_all act start keys))
-  served = grind (arith, nat_tests, kept-from, state-push, sum_by-append, outcomes-push)
-
-  module _ (t : List ℕ) where
-    abbrev pub state_at : ℕ → S
-    state_at i = state_after_all act start (take i t)
-
-    abbrev pub residents_at : ℕ → List ℕ
-    residents_at i = residents (state_at i)
-
-    pub next-is : (i : ℕ) → i < length t → state_at (suc i) ≡ (act (get_or t i 0) (state_at i)).1
-    next-is i h = ap (state_after_all act start) (take-suc t i 0 h) ∙ state-push act start (take i t) (get_or t i 0)
-
-    pub kept-at : (i : ℕ) → IsState (state_at i)
-    kept-at i = (kept-from start (take i t) all.starts.0)
+  pub served : IsOnline c (λ keys. m.residents (after m keys)) (λ keys. count_by is_hit (outcomes m keys))
+  served = record {
+    starts = (all.empty, refl);
+    came = λ keys k x there. (all.accesses k (after m keys) (stands c m all keys)).came x (ap (has_key x) (next-residents keys k) ∙ there);
+    counts = λ keys k.
+        ap (count_by is_hit) (outcomes-append m.access m.start keys (k ∷ []))
+        ∙ more-hits (outcomes m keys) (m.access k (after m keys)).0
+        ∙ ap (λ b. count_by is_hit (outcomes m keys) + one_if b) (all.accesses k (after m keys) (stands c m all keys)).hits;
+    fits = residents-fit c m all;
+  }

@@ -9,8 +9,6 @@ pub fn no_policy_beats_belady()
 {
     optimality::theorems::belady_is_optimal();
     optimality::theorems::belady_is_strategy();
-    demand_cache::theorems::demand_keeps();
-    adaptive_window::theorems::cache_keeps();
 }
 
 /// So it is at each place of a trace, for two caches that made the same accesses.
@@ -19,8 +17,6 @@ pub fn belady_leads()
     ensures { BeladyLeads }
 {
     optimality::theorems::belady_is_optimal();
-    demand_cache::theorems::demand_keeps();
-    adaptive_window::theorems::cache_keeps();
 }
 
 /// At a larger capacity Belady's optimal policy has no fewer hits. (Mattson and others 1970.)

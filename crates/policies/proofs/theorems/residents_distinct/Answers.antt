@@ -1,5 +1,0 @@
-use Rattle.policies.proofs.StepLaws.{residents_distinct}
-use Rattle.policies.proofs.theorems.residents_distinct.Goals as goal
-
-pub returns : goal.returns
-returns c = residents_distinct c.demand_keeps.ensures c.cache_keeps.ensures
