@@ -13,7 +13,7 @@ use Rattle.queue_cache.specs.Lru.{lru}
 use Rattle.queue_cache.specs.SegmentedLru.{segmented_lru}
 use Rattle.queue_cache.specs.TinyLfu.{tiny_lfu}
 use Rattle.queue_cache.specs.WindowTinyLfu.{window_tiny_lfu}
-use Rattle.queue_cache.specs.QueueCache.{QueueSetup}
+use Rattle.queue_cache.specs.declared.design.QueueSetup.{QueueSetup}
 pub use Rattle.policies.specs.declared.design.Design.{Design}
 use Rattle.policies.specs.declared.design.Design.TheVariants.{Queues, KnowsTrace, Demand, Adaptive}
 

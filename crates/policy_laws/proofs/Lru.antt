@@ -7,7 +7,8 @@ use Rattle.engine_base.specs.Keys.{has_key}
 use Rattle.step_record.specs.declared.job.Policy.TheVariants.{Lru}
 use Rattle.segments.specs.Queues.{residents_in}
 use Rattle.queue_cache.specs.Lru.{lru, distinct_keys, lru_residents}
-use Rattle.queue_cache.specs.QueueCache.{QueueSetup, queue_machine, state_after}
+use Rattle.queue_cache.specs.declared.design.QueueSetup.{QueueSetup}
+use Rattle.queue_cache.specs.QueueCache.{queue_machine, state_after}
 use Rattle.queue_cache.specs.SingleQueue.{single_queue}
 use Rattle.policies.specs.Design.{Job, queue_setup}
 use Rattle.policies.specs.AnyPolicy.{stats_on}

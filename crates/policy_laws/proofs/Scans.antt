@@ -17,7 +17,8 @@ use Rattle.engine_base.proofs.Machine.{state-append}
 use Rattle.queue_cache.specs.SegmentedLru.{segmented_lru}
 use Rattle.queue_cache.specs.TinyLfu.{tiny_lfu}
 use Rattle.queue_cache.specs.Design.{Rules, rules_of}
-use Rattle.queue_cache.specs.QueueCache.{QueueSetup, QueueState, queue_access, queue_machine, empty_queue_state, state_after, IsQueueState}
+use Rattle.queue_cache.specs.declared.design.QueueSetup.{QueueSetup}
+use Rattle.queue_cache.specs.QueueCache.{QueueState, queue_access, queue_machine, empty_queue_state, state_after, IsQueueState}
 use Rattle.queue_cache.proofs.Balance.{queue-keeps, after-stands}
 use Rattle.optimality.proofs.Optimal.{no}
 use Rattle.policy_laws.specs.Scans.{IsScan, ScansSpareProtected}

@@ -4,7 +4,8 @@ use Rattle.engine_base.specs.Keys.{has_key}
 use Rattle.segments.specs.Queues.{residents_in}
 use Rattle.queue_cache.specs.SegmentedLru.{segmented_lru}
 use Rattle.queue_cache.specs.TinyLfu.{tiny_lfu}
-use Rattle.queue_cache.specs.QueueCache.{QueueSetup, state_after}
+use Rattle.queue_cache.specs.declared.design.QueueSetup.{QueueSetup}
+use Rattle.queue_cache.specs.QueueCache.{state_after}
 
 -- the keys are accessed once each, and none of them is resident when the scan begins
 abbrev pub IsScan : List ℕ → List ℕ → Type 0

@@ -8,7 +8,8 @@ use Rattle.admission.specs.Shape.{Shape}
 use Rattle.admission.specs.Frequency.{FrequencyData, frequency_of, pace_of}
 use Rattle.replacement.specs.Shape.{Config, shape_of}
 use Rattle.replacement.proofs.Shape.{own-shape}
-use Rattle.queue_cache.specs.QueueCache.{Outcome, QueueSetup, QueueState, queue_access, empty_queue_state as opened_policy, outcomes_after, state_after}
+use Rattle.queue_cache.specs.declared.design.QueueSetup.{QueueSetup}
+use Rattle.queue_cache.specs.QueueCache.{Outcome, QueueState, queue_access, empty_queue_state as opened_policy, outcomes_after, state_after}
 use Rattle.queue_cache.proofs.Balance.{after-stands}
 use Rattle.shell_model.specs.Shell.{Shell, act}
 use Rattle.shell_model.specs.Consistency.{IsConsistent}

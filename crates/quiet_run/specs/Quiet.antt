@@ -3,7 +3,8 @@ use Rattle.std.specs.Prelude.{◌≡◌, ◌≤◌, Some, None, [], length, repl
 pub use Rattle.engine_base.specs.declared.config.Config.{Config}
 use Rattle.engine_base.specs.declared.drain.Drain.TheVariants.{Idle}
 use Rattle.segments.specs.Items.{Item, occurrences}
-use Rattle.queue_cache.specs.QueueCache.{QueueSetup, QueueState}
+use Rattle.queue_cache.specs.declared.design.QueueSetup.{QueueSetup}
+use Rattle.queue_cache.specs.QueueCache.{QueueState}
 use Rattle.queue_cache.specs.WindowTinyLfu.{window_tiny_lfu}
 use Rattle.shell_model.specs.Shell.{Shell, window_size}
 use Rattle.replacement.specs.Counts.{queue_occurrences}

@@ -6,7 +6,8 @@ use Rattle.std.proofs.lemmas.List.{take_all}
 use Rattle.engine_base.specs.Keys.{has_key}
 use Rattle.engine_base.specs.Bits.{bit_of}
 use Rattle.queue_cache.specs.Lru.{lru, distinct_keys}
-use Rattle.queue_cache.specs.QueueCache.{QueueSetup, state_after}
+use Rattle.queue_cache.specs.declared.design.QueueSetup.{QueueSetup}
+use Rattle.queue_cache.specs.QueueCache.{state_after}
 use Rattle.queue_cache.proofs.Recency.{has-drop}
 use Rattle.stack_distances.specs.Distances.{distance, is_within, hits_within, stats_by}
 use Rattle.trace_index.specs.Uses.{last_below, number_of}

@@ -2,7 +2,8 @@
 use Rattle.std.specs.Prelude.{◌≡◌, ℕ, ◌≤◌, List}
 use Rattle.engine_base.specs.Stats.{is_hit}
 use Rattle.queue_cache.specs.Lru.{lru}
-use Rattle.queue_cache.specs.QueueCache.{QueueSetup, outcome_after, state_after}
+use Rattle.queue_cache.specs.declared.design.QueueSetup.{QueueSetup}
+use Rattle.queue_cache.specs.QueueCache.{outcome_after, state_after}
 use Rattle.stack_distances.specs.Distances.{distance, is_within, hits_within, stats_within}
 
 -- An access is a hit of Lru exactly where its distance is at most the capacity.

@@ -1,7 +1,8 @@
 //! The hits of Lru at every capacity.
 ghost use Rattle.std.specs.Prelude.{◌≡◌, ◌+◌, ℕ, List, ◌≤◌, IfOk};
 ghost use Rattle.queue_cache.specs.Lru.{lru};
-ghost use Rattle.queue_cache.specs.QueueCache.{QueueSetup, state_after};
+ghost use Rattle.queue_cache.specs.declared.design.QueueSetup.{QueueSetup};
+ghost use Rattle.queue_cache.specs.QueueCache.{state_after};
 ghost use Rattle.stack_distances.specs.Curve.{curve_of};
 ghost use Rattle.stack_distances.specs.Distances.{stats_by};
 

@@ -1,7 +1,8 @@
 //! The hits of Lru at a capacity, by a window over the trace.
 ghost use Rattle.std.specs.Prelude.{◌≡◌, ◌+◌, ◌<◌, ◌≤◌, IfOk, length};
 ghost use Rattle.queue_cache.specs.Lru.{lru};
-ghost use Rattle.queue_cache.specs.QueueCache.{QueueSetup, state_after};
+ghost use Rattle.queue_cache.specs.declared.design.QueueSetup.{QueueSetup};
+ghost use Rattle.queue_cache.specs.QueueCache.{state_after};
 ghost use Rattle.stack_distances.specs.Window.{IsWindow};
 
 use crate::curve::stats_by;

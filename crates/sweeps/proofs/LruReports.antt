@@ -4,7 +4,8 @@ use Rattle.step_record.specs.declared.job.Policy.TheVariants.{Lru}
 use Rattle.engine_base.proofs.Machine.{counted}
 use Rattle.engine_base.specs.Stats.{stats_of}
 use Rattle.queue_cache.specs.Lru.{lru}
-use Rattle.queue_cache.specs.QueueCache.{QueueSetup, queue_machine, state_after}
+use Rattle.queue_cache.specs.declared.design.QueueSetup.{QueueSetup}
+use Rattle.queue_cache.specs.QueueCache.{queue_machine, state_after}
 use Rattle.queue_cache.proofs.Balance.{queue-counting}
 use Rattle.policies.specs.Design.{Job, queue_setup}
 use Rattle.policies.specs.AnyPolicy.{outcomes_by, stats_on}
