@@ -21,7 +21,8 @@ use Rattle.segments.specs.Queues.{residents_in}
 pub use Rattle.policies.specs.declared.any_policy.AnyPolicy.{AnyPolicy}
 use Rattle.policies.specs.declared.design.Design.TheVariants.{KnowsTrace, Queues as OfQueues, Demand as OfDemand, Adaptive as OfAdaptive}
 use Rattle.policies.specs.Design.{design_of, queue_setup}
-use Rattle.policies.specs.AnyPolicy.{Design, Stats, HasAccessed, adaptive_engine, demand_engine, outcomes_on, queues_engine}
+use Rattle.policies.specs.declared.design.Design.{Design}
+use Rattle.policies.specs.AnyPolicy.{Stats, HasAccessed, adaptive_engine, demand_engine, outcomes_on, queues_engine}
 
 -- ---- by the definitions
 

@@ -13,7 +13,8 @@ use Rattle.queue_cache.specs.declared.design.Layout.TheVariants.{OneQueue, TwoQu
 use Rattle.queue_cache.specs.Design.{rules_by}
 use Rattle.policies.specs.declared.design.Design.TheVariants.{KnowsTrace, Queues, Demand, Adaptive}
 use Rattle.policies.specs.Design.{design_of}
-use Rattle.policies.specs.AnyPolicy.{Design, adaptive_engine}
+use Rattle.policies.specs.declared.design.Design.{Design}
+use Rattle.policies.specs.AnyPolicy.{adaptive_engine}
 pub use Rattle.debug_policies.specs.declared.window.Window.{Window}
 use Rattle.debug_policies.specs.declared.window.Window.TheVariants.{Absent, Fixed, Moving}
 
