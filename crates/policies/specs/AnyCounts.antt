@@ -11,7 +11,8 @@ use Rattle.clairvoyant.specs.Clairvoyant.{ClairvoyantState, clairvoyant_act}
 use Rattle.clairvoyant.specs.StepCount.{act_counts as optimal_counts, act_ends as optimal_ends}
 use Rattle.demand_cache.specs.DemandCache.{demand_access, demand_count}
 use Rattle.policies.specs.declared.any_policy.AnyPolicy.TheVariants.{Queues, Optimal, Demand, Adaptive}
-use Rattle.queue_cache.specs.QueueStep.{queue_access, queue_count, queue_pace}
+use Rattle.queue_cache.specs.QueueCache.{queue_access}
+use Rattle.queue_cache.specs.QueueStep.{queue_count, queue_pace}
 use Rattle.queue_cache.specs.QueuePace.{paced-by}
 use Rattle.policies.specs.AnyPolicy.{AnyPolicy, stats_in}
 use Rattle.policies.specs.AnyStep.{any_act, any_pace}

@@ -161,7 +161,7 @@ module _ (s : QueueSetup) (is_lru : s.design ≡ lru) (room : 1 ≤ s.config.cap
   from-outcomes past (k ∷ ks) =
       ap (λ o. o ∷ outcomes_of_all queue_access (queue_access k (state_after s past)).1 ks) (outcome-lru s is_lru room past k)
       ∙ ap (λ l. lru_outcome s.config.capacity past k ∷ l)
-        (ap (λ d. outcomes_of_all queue_access d ks) (sym (next (queue_machine s) past k)) ∙ from-outcomes (past ++ k ∷ []) ks)
+      (ap (λ d. outcomes_of_all queue_access d ks) (sym (next (queue_machine s) past k)) ∙ from-outcomes (past ++ k ∷ []) ks)
 
   all-outcomes : (keys : List ℕ) → outcomes_after s keys ≡ lru_outcomes s.config.capacity [] keys
   all-outcomes keys = from-outcomes [] keys
