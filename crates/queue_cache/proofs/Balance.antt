@@ -1,6 +1,6 @@
 -- What a cache of queues keeps of its items, and of its residents.
 use Rattle.std.proofs.lemmas.Bool.Decides.{nat_tests}
-use Rattle.std.proofs.Common.{◌≡◌, ℕ, ◌≤◌, List, length, ◌∙◌, sym, refl, arith}
+use Rattle.std.proofs.Common.{ℕ, List, ◌∙◌, sym, refl, arith}
 use Rattle.engine_base.specs.Machine.{IsCounting}
 use Rattle.engine_base.proofs.Machine.{stands}
 use Rattle.segments.specs.Items.{nodeless_item}

@@ -15,7 +15,7 @@ use Rattle.engine_base.specs.Stats.{is_hit, is_miss, is_eviction, is_rejection, 
 use Rattle.engine_base.proofs.Counting.{count-cons, hits-misses}
 use Rattle.engine_base.proofs.Machine.{next, counted as stats-counted}
 use Rattle.queue_cache.specs.declared.design.QueueSetup.{QueueSetup}
-use Rattle.queue_cache.specs.QueueCache.{queue_access, queue_machine, state_after, outcomes_after, outcome_after}
+use Rattle.queue_cache.specs.QueueCache.{queue_access, queue_machine, state_after, outcomes_after}
 use Rattle.queue_cache.proofs.Balance.{queue-counting}
 use Rattle.queue_cache.proofs.OneQueue.{outcome-lru}
 use Rattle.stack_distances.specs.Theorems.{LruHits, LruCounts}
