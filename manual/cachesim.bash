@@ -14,7 +14,7 @@ _cachesim_words() {
     'cachesim run:--spread') echo 'mixed plain' ;;
     'cachesim run:--format') echo 'lirs arc' ;;
     'cachesim run:--batch') echo '' ;;
-    'cachesim run:'*) echo 'lru slru tinylfu-lru tinylfu-slru wtinylfu clairvoyant fifo clock sieve s3-fifo 2q arc caffeine --capacity --main --small --in --out --period --spread --format --long --batch -h --help' ;;
+    'cachesim run:'*) echo 'lru slru tinylfu-lru tinylfu-slru wtinylfu clairvoyant fifo clock sieve s3-fifo 2q arc caffeine car --capacity --main --small --in --out --period --spread --format --long --batch -h --help' ;;
     'cachesim sweep:--main') echo '' ;;
     'cachesim sweep:--small') echo '' ;;
     'cachesim sweep:--in') echo '' ;;
@@ -22,7 +22,7 @@ _cachesim_words() {
     'cachesim sweep:--period') echo '' ;;
     'cachesim sweep:--spread') echo 'mixed plain' ;;
     'cachesim sweep:--format') echo 'lirs arc' ;;
-    'cachesim sweep:--policy') echo 'lru slru tinylfu-lru tinylfu-slru wtinylfu clairvoyant fifo clock sieve s3-fifo 2q arc caffeine' ;;
+    'cachesim sweep:--policy') echo 'lru slru tinylfu-lru tinylfu-slru wtinylfu clairvoyant fifo clock sieve s3-fifo 2q arc caffeine car' ;;
     'cachesim sweep:'*) echo '--main --small --in --out --period --spread --format --long --policy -h --help' ;;
     'cachesim intervals:--capacity') echo '' ;;
     'cachesim intervals:--every') echo '' ;;
@@ -33,7 +33,7 @@ _cachesim_words() {
     'cachesim intervals:--period') echo '' ;;
     'cachesim intervals:--spread') echo 'mixed plain' ;;
     'cachesim intervals:--format') echo 'lirs arc' ;;
-    'cachesim intervals:'*) echo 'lru slru tinylfu-lru tinylfu-slru wtinylfu clairvoyant fifo clock sieve s3-fifo 2q arc caffeine --capacity --every --main --small --in --out --period --spread --format --long -h --help' ;;
+    'cachesim intervals:'*) echo 'lru slru tinylfu-lru tinylfu-slru wtinylfu clairvoyant fifo clock sieve s3-fifo 2q arc caffeine car --capacity --every --main --small --in --out --period --spread --format --long -h --help' ;;
     'cachesim part:--capacity') echo '' ;;
     'cachesim part:--main') echo '' ;;
     'cachesim part:--small') echo '' ;;
@@ -42,8 +42,8 @@ _cachesim_words() {
     'cachesim part:--period') echo '' ;;
     'cachesim part:--spread') echo 'mixed plain' ;;
     'cachesim part:--format') echo 'lirs arc' ;;
-    'cachesim part:--first') echo 'lru slru tinylfu-lru tinylfu-slru wtinylfu clairvoyant fifo clock sieve s3-fifo 2q arc caffeine' ;;
-    'cachesim part:--second') echo 'lru slru tinylfu-lru tinylfu-slru wtinylfu clairvoyant fifo clock sieve s3-fifo 2q arc caffeine' ;;
+    'cachesim part:--first') echo 'lru slru tinylfu-lru tinylfu-slru wtinylfu clairvoyant fifo clock sieve s3-fifo 2q arc caffeine car' ;;
+    'cachesim part:--second') echo 'lru slru tinylfu-lru tinylfu-slru wtinylfu clairvoyant fifo clock sieve s3-fifo 2q arc caffeine car' ;;
     'cachesim part:'*) echo '--capacity --main --small --in --out --period --spread --format --long --first --second -h --help' ;;
     'cachesim compare:--capacity') echo '' ;;
     'cachesim compare:--every') echo '' ;;
@@ -54,8 +54,8 @@ _cachesim_words() {
     'cachesim compare:--period') echo '' ;;
     'cachesim compare:--spread') echo 'mixed plain' ;;
     'cachesim compare:--format') echo 'lirs arc' ;;
-    'cachesim compare:--first') echo 'lru slru tinylfu-lru tinylfu-slru wtinylfu clairvoyant fifo clock sieve s3-fifo 2q arc caffeine' ;;
-    'cachesim compare:--second') echo 'lru slru tinylfu-lru tinylfu-slru wtinylfu clairvoyant fifo clock sieve s3-fifo 2q arc caffeine' ;;
+    'cachesim compare:--first') echo 'lru slru tinylfu-lru tinylfu-slru wtinylfu clairvoyant fifo clock sieve s3-fifo 2q arc caffeine car' ;;
+    'cachesim compare:--second') echo 'lru slru tinylfu-lru tinylfu-slru wtinylfu clairvoyant fifo clock sieve s3-fifo 2q arc caffeine car' ;;
     'cachesim compare:'*) echo '--capacity --every --main --small --in --out --period --spread --format --long --first --second -h --help' ;;
     'cachesim sample:--rate') echo '1/2 1/4 1/8 1/16 1/32 1/64 1/128 1/256 1/512 1/1024 1/2048 1/4096 1/8192 1/16384 1/32768 1/65536 1/131072 1/262144 1/524288 1/1048576' ;;
     'cachesim sample:--seed') echo '' ;;
@@ -81,8 +81,8 @@ _cachesim_words() {
     'cachesim debug:--period') echo '' ;;
     'cachesim debug:--spread') echo 'mixed plain' ;;
     'cachesim debug:--format') echo 'lirs arc' ;;
-    'cachesim debug:--first') echo 'lru slru tinylfu-lru tinylfu-slru wtinylfu clairvoyant fifo clock sieve s3-fifo 2q arc caffeine' ;;
-    'cachesim debug:--second') echo 'lru slru tinylfu-lru tinylfu-slru wtinylfu clairvoyant fifo clock sieve s3-fifo 2q arc caffeine' ;;
+    'cachesim debug:--first') echo 'lru slru tinylfu-lru tinylfu-slru wtinylfu clairvoyant fifo clock sieve s3-fifo 2q arc caffeine car' ;;
+    'cachesim debug:--second') echo 'lru slru tinylfu-lru tinylfu-slru wtinylfu clairvoyant fifo clock sieve s3-fifo 2q arc caffeine car' ;;
     'cachesim debug:--trace') echo '<FILE>' ;;
     'cachesim debug:'*) echo '--capacity --main --small --in --out --period --spread --format --first --second --trace -h --help' ;;
     'cachesim replay:--capacity') echo '' ;;
@@ -97,7 +97,7 @@ _cachesim_words() {
     'cachesim replay:--limit') echo '' ;;
     'cachesim replay:'*) echo '--capacity --main --small --in --out --period --spread --journal --stripes --limit -h --help' ;;
     'cachesim help:'*) echo 'run sweep intervals part compare sample drive debug replay' ;;
-    'cachesim-survey:--policy') echo 'lru slru tinylfu-lru tinylfu-slru wtinylfu clairvoyant fifo clock sieve s3-fifo 2q arc caffeine' ;;
+    'cachesim-survey:--policy') echo 'lru slru tinylfu-lru tinylfu-slru wtinylfu clairvoyant fifo clock sieve s3-fifo 2q arc caffeine car' ;;
     'cachesim-survey:--capacity') echo '' ;;
     'cachesim-survey:--percent') echo '' ;;
     'cachesim-survey:--reach') echo '' ;;
@@ -121,7 +121,7 @@ _cachesim_words() {
     'cachesim-plot:--options') echo '' ;;
     'cachesim-plot:'*) echo '<FILE> -h --help --png --below-optimal --after --sampled --accesses --steps --y --title --trace --options --commands' ;;
     'cachesim-corpus:'*) echo 'run report -h --help' ;;
-    'cachesim-corpus run:--policy') echo 'lru slru tinylfu-lru tinylfu-slru wtinylfu clairvoyant fifo clock sieve s3-fifo 2q arc caffeine' ;;
+    'cachesim-corpus run:--policy') echo 'lru slru tinylfu-lru tinylfu-slru wtinylfu clairvoyant fifo clock sieve s3-fifo 2q arc caffeine car' ;;
     'cachesim-corpus run:--percent') echo '' ;;
     'cachesim-corpus run:--format') echo 'lirs arc' ;;
     'cachesim-corpus run:--jobs') echo '' ;;
@@ -129,9 +129,9 @@ _cachesim_words() {
     'cachesim-corpus run:--out') echo '<FILE>' ;;
     'cachesim-corpus run:--hosts') echo '<FILE>' ;;
     'cachesim-corpus run:'*) echo '<FILE> -h --help --policy --percent --format --jobs --program --out --hosts --send --slurm' ;;
-    'cachesim-corpus report:--baseline') echo 'lru slru tinylfu-lru tinylfu-slru wtinylfu clairvoyant fifo clock sieve s3-fifo 2q arc caffeine' ;;
+    'cachesim-corpus report:--baseline') echo 'lru slru tinylfu-lru tinylfu-slru wtinylfu clairvoyant fifo clock sieve s3-fifo 2q arc caffeine car' ;;
     'cachesim-corpus report:--plot') echo '<FILE>' ;;
-    'cachesim-corpus report:--scatter') echo 'lru slru tinylfu-lru tinylfu-slru wtinylfu clairvoyant fifo clock sieve s3-fifo 2q arc caffeine' ;;
+    'cachesim-corpus report:--scatter') echo 'lru slru tinylfu-lru tinylfu-slru wtinylfu clairvoyant fifo clock sieve s3-fifo 2q arc caffeine car' ;;
     'cachesim-corpus report:'*) echo '<FILE> -h --help --baseline --csv --plot --scatter' ;;
     'cachesim-sample:--rate') echo '' ;;
     'cachesim-sample:--seed') echo '' ;;

@@ -19,7 +19,7 @@ complete -c cachesim -n '__cachesim_is' -a replay -d 'Answers commands about the
 complete -c cachesim -n '__cachesim_is' -a help -d 'Print this message or the help of the given subcommand(s)'
 complete -c cachesim -n '__cachesim_is' -s h -l help -d 'Print help'
 complete -c cachesim -n '__cachesim_is' -s V -l version -d 'Print version'
-complete -c cachesim -n '__cachesim_is run' -a 'lru slru tinylfu-lru tinylfu-slru wtinylfu clairvoyant fifo clock sieve s3-fifo 2q arc caffeine' -d POLICY
+complete -c cachesim -n '__cachesim_is run' -a 'lru slru tinylfu-lru tinylfu-slru wtinylfu clairvoyant fifo clock sieve s3-fifo 2q arc caffeine car' -d POLICY
 complete -c cachesim -n '__cachesim_is run' -l capacity -x -d 'How many entries the cache holds, from 1 to 1048576'
 complete -c cachesim -n '__cachesim_is run' -l main -x -d 'How much of the capacity of wtinylfu, and of caffeine at first, is the main part, in percent, from 0 to 99; the rest is the window'
 complete -c cachesim -n '__cachesim_is run' -l small -x -d 'How much of the capacity of s3-fifo is its small queue, in percent, from 1 to 99'
@@ -39,9 +39,9 @@ complete -c cachesim -n '__cachesim_is sweep' -l period -x -d 'After how many ac
 complete -c cachesim -n '__cachesim_is sweep' -l spread -x -a 'mixed plain' -d 'How keys are spread over the columns of a sketch: mixed by a hash, plain by remainders'
 complete -c cachesim -n '__cachesim_is sweep' -l format -x -a 'lirs arc' -d 'The format of the trace: lirs has a block number a line, arc a first block and how many blocks'
 complete -c cachesim -n '__cachesim_is sweep' -l long -d 'The trace may have 4294967295 accesses and 2^40 bytes, in place of 16777216 and 2^30; not for clairvoyant'
-complete -c cachesim -n '__cachesim_is sweep' -l policy -x -a 'lru slru tinylfu-lru tinylfu-slru wtinylfu clairvoyant fifo clock sieve s3-fifo 2q arc caffeine' -d 'A policy to run; given more than once, the reports of the first come first'
+complete -c cachesim -n '__cachesim_is sweep' -l policy -x -a 'lru slru tinylfu-lru tinylfu-slru wtinylfu clairvoyant fifo clock sieve s3-fifo 2q arc caffeine car' -d 'A policy to run; given more than once, the reports of the first come first'
 complete -c cachesim -n '__cachesim_is sweep' -s h -l help -d 'Print help (see a summary with '\''-h'\'')'
-complete -c cachesim -n '__cachesim_is intervals' -a 'lru slru tinylfu-lru tinylfu-slru wtinylfu clairvoyant fifo clock sieve s3-fifo 2q arc caffeine' -d POLICY
+complete -c cachesim -n '__cachesim_is intervals' -a 'lru slru tinylfu-lru tinylfu-slru wtinylfu clairvoyant fifo clock sieve s3-fifo 2q arc caffeine car' -d POLICY
 complete -c cachesim -n '__cachesim_is intervals' -l capacity -x -d 'How many entries the cache holds, from 1 to 1048576'
 complete -c cachesim -n '__cachesim_is intervals' -l every -x -d 'How many accesses an interval has, from 1 to 16777216, or to 4294967295 with --long; the last one may have fewer'
 complete -c cachesim -n '__cachesim_is intervals' -l main -x -d 'How much of the capacity of wtinylfu, and of caffeine at first, is the main part, in percent, from 0 to 99; the rest is the window'
@@ -62,8 +62,8 @@ complete -c cachesim -n '__cachesim_is part' -l period -x -d 'After how many acc
 complete -c cachesim -n '__cachesim_is part' -l spread -x -a 'mixed plain' -d 'How keys are spread over the columns of a sketch: mixed by a hash, plain by remainders'
 complete -c cachesim -n '__cachesim_is part' -l format -x -a 'lirs arc' -d 'The format of the trace: lirs has a block number a line, arc a first block and how many blocks'
 complete -c cachesim -n '__cachesim_is part' -l long -d 'The trace may have 4294967295 accesses and 2^40 bytes, in place of 16777216 and 2^30; not for clairvoyant'
-complete -c cachesim -n '__cachesim_is part' -l first -x -a 'lru slru tinylfu-lru tinylfu-slru wtinylfu clairvoyant fifo clock sieve s3-fifo 2q arc caffeine' -d 'The one policy, by a word of `run`'
-complete -c cachesim -n '__cachesim_is part' -l second -x -a 'lru slru tinylfu-lru tinylfu-slru wtinylfu clairvoyant fifo clock sieve s3-fifo 2q arc caffeine' -d 'The other policy, by a word of `run`'
+complete -c cachesim -n '__cachesim_is part' -l first -x -a 'lru slru tinylfu-lru tinylfu-slru wtinylfu clairvoyant fifo clock sieve s3-fifo 2q arc caffeine car' -d 'The one policy, by a word of `run`'
+complete -c cachesim -n '__cachesim_is part' -l second -x -a 'lru slru tinylfu-lru tinylfu-slru wtinylfu clairvoyant fifo clock sieve s3-fifo 2q arc caffeine car' -d 'The other policy, by a word of `run`'
 complete -c cachesim -n '__cachesim_is part' -s h -l help -d 'Print help (see a summary with '\''-h'\'')'
 complete -c cachesim -n '__cachesim_is compare' -l capacity -x -d 'How many entries the cache holds, from 1 to 1048576'
 complete -c cachesim -n '__cachesim_is compare' -l every -x -d 'A row for each interval of M accesses, from 1 to 16777216, or to 4294967295 with --long; the last one may have fewer'
@@ -75,8 +75,8 @@ complete -c cachesim -n '__cachesim_is compare' -l period -x -d 'After how many 
 complete -c cachesim -n '__cachesim_is compare' -l spread -x -a 'mixed plain' -d 'How keys are spread over the columns of a sketch: mixed by a hash, plain by remainders'
 complete -c cachesim -n '__cachesim_is compare' -l format -x -a 'lirs arc' -d 'The format of the trace: lirs has a block number a line, arc a first block and how many blocks'
 complete -c cachesim -n '__cachesim_is compare' -l long -d 'The trace may have 4294967295 accesses and 2^40 bytes, in place of 16777216 and 2^30; not for clairvoyant'
-complete -c cachesim -n '__cachesim_is compare' -l first -x -a 'lru slru tinylfu-lru tinylfu-slru wtinylfu clairvoyant fifo clock sieve s3-fifo 2q arc caffeine' -d 'The one policy, by a word of `run`'
-complete -c cachesim -n '__cachesim_is compare' -l second -x -a 'lru slru tinylfu-lru tinylfu-slru wtinylfu clairvoyant fifo clock sieve s3-fifo 2q arc caffeine' -d 'The other policy, by a word of `run`'
+complete -c cachesim -n '__cachesim_is compare' -l first -x -a 'lru slru tinylfu-lru tinylfu-slru wtinylfu clairvoyant fifo clock sieve s3-fifo 2q arc caffeine car' -d 'The one policy, by a word of `run`'
+complete -c cachesim -n '__cachesim_is compare' -l second -x -a 'lru slru tinylfu-lru tinylfu-slru wtinylfu clairvoyant fifo clock sieve s3-fifo 2q arc caffeine car' -d 'The other policy, by a word of `run`'
 complete -c cachesim -n '__cachesim_is compare' -s h -l help -d 'Print help (see a summary with '\''-h'\'')'
 complete -c cachesim -n '__cachesim_is sample' -l rate -x -a '1/2 1/4 1/8 1/16 1/32 1/64 1/128 1/256 1/512 1/1024 1/2048 1/4096 1/8192 1/16384 1/32768 1/65536 1/131072 1/262144 1/524288 1/1048576' -d 'How many of the blocks: one in N, by a hash of its number'
 complete -c cachesim -n '__cachesim_is sample' -l seed -x -d 'Another number keeps other blocks, from 0 to 18446744073709551615'
@@ -102,8 +102,8 @@ complete -c cachesim -n '__cachesim_is debug' -l out -x -d 'How many keys that l
 complete -c cachesim -n '__cachesim_is debug' -l period -x -d 'After how many accesses caffeine moves its window, from 1 to 4294967295, though no fewer than its entries; by itself 10 an entry'
 complete -c cachesim -n '__cachesim_is debug' -l spread -x -a 'mixed plain' -d 'How keys are spread over the columns of a sketch: mixed by a hash, plain by remainders'
 complete -c cachesim -n '__cachesim_is debug' -l format -x -a 'lirs arc' -d 'The format of the trace: lirs has a block number a line, arc a first block and how many blocks'
-complete -c cachesim -n '__cachesim_is debug' -l first -x -a 'lru slru tinylfu-lru tinylfu-slru wtinylfu clairvoyant fifo clock sieve s3-fifo 2q arc caffeine' -d 'The one policy, by a word of `run`'
-complete -c cachesim -n '__cachesim_is debug' -l second -x -a 'lru slru tinylfu-lru tinylfu-slru wtinylfu clairvoyant fifo clock sieve s3-fifo 2q arc caffeine' -d 'The other policy, by a word of `run`'
+complete -c cachesim -n '__cachesim_is debug' -l first -x -a 'lru slru tinylfu-lru tinylfu-slru wtinylfu clairvoyant fifo clock sieve s3-fifo 2q arc caffeine car' -d 'The one policy, by a word of `run`'
+complete -c cachesim -n '__cachesim_is debug' -l second -x -a 'lru slru tinylfu-lru tinylfu-slru wtinylfu clairvoyant fifo clock sieve s3-fifo 2q arc caffeine car' -d 'The other policy, by a word of `run`'
 complete -c cachesim -n '__cachesim_is debug' -l trace -r -F -d 'The file of the trace, of at most 2^30 bytes'
 complete -c cachesim -n '__cachesim_is debug' -s h -l help -d 'Print help (see a summary with '\''-h'\'')'
 complete -c cachesim -n '__cachesim_is replay' -l capacity -x -d 'How many entries the cache holds, from 1 to 1048576'
@@ -122,7 +122,7 @@ complete -c cachesim -n '__cachesim_is help' -a 'run sweep intervals part compar
 complete -c cachesim-survey -f
 complete -c cachesim-survey -s h -l help -d 'show this help message and exit'
 complete -c cachesim-survey -F
-complete -c cachesim-survey -l policy -x -a 'lru slru tinylfu-lru tinylfu-slru wtinylfu clairvoyant fifo clock sieve s3-fifo 2q arc caffeine' -d 'a column; also more than once (at most eight of the program'\''s)'
+complete -c cachesim-survey -l policy -x -a 'lru slru tinylfu-lru tinylfu-slru wtinylfu clairvoyant fifo clock sieve s3-fifo 2q arc caffeine car' -d 'a column; also more than once (at most eight of the program'\''s)'
 complete -c cachesim-survey -l capacity -x -d 'a capacity of the policies, in place of parts of the footprint; also more than once'
 complete -c cachesim-survey -l percent -x -d 'a part of the footprint in percent, in place of 1, 2, 5, 10, 20, 50; also more than once'
 complete -c cachesim-survey -l reach -x -d 'a hit ratio in percent: search for the smallest capacity of each policy that has it; a larger one may have less again, but not of lru and clairvoyant'
@@ -159,7 +159,7 @@ complete -c cachesim-corpus -n '__cachesim_is' -a report -d 'prints what the job
 complete -c cachesim-corpus -n '__cachesim_is' -s h -l help -d 'show this help message and exit'
 complete -c cachesim-corpus -n '__cachesim_is run' -s h -l help -d 'show this help message and exit'
 complete -c cachesim-corpus -n '__cachesim_is run' -F
-complete -c cachesim-corpus -n '__cachesim_is run' -l policy -x -a 'lru slru tinylfu-lru tinylfu-slru wtinylfu clairvoyant fifo clock sieve s3-fifo 2q arc caffeine' -d 'a policy; also more than once (fifo and those that cachesim-survey shows)'
+complete -c cachesim-corpus -n '__cachesim_is run' -l policy -x -a 'lru slru tinylfu-lru tinylfu-slru wtinylfu clairvoyant fifo clock sieve s3-fifo 2q arc caffeine car' -d 'a policy; also more than once (fifo and those that cachesim-survey shows)'
 complete -c cachesim-corpus -n '__cachesim_is run' -l percent -x -d 'a size of the cache in percent of the footprint; also more than once (1 and 10)'
 complete -c cachesim-corpus -n '__cachesim_is run' -l format -x -a 'lirs arc' -d 'the format of all traces (lirs)'
 complete -c cachesim-corpus -n '__cachesim_is run' -l jobs -x -d 'how many jobs at once, on each host (here as many as there are processors and memory for)'
@@ -170,10 +170,10 @@ complete -c cachesim-corpus -n '__cachesim_is run' -l send -d 'with --hosts: cop
 complete -c cachesim-corpus -n '__cachesim_is run' -l slurm -d 'run as a job array of Slurm, and wait for it'
 complete -c cachesim-corpus -n '__cachesim_is report' -s h -l help -d 'show this help message and exit'
 complete -c cachesim-corpus -n '__cachesim_is report' -F
-complete -c cachesim-corpus -n '__cachesim_is report' -l baseline -x -a 'lru slru tinylfu-lru tinylfu-slru wtinylfu clairvoyant fifo clock sieve s3-fifo 2q arc caffeine' -d 'whose misses are compared with (fifo)'
+complete -c cachesim-corpus -n '__cachesim_is report' -l baseline -x -a 'lru slru tinylfu-lru tinylfu-slru wtinylfu clairvoyant fifo clock sieve s3-fifo 2q arc caffeine car' -d 'whose misses are compared with (fifo)'
 complete -c cachesim-corpus -n '__cachesim_is report' -l csv -d 'the table as CSV, and what failed on standard error'
 complete -c cachesim-corpus -n '__cachesim_is report' -l plot -r -F -d 'draw boxes of the percentiles, as SVG, or as PNG where FILE ends so'
-complete -c cachesim-corpus -n '__cachesim_is report' -l scatter -x -a 'lru slru tinylfu-lru tinylfu-slru wtinylfu clairvoyant fifo clock sieve s3-fifo 2q arc caffeine' -d 'with --plot: a point a trace, by two policies'
+complete -c cachesim-corpus -n '__cachesim_is report' -l scatter -x -a 'lru slru tinylfu-lru tinylfu-slru wtinylfu clairvoyant fifo clock sieve s3-fifo 2q arc caffeine car' -d 'with --plot: a point a trace, by two policies'
 
 complete -c cachesim-sample -f
 complete -c cachesim-sample -s h -l help -d 'show this help message and exit'

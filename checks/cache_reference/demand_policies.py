@@ -221,3 +221,63 @@ class Arc(Demand):
 
     def residents(self):
         return self.t1 + self.t2
+
+
+class Car(Demand):
+    """The clocks `t1` and `t2` of keys that came once lately and keys that came again, each with a ghost, `b1` and `b2`. A hit
+    sets its key's bit. A key that a ghost has moves the size `p` that `t1` is to have, in whole numbers."""
+
+    def __init__(self, capacity):
+        super().__init__(capacity)
+        self.t1, self.t2, self.b1, self.b2, self.referenced, self.p = [], [], [], [], set(), 0
+
+    def hit(self, key):
+        self.referenced.add(key)
+
+    def replace(self):
+        while True:
+            queue, ghost = (self.t1, self.b1) if len(self.t1) >= max(1, self.p) else (self.t2, self.b2)
+            key = queue.pop(0)
+            if key not in self.referenced:
+                ghost.append(key)
+                return key
+            self.referenced.remove(key)
+            self.t2.append(key)
+
+    def forget(self):
+        if len(self.t1) + len(self.b1) == self.capacity:
+            self.b1.pop(0)
+        elif len(self.t1) + len(self.t2) + len(self.b1) + len(self.b2) == 2 * self.capacity:
+            self.b2.pop(0)
+
+    def miss(self, key, is_full):
+        is_new = key not in self.b1 and key not in self.b2
+        left = self.replace() if is_full else None
+        if is_full and is_new:
+            self.forget()
+        if is_new:
+            self.t1.append(key)
+            return left
+        if key in self.b1:
+            self.p = min(self.capacity, self.p + max(1, len(self.b2) // len(self.b1)))
+        else:
+            self.p = max(0, self.p - max(1, len(self.b1) // len(self.b2)))
+        (self.b1 if key in self.b1 else self.b2).remove(key)
+        self.t2.append(key)
+        return left
+
+    def residents(self):
+        return self.t1 + self.t2
+
+
+
+# How each is opened: of a capacity, the options of a call, and the keys to come.
+POLICIES = {
+    "fifo": lambda capacity, *_: Fifo(capacity),
+    "clock": lambda capacity, *_: Clock(capacity),
+    "sieve": lambda capacity, *_: Sieve(capacity),
+    "s3-fifo": lambda capacity, options, _: S3Fifo(capacity, options["small"]),
+    "2q": lambda capacity, options, _: TwoQ(capacity, options["in"], options["out"]),
+    "arc": lambda capacity, *_: Arc(capacity),
+    "car": lambda capacity, *_: Car(capacity),
+}

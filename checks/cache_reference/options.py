@@ -2,7 +2,7 @@
 from collections import namedtuple
 
 from .caffeine import Caffeine
-from .demand_policies import Arc, Clock, Fifo, S3Fifo, Sieve, TwoQ
+from .demand_policies import POLICIES as DEMAND_POLICIES
 from .policies import Clairvoyant, Lru, SegmentedLru, TinyLfu, WindowTinyLfu
 
 # A whole number within bounds, with what holds where it is not given: tools/reference has them all, and check_random asks
@@ -17,7 +17,7 @@ NUMBERS = {
 }
 DEFAULTS = {"spread": "mixed", **{name: number.default for name, number in NUMBERS.items()}}
 
-# How each policy is opened: of a capacity, options as those above, and the keys to come.
+# How each policy is opened: of a capacity, options as those above, and the keys to come; in the order of the program.
 POLICIES = {
     "lru": lambda capacity, *_: Lru(capacity),
     "slru": lambda capacity, *_: SegmentedLru(capacity),
@@ -25,12 +25,7 @@ POLICIES = {
     "tinylfu-slru": lambda capacity, options, _: TinyLfu(SegmentedLru(capacity), capacity, options["spread"]),
     "wtinylfu": lambda capacity, options, _: WindowTinyLfu(capacity, options["main"], options["spread"]),
     "clairvoyant": lambda capacity, _, keys: Clairvoyant(capacity, keys),
-    "fifo": lambda capacity, *_: Fifo(capacity),
-    "clock": lambda capacity, *_: Clock(capacity),
-    "sieve": lambda capacity, *_: Sieve(capacity),
-    "s3-fifo": lambda capacity, options, _: S3Fifo(capacity, options["small"]),
-    "2q": lambda capacity, options, _: TwoQ(capacity, options["in"], options["out"]),
-    "arc": lambda capacity, *_: Arc(capacity),
+    **DEMAND_POLICIES,
     "caffeine": lambda capacity, options, _: Caffeine(capacity, options["main"], options["spread"], options["period"]),
 }
 

@@ -1,8 +1,8 @@
--- CAR, "clock with adaptive replacement" (Bansal and Modha, FAST 2004, figure 2), in whole numbers. A new key joins t1, and
--- one that a ghost remembers t2; a hit sets its key's bit. In a full cache the oldest of t1 leaves for the ghost b1 where t1
--- has p keys or more, else the oldest of t2 for b2; one whose bit is set goes to the recent end of t2 in place of that, with
--- its bit cleared, and so on until a key left. p grows where a key of b1 comes again, and shrinks for one of b2. A bit is a
--- count of 0 or 1.
+-- CAR, "clock with adaptive replacement" (Bansal and Modha, FAST 2004, figure 2), in whole numbers. A new key joins t1,
+-- and one that a ghost remembers t2; a hit sets its key's bit. In a full cache the oldest of t1 leaves for the ghost b1
+-- where t1 has p keys or more, else the oldest of t2 for b2; one whose bit is set goes to the recent end of t2 in place
+-- of that, with its bit cleared, and so on until a key left. p grows where a key of b1 comes again, and shrinks for one
+-- of b2. A bit is a count of 0 or 1.
 use Rattle.std.specs.Prelude.{◌≡◌, ℕ, zero, suc, ◌+◌, ◌-◌, ◌*◌, ◌/◌, ◌≤◌, min, max, nat_lt, eqb, ◌==◌, Bool}
 use Rattle.std.specs.Prelude.{if◌then◌else◌, List, [], ◌∷◌, ◌++◌, length, drop}
 use Rattle.engine_base.specs.Keys.{has_key, keys_without}
@@ -109,7 +109,8 @@ after_recall p k s = record {
   p = p;
 }
 
--- a key that no ghost remembers joins t1; for one of b1 p goes up by b2 / b1, at least one, and for one of b2 down by b1 / b2
+-- a key that no ghost remembers joins t1; for one of b1 p goes up by b2 / b1, at least one, and for one of b2 down by
+-- b1 / b2
 abbrev pub after_join : ℕ → ℕ → CarGhost → CarState → CarState
 after_join c k NoGhost s = record s { t1 = s.t1 ++ uncounted_key k ∷ [] }
 after_join c k InB1 s = after_recall (min c (s.p + max 1 (length s.b2 / length s.b1))) k s

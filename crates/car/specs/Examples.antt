@@ -24,24 +24,24 @@ small_state = record {
 
 abbrev pub large_trace : List ℕ
 large_trace =
-    14 ∷ 10 ∷ 1 ∷ 7 ∷ 3 ∷ 1 ∷ 11 ∷ 2 ∷ 1 ∷ 1 ∷ 5 ∷ 6 ∷ 4 ∷ 11 ∷ 11 ∷ 11 ∷ 4 ∷ 12 ∷ 5 ∷ 3 ∷ 4 ∷ 1 ∷ 12 ∷ 12
-    ∷ 2 ∷ 6 ∷ 2 ∷ 4 ∷ 3 ∷ 13 ∷ 9 ∷ 3 ∷ 1 ∷ 6 ∷ 5 ∷ 12 ∷ 5 ∷ 8 ∷ 11 ∷ 13 ∷ 13 ∷ 4 ∷ 4 ∷ 3 ∷ 2 ∷ []
+    12 ∷ 9 ∷ 7 ∷ 6 ∷ 3 ∷ 3 ∷ 4 ∷ 7 ∷ 9 ∷ 1 ∷ 3 ∷ 10 ∷ 11 ∷ 7 ∷ 3 ∷ 7 ∷ 3 ∷ 6 ∷ 1 ∷ 1 ∷ 8 ∷ 11 ∷ 6 ∷ 10 ∷ 4 ∷ 9
+    ∷ 4 ∷ 1 ∷ 10 ∷ 12 ∷ 13 ∷ 5 ∷ 6 ∷ 3 ∷ 1 ∷ 2 ∷ 7 ∷ 2 ∷ 10 ∷ 1 ∷ 10 ∷ 9 ∷ 7 ∷ 1 ∷ 13 ∷ []
 
 abbrev pub large_outcomes : List Outcome
 large_outcomes =
-    Kept ∷ Kept ∷ Kept ∷ Kept ∷ Kept ∷ Hit ∷ Evicted 14 ∷ Evicted 10 ∷ Hit ∷ Hit ∷ Evicted 7
-    ∷ Evicted 3 ∷ Evicted 11 ∷ Evicted 2 ∷ Hit ∷ Hit ∷ Hit ∷ Evicted 5 ∷ Evicted 6 ∷ Evicted 1 ∷ Hit ∷ Evicted 12
-    ∷ Evicted 3 ∷ Hit ∷ Evicted 5 ∷ Evicted 1 ∷ Hit ∷ Hit ∷ Evicted 11 ∷ Evicted 6 ∷ Evicted 12 ∷ Hit ∷ Evicted 2
-    ∷ Evicted 4 ∷ Evicted 3 ∷ Evicted 13 ∷ Hit ∷ Evicted 9 ∷ Evicted 8 ∷ Evicted 11 ∷ Hit ∷ Evicted 1 ∷ Hit ∷ Evicted 6
-    ∷ Evicted 12 ∷ []
+    Kept ∷ Kept ∷ Kept ∷ Kept ∷ Kept ∷ Hit ∷ Evicted 12 ∷ Hit ∷ Hit ∷ Evicted 6 ∷ Hit ∷ Evicted 4 ∷ Evicted 1
+    ∷ Hit ∷ Hit ∷ Hit ∷ Hit ∷ Evicted 10 ∷ Evicted 11 ∷ Hit ∷ Evicted 9 ∷ Evicted 6 ∷ Evicted 7 ∷ Evicted 3
+    ∷ Evicted 11 ∷ Evicted 1 ∷ Hit ∷ Evicted 6 ∷ Hit ∷ Evicted 9 ∷ Evicted 1 ∷ Evicted 8 ∷ Evicted 12
+    ∷ Evicted 13 ∷ Evicted 5 ∷ Evicted 3 ∷ Evicted 2 ∷ Evicted 7 ∷ Hit ∷ Hit ∷ Hit ∷ Evicted 4 ∷ Evicted 6 ∷ Hit
+    ∷ Evicted 2 ∷ []
 
 abbrev pub large_state : CarState
 large_state = record {
-  t1 = counted 2 0 ∷ [];
-  t2 = counted 13 1 ∷ counted 4 1 ∷ counted 3 0 ∷ counted 5 0 ∷ [];
-  b1 = 9 ∷ 8 ∷ 11 ∷ [];
-  b2 = 6 ∷ 12 ∷ [];
-  p = 0;
+  t1 = [];
+  t2 = counted 10 0 ∷ counted 9 0 ∷ counted 7 0 ∷ counted 1 0 ∷ counted 13 0 ∷ [];
+  b1 = 5 ∷ 3 ∷ [];
+  b2 = 4 ∷ 6 ∷ 2 ∷ [];
+  p = 2;
 }
 
 pub record WorkedExamples : Type 0 where

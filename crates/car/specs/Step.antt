@@ -20,7 +20,8 @@ pub record IsReplaced (c p : ℕ) (s u : Queues) (r : Replaced) : Type 0 where
   pub stays : outs r.first.by ≡ 0
 
 -- a key left, or none, and then the item moved
-pub record IsJoined (l : Option Leaving) (o : Own) (i : Item) (s u : Queues) (gone : Left) (move : KeyMove) : Type 0 where
+pub record IsJoined (l : Option Leaving) (o : Own) (i : Item) (s u : Queues) (gone : Left) (move : KeyMove)
+    : Type 0 where
   pub left : IsLeft l s (after_leaving l s) gone
   pub few : outs gone.by ≤ 1
   pub own : IsOwn o i (after_leaving l s) u move

@@ -4,7 +4,7 @@ pub use Rattle.step_record.specs.declared.job.Job.{Job}
 pub use Rattle.step_record.specs.declared.job.Policy.{Policy}
 use Rattle.step_record.specs.declared.job.Policy.TheVariants.{Lru, SegmentedLru, TinyLfuLru, TinyLfuSegmented}
 use Rattle.step_record.specs.declared.job.Policy.TheVariants.{WindowTinyLfu, Clairvoyant, Fifo, Clock, Sieve, S3Fifo}
-use Rattle.step_record.specs.declared.job.Policy.TheVariants.{TwoQ, Arc, Caffeine}
+use Rattle.step_record.specs.declared.job.Policy.TheVariants.{TwoQ, Arc, Caffeine, Car}
 use Rattle.step_record.specs.declared.job.Tuning.{Tuning}
 use Rattle.engine_base.specs.PartSize.{part_size}
 use Rattle.demand_cache.specs.declared.demand_policy.DemandPolicy.TheVariants as demand
@@ -32,6 +32,7 @@ design_by S3Fifo t c = Demand (demand.S3Fifo (part_size t.small c))
 design_by TwoQ t c = Demand (demand.TwoQ record { kin = part_size t.kin c; kout = part_size t.kout c })
 design_by Arc t c = Demand demand.Arc
 design_by Caffeine t c = Adaptive
+design_by Car t c = Demand demand.Car
 
 -- the policy of a job
 abbrev pub design_of : Job → Design

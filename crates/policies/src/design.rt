@@ -48,6 +48,7 @@ pub fn design_of(job: &Job) -> Design
         })),
         Policy::Arc => Design::Demand(DemandPolicy::Arc),
         Policy::Caffeine => Design::Adaptive,
+        Policy::Car => Design::Demand(DemandPolicy::Car),
     }
 }
 

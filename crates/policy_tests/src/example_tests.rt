@@ -2,8 +2,9 @@
 use super::assertions::assert_equal;
 use Outcome::{Evicted, Hit, Kept, Rejected};
 use Policy::{
-    Arc, Caffeine, Clairvoyant, Clock, Fifo, Lru as LeastRecent, S3Fifo, SegmentedLru as Segmented,
-    Sieve, TinyLfuLru, TinyLfuSegmented, TwoQ, WindowTinyLfu as Windowed,
+    Arc, Caffeine, Car, Clairvoyant, Clock, Fifo, Lru as LeastRecent, S3Fifo,
+    SegmentedLru as Segmented, Sieve, TinyLfuLru, TinyLfuSegmented, TwoQ,
+    WindowTinyLfu as Windowed,
 };
 use policies::AnyPolicy;
 use std::alloc::Global;
@@ -224,7 +225,7 @@ const OPTIMAL: [Example; 2] = [
 ];
 
 // The policies that keep each missed key: by their definitions, step by step.
-const DEMAND: [Example; 7] = [
+const DEMAND: [Example; 8] = [
     Example {
         policy: Fifo,
         capacity: 3,
@@ -325,6 +326,23 @@ const DEMAND: [Example; 7] = [
         ],
         counted: [6, 1, 5, 2, 0],
         residents: &[4, 1, 2],
+    },
+    Example {
+        policy: Car,
+        capacity: 3,
+        accesses: &[
+            (1, Kept),
+            (2, Kept),
+            (3, Kept),
+            (1, Hit),
+            (4, Evicted(2)),
+            (2, Evicted(3)),
+            (1, Hit),
+            (5, Evicted(4)),
+            (3, Evicted(5)),
+        ],
+        counted: [9, 2, 7, 4, 0],
+        residents: &[1, 2, 3],
     },
 ];
 
