@@ -13,9 +13,10 @@ from collections import namedtuple
 from pathlib import Path
 
 from checks import SECONDS, Wrong, call, expect, patience
+from lib.policies import POLICIES as LISTED
 
 POLICIES = ["lru", "slru", "tinylfu-lru", "tinylfu-slru", "wtinylfu", "clairvoyant"]
-EVERY = [*POLICIES, "fifo", "clock", "sieve", "s3-fifo", "2q", "arc", "caffeine"]
+EVERY = [*POLICIES, *(it for it in LISTED if it not in POLICIES)]
 
 # A name and a title of which gnuplot or a shell would run a part, if it read it as more than a text: each part makes a file
 # `made` in the folder of the call.

@@ -95,8 +95,8 @@ def check_columns(survey, folder):
 def check_width(survey, folder):
     """No table is wider than 100 columns, and each column is in it, also of all policies where they are as good as each other."""
     trace = file_of(folder, "trace", "".join(f"{it % 320}\n" for it in range(3200)))
-    # Of thirteen policies all columns but `best` fill a block, of twelve they leave room for it alone.
-    for policies in (EVERY, EVERY[:-1]):
+    # Of some of these numbers all columns but `best` fill a block, or leave room for it alone.
+    for policies in (EVERY, EVERY[:-1], EVERY[:-2]):
         words = survey, trace, "--program", fake(folder, "None if capacity >= distinct else 50", policies=policies)
         words += "--reach", "99", *(word for it in policies for word in ("--policy", it))
         whole = run(*words)[0]

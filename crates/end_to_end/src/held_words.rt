@@ -3,7 +3,7 @@ ghost use Rattle.std.specs.Prelude.{◌≡◌, ◌+◌, ◌-◌, ◌*◌, ◌/�
 ghost use Rattle.admission.specs.Frequency.{FrequencyData, halving_words};
 
 use journal::Session;
-use policies::WindowTinyLfu;
+use queue_cache::WindowTinyLfu;
 
 /// How many words the undo records of a session over WindowTinyLfu hold: those of one halving for each halving since
 /// the session was opened, at most 1 + steps / (5 * capacity).
