@@ -5,6 +5,7 @@ own; `program` is the built program. A test is a function `check_..` of a file `
 frame.py has. Each module names in MISTAKES what its tests have to find: mistakes_tests.py tries them.
 """
 import compileall
+import os
 import shutil
 import sys
 from pathlib import Path
@@ -13,11 +14,18 @@ import pytest
 
 sys.dont_write_bytecode = True
 TOP = Path(__file__).resolve().parent.parent.parent
+NEEDED = "gnuplot", "parallel", "rsync", "ssh", "sshd", "zstd", "slurmctld"
 sys.path += [str(TOP / "checks"), str(TOP / "tools")]
 
 
 def pytest_addoption(parser):
     parser.addoption("--program", type=Path, default=TOP / "crates/cachesim/out/cachesim", help="the program that scripts call")
+
+
+def pytest_terminal_summary(terminalreporter):
+    lacking = [it for it in NEEDED if not shutil.which(it, path=f"{os.environ['PATH']}:/usr/sbin:/sbin")]
+    if lacking:
+        terminalreporter.write_line(f"passed over: what needs {', '.join(lacking)}")
 
 
 @pytest.fixture(scope="session")

@@ -3,7 +3,6 @@ traces, of runs that were ended, and of jobs on other hosts.
 """
 import contextlib
 import fcntl
-import functools
 import hashlib
 import json
 import os
@@ -14,6 +13,7 @@ import socket
 import subprocess
 import sys
 import time
+import warnings
 from fractions import Fraction
 from pathlib import Path
 
@@ -98,9 +98,8 @@ def environments(folder):
         pass_over("GNU parallel")
 
 
-@functools.cache
 def pass_over(what):
-    print(f"tools/corpus: passed over, since this machine has no {what}", file=sys.stderr)
+    warnings.warn(f"passed over, since this machine has no {what}", stacklevel=2)
 
 
 def check_known_report(corpus, folder):
