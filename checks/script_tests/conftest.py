@@ -8,6 +8,7 @@ import compileall
 import os
 import shutil
 import sys
+import tempfile
 from pathlib import Path
 
 import pytest
@@ -44,8 +45,10 @@ def tools(tmp_path_factory):
 
 
 @pytest.fixture
-def folder(tmp_path):
-    return tmp_path
+def folder():
+    # Its name is short: a line at a terminal has to take it.
+    with tempfile.TemporaryDirectory() as name:
+        yield Path(name)
 
 
 def fixture_of(name):
