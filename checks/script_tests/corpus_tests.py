@@ -487,10 +487,10 @@ def check_slurm(corpus, folder, program):
 MISTAKES = {
     "percentiles from outside": Mistake(check_known_report, "lib/reductions.py", 'method="inclusive"', 'method="exclusive"'),
     "misses more": Mistake(check_known_report, "lib/reductions.py", "100 * (baseline - misses)", "100 * (misses - baseline)"),
-    "wins of one alone": Mistake(check_known_report, "lib/reductions.py", "more <= 0 for", "more < 0 for"),
+    "wins of one alone": Mistake(check_known_report, "lib/reductions.py", "count <= low for", "count < low for"),
     "a picture without its mean": Mistake(check_known_report, "lib/reductions.py", ", statistics.mean(it.parts))]\n            for", ", 0)]\n            for"),
     "a scatter of one policy": Mistake(check_known_report, "lib/reductions.py", "policy] for policy in pair", "pair[0]] for policy in pair"),
-    "a whole point for half": Mistake(check_beside_reference, "lib/reductions.py", "200 * more", "100 * more"),
+    "a whole point for half": Mistake(check_beside_reference, "lib/reductions.py", "200 * (misses - lowest)", "100 * (misses - lowest)"),
     "Belady's among the best": Mistake(check_beside_reference, "lib/reductions.py", "policy != OPTIMAL or", "True or"),
     "a size of another footprint": Mistake(check_beside_reference, "lib/measures.py", "footprint * percent / 100", "footprint * percent / 50"),
     "a footprint of short traces alone": Mistake(check_long, "lib/jobs.py", "[MAX_CAPACITY], part=LONG", "[MAX_CAPACITY]"),

@@ -107,8 +107,10 @@ def check_many(journal, folder):
 
 def check_large(journal, folder):
     """A journal of many steps."""
-    steps = "0 begin = busy\n" * 120000 + "0 put 5 = added 0\n"
-    expect_parts("many steps", run(journal, typed=f"cachesim journal 2\n{steps}steps 120001\n")[0], " 120001 ", "first after step 120001\n")
+    for count in (120000, 250000):
+        steps = "0 begin = busy\n" * count + "0 put 5 = added 0\n"
+        expect_parts("many steps", run(journal, typed=f"cachesim journal 2\n{steps}steps {count + 1}\n")[0],
+                     f" {count + 1} ", f"first after step {count + 1}\n")
 
 
 def check_ways(journal, folder):
