@@ -38,7 +38,7 @@ def check_begun(survey, folder):
             out = run("/bin/sh", "-c", script, "sh", sys.executable, survey, *words, "-", stdin=typed)[0]
         expect(f"without {count} lines", rows_of(out)[0]["accesses"], str(400 - count))
     packed = bytearray(gzip.compress(random.Random(1).randbytes(999).hex().encode()))
-    packed[len(packed) // 2] ^= 255
+    packed[10:30] = b"\xff" * 20
     for text in (packed, packed[:400], bytes.fromhex("28b52ffd") + b"no frame"):
         error = run(survey, *words, file_of(folder, "packed", bytes(text)), status=1)[1]
         expect_parts("what is packed", error.splitlines()[-1], "tools/survey: ", "packed: ")
@@ -51,7 +51,7 @@ def check_names(survey, folder):
         path = os.fsencode(folder) + b"/" + name
         with open(path, "wb") as file:
             file.write(b"1\n1\n")
-        ended = subprocess.run([sys.executable, survey, *words, path], capture_output=True, check=True)
+        ended = subprocess.run([sys.executable, survey, *words, path], capture_output=True, check=False)
         rows = list(csv.reader(io.StringIO(ended.stdout.decode(errors="surrogateescape"))))
         expect("the name", [os.fsencode(row[0]) for row in rows], [b"trace", path])
     for name in ("a\rb", "a\nb"):
