@@ -30,7 +30,8 @@ def curves_in(commands):
     curves, rest, lines = [], [], iter(commands.splitlines())
     for line in lines:
         if line.endswith("<< END"):
-            curves.append([tuple(map(float, it.split())) for it in iter(lambda: next(lines), "END")])
+            data = [tuple(map(float, it.split())) for it in iter(lambda: next(lines), "END")]
+            curves += [data] * line.startswith("$curve")
         else:
             rest.append(line)
     return curves, "\n".join(rest)
@@ -38,7 +39,7 @@ def curves_in(commands):
 
 def named_curves(rest):
     """The number of each curve and its name, by the colour that its line, its markers and its place in the legend have."""
-    parts = r"\$curve(\d+) .* linecolor rgb '(.*?)' .*\n.*\$curve\1 .* linecolor rgb '\2' .*\n.* linecolor rgb '\2' .* title '(.*)'"
+    parts = r"\$curve(\d+) .* linecolor rgb '(.*?)' .*\n(?:.*\$(?:sure|curve)\1 .* linecolor rgb '\2' .*\n)+.* linecolor rgb '\2' .* title '(.*)'"
     return [(number, name) for number, _, name in re.findall(parts, rest)]
 
 
@@ -53,7 +54,7 @@ def check_curves(plot, folder):
     curves, rest = drawn(plot, "--trace", "a_'\"\\", "--options=--main 80", path)
     expect("the curves", curves, [[(10, 20.4), (20, 30.7), (40, 50.1)], [(10, 45), (20, 50), (40, 60)]])
     expect_parts("around them", rest, "set key outside", "set logscale x", "'10' 10", "'40' 40", "'20' 20", "'60' 60", "yrange [20:60]",
-                 ' . "\\n" . \'a_\' . "\'" . \'"\\, 1000 accesses, --main 80\'', "title 'lru'", "title 'clairvoyant'", "terminal svg",
+                 ' . "\\n" . \'a_\' . "\'" . \'"\\, 1000 accesses, --main 80, thin: over 2 points between two places\'', "title 'lru'", "title 'clairvoyant'", "terminal svg",
                  "capacity (entries, logarithmic)")
     expect("whose curves they are", named_curves(rest), [("0", "lru"), ("1", "clairvoyant")])
     curves, rest = drawn(plot, "--below-optimal", "--y", "0:50", "--title", "A title of its own", path)
@@ -66,10 +67,10 @@ def check_curves(plot, folder):
 
 def check_dense(plot, folder):
     """Curves of many places have them all, in steps; one of a single place has that in its middle."""
-    for count, ends, every in ((160, "200:1790", 14), (80, "200:990", 7), (30, "200:490", 3), (29, "200:480", 1), (1, "199.5:200.5", 1)):
-        many = file_of(folder, "many.csv", SWEEP + sweep_rows("lru", *((200 + 10 * it, it) for it in range(count)), accesses=200))
+    for count, ends, every in ((320, "200:3390", 27), (160, "200:1790", 14), (80, "200:990", 7), (30, "200:490", 3), (29, "200:480", 1), (1, "199.5:200.5", 1)):
+        many = file_of(folder, "many.csv", SWEEP + sweep_rows("lru", *((200 + 10 * it, it) for it in range(count)), accesses=400))
         curves, rest = drawn(plot, many)
-        expect("a dense sweep", curves, [[(200 + 10 * it, it / 2) for it in range(count)]])
+        expect("a dense sweep", curves, [[(200 + 10 * it, it / 4) for it in range(count)]])
         expect_parts("its ends and markers", rest, f"set xrange [{ends}]", f"$curve0 every {every}::0 with points ")
         expect("its steps", ("with steps" in rest, "unset logscale" in rest, "logarithmic" in rest), (count > 29, True, False))
 
@@ -107,11 +108,37 @@ def check_styles(plot, folder):
     expect_parts("the colour of slru alone", drawn(plot, one)[1], f"rgb '{colours['slru']}'")
     two = file_of(folder, "two.csv", INTERVALS + interval_rows("lru", 10, 5, 6) + interval_rows("slru", 10, 5, 6) +
                   interval_rows("lru", 10, 5, 6, capacity=20) + interval_rows("slru", 10, 5, 6, capacity=20))
-    legend = re.findall(r"rgb '(#......)' .* dashtype (\S+) .* title '(\w+) (\d+)'", drawn(plot, two)[1])
+    legend = re.findall(r"rgb '(#......)' dashtype (\S+) .* title '(\w+) (\d+)'", drawn(plot, two)[1])
     expect("the first capacities", [(it[0], it[2]) for it in legend if it[3] == "9"],
            [(colours["lru"], "lru"), (colours["slru"], "slru")])
-    expect("curves of their own", len({it[:2] for it in legend}), 4)
-    expect_parts("an unknown policy", run(plot, "--commands", status=1, typed=SWEEP + sweep_rows("mine", (5, 1)))[1], "mine")
+    expect("curves of their own", [len({it[at] for it in legend}) for at in (0, 1)], [4, 2])
+
+
+def check_unknown(plot, folder):
+    """Up to four policies that no script knows are drawn beside all known ones, each in a style of its own."""
+    names = [*EVERY, "mine", "yours", "a 'third", "fourth"]
+    rest = drawn(plot, file_of(folder, "all.csv", SWEEP + "".join(sweep_rows(it, (5, 1), (6, 2)) for it in names)))[1]
+    legend = re.findall(r"linespoints linecolor rgb '(.*?)' dashtype (\S+) .* pointtype (\d+) ", rest)
+    expect("how many colours and dashes there are", [len({it[at] for it in legend}) for at in (0, 1)], [len(names)] * 2)
+    expect("curves of one marker", max(sum(it[2] == marker for it in legend) for *_, marker in legend) < 3, True)
+    many = SWEEP + "".join(sweep_rows(f"mine{it}", (5, 1)) for it in range(5))
+    expect_parts("five", run(plot, "--commands", status=1, typed=many)[1], "mine0, mine1, mine2, mine3, mine4: 5 unknown policies are more than the 4 ")
+
+
+def check_thin(plot, folder):
+    """A curve is thin between two places that are over two points apart, and each place has a mark."""
+    heights = 10, 12, 14.1, 14, 90, 91, 89.1
+    for count, steps in ((1, "lines"), (6, "steps")):
+        places = [(10 * at + 70 * it, height * 10 + it % 2) for it in range(count) for at, height in enumerate(heights, 1)]
+        rows = file_of(folder, "steep.csv", SWEEP + sweep_rows("lru", *((place, round(height)) for place, height in places), accesses=1000))
+        commands = run(plot, "--commands", rows)[0]
+        sure = commands.partition("$sure0 << END\n")[2].partition("END")[0].split("\n\n")
+        expect("its sure parts", [[int(line.split()[0]) for line in it.splitlines()] for it in sure[:3]], [[10, 20], [30, 40], [50, 60, 70]])
+        expect_parts("its lines", commands, f"plot $curve0 with {steps} linecolor rgb '#0072b2' dashtype 1 linewidth 0.6 notitle",
+                     f"$sure0 with {steps} linecolor rgb '#0072b2' dashtype 1 linewidth 2 notitle", "accesses, thin: over 2 points between two places'")
+        expect("marks at each place", "$curve0 with points linecolor rgb '#0072b2' pointtype 7 pointsize 0.25 notitle" in commands, count > 5)
+    sure = run(plot, "--commands", typed=SWEEP + sweep_rows("lru", (10, 20), (20, 22)))[0]
+    expect("none", ("thin" in sure, "$sure" in sure, "linewidth 2 notitle" in sure), (False, False, True))
 
 
 def check_refusals(plot, folder):
@@ -135,9 +162,13 @@ def check_refusals(plot, folder):
              ["line 3 is of lru at 9"]),
             ("a gap", INTERVALS + "lru,9,11,20,5,5,0,0,50.00\nclairvoyant,9,11,20,5,5,0,0,50.00\n", ["--below-optimal"],
              ["line 2 is of accesses from 11 on, and those from 1 on are missing"]),
+            ("two kinds", SWEEP + sweep_rows("lru", (10, 20)), [file_of(folder, "other.csv", INTERVALS + interval_rows("lru", 10, 5))],
+             ["rows of several kinds"]),
             ("a sample", INTERVALS + interval_rows("lru", 10, 5), ["--sampled", "1/8", "--accesses", "9"], ["intervals of a sample"])):
         path = file_of(folder, f"{name}.csv", text)
         expect_parts(name, run(plot, "--commands", *words, path, status=1)[1], *parts)
+    for ends in ("5:5", "0:5e-324", "-1:5", "5:101", "5"):
+        expect_parts(ends, run(plot, f"--y={ends}", path, status=2)[1], f"{ends} is no range LOW:HIGH")
     expect_quiet_interrupt(plot, folder, "--commands")
 
 
@@ -232,8 +263,13 @@ def check_unsafe_texts(plot, folder):
     expect("the commands around the texts", *map(without_texts, given))
     for option in ("--y", "--after", "--sampled", "--accesses"):
         run(plot, "--commands", f"{option}={UNSAFE}", paths[0], status=2, cwd=folder)
-    for field in ("lru", "5", "99", "capacity"):
-        run(plot, "--commands", status=1, typed=files.replace(field, UNSAFE.replace("\n", ""), 1))
+    name = UNSAFE.replace("\n", "")
+    for field in ("5", "99", "capacity"):
+        run(plot, "--commands", status=1, typed=files.replace(field, name, 1))
+    named = [run(plot, "--commands", typed=SWEEP + sweep_rows(it, (5, 1), (6, 2)))[0] for it in ("plain", name)]
+    expect("the commands around a policy's name", *map(without_texts, named))
+    files = SWEEP + sweep_rows(name, (5, 1), (6, 2))
+    words = [*words[:3], file_of(folder, "named.csv", files)]
     if shutil.which("gnuplot"):
         for kind in ([], ["--png"]):
             run(plot, *kind, *words, cwd=folder)
@@ -258,6 +294,16 @@ def check_pictures(plot, folder):
 
 
 MISTAKES = {
+    "thick where nothing is known": Mistake(check_thin, "plot", "SURE = 2", "SURE = 80"),
+    "thin from one point on": Mistake(check_thin, "plot", "SURE = 2", "SURE = 1"),
+    "thin where it falls": Mistake(check_thin, "plot", "abs(point[1] - before[1]) > SURE", "(before[1] - point[1]) > SURE"),
+    "places without a mark": Mistake(check_thin, "plot", "if every > 1 and not is_stepped:", "if False:"),
+    "unknown policies in one style": Mistake(check_unknown, "plot", "dict(zip(unknown, OTHERS))", "dict(zip(unknown, OTHERS[:1] * 4))"),
+    "a fifth unknown policy": Mistake(check_unknown, "plot", "if len(unknown) > len(OTHERS):", "if False:"),
+    "two kinds in one picture": Mistake(check_refusals, "plot", "if len(headers) > 1:", "if False:"),
+    "an axis of no height": Mistake(check_refusals, "plot", "low < low + 1e-6 <= high", "low < high"),
+    "two curves of a policy in one colour": Mistake(check_styles, "plot", "VARIANTS = [(4, \"1\", 1), (6, \"(14,4)\", 0.45)", "VARIANTS = [(4, \"1\", 1), (6, \"(14,4)\", 1)"),
+    "places over three hundred": Mistake(check_dense, "plot", "for _, end, height in curve.points]\n\n", "for _, end, height in curve.points[:300]]\n\n"),
     "a row that hides another": Mistake(check_refusals, "lib/curves.py", "other.begin < row.end if is_intervals else True", "False"),
     "slopes where steps are asked for": Mistake(check_curves, "plot", "(args.steps or places >= DENSE)", "places >= DENSE"),
     "a row below 0": Mistake(check_refusals, "lib/curves.py", "text.isdigit()", 'text.strip("-").isdigit()'),
@@ -269,7 +315,7 @@ MISTAKES = {
     "the last interval left out": Mistake(check_intervals, "plot", "in curve.points for place in (begin, end)]\n    return", "in curve.points[:-1] for place in (begin, end)]\n    return"),
     "a policy in the dash of another": Mistake(check_styles, "lib/policies.py", '8, "(6,3)"', '8, "1"'),
     "a policy in the colour of another": Mistake(check_styles, "lib/policies.py", '"#a50f15"', '"#000000"'),
-    "colours by the place of a curve": Mistake(check_styles, "plot", "shade_of(POLICIES[curve.policy].colour, part)",
+    "colours by the place of a curve": Mistake(check_styles, "plot", "shade_of(known[curve.policy].colour, part)",
                                                "shade_of(list(POLICIES.values())[marker].colour, part)"),
     "an axis without its last mark": Mistake(check_curves, "lib/pictures.py", "return sorted(marks)", "return sorted(marks)[:-1]"),
     "an axis without powers of ten": Mistake(check_marks, "lib/pictures.py", "for it in (1, 2, 5)]\n", "for it in (2, 5, 1)]\n"),
@@ -287,7 +333,7 @@ MISTAKES = {
     "texts in double quotes": Mistake(check_unsafe_texts, "lib/pictures.py", """return "'" + shown.replace(""", """return '"' + shown.replace('"', '\\\\"').replace("""),
     "an apostrophe that ends a text": Mistake(check_unsafe_texts, "lib/pictures.py", """.replace("'", """, """.replace("no", """),
     "a line feed that ends a text": Mistake(check_unsafe_texts, "lib/pictures.py", """.replace("\\n", """, """.replace("no", """),
-    "each curve as another policy's": Mistake(check_curves, "plot", 'yield f"$curve{at} with', 'yield f"$curve{len(curves) - 1 - at} with'),
+    "each curve as another policy's": Mistake(check_curves, "plot", 'yield f"$curve{at} {how}', 'yield f"$curve{len(curves) - 1 - at} {how}'),
     "the names of two curves changed over": Mistake(check_curves, "plot", "title {quoted(curve.name)}", "title {quoted(curves[len(curves) - 1 - at].name)}"),
     "curves of over a hundred places cut": Mistake(check_dense, "plot", "for _, end, height in curve.points]", "for _, end, height in curve.points[:100]]"),
     "level curves outside of the axis": Mistake(check_heights, "plot", "low, high = max(0, (low + high) / 2 - 0.5), (low + high) / 2 + 0.5", "low, high = 0, 0.5"),

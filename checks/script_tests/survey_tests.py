@@ -14,21 +14,107 @@ from frame import (EVERY, NOTING, POLICIES, UNSAFE, Mistake, expect, expect_full
 
 
 def check_best(survey, folder):
-    """A thousand accesses to twenty blocks, of which one comes once: all within half a point are the best."""
+    """A thousand accesses to twenty blocks, of which one comes once: all within half a point are the best, and of these that is the
+    first which loses least here and at the capacity beside it."""
     trace = file_of(folder, "trace", "".join(f"{it % 19}\n" for it in range(999)) + "500\n")
     percent = {("lru", 2): 10, ("slru", 2): 12, ("tinylfu-lru", 2): 11, ("wtinylfu", 2): 12, ("clairvoyant", 2): 30,
-               ("lru", 10): 40, ("slru", 10): 30, ("clairvoyant", 10): 45}
-    program = fake(folder, f"None if capacity >= distinct else {percent}.get((policy, capacity), 0)")
-    words = survey, trace, "--program", program, "--percent", "10", "--percent", "50", "--csv"
+               ("lru", 3): 40, ("slru", 3): 30, ("tinylfu-lru", 3): 11, ("wtinylfu", 3): 12, ("clairvoyant", 3): 45}
+    program = fake(folder, f"None if capacity >= distinct else {percent}.get((policy, max(2, min(3, capacity))), 0)")
+    words = survey, trace, "--program", program, "--percent", "10", "--capacity", "3", "--csv"
     expect("traces", run(*words, "--table", "traces")[0],
            f"trace,accesses,footprint,used once,highest possible %\n{trace},1000,20,1,98.00\n")
+    # At 3 entries lru has 600 misses, slru 700 and wtinylfu 880; at 2 entries lru 900 for the 880 of the best.
     expect("policies", run(*words, "--main", "99")[0],
-           f"trace,% of footprint,capacity,{','.join(POLICIES)},best,below optimal\n"
-           f"{trace},10.0,2,10.00,12.00,11.00,0.00,12.00,30.00,slru or wtinylfu,18.00\n"
-           f"{trace},50.0,10,40.00,30.00,0.00,0.00,0.00,45.00,lru,5.00\n")
+           f"trace,% of footprint,capacity,{','.join(POLICIES)},below optimal,at worst,best\n"
+           f"{trace},10.0,2,10.00,12.00,11.00,0.00,12.00,30.00,18.00,16.7,slru or wtinylfu --main 99\n"
+           f"{trace},15.0,3,40.00,30.00,11.00,0.00,12.00,45.00,5.00,2.3,lru\n")
     expect("misses", run(*words, "--table", "misses", "--policy", "lru", "--policy", "slru")[0],
-           "trace,% of footprint,capacity,lru,slru,best,% fewer than lru\n"
-           f"{trace},10.0,2,900,880,slru,2.2\n{trace},50.0,10,600,700,lru,0.0\n")
+           "trace,% of footprint,capacity,lru,slru,% fewer than lru,best\n"
+           f"{trace},10.0,2,900,880,2.2,slru\n{trace},15.0,3,600,700,0.0,lru\n")
+
+
+def finer(program):
+    """The same program, whose expression gives hundredths of a percent."""
+    program.write_text(program.read_text().replace("* percent // 100", "* percent // 10000"))
+    return program
+
+
+def check_at_worst(survey, folder):
+    """A policy within half a point goes first where it loses less beside its capacity, up to one capacity above and below."""
+    trace = file_of(folder, "trace", "".join(f"{it % 500}\n" for it in range(10000)))
+    hits = {2: (5000, 4990, 4995), 3: (5400, 5390, 4000), 4: (5400, 5420, 5380), 5: (5400, 6000, 5000), 6: (6000, 6000, 6000), 7: (9000, 9000, 9000)}
+    program = finer(fake(folder, f"None if capacity >= distinct else dict(zip(('lru', 'slru', 'sieve'), {hits}.get(min(7, max(2, capacity))))).get(policy, 0)",
+                         policies=["lru", "slru", "sieve"]))
+    words = survey, trace, "--program", program, "--csv", *(word for it in (2, 3, 4, 5, 6) for word in ("--capacity", it))
+    # At 3 entries slru has 4610 misses for the 4600 of lru, 0.2 percent more, at 4 lru 4600 for 4580, 0.4, and at 5 for 4000, 15. Of
+    # sieve what it has one entry above or below counts, where it loses.
+    expect("the best", [(row["at worst"], row["best"]) for row in rows_of(run(*words)[0])],
+           [("0.0", "lru or slru"), ("0.2", "slru or lru"), ("0.2", "slru or lru"), ("0.0", "slru"), ("0.0", "slru or lru")])
+
+
+def check_between(survey, folder):
+    """Between two capacities whose best policies disagree two more are measured, and the survey says which."""
+    trace = file_of(folder, "trace", "".join(f"{it % 1000}\n" for it in range(5000)))
+    program = fake(folder, "None if capacity >= distinct else 50 if policy == 'lru' else 40 if capacity < 250 else 60", policies=["lru", "slru"])
+    words = survey, trace, "--program", program, "--capacity", "900", "--capacity", "100"
+    out, said = run(*words, "--csv")
+    expect("the rows", [(row["capacity"], row["best"], row["at worst"]) for row in rows_of(out)],
+           [("100", "lru", "0.0"), ("173", "lru", "25.0"), ("300", "slru", "20.0"), ("900", "slru", "0.0")])
+    expect("what is said", said, f"tools/survey: {trace}: also measured, between two whose best policies disagree: 173, 300\n")
+    expect_parts("in a table", run(*words)[0], "(also measured, between two whose best policies disagree: 173, 300)\n")
+    expect("without best", run(*words, "--csv", "--table", "windows")[1], "")
+    expect("neighbours", rows_of(run(*words[:5], "249", "--capacity", "250", "--csv")[0])[1]["capacity"], "250")
+
+
+def check_spans(survey, folder):
+    """A policy that changes within a percent by more than what separates it from the next counts by its lowest hit ratio."""
+    trace = file_of(folder, "trace", "".join(f"{it % 500}\n" for it in range(5000)))
+    for slru, shown, best in (({198: 40, 200: 50, 202: 45}, "40.00-50.00", "lru"), ({198: 60, 200: 62, 202: 61}, "62.00", "slru"),
+                              ({198: 49, 200: 50, 202: 51}, "49.00-51.00", "slru"), ({198: 48, 200: 48, 202: 48}, "48.00", "slru")):
+        program = fake(folder, f"None if capacity >= distinct else 47 if policy == 'lru' else {slru}.get(capacity, 30)", policies=["lru", "slru"])
+        if "49" in shown:  # a rise of a point for each percent, and lru is half a point below
+            program = finer(fake(folder, f"None if capacity >= distinct else 4990 if policy == 'lru' else {slru}.get(capacity, 30) * 100", policies=["lru", "slru"]))
+            best = "lru"
+        words = survey, trace, "--program", program, "--capacity", "200", "--table", "policies"
+        row = run(*words)[0].splitlines()[2].split()
+        expect(f"of {slru}", (row[3], row[5]), (shown, best))
+        expect("as CSV", rows_of(run(*words, "--csv")[0])[0]["slru"], f"{slru[200]}.00")
+
+
+def check_others(survey, folder):
+    """Where no policy is named, `best` looks at those without a column too."""
+    trace = file_of(folder, "trace", "".join(f"{it % 300}\n" for it in range(3000)))
+    program = fake(folder, "None if capacity >= distinct else 60 if policy == 'fifo' else 50", policies=EVERY)
+    words = survey, trace, "--program", program, "--capacity", "30", "--csv"
+    row = rows_of(run(*words)[0])[0]
+    expect("the best", (row["best"], "fifo" in row, row["below optimal"]), ("fifo", False, "-10.00"))
+    expect("of two", rows_of(run(*words, "--policy", "lru", "--policy", "arc")[0])[0]["best"], "lru or arc")
+    row = rows_of(run(*words, "--main", "20", "--policy", "wtinylfu", "--policy", "caffeine")[0])[0]
+    expect("as they are typed", row["best"], "wtinylfu --main 20 or caffeine --main 20")
+
+
+def check_halves(survey, folder):
+    """In the first half lru has 250 hits and slru 200, in all 450 and 600: so in the second lru has 300 misses and slru 100."""
+    trace = file_of(folder, "trace", "".join(f"{it % 100}\n" for it in range(1000)))
+    program = fake(folder, "None if capacity >= distinct else (50 if policy == 'lru' else 40) if accesses == 500 else 45 if policy == 'lru' else 60",
+                   policies=["lru", "slru"])
+    words = survey, trace, "--program", program, "--halves", "--csv", "--capacity"
+    wanted = f"trace,% of footprint,capacity,half,% more misses,best\n{trace},{{0}},first,-,lru\n{trace},{{0}},second,200.0,slru\n"
+    expect("the halves", run(*words, "30")[0], wanted.format("30.0,30"))
+    expect("of a sample", run(*words, "240", "--sampled", "1/8", "--accesses", "8000")[0], wanted.format("30.0,240"))
+    expect_parts("for people", run(*words[:5], "--capacity", "30")[0], f"{trace}: best of each half\n", "second          200.0  slru\n")
+    expect("no halves", run(survey, file_of(folder, "one", "1\n"), *words[2:5])[0], "no halves\n")
+    run(*words, "30", "--after", "1", status=2)
+
+
+def check_long(survey, folder):
+    """--long is handed on, and leaves out Belady's policy, which may not be named beside it."""
+    trace = file_of(folder, "trace", "".join(f"{it % 100}\n" for it in range(1000)))
+    words = survey, trace, "--program", fake(folder, "None if capacity >= distinct else 60 if '--long' in words else 50"), "--csv", "--capacity", "30"
+    expect("a short one", rows_of(run(*words)[0])[0]["lru"], "50.00")
+    row = rows_of(run(*words, "--long")[0])[0]
+    expect("a long one", (row["lru"], "clairvoyant" in row), ("60.00", False))
+    expect_parts("clairvoyant", run(*words, "--long", "--policy", "clairvoyant", status=2)[1], "clairvoyant has to know the whole trace")
 
 
 def check_nearly_best(survey, folder):
@@ -42,8 +128,7 @@ def check_nearly_best(survey, folder):
         words = survey, trace, "--format", "arc", "--program", program, "--capacity", "5"
         row = rows_of(run(*words, "--csv")[0])[0]
         expect("the best", (row["best"], row["below optimal"], row["% of footprint"]), (best, lost, "26.3"))
-    expect_parts("the note", run(*words, "--table", "policies")[0], "(best: within half a point of the best policy and 5 % of its misses; "
-                 "clairvoyant is left out)")
+    expect_parts("the note", run(*words, "--table", "policies")[0], "(best: all within half a point of the best policy and 5 % of its misses,\n")
     expect("the best main part", rows_of(run(*words, "--csv", "--table", "windows")[0])[0]["best --main"], "20")
 
 
@@ -82,10 +167,10 @@ def check_columns(survey, folder):
     """The policies that are named, or at most eight of those that the program takes."""
     trace = file_of(folder, "trace", "1\n2\n1\n")
     heads = run(survey, trace, "--csv", "--program", fake(folder, policies=EVERY))[0].splitlines()[0].split(",")
-    expect("the default columns", heads[3:-2],
+    expect("the default columns", heads[3:-3],
            ["lru", "slru", "arc", "sieve", "s3-fifo", "wtinylfu", "caffeine", "clairvoyant"])
     words = survey, trace, "--csv", "--program", fake(folder), "--policy"
-    expect("a column", run(*words, "slru")[0].splitlines()[0], "trace,% of footprint,capacity,slru,best")
+    expect("a column", run(*words, "slru")[0].splitlines()[0], "trace,% of footprint,capacity,slru,at worst,best")
     expect_parts("a policy that is none", run(*words, "none", status=1)[1], "--policy none is none of lru, slru")
     words = survey, trace, "--program", fake(folder, policies=EVERY), "--policy"
     for word, meant in (("opt", "clairvoyant"), ("min", "clairvoyant"), ("Belady", "clairvoyant"), ("LRU", "lru"), ("s3fifo", "s3-fifo")):
@@ -93,7 +178,8 @@ def check_columns(survey, folder):
 
 
 def check_width(survey, folder):
-    """No table is wider than 100 columns, and each column is in it, also of all policies where they are as good as each other."""
+    """No table is wider than 80 columns, and each column is in it, also of all policies where they are as good as each other; nor is the
+    help."""
     trace = file_of(folder, "trace", "".join(f"{it % 320}\n" for it in range(3200)))
     # Of some of these numbers all columns but `best` fill a block, or leave room for it alone.
     for policies in (EVERY, EVERY[:-1], EVERY[:-2]):
@@ -101,20 +187,20 @@ def check_width(survey, folder):
         words += "--reach", "99", *(word for it in policies for word in ("--policy", it))
         whole = run(*words)[0]
         sampled = run(*words, "--sampled", "1/1024", "--accesses", 3200 << 10, "--after", "9")[0]
-        for text in (whole, sampled):
-            expect("too wide", [line for line in text.splitlines() if len(line) > 100], [])
-        expect_parts("the tables", whole, f"{trace}: hit ratios in percent\n% of footprint  capacity    lru ", *policies)
-        expect_parts("the best", whole, f"  lru or slru or tinylfu-lru and {len(policies) - 4} more           0.00\n", "  99 or 90 or 80 and 2 more\n",
-                     "so look at both sides)\n")
-    best = rows_of(run(*words, "--csv", "--table", "policies")[0])[0]["best"]
-    expect("the best as CSV", best.split(" or "), [it.replace("wtinylfu", "wtinylfu --main 99") for it in policies if it != "clairvoyant"])
+        for text in (whole, sampled, run(survey, "--help", env={**os.environ, "COLUMNS": "80"})[0]):
+            expect("too wide", [line for line in text.splitlines() if len(line) > 80 + len(str(trace)) * (str(trace) in line)], [])
+        expect_parts("the tables", whole, f"{trace}: hit ratios in percent\n     % of\nfootprint  capacity    lru ", *policies)
+        best = rows_of(run(*words, "--csv", "--table", "policies")[0])[0]["best"]
+        names = [it.replace("wtinylfu", "wtinylfu --main 99") for it in policies if it != "clairvoyant"]
+        expect("the best as CSV", sorted(best.split(" or ")), sorted([*names, *(f"wtinylfu --main {it}" for it in (90, 80, 50, 20))]))
+        expect_parts("the names in a table", " ".join(whole.split()), best, "99 or 90 or 80 or 50 or 20")
 
 
 def check_many_rows(survey, folder):
-    """A table has a row for each of thirty capacities."""
-    many = [word for it in range(30) for word in ("--capacity", 211 + it)]
+    """A table has a row for each of sixty capacities."""
+    many = [word for it in range(60) for word in ("--capacity", 211 + it)]
     rows = run(survey, file_of(folder, "trace", "1\n2\n1\n"), "--program", fake(folder), *many, "--policy", "slru", "--table", "policies")[0]
-    expect("thirty rows", [row.split()[1] for row in rows.splitlines()[2:32]], [str(211 + it) for it in range(30)])
+    expect("sixty rows", [row.split()[1] for row in rows.splitlines()[2:62]], [str(211 + it) for it in range(60)])
 
 
 def on_terminal(script, *words):
@@ -138,14 +224,14 @@ def check_progress(survey, folder):
     words = "--program", fake(folder, "None if capacity >= distinct else 50"), "--policy", "lru", "--policy", "wtinylfu"
     drawn = on_terminal(survey, *traces, *words, "--table", "policies", "--main", "50")
     steps = re.findall("tools/survey: (.*), (.*)\r\n", drawn)
-    expect("two traces", steps, [(f"{place} of 4: {step}", str(traces[place > 2]))
-                                 for place, step in enumerate(["footprint", "policies"] * 2, 1)])
-    expect("lines that are erased", drawn.count("\x1b[A\r\x1b[K"), 4)
+    expect("two traces", steps, [(f"{place} of 6: {step}", str(traces[place > 3]))
+                                 for place, step in enumerate(["footprint", "policies", "between capacities"] * 2, 1)])
+    expect("lines that are erased", drawn.count("\x1b[A\r\x1b[K"), 6)
     expect("the last line", drawn.endswith("\x1b[A\r\x1b[K"), True)
     odd = file_of(folder, "three\x1b[2J\n", "1\n2\n1\n")
     expect_parts("a name with other characters", on_terminal(survey, odd, *words, "--table", "traces"), "1 of 1: footprint, ", "/three?[2J?\r\n")
-    # The footprint, the policies, four main parts, jumps twice, a search for each policy, powers of two.
-    expect_parts("all tables", on_terminal(survey, traces[0], *words, "--reach", "9"), "1 of 11: footprint, ", "11 of 11: powers of two, ")
+    # The footprint, the policies, between these, jumps of lru, a search for each policy, powers of two.
+    expect_parts("all tables", on_terminal(survey, traces[0], *words, "--reach", "9"), "1 of 7: footprint, ", "7 of 7: powers of two, ")
 
 
 def check_cliffs(survey, folder):
@@ -159,7 +245,7 @@ def check_cliffs(survey, folder):
            f"trace,policy,jumps from,to,hit ratio from,to,points\n{trace},slru,9,10,20.00,17.00,-3.00\n"
            f"{trace},slru,198,200,60.00,40.00,-20.00\n{trace},slru,200,202,40.00,61.00,21.00\n")
     expect_parts("a large one", run(*words, "--csv", "--table", "jumps", "--jump", "21")[0], f"points\n{trace},slru,200,202,")
-    expect_parts("in a table", run(*words)[0], "within a percent of the survey's capacities", "-20.00\n")
+    expect_parts("in a table", run(*words)[0], "others but clairvoyant: within a percent of the survey's\ncapacities)", "-20.00\n")
     expect_parts("no jump", run(*words, "--policy", "lru", "--table", "jumps")[0], "no jump (lru: at any capacity; others")
     run(*words, "--policy", "slru", "--table", "traces", "--plot", "picture.svg", cwd=folder, env=gnuplot_by(folder, NOTING))
     expect_parts("the picture", (folder / "given").read_text(), "\n198 60.000000\n200 40.000000\n202 61.000000\n")
@@ -224,6 +310,7 @@ def check_large_capacities(survey, folder):
     out, error = run(*words, "--percent", "1", "--percent", "95")
     expect("the part of the footprint", [row["% of footprint"] for row in rows_of(out)], ["1.0"])
     expect_parts("what is left out", error, "1140000 entries are left out: the largest cache has 1048576")
+    expect("the largest", run(*words, "--capacity", "1048576", "--table", "jumps")[0].splitlines()[1:], [])
     reach = rows_of(run(*words, "--table", "reach", "--reach", "15", "--reach", "90")[0])
     expect("no reach", [row["capacity"] for row in reach], ["> 1048576"] * 2 + ["never"] * 2)
 
@@ -267,6 +354,53 @@ def check_lost_row(survey, folder, program):
     expect_full_disk(survey, trace, "--program", fake(folder))
 
 
+def check_other_reports(survey, folder):
+    """Columns of another program, and accesses that the trace does not have, are not believed."""
+    trace = file_of(folder, "trace", "1\n2\n1\n")
+    for old, new, part in (("rejections,rate", "rejections,rate,more", "other reports"), ("accesses = sum(", "accesses = -1 + sum(", "other accesses")):
+        program = fake(folder)
+        program.write_text(program.read_text().replace(old, new))
+        expect_parts(part, run(survey, trace, "--program", program, "--table", "traces", status=1)[1], part)
+
+
+def check_searches(survey, folder):
+    """A policy that jumps at any capacity is found to reach a ratio there, one entry above what does not."""
+    trace = file_of(folder, "trace", "".join(f"{it % 400}\n" for it in range(2000)))
+    places = {it: 40 + 7 * at for at, it in enumerate(EVERY)}
+    program = fake(folder, f"None if capacity >= distinct else 60 if capacity >= {places}[policy] else 1", policies=EVERY)
+    words = survey, trace, "--program", program, "--csv", "--table", "reach", "--reach", "42", *(word for it in EVERY for word in ("--policy", it))
+    rows = [(row["policy"], int(row["capacity"]), int(row["not at"])) for row in rows_of(run(*words)[0])]
+    expect("the capacities", [(it, low < places[it] <= high, high - low <= max(1, high // 100)) for it, high, low in rows], [(it, True, True) for it in EVERY])
+
+
+def check_titles(survey, folder):
+    """A picture says which options made it, begins at a hundredth of the footprint, and is of one trace."""
+    trace = file_of(folder, "trace", "".join(f"{it % 400}\n" for it in range(2000)))
+    words = survey, trace, "--program", fake(folder), "--table", "traces", "--plot", "picture.svg"
+    run(*words, "--after", "9", "--main", "50", "--spread", "plain", cwd=folder, env=gnuplot_by(folder, NOTING))
+    text = (folder / "given").read_text()
+    expect_parts("its title", text, "without the first 9, --main 50, --spread plain", "$curve0 << END\n4 ", f"\n400 {160000 / 1991:.6f}\nEND")
+    expect_parts("two traces", run(survey, trace, *words[1:], status=2)[1], "--plot draws one trace")
+
+
+def check_steep(survey, folder):
+    """Of ten entries one more is a tenth: there nine and a half points are no jump, ten are one."""
+    trace = file_of(folder, "trace", "".join(f"{it % 300}\n" for it in range(3000)))
+    for high, jumps in ((2950, 0), (3000, 1)):
+        program = finer(fake(folder, f"None if capacity >= distinct else {high} if capacity > 10 else 2000", policies=["lru", "slru"]))
+        rows = rows_of(run(survey, trace, "--program", program, "--csv", "--table", "jumps", "--policy", "slru", "--capacity", "10")[0])
+        expect(f"jumps to {high}", len([row for row in rows if row["policy"] == "slru"]), jumps)
+
+
+def check_names(survey, folder):
+    """A name that is no text, and a rounded capacity of a sample."""
+    trace = folder / os.fsdecode(b"\xff")
+    trace.write_text("".join(f"{it % 50}\n" for it in range(500)))
+    words = trace, "--program", fake(folder), "--csv", "--policy", "lru", "--capacity", "1000", "--sampled", "1/64", "--accesses", "32000"
+    out = subprocess.run([sys.executable, survey, *map(str, words)], capture_output=True, check=True).stdout
+    expect("the row", out.splitlines()[1].split(b",")[:3], [os.fsencode(trace), b"32.0", b"1024"])
+
+
 def check_ways(survey, folder, program):
     """A trace is read from a file, packed or not, and from a pipe, and its tables are the same."""
     # More than a buffer has, packed by zstd too, since what stands before a number is not packed any smaller. Block 1000 comes
@@ -283,8 +417,8 @@ def check_ways(survey, folder, program):
     for name, data in packed.items():
         path = file_of(folder, name, data)
         expect(name, run(survey, path, *words)[0].replace(str(path), str(plain)), wanted)
-        cut = file_of(folder, "cut", data[:-9])
-        run(survey, cut, *words, status=1)
+        for broken in (data[:-9], data[:len(data) // 2] + bytes([data[len(data) // 2] ^ 0xff]) + data[len(data) // 2 + 1:]):
+            run(survey, file_of(folder, "broken", broken), *words, status=1)
     for name, data in {**packed, "plain": text}.items():
         expect(f"{name} by a pipe", run(survey, "-", *words, typed=data)[0].replace("\n-", f"\n{plain}"), wanted)
     with plain.open("rb") as file:
@@ -345,18 +479,18 @@ def check_sampled(survey, folder, program):
     words = survey, trace, "--program", faked, "--sampled", "1/8", "--accesses", "16000", "--policy", "lru", "--policy", "clairvoyant"
     # 800 misses are 6400 of 16000, 50 are 400.
     expect("policies", run(*words, "--csv", "--capacity", "160", "--table", "policies", "--table", "misses")[0],
-           "trace,% of footprint,capacity,lru,clairvoyant,best,below optimal\n"
-           f"{trace},20.0,160,60.00,97.50,lru,37.50\n"
-           "trace,% of footprint,capacity,lru,clairvoyant,best,% fewer than lru\n"
-           f"{trace},20.0,160,6400,400,lru,0.0\n")
+           "trace,% of footprint,capacity,lru,clairvoyant,below optimal,at worst,best\n"
+           f"{trace},20.0,160,60.00,97.50,37.50,0.0,lru\n"
+           "trace,% of footprint,capacity,lru,clairvoyant,% fewer than lru,best\n"
+           f"{trace},20.0,160,6400,400,0.0,lru\n")
     few = run(*words[:7], "5000", "--csv", "--capacity", "160", "--policy", "lru")[0]
     expect("never below 0", rows_of(few)[0]["lru"], "0.00")
     expect_parts("the traces", run(*words, "--capacity", "160")[0], " 16000        800 ", "one block in 8")
     # A quarter of 16000 accesses is left out, so of the sample 250, with 200 misses and 13: 600 are 4800 of 12000, 37 are 296.
     after = run(*words, "--csv", "--capacity", "160", "--after", "4000", "--table", "traces", "--table", "policies")[0]
     expect("after a warm-up", after.splitlines()[1:], [
-        f"{trace},12000,800,0,100.00", "trace,% of footprint,capacity,lru,clairvoyant,best,below optimal",
-        f"{trace},20.0,160,60.00,97.53,lru,37.53"])
+        f"{trace},12000,800,0,100.00", "trace,% of footprint,capacity,lru,clairvoyant,below optimal,at worst,best",
+        f"{trace},20.0,160,60.00,97.53,37.53,0.0,lru"])
     expect("nothing after it", run(*words, "--after", "16000", "--table", "policies")[0], "no accesses\n\n(estimates by one block in 8)\n"
            "\n(without about the first 16000 accesses, where clairvoyant is no upper bound)\n")
     jump = fake(folder, "None if capacity >= distinct else 5 if capacity < 50 else 60")
@@ -424,12 +558,12 @@ def check_best_of_sample(survey, folder):
     """Of a sample half a point, and two points where one of both policies has a sketch. Of 1000 accesses 10 more misses are 80
     of 8000, a point."""
     trace = file_of(folder, "sample", "".join(f"{it % 100}\n" for it in range(1000)))
-    for percent, best in (({"lru": 50, "slru": 51}, "slru"), ({"slru": 51, "wtinylfu": 50}, "slru or wtinylfu"),
-                          ({"wtinylfu": 51, "lru": 50, "slru": 49, "tinylfu-lru": 48}, "wtinylfu or lru or slru")):
+    for percent, best in (({"lru": 50, "slru": 51}, "slru"), ({"slru": 51, "wtinylfu": 50}, "slru or wtinylfu --main 99"),
+                          ({"wtinylfu": 51, "lru": 50, "slru": 49, "tinylfu-lru": 48}, "wtinylfu --main 99 or lru or slru")):
         program = fake(folder, f"None if capacity >= distinct else {percent}.get(policy, 0)")
         words = survey, trace, "--program", program, "--sampled", "1/8", "--accesses", "8000", "--capacity", "160"
         expect("the best", rows_of(run(*words, "--main", "99", "--csv")[0])[0]["best"], best)
-    expect_parts("the note", run(*words)[0], "or two where one of both has a sketch,\n", "one block in 8")
+    expect_parts("the note", " ".join(run(*words)[0].split()), "or two where one of both has a sketch,", "of sieve and slru near a jump", "one block in 8")
 
 
 def check_drawn(survey, folder, program):
@@ -456,32 +590,32 @@ MISTAKES = {
     "a row dropped": Mistake(check_best, "lib/measures.py", "return sorted({capacity for _, capacity in rows})",
                              "return sorted({capacity for _, capacity in rows})[1:]"),
     "two traces joined": Mistake(check_beside_run, "survey", "Trace(program, name,", "Trace(program, args.trace[0],"),
-    "a wrong best": Mistake(check_best, "lib/measures.py", "key=lambda it: -it[1].hits", "key=lambda it: it[1].hits"),
-    "a best that knows the future": Mistake(check_best, "lib/measures.py", "if name != OPTIMAL]", "]"),
-    "a sample's best by half a point": Mistake(check_best_of_sample, "lib/measures.py", "50 if is_rough", "200 if is_rough"),
-    "two points between policies without a sketch": Mistake(check_best_of_sample, "lib/measures.py", "(has_sketch(row.policy) or", "(True or"),
-    "two points by the other's sketch alone": Mistake(check_best_of_sample, "lib/measures.py", " or has_sketch(best.policy))", ")"),
-    "a best by hundredths": Mistake(check_nearly_best, "lib/measures.py", "else 200", "else 20000"),
-    "a best by points alone": Mistake(check_nearly_best, "lib/measures.py", " and (row.misses - best.misses) * 20 <= best.misses", ""),
-    "a best by a twenty-first of the misses": Mistake(check_nearly_best, "lib/measures.py", "* 20 <= best", "* 21 <= best"),
-    "a window that is typed otherwise": Mistake(check_windows, "lib/measures.py", "--main {main}\", survey", "{main}\", survey"),
+    "a wrong best": Mistake(check_best, "lib/advice.py", "key=lambda it: -it[1].hits", "key=lambda it: it[1].hits"),
+    "a best that knows the future": Mistake(check_best, "lib/advice.py", " and key != OPTIMAL]", "]"),
+    "a sample's best by half a point": Mistake(check_best_of_sample, "lib/advice.py", "50 if is_rough", "200 if is_rough"),
+    "two points between policies without a sketch": Mistake(check_best_of_sample, "lib/advice.py", "(has_sketch(row.policy) or", "(True or"),
+    "two points by the other's sketch alone": Mistake(check_best_of_sample, "lib/advice.py", " or has_sketch(best.policy))", ")"),
+    "a best by hundredths": Mistake(check_nearly_best, "lib/advice.py", "else 200", "else 20000"),
+    "a best by points alone": Mistake(check_nearly_best, "lib/advice.py", " and (row.misses - best.misses) * 20 <= best.misses", ""),
+    "a best by a twenty-first of the misses": Mistake(check_nearly_best, "lib/advice.py", "* 20 <= best", "* 21 <= best"),
+    "a window that is typed otherwise": Mistake(check_windows, "lib/measures.py", 'f"{WINDOWED} --main {main}"', 'f"{WINDOWED} {main}"'),
     "a window in the place of another": Mistake(check_windows, "lib/measures.py", "capacities, main)", "capacities, main - 1)"),
     "a part of another size": Mistake(check_parts, "lib/measures.py", 'part=(f"--{option}", size)', 'part=(f"--{option}", size + 1)'),
-    "no part of another size": Mistake(check_parts, "lib/reports.py", "main or options.main, *part]", "main or options.main]"),
-    "caffeine as a window": Mistake(check_windows, "lib/tables.py", "moved = (it.rows[policy, capacity] for policy in beside)", "moved = (rows[0][1] for policy in beside)"),
-    "no window": Mistake(check_windows, "lib/measures.py", "if survey.windows:", "if not survey.windows:"),
-    "a table that is too wide": Mistake(check_width, "lib/tables.py", "if taken + width - GAP > MAX_WIDTH:", "if not blocks:"),
-    "a column left out": Mistake(check_width, "lib/tables.py", "[[at] for at in range(KEYS, best)]", "[[at] for at in range(KEYS + 1, best)]"),
-    "a best apart from what follows it": Mistake(check_width, "lib/tables.py", "widths[best:]) - GAP > MAX_WIDTH", "widths[best:]) - GAP > 0"),
-    "all names": Mistake(check_width, "lib/tables.py", "texts_of(row, MAX_NAMES)", "texts_of(row)"),
-    "names cut in CSV": Mistake(check_width, "lib/tables.py", "writerows(texts_of(row)", "writerows(texts_of(row, 3)"),
+    "no part of another size": Mistake(check_parts, "lib/reports.py", "options.is_long, *part]", "options.is_long]"),
+    "caffeine as a window": Mistake(check_windows, "lib/tables.py", "*(it.rows[policy, capacity] for policy in beside)", "*(rows[0][1] for policy in beside)"),
+    "no window": Mistake(check_windows, "lib/measures.py", "for it in MAINS[1:] if is_windowed}", "for it in MAINS[1:] if not is_windowed}"),
+    "a table that is too wide": Mistake(check_width, "lib/tables.py", "(*blocks[-1], at)) > most", "(*blocks[-1], at)) > 100"),
+    "a column left out": Mistake(check_width, "lib/tables.py", "for at in range(KEYS, len(widths)):", "for at in range(KEYS + 1, len(widths)):"),
+    "a name that is cut": Mistake(check_width, "lib/tables.py", 'it.replace(" ", "\\0") for', 'it.replace(" ", " -") for'),
+    "names that are hidden": Mistake(check_width, "lib/tables.py", "for it in cell) or", "for it in cell[:3]) or"),
+    "names cut in CSV": Mistake(check_width, "lib/tables.py", '" or ".join(it) or "-" if', '" or ".join(it[:3]) or "-" if'),
     "no tip": Mistake(check_columns, "lib/policies.py", "OTHER_NAMES.get(small)", "None"),
     "no tip for capital letters": Mistake(check_columns, "lib/policies.py", "word.lower()", "word"),
     "a step of another trace": Mistake(check_progress, "lib/progress.py", "self.done + self.plan.index(step)", "self.plan.index(step)"),
     "a name that a terminal obeys": Mistake(check_progress, "lib/progress.py", "it if it.isprintable() else", "it if it.isprintable() or True else"),
-    "a line that stays": Mistake(check_progress, "lib/measures.py", "    progress.erase()\n    return Survey(trace, highest", "    return Survey(trace, highest"),
-    "a step that is not planned": Mistake(check_progress, "lib/measures.py", "*map(main_step, mains),", ""),
-    "no cliffs": Mistake(check_cliffs, "lib/measures.py", "if it not in MONOTONE]", "if it in MONOTONE]"),
+    "a line that stays": Mistake(check_progress, "lib/measures.py", "    progress.erase()\n    return survey", "    return survey"),
+    "a step that is not planned": Mistake(check_progress, "lib/measures.py", '*["between capacities"] * bool(tables & ADVICE),', ""),
+    "no cliffs": Mistake(check_cliffs, "lib/measures.py", "if policy not in MONOTONE and not main]", "if policy in MONOTONE and not main]"),
     "cliffs above alone": Mistake(check_cliffs, "lib/measures.py", "((below(it), it), (it, above(it)))", "((it, above(it)),)"),
     "cliffs below alone": Mistake(check_cliffs, "lib/measures.py", "((below(it), it), (it, above(it)))", "((below(it), it),)"),
     "cliffs two percent apart": Mistake(check_cliffs, "lib/measures.py", "capacity - max(1, capacity // 100)", "capacity - max(1, capacity // 50)"),
@@ -491,8 +625,38 @@ MISTAKES = {
                                                               "self.after"),
     "a sample's accesses with its warm-up": Mistake(check_sampled, "lib/reports.py", "self.whole - self.after", "self.whole"),
     "a sample's jump to an entry": Mistake(check_sampled, "lib/tables.py", "NOTES_OF_SAMPLE if args.sampled else {}", "{}"),
-    "points below of the last of the best": Mistake(check_nearly_best, "lib/tables.py", "best[0][1])] if is_bounded", "best[-1][1])] if is_bounded"),
-    "nineteen rows": Mistake(check_many_rows, "lib/tables.py", "(texts_of(row, MAX_NAMES) for row in rows)", "(texts_of(row, MAX_NAMES) for row in rows[:20])"),
+    "points below of the last of the best": Mistake(check_nearly_best, "lib/tables.py", "it.rows[best[0].key, capacity]) if best", "it.rows[best[-1].key, capacity]) if best"),
+    "nineteen rows": Mistake(check_many_rows, "lib/tables.py", "for row in rows[1:]]", "for row in rows[1:21]]"),
+    "the best by hits alone": Mistake(check_at_worst, "lib/advice.py", "key=lambda it: worst[it[0]]", "key=lambda it: 0"),
+    "the row alone": Mistake(check_at_worst, "lib/advice.py", "more[max(0, at - 1):at + 2]", "more[at:at + 1]"),
+    "the row below alone": Mistake(check_at_worst, "lib/advice.py", "more[max(0, at - 1):at + 2]", "more[max(0, at - 1):at + 1]"),
+    "the row above alone": Mistake(check_at_worst, "lib/advice.py", "more[max(0, at - 1):at + 2]", "more[at:at + 2]"),
+    "the least loss": Mistake(check_at_worst, "lib/advice.py", "max(it[key] for it in", "min(it[key] for it in"),
+    "columns of another program": Mistake(check_other_reports, "lib/reports.py", "if found != SWEEP:", "if False:"),
+    "other accesses": Mistake(check_other_reports, "lib/measures.py", "if counts and (report.accesses, footprint) !=", "if False and (report.accesses, footprint) !="),
+    "a picture from one entry on": Mistake(check_titles, "lib/measures.py", "low = max(1, survey.footprint // 100)", "low = 1"),
+    "a title without its spread": Mistake(check_titles, "survey", 'args.spread != "mixed"}', "False}"),
+    "two traces in one picture": Mistake(check_titles, "survey", "if args.plot and len(args.trace) > 1:", "if False:"),
+    "a jump by the larger capacity": Mistake(check_steep, "lib/measures.py", "(high.hits - low.hits) * low.capacity >=", "(high.hits - low.hits) * high.capacity >="),
+    "a capacity of a sample cut off": Mistake(check_names, "lib/measures.py", "max(1, round(it / trace.inverse))", "max(1, int(it / trace.inverse))"),
+    "nothing between": Mistake(check_between, "lib/measures.py", "ROUNDS = 2", "ROUNDS = 0"),
+    "once between": Mistake(check_between, "lib/measures.py", "ROUNDS = 2", "ROUNDS = 1"),
+    "between all": Mistake(check_between, "lib/advice.py", "    return not (low[0].key in", "    return True or not (low[0].key in"),
+    "between in silence": Mistake(check_between, "survey", "if args.csv else []:", "if False else []:"),
+    "a table that is silent about what is between": Mistake(check_between, "lib/tables.py", "also if name == first else {}", "{}"),
+    "the ratio at the capacity alone": Mistake(check_spans, "lib/measures.py", "return {**rows, **{at: lowest for", "return {**{at: lowest for"),
+    "the highest counts": Mistake(check_spans, "lib/measures.py", "{at: lowest for at, (lowest, _) in", "{at: lowest for at, (_, lowest) in"),
+    "spans between policies that are far apart": Mistake(check_spans, "lib/measures.py", "if highest.hits - lowest.hits > min(apart, default=0):", "if True:"),
+    "spans in CSV": Mistake(check_spans, "lib/tables.py", "if args.csv else surveys)", "if False else surveys)"),
+    "the columns alone": Mistake(check_others, "survey", "and not args.policy]", "and False]"),
+    "others than are named": Mistake(check_others, "survey", "it not in policies and not args.policy]", "it not in policies]"),
+    "caffeine without its --main": Mistake(check_others, "lib/advice.py", ' or key == CAFFEINE and main != "99"', ""),
+    "halves changed over": Mistake(check_halves, "lib/measures.py", "for it in (first, second)]", "for it in (second, first)]"),
+    "the cost in the whole trace": Mistake(check_halves, "lib/measures.py", "more_misses({name: second[name, it]", "more_misses({name: rows[name, it]"),
+    "a sample's half": Mistake(check_halves, "lib/reports.py", "(self.whole or accesses) // 2", "accesses // 2"),
+    "--long that is not handed on": Mistake(check_long, "lib/reports.py", '*["--long"] * options.is_long, ', ""),
+    "clairvoyant with --long": Mistake(check_long, "survey", "if not args.long or it != OPTIMAL]", "]"),
+    "--percent beside --capacity dropped": Mistake(check_best, "lib/measures.py", "args.percent or map(Decimal, [] if args.capacity else PERCENTS)", "map(Decimal, [] if args.capacity else args.percent or PERCENTS)"),
     "a warm-up with another window": Mistake(check_after, "lib/reports.py", "self.reports(policies, capacities, main, self.warm_up", "self.reports(policies, capacities, None, self.warm_up"),
     "misses of the warm-up too": Mistake(check_after, "lib/reports.py", "misses=row.misses - begun.misses", "misses=row.misses"),
     "blocks of the warm-up as new ones": Mistake(check_large, "lib/measures.py", "if trace.warm_up else 0", "if False else 0"),
@@ -516,7 +680,7 @@ MISTAKES = {
     "a search that ends early": Mistake(check_percent_of_reach, "lib/measures.py", "max(1, high // 100)", "max(1, high // 10)"),
     "a block that comes twice counted as used once": Mistake(check_beside_run, "lib/measures.py", "if times == 1", "if times <= 2"),
     "options that are not handed on": Mistake(check_beside_run, "lib/reports.py",
-                                              '"--spread", options.spread, "--main", main or options.main, *part]', '"--main", "99", *part]'),
+                                              '"--spread", options.spread, "--main", main or options.main, *["--long"]', '"--main", "99", *["--long"]'),
     "no main": Mistake(check_beside_run, "lib/reports.py", "main or options.main", '"99"'),
     "a power of two left out": Mistake(check_jumps_and_powers, "lib/measures.py", "range(1, 20)", "[*range(1, 15), *range(16, 20)]"),
     "the ratio of a large trace": Mistake(check_large, "lib/measures.py", "row.accesses, (footprint - known) * trace.inverse",
@@ -545,7 +709,7 @@ MISTAKES = {
     "gnuplot looked for at the end": Mistake(check_kept_picture, "survey", 'if args.plot and not shutil.which("gnuplot"):', "if False:"),
     "an output on a full disk": Mistake(check_lost_row, "lib/traces.py", "    except OSError as fault:\n        sys.exit(f\"{tool}",
                                         "    except OSError as fault:\n        print(f\"{tool}"),
-    "the format that was tried as another": Mistake(check_lost_row, "lib/reports.py", "if it != words[", "if it == words["),
+    "the format that was tried as another": Mistake(check_lost_row, "lib/reports.py", "if it != form)", "if it == form)"),
     "a packed file read as it is": Mistake(check_ways, "lib/traces.py", "and not first.startswith((GZIP, ZSTD))", ""),
     "a megabyte of a pipe": Mistake(check_ways, "lib/traces.py", "else source, copy, COPIED)", "else __import__('io').BytesIO(source.read(COPIED)), copy, COPIED)"),
     **({"a megabyte of what zstd unpacks": Mistake(check_ways, "lib/traces.py", "shutil.copyfileobj(source, unpacking.stdin, COPIED)",

@@ -6,6 +6,7 @@ import sys
 from collections import namedtuple
 from decimal import Decimal
 
+from .advice import choices_of, middles_of, more_misses
 from .policies import MONOTONE, OPTIMAL, WINDOWED, has_sketch
 from .reports import MAX_CAPACITY, rate
 from .samples import check_accesses
@@ -23,30 +24,38 @@ PARTS = [("s3-fifo", "small", 10, [1, 5, 25]), ("2q", "in", 25, [5, 50, 75]), ("
 FINENESS, LEAST_JUMP = 50, Decimal("0.1")
 # How many capacities are tried at once between two capacities of lru.
 LRU_TRIES = 64
+# How often the capacities between two whose best policies disagree are measured, each time nearer to them.
+ROUNDS = 2
+# A policy changes near a capacity where it does by so many points.
+LEAST_SPAN = Decimal("0.5")
 # How many capacities in equal ratios a picture has, from 1 percent of the footprint on.
 DRAWN = 30
 
-# `windows` has a row for each main part and capacity, `parts` one for each policy, option, size and capacity. `reaches` has the row that reaches a ratio and one that does not.
-Survey = namedtuple("Survey", "trace accesses footprint once highest policies rows windows parts jumps reaches powers")
+# The tables with `best`.
+ADVICE = {"policies", "misses", "halves"}
+
+# `rows` has those of `policies` and of what else is asked for `best`, `spans` the lowest and the highest row near a capacity at
+# which a policy moves; `between` are the capacities that nobody asked for. `parts` has a row for each policy, option, size and
+# capacity, `reaches` the row that reaches a ratio and one that does not.
+Survey = namedtuple("Survey", "trace accesses footprint once highest policies rows spans between choices halves parts jumps reaches "
+                    "powers", defaults=({}, {}, [], {}, [], {}, [], [], []))
 Reach = namedtuple("Reach", "policy ratio row below is_possible")
+# What `best` names: as it is typed, its row, and how many percent more misses it has at worst than the best policy there.
+Choice = namedtuple("Choice", "name policy row worst")
 
 
 def plan_of(policies, args):
     """The steps of a survey of one trace that are planned, in their order and as a terminal names them."""
     tables, has_jumps = {*args.table}, "jumps" in args.table or args.plot
-    mains = MAINS[1:] if WINDOWED in policies and not args.main and tables & {"policies", "misses", "windows"} else []
     return ["footprint",
-            *["policies"] * bool(tables & {"policies", "misses", "windows", "parts", "powers"} or has_jumps),
-            *map(main_step, mains),
+            *["policies"] * bool(tables & {*ADVICE, "windows", "parts", "powers"} or has_jumps),
+            *["between capacities"] * bool(tables & ADVICE),
+            *["halves"] * ("halves" in tables),
             *(part_step(policy, option, size) for policy, option, size in tried_parts(policies) if "parts" in tables),
-            *["jumps of lru", "jumps of other policies"] * bool(has_jumps),
+            *["jumps of lru"] * bool(has_jumps),
             *(map(reach_step, policies) if "reach" in tables else []),
             *["powers of two"] * ("powers" in tables),
             *["picture"] * bool(args.plot)]
-
-
-def main_step(main):
-    return f"{WINDOWED} --main {main}"
 
 
 def tried_parts(policies):
@@ -76,18 +85,18 @@ def survey_of(trace, policies, args, progress):
         sys.exit(f"{trace.program.tool}: {trace.name} has other accesses than the program says")
     if not trace.leave_out(report.accesses):
         progress.erase()
-        return Survey(trace, 0, footprint, 0, "0.00", policies, {}, {}, {}, [], [], [])
+        return Survey(trace, 0, footprint, 0, "0.00", policies, {})
     highest = highest_of(trace, largest, footprint)
     once, top = sum(1 for times in counts.values() if times == 1), min(footprint, MAX_CAPACITY)
-    rows = rows_of(trace, policies, footprint, args, progress)
-    windows = windows_of(trace, rows, progress)
-    parts = parts_of(trace, rows, policies, progress)
-    jumps = [*jumps_of_lru(trace, top, args.jump, progress), *other_jumps(trace, rows, policies, args.jump, progress)]
-    reaches = reaches_of(trace, rows, policies, args.reach, top, highest, progress)
-    powers = powers_of(trace, rows, policies, progress)
+    asked = asked_of(policies, args)
+    rows, near, between = rows_of(trace, asked, footprint, args, progress)
+    survey = Survey(trace, highest.accesses, footprint, once, rate(highest.hits, highest.accesses), policies, rows,
+                    spans_of(rows, near), between, choices_of(trace, counted(rows, near)),
+                    halves_of(trace, asked, rows, report.accesses, progress), parts_of(trace, rows, policies, progress),
+                    [*jumps_of_lru(trace, top, args.jump, progress), *other_jumps(rows, near, args.jump)],
+                    reaches_of(trace, rows, policies, args.reach, top, highest, progress), powers_of(trace, rows, policies, progress))
     progress.erase()
-    return Survey(trace, highest.accesses, footprint, once, rate(highest.hits, highest.accesses), policies, rows, windows,
-                  parts, jumps, reaches, powers)
+    return survey
 
 
 def highest_of(trace, largest, footprint):
@@ -100,11 +109,70 @@ def highest_of(trace, largest, footprint):
     return row._replace(hits=row.accesses - misses, misses=misses)
 
 
-def rows_of(trace, policies, footprint, args, progress):
-    if not progress.begins("policies"):
-        return {}
-    capacities = capacities_of(trace, footprint, args, progress)
-    return trace.sweep(policies, capacities) if capacities else {}
+def asked_of(policies, args):
+    """What is run at each capacity by its name: a policy, and its main part where it is not the call's. These are the columns, and for
+    `best` the windows of wtinylfu, and the policies without a column where none is named."""
+    asked = [*policies, *(it for it in args.others if {*args.table} & ADVICE)]
+    is_windowed = WINDOWED in asked and not args.main and {*args.table} & {*ADVICE, "windows"}
+    return {**{it: (it, None) for it in asked}, **{window(it): (WINDOWED, it) for it in MAINS[1:] if is_windowed}}
+
+
+def window(main):
+    """The name of the rows of wtinylfu with a main part."""
+    return WINDOWED if main == MAINS[0] else f"{WINDOWED} --main {main}"
+
+
+def rows_of(trace, asked, footprint, args, progress):
+    """The rows at the capacities of a survey, those near to them, and the capacities between two whose best policies disagree, which
+    are measured too."""
+    rows, near, between = {}, {}, []
+
+    def measure(capacities):
+        rows.update(measured(trace, asked, capacities))
+        near.update(rows_near(trace, asked, capacities) if {*args.table} & {*ADVICE, "jumps"} or args.plot else {})
+
+    measure(capacities_of(trace, footprint, args, progress) if progress.begins("policies") else [])
+    if rows and progress.begins("between capacities"):
+        for _ in range(ROUNDS):
+            middles = middles_of(choices_of(trace, counted(rows, near)))
+            measure(middles)
+            between += middles
+    return rows, near, sorted(between)
+
+
+def measured(trace, asked, capacities):
+    """The rows of what is asked, by name and capacity."""
+    rows = {}
+    for main in dict.fromkeys(main for _, main in asked.values()) if capacities else []:
+        names = {policy: name for name, (policy, it) in asked.items() if it == main}
+        rows.update({(names[policy], capacity): row for (policy, capacity), row in trace.sweep([*names], capacities, main).items()})
+    return rows
+
+
+def rows_near(trace, asked, capacities):
+    """The rows one percent, or one entry, below and above each capacity of the policies that may lose by a larger one."""
+    others = [policy for policy, main in asked.values() if policy not in MONOTONE and not main]
+    tries = sorted({near for it in capacities for near in (below(it), above(it))}.difference(capacities))
+    return trace.sweep(others, tries) if others and tries else {}
+
+
+def spans_of(rows, near):
+    """The lowest and the highest row near a capacity where a policy changes there by half a point at least, and by more than what
+    separates it from the next policy."""
+    known, spans = {**near, **rows}, {}
+    for (policy, capacity), row in rows.items():
+        around = [known.get((policy, it)) for it in (below(capacity), capacity, above(capacity))]
+        if None not in around and any(is_jump(LEAST_SPAN, *pair) for pair in zip(around, around[1:])):
+            lowest, *_, highest = sorted(around, key=lambda it: it.hits)
+            apart = [abs(it.hits - row.hits) for it in rows.values() if it.capacity == capacity and it.policy not in (policy, OPTIMAL)]
+            if highest.hits - lowest.hits > min(apart, default=0):
+                spans[policy, capacity] = lowest, highest
+    return spans
+
+
+def counted(rows, near):
+    """The rows that count for `best`: of a policy that changes near a capacity the lowest."""
+    return {**rows, **{at: lowest for at, (lowest, _) in spans_of(rows, near).items()}}
 
 
 def capacities_in(rows):
@@ -113,9 +181,8 @@ def capacities_in(rows):
 
 def capacities_of(trace, footprint, args, progress):
     """The capacities that are given, or those parts of the footprint, of which none is over the largest capacity."""
-    if args.capacity:
-        return sorted({max(1, round(it / trace.inverse)) for it in args.capacity})
-    found = {part_of(footprint, percent) for percent in args.percent or map(Decimal, PERCENTS)}
+    percents = args.percent or map(Decimal, [] if args.capacity else PERCENTS)
+    found = {part_of(footprint, percent) for percent in percents} | {max(1, round(it / trace.inverse)) for it in args.capacity or []}
     for capacity in sorted(found):
         if capacity > MAX_CAPACITY:
             progress.erase()
@@ -128,16 +195,6 @@ def part_of(footprint, percent):
     return max(1, int(footprint * percent / 100))
 
 
-def windows_of(trace, rows, progress):
-    """The rows of wtinylfu with each main part at each capacity, if that is planned."""
-    found, capacities = {}, capacities_in(rows)
-    for main in MAINS[1:]:
-        if progress.begins(main_step(main)) and capacities:
-            swept = trace.sweep([WINDOWED], capacities, main)
-            found.update({(main, capacity): row for (_, capacity), row in swept.items()})
-    return {**{(MAINS[0], it): rows[WINDOWED, it] for it in capacities}, **found} if found else {}
-
-
 def parts_of(trace, rows, policies, progress):
     """The rows of each policy with each size of its parts at each capacity, if that is planned."""
     found, capacities = {}, capacities_in(rows)
@@ -148,30 +205,6 @@ def parts_of(trace, rows, policies, progress):
     own = {(policy, option, size, it): rows[policy, it]
            for policy, option, size, _ in PARTS if policy in policies for it in capacities}
     return {**own, **found} if found else {}
-
-
-def best_of(survey, capacity):
-    """The policies that are as good as the best one at a capacity, Belady's left out, from the best on, and the rows of
-    these. Of wtinylfu it is the best window, which is named as it is typed."""
-    rows = [(name, survey.rows[name, capacity]) for name in survey.policies if name != OPTIMAL]
-    if survey.windows:
-        main = max(MAINS, key=lambda it: survey.windows[it, capacity].hits)
-        rows = [(f"{name} --main {main}", survey.windows[main, capacity]) if name == WINDOWED else (name, row)
-                for name, row in rows]
-    return nearly_best(survey.trace, rows)
-
-
-def nearly_best(trace, rows):
-    """Those of named rows that are as good as the one with the most hits, from that one on."""
-    rows = sorted(rows, key=lambda it: -it[1].hits)
-    return [(name, row) for name, row in rows if is_as_good(trace, row, rows[0][1])]
-
-
-def is_as_good(trace, row, best):
-    """Whether a row is within half a point of the best one and has at most 5 percent more misses: near 100 percent half a
-    point is much of the misses. Of a sample it is two points where a sketch is in play, whose errors differ."""
-    is_rough = trace.whole and (has_sketch(row.policy) or has_sketch(best.policy))
-    return (best.hits - row.hits) * (50 if is_rough else 200) <= row.accesses and (row.misses - best.misses) * 20 <= best.misses
 
 
 def between(low, high, count):
@@ -219,17 +252,24 @@ def rises_by(points, low, high):
     return (high.hits - low.hits) * 100 >= points * low.accesses
 
 
-def other_jumps(trace, rows, policies, points, progress):
+def other_jumps(rows, near, points):
     """Where the hit ratio of a policy that may lose by a larger capacity jumps within a percent of a survey's capacity."""
-    others = [it for it in policies if it not in MONOTONE]
-    if not progress.begins("jumps of other policies") or not others:
-        return []
-    capacities = capacities_in(rows)
-    pairs = dict.fromkeys(pair for it in capacities for pair in ((below(it), it), (it, above(it))))
-    tries = sorted({it for pair in pairs for it in pair}.difference(capacities))
-    known = {**rows, **(trace.sweep(others, tries) if tries else {})}
+    known, others = {**near, **rows}, dict.fromkeys(policy for policy, _ in near)
+    pairs = dict.fromkeys(pair for it in capacities_in(rows) for pair in ((below(it), it), (it, above(it))))
     found = ((known[policy, low], known[policy, high]) for policy in others for low, high in pairs)
     return [(low, high) for low, high in found if is_jump(points, low, high)]
+
+
+def halves_of(trace, asked, rows, accesses, progress):
+    """The choices in the first half of a trace and in the second, and how many percent more misses than the best each name has in
+    the second, by capacity."""
+    later = trace.without_half(accesses) if progress.begins("halves") else None
+    if not later:
+        return {}
+    second = measured(later, asked, capacities_in(rows))
+    first, names = {at: trace.without(rows[at], row) for at, row in second.items()}, [it for it in asked if it != OPTIMAL]
+    halves = [choices_of(trace, it) for it in (first, second)]
+    return {it: (halves[0][it], halves[1][it], more_misses({name: second[name, it] for name in names})) for it in halves[0]}
 
 
 def below(capacity):
@@ -301,10 +341,17 @@ def powers_of(trace, rows, policies, progress):
 
 
 def drawn_of(survey, progress):
-    """Every policy at capacities in equal ratios from 1 percent of the footprint on, and at both ends of each jump."""
+    """Every policy at capacities in equal ratios from 1 percent of the footprint on, at both ends of each jump, and between two of these
+    where a policy changes by over two points."""
     progress.begins("picture")
     top = min(survey.footprint, MAX_CAPACITY)
     low = max(1, survey.footprint // 100)
-    capacities = {round(low * (top / low) ** (at / (DRAWN - 1))) for at in range(DRAWN)}
-    capacities |= {row.capacity for jump in survey.jumps for row in jump}
-    return survey.trace.sweep(survey.policies, sorted(capacities)).values()
+    tries = {round(low * (top / low) ** (at / (DRAWN - 1))) for at in range(DRAWN)} | {row.capacity for jump in survey.jumps for row in jump}
+    rows = {}
+    for _ in range(ROUNDS + 1):
+        rows.update(survey.trace.sweep(survey.policies, sorted(tries)) if tries else {})
+        places = capacities_in(rows)
+        tries = {math.isqrt(low * high) for low, high in zip(places, places[1:])
+                 if any(abs(rows[it, low].hits - rows[it, high].hits) * 50 > rows[it, low].accesses for it in survey.policies)}
+        tries -= {*places}
+    return rows.values()

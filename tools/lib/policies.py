@@ -24,13 +24,16 @@ POLICIES = {
     "arc": Policy("#a50f15", 9, "(18,3,6,3)", False, True),
     "car": Policy("#999933", 13, "(4,8)", False, False),
     "sieve": Policy("#6a3d9a", 5, "(2,2,6,2)", False, True),
-    "s3-fifo": Policy("#b8a600", 14, "(6,2,2,2,2,2)", False, True),
+    "s3-fifo": Policy("#00c5cd", 13, "(6,2,2,2,2,2)", False, True),
     "tinylfu-lru": Policy("#009e73", 8, "(6,3)", True, False),
     "tinylfu-slru": Policy("#cc79a7", 10, "(14,4,3,4)", True, False),
     WINDOWED: Policy("#d55e00", 12, "(3,3)", True, True),
     CAFFEINE: Policy("#1b7837", 11, "(10,3,2,3,2,3)", True, True),
     OPTIMAL: Policy("#000000", 2, "(22,5)", False, True),
 }
+# How policies of other programs are drawn, in the order of their names.
+OTHERS = [Policy("#ff1493", 15, "(1,4)", False, False), Policy("#3333ff", 14, "(24,4,2,4)", False, False),
+          Policy("#8fbc3f", 13, "(2,8)", False, False), Policy("#5c4033", 15, "(12,2,2,2)", False, False)]
 
 
 def has_sketch(name):

@@ -10,8 +10,7 @@ from .policies import OPTIMAL, POLICIES
 
 HEADS = ("% of footprint", "policy", "traces", "mean", "P10", "P25", "P50", "P75", "P90", "best on", "near on")
 NOTE = """(percent of misses fewer than {baseline} has, over the traces; P50: the median, between two traces linearly)
-(best on: so many traces; near on: within half a point of the best hit ratio there and 5 % of its misses;
-clairvoyant is left out)
+(best on: so many traces; near on: within half a point of the best hit ratio there and 5 % of its misses; clairvoyant is left out)
 """
 # The colours of the sizes in a scatter.
 COLOURS = [POLICIES[it].colour for it in ("lru", "wtinylfu", "tinylfu-lru", "tinylfu-slru", "slru", "clock", "arc", "sieve")]

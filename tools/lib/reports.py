@@ -1,6 +1,7 @@
 """The program's reports for the scripts of tools/: how it is found and called, and what a report of a sample, or one
 without the warm-up, comes to.
 """
+import copy
 import csv
 import os
 import re
@@ -18,8 +19,8 @@ MAX_CAPACITY = 1 << 20
 SWEEP = "policy,capacity,accesses,hits,misses,evictions,rejections,rate".split(",")
 
 Row = namedtuple("Row", "policy capacity accesses hits misses evictions")
-# The options of a call: the format of the trace, --main of wtinylfu, --spread.
-Options = namedtuple("Options", "format main spread")
+# The options of a call: the format of the trace, --main of wtinylfu, --spread, --long.
+Options = namedtuple("Options", "format main spread is_long", defaults=(False,))
 
 
 def rate(hits, accesses):
@@ -107,6 +108,13 @@ class Trace:
             self.warm_up.flush()
         return after < accesses
 
+    def without_half(self, accesses):
+        """This trace of so many accesses without the first half of them, if there is one."""
+        later = copy.copy(self)
+        later.after = (self.whole or accesses) // 2
+        later.leave_out(accesses)
+        return later if later.warm_up else None
+
     def lines(self):
         return self.file.lines()
 
@@ -145,7 +153,7 @@ class Trace:
         if not policies:
             return {}
         options = self.options
-        words = ["sweep", "--format", options.format, "--spread", options.spread, "--main", main or options.main, *part]
+        words = ["sweep", "--format", options.format, "--spread", options.spread, "--main", main or options.main, *["--long"] * options.is_long, *part]
         words += [*(word for policy in policies for word in ("--policy", policy)), *capacities]
         rows = self.program.rows(words, trace, self)
         self.file.begun()  # as at first, or it has changed meanwhile

@@ -4,14 +4,16 @@ A cell that names several policies is a tuple of them, from the best one on.
 """
 import csv
 import io
-from itertools import groupby
+import textwrap
+from itertools import groupby, zip_longest
 
-from .measures import MAINS, PARTS, best_of, capacities_in, nearly_best
+from .advice import nearly_best
+from .measures import ADVICE, MAINS, PARTS, capacities_in, window
 from .policies import CAFFEINE, OPTIMAL
 from .reports import MAX_CAPACITY, rate
 
-# How wide a table for people is at most, but for a trace's name, and how many names of a cell it shows.
-MAX_WIDTH, MAX_NAMES = 100, 3
+# How wide a table for people is at most, but for a trace's name.
+MAX_WIDTH = 80
 # So many columns say what a row is of: where a table is too wide for one block of lines, each block has them. The gap is
 # what stands between two columns.
 KEYS, GAP = 2, 2
@@ -31,8 +33,9 @@ def shown_rate(row):
     return rate(row.hits, row.accesses)
 
 
-def names_of(rows):
-    return tuple(str(name) for name, _ in rows)
+def rate_of(survey, policy, capacity):
+    """The hit ratio at a capacity, or the lowest and the highest one near to it."""
+    return "-".join(map(shown_rate, survey.spans.get((policy, capacity), [survey.rows[policy, capacity]])))
 
 
 def traces_table(surveys):
@@ -43,34 +46,51 @@ def traces_table(surveys):
 
 def policies_table(surveys):
     is_bounded = OPTIMAL in surveys[0].policies
-    yield "trace", "% of footprint", "capacity", *surveys[0].policies, "best", *["below optimal"] * is_bounded
+    yield "trace", "% of footprint", "capacity", *surveys[0].policies, *["below optimal"] * is_bounded, "at worst", "best"
     for it in surveys:
         for capacity in capacities_in(it.rows):
-            best = best_of(it, capacity)
-            below = [points(it.rows[OPTIMAL, capacity], best[0][1])] if is_bounded and best else ["-"] * is_bounded
-            rates = (shown_rate(it.rows[policy, capacity]) for policy in it.policies)
-            yield it.trace.name, *place_of(it, capacity), *rates, names_of(best), *below
+            best = it.choices.get(capacity, [])
+            below = [points(it.rows[OPTIMAL, capacity], it.rows[best[0].key, capacity]) if best else "-" for _ in range(is_bounded)]
+            rates = (rate_of(it, policy, capacity) for policy in it.policies)
+            yield it.trace.name, *place_of(it, capacity), *rates, *below, worst_of(best), names_of(best)
+
+
+def worst_of(choices):
+    return f"{choices[0].worst:.1f}" if choices else "-"
+
+
+def names_of(choices):
+    return tuple(it.name for it in choices)
 
 
 def misses_table(surveys):
-    yield "trace", "% of footprint", "capacity", *surveys[0].policies, "best", "% fewer than lru"
+    yield "trace", "% of footprint", "capacity", *surveys[0].policies, "% fewer than lru", "best"
     for it in surveys:
         for capacity in capacities_in(it.rows):
-            best, lru = best_of(it, capacity), it.rows.get(("lru", capacity))
-            fewer = f"{100 * (lru.misses - best[0][1].misses) / lru.misses:.1f}" if lru and lru.misses else "-"
+            best, lru = it.choices.get(capacity, [])[:1], it.rows.get(("lru", capacity))
+            fewer = "-"
+            if best and lru and lru.misses:
+                fewer = f"{100 * (lru.misses - it.rows[best[0].key, capacity].misses) / lru.misses:.1f}"
             misses = (it.rows[policy, capacity].misses for policy in it.policies)
-            yield it.trace.name, *place_of(it, capacity), *misses, names_of(best[:1]), fewer
+            yield it.trace.name, *place_of(it, capacity), *misses, fewer, names_of(best)
+
+
+def halves_table(surveys):
+    yield "trace", "% of footprint", "capacity", "half", "% more misses", "best"
+    for it in surveys:
+        for capacity, (first, second, more) in it.halves.items():
+            yield it.trace.name, *place_of(it, capacity), "first", "-", names_of(first)
+            yield it.trace.name, *place_of(it, capacity), "second", f"{more[first[0].key]:.1f}", names_of(second)
 
 
 def windows_table(surveys):
     beside = [CAFFEINE] if CAFFEINE in surveys[0].policies else []
     yield "trace", "% of footprint", "capacity", *(f"--main {it}" for it in MAINS), *beside, "best --main"
     for it in surveys:
-        for capacity in capacities_in(it.rows) if it.windows else []:
-            rows = [(main, it.windows[main, capacity]) for main in MAINS]
-            moved = (it.rows[policy, capacity] for policy in beside)
-            rates, best = map(shown_rate, (*(row for _, row in rows), *moved)), nearly_best(it.trace, rows)
-            yield it.trace.name, *place_of(it, capacity), *rates, names_of(best)
+        for capacity in (capacity for name, capacity in sorted(it.rows) if name == window(MAINS[-1])):
+            rows = [(str(main), it.rows[window(main), capacity]) for main in MAINS]
+            rates = map(shown_rate, (*(row for _, row in rows), *(it.rows[policy, capacity] for policy in beside)))
+            yield it.trace.name, *place_of(it, capacity), *rates, tuple(main for main, _ in nearly_best(it.trace, rows))
 
 
 def parts_table(surveys):
@@ -110,104 +130,133 @@ def powers_table(surveys):
             yield it.trace.name, at.policy, it.trace.shown(at.capacity), *rates, points(above, at)
 
 
-TABLES = {"traces": traces_table, "policies": policies_table, "misses": misses_table, "windows": windows_table, "parts": parts_table,
-          "jumps": jumps_table, "reach": reach_table, "powers": powers_table}
+TABLES = {"traces": traces_table, "policies": policies_table, "misses": misses_table, "halves": halves_table, "windows": windows_table,
+          "parts": parts_table, "jumps": jumps_table, "reach": reach_table, "powers": powers_table}
 # What stands above the part of a table that is of one trace.
-TITLES = {"policies": "hit ratios in percent", "misses": "misses", "windows": "hit ratios of wtinylfu in percent",
+TITLES = {"policies": "hit ratios in percent", "misses": "misses", "halves": "best of each half", "windows": "hit ratios of wtinylfu in percent",
           "parts": "hit ratios in percent by the sizes of parts",
           "jumps": "jumps of the hit ratio", "reach": "capacities that reach a hit ratio",
           "powers": "on both sides of a power of two"}
-NEAR = "(best: within half a point of the best policy and 5 % of its misses; clairvoyant is left out)"
-NEAR_IN_SAMPLE = ("(best: within half a point of the best policy, or two where one of both has a sketch,\n"
-                  "and 5 % of its misses; clairvoyant is left out)")
+AT_WORST = ("in the order of how many percent more misses than the best they have at worst, there or at the capacities beside it. "
+            "LOW-HIGH: the policy changes so much within a percent of the capacity; its lowest counts)")
 NOTES = {
-    "policies": NEAR,
+    "policies": f"(best: all within half a point of the best policy and 5 % of its misses, clairvoyant left out, {AT_WORST}",
+    "halves": "(% more misses: of the first half's first name, in the second half, than the best policy there)",
     "windows": "(--main 99 has a window of 1 percent, --main 20 one of 80)",
     "parts": "(the program's own sizes, those of the papers: --small 10, --in 25 and --out 50)",
     "jumps": "(lru: at any capacity; others but clairvoyant: within a percent of the survey's capacities)",
-    "reach": "(the smallest capacity found, to one percent; of other policies than lru and clairvoyant a smaller\n"
-             "one may reach the ratio too, and a larger one may not; never: no cache of any size has that ratio)",
+    "reach": "(the smallest capacity found, to one percent; of other policies than lru and clairvoyant a smaller one may reach the "
+             "ratio too, and a larger one may not; never: no cache of any size has that ratio)",
     "powers": "(near a capacity of the survey: past it the sketch doubles its width, so look at both sides)",
 }
 NOTES_OF_SAMPLE = {
-    "policies": NEAR_IN_SAMPLE,
+    "policies": "(best: all within half a point of the best policy, or two where one of both has a sketch, and 5 % of its misses, "
+                f"clairvoyant left out, {AT_WORST}\n(of sieve and slru near a jump, and of any policy where two samples by other seeds "
+                "disagree, a sample says nothing)",
     "jumps": f"{NOTES['jumps']}\n(where a sample jumps is known to some percent: 3 at 1000 entries of its cache, 10 at 100)",
 }
 # What is said in place of an empty table.
-NONE = {"policies": "no accesses",
+NONE = {"policies": "no accesses", "halves": "no halves",
         "jumps": "no jump " + NOTES["jumps"]}
-LEFT = {"trace", "policy", "best", "best --main"}
-
-
-def texts_of(row, most=None):
-    """The texts of a row's cells: of names all, or so many and how many more there are."""
-    return [named(cell, most) if isinstance(cell, tuple) else str(cell) for cell in row]
-
-
-def named(names, most):
-    more = len(names) - most if most else 0
-    return (" or ".join(names[:most]) or "-") + (f" and {more} more" if more > 0 else "")
+FOLDED = {"best", "best --main"}
+LEFT = {"trace", "policy", "half", *FOLDED}
 
 
 def width_of(widths):
-    return sum(width + GAP for width in widths)
+    return sum(width + GAP for width in widths) - GAP
 
 
-def column_groups(heads, widths):
-    """The columns after the first, each alone, but `best` with those after it where they are not too wide together."""
-    end = len(heads)
-    best = next((at for at in range(KEYS, end) if heads[at] in LEFT), end)
-    if width_of(widths[:KEYS] + widths[best:]) - GAP > MAX_WIDTH:
-        best = end
-    return [[at] for at in range(KEYS, best)] + [[*range(best, end)]] * (best < end)
-
-
-def column_blocks(heads, widths):
+def column_blocks(widths, most):
     """The columns of a table in blocks that are not too wide, each of which has the first columns."""
-    blocks, taken = [], MAX_WIDTH
-    for group in column_groups(heads, widths):
-        width = width_of(widths[at] for at in group)
-        if taken + width - GAP > MAX_WIDTH:
+    blocks = [[*range(KEYS)]]
+    for at in range(KEYS, len(widths)):
+        if len(blocks[-1]) > KEYS and width_of(widths[it] for it in (*blocks[-1], at)) > most:
             blocks.append([*range(KEYS)])
-            taken = width_of(widths[:KEYS])
-        blocks[-1] += group
-        taken += width
+        blocks[-1].append(at)
     return blocks
 
 
-def aligned(rows):
-    """Rows of texts, the first of which are heads, in columns: names to the left and numbers to the right."""
-    widths = [max(map(len, column)) for column in zip(*rows)]
-    placed = [[cell.ljust(width) if head in LEFT else cell.rjust(width)
-               for cell, width, head in zip(row, widths, rows[0])] for row in rows]
-    blocks = column_blocks(rows[0], widths)
-    return "\n\n".join("\n".join((" " * GAP).join(row[at] for at in block).rstrip() for row in placed) for block in blocks)
+def folded(cell, width):
+    """The lines of a cell: of names as many on each as there is room for."""
+    if not isinstance(cell, tuple):
+        return [str(cell)]
+    names = textwrap.wrap(" or ".join(it.replace(" ", "\0") for it in cell) or "-", width, break_long_words=False, break_on_hyphens=False)
+    return [it.replace("\0", " ") for it in names]
 
 
-def for_people(name, rows, notes):
+def lines_of(cells, is_left, widths):
+    """The lines of a row whose cells are lists of lines: names to the left and numbers to the right."""
+    for texts in zip_longest(*cells, fillvalue=""):
+        placed = [text.ljust(width) if left else text.rjust(width) for text, left, width in zip(texts, is_left, widths)]
+        yield (" " * GAP).join(placed).rstrip()
+
+
+def in_two(head):
+    """A head in two lines, which are about as long as each other."""
+    words = head.split()
+    return min(([" ".join(words[:at]), " ".join(words[at:])] for at in range(len(words))), key=lambda it: max(map(len, it)))
+
+
+def block_of(block, rows, heads, least):
+    """Some of the columns one beside the other, the last of which takes the room that is left where it has names."""
+    widths = [least[at] for at in block]
+    if rows[0][block[-1]] in FOLDED:
+        widths[-1] = max(widths[-1], MAX_WIDTH - width_of(widths[:-1]) - GAP)
+    cells = [[folded(row[at], width) for at, width in zip(block, widths)] for row in rows[1:]]
+    is_left = [rows[0][at] in LEFT for at in block]
+    return "\n".join(line for row in ([heads[at] for at in block], *cells) for line in lines_of(row, is_left, widths))
+
+
+def aligned(rows, most=MAX_WIDTH):
+    """Rows of cells, the first of which are heads, in as many blocks of columns as are needed. Where they do not fit as they are,
+    heads have two lines and names as many as they need."""
+    rows = list(rows)
+    for heads, width in (([[head] for head in rows[0]], 1 << 20), ([in_two(head) for head in rows[0]], 1)):
+        least = [max(len(line) for lines in (head, *(folded(it, width) for it in cells)) for line in lines)
+                 for head, (_, *cells) in zip(heads, zip(*rows))]
+        if width_of(least) <= most:
+            break
+    return "\n\n".join(block_of(block, rows, heads, least) for block in column_blocks(least, most))
+
+
+def for_people(name, rows, notes, also):
     """A table: of each trace a part with its name and the table's title above it, but of traces all together."""
-    head, *rows = (texts_of(row, MAX_NAMES) for row in rows)
+    head, *rows = rows
     if not rows:
-        return NONE[name] + "\n"
+        return folded_note(NONE[name])
     if name == "traces":
-        parts = [aligned([head, *rows])]
+        parts = [aligned([head, *rows], MAX_WIDTH + max(len(row[0]) for row in rows)) + "\n"]
     else:
-        parts = [f"{trace}: {TITLES[name]}\n{aligned([head[1:], *(row[1:] for row in group)])}"
+        parts = [f"{trace}: {TITLES[name]}\n{aligned([head[1:], *(row[1:] for row in group)])}\n{also.get(trace, '')}"
                  for trace, group in groupby(rows, key=lambda row: row[0])]
-    return "\n".join(["\n\n".join(parts), *([notes[name]] if name in notes else [])]) + "\n"
+    return "\n".join(parts) + folded_note(notes.get(name, ""))
+
+
+def folded_note(text):
+    return "".join(textwrap.fill(line, MAX_WIDTH) + "\n" for line in text.splitlines())
+
+
+def also_measured(surveys):
+    """What is said of each trace of which capacities were measured that nobody asked for."""
+    return {it.trace.name: "also measured, between two whose best policies disagree: "
+            + ", ".join(str(it.trace.shown(capacity)) for capacity in it.between) for it in surveys if it.between}
 
 
 def text_of(args, surveys):
-    tables = {name: list(TABLES[name](surveys)) for name in args.table}
+    # Of CSV a number is one.
+    tables = {name: list(TABLES[name]([it._replace(spans={}) for it in surveys] if args.csv else surveys)) for name in args.table}
     if args.csv:
         out = io.StringIO()
-        csv.writer(out, lineterminator="\n").writerows(texts_of(row) for rows in tables.values() for row in rows)
+        csv.writer(out, lineterminator="\n").writerows([" or ".join(it) or "-" if isinstance(it, tuple) else it for it in row]
+                                                           for rows in tables.values() for row in rows)
         return out.getvalue()
     notes = {**NOTES, **(NOTES_OF_SAMPLE if args.sampled else {})}
-    parts = [for_people(name, rows, notes) for name, rows in tables.items() if len(rows) > 1 or name in NONE]
+    also = {trace: folded_note(f"({text})") for trace, text in also_measured(surveys).items()}
+    first = next((name for name in tables if name in ADVICE), None)
+    parts = [for_people(name, rows, notes, also if name == first else {}) for name, rows in tables.items() if len(rows) > 1 or name in NONE]
     if args.sampled:
         parts.append(f"(estimates by one block in {args.sampled})\n")
     if args.after:
         about = "about " * bool(args.sampled)
-        parts.append(f"(without {about}the first {args.after} accesses, where clairvoyant is no upper bound)\n")
+        parts.append(folded_note(f"(without {about}the first {args.after} accesses, where clairvoyant is no upper bound)"))
     return "\n".join(parts)
