@@ -228,8 +228,8 @@ def check_progress(survey, folder):
                                  for place, step in enumerate(["footprint", "policies", "between capacities"] * 2, 1)])
     expect("lines that are erased", drawn.count("\x1b[A\r\x1b[K"), 6)
     expect("the last line", drawn.endswith("\x1b[A\r\x1b[K"), True)
-    odd = file_of(folder, "three\x1b[2J\n", "1\n2\n1\n")
-    expect_parts("a name with other characters", on_terminal(survey, odd, *words, "--table", "traces"), "1 of 1: footprint, ", "/three?[2J?\r\n")
+    odd = file_of(folder, "three\x1b[2J", "1\n2\n1\n")
+    expect_parts("a name with other characters", on_terminal(survey, odd, *words, "--table", "traces"), "1 of 1: footprint, ", "/three?[2J\r\n")
     # The footprint, the policies, between these, jumps of lru, a search for each policy, powers of two.
     expect_parts("all tables", on_terminal(survey, traces[0], *words, "--reach", "9"), "1 of 7: footprint, ", "7 of 7: powers of two, ")
 
@@ -524,7 +524,8 @@ def check_sampled_once(survey, folder):
 
 def check_unsafe_name(survey, folder):
     """The name of a trace is no more than a text for gnuplot."""
-    trace = file_of(folder, f"-{UNSAFE}", "1\n2\n1\n").name
+    name = "-" + UNSAFE.replace("\n", "")
+    trace = file_of(folder, name, "1\n2\n1\n").name
     words = survey, "--program", fake(folder), "--plot", "picture.svg", "--table", "traces", "--", trace
     run(*words, cwd=folder, env=gnuplot_by(folder, NOTING))
     expect("outside of texts", "`" in without_texts((folder / "given").read_text()), False)
