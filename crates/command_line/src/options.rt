@@ -384,7 +384,7 @@ report depends on it",
         help: "The policies to run, in the order of their reports;
 no file is named here
 [possible values: lru, slru, tinylfu-lru, tinylfu-slru, wtinylfu,
-clairvoyant, fifo, clock, sieve, s3-fifo, 2q, arc, caffeine]",
+clairvoyant, fifo, clock, sieve, s3-fifo, 2q, arc, caffeine, car]",
         value: ValueKind::Policy,
         place: Place::Positional,
         default: None,
@@ -395,7 +395,7 @@ clairvoyant, fifo, clock, sieve, s3-fifo, 2q, arc, caffeine]",
         help: "A policy to run; given more than once,
 the reports of the first come first
 [possible values: lru, slru, tinylfu-lru, tinylfu-slru, wtinylfu,
-clairvoyant, fifo, clock, sieve, s3-fifo, 2q, arc, caffeine]",
+clairvoyant, fifo, clock, sieve, s3-fifo, 2q, arc, caffeine, car]",
         value: ValueKind::Policy,
         place: Place::NamedOften,
         default: None,
