@@ -13,6 +13,7 @@ WORD = ["crates/step_record/src/job.rt", JOB, "crates/policies/src/design.rt", "
 CODE = [*ROW, *WORD]
 # Where a step that requires a state has it.
 ANSWERS = [f"crates/demand_cache/proofs/demand_policy/DemandPolicy/{it}/Answers.antt" for it in ("count_out", "step")]
+OPTIONS = "crates/command_line/src/options.rt"
 EXAMPLES = "crates/policy_tests/src/example_tests.rt"
 REFERENCE = "checks/cache_reference/demand_policies.py"
 STYLES = "tools/lib/policies.py"
@@ -80,7 +81,8 @@ class Twin:
         """The text of each file that policies share, with the new one in it."""
         files = {
             "crates.txt": self.in_crates, ARCHITECTURE: self.in_architecture, **dict.fromkeys([*ROW, *ANSWERS, *WORD], self.beside),
-            EXAMPLES: self.in_examples, REFERENCE: self.in_reference, STYLES: self.in_styles, GUIDE: self.in_guide, SOURCES: self.in_sources}
+            OPTIONS: self.in_options, EXAMPLES: self.in_examples, REFERENCE: self.in_reference, STYLES: self.in_styles,
+            GUIDE: self.in_guide, SOURCES: self.in_sources}
         for file, change in files.items():
             old = (top / file).read_text()
             try:
@@ -165,6 +167,10 @@ class Twin:
         if len(rows) != 1:
             raise ValueError(f"{len(rows)} rows begin with `{begin}`")
         return rows[0]
+
+    def in_options(self, text):
+        """The word in the lists of help, each of which ends its line."""
+        return re.sub(rf"\b{re.escape(self.model.word)}(?=(, [\w-]+)*\]\",)", f"{self.model.word}, {self.own.word}", text)
 
     def in_examples(self, text):
         """The model's first worked example a second time."""
