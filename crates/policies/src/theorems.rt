@@ -67,7 +67,6 @@ pub fn residents_fit()
 {}
 
 /// No key is resident twice.
-#[tactic(auto, using(crate::proofs::StepLaws::residents_distinct))]
 pub fn residents_distinct()
     ensures { ResidentsDistinct }
 {}
