@@ -15,7 +15,8 @@ use Rattle.policy_page.specs.PolicyPage.{PolicyPage, page_machine}
 use Rattle.policy_page.specs.Residents.{IsAccess, AreResidents, KeepsResidents, Outcome}
 use Rattle.policy_page.proofs.Residents.{page-keeps}
 use Rattle.demand_cache.specs.declared.demand_policy.DemandPolicy.TheVariants as sized
-use Rattle.demand_cache.specs.DemandPolicy.{DemandPolicy, page_of, outcomes_of_page}
+use Rattle.demand_cache.specs.declared.demand_policy.DemandPolicy.{DemandPolicy}
+use Rattle.demand_cache.specs.DemandPolicy.{page_of, outcomes_of_page}
 use Rattle.demand_cache.proofs.Keeping.{pages-sound}
 use Rattle.queue_cache.specs.Theorems.{LruStepLaw}
 use Rattle.policies.specs.declared.design.Design.TheVariants as design
@@ -74,7 +75,9 @@ module _ (g : PolicyPage) (c : ℕ) (all : KeepsResidents c g.start (g.act c) g.
       omega (arith, hits-are c _ _ online t n l, both, outcomes-long (g.act c) g.start (take n t), length-take-le n t l)
 
   access-at : (n : ℕ) → n < length t → IsAccess c (get_or t n 0) (held n) (g.act c (get_or t n 0) (state_at m t n)).0 (held (suc n))
-  access-at n l = rw (next-is m t n l) (all.accesses (get_or t n 0) (state_at m t n) (stood n))
+  access-at n l =
+      subst (λ s. IsAccess c (get_or t n 0) (held n) (g.act c (get_or t n 0) (state_at m t n)).0 (g.residents s)) (sym (next-is m t n l))
+      (all.accesses (get_or t n 0) (state_at m t n) (stood n))
 
   -- so long as it has missed at most c times, it holds a key for each miss
   one-each : (n : ℕ) → n ≤ length t → strategy_misses t held n ≤ c → length (held n) ≡ strategy_misses t held n

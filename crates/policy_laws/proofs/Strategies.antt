@@ -5,7 +5,8 @@ use Rattle.std.proofs.Math.Seq.{take-suc}
 use Rattle.std.proofs.lemmas.List.{take_all}
 use Rattle.std.proofs.lemmas.List.Sums.{sum_by-append}
 use Rattle.engine_base.specs.Keys.{has_key}
-use Rattle.engine_base.specs.Machine.{Outcome, Machine, after, outcomes, KeepsKeys}
+use Rattle.engine_base.specs.declared.outcome.Outcome.{Outcome}
+use Rattle.engine_base.specs.Machine.{Machine, after, outcomes, KeepsKeys}
 use Rattle.engine_base.specs.Stats.{is_hit, one_if}
 use Rattle.engine_base.proofs.Machine.{next, outcomes-append, stands, residents-fit}
 use Rattle.optimality.specs.Strategy.{IsStrategy, strategy_hits}
