@@ -1,14 +1,13 @@
 -- What a cache of queues shows after a list of accesses, and what its fields say of it.
 use Rattle.std.proofs.lemmas.Bool.Decides.{nat_tests}
-use Rattle.std.proofs.Common.{◌≡◌, ◌≢◌, ℕ, ◌+◌, ◌≤◌, Bool, Option, Ok, List, [], ◌∷◌, ◌++◌, length, ap, ◌∙◌, sym, refl, arith, append-nil, add-zero}
+use Rattle.std.proofs.Common.{◌≡◌, ℕ, ◌+◌, ◌≤◌, Bool, Option, Ok, List, [], ◌∷◌, ◌++◌, ap, ◌∙◌, sym, refl, arith, append-nil, add-zero}
 use Rattle.std.proofs.lemmas.List.{append_assoc}
-use Rattle.engine_base.specs.declared.limits.TheConstants.{MAX_STEPS}
 use Rattle.engine_base.specs.Config.{config_fault}
 use Rattle.engine_base.specs.Machine.{state_after_all}
 use Rattle.engine_base.specs.Pace.{words_of_halvings}
-use Rattle.engine_base.specs.Stats.{stats_of, stats_with}
+use Rattle.engine_base.specs.Stats.{stats_of}
 use Rattle.engine_base.proofs.Limited.{accepted}
-use Rattle.engine_base.proofs.Machine.{next, made}
+use Rattle.engine_base.proofs.Machine.{next}
 use Rattle.segments.specs.Queues.{Queues, empty_queues}
 use Rattle.admission.specs.FreqRecord.{size_of}
 use Rattle.admission.specs.Frequency.{FrequencyData, frequency_of}
@@ -16,10 +15,9 @@ use Rattle.admission.proofs.Recording.{recorded_freq}
 use Rattle.admission.proofs.Weighing.{halvings_bounded, weight_falls}
 use Rattle.replacement.specs.Shape.{Config, shape_of}
 use Rattle.replacement.proofs.Shape.{shape-is}
-use Rattle.queue_cache.specs.QueueCache.{Outcome, Stats, QueueSetup, QueueState, recorded_in, queue_access, frequency_by, frequency_after, empty_queue_state, queue_machine, state_after, outcome_after, StandsFor}
+use Rattle.queue_cache.specs.QueueCache.{QueueSetup, QueueState, recorded_in, queue_access, frequency_by, frequency_after, empty_queue_state, queue_machine, state_after, outcome_after, StandsFor}
 use Rattle.queue_cache.specs.QueueStep.{FreqRecord, FitsCounting, IsRunning, halvings_in, unrecorded, pace_by}
 use Rattle.queue_cache.specs.Theorems.{QueuesStepLaw, FrequencyIsOfAccesses}
-use Rattle.queue_cache.proofs.Balance.{queue-counting}
 
 pub has-room : (c : Config) → config_fault c ≡ Ok tt → 1 ≤ c.capacity
 has-room c h = grind (arith, nat_tests)
@@ -53,9 +51,6 @@ module _ (s : QueueSetup) (keys : List ℕ) (d : QueueState) (h : StandsFor s ke
   pub stands-outcome : (k : ℕ) → (queue_access k d).0 ≡ outcome_after s keys k
   stands-outcome k = ap (λ x. (queue_access k x).0) h.gives
 
-  pub stands-accesses : d.stats.accesses ≡ length keys
-  stands-accesses = ap (λ (x : QueueState). x.stats.accesses) h.gives ∙ made (queue_machine s) (λ d. d.stats) (queue-counting s) keys
-
 -- what an accepted step does is what the list of accesses says
 pub act_stands : QueuesStepLaw
 act_stands s keys d k o e h step = grind (arith, nat_tests, accepted, stands-outcome, stands-step)
@@ -73,13 +68,6 @@ none-halved v c some = grind (arith, nat_tests, halvings_bounded)
 
 pub first-running : (s : QueueSetup) (f : Option FrequencyData) → config_fault s.config ≡ Ok tt → f ≡ frequency_after s [] → IsRunning s f (stats_of [])
 first-running s f h g = rw g (grind (arith, nat_tests, none-halved, has-room))
-
-one-halving : (k : ℕ) (f : Option FrequencyData) → halvings_in (recorded_in k f) ≤ halvings_in f + 1
-one-halving k v = grind (arith, nat_tests)
-
-pub next_running : (s : QueueSetup) (f : Option FrequencyData) (t : Stats) (k : ℕ) (o : Outcome) → IsRunning s f t → t.accesses ≢ MAX_STEPS
-    → IsRunning s (recorded_in k f) (stats_with o t)
-next_running s f t k o r below = grind (arith, nat_tests, one-halving)
 
 -- the words of a record of the frequency
 pub counting-weighs : (r : FreqRecord) (g : Option FrequencyData) → FitsCounting r g → words_of_halvings (pace_by g) ≡ words_of_halvings (pace_by (unrecorded r g)) + size_of r

@@ -1,8 +1,9 @@
 -- The report of a job of Lru has what a cache of Lru counts.
-use Rattle.std.proofs.Common.{◌≡◌, List, ℕ, ap, sym, ◌∙◌}
+use Rattle.std.proofs.Common.{◌≡◌, List, ℕ, ap, sym, refl, ◌∙◌}
 use Rattle.step_record.specs.declared.job.Policy.TheVariants.{Lru}
 use Rattle.engine_base.proofs.Machine.{counted}
 use Rattle.engine_base.specs.Stats.{stats_of}
+use Rattle.engine_base.specs.declared.stats.Stats.{Stats}
 use Rattle.queue_cache.specs.Lru.{lru}
 use Rattle.queue_cache.specs.declared.design.QueueSetup.{QueueSetup}
 use Rattle.queue_cache.specs.QueueCache.{queue_machine, state_after}
@@ -18,5 +19,6 @@ lru-stats j trace is =
     let s : QueueSetup = queue_setup lru j in
     counted (queue_machine s) (λ d. d.stats) (queue-counting s) trace ∙ ap (λ x. stats_of (outcomes_by x j trace)) (sym (design-named j Lru is))
 
-pub lru-report : (j : Job) (trace : List ℕ) → j.policy ≡ Lru → report_of j (state_after (queue_setup lru j) trace).stats ≡ report_on j trace
-lru-report j trace is = ap (report_of j) (lru-stats j trace is)
+-- what a cache of Lru of this capacity counts, with any configuration, makes the report
+pub lru-report : (j : Job) (trace : List ℕ) (s : Stats) → j.policy ≡ Lru → ((q : QueueSetup) → q.design ≡ lru → q.config.capacity ≡ j.config.capacity → s ≡ (state_after q trace).stats) → report_of j s ≡ report_on j trace
+lru-report j trace s is gives = ap (report_of j) (gives (queue_setup lru j) refl refl ∙ lru-stats j trace is)
