@@ -125,7 +125,7 @@ complete -c cachesim-survey -F
 complete -c cachesim-survey -l policy -x -a 'lru slru tinylfu-lru tinylfu-slru wtinylfu clairvoyant fifo clock sieve s3-fifo 2q arc caffeine car' -d 'a column; also more than once (at most eight of the program'\''s)'
 complete -c cachesim-survey -l capacity -x -d 'a capacity of the policies, in place of parts of the footprint; also more than once'
 complete -c cachesim-survey -l percent -x -d 'a part of the footprint in percent, in place of 1, 2, 5, 10, 20, 50; also more than once'
-complete -c cachesim-survey -l reach -x -d 'a hit ratio in percent: search for the smallest capacity of each policy that has it; a larger one may have less again, but not of lru and clairvoyant'
+complete -c cachesim-survey -l reach -x -d 'a hit ratio in percent: search for the smallest capacity of each policy that has it'
 complete -c cachesim-survey -l plot -r -F -d 'draw all policies over the capacity, by steps and with both ends of each jump, as SVG, or as PNG where FILE ends so'
 complete -c cachesim-survey -l after -x -d 'leave the first N accesses out of all counts, of a sample as large a part of it as of the whole'
 complete -c cachesim-survey -l sampled -x -d 'TRACE is from a sample by cachesim-sample, of this rate: estimate the whole trace. In place of 1/N and --accesses also a file with what cachesim-sample said of it, which has to fit exactly'

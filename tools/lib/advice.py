@@ -1,6 +1,5 @@
-"""What `best` of tools/survey names at a capacity: the policies that are as good as the best one there, in the order of what they
-cost at worst, there and at the capacities beside it.
-"""
+"""What `best` of tools/survey names at a capacity: the policies that are as good as the best one there, in the order of
+what they cost at worst, there and at the capacities beside it."""
 import math
 from collections import namedtuple
 
@@ -44,15 +43,13 @@ def is_as_good(trace, row, best):
     """Whether a row is within half a point of the best one and has at most 5 percent more misses: near 100 percent half a
     point is much of the misses. Of a sample it is two points where a sketch is in play, whose errors differ."""
     is_rough = trace.whole and (has_sketch(row.policy) or has_sketch(best.policy))
-    return (best.hits - row.hits) * (50 if is_rough else 200) <= row.accesses and (row.misses - best.misses) * 20 <= best.misses
+    is_close = (best.hits - row.hits) * (50 if is_rough else 200) <= row.accesses
+    return is_close and (row.misses - best.misses) * 20 <= best.misses
 
 
 def middles_of(choices):
     """The capacities in the middle of two neighbouring ones of which one's first choice is none of the other's."""
-    places = sorted(choices)
-    middles = [(low, math.isqrt(low * high), high) for low, high in zip(places, places[1:]) if disagree(choices[low], choices[high])]
-    return [middle for low, middle, high in middles if low < middle < high]
-
-
-def disagree(low, high):
-    return not (low[0].key in [it.key for it in high] and high[0].key in [it.key for it in low])
+    places, keys = sorted(choices), {place: [it.key for it in found] for place, found in choices.items()}
+    apart = [(low, high) for low, high in zip(places, places[1:])
+             if keys[low][0] not in keys[high] or keys[high][0] not in keys[low]]
+    return [middle for low, high in apart if low < (middle := math.isqrt(low * high)) < high]

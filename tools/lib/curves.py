@@ -3,10 +3,10 @@ refused of them."""
 import sys
 from collections import namedtuple
 
-from .names import as_called
+from .options import as_called
 from .policies import OPTIMAL
+from .reports import SWEEP
 
-SWEEP = "policy,capacity,accesses,hits,misses,evictions,rejections,rate"
 INTERVALS = "policy,capacity,first,last,hits,misses,evictions,rejections,rate"
 COMPARISONS = "first,second,capacity,from,to,both,first_only,second_only,neither"
 HEADERS = (SWEEP, INTERVALS, COMPARISONS)

@@ -1,6 +1,5 @@
-"""The jobs of tools/corpus: what one makes of its trace, and the programs that run them, each of which prints the line of a
-job once that has ended: GNU parallel, Slurm, or this script by a pool of threads.
-"""
+"""The jobs of tools/corpus: what one makes of its trace, and the programs that run them, each of which prints the line of
+a job once that has ended: GNU parallel, Slurm, or this script by a pool of threads."""
 import contextlib
 import json
 import os
@@ -21,8 +20,6 @@ from .traces import Unreadable, times_of_blocks
 
 # What a job takes at most beside its caches, of the longest trace and with clairvoyant.
 JOB_MEMORY = 1 << 29
-# What lets a trace have 2^32 - 1 accesses.
-LONG = ("--long",)
 # A job array of Slurm has at most 1001 tasks where its administrator did not set another MaxArraySize.
 MAX_TASKS = 1000
 # How often a job is tried that ended without its line, each time on another host.
@@ -53,15 +50,15 @@ def line_of(program, settings, name):
 
 
 def rows_of(trace, settings):
-    report = trace.sweep(["lru"], [MAX_CAPACITY], part=LONG)["lru", MAX_CAPACITY]
+    report = trace.sweep(["lru"], [MAX_CAPACITY], part=["--long"])["lru", MAX_CAPACITY]
     # Without an eviction the misses are the distinct blocks.
-    footprint = len(times_of_blocks(trace.lines(), trace.options.format)) if report.evictions else report.misses
+    footprint = len(times_of_blocks(trace.file.lines(), trace.options.format)) if report.evictions else report.misses
     if not footprint:
         raise Unreadable("it has no accesses")
     parts = {percent: part_of(footprint, Decimal(percent)) for percent in settings["percents"]}
     capacities = sorted({it for it in parts.values() if it <= MAX_CAPACITY})
     # Belady's policy takes no long trace.
-    length = () if "clairvoyant" in settings["policies"] else LONG
+    length = [] if "clairvoyant" in settings["policies"] else ["--long"]
     rows = trace.sweep(settings["policies"], capacities, part=length) if capacities else {}
     return {"footprint": footprint, "accesses": report.accesses,
             "misses": {percent: {policy: rows[policy, capacity].misses for policy in settings["policies"]}

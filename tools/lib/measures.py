@@ -1,6 +1,5 @@
 """What tools/survey measures of a trace: its footprint, every policy at several capacities, the windows of wtinylfu, jumps
-of the hit ratio, the capacities that reach one, and both sides of powers of two.
-"""
+of the hit ratio, the capacities that reach one, and both sides of powers of two."""
 import math
 import sys
 from collections import namedtuple
@@ -30,7 +29,6 @@ ROUNDS = 2
 LEAST_SPAN = Decimal("0.5")
 # How many capacities in equal ratios a picture has, from 1 percent of the footprint on.
 DRAWN = 30
-
 # The tables with `best`.
 ADVICE = {"policies", "misses", "halves"}
 
@@ -40,8 +38,6 @@ ADVICE = {"policies", "misses", "halves"}
 Survey = namedtuple("Survey", "trace accesses footprint once highest policies rows spans between choices halves parts jumps reaches "
                     "powers", defaults=({}, {}, [], {}, [], {}, [], [], []))
 Reach = namedtuple("Reach", "policy ratio row below is_possible")
-# What `best` names: as it is typed, its row, and how many percent more misses it has at worst than the best policy there.
-Choice = namedtuple("Choice", "name policy row worst")
 
 
 def plan_of(policies, args):
@@ -78,7 +74,7 @@ def survey_of(trace, policies, args, progress):
     largest = trace.reports(["lru"], [MAX_CAPACITY], None, trace.file.begun())
     report = largest["lru", MAX_CAPACITY]
     check_accesses(args, f"{trace.name}: ", report.accesses)
-    counts = times_of_blocks(trace.lines(), trace.options.format) if "traces" in args.table or report.evictions else {}
+    counts = times_of_blocks(trace.file.lines(), trace.options.format) if "traces" in args.table or report.evictions else {}
     # Without an eviction the misses are the distinct blocks.
     footprint = len(counts) if report.evictions else report.misses
     if counts and (report.accesses, footprint) != (counts.total(), len(counts)):
@@ -110,8 +106,8 @@ def highest_of(trace, largest, footprint):
 
 
 def asked_of(policies, args):
-    """What is run at each capacity by its name: a policy, and its main part where it is not the call's. These are the columns, and for
-    `best` the windows of wtinylfu, and the policies without a column where none is named."""
+    """What is run at each capacity by its name: a policy, and its main part where it is not the call's. These are the
+    columns, and for `best` the windows of wtinylfu, and the policies without a column where none is named."""
     asked = [*policies, *(it for it in args.others if {*args.table} & ADVICE)]
     is_windowed = WINDOWED in asked and not args.main and {*args.table} & {*ADVICE, "windows"}
     return {**{it: (it, None) for it in asked}, **{window(it): (WINDOWED, it) for it in MAINS[1:] if is_windowed}}
@@ -123,8 +119,8 @@ def window(main):
 
 
 def rows_of(trace, asked, footprint, args, progress):
-    """The rows at the capacities of a survey, those near to them, and the capacities between two whose best policies disagree, which
-    are measured too."""
+    """The rows at the capacities of a survey, those near to them, and the capacities between two whose best policies
+    disagree, which are measured too."""
     rows, near, between = {}, {}, []
 
     def measure(capacities):
@@ -145,7 +141,8 @@ def measured(trace, asked, capacities):
     rows = {}
     for main in dict.fromkeys(main for _, main in asked.values()) if capacities else []:
         names = {policy: name for name, (policy, it) in asked.items() if it == main}
-        rows.update({(names[policy], capacity): row for (policy, capacity), row in trace.sweep([*names], capacities, main).items()})
+        swept = trace.sweep([*names], capacities, main)
+        rows.update({(names[policy], capacity): row for (policy, capacity), row in swept.items()})
     return rows
 
 
@@ -157,8 +154,8 @@ def rows_near(trace, asked, capacities):
 
 
 def spans_of(rows, near):
-    """The lowest and the highest row near a capacity where a policy changes there by half a point at least, and by more than what
-    separates it from the next policy."""
+    """The lowest and the highest row near a capacity where a policy changes there by half a point at least, and by more
+    than what separates it from the next policy."""
     known, spans = {**near, **rows}, {}
     for (policy, capacity), row in rows.items():
         around = [known.get((policy, it)) for it in (below(capacity), capacity, above(capacity))]
@@ -222,10 +219,8 @@ def steep_parts(rows):
     parts = []
     for low, high in zip(rows, rows[1:]):
         if is_steep(low, high):
-            if parts and parts[-1][1] == low:
-                parts[-1] = parts[-1][0], high
-            else:
-                parts.append((low, high))
+            first, _ = parts.pop() if parts and parts[-1][1] == low else (low, None)
+            parts.append((first, high))
     return parts
 
 
@@ -261,8 +256,8 @@ def other_jumps(rows, near, points):
 
 
 def halves_of(trace, asked, rows, accesses, progress):
-    """The choices in the first half of a trace and in the second, and how many percent more misses than the best each name has in
-    the second, by capacity."""
+    """The choices in the first half of a trace and in the second, and how many percent more misses than the best each name
+    has in the second, by capacity."""
     later = trace.without_half(accesses) if progress.begins("halves") else None
     if not later:
         return {}
@@ -324,8 +319,7 @@ def tries_between(below, reached, ratio):
         return between(low, high, LRU_TRIES)
     # In the middle, and to both sides of where a straight line between the two over the logarithm of the capacity is.
     lost, hits = max(low, 1), below.hits if below else 0
-    part = (float(ratio) * reached.accesses / 100 - hits) / max(1, reached.hits - hits)
-    guess = lost * (high / lost) ** part
+    guess = lost * (high / lost) ** ((float(ratio) * reached.accesses / 100 - hits) / max(1, reached.hits - hits))
     tries = {math.isqrt(lost * high), int(guess * 0.996), math.ceil(guess * 1.004)}
     return sorted(it for it in tries if low < it < high) or [(low + high) // 2]
 
@@ -341,13 +335,13 @@ def powers_of(trace, rows, policies, progress):
 
 
 def drawn_of(survey, progress):
-    """Every policy at capacities in equal ratios from 1 percent of the footprint on, at both ends of each jump, and between two of these
-    where a policy changes by over two points."""
+    """Every policy at capacities in equal ratios from 1 percent of the footprint on, at both ends of each jump, and between
+    two of these where a policy changes by over two points."""
     progress.begins("picture")
     top = min(survey.footprint, MAX_CAPACITY)
     low = max(1, survey.footprint // 100)
-    tries = {round(low * (top / low) ** (at / (DRAWN - 1))) for at in range(DRAWN)} | {row.capacity for jump in survey.jumps for row in jump}
-    rows = {}
+    tries, rows = {round(low * (top / low) ** (at / (DRAWN - 1))) for at in range(DRAWN)}, {}
+    tries |= {row.capacity for jump in survey.jumps for row in jump}
     for _ in range(ROUNDS + 1):
         rows.update(survey.trace.sweep(survey.policies, sorted(tries)) if tries else {})
         places = capacities_in(rows)

@@ -59,4 +59,4 @@ def picture_of(commands, is_png, tool):
     if is_png:
         return ended.stdout
     front, end, rest = ended.stdout.decode().rpartition("</svg>")
-    return f"{front}<metadata>\n{escape(commands, quote=False)}</metadata>\n{end}{rest}"
+    return f"{front}<metadata>\n{escape(commands, quote=False)}</metadata>\n{end}{rest}".encode()

@@ -1,7 +1,5 @@
-"""The policies as the scripts of tools/ know them: one list, in the order in which they are shown.
-
-A script uses those of them that the program takes (`reports.Program.policies`), so that a new word is added here alone.
-"""
+"""The policies as the scripts of tools/ know them, in the order in which they are shown. A script uses those that the
+program takes (`reports.Program.policies`), so that a new word is added here alone."""
 import difflib
 from collections import namedtuple
 

@@ -1,6 +1,4 @@
-"""What tools/corpus reports: the percent of misses that a policy has fewer than a baseline, over all traces, as a table and as
-pictures.
-"""
+"""What tools/corpus reports: how many percent fewer misses than a baseline a policy has, as a table and as pictures."""
 import statistics
 from collections import namedtuple
 from fractions import Fraction
@@ -8,7 +6,6 @@ from fractions import Fraction
 from .pictures import ends_around, marks_of, quoted, terminal_of
 from .policies import OPTIMAL, POLICIES
 
-HEADS = ("% of footprint", "policy", "traces", "mean", "P10", "P25", "P50", "P75", "P90", "best on", "near on")
 NOTE = """(percent of misses fewer than {baseline} has, over the traces; P50: the median, between two traces linearly)
 (best on: so many traces; near on: within half a point of the best hit ratio there and 5 % of its misses; clairvoyant is left out)
 """
@@ -19,11 +16,6 @@ COLOURS = [POLICIES[it].colour for it in ("lru", "wtinylfu", "tinylfu-lru", "tin
 Column = namedtuple("Column", "percent policy parts best near")
 
 
-def fewer(misses, baseline):
-    """The percent of misses fewer than the baseline's, which are never none, since a trace has a first access."""
-    return Fraction(100 * (baseline - misses), baseline)
-
-
 def columns_of(results, settings, baseline):
     """A column for each size and policy, of the traces that have one at that size."""
     for percent in settings["percents"]:
@@ -32,8 +24,10 @@ def columns_of(results, settings, baseline):
                   for misses, _ in traces]
         for policy in settings["policies"]:
             counts = [(misses[policy], low, accesses) for (misses, accesses), low in zip(traces, lowest)]
-            yield Column(percent, policy, [fewer(misses[policy], misses[baseline]) for misses, _ in traces],
-                         sum(count <= low for count, low, _ in counts), sum(is_near(*it) for it in counts))
+            # The baseline has misses: a trace has a first access.
+            parts = [Fraction(100 * (misses[baseline] - misses[policy]), misses[baseline]) for misses, _ in traces]
+            best, near = sum(count <= low for count, low, _ in counts), sum(is_near(*it) for it in counts)
+            yield Column(percent, policy, parts, best, near)
 
 
 def is_near(misses, lowest, accesses):
@@ -47,17 +41,13 @@ def percentiles_of(parts):
     return [cuts[at] for at in (1, 4, 9, 14, 17)]
 
 
-def shown(number):
-    return f"{float(round(number, 2)):.2f}"
-
-
 def table_of(columns):
-    yield HEADS
+    yield "% of footprint", "policy", "traces", "mean", "P10", "P25", "P50", "P75", "P90", "best on", "near on"
     for it in columns:
         if it.parts:
             numbers = [statistics.mean(it.parts), *percentiles_of(it.parts)]
             wins = ("-", "-") if it.policy == OPTIMAL else (str(it.best), str(it.near))
-            yield it.percent, it.policy, str(len(it.parts)), *map(shown, numbers), *wins
+            yield it.percent, it.policy, str(len(it.parts)), *(f"{float(round(number, 2)):.2f}" for number in numbers), *wins
 
 
 def axis_of(name, numbers):
@@ -91,10 +81,8 @@ def boxes_of(columns, baseline, is_png):
     yield f"set ylabel {quoted(f'% of misses fewer than {baseline}')}"
     # The text of a mark is a format.
     names = ", ".join(f"{quoted(f'{it} %% of the footprint')} {at * wide + (wide - 2) / 2}" for at, it in enumerate(percents))
-    yield f"set xtics nomirror scale 0 ({names})"
-    yield f"set xrange [-1:{len(percents) * wide - 1}]"
-    yield "set boxwidth 0.7"
-    yield "set style fill solid 0.4"
+    yield from (f"set xtics nomirror scale 0 ({names})", f"set xrange [-1:{len(percents) * wide - 1}]",
+                "set boxwidth 0.7", "set style fill solid 0.4")
     yield "plot 0 linecolor rgb '#888888' notitle, \\\n    " + ", \\\n    ".join(box_of(at, it) for at, it in enumerate(policies))
 
 

@@ -1,6 +1,5 @@
 """The program's reports for the scripts of tools/: how it is found and called, and what a report of a sample, or one
-without the warm-up, comes to.
-"""
+without the warm-up, comes to."""
 import copy
 import csv
 import os
@@ -11,12 +10,12 @@ import tempfile
 from collections import namedtuple
 from pathlib import Path
 
-from .names import as_called
+from .options import as_called
 from .policies import tip_for
 from .traces import FORMATS, TraceFile, Unreadable, beginning_of, ranges_of
 
 MAX_CAPACITY = 1 << 20
-SWEEP = "policy,capacity,accesses,hits,misses,evictions,rejections,rate".split(",")
+SWEEP = "policy,capacity,accesses,hits,misses,evictions,rejections,rate"
 
 Row = namedtuple("Row", "policy capacity accesses hits misses evictions")
 # The options of a call: the format of the trace, --main of wtinylfu, --spread, --long.
@@ -43,7 +42,7 @@ class Program:
 
     def output(self, words, **how):
         try:
-            return subprocess.run([self.path, *map(str, words)], stdout=subprocess.PIPE, check=False, **how)
+            return subprocess.run([self.path, *map(str, words)], **{"stdout": subprocess.PIPE, "check": False, **how})
         except OSError as fault:
             sys.exit(f"{self.tool}: {self.path} cannot be called: {fault.strerror}")
 
@@ -68,7 +67,7 @@ class Program:
         if ended.returncode:
             raise Unreadable(f"{trace.name}: {self.refusal(ended, trace.faulty_line(), trace.options.format)}")
         found, *rows = csv.reader(ended.stdout.decode().splitlines())
-        if found != SWEEP:
+        if found != SWEEP.split(","):
             self.refuse_reports(trace.name)
         return [(policy, *map(int, numbers)) for policy, *numbers, _ in rows]
 
@@ -87,10 +86,9 @@ class Program:
 class Trace:
     """A trace, how the program is to read it, and what its reports stand for.
 
-    Of a sample of one block in `inverse`, taken of a trace of `whole` accesses, a row estimates that trace: a sample
-    has the misses of one block in so many, so the trace has as many times its misses, and its other accesses are hits (the
-    correction of SHARDS-adj, Waldspurger et al. 2015). A row's capacity stays that of the sample: `shown` is the trace's.
-    With `after` a row leaves out the first accesses.
+    Of a sample of one block in `inverse`, taken of a trace of `whole` accesses, a row estimates that trace: it has as many
+    times the misses, and its other accesses are hits (the correction of SHARDS-adj, Waldspurger et al. 2015). A row's
+    capacity stays that of the sample: `shown` is the trace's. With `after` a row leaves out the first accesses.
     """
 
     def __init__(self, program, name, options, inverse=1, whole=None, after=0):
@@ -104,7 +102,7 @@ class Trace:
         after = self.after * accesses // self.whole if self.whole else self.after
         if 0 < after < accesses:
             self.warm_up = tempfile.TemporaryFile()
-            self.warm_up.writelines(beginning_of(self.lines(), self.options.format, after))
+            self.warm_up.writelines(beginning_of(self.file.lines(), self.options.format, after))
             self.warm_up.flush()
         return after < accesses
 
@@ -115,13 +113,10 @@ class Trace:
         later.leave_out(accesses)
         return later if later.warm_up else None
 
-    def lines(self):
-        return self.file.lines()
-
     def faulty_line(self):
         """The first line that the program refuses, if it refuses one."""
         try:
-            for _ in ranges_of(self.lines(), self.options.format):
+            for _ in ranges_of(self.file.lines(), self.options.format):
                 pass
         except ValueError as fault:
             return str(fault)
@@ -153,7 +148,8 @@ class Trace:
         if not policies:
             return {}
         options = self.options
-        words = ["sweep", "--format", options.format, "--spread", options.spread, "--main", main or options.main, *["--long"] * options.is_long, *part]
+        words = ["sweep", "--format", options.format, "--spread", options.spread]
+        words += ["--main", main or options.main, *["--long"] * options.is_long, *part]
         words += [*(word for policy in policies for word in ("--policy", policy)), *capacities]
         rows = self.program.rows(words, trace, self)
         self.file.begun()  # as at first, or it has changed meanwhile

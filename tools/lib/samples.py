@@ -3,8 +3,7 @@ import argparse
 import re
 from collections import namedtuple
 
-from .names import as_called
-from .option_types import whole_number
+from .options import as_called, whole_number
 
 # What is known of a sample: the N of its rate 1/N, how many accesses the whole trace has, and how many it has itself.
 Sample = namedtuple("Sample", "inverse accesses kept", defaults=(None, None))
@@ -17,7 +16,7 @@ def inverse_of_rate(text):
     upper, _, lower = text.partition("/")
     number = int(lower) if upper == "1" and lower.isascii() and lower.isdigit() else 0
     if number < 2 or number & number - 1 or number > 1 << 20:
-        raise ValueError(f"{text} is no rate 1/2, 1/4, 1/8 and so on")
+        raise argparse.ArgumentTypeError(f"{text} is no rate 1/2, 1/4, 1/8 and so on")
     return number
 
 
@@ -33,7 +32,7 @@ def named(text):
             return Sample(inverse_of_rate(text))
         kept, accesses, rate = said[-1]
         return Sample(inverse_of_rate(rate), int(accesses), int(kept))
-    except ValueError as fault:
+    except argparse.ArgumentTypeError as fault:
         raise argparse.ArgumentTypeError(as_called(f"{fault}, nor a file with what tools/sample said")) from None
 
 
@@ -61,9 +60,8 @@ def settle(parser, args):
 def check_accesses(args, where, accesses):
     """Ends a script whose sample has so many accesses, where it cannot be the one that the arguments name.
 
-    A sample at 1/N has about one access in N of the whole trace; how far it is off depends on the most used blocks. At 1/8
-    its accesses times N were 0.7 to 1.7 times those of the whole where a block has a twentieth of these, and beyond half
-    and twice from a tenth on: such a sample is named by what tools/sample said, which is compared exactly.
+    A sample at 1/N has about one access in N of the whole trace; how far it is off depends on the most used blocks. Where
+    one has a tenth of the accesses, the sample is named by what tools/sample said, which is compared exactly.
     """
     if not args.sampled:
         return

@@ -1,7 +1,5 @@
 """The tables of tools/survey: what was measured of its traces as rows of cells, and these as CSV or in columns for people.
-
-A cell that names several policies is a tuple of them, from the best one on.
-"""
+A cell that names several policies is a tuple of them, from the best one on."""
 import csv
 import io
 import textwrap
@@ -38,6 +36,12 @@ def rate_of(survey, policy, capacity):
     return "-".join(map(shown_rate, survey.spans.get((policy, capacity), [survey.rows[policy, capacity]])))
 
 
+def places_of(surveys):
+    """Each survey with each of its capacities, and the cells that stand before a row of it."""
+    pairs = ((it, capacity) for it in surveys for capacity in capacities_in(it.rows))
+    return ((it, capacity, (it.trace.name, *place_of(it, capacity))) for it, capacity in pairs)
+
+
 def traces_table(surveys):
     yield "trace", "accesses", "footprint", "used once", "highest possible %"
     for it in surveys:
@@ -47,16 +51,13 @@ def traces_table(surveys):
 def policies_table(surveys):
     is_bounded = OPTIMAL in surveys[0].policies
     yield "trace", "% of footprint", "capacity", *surveys[0].policies, *["below optimal"] * is_bounded, "at worst", "best"
-    for it in surveys:
-        for capacity in capacities_in(it.rows):
-            best = it.choices.get(capacity, [])
-            below = [points(it.rows[OPTIMAL, capacity], it.rows[best[0].key, capacity]) if best else "-" for _ in range(is_bounded)]
-            rates = (rate_of(it, policy, capacity) for policy in it.policies)
-            yield it.trace.name, *place_of(it, capacity), *rates, *below, worst_of(best), names_of(best)
-
-
-def worst_of(choices):
-    return f"{choices[0].worst:.1f}" if choices else "-"
+    for it, capacity, place in places_of(surveys):
+        best = it.choices.get(capacity, [])
+        below, worst = ["-"] * is_bounded, "-"
+        if best:
+            below = [points(it.rows[OPTIMAL, capacity], it.rows[best[0].key, capacity])] if is_bounded else []
+            worst = f"{best[0].worst:.1f}"
+        yield *place, *(rate_of(it, policy, capacity) for policy in it.policies), *below, worst, names_of(best)
 
 
 def names_of(choices):
@@ -65,14 +66,11 @@ def names_of(choices):
 
 def misses_table(surveys):
     yield "trace", "% of footprint", "capacity", *surveys[0].policies, "% fewer than lru", "best"
-    for it in surveys:
-        for capacity in capacities_in(it.rows):
-            best, lru = it.choices.get(capacity, [])[:1], it.rows.get(("lru", capacity))
-            fewer = "-"
-            if best and lru and lru.misses:
-                fewer = f"{100 * (lru.misses - it.rows[best[0].key, capacity].misses) / lru.misses:.1f}"
-            misses = (it.rows[policy, capacity].misses for policy in it.policies)
-            yield it.trace.name, *place_of(it, capacity), *misses, fewer, names_of(best)
+    for it, capacity, place in places_of(surveys):
+        best, lru, fewer = it.choices.get(capacity, [])[:1], it.rows.get(("lru", capacity)), "-"
+        if best and lru and lru.misses:
+            fewer = f"{100 * (lru.misses - it.rows[best[0].key, capacity].misses) / lru.misses:.1f}"
+        yield *place, *(it.rows[policy, capacity].misses for policy in it.policies), fewer, names_of(best)
 
 
 def halves_table(surveys):
@@ -86,20 +84,19 @@ def halves_table(surveys):
 def windows_table(surveys):
     beside = [CAFFEINE] if CAFFEINE in surveys[0].policies else []
     yield "trace", "% of footprint", "capacity", *(f"--main {it}" for it in MAINS), *beside, "best --main"
-    for it in surveys:
-        for capacity in (capacity for name, capacity in sorted(it.rows) if name == window(MAINS[-1])):
+    for it, capacity, place in places_of(surveys):
+        if (window(MAINS[-1]), capacity) in it.rows:
             rows = [(str(main), it.rows[window(main), capacity]) for main in MAINS]
             rates = map(shown_rate, (*(row for _, row in rows), *(it.rows[policy, capacity] for policy in beside)))
-            yield it.trace.name, *place_of(it, capacity), *rates, tuple(main for main, _ in nearly_best(it.trace, rows))
+            yield *place, *rates, tuple(main for main, _ in nearly_best(it.trace, rows))
 
 
 def parts_table(surveys):
     parts = [(policy, option, size) for policy, option, own, others in PARTS if policy in surveys[0].policies
              for size in sorted([own, *others])]
     yield "trace", "% of footprint", "capacity", *(f"{policy} --{option} {size}" for policy, option, size in parts)
-    for it in surveys:
-        for capacity in capacities_in(it.rows) if it.parts else []:
-            yield it.trace.name, *place_of(it, capacity), *(shown_rate(it.parts[*part, capacity]) for part in parts)
+    for it, capacity, place in places_of(it for it in surveys if it.parts):
+        yield *place, *(shown_rate(it.parts[*part, capacity]) for part in parts)
 
 
 def jumps_table(surveys):
@@ -130,13 +127,12 @@ def powers_table(surveys):
             yield it.trace.name, at.policy, it.trace.shown(at.capacity), *rates, points(above, at)
 
 
-TABLES = {"traces": traces_table, "policies": policies_table, "misses": misses_table, "halves": halves_table, "windows": windows_table,
-          "parts": parts_table, "jumps": jumps_table, "reach": reach_table, "powers": powers_table}
+TABLES = {"traces": traces_table, "policies": policies_table, "misses": misses_table, "halves": halves_table,
+          "windows": windows_table, "parts": parts_table, "jumps": jumps_table, "reach": reach_table, "powers": powers_table}
 # What stands above the part of a table that is of one trace.
-TITLES = {"policies": "hit ratios in percent", "misses": "misses", "halves": "best of each half", "windows": "hit ratios of wtinylfu in percent",
-          "parts": "hit ratios in percent by the sizes of parts",
-          "jumps": "jumps of the hit ratio", "reach": "capacities that reach a hit ratio",
-          "powers": "on both sides of a power of two"}
+TITLES = {"policies": "hit ratios in percent", "misses": "misses", "halves": "best of each half",
+          "windows": "hit ratios of wtinylfu in percent", "parts": "hit ratios in percent by the sizes of parts",
+          "jumps": "jumps of the hit ratio", "reach": "capacities that reach a hit ratio", "powers": "on both sides of a power of two"}
 AT_WORST = ("in the order of how many percent more misses than the best they have at worst, there or at the capacities beside it. "
             "LOW-HIGH: the policy changes so much within a percent of the capacity; its lowest counts)")
 NOTES = {
@@ -156,8 +152,7 @@ NOTES_OF_SAMPLE = {
     "jumps": f"{NOTES['jumps']}\n(where a sample jumps is known to some percent: 3 at 1000 entries of its cache, 10 at 100)",
 }
 # What is said in place of an empty table.
-NONE = {"policies": "no accesses", "halves": "no halves",
-        "jumps": "no jump " + NOTES["jumps"]}
+NONE = {"policies": "no accesses", "halves": "no halves", "jumps": "no jump " + NOTES["jumps"]}
 FOLDED = {"best", "best --main"}
 LEFT = {"trace", "policy", "half", *FOLDED}
 
@@ -180,8 +175,8 @@ def folded(cell, width):
     """The lines of a cell: of names as many on each as there is room for."""
     if not isinstance(cell, tuple):
         return [str(cell)]
-    names = textwrap.wrap(" or ".join(it.replace(" ", "\0") for it in cell) or "-", width, break_long_words=False, break_on_hyphens=False)
-    return [it.replace("\0", " ") for it in names]
+    text = " or ".join(it.replace(" ", "\0") for it in cell) or "-"
+    return [it.replace("\0", " ") for it in textwrap.wrap(text, width, break_long_words=False, break_on_hyphens=False)]
 
 
 def lines_of(cells, is_left, widths):
@@ -247,13 +242,14 @@ def text_of(args, surveys):
     tables = {name: list(TABLES[name]([it._replace(spans={}) for it in surveys] if args.csv else surveys)) for name in args.table}
     if args.csv:
         out = io.StringIO()
-        csv.writer(out, lineterminator="\n").writerows([" or ".join(it) or "-" if isinstance(it, tuple) else it for it in row]
-                                                           for rows in tables.values() for row in rows)
+        csv.writer(out, lineterminator="\n").writerows(
+            [" or ".join(it) or "-" if isinstance(it, tuple) else it for it in row] for rows in tables.values() for row in rows)
         return out.getvalue()
     notes = {**NOTES, **(NOTES_OF_SAMPLE if args.sampled else {})}
     also = {trace: folded_note(f"({text})") for trace, text in also_measured(surveys).items()}
     first = next((name for name in tables if name in ADVICE), None)
-    parts = [for_people(name, rows, notes, also if name == first else {}) for name, rows in tables.items() if len(rows) > 1 or name in NONE]
+    parts = [for_people(name, rows, notes, also if name == first else {})
+             for name, rows in tables.items() if len(rows) > 1 or name in NONE]
     if args.sampled:
         parts.append(f"(estimates by one block in {args.sampled})\n")
     if args.after:

@@ -1,6 +1,4 @@
-"""Trace files for the scripts of tools/: from a path, a pipe or `-`, packed by gzip or zstd or not, in the formats lirs
-and arc.
-"""
+"""Trace files for the scripts of tools/: from a path, a pipe or `-`, packed or not, in the formats lirs and arc."""
 import contextlib
 import gzip
 import os
