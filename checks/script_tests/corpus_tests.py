@@ -283,7 +283,7 @@ def check_faults(corpus, folder, program):
         expect_parts("what is said", error, *faults)
         out, _ = run(corpus, "report", name, cwd=folder)
         expect_parts("the report", out, *faults)
-        expect("what was run", [line.split()[:3] for line in out.splitlines()[1:3]], [["1", "fifo", "1"], ["1", "lru", "1"]])
+        expect("what was run", [line.split()[:3] for line in out.splitlines()[2:4]], [["1", "fifo", "1"], ["1", "lru", "1"]])
         expect("what a name has run", (folder / "made").exists(), False)
         before = {it: it.stat().st_mtime_ns for it in (folder / name / "results").iterdir()}
         run(corpus, *words, status=1, **how)
@@ -486,14 +486,14 @@ def check_slurm(corpus, folder, program):
 
 MISTAKES = {
     "percentiles from outside": Mistake(check_known_report, "lib/reductions.py", 'method="inclusive"', 'method="exclusive"'),
-    "misses more": Mistake(check_known_report, "lib/reductions.py", "100 * (baseline - misses)", "100 * (misses - baseline)"),
+    "misses more": Mistake(check_known_report, "lib/reductions.py", "(misses[baseline] - misses[policy])", "(misses[policy] - misses[baseline])"),
     "wins of one alone": Mistake(check_known_report, "lib/reductions.py", "count <= low for", "count < low for"),
     "a picture without its mean": Mistake(check_known_report, "lib/reductions.py", ", statistics.mean(it.parts))]\n            for", ", 0)]\n            for"),
     "a scatter of one policy": Mistake(check_known_report, "lib/reductions.py", "policy] for policy in pair", "pair[0]] for policy in pair"),
     "a whole point for half": Mistake(check_beside_reference, "lib/reductions.py", "200 * (misses - lowest)", "100 * (misses - lowest)"),
     "Belady's among the best": Mistake(check_beside_reference, "lib/reductions.py", "policy != OPTIMAL or", "True or"),
     "a size of another footprint": Mistake(check_beside_reference, "lib/measures.py", "footprint * percent / 100", "footprint * percent / 50"),
-    "a footprint of short traces alone": Mistake(check_long, "lib/jobs.py", "[MAX_CAPACITY], part=LONG", "[MAX_CAPACITY]"),
+    "a footprint of short traces alone": Mistake(check_long, "lib/jobs.py", "[MAX_CAPACITY], part=[\"--long\"]", "[MAX_CAPACITY]"),
     "names by lines": Mistake(check_faults, "lib/jobs.py", 'split(b"\\0")', "split()"),
     "failed traces in silence": Mistake(check_faults, "corpus", 'return [it for it in results if "fault" in it]', "return []"),
     "finished jobs done again": Mistake(check_faults, "corpus", "not in (None, stamp)", "is not None"),
