@@ -17,6 +17,13 @@ pub two-after : {T E : Type 0} (jobs : List Job) (r : Result T E) (P Q : Job →
 two-after jobs (Ok v) P Q f h = two-then jobs P Q f h
 two-after jobs (Err e) P Q f h = tt
 
+-- the two of them, with what holds
+pub two-held : (jobs : List Job) (P : Job → Job → Type 0) → AreTwo jobs P → (first : Job) × (second : Job) × P first second
+two-held [] P h = absurd h
+two-held (a ∷ []) P h = absurd h
+two-held (a ∷ b ∷ []) P h = (a, b, h)
+two-held (a ∷ b ∷ c ∷ rest) P h = absurd h
+
 pub agree-none : (os ps : List Outcome) → AgreeBelow 1 os ps
 agree-none os ps zero lt = refl
 agree-none os ps (suc m) lt = absurd (omega (arith, lt))
