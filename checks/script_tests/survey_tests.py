@@ -380,7 +380,7 @@ def check_titles(survey, folder):
     run(*words, "--after", "9", "--main", "50", "--spread", "plain", cwd=folder, env=gnuplot_by(folder, NOTING))
     text = (folder / "given").read_text()
     expect_parts("its title", text, "without the first 9, --main 50, --spread plain", "$curve0 << END\n4 ", f"\n400 {160000 / 1991:.6f}\nEND")
-    expect_parts("two traces", run(survey, trace, *words[1:], status=2)[1], "--plot draws one trace")
+    expect_parts("two traces", run(survey, trace, *words[1:], status=2, cwd=folder)[1], "--plot draws one trace")
 
 
 def check_steep(survey, folder):
