@@ -109,9 +109,9 @@ _cachesim_words() {
     'cachesim-survey:--format') echo 'lirs arc' ;;
     'cachesim-survey:--main') echo '' ;;
     'cachesim-survey:--spread') echo 'mixed plain' ;;
-    'cachesim-survey:--table') echo 'traces policies misses windows parts jumps reach powers' ;;
+    'cachesim-survey:--table') echo 'traces policies misses halves windows parts jumps reach powers' ;;
     'cachesim-survey:--program') echo '<FILE>' ;;
-    'cachesim-survey:'*) echo '<FILE> -h --help --policy --capacity --percent --reach --plot --after --sampled --accesses --jump --format --main --spread --table --csv --program' ;;
+    'cachesim-survey:'*) echo '<FILE> -h --help --policy --capacity --percent --reach --plot --after --sampled --accesses --jump --format --long --halves --main --spread --table --csv --program' ;;
     'cachesim-plot:--after') echo '' ;;
     'cachesim-plot:--sampled') echo '' ;;
     'cachesim-plot:--accesses') echo '' ;;

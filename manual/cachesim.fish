@@ -122,9 +122,9 @@ complete -c cachesim -n '__cachesim_is help' -a 'run sweep intervals part compar
 complete -c cachesim-survey -f
 complete -c cachesim-survey -s h -l help -d 'show this help message and exit'
 complete -c cachesim-survey -F
-complete -c cachesim-survey -l policy -x -a 'lru slru tinylfu-lru tinylfu-slru wtinylfu clairvoyant fifo clock sieve s3-fifo 2q arc caffeine car' -d 'a column; also more than once (at most eight of the program'\''s)'
-complete -c cachesim-survey -l capacity -x -d 'a capacity of the policies, in place of parts of the footprint; also more than once'
-complete -c cachesim-survey -l percent -x -d 'a part of the footprint in percent, in place of 1, 2, 5, 10, 20, 50; also more than once'
+complete -c cachesim-survey -l policy -x -a 'lru slru tinylfu-lru tinylfu-slru wtinylfu clairvoyant fifo clock sieve s3-fifo 2q arc caffeine car' -d 'a column; also more than once (eight of the program'\''s; `best` then looks at all)'
+complete -c cachesim-survey -l capacity -x -d 'a capacity, in place of 1, 2, 5, 10, 20 and 50 percent of the footprint; also more than once'
+complete -c cachesim-survey -l percent -x -d 'a capacity in percent of the footprint, in the same place; also more than once'
 complete -c cachesim-survey -l reach -x -d 'a hit ratio in percent: search for the smallest capacity of each policy that has it'
 complete -c cachesim-survey -l plot -r -F -d 'draw all policies over the capacity, by steps and with both ends of each jump, as SVG, or as PNG where FILE ends so'
 complete -c cachesim-survey -l after -x -d 'leave the first N accesses out of all counts, of a sample as large a part of it as of the whole'
@@ -132,9 +132,11 @@ complete -c cachesim-survey -l sampled -x -d 'TRACE is from a sample by cachesim
 complete -c cachesim-survey -l accesses -x -d 'with --sampled 1/N: the accesses of the whole trace. Refused where those of the sample times N are over twice as many or under half, or where it has no fewer'
 complete -c cachesim-survey -l jump -x -d 'by how many points the hit ratio changes at least in a jump (2)'
 complete -c cachesim-survey -l format -x -a 'lirs arc' -d 'the format of the traces (lirs)'
+complete -c cachesim-survey -l long -d 'as in cachesim sweep: traces of up to 2^32 - 1 accesses, without clairvoyant'
+complete -c cachesim-survey -l halves -d 'only `best` of each half of the trace, and what the first half'\''s choice costs in the second'
 complete -c cachesim-survey -l main -x -d 'of wtinylfu, and of caffeine at first, as in cachesim sweep (99, and other windows in a table)'
 complete -c cachesim-survey -l spread -x -a 'mixed plain' -d 'as in cachesim sweep (mixed)'
-complete -c cachesim-survey -l table -x -a 'traces policies misses windows parts jumps reach powers' -d 'only this table; also more than once'
+complete -c cachesim-survey -l table -x -a 'traces policies misses halves windows parts jumps reach powers' -d 'only this table, of traces, policies, misses, halves, windows, parts, jumps, reach, powers; also more than once'
 complete -c cachesim-survey -l csv -d 'CSV; that of the policies where no --table is named'
 complete -c cachesim-survey -l program -r -F -d 'the program to call (cachesim beside the script, or on the path)'
 
