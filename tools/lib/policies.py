@@ -20,7 +20,7 @@ POLICIES = {
     "slru": Policy("#e69f00", 6, "(14,4)", False, True),
     "2q": Policy("#8c510a", 7, "(8,3,2,3)", False, False),
     "arc": Policy("#a50f15", 9, "(18,3,6,3)", False, True),
-    "car": Policy("#999933", 13, "(4,8)", False, False),
+    "car": Policy("#999933", 14, "(4,8)", False, False),
     "sieve": Policy("#6a3d9a", 5, "(2,2,6,2)", False, True),
     "s3-fifo": Policy("#00c5cd", 13, "(6,2,2,2,2,2)", False, True),
     "tinylfu-lru": Policy("#009e73", 8, "(6,3)", True, False),
