@@ -1,7 +1,7 @@
 -- An access as the fields show it, that its record fits, and that it undoes the access.
-use Rattle.std.proofs.Common.{◌≡◌, ℕ, ◌≤◌, Bool, Option, None, ap, refl, arith, ◌≢◌, Some, Ok, ◌∙◌, sym}
+use Rattle.std.proofs.Common.{◌≡◌, ℕ, ◌+◌, ◌≤◌, Bool, Option, None, ap, refl, arith, ◌≢◌, Some, Ok, ◌∙◌, sym}
 use Rattle.std.proofs.lemmas.Bool.Decides.{nat_tests}
-use Rattle.engine_base.specs.Stats.{is_hit, stats_with}
+use Rattle.engine_base.specs.Stats.{is_hit, stats_with, IsTally}
 use Rattle.segments.specs.Queues.{Queues, IsDistinct}
 use Rattle.replacement.specs.declared.record.Moves.{Moves}
 use Rattle.replacement.specs.Plan.{Outcome, Item, plan}
@@ -23,7 +23,7 @@ use Rattle.admission.specs.declared.freq_record.FreqRecord.{FreqRecord}
 use Rattle.admission.specs.Frequency.{FrequencyData, frequency_with}
 use Rattle.replacement.specs.Admission.{admits_in}
 use Rattle.adaptive_window.specs.declared.adaptive_cache.AdaptiveRecord.{AdaptiveRecord}
-use Rattle.adaptive_window.specs.AdaptiveCache.{Stats, Config, AdaptiveCacheState, cache_act, cache_record_of, cache_access, response_to}
+use Rattle.adaptive_window.specs.AdaptiveCache.{Stats, Config, IsRunning, AdaptiveCacheState, cache_act, cache_record_of, cache_access, response_to}
 use Rattle.replacement.proofs.Residents.{residents-length, resident-queued, resident-once, still-nodeless, queued-from}
 use Rattle.replacement.proofs.Leaving.{hit-keeps, asks-evicts}
 use Rattle.engine_base.specs.Machine.{IsServed}
@@ -113,6 +113,19 @@ module _ (r p : ClimbRules) (w v x : AdaptiveState) (f g : FrequencyData) (s z :
       → m ≡ window_record_of p (admits_in (Some g)) (nodeless_item k) v
       → ◌≡◌ {A = AdaptiveRecord} record { counting = c; window = m } (cache_record_of k before)
   recorded-is c m ec em = rw (ec, em, eg, ep, ev) refl
+
+-- a key brings one halving at most
+halvings-few : (k : ℕ) (f : FrequencyData) → (frequency_with k f).halvings ≤ f.halvings + 1
+halvings-few k f = grind (arith, nat_tests)
+
+tally-next : (o : Outcome) (s : Stats) → IsTally s → s.accesses ≢ 4294967296 → IsTally (stats_with o s)
+tally-next v s h below = grind (arith, nat_tests)
+
+pub still-running : (k : ℕ) (o : Outcome) (f g : FrequencyData) (s z : Stats) → IsRunning f s → s.accesses ≢ 4294967296 → g ≡ frequency_with k f → z ≡ stats_with o s → IsRunning g z
+still-running k o f g s z h below eg ez =
+    let few = halvings-few k f in
+    let most = h.halvings in
+    rw (eg, ez) record { counts = tally-next o s h.counts below; halvings = omega (arith, few, most) }
 
 -- ---- what the cache keeps of its residents
 

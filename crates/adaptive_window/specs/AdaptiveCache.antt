@@ -9,7 +9,7 @@ use Rattle.engine_base.specs.Stats.{stats_of, stats_with, stats_without, IsCount
 use Rattle.engine_base.specs.Limited.{limited}
 use Rattle.segments.specs.Items.{nodeless_item}
 use Rattle.segments.specs.Queues.{queue_holding}
-use Rattle.admission.specs.Frequency.{FrequencyData, frequency_of, frequency_with, halves, pace_of}
+use Rattle.admission.specs.Frequency.{FrequencyData, empty_frequency, frequency_with, ages, halves, pace_of}
 use Rattle.admission.specs.FreqRecord.{frequency_record, frequency_before, FitsRecord, size_of}
 use Rattle.replacement.specs.Admission.{admits_in}
 use Rattle.replacement.specs.Shape.{open_shape_of}
@@ -53,7 +53,7 @@ abbrev pub empty_cache : Config → Option ℕ → AdaptiveCacheState
 empty_cache c period = record {
   rules = caffeine_rules c.capacity c.main_percent period;
   window = empty_adaptive (caffeine_rules c.capacity c.main_percent period) (first_window c.capacity c.main_percent);
-  frequency = frequency_of (open_shape_of COLUMNS c) [];
+  frequency = empty_frequency (open_shape_of COLUMNS c);
   stats = stats_of [];
 }
 
@@ -69,7 +69,9 @@ cache_record_of k d = record {
 
 -- an access may be refused memory: its key is not resident, or brings a halving, whose undo record it makes
 abbrev pub cache_may_ask : AdaptiveCacheState → ℕ → Type 0
-cache_may_ask d k = (queue_holding (nodeless_item k) d.window.queues ≡ None) ⊎ (halves d.frequency ≡ true)
+cache_may_ask d k =
+    (queue_holding (nodeless_item k) d.window.queues ≡ None)
+    ⊎ ((halves d.frequency ≡ true) × (ages k d.frequency ≡ true))
 
 -- the state before the access, from its record and the state after it
 abbrev pub cache_undone : AdaptiveRecord → AdaptiveCacheState → AdaptiveCacheState

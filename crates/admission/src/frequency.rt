@@ -1,15 +1,15 @@
 //! Approximate access frequencies.
 ghost use Rattle.std.specs.Prelude.{◌≡◌, ◌<◌, ◌≤◌, ◌+◌, ◌-◌, ◌^◌, ◌*◌, ◌++◌, ◌∷◌, List, [], ℕ, nat_lt, cond, Some};
-ghost use Rattle.std.specs.Prelude.{IfOk, OnOk, OnErr, true};
+ghost use Rattle.std.specs.Prelude.{IfOk, OnOk, OnErr, true, ◌&&◌};
 ghost use Rattle.engine_base.specs.declared.limits.TheConstants.{MAX_CAPACITY};
 ghost use Rattle.admission.specs.Shape.{Shape, IsSized};
 ghost use Rattle.admission.specs.Frequency.{IsFrequencyOf, frequency_of, marked, faded, frequency_with, halves};
-ghost use Rattle.admission.specs.Frequency.{halving_words, IsOpenFrequencyOf};
+ghost use Rattle.admission.specs.Frequency.{halving_words, IsOpenFrequencyOf, ages, halved_age};
 ghost use Rattle.std.specs.Int.{IsPowerOfTwo};
 ghost use Rattle.admission.specs.Frequency.{estimate as estimate_of};
 ghost use Rattle.admission.specs.FreqRecord.{frequency_record, record_of, mark_of, lost_of};
 ghost use Rattle.admission.specs.FreqRecord.{frequency_before, FitsRecord, unmarked, FitsMark, unaged, FitsAging};
-ghost use Rattle.admission.specs.FreqRecord.{unfaded, FitsFade, size_of};
+ghost use Rattle.admission.specs.FreqRecord.{unfaded, FitsFade, size_of, has_aged};
 
 use crate::door_record::DoorRecord;
 use crate::doorkeeper::Doorkeeper;
@@ -68,7 +68,9 @@ impl Frequency {
     }
 
     /// The same without a doorkeeper, so that each record touches the key's counters, and with `columns` columns in
-    /// each row of the sketch for each entry, a power of two up to 4. The one error is out of memory.
+    /// each row of the sketch for each entry, a power of two up to 4. It ages as Caffeine's does: a key of which no
+    /// counter rises does not age it, and a halving takes a fourth of the odd counters off the age before it is halved.
+    /// The one error is out of memory.
     pub fn without_doorkeeper(
         alloc: Global,
         capacity: u32,
@@ -93,8 +95,9 @@ impl Frequency {
 
     /// Records a key, and returns what it takes to undo that. A key whose three bits in the doorkeeper are not all
     /// set gets them set, another one has its four counters touched; the age rises by 1, and at ten times the capacity
-    /// all counters are halved, the doorkeeper is emptied and the age is halved. The one error is out of memory for a
-    /// halving; nothing is changed then.
+    /// all counters are halved, the doorkeeper is emptied and the age is halved. Without a doorkeeper a key of which no
+    /// counter rose does not age, and a fourth of the odd counters is taken off the age before it is halved. The one
+    /// error is out of memory for a halving; nothing is changed then.
     #[inline(always)]
     pub fn record(&mut self, key: Key) -> Result<FreqRecord, AllocError>
         requires { self.old.halvings < 2 ^ 64 - 1 }
@@ -102,9 +105,11 @@ impl Frequency {
         ensures record_is { IfOk result (λ r. r ≡ frequency_record key self.old) }
         ensures fits { IfOk result (λ r. FitsRecord r self.new) }
         ensures undone { IfOk result (λ r. frequency_before r self.new ≡ self.old) }
-        ensures size { IfOk result (λ r. size_of r ≡ cond (halves self.old) (halving_words self.old) 0) }
+        ensures size { IfOk result (λ r. size_of r
+            ≡ cond (ages key self.old && halves self.old) (halving_words self.old) 0) }
         ensures err { OnErr result (self.new ≡ self.old) }
         ensures memory { OnErr result (halves self.old ≡ true) }
+        ensures ageing { OnErr result (ages key self.old ≡ true) }
 
         // Of the frequency of a list of keys it makes that of the list with the key at its end.
         ensures appends { (s : Shape) (keys : List ℕ) → IsSized s → self.old ≡ frequency_of s keys
@@ -113,6 +118,9 @@ impl Frequency {
         // Inlined, so that what a caller does not read of the record is not written; the halving is apart, as it is
         // rare.
         let mark = self.mark(key);
+        if !self.has_aged(&mark) {
+            return Ok(mark.record());
+        }
         if self.age + 1 == 10 * self.capacity {
             return self.end_sample(mark);
         }
@@ -120,31 +128,36 @@ impl Frequency {
         Ok(mark.record())
     }
 
-    /// Records a key as `record` does, and makes no undo record. The one error is out of memory for a halving; nothing is
-    /// changed then.
+    /// Records a key as `record` does, and makes no undo record. The one error is out of memory for a halving; nothing
+    /// is changed then.
     #[inline(always)]
     pub fn count(&mut self, key: Key) -> Result<(), AllocError>
         requires { self.old.halvings < 2 ^ 64 - 1 }
         ensures after { OnOk result (self.new ≡ frequency_with key self.old) }
         ensures memory { OnErr result (halves self.old ≡ true) }
+        ensures ageing { OnErr result (ages key self.old ≡ true) }
         ensures err { OnErr result (self.new ≡ self.old) }
     {
-        // Only where the key fills the sample is its mark kept, until it is sure that there is memory for the halving.
+        // Only where the key may fill the sample is its mark kept, until it is sure that there is memory for the
+        // halving.
         if self.age + 1 == 10 * self.capacity {
             return self.count_last(key);
         }
-        let _ = self.mark(key);
-        self.age += 1;
+        let mark = self.mark(key);
+        if self.has_aged(&mark) {
+            self.age += 1;
+        }
         Ok(())
     }
 
-    // The same for the key that fills the sample.
+    // The same for a key that may fill the sample.
     #[cold]
     #[inline(never)]
     fn count_last(&mut self, key: Key) -> Result<(), AllocError>
         requires { self.old.halvings < 2 ^ 64 - 1 }
         ensures after { OnOk result (self.new ≡ frequency_with key self.old) }
         ensures memory { OnErr result (halves self.old ≡ true) }
+        ensures ageing { OnErr result (ages key self.old ≡ true) }
         ensures err { OnErr result (self.new ≡ self.old) }
     {
         let _ = self.record(key)?;
@@ -163,8 +176,11 @@ impl Frequency {
                 self.door.unput(DoorRecord { key, set });
             }
             FreqRecord::Touch { rose, key } => {
-                self.age -= 1;
-                self.sketch.untouch(TouchRecord { key, rose });
+                let done = TouchRecord { key, rose };
+                if self.has_aged(&Mark::Touch(done)) {
+                    self.age -= 1;
+                }
+                self.sketch.untouch(done);
             }
             FreqRecord::HalvedPut { set, key, lost } => {
                 self.unend_sample(lost);
@@ -187,8 +203,8 @@ impl Frequency {
         least + known as u8
     }
 
-    /// Works out what the estimate of a key is read by, and keeps it until another key is prepared. Changes nothing that a
-    /// caller can see, and pays for a key that stays the victim of several admissions.
+    /// Works out what the estimate of a key is read by, and keeps it until another key is prepared. Changes nothing that
+    /// a caller can see, and pays for a key that stays the victim of several admissions.
     pub fn prepare(&mut self, key: Key)
         ensures { self.new ≡ self.old }
     {
@@ -209,7 +225,7 @@ impl Frequency {
         self.sketch.least(victim) + known < most
     }
 
-    /// How many keys were recorded, less half the sample for each halving.
+    /// How many of the recorded keys aged it, less what halvings took off.
     pub fn age(&self) -> u32
         ensures { result ≡ self.now.age }
     {
@@ -244,11 +260,34 @@ impl Frequency {
         ensures record_is { result ≡ mark_of key self.old }
         ensures fits { FitsMark result self.new }
         ensures undone { unmarked result self.new ≡ self.old }
+        ensures ages { has_aged result self.new ≡ ages key self.old }
     {
         match self.door.note(key) {
             Some(done) => Mark::Put(done),
             None => Mark::Touch(self.sketch.touch(key)),
         }
+    }
+
+    // Whether the key that left the mark aged.
+    #[inline(always)]
+    fn has_aged(&self, mark: &Mark) -> bool
+        ensures { result ≡ has_aged mark.now self.now }
+    {
+        match mark {
+            Mark::Put(_) => true,
+            Mark::Touch(done) => self.door.has_bits() || done.has_risen(),
+        }
+    }
+
+    // The age that a halving leaves.
+    fn halved_age(&self) -> u32
+        ensures value { result ≡ halved_age self.now }
+        ensures young { result ≤ 5 * self.now.capacity }
+    {
+        if self.door.has_bits() {
+            return 5 * self.capacity;
+        }
+        (10 * self.capacity).saturating_sub(self.sketch.odd_counters() / 4) / 2
     }
 
     // The key that left the mark fills the sample: the counters are halved and the doorkeeper is emptied, or the mark
@@ -259,16 +298,18 @@ impl Frequency {
         requires full { self.old.age + 1 ≡ 10 * self.old.capacity }
         requires few { self.old.halvings < 2 ^ 64 - 1 }
         requires mark { FitsMark mark self.old }
+        requires aged { has_aged mark self.old ≡ true }
         ensures after { OnOk result (self.new ≡ record (faded self.old)
-            { age = 5 * self.old.capacity; halvings = self.old.halvings + 1 }) }
+            { age = halved_age self.old; halvings = self.old.halvings + 1 }) }
         ensures record_is { IfOk result (λ r. r ≡ record_of mark (Some (lost_of self.old))) }
         ensures fits { IfOk result (λ r. FitsRecord r self.new) }
         ensures undone { IfOk result (λ r. frequency_before r self.new ≡ unmarked mark self.old) }
         ensures err { OnErr result (self.new ≡ unmarked mark self.old) }
     {
+        let age = self.halved_age();
         match self.fade() {
             Ok(lost) => {
-                self.age = 5 * self.capacity;
+                self.age = age;
                 self.halvings += 1;
                 Ok(mark.halved(lost))
             }
@@ -292,7 +333,7 @@ impl Frequency {
     // Undoes a halving, and the count of the key that brought it.
     fn unend_sample(&mut self, lost: Halving)
         requires { FitsAging lost self.old }
-        ensures { self.new ≡ record (unaged lost self.old) { age = 10 * self.old.capacity - 1 } }
+        ensures { self.new ≡ unaged lost self.old }
     {
         self.unfade(lost);
         self.halvings -= 1;

@@ -1,12 +1,13 @@
 -- How good an estimate is.
-use Rattle.std.specs.Prelude.{◌≡◌, ℕ, ◌+◌, ◌*◌, ◌/◌, ◌<◌, ◌≤◌, ◌==◌, min, true, false, List, length, count_by}
+use Rattle.std.specs.Prelude.{◌≡◌, ℕ, ◌+◌, ◌*◌, ◌/◌, ◌<◌, ◌≤◌, ◌==◌, ◌&&◌, min, Bool, true, false, List, [], length}
+use Rattle.std.specs.Prelude.{count_by}
 use Rattle.sketch.specs.Columns.{Spread, column}
-use Rattle.sketch.specs.Sketch.{least_counter}
+use Rattle.sketch.specs.Sketch.{least_counter, IsTable}
 use Rattle.admission.specs.Shape.{Shape, IsShape}
 use Rattle.admission.specs.Eras.{halvings, this_era}
 use Rattle.admission.specs.Doorkeeper.{probe, is_probe}
 use Rattle.admission.specs.Frequency.{FrequencyData, IsFrequencyOf, IsFrequency, frequency_of, frequency_with}
-use Rattle.admission.specs.Frequency.{start, noted, halves, estimate}
+use Rattle.admission.specs.Frequency.{start, noted, ages, halves, frequency_from, estimate}
 use Rattle.admission_laws.specs.Exact.{records_of, exact_estimate}
 
 -- An estimate is at least what an exact count of the same eras gives: the error of a Count-Min sketch has one side
@@ -63,3 +64,35 @@ pub record EstimatesRise : Type 0 where
       → estimate other (frequency_with key f) ≡ least_counter other (noted key f).table / 2
   pub half : (f : FrequencyData) (key other : ℕ) → IsFrequency f → halves f ≡ true
       → estimate other f ≤ 2 * estimate other (frequency_with key f) + 2
+
+-- ---- without a doorkeeper
+
+-- Which halving comes when, and which age it leaves, hangs on the counters then: a list of keys has no eras, and the
+-- laws are of any data, and of the keys that are recorded from there on.
+
+-- what the data of every frequency without a doorkeeper are: that has no bits
+pub record IsOpenFrequency (f : FrequencyData) : Type 0 where
+  pub table : IsTable f.table
+  pub size : f.door.size ≡ 0
+  pub bits : f.door.bits ≡ []
+
+-- whether recording the key brings a halving
+abbrev pub brings_halving : ℕ → FrequencyData → Bool
+brings_halving key f = ages key f && halves f
+
+-- What recording a key does to estimates, which are 1 above the least counter. A key that does not age has full
+-- counters, so its estimate stays at 16.
+pub record OpenEstimatesRise : Type 0 where
+  pub own : (f : FrequencyData) (key : ℕ) → IsOpenFrequency f → brings_halving key f ≡ false
+      → estimate key (frequency_with key f) ≡ min 16 (estimate key f + 1)
+  pub others : (f : FrequencyData) (key other : ℕ) → IsOpenFrequency f → brings_halving key f ≡ false
+      → estimate other f ≤ estimate other (frequency_with key f)
+  pub halved : (f : FrequencyData) (key other : ℕ) → IsOpenFrequency f → brings_halving key f ≡ true
+      → estimate other (frequency_with key f) ≡ least_counter other (noted key f).table / 2 + 1
+  pub stays : (f : FrequencyData) (key : ℕ) → IsOpenFrequency f → IsOpenFrequency (frequency_with key f)
+
+-- So while no halving comes, a key's estimate rises by at least the number of its records, up to 16.
+abbrev pub OpenEstimatesCount : Type 0
+OpenEstimatesCount = (f : FrequencyData) (keys : List ℕ) (key : ℕ) → IsOpenFrequency f
+    → (frequency_from f keys).halvings ≡ f.halvings
+    → min 16 (estimate key f + records_of key keys) ≤ estimate key (frequency_from f keys)

@@ -1,6 +1,7 @@
 //! How good an estimate is. Each of these functions does nothing: its contract is the theorem.
 ghost use Rattle.admission_laws.specs.Theorems.{EstimatesAreNeverLow, EstimatesCountTheEra};
 ghost use Rattle.admission_laws.specs.Theorems.{EstimatesAreBounded, EstimatesAreExact, EstimatesRise};
+ghost use Rattle.admission_laws.specs.Theorems.{OpenEstimatesRise, OpenEstimatesCount};
 
 /// No key is estimated below an exact count of the same eras: a Count-Min sketch errs on one side. (Cormode and
 /// Muthukrishnan 2005.)
@@ -30,4 +31,16 @@ pub fn estimates_are_exact()
 #[tactic(auto, using(crate::proofs::Rising::rise))]
 pub fn estimates_rise()
     ensures { EstimatesRise }
+{}
+
+/// The same without a doorkeeper, where a key whose counters are full does not age the sketch.
+#[tactic(auto, using(crate::proofs::Open::open_rise))]
+pub fn open_estimates_rise()
+    ensures { OpenEstimatesRise }
+{}
+
+/// Without a doorkeeper a key's estimate rises by at least the number of its records, up to 16, while no halving comes.
+#[tactic(auto, using(crate::proofs::Open::open_count))]
+pub fn open_estimates_count()
+    ensures { OpenEstimatesCount }
 {}

@@ -4,7 +4,7 @@ use Rattle.std.proofs.Common.{◌≡◌, ℕ, zero, suc, ◌+◌, ◌*◌, ◌/�
 use Rattle.std.proofs.lemmas.Nat.{pow-add}
 use Rattle.std.specs.Int.{IsPowerOfTwo, IsNextPowerOfTwo}
 use Rattle.admission.specs.Shape.{Spread, Shape, IsShape, IsOpenShape}
-use Rattle.admission.specs.Frequency.{FrequencyData, frequency_of, IsFrequencyOf, IsOpenFrequencyOf}
+use Rattle.admission.specs.Frequency.{FrequencyData, frequency_of, empty_frequency, frequency_from, IsFrequencyOf, IsOpenFrequencyOf}
 use Rattle.admission.proofs.Recording.{next_within}
 use Rattle.replacement.specs.Shape.{Config, doubled, least_power, shape_of, open_shape_of}
 
@@ -40,5 +40,5 @@ open-shape-one : (columns : ℕ) (c : Config) (s : Shape) → IsOpenShape column
 unfolding shape_by
 open-shape-one columns c s is cap spread = grind (arith, nat_tests, next_within, least (max 16 c.capacity), shape_by)
 
-pub own-open-shape : (columns : ℕ) (c : Config) (keys : List ℕ) (f : FrequencyData) → IsOpenFrequencyOf columns c.capacity c.spread keys f → f ≡ frequency_of (open_shape_of columns c) keys
-own-open-shape columns c keys f h = h.stands ∙ ap (λ s. frequency_of s keys) (open-shape-one columns c h.shape h.is h.capacity_is h.spread_is)
+pub own-open-shape : (columns : ℕ) (c : Config) (keys : List ℕ) (f : FrequencyData) → IsOpenFrequencyOf columns c.capacity c.spread keys f → f ≡ frequency_from (empty_frequency (open_shape_of columns c)) keys
+own-open-shape columns c keys f h = h.stands ∙ ap (λ s. frequency_from (empty_frequency s) keys) (open-shape-one columns c h.shape h.is h.capacity_is h.spread_is)

@@ -1,7 +1,7 @@
 //! The admission filter: who stays where one of two keys has to go.
 ghost use Rattle.std.specs.Prelude.{◌≡◌, [], Ok, IfOk, option_map};
 ghost use Rattle.engine_base.specs.Config.{config_fault};
-ghost use Rattle.admission.specs.Frequency.{frequency_of};
+ghost use Rattle.admission.specs.Frequency.{frequency_of, empty_frequency};
 ghost use Rattle.replacement.specs.Admission.{admits_in};
 ghost use Rattle.replacement.specs.Shape.{shape_of, open_shape_of};
 ghost use Rattle.std.specs.Prelude.{◌≤◌};
@@ -30,7 +30,7 @@ pub fn open_frequency_without_doorkeeper(
     requires checked { config_fault config.now ≡ Ok tt }
     requires power { IsPowerOfTwo columns }
     requires columns { columns ≤ 4 }
-    ensures { IfOk result (λ f. f ≡ frequency_of (open_shape_of columns config.now) []) }
+    ensures { IfOk result (λ f. f ≡ empty_frequency (open_shape_of columns config.now)) }
 {
     let frequency = Frequency::without_doorkeeper(alloc, config.capacity, config.spread, columns)?;
     Ok(frequency)

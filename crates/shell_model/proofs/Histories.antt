@@ -149,7 +149,7 @@ recorded-keys : (s : Shape) → IsShape s → (past keys : List ℕ) → recorde
 unfolding recorded_all frequency_recorded
 recorded-keys s h past [] = rw append-nil refl
 recorded-keys s h past (k ∷ ks) =
-    ap (λ f. recorded_all f ks) (recorded_freq s h.some (omega (arith, h.width.1)) past k) ∙ recorded-keys s h (past ++ k ∷ []) ks ∙ ap (frequency_of s) (append_assoc past (k ∷ []) ks)
+    ap (λ f. recorded_all f ks) (recorded_freq s h.some (omega (arith, h.width.1)) (omega (arith, h.size.1)) past k) ∙ recorded-keys s h (past ++ k ∷ []) ks ∙ ap (frequency_of s) (append_assoc past (k ∷ []) ks)
 
 pub frequency-law : (s : Shape) → IsShape s → (past : List ℕ) (x : Shell) (es : List MadeStep) → x.frequency ≡ frequency_of s past → IsLegal act x es → (data_after act x es).frequency ≡ frequency_of s (past ++ collect keyed es)
 frequency-law sh k past x [] f l = rw append-nil f

@@ -3,4 +3,5 @@ pub mod RowLists
 pub mod Tables
 pub mod Halves
 pub mod Masks
+pub mod Odds
 pub mod Undoing

@@ -1,5 +1,5 @@
 -- A touch's record: what it is, when it fits a table, and what undoing it leaves.
-use Rattle.std.specs.Prelude.{◌≡◌, ℕ, ◌-◌, ◌<◌, nat_lt, Bool, true, false, cond, [], ◌∷◌, slice_index_or}
+use Rattle.std.specs.Prelude.{◌≡◌, ℕ, ◌-◌, ◌<◌, nat_lt, Bool, true, false, cond, [], ◌∷◌, slice_index_or, ◌||◌}
 pub use Rattle.sketch.specs.declared.touch_record.TouchRecord.{TouchRecord}
 use Rattle.sketch.specs.Sketch.{Table, counter_of, at_key}
 
@@ -12,6 +12,10 @@ touch_record_of key t =
 -- whether the counter in a row rose
 abbrev pub rose : TouchRecord → ℕ → Bool
 rose r row = slice_index_or (r.rose.row_0 ∷ r.rose.row_1 ∷ r.rose.row_2 ∷ r.rose.row_3 ∷ []) row false
+
+-- whether a counter rose
+abbrev pub has_risen : TouchRecord → Bool
+has_risen r = r.rose.row_0 || r.rose.row_1 || r.rose.row_2 || r.rose.row_3
 
 -- the counters that rose fall by 1, and no other
 abbrev pub table_before_touch : TouchRecord → Table → Table

@@ -3,6 +3,8 @@ ghost use Rattle.std.specs.Prelude.{◌≡◌, ◌<◌, ◌≤◌, ◌+◌, ◌*
 ghost use Rattle.sketch.specs.Counters.{nibble, counter_at};
 ghost use Rattle.sketch.specs.Laws.{halved_word, odd_bits, lost_word, lost_of_word, unhalved_words};
 ghost use Rattle.engine_base.specs.Places.{by_place};
+ghost use Rattle.sketch.specs.Sketch.{is_odd};
+ghost use Rattle.std.specs.Prelude.{count_by};
 
 use crate::blocks::{ONES, SEVENS, halve_block, unhalve_block};
 
@@ -38,6 +40,18 @@ pub fn unhalve_words(words: &mut [u64], lost: &[u64])
         unhalve_block(words, 8 * block, lost[2 * block], lost[2 * block + 1]);
     }
     unhalve_rest(words, lost, 8 * whole);
+}
+
+/// How many of the words' counters are odd.
+pub fn odd_counters(words: &[u64]) -> u32
+    requires { length words.now ≤ 2 ^ 20 }
+    ensures { result ≡ count_by is_odd (by_place (16 * length words.now) (counter_at words.now)) }
+{
+    let mut odd = 0;
+    for i in 0..words.len() {
+        odd += (words[i] & ONES).count_ones();
+    }
+    odd
 }
 
 // The lowest bits of a word's counters, 0 past the end.

@@ -5,13 +5,14 @@ ghost use Rattle.sketch.specs.declared.columns.TheConstants.{MAX_WIDTH};
 ghost use Rattle.engine_base.specs.Places.{by_place};
 ghost use Rattle.sketch.specs.Columns.{column as column_of};
 ghost use Rattle.sketch.specs.Sketch.{counter as counter_of, touched_table, halved_table, least_counter as least_of};
+ghost use Rattle.sketch.specs.Sketch.{odd_counters as odd_counters_of};
 ghost use Rattle.sketch.specs.TouchRecord.{touch_record_of, table_before_touch, FitsTouch};
 ghost use Rattle.sketch.specs.HalveRecord.{halve_record_of, table_before_halving, FitsHalve};
 
 use crate::columns::columns;
 use crate::counters::get;
 use crate::halve_record::HalveRecord;
-use crate::laws::{halve_words, unhalve_words};
+use crate::laws::{halve_words, odd_counters, unhalve_words};
 use crate::rows::{lower_rows, raise_rows};
 use crate::touch_record::{RaisedRows, TouchRecord};
 use engine_base::{BitList, Key, Spread};
@@ -154,6 +155,13 @@ impl Sketch {
         Ok(HalveRecord {
             lost: BitList::of_words(lost),
         })
+    }
+
+    /// How many of its counters are odd: as many as a halving loses bits that are set.
+    pub fn odd_counters(&self) -> u32
+        ensures { result ≡ odd_counters_of self.now }
+    {
+        odd_counters(&self.words)
     }
 
     /// Undoes a halving: doubles each counter and adds the bit that it lost. The record has to fit, as that of the

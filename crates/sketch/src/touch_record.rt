@@ -1,6 +1,6 @@
 //! The undo record of a touch.
 ghost use Rattle.std.specs.Prelude.{◌≡◌, ◌<◌};
-ghost use Rattle.sketch.specs.TouchRecord.{rose};
+ghost use Rattle.sketch.specs.TouchRecord.{rose, has_risen};
 
 use engine_base::Key;
 
@@ -23,6 +23,20 @@ pub struct RaisedRows {
 }
 
 impl TouchRecord {
+    /// Whether a counter rose.
+    #[inline(always)]
+    pub fn has_risen(&self) -> bool
+        ensures { result ≡ has_risen self.now }
+    {
+        let RaisedRows {
+            row_0,
+            row_1,
+            row_2,
+            row_3,
+        } = self.rose;
+        row_0 || row_1 || row_2 || row_3
+    }
+
     // Whether the key's counter in a row rose.
     #[inline(always)]
     pub(crate) fn rose_in(&self, row: u32) -> bool

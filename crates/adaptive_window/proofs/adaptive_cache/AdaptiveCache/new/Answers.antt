@@ -1,7 +1,5 @@
 use Rattle.std.proofs.lemmas.Bool.Decides.{nat_tests}
 use Rattle.std.proofs.Common.{refl, arith}
-use Rattle.admission.proofs.Recording.{freq_none}
-use Rattle.adaptive_window.proofs.Fitting.{has-room}
 use Rattle.adaptive_window.proofs.adaptive_cache.AdaptiveCache.new.Goals as goal
 
 pub open_frequency_without_doorkeeper-requires-clause-power :
@@ -9,4 +7,4 @@ pub open_frequency_without_doorkeeper-requires-clause-power :
 open_frequency_without_doorkeeper-requires-clause-power c = (2, refl)
 
 pub invariant_of-result : goal.invariant_of-result
-invariant_of-result c = grind (arith, nat_tests, freq_none, has-room)
+invariant_of-result c = grind (arith, nat_tests)

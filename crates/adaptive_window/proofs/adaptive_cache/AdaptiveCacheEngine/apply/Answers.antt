@@ -1,5 +1,5 @@
 use Rattle.admission.proofs.Weighing.{weight_falls}
-use Rattle.adaptive_window.proofs.Fitting.{act-is, recorded-is}
+use Rattle.adaptive_window.proofs.Fitting.{act-is, recorded-is, still-running}
 use Rattle.adaptive_window.proofs.adaptive_cache.AdaptiveCacheEngine.apply.Goals as goal
 
 pub returns-clause-accepted : goal.returns-clause-accepted
@@ -19,3 +19,7 @@ returns-clause-record_is c =
 
 pub returns-clause-words : goal.returns-clause-words
 returns-clause-words c = weight_falls c.record.new.self c.in-Ok.counting c.in-Ok.ensures.fits
+
+pub invariant_of-self-2 : goal.invariant_of-self-2
+invariant_of-self-2 c =
+    still-running c.args.step.now c.access-done.result.outcome c.self.inside.frequency c.record.new.self c.self.inside.stats c.count.new.self c.self.invariant c.in_ok-make_room.ensures.below c.in-Ok.ensures.after c.count.ensures

@@ -1,7 +1,6 @@
 use Rattle.std.proofs.Common.{◌+◌, ◌*◌, ◌^◌, ap, ◌∙◌, refl, sym}
 use Rattle.std.proofs.lemmas.Nat.{pow-add}
 use Rattle.admission.specs.Shape.{Shape}
-use Rattle.admission.proofs.Recording.{freq_none}
 use Rattle.admission.proofs.frequency.Frequency.without_doorkeeper.Goals as goal
 
 pub new-requires-clause-power : goal.new-requires-clause-power
@@ -18,5 +17,5 @@ returns c =
       is = record { some = c.requires.some; entries = c.width_for.result; is = c.width_for.ensures.power; width = refl; size = refl };
       capacity_is = refl;
       spread_is = refl;
-      stands = rw (c.in_ok-new.ensures, c.of_no_bits.ensures) (sym (freq_none s c.requires.some));
+      stands = rw (c.in_ok-new.ensures, c.of_no_bits.ensures) refl;
     }
