@@ -3,12 +3,17 @@ use Rattle.std.specs.Prelude.{◌≡◌, ℕ, ◌+◌, ◌*◌, ◌/◌, ◌<◌
 use Rattle.std.specs.Prelude.{count_by}
 use Rattle.sketch.specs.Columns.{Spread, column}
 use Rattle.sketch.specs.Sketch.{least_counter, IsTable}
-use Rattle.admission.specs.Shape.{Shape, IsShape}
+use Rattle.admission.specs.Shape.{Shape, IsShape, IsSized}
 use Rattle.admission.specs.Eras.{halvings, this_era}
 use Rattle.admission.specs.Doorkeeper.{probe, is_probe}
 use Rattle.admission.specs.Frequency.{FrequencyData, IsFrequencyOf, IsFrequency, frequency_of, frequency_with}
-use Rattle.admission.specs.Frequency.{start, noted, ages, halves, frequency_from, estimate}
+use Rattle.admission.specs.Frequency.{start, noted, ages, halves, empty_frequency, frequency_from, estimate}
 use Rattle.admission_laws.specs.Exact.{records_of, exact_estimate}
+
+-- The data of a list of keys are what recording them one after another gives, from the data of no key.
+abbrev pub ListsAreRecorded : Type 0
+ListsAreRecorded = (s : Shape) (keys : List ℕ) → IsSized s
+    → frequency_of s keys ≡ frequency_from (empty_frequency s) keys
 
 -- An estimate is at least what an exact count of the same eras gives: the error of a Count-Min sketch has one side
 -- (Cormode and Muthukrishnan 2005).

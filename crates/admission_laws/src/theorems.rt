@@ -1,7 +1,13 @@
 //! How good an estimate is. Each of these functions does nothing: its contract is the theorem.
-ghost use Rattle.admission_laws.specs.Theorems.{EstimatesAreNeverLow, EstimatesCountTheEra};
+ghost use Rattle.admission_laws.specs.Theorems.{ListsAreRecorded, EstimatesAreNeverLow, EstimatesCountTheEra};
 ghost use Rattle.admission_laws.specs.Theorems.{EstimatesAreBounded, EstimatesAreExact, EstimatesRise};
 ghost use Rattle.admission_laws.specs.Theorems.{OpenEstimatesRise, OpenEstimatesCount};
+
+/// The frequency of a list of keys by its eras is what recording them one after another gives.
+#[tactic(auto, using(crate::proofs::Recorded::lists_are_recorded))]
+pub fn lists_are_recorded()
+    ensures { ListsAreRecorded }
+{}
 
 /// No key is estimated below an exact count of the same eras: a Count-Min sketch errs on one side. (Cormode and
 /// Muthukrishnan 2005.)

@@ -1,4 +1,4 @@
--- How many counters are odd, word by word; and whether a touch raised one.
+-- How many counters are odd, word by word.
 use Rattle.std.proofs.Common.{◌≡◌, ℕ, zero, suc, ◌+◌, ◌*◌, ◌/◌, ◌%◌, ◌<◌, ◌≤◌, ◌^◌, cond, List, length, get_or, count_by, ap, ◌∙◌, refl, arith}
 use Rattle.std.proofs.lemmas.Bool.Decides.{nat_tests}
 use Rattle.std.proofs.lemmas.List.FromFn.{sum_by-map-range_with_len_more}
@@ -10,8 +10,7 @@ use Rattle.engine_base.specs.Places.{by_place}
 use Rattle.engine_base.proofs.Places.{length-by_place}
 use Rattle.sketch.specs.Counters.{nibble, counter_at}
 use Rattle.sketch.specs.Laws.{odd_bits}
-use Rattle.sketch.specs.Sketch.{Table, rises, is_odd}
-use Rattle.sketch.specs.TouchRecord.{touch_record_of, has_risen}
+use Rattle.sketch.specs.Sketch.{is_odd}
 use Rattle.sketch.proofs.Digits.{four_more, nibble_odd}
 
 -- how many of the first n are odd
@@ -122,8 +121,3 @@ odd_word ws j = odd_words ws j
 
 pub odd_few : (n : ℕ) (f : ℕ → ℕ) → count_by is_odd (by_place n f) ≤ n
 odd_few n f = let a = count_by-le-length is_odd (by_place n f) in let b : length (by_place n f) ≡ n = length-by_place n f in omega (arith, a, b)
-
--- ---- a touch
-
-pub risen_is : (key : ℕ) (t : Table) → has_risen (touch_record_of key t) ≡ rises key t
-risen_is key t = grind (arith, nat_tests)
