@@ -1,5 +1,6 @@
 -- The queues by name, over the queues by number.
 use Rattle.std.proofs.Common.{◌≡◌, ℕ, ◌+◌, ◌<◌, ◌≤◌, cond, Option, Some, None, List, [], ◌∷◌, ◌++◌, ap, ◌∙◌, sym, refl, subst, arith}
+use Rattle.std.specs.Prelude.{option_map}
 use Rattle.std.proofs.lemmas.List.{map-append}
 use Rattle.std.proofs.lemmas.Bool.Decides.{nat_tests}
 use Rattle.queue_table.specs.Entries as Entries
@@ -40,6 +41,10 @@ last-is found (e ∷ l) = last-is (Some e.item) l
 times-is : (i : Item) (l : List Entry) → occurrences i (items_of l) ≡ Entries.occurrences i l
 times-is i [] = refl
 times-is i (e ∷ l) = ap (λ n. cond (is_same_item i e.item) 1 0 + n) (times-is i l)
+
+newest-is : (found : Option Entry) (l : List Entry) → option_map (λ e. e.item) (Entries.newest_from found l) ≡ last_from (option_map (λ e. e.item) found) (items_of l)
+newest-is found [] = refl
+newest-is found (e ∷ l) = newest-is (Some e) l
 
 -- one queue
 
@@ -172,6 +177,13 @@ module _ (s : ByNumber.Queues) (n : ℕ) (shown : Shown) (v : shown_of s n ≡ s
   -- an item that the lists by name do not hold
   pub absent-below : (i : Item) (e : Entry) → e ≡ Entries.entry i 0 → queue_holding i shown.lists ≡ None → ByNumber.queue_holding e.item s ≡ None
   absent-below i e ee none = cc (missing-numbered i s h (ap (queue_holding i) before-is ∙ none), before-is)
+
+  pub newest-shown : (q : Queue) (k : ℕ) (x : Entry) → k ≡ number_of q → Entries.newest_of (s k) ≡ Some x → Some x.item ≡ last_item (queue_of q shown.lists)
+  newest-shown q k x kq last =
+      ap (option_map (λ e. e.item)) (sym (ap (λ n. Entries.newest_of (s n)) (sym kq) ∙ last))
+      ∙ newest-is None (s (number_of q))
+      ∙ ap last_item (queue-named q s)
+      ∙ ap (λ (x : Queues). last_item (queue_of q x)) before-is
 
   module _ (d : ByNumber.IsDistinct s) where
     pub distinct-shown : IsDistinct shown.lists

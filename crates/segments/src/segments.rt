@@ -1,14 +1,15 @@
 //! The queues, over a table of queues by number.
-ghost use Rattle.std.specs.Prelude.{◌≡◌, ◌↔◌, ◌+◌, ◌≤◌, Ok, [], ◌++◌, map, length, Option, Some, None, MatchOption};
+ghost use Rattle.std.specs.Prelude.{◌≡◌, ◌≢◌, ◌↔◌, ◌+◌, ◌≤◌, Ok, [], ◌++◌, map, length, Option, Some, None, MatchOption};
 ghost use Rattle.std.specs.Prelude.{IfOk, OnOk, IfSome, IfNone};
 ghost use Rattle.queue_table.specs.Entries.{entry};
-ghost use Rattle.segments.specs.Items.{oldest_of};
+ghost use Rattle.segments.specs.Items.{oldest_of, last_item};
 ghost use Rattle.segments.specs.Queues.{empty_queues, queue_of, queue_holding, IsDistinct, queues_after_push, queues_without, queues_after_move, queues_after_pop};
 ghost use Rattle.segments.specs.Queues.{queue_after_access, total_items, residents_in};
 ghost use Rattle.segments.specs.Moves.{IsMoveRecord, FitsMove, queues_before_move, room_needed};
+ghost use Rattle.segments.specs.Runs.{queues_after_run, queues_before_run};
 
 use crate::names::{name, number, queue_place, table_place};
-use crate::records::{MoveRecord, Queue};
+use crate::records::{MoveRecord, Queue, QueuePlace};
 use engine_base::{Item, Key};
 use queue_table::{Entry, QueueTable};
 use std::alloc::{AllocError, Global};
@@ -257,6 +258,59 @@ impl Segments {
             from: Some(queue_place(place)),
             to: Some(to),
         })
+    }
+
+    /// Moves so many items of a queue, the oldest first, to the recent end of another one: all of them where it holds
+    /// fewer. Does not search the hash index.
+    pub fn send_times(&mut self, from: Queue, to: Queue, times: u32)
+        requires { from ≢ to }
+        ensures lists { self.new.lists ≡ queues_after_run times from to self.old.lists }
+        ensures undone { times ≤ length (queue_of from self.old.lists)
+            → queues_before_run times from to self.new.lists ≡ self.old.lists }
+        ensures spare { self.old.spare ≤ self.new.spare }
+    {
+        for _turn in 0..times {
+            self.distinct();
+            let _ = self.send_oldest(from, to);
+        }
+    }
+
+    /// Undoes `send_times`: so many items of the queue to which they went, the newest first, go back to the old end of
+    /// the other one.
+    pub fn return_times(&mut self, from: Queue, to: Queue, times: u32)
+        requires { from ≢ to }
+        ensures lists { self.new.lists ≡ queues_before_run times from to self.old.lists }
+        ensures spare { self.old.spare ≤ self.new.spare }
+    {
+        for _turn in 0..times {
+            self.distinct();
+            if let Some(item) = self.newest(to) {
+                let place = QueuePlace {
+                    queue: from,
+                    older: None,
+                };
+                self.put_back(MoveRecord {
+                    item,
+                    from: Some(place),
+                    to: Some(to),
+                });
+            }
+        }
+    }
+
+    // The newest item of the queue, `None` if it is empty.
+    fn newest(&self, queue: Queue) -> Option<Item>
+        ensures { result ≡ last_item (queue_of queue self.now.lists) }
+    {
+        let (_, newest) = self.table.newest(number(queue))?;
+        Some(newest.item)
+    }
+
+    // No item stands twice. This does nothing: its contract is the fact.
+    fn distinct(&self)
+        ensures { IsDistinct self.now.lists }
+    {
+        self.table.distinct();
     }
 
     /// Takes the item out. `None`, and nothing moved, where it stands in no queue.
