@@ -1,5 +1,6 @@
 pub mod Climbing
 pub mod Protected
+pub mod SizeChanges
 pub mod Keeping
 pub mod Worked
 pub mod Fitting

@@ -1,7 +1,7 @@
 -- W-TinyLFU with an adaptive window: each access goes by the table of moves, at the window's size in force. Then the
--- size in force goes one towards the climber's target, and the queues follow it by two moves at most. So at each access
--- the cache is that of a fixed window of the size in force. (Caffeine moves up to 1,000 items at once.)
-use Rattle.std.specs.Prelude.{ℕ, ◌+◌, ◌-◌, ◌≤◌, nat_lt, Bool, if◌then◌else◌, length}
+-- size in force goes to the climber's target, and the queues follow it. So at each access the cache is that of a fixed
+-- window of the size in force.
+use Rattle.std.specs.Prelude.{ℕ, ◌+◌, ◌-◌, ◌*◌, ◌≤◌, nat_lt, Bool, if◌then◌else◌, length}
 use Rattle.engine_base.specs.Stats.{is_hit}
 pub use Rattle.engine_base.specs.declared.item.Item.{Item}
 pub use Rattle.engine_base.specs.declared.outcome.Outcome.{Outcome}
@@ -9,11 +9,9 @@ use Rattle.segments.specs.Queues.{Queues, empty_queues, IsDistinct}
 use Rattle.replacement.specs.declared.rules.Placement.TheVariants.{Windowed}
 pub use Rattle.replacement.specs.declared.rules.Rules.{Rules}
 use Rattle.replacement.specs.Counts.{main_length}
-use Rattle.replacement.specs.Plan.{Plan}
-use Rattle.replacement.specs.PlanMoves.{queues_after}
-use Rattle.replacement.specs.Resizing.{growth_plan, shrinking_plan, idle_plan}
 use Rattle.replacement.specs.Table.{Response, access}
 use Rattle.adaptive_window.specs.Climber.{Climber, distance, climber_after, first_climber, IsClimber}
+use Rattle.adaptive_window.specs.Resizing.{max_size_change, size_towards, queues_after_growth, queues_after_shrinking}
 pub use Rattle.adaptive_window.specs.declared.climber.ClimbRules.{ClimbRules}
 
 pub record AdaptiveState : Type 0 where
@@ -41,17 +39,14 @@ rules_at r size = record {
   placement = Windowed;
 }
 
--- ---- the window's size goes towards the target
+-- ---- the window's size goes to the target
 
-abbrev pub size_towards : ℕ → ℕ → ℕ
-size_towards target size =
-    if nat_lt size target then size + 1 else if nat_lt target size then size - 1 else size
-
-abbrev pub adjustment_plan : ClimbRules → ℕ → ℕ → Queues → Plan
-adjustment_plan r target size s =
+-- the queues after that, at the rules of the size after it
+abbrev pub queues_resized : ClimbRules → ℕ → ℕ → Queues → Queues
+queues_resized r target size s =
     if nat_lt size target
-    then growth_plan (rules_at r (size + 1)) s
-    else if nat_lt target size then shrinking_plan (rules_at r (size - 1)) s else idle_plan
+    then queues_after_growth (rules_at r (size_towards target size)) s
+    else if nat_lt target size then queues_after_shrinking (rules_at r (size_towards target size)) s else s
 
 -- ---- an access
 
@@ -59,15 +54,15 @@ adjustment_plan r target size s =
 abbrev pub response_of : ClimbRules → (ℕ → ℕ → Bool) → Item → AdaptiveState → Response
 response_of r admits i s = access (rules_at r s.size) admits i s.queues
 
-abbrev pub adjusted : ClimbRules → Climber → ℕ → Queues → AdaptiveState
-adjusted r climber size s = record {
-  queues = queues_after (adjustment_plan r climber.target size s) s;
+abbrev pub resized : ClimbRules → Climber → ℕ → Queues → AdaptiveState
+resized r climber size s = record {
+  queues = queues_resized r climber.target size s;
   size = size_towards climber.target size;
   climber = climber;
 }
 
 abbrev pub adaptive_after : ClimbRules → Response → AdaptiveState → AdaptiveState
-adaptive_after r a s = adjusted r (climber_after r (is_hit a.outcome) s.climber) s.size a.queues
+adaptive_after r a s = resized r (climber_after r (is_hit a.outcome) s.climber) s.size a.queues
 
 -- an access to an item, where a candidate is admitted against a victim or not: its outcome, and the state
 -- after it
@@ -86,5 +81,5 @@ pub record IsAdaptive (r : ClimbRules) (s : AdaptiveState) : Type 0 where
   pub least : 1 ≤ s.size
   pub most : s.size ≤ r.largest
   pub climber : IsClimber r s.climber
-  -- the size in force is so near the target that it reaches it in as many accesses as items fit
-  pub near : distance s.climber.target s.size ≤ r.capacity - s.climber.accesses
+  -- the size in force is so near the target that the changes of so many accesses reach it
+  pub near : distance s.climber.target s.size ≤ r.capacity - max_size_change * s.climber.accesses

@@ -1,5 +1,5 @@
--- A worked example.
-use Rattle.std.specs.Prelude.{◌≡◌, ℕ, nat_lt, Bool, false, List, [], ◌∷◌}
+-- Worked examples.
+use Rattle.std.specs.Prelude.{◌≡◌, ℕ, nat_lt, Bool, true, false, List, [], ◌∷◌, take}
 use Rattle.engine_base.specs.Stats.{stats_of}
 use Rattle.adaptive_window.specs.AdaptiveWindow.{ClimbRules, Item, empty_adaptive}
 use Rattle.adaptive_window.specs.Theorems.{Access, adaptive_outcomes, adaptive_state_after}
@@ -34,4 +34,38 @@ pub record WorkedExample : Type 0 where
     queues = record { window = item 4 ∷ []; probation = item 6 ∷ item 1 ∷ []; protected = item 3 ∷ [] };
     size = 1;
     climber = record { target = 1; grows = false; step = 64225; accesses = 4; hits = 2; last_hits = 3 };
+  }
+
+-- a step of three items
+abbrev pub jumping_rules : ClimbRules
+jumping_rules = record { capacity = 6; largest = 5; sample = 8; step = 196608 }
+
+-- two periods
+abbrev pub jumping_keys : List ℕ
+jumping_keys = 1 ∷ 2 ∷ 3 ∷ 4 ∷ 5 ∷ 1 ∷ 5 ∷ 5 ∷ 2 ∷ 3 ∷ 6 ∷ 7 ∷ 8 ∷ 0 ∷ 9 ∷ 10 ∷ []
+
+-- At capacity 6, from a window of 4. After the first period it shrinks to 1, and 2, 3 and 4 go to probation. In the second
+-- one the hits fall from three to two, so it grows to 4: protected, which is to have one item, gives 1 and 2 to probation,
+-- and then probation 8, 9 and 1 to the window.
+pub record JumpingExample : Type 0 where
+  pub shrunk : adaptive_state_after jumping_rules (empty_adaptive jumping_rules 4) (accesses_to (take 8 jumping_keys))
+      ≡ record {
+        queues = record {
+          window = item 5 ∷ [];
+          probation = item 2 ∷ item 3 ∷ item 4 ∷ [];
+          protected = item 1 ∷ [];
+        };
+        size = 1;
+        climber = record { target = 1; grows = false; step = 196608; accesses = 0; hits = 0; last_hits = 3 };
+      }
+  pub counts : stats_of (adaptive_outcomes jumping_rules (empty_adaptive jumping_rules 4) (accesses_to jumping_keys))
+      ≡ record { accesses = 16; hits = 5; misses = 11; evictions = 5; rejections = 1 }
+  pub grown : adaptive_state_after jumping_rules (empty_adaptive jumping_rules 4) (accesses_to jumping_keys) ≡ record {
+    queues = record {
+      window = item 10 ∷ item 8 ∷ item 9 ∷ item 1 ∷ [];
+      probation = item 2 ∷ [];
+      protected = item 3 ∷ [];
+    };
+    size = 4;
+    climber = record { target = 4; grows = true; step = 196608; accesses = 0; hits = 0; last_hits = 2 };
   }

@@ -1,4 +1,5 @@
 pub mod Climber
+pub mod Resizing
 pub mod AdaptiveWindow
 pub mod WindowRecord
 pub mod AdaptiveCache

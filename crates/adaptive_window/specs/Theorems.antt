@@ -1,10 +1,11 @@
 -- What is known of W-TinyLFU with an adaptive window, whatever the admission filter says.
-use Rattle.std.specs.Prelude.{◌≡◌, ℕ, ◌+◌, ◌≤◌, nat_lt, Bool, cond, Option, List, [], ◌∷◌, count_by}
+use Rattle.std.specs.Prelude.{◌≡◌, ℕ, ◌+◌, ◌*◌, ◌≤◌, nat_lt, Bool, cond, Option, List, [], ◌∷◌, count_by}
 use Rattle.engine_base.specs.Stats.{is_hit, is_miss, is_eviction, one_if}
 use Rattle.segments.specs.Items.{Item, is_same_item}
 use Rattle.segments.specs.Queues.{total_items}
 use Rattle.replacement.specs.Counts.{queue_occurrences}
 use Rattle.adaptive_window.specs.Climber.{ClimbRules, AreClimbRules, caffeine_rules, first_window}
+use Rattle.adaptive_window.specs.Resizing.{max_size_change}
 use Rattle.adaptive_window.specs.AdaptiveWindow.{Outcome, AdaptiveState, empty_adaptive, adaptive_act, IsAdaptive}
 use Rattle.adaptive_window.specs.WindowRecord.{window_record_of, window_undone}
 
@@ -20,8 +21,8 @@ pub record IsAdaptiveAccess (i : Item) (old : AdaptiveState) (o : Outcome) (new 
   -- no item came but this
   pub came : (j : Item)
       → queue_occurrences j new.queues ≤ queue_occurrences j old.queues + cond (is_same_item j i) 1 0
-  -- the size moved by one at most
-  pub size : (new.size ≤ old.size + 1) × (old.size ≤ new.size + 1)
+  -- the size changed by so many items at most
+  pub size : (new.size ≤ old.size + max_size_change) × (old.size ≤ new.size + max_size_change)
 
 pub record KeepsAdaptive (r : ClimbRules) (size : ℕ) : Type 0 where
   pub starts : IsAdaptive r (empty_adaptive r size)
@@ -31,7 +32,8 @@ pub record KeepsAdaptive (r : ClimbRules) (size : ℕ) : Type 0 where
       → IsAdaptiveAccess i s (adaptive_act r admits i s).0 (adaptive_act r admits i s).1
   pub fits : (s : AdaptiveState) → IsAdaptive r s → total_items s.queues ≤ r.capacity
   -- from that access of a period on, the size in force is the target
-  pub reached : (s : AdaptiveState) → IsAdaptive r s → r.capacity ≤ s.climber.accesses → s.size ≡ s.climber.target
+  pub reached : (s : AdaptiveState) → IsAdaptive r s → r.capacity ≤ max_size_change * s.climber.accesses
+      → s.size ≡ s.climber.target
 
 -- for all rules, and each size at first
 abbrev pub AdaptiveKeeps : Type 0

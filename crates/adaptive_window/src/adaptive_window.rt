@@ -2,19 +2,19 @@
 ghost use Rattle.std.specs.Prelude.{◌≡◌, ◌≤◌, Some, None, Ok, IfOk, OnOk, OnErr, length};
 ghost use Rattle.engine_base.specs.Config.{config_fault};
 ghost use Rattle.engine_base.specs.Stats.{is_hit as is_hit_of};
-ghost use Rattle.segments.specs.Queues.{IsDistinct, queue_holding, residents_in};
+ghost use Rattle.segments.specs.Queues.{queue_holding, residents_in};
 ghost use Rattle.replacement.specs.Admission.{admits_in};
-ghost use Rattle.replacement.specs.PlanMoves.{queues_after, moves_of, needed_by, UndoesMoves};
-ghost use Rattle.replacement.specs.KeptMoves.{IsKeepable};
+ghost use Rattle.replacement.specs.PlanMoves.{needed_by};
 ghost use Rattle.adaptive_window.specs.Climber.{AreSmallRules, caffeine_rules, first_window};
-ghost use Rattle.adaptive_window.specs.AdaptiveWindow.{empty_adaptive, size_towards, adjustment_plan, adaptive_act};
-ghost use Rattle.adaptive_window.specs.WindowRecord.{size_change, size_before as size_before_of, window_record_of, window_undone, WindowFits};
+ghost use Rattle.adaptive_window.specs.AdaptiveWindow.{empty_adaptive, adaptive_act};
+ghost use Rattle.adaptive_window.specs.WindowRecord.{window_record_of, window_undone, WindowFits};
 
 use crate::climber::{ClimbRules, Climber, first_window_of};
-use crate::window_record::{SizeChange, WindowRecord};
+use crate::resizing::{resize, size_before, undo_runs};
+use crate::window_record::WindowRecord;
 use admission::Frequency;
 use engine_base::{Config, Item, Key, Outcome};
-use replacement::{KeptMoves, Moves, access, grow_window, make_room, shrink_window, undo};
+use replacement::{KeptMoves, access, make_room, undo};
 use segments::{Queue, Segments};
 use std::alloc::{AllocError, Global};
 use std::marker::Model;
@@ -127,8 +127,8 @@ impl AdaptiveWindow {
     }
 
     /// Accesses an item, whose key the frequency already has: by the table of moves, with a window of the size in force.
-    /// The access is counted, and then the size in force goes one towards the target. It requires room for one item where the
-    /// item is not there.
+    /// The access is counted, and then the size in force goes to the target, by `MAX_SIZE_CHANGE` at most, and the queues
+    /// follow. It requires room for one item where the item is not there.
     ///
     /// `C` only selects an instance: calls with different `C` are compiled apart, so an instance whose undo record is
     /// unused makes none.
@@ -153,18 +153,17 @@ impl AdaptiveWindow {
             item,
         );
         let period = self.climber.count(&self.rules, is_hit(effect.outcome));
-        let adjusted = adjust(
+        let resized = resize(
             &mut self.segments,
             &self.rules,
             self.climber.target,
             self.size,
         );
-        self.size = adjusted.size;
+        self.size = resized.size;
         WindowRecord {
             outcome: effect.outcome,
             access: KeptMoves::of(effect.moves),
-            adjustment: KeptMoves::of(adjusted.moves),
-            size: adjusted.change,
+            size: resized.change,
             period,
         }
     }
@@ -185,7 +184,7 @@ impl AdaptiveWindow {
         }
     }
 
-    /// Undoes an access: first what moved as the window followed its target, then the access. It requires that the record
+    /// Undoes an access: first what followed the change of the window's size, then the access. It requires that the record
     /// fits, and room for the item that left, if one did.
     pub fn undo(&mut self, done: WindowRecord)
         requires fits { WindowFits self.old.rules done self.old.state }
@@ -193,70 +192,10 @@ impl AdaptiveWindow {
         ensures state { self.new.state ≡ window_undone done self.old.state }
         ensures rules { self.new.rules ≡ self.old.rules }
     {
-        undo(&mut self.segments, done.adjustment.moves());
+        undo_runs(&mut self.segments, done.size);
         undo(&mut self.segments, done.access.moves());
         self.size = size_before(done.size, self.size);
         self.climber.uncount(done.period, is_hit(done.outcome));
-    }
-}
-
-// A step of the window towards its target: the size after it, how that changed, and what moved.
-#[derive(Clone, Copy)]
-struct Adjusted {
-    size: u32,
-    change: SizeChange,
-    moves: Moves,
-}
-
-// The size in force goes one towards the target, and the queues follow.
-#[inline(always)]
-fn adjust(segments: &mut Segments, rules: &ClimbRules, target: u32, size: u32) -> Adjusted
-    requires target { target ≤ rules.now.largest }
-    requires size { size ≤ rules.now.largest }
-    requires fits { rules.now.largest ≤ rules.now.capacity }
-    requires distinct { IsDistinct segments.old.lists }
-    ensures size { result.size ≡ size_towards target size }
-    ensures change { result.change ≡ size_change target size }
-    ensures lists { segments.new.lists
-        ≡ queues_after (adjustment_plan rules.now target size segments.old.lists) segments.old.lists }
-    ensures moves { result.moves
-        ≡ moves_of (adjustment_plan rules.now target size segments.old.lists) segments.old.lists }
-    ensures undoes { UndoesMoves segments.old.lists segments.new.lists result.moves }
-    ensures keepable { IsKeepable result.moves }
-{
-    if size < target {
-        let moves = grow_window(segments, &rules.at(size + 1));
-        return Adjusted {
-            size: size + 1,
-            change: SizeChange::Grew,
-            moves,
-        };
-    }
-    if target < size {
-        let moves = shrink_window(segments, &rules.at(size - 1));
-        return Adjusted {
-            size: size - 1,
-            change: SizeChange::Shrank,
-            moves,
-        };
-    }
-    Adjusted {
-        size,
-        change: SizeChange::Stayed,
-        moves: Moves::NONE,
-    }
-}
-
-// The size before a change.
-fn size_before(change: SizeChange, size: u32) -> u32
-    requires some { 1 ≤ size }
-    requires few { size ≤ 1048576 }
-    ensures { result ≡ size_before_of change size }
-{
-    match change {
-        SizeChange::Grew => size - 1,
-        SizeChange::Shrank => size + 1,
-        SizeChange::Stayed => size,
     }
 }
 

@@ -8,4 +8,3 @@ pub mod PlanMoves
 pub mod Effects
 pub mod KeptMoves
 pub mod Theorems
-pub mod Resizing

@@ -52,7 +52,7 @@ fn settle(segments: &mut Segments, size: usize, queue: Queue) -> Option<MoveReco
 
 // Takes the oldest item of protected to probation where protected is over its size.
 #[inline(always)]
-pub(crate) fn demote(segments: &mut Segments, size: usize) -> Option<MoveRecord>
+fn demote(segments: &mut Segments, size: usize) -> Option<MoveRecord>
     requires { IsDistinct segments.old.lists }
     ensures lists { segments.new.lists ≡ queues_after_transfer (demotion size segments.old.lists) segments.old.lists }
     ensures record { result ≡ transfer_record (demotion size segments.old.lists) segments.old.lists }
