@@ -45,9 +45,21 @@ def arc_keys(line, room):
     return range(start, start + count)
 
 
+def plain_keys(data, most):
+    """The accesses of lines that are numbers without a fault and nothing else, which are most traces; none of
+    others."""
+    fields = [] if data.translate(None, b"0123456789\n") else data.split()
+    if len(fields) > most or max(map(len, fields), default=0) > 20:
+        return []
+    keys = [*map(int, fields)]
+    return keys if max(keys, default=0) <= ALL_BITS else []
+
+
 def keys_of(form, data, is_long=False):
     """The accesses of a trace, or the fault of its first faulty line. One that is long may have more of them."""
     most = MAX_LONG_ACCESSES if is_long else MAX_ACCESSES
+    if form == "lirs" and (keys := plain_keys(data, most)):
+        return keys
     keys, keys_of_line = [], {"lirs": lirs_keys, "arc": arc_keys}[form]
     for number, line in enumerate(data.split(b"\n"), 1):
         try:

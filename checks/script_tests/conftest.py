@@ -1,7 +1,7 @@
 """What pytest hands to the tests of the scripts, by the names of their parameters.
 
-`survey`, `plot`, `corpus`, `sample`, `journal` and `reference` are the scripts, in a copy of tools/; `folder` is one of the test's
-own; `program` is the built program. A test is a function `check_..` of a file `.._tests.py`: it fails by `assert`, or by what
+`survey`, `plot`, `corpus`, `sample`, `convert`, `journal` and `reference` are the scripts, in a copy of tools/; `folder` is
+one of the test's own; `program` is the built program. A test is a function `check_..` of a file `.._tests.py`: it fails by `assert`, or by what
 frame.py has. Each module names in MISTAKES what its tests have to find: mistakes_tests.py tries them.
 """
 import compileall
@@ -38,7 +38,7 @@ def program(pytestconfig):
 def tools(tmp_path_factory):
     """A copy of the scripts, in which what they import is compiled, so that not every call does it."""
     top = tmp_path_factory.mktemp("copy")
-    for name in ("tools", "checks/cache_reference"):
+    for name in ("tools", "checks/cache_reference", "examples/policies"):
         shutil.copytree(TOP / name, top / name, ignore=shutil.ignore_patterns("__pycache__"))
     compileall.compile_dir(top, quiet=1)
     return top / "tools"
@@ -55,4 +55,5 @@ def fixture_of(name):
     return pytest.fixture(lambda tools: tools / name, name=name)
 
 
-survey, plot, corpus, sample, journal, reference = map(fixture_of, ("survey", "plot", "corpus", "sample", "journal", "reference"))
+SCRIPTS = "survey", "plot", "corpus", "sample", "convert", "journal", "reference"
+survey, plot, corpus, sample, convert, journal, reference = map(fixture_of, SCRIPTS)

@@ -3,8 +3,10 @@ import inspect
 import os
 import shutil
 
+import convert_tests
 import corpus_tests
 import journal_tests
+import own_tests
 import plot_tests
 import pytest
 import reference_tests
@@ -14,7 +16,8 @@ import traces_tests
 from checks import replaced
 
 MODULES = [("survey", survey_tests), ("survey", traces_tests), ("plot", plot_tests), ("corpus", corpus_tests),
-           ("sample", sample_tests), ("journal", journal_tests), ("reference", reference_tests)]
+           ("sample", sample_tests), ("convert", convert_tests), ("journal", journal_tests),
+           ("reference", reference_tests), ("own", own_tests)]
 
 
 @pytest.mark.parametrize("script, mistake", [pytest.param(script, mistake, id=f"{script}: {words}")
@@ -26,6 +29,6 @@ def check_mistake(script, mistake, tools, folder, program):
     file.unlink()
     file.write_text(text)
     (folder / "files").mkdir()
-    given = {script: copy / script, "folder": folder / "files", "program": program}
+    given = {**{it: copy / it for it in dict(MODULES)}, "folder": folder / "files", "program": program}
     with pytest.raises(AssertionError):
         mistake.test(**{name: given[name] for name in inspect.signature(mistake.test).parameters})

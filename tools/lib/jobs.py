@@ -43,7 +43,8 @@ class JobProgram(Program):
 def line_of(program, settings, name):
     """The line of a job: the rows of all policies at all parts of the footprint of its trace, or why there are none."""
     try:
-        result = rows_of(Trace(program, name, Options(settings["format"], "99", "mixed")), settings)
+        result = rows_of(Trace(program, name, Options(settings["format"], "99", "mixed", own=settings["own"],
+                                                      processes=1)), settings)
     except (Unreadable, ValueError) as fault:
         result = {"fault": str(fault).removeprefix(f"{name}: ")}
     return json.dumps({"trace": name, **result}) + "\n"
@@ -80,6 +81,7 @@ def jobs_in_memory():
 def words_of_job(script, program, settings):
     words = [*script, "job", f"--program={program}", f"--format={settings['format']}"]
     words += [f"--policy={it}" for it in settings["policies"]]
+    words += [f"--own={it}" for it in settings["own"]]
     return words + [f"--percent={it}" for it in settings["percents"]]
 
 
@@ -90,8 +92,9 @@ def has_gnu_parallel():
     return subprocess.run(["parallel", "--version"], capture_output=True, check=False).stdout.startswith(b"GNU parallel")
 
 
-def sent_files(folder, program):
-    """The name of a folder in this one, which other hosts get too, with the program and all that a job imports."""
+def sent_files(folder, program, own):
+    """The name of a folder in this one, which other hosts get too, with the program, policies of one's own and all that
+    a job imports."""
     name, tools = f"corpus-{os.urandom(8).hex()}", Path(__file__).resolve().parent.parent
     (folder / name).mkdir()
     with zipfile.ZipFile(folder / name / "jobs.pyz", "w") as scripts:
@@ -99,6 +102,8 @@ def sent_files(folder, program):
         for it in tools.glob("lib/*.py"):
             scripts.write(it, f"lib/{it.name}")
     shutil.copy(program, folder / name / "cachesim")
+    for at, file in enumerate(own):
+        shutil.copy(file, folder / name / f"own{at}.py")
     return name
 
 

@@ -1,15 +1,18 @@
 """What tools/survey measures of a trace: its footprint, every policy at several capacities, the windows of wtinylfu, jumps
 of the hit ratio, the capacities that reach one, and both sides of powers of two."""
 import math
+import os
 import sys
 from collections import namedtuple
 from decimal import Decimal
+from itertools import accumulate
 
 from .advice import choices_of, middles_of, more_misses
 from .policies import MONOTONE, OPTIMAL, WINDOWED, has_sketch
-from .reports import MAX_CAPACITY, rate
+from .reports import MAX_CAPACITY, Row, rate
+from .runs import side_by_side
 from .samples import check_accesses
-from .traces import blocks_of, times_of_blocks
+from .traces import blocks_of, ranges_of, times_of_blocks
 
 PERCENTS = ["1", "2", "5", "10", "20", "50"]
 # The main parts of wtinylfu that are tried, in percent of the capacity, as --main names them; the rest is its window. The
@@ -29,14 +32,18 @@ ROUNDS = 2
 LEAST_SPAN = Decimal("0.5")
 # How many capacities in equal ratios a picture has, from 1 percent of the footprint on.
 DRAWN = 30
+# The most accesses of which it is looked up how many requests hit, and of all that are looked up at once: each is a
+# row.
+MAX_ROWS = 1 << 23
 # The tables with `best`.
 ADVICE = {"policies", "misses", "halves"}
 
 # `rows` has those of `policies` and of what else is asked for `best`, `spans` the lowest and the highest row near a capacity at
 # which a policy moves; `between` are the capacities that nobody asked for. `parts` has a row for each policy, option, size and
-# capacity, `reaches` the row that reaches a ratio and one that does not.
-Survey = namedtuple("Survey", "trace accesses footprint once highest policies rows spans between choices halves parts jumps reaches "
-                    "powers", defaults=({}, {}, [], {}, [], {}, [], [], []))
+# capacity, `requests` one for each policy and capacity, `reaches` the row that reaches a ratio and one that does not.
+Survey = namedtuple("Survey",
+                    "trace accesses footprint once highest policies rows spans between choices halves parts requests "
+                    "jumps reaches powers", defaults=({}, {}, [], {}, [], {}, {}, [], [], []))
 Reach = namedtuple("Reach", "policy ratio row below is_possible")
 
 
@@ -44,10 +51,11 @@ def plan_of(policies, args):
     """The steps of a survey of one trace that are planned, in their order and as a terminal names them."""
     tables, has_jumps = {*args.table}, "jumps" in args.table or args.plot
     return ["footprint",
-            *["policies"] * bool(tables & {*ADVICE, "windows", "parts", "powers"} or has_jumps),
+            *["policies"] * bool(tables & {*ADVICE, "windows", "parts", "powers", "requests"} or has_jumps),
             *["between capacities"] * bool(tables & ADVICE),
             *["halves"] * ("halves" in tables),
             *(part_step(policy, option, size) for policy, option, size in tried_parts(policies) if "parts" in tables),
+            *["requests"] * ("requests" in tables and args.format == "arc"),
             *["jumps of lru"] * bool(has_jumps),
             *(map(reach_step, policies) if "reach" in tables else []),
             *["powers of two"] * ("powers" in tables),
@@ -89,6 +97,7 @@ def survey_of(trace, policies, args, progress):
     survey = Survey(trace, highest.accesses, footprint, once, rate(highest.hits, highest.accesses), policies, rows,
                     spans_of(rows, near), between, choices_of(trace, counted(rows, near)),
                     halves_of(trace, asked, rows, report.accesses, progress), parts_of(trace, rows, policies, progress),
+                    requests_of(trace, rows, policies, report.accesses, progress),
                     [*jumps_of_lru(trace, top, args.jump, progress), *other_jumps(rows, near, args.jump)],
                     reaches_of(trace, rows, policies, args.reach, top, highest, progress), powers_of(trace, rows, policies, progress))
     progress.erase()
@@ -202,6 +211,29 @@ def parts_of(trace, rows, policies, progress):
     own = {(policy, option, size, it): rows[policy, it]
            for policy, option, size, _ in PARTS if policy in policies for it in capacities}
     return {**own, **found} if found else {}
+
+
+def requests_of(trace, rows, policies, accesses, progress):
+    """The rows of each policy at each capacity that count requests in place of blocks, if a request has several: one is
+    a line of the trace, and hits where all its blocks do."""
+    counts = [count for _, count in ranges_of(trace.file.lines(),
+                                              trace.options.format)] if progress.begins("requests") else []
+    if accesses > MAX_ROWS or max(counts, default=1) == 1:
+        if counts and accesses > MAX_ROWS:
+            progress.erase()
+            print(f"{trace.program.tool}: {trace.name}: requests are left out: it has over {MAX_ROWS} accesses",
+                  file=sys.stderr)
+        return {}
+    parts = [(end - count, end) for end, count in zip(accumulate(counts), counts) if end - count >= trace.left_out]
+
+    def counted(job):
+        hits = trace.hits_of(*job)
+        whole = sum(0 not in hits[first:end] for first, end in parts)
+        return Row(*job, len(parts), whole, len(parts) - whole, 0)
+
+    jobs, most = [(policy, it) for policy in policies for it in capacities_in(rows)], max(1, MAX_ROWS // accesses)
+    found = side_by_side(counted, jobs, "requests", accesses * len(jobs), min(most, len(os.sched_getaffinity(0))))
+    return dict(zip(jobs, found))
 
 
 def between(low, high, count):

@@ -2,24 +2,29 @@
 without the warm-up, comes to."""
 import copy
 import csv
+import io
 import os
 import re
 import subprocess
 import sys
 import tempfile
 from collections import namedtuple
+from functools import cached_property
 from pathlib import Path
 
 from .options import as_called
+from .own import counts_of, is_own, outcomes_of
 from .policies import tip_for
-from .traces import FORMATS, TraceFile, Unreadable, beginning_of, ranges_of
+from .runs import Accesses
+from .traces import FORMATS, TraceFile, Unreadable, beginning_of, blocks_read, ranges_of
 
 MAX_CAPACITY = 1 << 20
 SWEEP = "policy,capacity,accesses,hits,misses,evictions,rejections,rate"
 
 Row = namedtuple("Row", "policy capacity accesses hits misses evictions")
-# The options of a call: the format of the trace, --main of wtinylfu, --spread, --long.
-Options = namedtuple("Options", "format main spread is_long", defaults=(False,))
+# The options of a call: the format of the trace, --main of wtinylfu, --spread, --long, and one's own policies, with how
+# many processes run them side by side.
+Options = namedtuple("Options", "format main spread is_long own processes", defaults=(False, {}, None))
 
 
 def rate(hits, accesses):
@@ -53,9 +58,9 @@ class Program:
             sys.exit(f"{self.tool}: {self.path} does not say which policies it takes")
         return re.split(r",\s*", words.group(1))
 
-    def chosen(self, named):
-        """Each policy of --policy once; a word that the program does not take ends the script."""
-        taken = self.policies() if named else []
+    def chosen(self, named, own=()):
+        """Each policy of --policy once; a word that neither the program takes nor is one's own ends the script."""
+        taken = [*self.policies(), *own] if named else []
         for policy in named or []:
             if policy not in taken:
                 sys.exit(f"{self.tool}: --policy {policy} is none of {', '.join(taken)}{tip_for(policy, taken)}")
@@ -94,14 +99,14 @@ class Trace:
     def __init__(self, program, name, options, inverse=1, whole=None, after=0):
         self.program, self.name, self.options = program, name, options
         self.inverse, self.whole, self.after = inverse, whole, after
-        self.file, self.warm_up = TraceFile(name), None
+        self.file, self.warm_up, self.left_out = TraceFile(name), None, 0
 
     def leave_out(self, accesses):
         """Leaves the warm-up out of this trace of so many accesses from here on, and says whether any are left: of a sample as
         large a part is left out as of the whole trace."""
         after = self.after * accesses // self.whole if self.whole else self.after
         if 0 < after < accesses:
-            self.warm_up = tempfile.TemporaryFile()
+            self.warm_up, self.left_out = tempfile.TemporaryFile(), after
             self.warm_up.writelines(beginning_of(self.file.lines(), self.options.format, after))
             self.warm_up.flush()
         return after < accesses
@@ -147,10 +152,44 @@ class Trace:
     def reports(self, policies, capacities, main, trace, part=()):
         if not policies:
             return {}
+        own = [it for it in policies if is_own(it)]
+        rows = self.rows_of_own(own, capacities, self.warm_up and trace == self.warm_up.fileno()) if own else {}
+        known = [it for it in policies if it not in own]
+        return {**(self.rows_of_program(known, capacities, main, trace, part) if known else {}), **rows}
+
+    @cached_property
+    def keys(self):
+        keys = Accesses(blocks_read(self.file.lines(), self.options.format))
+        self.file.begun()
+        return keys
+
+    def rows_of_own(self, policies, capacities, is_warm_up):
+        keys, options = Accesses(self.keys[:self.left_out]) if is_warm_up else self.keys, self.options
+        counts = counts_of(options.own, policies, capacities, keys, options.processes)
+        return {at: Row(*at, *numbers[:4]) for at, numbers in counts.items()}
+
+    def words(self, command, main=None, part=()):
         options = self.options
-        words = ["sweep", "--format", options.format, "--spread", options.spread]
-        words += ["--main", main or options.main, *["--long"] * options.is_long, *part]
-        words += [*(word for policy in policies for word in ("--policy", policy)), *capacities]
+        words = [command, "--format", options.format, "--spread", options.spread]
+        return [*words, "--main", main or options.main, *["--long"] * options.is_long, *part]
+
+    def hits_of(self, policy, capacity):
+        """Whether each access hits, as a byte 1 or 0. Other processes may ask that at the same time."""
+        if is_own(policy):
+            return bytes(it == "hit" for it in outcomes_of(policy, self.options.own[policy], capacity, self.keys))
+        with open(f"/proc/self/fd/{self.file.begun()}", "rb") as file:
+            file.seek(self.file.start)
+            words = [*self.words("intervals"), "--capacity", capacity, "--every", 1, policy]
+            ended = self.program.output(words, stdin=file, stderr=subprocess.PIPE)
+        if ended.returncode:
+            raise Unreadable(f"{self.name}: the program refused it: {ended.stderr.decode(errors='replace').strip()}")
+        _, *hits = (row.endswith(b",100.00\n") for row in io.BytesIO(ended.stdout))
+        Accesses.count(len(hits))
+        return bytes(hits)
+
+    def rows_of_program(self, policies, capacities, main, trace, part):
+        words = [*self.words("sweep", main, part), *(word for policy in policies for word in ("--policy", policy)),
+                 *capacities]
         rows = self.program.rows(words, trace, self)
         self.file.begun()  # as at first, or it has changed meanwhile
         if [row[:2] for row in rows] != [(policy, capacity) for policy in policies for capacity in capacities]:

@@ -6,6 +6,7 @@ import textwrap
 from itertools import groupby, zip_longest
 
 from .advice import nearly_best
+from .own import is_own
 from .measures import ADVICE, MAINS, PARTS, capacities_in, window
 from .policies import CAFFEINE, OPTIMAL
 from .reports import MAX_CAPACITY, rate
@@ -99,6 +100,14 @@ def parts_table(surveys):
         yield *place, *(shown_rate(it.parts[*part, capacity]) for part in parts)
 
 
+def requests_table(surveys):
+    yield "trace", "% of footprint", "capacity", *surveys[0].policies, "best"
+    for it, capacity, place in places_of(it for it in surveys if it.requests):
+        rows = [(policy, it.requests[policy, capacity]) for policy in it.policies]
+        best = nearly_best(it.trace, [(policy, row) for policy, row in rows if policy != OPTIMAL])
+        yield *place, *(shown_rate(row) for _, row in rows), tuple(policy for policy, _ in best)
+
+
 def jumps_table(surveys):
     yield "trace", "policy", "jumps from", "to", "hit ratio from", "to", "points"
     for it in surveys:
@@ -128,11 +137,13 @@ def powers_table(surveys):
 
 
 TABLES = {"traces": traces_table, "policies": policies_table, "misses": misses_table, "halves": halves_table,
-          "windows": windows_table, "parts": parts_table, "jumps": jumps_table, "reach": reach_table, "powers": powers_table}
+          "windows": windows_table, "parts": parts_table, "requests": requests_table, "jumps": jumps_table,
+          "reach": reach_table, "powers": powers_table}
 # What stands above the part of a table that is of one trace.
 TITLES = {"policies": "hit ratios in percent", "misses": "misses", "halves": "best of each half",
           "windows": "hit ratios of wtinylfu in percent", "parts": "hit ratios in percent by the sizes of parts",
-          "jumps": "jumps of the hit ratio", "reach": "capacities that reach a hit ratio", "powers": "on both sides of a power of two"}
+          "requests": "requests that hit whole, in percent", "jumps": "jumps of the hit ratio",
+          "reach": "capacities that reach a hit ratio", "powers": "on both sides of a power of two"}
 AT_WORST = ("in the order of how many percent more misses than the best they have at worst, there or at the capacities beside it. "
             "LOW-HIGH: the policy changes so much within a percent of the capacity; its lowest counts)")
 NOTES = {
@@ -140,6 +151,8 @@ NOTES = {
     "halves": "(% more misses: of the first half's first name, in the second half, than the best policy there)",
     "windows": "(--main 99 has a window of 1 percent, --main 20 one of 80)",
     "parts": "(the program's own sizes, those of the papers: --small 10, --in 25 and --out 50)",
+    "requests": "(a request is a line of the trace, and hits where all its blocks do; best: as above, by these; "
+                "clairvoyant is no bound of them)",
     "jumps": "(lru: at any capacity; others but clairvoyant: within a percent of the survey's capacities)",
     "reach": "(the smallest capacity found, to one percent; of other policies than lru and clairvoyant a smaller one may reach the "
              "ratio too, and a larger one may not; never: no cache of any size has that ratio)",
@@ -250,6 +263,8 @@ def text_of(args, surveys):
     first = next((name for name in tables if name in ADVICE), None)
     parts = [for_people(name, rows, notes, also if name == first else {})
              for name, rows in tables.items() if len(rows) > 1 or name in NONE]
+    if own := ", ".join(it for it in surveys[0].policies if is_own(it)):
+        parts.append(folded_note(f"({own}: not proved, a program of one's own; each of its answers was checked)"))
     if args.sampled:
         parts.append(f"(estimates by one block in {args.sampled})\n")
     if args.after:

@@ -118,11 +118,16 @@ def blocks_of(lines, form):
     return (block for first, count in ranges_of(lines, form) for block in range(first, first + count))
 
 
+def blocks_read(lines, form):
+    """The blocks of a trace that the program has read without a fault."""
+    if form == "arc":
+        return blocks_of(lines, form)
+    return (int(line) for line in lines if line.strip() not in (b"", b"*"))
+
+
 def times_of_blocks(lines, form):
     """How often each block is accessed in a trace that the program has read without a fault."""
-    if form == "lirs":
-        return Counter(int(line) for line in lines if line.strip() not in (b"", b"*"))
-    return Counter(blocks_of(lines, form))
+    return Counter(blocks_read(lines, form))
 
 
 def beginning_of(lines, form, accesses):

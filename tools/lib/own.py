@@ -1,0 +1,142 @@
+"""Policies of one's own: the classes of a Python file, by words that begin with `own:`. Each answer is checked while
+they run, which nothing switches off."""
+import contextlib
+import importlib.machinery
+import importlib.util
+import re
+import sys
+import traceback
+from collections import Counter
+from operator import itemgetter
+from pathlib import Path
+
+from .runs import side_by_side
+
+PREFIX = "own:"
+HIT, KEPT = ("hit", None), ("kept", None)
+# The other outcomes, each with the type of what stands beside it.
+MISSES = ("kept", type(None)), ("evicted", int), ("rejected", int)
+ANSWERS = '("hit", None), ("kept", None), ("evicted", K), ("rejected", key)'
+
+
+class Wrong(ValueError):
+    """What is wrong with a policy of one's own."""
+
+
+def is_own(policy):
+    return policy.startswith(PREFIX)
+
+
+def with_own(policies, own):
+    """Policies with all of one's own, where none of these is among them."""
+    return policies if any(map(is_own, policies)) else [*policies, *own]
+
+
+def add_option(parser):
+    parser.add_argument("--own", action="append", default=[], metavar="FILE",
+                        help="a Python file with policies of your own, which is run; their words are own:NAME; also "
+                             "more than once")
+
+
+def loaded(files):
+    """The classes with a method `access` that these files have, by their words. One whose name begins with _ is no
+    policy."""
+    found = {}
+    for file in files:
+        module = module_of(file)
+        policies = [it for it in vars(module).values() if isinstance(it, type) and it.__module__ == module.__name__
+                    and it.__name__[0] != "_" and callable(getattr(it, "access", None))]
+        if not policies:
+            raise Wrong(f"{file} has no class with a method `access`")
+        for it in policies:
+            name = str(getattr(it, "name", it.__name__.lower()))
+            if not re.fullmatch(r"[\w.+-]+", name):
+                raise Wrong(f"{file}: {ascii(name)} is no name of a policy: letters, digits and . + - _ alone")
+            if PREFIX + name in found:
+                raise Wrong(f"{file}: {PREFIX}{name} is there twice")
+            found[PREFIX + name] = it
+    return found
+
+
+def module_of(file):
+    """A file as a module, which finds others beside it. What it prints goes to standard error."""
+    path = Path(file).resolve()
+    name = f"own policies in {path}"
+    spec = importlib.util.spec_from_loader(name, importlib.machinery.SourceFileLoader(name, str(path)))
+    module = importlib.util.module_from_spec(spec)
+    sys.path.append(str(path.parent))
+    with contextlib.redirect_stdout(sys.stderr), named_faults(file):
+        spec.loader.exec_module(module)
+    return module
+
+
+@contextlib.contextmanager
+def named_faults(where):
+    """Says of what a program of one's own raises where that was."""
+    try:
+        yield
+    except Exception as fault:
+        raise Wrong(f"{where}: {shown(fault)}") from None
+
+
+def shown(fault):
+    *_, (frame, line) = traceback.walk_tb(fault.__traceback__)
+    return f"{type(fault).__name__}: {fault} ({Path(frame.f_code.co_filename).name}, line {line})"
+
+
+def outcomes_of(word, policy, capacity, keys):
+    """The outcome of each access in a new cache. The first answer that cannot be right ends it, and so do fewer misses
+    than Belady's policy has."""
+    where, outcomes, held = f"{word} at {capacity} entries", [], set()
+    with named_faults(where):
+        access = policy(capacity).access
+    for piece in keys.pieces():
+        answers, fault = [], None
+        try:
+            answers.extend(map(access, piece))
+        except Exception as raised:
+            fault = len(answers), shown(raised)
+        if fault := first_wrong(piece, answers, held, capacity) or fault:
+            at, text = fault
+            raise Wrong(f"{where}, access {len(outcomes) + at + 1}, to block {piece[at]}: {text}")
+        outcomes += map(itemgetter(0), answers)
+    hits = outcomes.count("hit")
+    if hits > keys.certain_hits(capacity) and len(keys) - hits < (fewest := keys.fewest_misses(capacity)):
+        raise Wrong(f"{where}: {len(keys) - hits} misses, where Belady's policy has {fewest}, and no policy has fewer")
+    return outcomes
+
+
+def first_wrong(piece, answers, held, capacity):
+    """The place of the first answer that cannot be right, and why; those before it change what is held."""
+    for at, (key, answer) in enumerate(zip(piece, answers)):
+        if answer == HIT:
+            if key not in held:
+                return at, "a hit of a block that it does not hold"
+            continue
+        if key in held:
+            return at, f"the answer {ascii(answer)} to a block that it holds"
+        if type(answer) is not tuple or len(answer) != 2 or (answer[0], type(answer[1])) not in MISSES:
+            return at, f"the answer {ascii(answer)} is none of {ANSWERS}"
+        _, left = answer
+        if left in held:
+            held.remove(left)
+        elif answer != KEPT and answer != ("rejected", key):
+            return at, f"block {left} leaves, which it does not hold"
+        if left != key:
+            held.add(key)
+            if len(held) > capacity:
+                return at, f"it holds {len(held)} blocks"
+    return None
+
+
+def counts_of(policies, words, capacities, keys, processes=None):
+    """Accesses, hits, misses, evictions and rejections of these policies at these capacities, side by side."""
+    def counted(job):
+        word, capacity = job
+        times = Counter(outcomes_of(word, policies[word], capacity, keys))
+        left = times["evicted"] + times["rejected"]
+        return len(keys), times["hit"], len(keys) - times["hit"], left, times["rejected"]
+
+    jobs = [(word, capacity) for word in words for capacity in capacities]
+    keys.times  # once, before there are processes
+    return dict(zip(jobs, side_by_side(counted, jobs, ", ".join(words), len(keys) * len(jobs), processes)))
