@@ -48,6 +48,7 @@ CALLS = [
     (["log", "--sizes"], LOG, "0 2\n0 2\n2 1\n",
      "3 of 6 records, for --format arc; left out: 1 (no known size), 1 (no GET), "
      "1 (another status than 200, 206 and 304); 1 sizes are others than the object's first, which counts"),
+    (["arc"], f"7 2 x\n\n{TOP} 1\n5 0\n", f"7\n8\n{TOP}\n", "3 of 4 records, for --format lirs; left out: 1 (an empty line)"),
     (["text"], "b\n\n b\nb\r\n", "0\n1\n2\n0\n", "4 of 4 records, for --format lirs"),
     (["csv", "--key", "hash", "--separator", "tab"], "time\thash\n0\t-5\n0\t42\n0\t18446744073709551615\n",
      f"{2**64 - 5}\n42\n{TOP}\n",
@@ -97,6 +98,7 @@ def check_refusals(convert, folder):
             (["msr"], f"1,hm,1,Read,{2**52},1,9\n", "record 1: a disk has no block past 2^40"),
             (["log"], LOG + "x\n", "record 7: it is no line of the common or the combined log format: 'x'"),
             (["oracleGeneral"], ORACLE[:30], "record 2: unpack requires a buffer of 24 bytes"),
+            (["arc"], f"{TOP} 2\n", "record 1: it has blocks past 2^64"),
             (["csv", "--key", "b"], "a,c\n1,2\n", "there is no column 'b'"),
             (["csv", "--key", "0"], "1,2\n", "there is no column '0'"),
             (["csv", "--key", "2"], "1,2\n1\n", "record 2: it has 1 fields where 2 are needed: ['1']"),

@@ -10,6 +10,7 @@ import own_tests
 import plot_tests
 import pytest
 import reference_tests
+import requests_tests
 import sample_tests
 import survey_tests
 import traces_tests
@@ -17,7 +18,7 @@ from checks import replaced
 
 MODULES = [("survey", survey_tests), ("survey", traces_tests), ("plot", plot_tests), ("corpus", corpus_tests),
            ("sample", sample_tests), ("convert", convert_tests), ("journal", journal_tests),
-           ("reference", reference_tests), ("own", own_tests)]
+           ("reference", reference_tests), ("own", own_tests), ("requests", requests_tests)]
 
 
 @pytest.mark.parametrize("script, mistake", [pytest.param(script, mistake, id=f"{script}: {words}")

@@ -1,5 +1,5 @@
-"""Records of other programs' traces, for tools/convert: each is an object, with a size or none, or a range of bytes of
-a disk."""
+"""Records of other programs' traces, for tools/convert: each is an object, with a size or none, a range of bytes of a
+disk, or a run of blocks."""
 import csv
 import io
 import re
@@ -11,6 +11,7 @@ from .traces import BLOCKS, SHOWN
 
 Object = namedtuple("Object", "key size", defaults=(None,))
 Range = namedtuple("Range", "disk offset size is_read")
+Run = namedtuple("Run", "first count")
 SECTOR = 512
 LOG_LINE = re.compile(rb'\S+ \S+ \S+ \[[^]]*\] "((?:[^"\\]|\\.)*)" ([0-9]{3}) ([0-9]+|-)(?: .*)?')
 # The codes of SCSI's READ (6), (10), (12) and (16).
@@ -42,6 +43,16 @@ def fields_of(words, least):
     if len(words) < least:
         raise Faulty(f"it has {len(words)} fields where {least} are needed")
     return words
+
+
+def arc(line):
+    words = decoded(line).split()
+    if not words:
+        raise LeftOut("an empty line")
+    run = Run(*map(number_of, fields_of(words, 2)[:2]))
+    if run.first + run.count > BLOCKS:
+        raise Faulty("it has blocks past 2^64")
+    return run
 
 
 def msr(line):
@@ -88,7 +99,7 @@ def cloudphysics2(record):
     return Range(None, sector * SECTOR, size, command & 0xFF in READS)
 
 
-LINES = {"msr": msr, "spc": spc, "blktrace": blktrace, "log": log, "text": lambda line: Object(decoded(line))}
+LINES = {"log": log, "text": lambda line: Object(decoded(line)), "arc": arc, "msr": msr, "spc": spc, "blktrace": blktrace}
 # How many bytes a record has, and how it is read.
 BINARY = {"oracleGeneral": (24, oracle_general), "cloudphysics": (32, cloudphysics),
           "cloudphysics2": (40, cloudphysics2)}
