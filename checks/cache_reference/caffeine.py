@@ -1,8 +1,30 @@
-"""W-TinyLFU whose window is moved by a hill climber, as the library Caffeine runs it, in whole numbers (its Design page)."""
-from .frequency import Frequency
+"""W-TinyLFU whose window is moved by a hill climber, as the library Caffeine runs it, in whole numbers (its Design page, and
+its class FrequencySketch, version 3)."""
+from .frequency import Sketch
 from .policies import WindowTinyLfu
 
 PARTS_OF_AN_ITEM = 65536
+MOVES_OF_AN_ACCESS = 1000
+
+
+class FrequencySketch(Sketch):
+    """Sixteen counters for each entry, and no doorkeeper. A recording that raises no counter does not make it older, and of
+    four counters that lose their odd one at a halving, one recording is taken off its age."""
+
+    def __init__(self, capacity, spread):
+        super().__init__(capacity, spread, columns=4)
+
+    def record(self, key):
+        if self.rise(key):
+            self.grow_older()
+
+    def halve(self):
+        odd = sum(count % 2 for count in self.counters.values())
+        super().halve()
+        self.age = self.halved_age(odd // 4)
+
+    def halved_age(self, lost):
+        return max(0, self.period - lost) // 2
 
 
 class Climber:
@@ -32,12 +54,11 @@ class Climber:
 
 
 class Caffeine(WindowTinyLfu):
-    """Its sketch has sixteen counters for each entry and no doorkeeper. The window and the protected part share their
-    entries, and one of them goes over at an access at most."""
+    """The window and the protected part share their entries, of which at most a thousand go over at an access."""
 
     def __init__(self, capacity, main, spread, period):
         super().__init__(capacity, main, spread)
-        self.frequency = self.queues.frequency = Frequency(capacity, spread, columns=4, has_door=False)
+        self.frequency = self.queues.frequency = FrequencySketch(capacity, spread)
         self.shared = self.queues.window_size + self.queues.main.protected_size
         period = 10 * capacity if period is None else max(period, capacity)
         self.climber = Climber(capacity, self.queues.window_size, self.shared, period)
@@ -52,15 +73,20 @@ class Caffeine(WindowTinyLfu):
         self.queues.window_size, self.queues.main.protected_size = size, self.shared - size
 
     def move_window(self):
-        """The window comes nearer to its target by one entry."""
-        size, window, main = self.queues.window_size, self.queues.window, self.queues.main
-        if size < self.climber.target:
-            self.resize(size + 1)
-            if len(main.protected) > main.protected_size:
-                main.probation.append(main.protected.pop(0))
-            if len(main.residents()) > self.queues.capacity - self.queues.window_size:
-                window.append(main.probation.pop(0))
-        elif size > self.climber.target:
-            self.resize(size - 1)
-            if len(window) > self.queues.window_size:
-                main.probation.append(window.pop(0))
+        """The window goes to its target, an entry at a time."""
+        missing = self.climber.target - self.queues.window_size
+        for _ in range(min(abs(missing), MOVES_OF_AN_ACCESS)):
+            self.widen() if missing > 0 else self.narrow()
+
+    def widen(self):
+        queues, main = self.queues, self.queues.main
+        self.resize(queues.window_size + 1)
+        if len(main.protected) > main.protected_size:
+            main.probation.append(main.protected.pop(0))
+        if len(main.residents()) > queues.capacity - queues.window_size:
+            queues.window.append(main.probation.pop(0))
+
+    def narrow(self):
+        self.resize(self.queues.window_size - 1)
+        if len(self.queues.window) > self.queues.window_size:
+            self.queues.main.probation.append(self.queues.window.pop(0))

@@ -25,36 +25,61 @@ def power_of_two(least):
     return power
 
 
-class Frequency:
-    """The sketch has so many columns for each entry, and a doorkeeper or none."""
+class Sketch:
+    """A Count-Min sketch of four rows, with so many columns for each entry. A counter stays at 15."""
 
-    def __init__(self, capacity, spread, columns=1, has_door=True):
-        self.spread, self.period, self.has_door = spread, 10 * capacity, has_door
-        self.width, self.bits = columns * power_of_two(max(16, capacity)), power_of_two(max(64, 8 * capacity))
-        self.counters, self.door, self.age, self.halvings = defaultdict(int), set(), 0, 0
+    def __init__(self, capacity, spread, columns):
+        self.spread, self.period = spread, 10 * capacity
+        self.width = columns * power_of_two(max(16, capacity))
+        self.counters, self.age, self.halvings = defaultdict(int), 0, 0
 
     def places(self, key):
         return [(row, column(self.spread, key, row, self.width, 1)) for row in range(4)]
 
+    def rise(self, key):
+        """Whether one of the key's counters rises."""
+        rising = [place for place in self.places(key) if self.counters[place] < 15]
+        for place in rising:
+            self.counters[place] += 1
+        return bool(rising)
+
+    def grow_older(self):
+        self.age += 1
+        if self.age == self.period:
+            self.halve()
+
+    def halve(self):
+        self.age //= 2
+        self.halvings += 1
+        self.counters = defaultdict(int, {place: count // 2 for place, count in self.counters.items()})
+
+    def estimate(self, key):
+        return min(self.counters.get(place, 0) for place in self.places(key))
+
+    def admits(self, candidate, victim):
+        return self.estimate(candidate) > self.estimate(victim)
+
+
+class Frequency(Sketch):
+    """A doorkeeper before a sketch: a key's counters rise once it is known. Every recording makes it older."""
+
+    def __init__(self, capacity, spread):
+        super().__init__(capacity, spread, columns=1)
+        self.bits, self.door = power_of_two(max(64, 8 * capacity)), set()
+
     def probes(self, key):
-        return {column(self.spread, key, probe, self.bits, 5) for probe in range(3)} if self.has_door else set()
+        return {column(self.spread, key, probe, self.bits, 5) for probe in range(3)}
 
     def record(self, key):
         probes = self.probes(key)
         if probes <= self.door:
-            for place in self.places(key):
-                self.counters[place] = min(15, self.counters[place] + 1)
+            self.rise(key)
         self.door |= probes
-        self.age += 1
-        if self.age == self.period:
-            self.age //= 2
-            self.halvings += 1
-            self.counters = defaultdict(int, {place: count // 2 for place, count in self.counters.items()})
-            self.door = set()
+        self.grow_older()
+
+    def halve(self):
+        super().halve()
+        self.door = set()
 
     def estimate(self, key):
-        least = min(self.counters.get(place, 0) for place in self.places(key))
-        return least + (self.has_door and self.probes(key) <= self.door)
-
-    def admits(self, candidate, victim):
-        return self.estimate(candidate) > self.estimate(victim)
+        return super().estimate(key) + (self.probes(key) <= self.door)
