@@ -1,5 +1,5 @@
-"""The debugger of two policies. A timeline has the text that `show`, or a command like it, prints at each position, and what
-each step from one to the next did."""
+"""The debugger of two policies. A timeline has what each step from one position to the next did, and says what `show`, or a
+command like it, prints at each."""
 from collections import Counter
 
 from .caffeine import Caffeine
@@ -17,53 +17,73 @@ def events_of(hits, left, is_halved, odd):
     return {*(("hit", it) for it in hits), *(("evict", it) for it in left), *[("halve",)] * is_halved, *((it,) for it in odd)}
 
 
-class Side:
-    """One of the two policies of a debugger."""
-
-    def __init__(self, letter, policy, capacity, options, keys):
-        self.letter, self.policy, self.outcomes = letter, policy, Counter()
-        self.cache = opened(policy, capacity, options, keys)
-
-    def show(self):
-        counts = zip(("hits", "misses", "evictions", "rejections"), counts_of(self.outcomes))
-        counted = " ".join(f"{it}" for pair in counts for it in pair)
-        return f"{self.letter} {self.policy} {counted}\n{self.letter} holds{items(self.cache.residents())}\n"
-
-    def window(self):
-        size = self.cache.queues.window_size if isinstance(self.cache, WindowTinyLfu) else "none"
-        target = f" target {self.cache.climber.target}" if isinstance(self.cache, Caffeine) else ""
-        return f"{self.letter} {self.policy} window {size}{target}\n"
-
-    def age(self):
-        return self.cache.frequency.age if self.cache.frequency else 0
-
-    def access(self, key):
-        age = self.age()
-        outcome, left = self.cache.access(key)
-        self.outcomes[outcome] += 1
-        return outcome == "hit", left, self.age() < age
-
-
 def items(list_of_items):
     return "".join(f" {it}" for it in list_of_items)
 
 
+class Side:
+    """One of the two policies of a debugger, after some accesses."""
+
+    def __init__(self, letter, policy, capacity, options, keys):
+        self.name, self.outcomes, self.last_outcome = f"{letter} {policy}", Counter(), ()
+        self.cache = opened(policy, capacity, options, keys)
+
+    def access(self, key):
+        """Whether the access is a hit, the key that left, and whether counters were halved."""
+        age = self.age()
+        outcome, left = self.last_outcome = self.cache.access(key)
+        self.outcomes[outcome] += 1
+        return outcome == "hit", left, self.age() < age
+
+    def age(self):
+        return self.cache.frequency.age if self.cache.frequency else 0
+
+    def show(self):
+        counts = zip(("hits", "misses", "evictions", "rejections"), counts_of(self.outcomes))
+        counted = " ".join(f"{it}" for pair in counts for it in pair)
+        return f"{self.name} {counted}\n{self.name[0]} holds{items(self.cache.residents())}\n"
+
+    def window(self):
+        size = self.cache.queues.window_size if isinstance(self.cache, WindowTinyLfu) else "none"
+        target = f" target {self.cache.climber.target}" if isinstance(self.cache, Caffeine) else ""
+        return f"{self.name} window {size}{target}\n"
+
+    def queues(self):
+        return "".join(f"{self.name} {queue}{items(keys)}\n" for queue, keys in self.cache.shown().items())
+
+    def last(self):
+        return f"{self.name} {' '.join(str(it) for it in self.last_outcome if it is not None)}\n"
+
+    def estimate(self, key):
+        return f"{self.name} estimate {self.cache.frequency.estimate(key) if self.cache.frequency else 'none'}\n"
+
+
 class PolicyTimeline:
+    # The commands that only look, each with how many numbers follow it.
+    looks = {"show": 0, "window": 0, "queues": 0, "last": 0, "estimate": 1}
     odd, whole, at = "part", "part", 0
 
     def __init__(self, keys, first, second, capacity, options):
-        self.sides = a, b = Side("a", first, capacity, options, keys), Side("b", second, capacity, options, keys)
-        self.events, self.shown = [], {"show": [], "window": []}
-        self.look()
-        for key in keys:
-            (a_hit, a_left, a_halved), (b_hit, b_left, b_halved) = a.access(key), b.access(key)
-            hits, left = [key] if a_hit or b_hit else [], [it for it in (a_left, b_left) if it is not None]
-            self.events.append(events_of(hits, left, a_halved or b_halved, ["part"] * (a_hit != b_hit)))
-            self.look()
+        self.keys = keys
+        self.opened = lambda: [Side("a", first, capacity, options, keys), Side("b", second, capacity, options, keys)]
+        self.sides, self.accesses = self.opened(), 0
+        self.events = [self.event(key) for key in keys]
 
-    def look(self):
-        for name, texts in self.shown.items():
-            texts.append("".join(getattr(it, name)() for it in self.sides))
+    def event(self, key):
+        (a_hit, a_left, a_halved), (b_hit, b_left, b_halved) = (side.access(key) for side in self.sides)
+        self.accesses += 1
+        hits, left = [key] if a_hit or b_hit else [], [it for it in (a_left, b_left) if it is not None]
+        return events_of(hits, left, a_halved or b_halved, ["part"] * (a_hit != b_hit))
+
+    def look(self, at, name, *numbers):
+        if at < self.accesses:
+            self.sides, self.accesses = self.opened(), 0
+        for key in self.keys[self.accesses:at]:
+            self.event(key)
+        if name == "last" and at == 0:
+            return "access none\n"
+        begin = f"access {at} block {self.keys[at - 1]}\n" if name == "last" else ""
+        return begin + "".join(getattr(side, name)(*numbers) for side in self.sides)
 
     def whole_answer(self, _):
         parts = [number for number, event in enumerate(self.events, 1) if ("part",) in event]
@@ -96,8 +116,8 @@ class Dialogue:
             return self.move(name, numbers[0])
         if name == "break":
             return self.set_breakpoint(words[1:])
-        if len(words) == 1 and name in self.timeline.shown:
-            return self.timeline.shown[name][self.at]
+        if self.timeline.looks.get(name) == len(numbers) and None not in numbers:
+            return self.timeline.look(self.at, name, *numbers)
         alone = {"run": self.run, "clear": self.clear, self.timeline.whole: lambda: self.timeline.whole_answer(self.at)}
         return alone[name]() if len(words) == 1 and name in alone else "fault: Command\n"
 

@@ -3,9 +3,10 @@ lists, oldest first. A ghost is a queue of keys that are not resident, remembere
 
 
 class Demand:
-    """What they have in common. A policy says what a hit does, which key leaves, and where a new one goes."""
+    """What they have in common. A policy says what a hit does, which key leaves, and where a new one goes. Of the queues that
+    it names, some have a number with each key."""
 
-    frequency = None
+    frequency, names, numbered = None, ("queue",), ()
 
     def __init__(self, capacity):
         self.capacity, self.queue = capacity, []
@@ -22,6 +23,11 @@ class Demand:
 
     def residents(self):
         return self.queue
+
+    def shown(self):
+        """Each queue by its name, and what is printed of its keys."""
+        return {name: [f"{key}:{self.number(key)}" if name in self.numbered else key for key in getattr(self, name)]
+                for name in self.names}
 
 
 def join_ghost(ghost, key, size):
@@ -58,9 +64,14 @@ class Clock(Demand):
     """Second chance: each key has a reference bit, which an access sets, the first one too. The oldest key with a set bit
     goes to the recent end without it, in place of leaving."""
 
+    numbered = ("queue",)
+
     def __init__(self, capacity):
         super().__init__(capacity)
         self.referenced = set()
+
+    def number(self, key):
+        return int(key in self.referenced)
 
     def hit(self, key):
         self.referenced.add(key)
@@ -79,9 +90,14 @@ class Sieve(Demand):
     """A queue with a hand, which stands before the oldest key of `ahead`. A visited key that the hand passes stays in its
     place, no longer visited; the first other one leaves. Behind the newest key the hand begins again at the oldest."""
 
+    names = numbered = "passed", "ahead"
+
     def __init__(self, capacity):
         super().__init__(capacity)
         self.passed, self.ahead, self.visited = [], [], set()
+
+    def number(self, key):
+        return int(key in self.visited)
 
     def hit(self, key):
         self.visited.add(key)
@@ -108,11 +124,16 @@ class S3Fifo(Demand):
     """A small queue before a main one, with a ghost of what left the small one. A key that was hit twice in the small queue
     goes on to the main one, in which each hit spares it one turn; a key that the ghost has goes there at once."""
 
+    names, numbered = ("small", "main", "ghost"), ("small", "main")
+
     def __init__(self, capacity, small=10):
         super().__init__(capacity)
         self.small_size = max(1, capacity * small // 100)
         self.main_size = capacity - self.small_size
         self.small, self.main, self.ghost, self.counts = [], [], [], {}
+
+    def number(self, key):
+        return self.counts[key]
 
     def hit(self, key):
         self.counts[key] = min(3, self.counts[key] + 1)
@@ -147,6 +168,8 @@ class S3Fifo(Demand):
 class TwoQ(Demand):
     """A queue of new keys, in which a hit moves nothing, beside an Lru of keys that came back after they left it."""
 
+    names = "a1in", "am", "a1out"
+
     def __init__(self, capacity, new=25, ghost=50):
         super().__init__(capacity)
         self.kin, self.kout = max(1, capacity * new // 100), max(1, capacity * ghost // 100)
@@ -174,13 +197,40 @@ class TwoQ(Demand):
         return self.a1in + self.am
 
 
-class Arc(Demand):
+class Targeted(Demand):
     """Keys that came once lately and keys that came more often, `t1` and `t2`, each with a ghost, `b1` and `b2`. A key that a
     ghost has moves the size `p` that `t1` is to have, in whole numbers."""
+
+    names = "t1", "t2", "b1", "b2"
 
     def __init__(self, capacity):
         super().__init__(capacity)
         self.t1, self.t2, self.b1, self.b2, self.p = [], [], [], [], 0
+
+    def aim(self, key):
+        """The size moves by the ghost that holds a key."""
+        if key in self.b1:
+            self.p = min(self.capacity, self.p + max(1, len(self.b2) // len(self.b1)))
+        else:
+            self.p = max(0, self.p - max(1, len(self.b1) // len(self.b2)))
+
+    def come_back(self, key):
+        """A key that a ghost holds goes to the recent end of `t2`."""
+        (self.b1 if key in self.b1 else self.b2).remove(key)
+        self.t2.append(key)
+
+    def known(self):
+        return len(self.t1) + len(self.t2) + len(self.b1) + len(self.b2)
+
+    def residents(self):
+        return self.t1 + self.t2
+
+    def shown(self):
+        return {**super().shown(), "target": [self.p]}
+
+
+class Arc(Targeted):
+    """Both queues by the last access: a hit goes to the recent end of `t2`."""
 
     def hit(self, key):
         (self.t1 if key in self.t1 else self.t2).remove(key)
@@ -192,19 +242,12 @@ class Arc(Demand):
         ghost.append(queue.pop(0))
         return ghost[-1]
 
-    def from_ghost(self, key):
-        if key in self.b1:
-            self.p = min(self.capacity, self.p + max(1, len(self.b2) // len(self.b1)))
-        else:
-            self.p = max(0, self.p - max(1, len(self.b1) // len(self.b2)))
-        left = self.replace(key)
-        (self.b1 if key in self.b1 else self.b2).remove(key)
-        self.t2.append(key)
-        return left
-
     def miss(self, key, _):
         if key in self.b1 or key in self.b2:
-            return self.from_ghost(key)
+            self.aim(key)
+            left = self.replace(key)
+            self.come_back(key)
+            return left
         left = None
         if len(self.t1) + len(self.b1) == self.capacity:
             if len(self.t1) == self.capacity:
@@ -212,24 +255,25 @@ class Arc(Demand):
             else:
                 self.b1.pop(0)
                 left = self.replace(key)
-        elif (known := len(self.t1) + len(self.t2) + len(self.b1) + len(self.b2)) >= self.capacity:
-            if known == 2 * self.capacity:
+        elif self.known() >= self.capacity:
+            if self.known() == 2 * self.capacity:
                 self.b2.pop(0)
             left = self.replace(key)
         self.t1.append(key)
         return left
 
-    def residents(self):
-        return self.t1 + self.t2
 
+class Car(Targeted):
+    """Both queues as clocks: a hit sets its key's bit, and moves nothing."""
 
-class Car(Demand):
-    """The clocks `t1` and `t2` of keys that came once lately and keys that came again, each with a ghost, `b1` and `b2`. A hit
-    sets its key's bit. A key that a ghost has moves the size `p` that `t1` is to have, in whole numbers."""
+    numbered = "t1", "t2"
 
     def __init__(self, capacity):
         super().__init__(capacity)
-        self.t1, self.t2, self.b1, self.b2, self.referenced, self.p = [], [], [], [], set(), 0
+        self.referenced = set()
+
+    def number(self, key):
+        return int(key in self.referenced)
 
     def hit(self, key):
         self.referenced.add(key)
@@ -247,7 +291,7 @@ class Car(Demand):
     def forget(self):
         if len(self.t1) + len(self.b1) == self.capacity:
             self.b1.pop(0)
-        elif len(self.t1) + len(self.t2) + len(self.b1) + len(self.b2) == 2 * self.capacity:
+        elif self.known() == 2 * self.capacity:
             self.b2.pop(0)
 
     def miss(self, key, is_full):
@@ -257,18 +301,10 @@ class Car(Demand):
             self.forget()
         if is_new:
             self.t1.append(key)
-            return left
-        if key in self.b1:
-            self.p = min(self.capacity, self.p + max(1, len(self.b2) // len(self.b1)))
         else:
-            self.p = max(0, self.p - max(1, len(self.b1) // len(self.b2)))
-        (self.b1 if key in self.b1 else self.b2).remove(key)
-        self.t2.append(key)
+            self.aim(key)
+            self.come_back(key)
         return left
-
-    def residents(self):
-        return self.t1 + self.t2
-
 
 
 # How each is opened: of a capacity, the options of a call, and the keys to come.

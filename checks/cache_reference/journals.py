@@ -46,11 +46,11 @@ def step_of(line, version):
 class JournalTimeline:
     """The states along a journal, from the text of which it is read."""
 
-    odd, whole = "drop", "save"
+    looks, odd, whole = {"show": 0}, "drop", "save"
 
     def __init__(self, data, capacity, stripes, limit, main, spread):
         self.shell, self.lines, self.events = Shell(capacity, stripes, main, spread), [], []
-        self.shown, self.limit = {"show": [self.shell.show()]}, limit
+        self.shown, self.limit = [self.shell.show()], limit
         self.read(data.decode("latin-1"))
         self.at = len(self.events)
 
@@ -88,7 +88,10 @@ class JournalTimeline:
         is_halved = self.shell.queues.frequency.age < age
         self.events.append(events_of(hits, left, is_halved, ["drop"] * (name in ("full", "lost"))))
         self.lines.append(line)
-        self.shown["show"].append(self.shell.show())
+        self.shown.append(self.shell.show())
+
+    def look(self, at, _):
+        return self.shown[at]
 
     def whole_answer(self, at):
         return journal(self.lines[:at])

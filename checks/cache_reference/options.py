@@ -1,13 +1,21 @@
 """The words of the policies, and what a call says of them beside the capacity."""
+import re
 from collections import namedtuple
 
 from .caffeine import Caffeine
 from .demand_policies import POLICIES as DEMAND_POLICIES
 from .policies import Clairvoyant, Lru, SegmentedLru, TinyLfu, WindowTinyLfu
 
-# A whole number within bounds, with what holds where it is not given: tools/reference has them all, and check_random asks
-# for them.
-Number = namedtuple("Number", "default low high help")
+class Number(namedtuple("Number", "default low high help")):
+    """A whole number within bounds, with what holds where it is not given: tools/reference has them all, and check_random asks
+    for them."""
+
+    def read(self, text):
+        """The number that a word is, or None."""
+        number = re.fullmatch(r"\+?0*([0-9]{1,20})", text)
+        return int(number[1]) if number and self.low <= int(number[1]) <= self.high else None
+
+
 NUMBERS = {
     "main": Number(99, 0, 99, "the main part of wtinylfu, and of caffeine at first, in percent (99)"),
     "period": Number(None, 1, 2**32 - 1, "after how many accesses caffeine moves its window (ten times its capacity)"),
@@ -29,6 +37,22 @@ POLICIES = {
     "caffeine": lambda capacity, options, _: Caffeine(capacity, options["main"], options["spread"], options["period"]),
 }
 
+# The options that a policy's word may carry, in the order in which reports print them.
+SIZES = {"wtinylfu": ["main"], "caffeine": ["main", "period"], "2q": ["in", "out"], "s3-fifo": ["small"]}
 
-def opened(policy, capacity, options, keys):
-    return POLICIES[policy](capacity, options, keys)
+
+def policy_of(word):
+    """A policy's word with its sizes, as reports print it, or None where it is none."""
+    policy, *sizes = word.split(":")
+    names, _, texts = zip(*(it.partition("=") for it in sizes)) if sizes else ((), (), ())
+    numbers = {name: NUMBERS[name].read(text) for name, text in zip(names, texts) if name in SIZES.get(policy, [])}
+    if policy not in POLICIES or len(numbers) < len(sizes) or None in numbers.values():
+        return None
+    return ":".join([policy, *(f"{name}={numbers[name]}" for name in SIZES.get(policy, []) if name in numbers)])
+
+
+def opened(word, capacity, options, keys):
+    """A policy of a word that reports print, whose sizes stand above the options."""
+    policy, *sizes = word.split(":")
+    own = {name: int(number) for name, number in (it.split("=") for it in sizes)}
+    return POLICIES[policy](capacity, {**options, **own}, keys)

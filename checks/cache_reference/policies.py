@@ -17,6 +17,8 @@ class Lru(Fifo):
 class SegmentedLru(Demand):
     """A hit moves to the protected part, whose oldest falls back to the probation part; the oldest key of that leaves."""
 
+    names = "probation", "protected"
+
     def __init__(self, capacity):
         super().__init__(capacity)
         self.protected_size, self.probation, self.protected = capacity * 80 // 100, [], []
@@ -43,7 +45,8 @@ class TinyLfu:
     """A policy with an admission filter before it."""
 
     def __init__(self, inner, capacity, spread):
-        self.inner, self.frequency, self.residents = inner, Frequency(capacity, spread), inner.residents
+        self.inner, self.frequency = inner, Frequency(capacity, spread)
+        self.residents, self.shown = inner.residents, inner.shown
 
     def access(self, key):
         self.frequency.record(key)
@@ -101,6 +104,9 @@ class WindowTinyLfu:
         outcome, left = self.queues.evict()
         return (outcome, left) if outcome in ("evicted", "rejected") else ("kept", None)
 
+    def shown(self):
+        return {"window": self.queues.window, **self.queues.main.shown()}
+
 
 class Clairvoyant:
     frequency = None
@@ -125,3 +131,7 @@ class Clairvoyant:
 
     def residents(self):
         return sorted(self.last)
+
+    def shown(self):
+        """The residents, with the access at which each comes next, counted from 1; 0 where it never does."""
+        return {"next": [f"{key}:{self.places[key][0] + 1 if self.places[key] else 0}" for key in self.residents()]}

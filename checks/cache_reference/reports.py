@@ -97,11 +97,18 @@ def sample(keys, inverse, seed):
     return "".join(f"{key}\n" for key in kept), said
 
 
+def footprint(keys):
+    counts = Counter(keys)
+    return f"accesses,blocks,once\n{len(keys)},{len(counts)},{[*counts.values()].count(1)}\n"
+
+
 def answer(command, keys, options):
     """What a command prints of these accesses, and says on standard error. Its options have policies and capacities too."""
     policies, capacity, pair = options.get("policies"), options.get("capacity"), (options.get("first"), options.get("second"))
     if command == "sample":
         return sample(keys, int(options["rate"].removeprefix("1/")), options["seed"])
+    if command == "footprint":
+        return footprint(keys), ""
     if command == "run":
         return run(keys, policies, [capacity], options), ""
     if command == "sweep":

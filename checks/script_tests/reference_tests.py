@@ -10,7 +10,10 @@ CALLS = [
     (0, "sweep", "--policy", "lru", "--policy=2q", 3, 20, 5), (0, "sweep", 9, "--policy", "wtinylfu", "--main", 0),
     (0, "intervals", *CACHE, "--every", 70, "lru", "arc"), (0, "part", *CACHE, *PAIR), (0, "compare", *CACHE, *PAIR),
     (0, "compare", *CACHE, *PAIR, "--every", 70, "--main", 50), (1, "run", *CACHE, *["lru"] * 65),
-    (0, "sample", "--rate", "1/4"), (0, "sample", "--rate=1/2", "--seed", 2**64 - 1, "--format", "arc"),
+    (0, "run", *CACHE, "2q:out=+7:in=030", "2q", "--in", 60), (0, "sweep", "--policy", "wtinylfu:main=20", 3, 20),
+    (0, "compare", *CACHE, "--first", "s3-fifo", "--second", "s3-fifo:small=50"), (0, "footprint"), (0, "footprint", "--format", "arc", "--long"),
+    (2, "run", *CACHE, "2q:in=0"), (2, "run", *CACHE, "2q:small=5"), (2, "run", *CACHE, "slru:"), (2, "run", *CACHE, "wtinylfu:main=1:main=1"),
+    (2, "run", *CACHE, "lru2"), (2, "footprint", *CACHE), (0, "sample", "--rate", "1/4"), (0, "sample", "--rate=1/2", "--seed", 2**64 - 1, "--format", "arc"),
     (2, "sample"), (2, "sample", "--rate", "1/3"), (2, "sample", "--rate", "1/2", "--seed", 2**64),
     (2, "run", "lru"), (2, "run", "--capacity", 0, "lru"), (2, "run", *CACHE), (2, "sweep", "--policy", "lru"), (2, "debug"),
     (2, "intervals", *CACHE, "lru"), (2, "part", *CACHE, "--first", "lru"), (2, "run", *CACHE, "--main", 100, "lru"), (2, "walk")]
@@ -38,6 +41,8 @@ def check_beside_program(reference, program):
 MISTAKES = {
     "reports that may pass for the program's": Mistake(check_beside_program, "reference", "    print(NOTE, file=sys.stderr)\n", ""),
     "a spread that is not handed on": Mistake(check_beside_program, "reference", "**asked}", '**asked, "spread": "mixed"}'),
+    "sizes that do not count": Mistake(check_beside_program, "../checks/cache_reference/options.py", "{**options, **own}", "options"),
+    "a size twice": Mistake(check_beside_program, "../checks/cache_reference/options.py", "len(numbers) < len(sizes) or ", ""),
     "the second policy as the first": Mistake(check_beside_program, "../checks/cache_reference/reports.py",
                                               'options.get("first"), options.get("second")', 'options.get("second"), options.get("first")'),
     "a sample by one seed": Mistake(check_beside_program, "../checks/cache_reference/reports.py", 'options["seed"])', "1)"),
