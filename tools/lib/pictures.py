@@ -38,6 +38,13 @@ def ends_around(low, high):
     return low, high
 
 
+def shade_of(colour, part):
+    """A colour mixed with white, of which it is a part below 1, or with black above."""
+    channels = [int(colour[at:at + 2], 16) for at in (1, 3, 5)]
+    mixed = [round(255 - (255 - it) * part if part <= 1 else it * (2 - part)) for it in channels]
+    return "#" + "".join(f"{it:02x}" for it in mixed)
+
+
 def terminal_of(is_png):
     """What is drawn on. A size of a font is in points of a PNG, and in pixels of an SVG."""
     kind, size = ("pngcairo", 10) if is_png else ("svg dynamic", 13)

@@ -1,0 +1,208 @@
+"""What tools/watch shows: the program's answers at a position, as values for its page. Which keys are where, what an access
+did, and every count are the program's; here they are compared and made fewer, where they are too many to draw."""
+import re
+from array import array
+from bisect import bisect_left, bisect_right
+from collections import defaultdict
+
+from .pictures import shade_of
+from .policies import OTHERS, POLICIES
+from .sessions import next_stop, previous_stop, stops
+
+# How many accesses are shown before and behind the position, how many keys of a queue one by one, and of a longer one how many
+# at each end and in how many parts the rest; how many moves; how many lines of a block's life.
+NEAR, CELLS, ENDS, PARTS, MOVES, LIVES = 12, 400, 20, 120, 12, 500
+# In how many intervals the trace is cut at most, for the ground of the slider.
+INTERVALS = 200
+# How many positions' queues are kept, so that a step on or back asks for one only.
+KEPT = 4
+
+
+def every_of(accesses):
+    """The length of an interval: 1, 2 or 5 at a power of ten."""
+    return next(it for power in range(9) for it in (10 ** power, 2 * 10 ** power, 5 * 10 ** power) if it * INTERVALS >= accesses)
+
+
+def styles_of(words):
+    """How the two policies are drawn: by their colours, the second in a shade of its own where it is the first's."""
+    kinds = [POLICIES.get(it.partition(":")[0], OTHERS[0]) for it in words]
+    colours = [it.colour for it in kinds]
+    if colours[0] == colours[1]:
+        colours[1] = shade_of(colours[1], 0.6)
+    dashes = ["" if it.dash == "1" else it.dash.strip("()") for it in kinds]
+    return [{"name": name, "colour": colour, "dash": dash} for name, colour, dash in zip(words, colours, dashes)]
+
+
+class TraceView:
+    """Two policies over a trace, by `debug`."""
+
+    def __init__(self, session, keys, facts, compare):
+        self.session, self.keys, self.queues, self.compare = session, keys, {}, compare
+        self.facts = {**facts, "kind": "trace", "end": len(keys), "finds": ["parting", "halving"]}
+        self.breakpoints = {"parting": "part", "halving": "halve"}
+
+    def at(self, asked):
+        return min(len(self.keys), asked["at"])
+
+    def find(self, asked):
+        look = next_stop if asked["forward"] else previous_stop
+        with self.session.turn() as ask:
+            return {"found": look(ask, self.at(asked), self.breakpoints[asked["what"]])}
+
+    def ground(self, _):
+        """The hits of both policies in each interval, and at how many accesses they part, by `compare`."""
+        every = every_of(len(self.keys))
+        rows = [list(map(int, line.split(",")[3:])) for line in self.compare(every)]
+        return {"every": every, "rows": [[end, both + first, both + second, first + second, end - begin + 1]
+                                         for begin, end, both, first, second, _ in rows]}
+
+    def life(self, asked):
+        """What became of a block: its accesses, and the accesses at which it left."""
+        block = asked["block"]
+        with self.session.turn() as ask:
+            left, is_cut = stops(ask, [f"evict {block}"], LIVES)
+            own = [at for at, key in enumerate(self.keys, 1) if key == int(block)]
+            places = sorted({*left, *own[:LIVES]})[:LIVES]
+            answers = ask(*(it for at in places for it in (f"goto {at}", "last")))[1::2]
+        lines = [[at, key, *(outcome_of(it)[0:2] for it in outcomes)] for at, (key, *outcomes) in
+                 ((int(answer[0].split()[1]), (answer[0].split()[3], *answer[1:])) for answer in answers)]
+        return {"block": block, "lines": lines, "accesses": len(own), "is_cut": is_cut or len({*left, *own}) > len(places)}
+
+    def queues_at(self, ask, at):
+        """The queues of both policies, as lists of a name and what it holds, a key and its number."""
+        if at not in self.queues:
+            _, lines = ask(f"goto {at}", "queues")
+            self.queues = dict([*self.queues.items()][1 - KEPT:])
+            self.queues[at] = {side: [(name, [*map(split, keys)]) for letter, _, name, *keys in map(str.split, lines) if letter == side]
+                               for side in "ab"}
+        return self.queues[at]
+
+    def state(self, asked):
+        at = self.at(asked)
+        with self.session.turn() as ask:
+            before, queues = self.queues_at(ask, at - 1) if at else None, self.queues_at(ask, at)
+            _, last, show, window = ask(f"goto {at}", "last", "show", "window")
+            block = last[0].split()[3] if at else None
+            held = [set(line.split()[2:]) for line in show[1::2]]
+            sides = [self.side(ask, number, block, held, before, queues, last, show, window) for number in (0, 1)]
+        return {"at": at, "block": block, "from": max(0, at - NEAR), "near": [*map(str, self.keys[max(0, at - NEAR):at + NEAR])],
+                "sides": sides}
+
+    def side(self, ask, number, block, held, before, queues, last, show, window):
+        letter, counts = "ab"[number], show[2 * number].split()[2:]
+        outcome, other = outcome_of(last[1 + number]) if block else ("", None)
+        moves = moves_of(before[letter], queues[letter]) if before else []
+        new = {key for key, begin, end in moves if end}
+        words = window[number].split()[2:]
+        return {"outcome": outcome, "other": other, "counts": dict(zip(counts[::2], map(int, counts[1::2]))),
+                "window": {} if words[1] == "none" else dict(zip(words[::2], words[1::2])),
+                "moves": moves[:MOVES], "more": max(0, len(moves) - MOVES),
+                "estimates": self.estimates(ask, number, block, other, before and before[letter]),
+                "queues": [drawn(name, keys, held[number], held[1 - number], new, block) for name, keys in queues[letter]]}
+
+    def estimates(self, ask, number, block, other, before):
+        """What the filter takes as the frequency of the block that was accessed, of the one that left, and of that which was
+        the oldest of probation, or of the only queue, before."""
+        oldest = next((keys[0][0] for name, keys in before or [] if name in ("probation", "queue") and keys), None)
+        named = {"accessed": block, "left": other, "was oldest": oldest}
+        answers = ask(*(f"estimate {key}" for key in named.values() if key))
+        found = zip([it for it in named.items() if it[1]], (answer[number].split()[-1] for answer in answers))
+        return [[what, key, estimate] for (what, key), estimate in found if estimate != "none"]
+
+
+def split(item):
+    key, _, number = item.partition(":")
+    return key, number
+
+
+def outcome_of(line):
+    """The outcome of an access, and the key that left for it, if one did."""
+    _, _, outcome, *other = line.split()
+    return outcome, other[0] if other else None
+
+
+def places_of(queues):
+    return {key: name for name, keys in queues for key, _ in keys if name != "target"}
+
+
+def moves_of(before, after):
+    """Each key that is in another queue than before, that came, or is no longer known, with both queues."""
+    olds, news = places_of(before), places_of(after)
+    return [[key, olds.get(key), news.get(key)] for key in {**news, **olds} if olds.get(key) != news.get(key)]
+
+
+def drawn(name, keys, held, held_there, new, block):
+    """A queue: its keys one by one with what they are marked by, or both its ends and the parts of a strip."""
+    def cell(key, number):
+        marks = "now " * (key == block) + "new " * (key in new) + ("" if name == "target" else "ghost" if key not in held else
+                                                                  "only" * (key not in held_there))
+        return [key, number, marks.strip()]
+
+    shown = {"name": name, "length": len(keys)}
+    if len(keys) <= CELLS:
+        return {**shown, "cells": [cell(*it) for it in keys]}
+    bounds = [len(keys) * at // PARTS for at in range(PARTS + 1)]
+    pieces = [keys[low:high] for low, high in zip(bounds, bounds[1:])]
+    return {**shown, "first": [cell(*it) for it in keys[:ENDS]], "last": [cell(*it) for it in keys[-ENDS:]],
+            "parts": [[len(piece), sum(key in held and key not in held_there for key, _ in piece),
+                       sum(number not in ("", "0") for _, number in piece),
+                       sum(key == block or key in new for key, _ in piece)] for piece in pieces]}
+
+
+class JournalView:
+    """A concurrent run, by `replay` and the text of its journal."""
+
+    FINDS = {"dropped read": " = (full|lost)$", "turn at the maintenance": " begin = began$", "item that leaves": " = (evicted|rejected) ",
+             "refused write": " = writesfull$", "worker turned away": " = busy$"}
+
+    def __init__(self, session, steps, facts):
+        self.session, self.steps = session, steps
+        self.found = {name: [at for at, step in enumerate(steps, 1) if re.search(rf"\d+ (?!afterread|afterwrite).*{pattern}", step)]
+                      for name, pattern in self.FINDS.items()}
+        self.by_worker = defaultdict(lambda: array("Q"))
+        for at, step in enumerate(steps, 1):
+            self.by_worker[int(step.partition(" ")[0])].append(at)
+        self.facts = {**facts, "kind": "journal", "end": len(steps), "finds": [*self.FINDS]}
+
+    def at(self, asked):
+        return min(len(self.steps), asked["at"])
+
+    def find(self, asked):
+        places, at = self.found[asked["what"]], self.at(asked)
+        place = bisect_right(places, at) if asked["forward"] else bisect_left(places, at) - 1
+        return {"found": places[place] if 0 <= place < len(places) else None}
+
+    def ground(self, _):
+        """In each interval the looks that found their key, and the steps of the maintenance, by the text of the journal."""
+        every, rows = every_of(len(self.steps)), []
+        for begin in range(0, len(self.steps), every):
+            steps = self.steps[begin:begin + every]
+            looks = [" = hit" in it for it in steps if " look " in it]
+            kept = sum(bool(re.search(r" (begin|drainread|drainwrite|evict|end)\b", it)) for it in steps)
+            rows.append([begin + len(steps), sum(looks), len(looks), kept, len(steps)])
+        return {"every": every, "rows": rows}
+
+    def life(self, asked):
+        """The steps that name a key: as a word of their own behind the act, or before a node."""
+        block = asked["block"]
+        named = re.compile(rf"(look|put|remove) {block} |(offer|lose) \d+ {block} |= \w+ {block} \d+$")
+        lines = [[at, step] for at, step in enumerate(self.steps, 1) if named.search(step)]
+        return {"block": block, "lines": lines[:LIVES], "is_cut": len(lines) > LIVES}
+
+    def state(self, asked):
+        at = self.at(asked)
+        with self.session.turn() as ask:
+            _, show = ask(f"goto {at}", "show")
+        workers = [[number, self.step(places, bisect_right(places, at) - 1), self.step(places, bisect_right(places, at))]
+                   for number, places in sorted(self.by_worker.items())]
+        return {"at": at, "from": max(0, at - NEAR), "near": self.steps[max(0, at - NEAR):at + NEAR], "workers": workers,
+                "show": [self.cut(line.split(" ")) for line in show]}
+
+    def step(self, places, index):
+        return [places[index], self.steps[places[index] - 1]] if 0 <= index < len(places) else None
+
+    @staticmethod
+    def cut(words):
+        """A line of `show`; of a long one both its ends, and how many words are left out."""
+        return words if len(words) <= CELLS else [words[0], *words[1:ENDS + 1], None, str(len(words) - 1), *words[-ENDS:]]
+
