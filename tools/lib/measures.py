@@ -49,7 +49,7 @@ Reach = namedtuple("Reach", "policy ratio row below is_possible")
 
 def plan_of(policies, args):
     """The steps of a survey of one trace that are planned, in their order and as a terminal names them."""
-    tables, has_jumps = {*args.table}, "jumps" in args.table or args.plot
+    tables, has_jumps = {*args.table}, "jumps" in args.table or args.is_drawn
     return ["footprint",
             *["policies"] * bool(tables & {*ADVICE, "windows", "parts", "powers", "requests"} or has_jumps),
             *["between capacities"] * bool(tables & ADVICE),
@@ -59,7 +59,7 @@ def plan_of(policies, args):
             *["jumps of lru"] * bool(has_jumps),
             *(map(reach_step, policies) if "reach" in tables else []),
             *["powers of two"] * ("powers" in tables),
-            *["picture"] * bool(args.plot)]
+            *["picture"] * args.is_drawn]
 
 
 def tried_parts(policies):
@@ -134,7 +134,7 @@ def rows_of(trace, asked, footprint, args, progress):
 
     def measure(capacities):
         rows.update(measured(trace, asked, capacities))
-        near.update(rows_near(trace, asked, capacities) if {*args.table} & {*ADVICE, "jumps"} or args.plot else {})
+        near.update(rows_near(trace, asked, capacities) if {*args.table} & {*ADVICE, "jumps"} or args.is_drawn else {})
 
     measure(capacities_of(trace, footprint, args, progress) if progress.begins("policies") else [])
     if rows and progress.begins("between capacities"):

@@ -1,0 +1,232 @@
+"""The survey of a trace as one file of HTML, which shows its tables and pictures wherever it is opened, and fetches nothing."""
+import hashlib
+import json
+import math
+import re
+import shlex
+from html import escape
+from pathlib import Path
+
+from .measures import above, below, capacities_in
+from .options import as_called
+from .pictures import ends_around, marks_of
+from .policies import OTHERS, POLICIES
+from .tables import FOLDED, LEFT, NOTES, NOTES_OF_SAMPLE, TABLES, TITLES, also_measured, rate_of, shown_rate
+from .traces import Unreadable
+from .views import every_of
+
+# The room of a picture, and of what stands around its curves: left, top, right, below.
+WIDTH, HEIGHT, AROUND = 1080, 430, (58, 12, 30, 44)
+# So many marks at most has a curve.
+MARKS = 12
+# A first choice that costs so many percent more misses at a neighbouring capacity is doubtful.
+DOUBTFUL = 5
+# The marks of gnuplot's numbers, around 0: open ones by odd numbers of a pair, and of what has no inside a line.
+RING, SQUARE, UP = "M-4 0a4 4 0 1 0 8 0a4 4 0 1 0-8 0Z", "M-4-4H4V4H-4Z", "M0-5L5 4H-5Z"
+DOWN, DIAMOND, PENTAGON = "M0 5L5-4H-5Z", "M0-5.5L5.5 0L0 5.5L-5.5 0Z", "M0-5L5-1.2L3 4.5H-3L-5-1.2Z"
+SHAPES = {1: "M-5 0H5M0-5V5", 2: "M-4-4L4 4M4-4L-4 4", 3: "M-5 0H5M0-5V5M-4-4L4 4M4-4L-4 4", 4: SQUARE, 5: SQUARE, 6: RING, 7: RING,
+          8: UP, 9: UP, 10: DOWN, 11: DOWN, 12: DIAMOND, 13: DIAMOND, 14: PENTAGON, 15: PENTAGON}
+
+
+def page_of(args, survey, drawn, version):
+    """The page: the facts, the curves, hits over time, the tables, what is not sure, and what looks further."""
+    curves = chart_of_curves(survey, drawn)
+    times = None if args.sampled else chart_over_time(survey, args)
+    parts = [facts(args, survey, version), *legend_of(survey.policies)]
+    parts += section("Hit ratio over capacity", "By steps: between two capacities a curve stays at the ratio of the smaller one.", curves)
+    if times:
+        parts += section(f"Hit ratio over time, at {times['capacity']} entries", f"Of intervals of {times['every']:,} accesses; in one "
+                         "interval clairvoyant is no upper bound.", times)
+    parts += doubts(survey)
+    also = also_measured([survey]).get(survey.trace.name, "")
+    parts += [table(name, survey, args, also) for name in args.table]
+    parts += further(survey)
+    data = [{it: chart[it] for it in ("id", "places", "labels", "values")} for chart in (curves, times) if chart]
+    filled = {"title": escape(f"Survey of {Path(survey.trace.name).name}"), "body": "\n".join(parts),
+              "data": json.dumps(data, separators=(",", ":")).replace("<", "\\u003c")}
+    text = (Path(__file__).resolve().parent / "report.html").read_text(encoding="utf-8")
+    return re.sub(r"@(title|body|data)@", lambda it: filled[it[1]], text).encode(errors="replace")
+
+
+def facts(args, survey, version):
+    trace = survey.trace
+    digest, size = hashlib.sha256(), 0
+    for piece in iter(lambda text=trace.file.lines(): text.read(1 << 20), b""):
+        digest.update(piece)
+        size += len(piece)
+    told = {"Trace": trace.name, "Its text": f"{size:,} bytes, format {args.format}", "SHA-256 of it": digest.hexdigest(), "Accesses": f"{survey.accesses:,}",
+            "Footprint": f"{trace.shown(survey.footprint):,} blocks", "Highest hit ratio possible": f"{survey.highest} %",
+            "Sample": args.sampled and f"one block in {args.sampled}: all numbers are estimates of the whole trace",
+            "Left out": args.after and f"the first {args.after:,} accesses", "Options": f"--main {args.main or 99} --spread {args.spread}",
+            "Program": version}
+    return "<dl>" + "".join(f"<dt>{name}</dt><dd>{escape(str(value))}</dd>" for name, value in told.items() if value) + "</dl>"
+
+
+# Pictures.
+
+def style_of(policy, policies):
+    unknown = sorted(set(policies) - POLICIES.keys())
+    return POLICIES.get(policy) or OTHERS[unknown.index(policy) % len(OTHERS)]
+
+
+def stroke(style):
+    dash = "" if style.dash == "1" else f' stroke-dasharray="{style.dash.strip("()")}"'
+    return f'stroke="{style.colour}" fill="none"{dash}'
+
+
+def mark(style, x, y):
+    inside = style.colour if style.marker in (5, 7, 9, 11, 13, 15) else "#fff" if style.marker > 3 else "none"
+    return f'<path d="{SHAPES[style.marker]}" transform="translate({x} {y})" stroke="{style.colour}" stroke-width="1.4" fill="{inside}"/>'
+
+
+def legend_of(policies):
+    yield "<h2>Policies</h2><ul class=\"legend\">"
+    for it in policies:
+        style = style_of(it, policies)
+        yield (f'<li data-policy="{escape(it)}"><svg width="52" height="14" aria-hidden="true"><path d="M0 7H52" stroke-width="2" {stroke(style)}/>'
+               f"{mark(style, 26, 7)}</svg> {escape(it)}</li>")
+    yield "</ul>"
+
+
+def section(title, note, chart):
+    return [f"<h2>{escape(title)}</h2>", f'<p class="quiet">{escape(note)}</p>', f'<div class="scroll">{chart["picture"]}</div>',
+            f'<p class="value scripted" id="{chart["id"]}-value"></p>']
+
+
+def chart_of_curves(survey, drawn):
+    rows = {(it.policy, it.capacity): it for it in drawn}
+    places = capacities_in(rows)
+    values = {policy: [100 * rows[policy, it].hits / rows[policy, it].accesses for it in places] for policy in survey.policies}
+    shown = [survey.trace.shown(it) for it in places]
+    return chart("capacity", shown, [(it, it) for it in shown], values, "capacity in entries", [f"{it:,} entries" for it in shown], len(shown) > 2)
+
+
+def chart_over_time(survey, args):
+    """The picture of `intervals` at the middle one of the capacities, or None of a trace without any."""
+    trace, options, capacities = survey.trace, survey.trace.options, capacities_in(survey.rows)
+    policies = [it for it in survey.policies if it in trace.program.policies()]
+    if not capacities or not policies:
+        return None
+    capacity, every = capacities[(len(capacities) - 1) // 2], every_of(survey.accesses)
+    words = ["intervals", "--capacity", capacity, "--every", every, "--format", options.format, "--spread", options.spread, "--main", options.main]
+    ended = trace.program.output([*words, *["--long"] * options.is_long, *policies], stdin=trace.file.begun())
+    if ended.returncode:
+        raise Unreadable(f"{trace.name}: the program refused its intervals")
+    lines = [it.split(",") for it in ended.stdout.decode().splitlines()[1:]]
+    values, spans = {}, []
+    for policy, _, first, last, hits, misses, *_ in lines:
+        if int(first) > args.after:
+            values.setdefault(policy, []).append(100 * int(hits) / (int(hits) + int(misses)))
+            spans.append((int(first) - 1, int(last)))
+    spans = sorted(set(spans))
+    labels = [f"accesses {first + 1:,} to {last:,}" for first, last in spans]
+    return {**chart("time", [last for _, last in spans], spans, values, "accesses", labels, False), "capacity": capacity, "every": every}
+
+
+def chart(name, ends, spans, values, axis, labels, is_log):
+    """A picture of curves by steps, and what a script needs to say its values."""
+    left, top, right, under = AROUND
+    low, high = min(it for it, _ in spans), max(ends)
+    is_log = is_log and low > 0 and high >= 10 * low
+    heights = [it for list_of in values.values() for it in list_of]
+    bottom, above_all = ends_around(min(heights), max(max(heights), min(heights) + 1))
+
+    def across(it):
+        share = math.log(it / low) / math.log(high / low) if is_log else (it - low) / max(1, high - low)
+        return round(left + share * (WIDTH - left - right), 1)
+
+    def up(it):
+        return round(top + (above_all - it) / (above_all - bottom) * (HEIGHT - top - under), 1)
+
+    parts = [f'<svg class="picture" id="{name}" viewBox="0 0 {WIDTH} {HEIGHT}" role="img" aria-label="Hit ratio in percent over {axis}, '
+             'a curve for each policy; the tables have the values">']
+    for it in marks_of(bottom, above_all, 0.07):
+        parts.append(f'<path d="M{left} {up(it)}H{WIDTH - right}" stroke="#ddd"/><text x="{left - 8}" y="{up(it) + 4}" text-anchor="end">{it:g}</text>')
+    for it in marks_of(low, high, 0.02 + 0.011 * len(f"{high:,}"), is_log):
+        parts.append(f'<path d="M{across(it)} {top}V{HEIGHT - under}" stroke="#eee"/><text x="{across(it)}" y="{HEIGHT - under + 18}" text-anchor="middle">{it:,.10g}</text>')
+    parts.append(f'<text x="{(left + WIDTH - right) / 2}" y="{HEIGHT - 4}" text-anchor="middle">{axis}{", logarithmic" * is_log}; hit ratio in percent</text>')
+    every = max(1, math.ceil(len(ends) / MARKS))
+    for number, (policy, list_of) in enumerate(values.items()):
+        style, first = style_of(policy, values), number * every // len(values)
+        if spans[0][0] == spans[0][1]:
+            steps = f"M{across(ends[0])} {up(list_of[0])}" + "".join(f"H{across(end)}V{up(it)}" for end, it in zip(ends[1:], list_of[1:]))
+        else:
+            steps = "M" + "L".join(f"{across(begin)} {up(it)}H{across(end)}" for (begin, end), it in zip(spans, list_of))
+        marks = "".join(mark(style, across(end), up(it)) for end, it in [*zip(ends, list_of)][first::every])
+        parts.append(f'<g data-policy="{escape(policy)}"><path d="{steps}" stroke-width="2" {stroke(style)}/>{marks}</g>')
+    parts.append(f'<line class="pointer" y1="{top}" y2="{HEIGHT - under}" stroke="#555" style="display:none"/></svg>')
+    return {"id": name, "picture": "".join(parts), "places": [*map(across, ends)], "labels": labels,
+            "values": {policy: [round(it, 4) for it in list_of] for policy, list_of in values.items()}}
+
+
+# Tables, and what follows from them.
+
+def table(name, survey, args, also):
+    head, *rows = list(TABLES[name]([survey]))
+    own = {} if name == "traces" else {"trace"}
+    kept = [at for at, it in enumerate(head) if it not in own]
+    title = TITLES.get(name, "the trace")
+    notes = {**NOTES, **(NOTES_OF_SAMPLE if args.sampled else {})}.get(name, "") + (f"\n({also})" if also and "best" in head else "")
+    if not rows:
+        return f"<h2>{escape(title.capitalize())}</h2><p>None.</p><p class=\"note\">{escape(notes)}</p>"
+
+    def cell(kind, at, value):
+        text = " or ".join(value) or "-" if isinstance(value, tuple) else str(value)
+        names = [it for it in ("name" if head[at] in LEFT else "", "best" if head[at] in FOLDED else "") if it]
+        return f"<{kind}{' class=' + chr(34) + ' '.join(names) + chr(34) if names else ''}>{escape(text)}</{kind}>"
+
+    lines = ["".join(cell(kind, at, row[at]) for at in kept) for kind, row in (("th", head), *(("td", row) for row in rows))]
+    return (f"<h2>{escape(title[0].upper() + title[1:])}</h2><div class=\"scroll\" tabindex=\"0\" role=\"region\" aria-label=\"{escape(title)}\"><table><thead><tr>{lines[0]}</tr></thead><tbody>"
+            + "".join(f"<tr>{it}</tr>" for it in lines[1:]) + f"</tbody></table></div><p class=\"note\">{escape(notes)}</p>")
+
+
+def reasons(survey, capacity, choices):
+    """Why the first name of `best` at a capacity is not sure."""
+    if len(choices) > 1:
+        yield f"{len(choices)} are as good there: " + ", ".join(it.name for it in choices)
+    if choices and choices[0].worst > DOUBTFUL:
+        yield f"{choices[0].name} has up to {choices[0].worst:.1f} percent more misses than the best policy at a capacity beside it"
+    for policy, place in survey.spans:
+        if place == capacity:
+            yield f"{policy} changes within a percent of it: {rate_of(survey, policy, place)}"
+    for low, high in survey.jumps:
+        if below(low.capacity) <= capacity <= above(high.capacity):
+            yield (f"{low.policy} jumps from {shown_rate(low)} at {survey.trace.shown(low.capacity)} entries to "
+                   f"{shown_rate(high)} at {survey.trace.shown(high.capacity)}")
+
+
+def doubts(survey):
+    found = [(it, [*reasons(survey, it, choices)]) for it, choices in sorted(survey.choices.items())]
+    yield "<h2>Where the best policy is not sure</h2>"
+    if not any(texts for _, texts in found):
+        yield "<p>At none of the capacities.</p>"
+        return
+    yield '<div class="scroll"><table><thead><tr><th>capacity</th><th class="name">why</th></tr></thead><tbody>'
+    for capacity, texts in found:
+        if texts:
+            yield f'<tr><td>{survey.trace.shown(capacity)}</td><td class="name why">{"<br>".join(map(escape, texts))}</td></tr>'
+    yield "</tbody></table></div>"
+
+
+def further(survey):
+    """Commands that look further, as they are typed."""
+    trace, form = survey.trace, survey.trace.options.format
+    name, how = shlex.quote(trace.name) if trace.name != "-" else "TRACE", "" if form == "lirs" else f" --format {form}"
+    chosen = {it: [*dict.fromkeys(choice.key.replace(" --main ", ":main=") for choice in choices)] for it, choices in sorted(survey.choices.items()) if choices}
+    lines = []
+    if chosen:
+        capacity = [*chosen][(len(chosen) - 1) // 2]
+        best = chosen[capacity][0]
+        other = next((it for it in ("lru", *chosen[capacity]) if it != best), "fifo")
+        lines += [("What each of two policies holds, access by access, in the browser",
+                   f"tools/watch {name}{how} --capacity {capacity} --first {best} --second {other}"),
+                  ("Which accesses each of both hits alone, over time",
+                   f"./cachesim compare{how} --capacity {capacity} --first {best} --second {other} --every {every_of(survey.accesses)} < {name} | tools/plot > alone.svg")]
+    lines.append(("Whether the choice by the first half of the trace would have held in the second", f"tools/survey{how} --halves {name}"))
+    for policy, capacity in [*dict.fromkeys((policy, capacity) for policy, capacity in survey.spans)][:3]:
+        low, high, by = capacity * 9 // 10, capacity * 11 // 10, max(1, capacity // 50)
+        lines.append((f"How {policy} changes around {capacity} entries", f"./cachesim sweep{how} --policy {policy} $(seq {max(1, low)} {by} {high}) < {name}"))
+    lines.append(("The smallest capacity of each policy with a hit ratio", f"tools/survey{how} --reach {max(1, math.floor(float(survey.highest) * 0.9))} {name}"))
+    yield "<h2>To look further</h2>"
+    for about, line in lines:
+        yield f"<p>{escape(about)}:</p><pre>{escape(as_called(line))}</pre>"
