@@ -134,9 +134,9 @@ def moves_of(before, after):
 def drawn(name, keys, held, held_there, new, block):
     """A queue: its keys one by one with what they are marked by, or both its ends and the parts of a strip."""
     def cell(key, number):
-        marks = "now " * (key == block) + "new " * (key in new) + ("" if name == "target" else "ghost" if key not in held else
-                                                                  "only" * (key not in held_there))
-        return [key, number, marks.strip()]
+        place = "ghost" if key not in held else "only" * (key not in held_there)
+        marks = [] if name == "target" else ["now" * (key == block), "new" * (key in new), place]
+        return [key, number, " ".join(filter(None, marks))]
 
     shown = {"name": name, "length": len(keys)}
     if len(keys) <= CELLS:

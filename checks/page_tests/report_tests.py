@@ -1,0 +1,104 @@
+"""Tests of the page of tools/survey --html in a browser, beside the tables that the survey prints."""
+import csv
+import hashlib
+import io
+import re
+import sys
+
+from browsers import PALE, TRACE, WIDTHS
+from checks import call, expect
+
+POLICIES = ["lru", "arc", "sieve", "s3-fifo", "wtinylfu", "clairvoyant"]
+NAMED = [word for it in POLICIES for word in ("--policy", it)]
+ROWS = """return [...document.querySelectorAll("h2")].filter(it => it.textContent === arguments[0])
+  .flatMap(it => [...it.nextElementSibling.querySelectorAll("tr")].map(row => [...row.cells].map(cell => cell.textContent)))"""
+
+
+def report(tools, program, folder, *words, trace=TRACE):
+    """The page of a trace, and what the survey prints as CSV."""
+    page = folder / "report.html"
+    out, error, status = call(sys.executable, "-SE", tools / "survey", "--program", program, "--csv", "--html", page, *NAMED, *words, trace)
+    expect("its end", (status, [it for it in error.splitlines() if "also measured" not in it]), (0, []))
+    return page, list(csv.reader(io.StringIO(out)))
+
+
+def check_tables(browser, tools, program, folder, pictures):
+    """The tables are those that are printed, the facts those of the file, and nothing is fetched."""
+    page, rows = report(tools, program, folder, "--percent", "10", "--percent", "30", "--table", "policies")
+    browser.open(page.as_uri())
+    found = browser.run(ROWS, "Hit ratios in percent")
+    expect("the head", found[0], rows[0][1:])
+    low_high = re.compile(r"^[\d.]+-([\d.]+)$")
+    expect("capacities and best", [(row[1], row[-1]) for row in found[1:]], [(row[2], row[-1]) for row in rows[1:]])
+    for shown, row in zip(found[1:], rows[1:]):
+        expect("rates", [it for it, other in zip(shown[2:-3], row[3:-3]) if it != other and not low_high.match(it)], [])
+    facts = dict(zip(browser.texts("dt"), browser.texts("dd")))
+    expect("the checksum", facts["SHA-256 of it"], hashlib.sha256(TRACE.read_bytes()).hexdigest())
+    expect("the accesses", (facts["Accesses"], facts["Footprint"]), ("84,333", "979 blocks"))
+    expect("the program", facts["Program"].startswith(call(program, "--version")[0].split("\n")[0]), True)
+    expect("sources from elsewhere", re.findall(r"(?:src|href)=\"(?!data:,)|url\(|@import|https?://", page.read_text()), [])
+    expect("what was fetched", browser.run("return performance.getEntriesByType('resource').length"), 0)
+    for width in WIDTHS:
+        browser.picture(pictures / f"report_{width}.png", width)
+    expect("pale texts", browser.run(PALE), [])
+    expect("what the browser says", browser.complaints(), [])
+
+
+def check_curves(browser, tools, program, folder):
+    """A curve and its values are the program's, a policy is switched off and on, and arrow keys read the values."""
+    page, _ = report(tools, program, folder, "--capacity", "200", "--table", "policies")
+    browser.open(page.as_uri())
+    charts = browser.run("return JSON.parse(document.getElementById('data').textContent)")
+    places = [int(it.split()[0].replace(",", "")) for it in charts[0]["labels"]]
+    swept = call(program, "sweep", *NAMED, *places, stdin=TRACE.open("rb"))[0].splitlines()[1:]
+    rates = {(it.split(",")[0], int(it.split(",")[1])): int(it.split(",")[3]) * 100 / int(it.split(",")[2]) for it in swept}
+    expect("the curves", charts[0]["values"], {policy: [round(rates[policy, it], 4) for it in places] for policy in POLICIES})
+    lines = call(program, "intervals", "--capacity", 200, "--every", 500, *POLICIES, stdin=TRACE.open("rb"))[0].splitlines()[1:]
+    of_arc = [100 * int(it.split(",")[4]) / (int(it.split(",")[3]) - int(it.split(",")[2]) + 1) for it in lines if it.startswith("arc,")]
+    expect("over time", charts[1]["values"]["arc"], [round(it, 4) for it in of_arc])
+    shown = "return [...document.querySelectorAll('svg [data-policy=arc]')].map(it => getComputedStyle(it).display !== 'none')"
+    expect("a curve in both pictures", browser.run(shown), [True, True])
+    browser.run("document.querySelector('li[data-policy=arc] input').click()")
+    expect("switched off", browser.run(shown), [False, False])
+    browser.run("document.getElementById('capacity').focus()")
+    browser.driver.switch_to.active_element.send_keys("\ue014\ue014")
+    said = browser.find("capacity-value").text
+    expect("the value by a key", (said.startswith(f"{places[1]:,} entries: "), "arc" in said, f"lru {rates['lru', places[1]]:.2f}" in said), (True, False, True))
+    browser.run("document.querySelector('li[data-policy=arc] input').click()")
+    expect("switched on", browser.run(shown), [True, True])
+
+
+def check_without_scripts(browser, tools, program, folder):
+    """Where scripts are not allowed, tables and both pictures are there."""
+    page, rows = report(tools, program, folder, "--capacity", "97", "--table", "misses")
+    browser.driver.execute_cdp_cmd("Emulation.setScriptExecutionDisabled", {"value": True})
+    try:
+        browser.open(page.as_uri())
+        shown = browser.driver.find_element("tag name", "body").text
+    finally:
+        browser.driver.execute_cdp_cmd("Emulation.setScriptExecutionDisabled", {"value": False})
+    expect("a row", " ".join(rows[1][1:]) in shown, True)
+    text = page.read_text().partition("<script")[0]
+    expect("the pictures", [text.count(f'<g data-policy="{it}"><path d="M') for it in POLICIES], [2] * len(POLICIES))
+
+
+def check_hostile_name(browser, tools, program, folder):
+    """A name with marks of HTML and of the page's own template shows as text."""
+    trace = folder / "<img src=x onerror=\"document.title='made'\">@data@</title><script>document.title='made'<\\script>.lirs"
+    trace.write_text("1\n2\n3\n1\n2\n" * 9)
+    page, _ = report(tools, program, folder, "--capacity", "2", trace=trace)
+    browser.open(page.as_uri())
+    expect("the title", (browser.driver.title, browser.texts("h1")), (f"Survey of {trace.name}", [f"Survey of {trace.name}"]))
+    expect("the trace", browser.texts("dd")[0], str(trace))
+    expect("what the browser says", browser.complaints(), [])
+
+
+def check_refusals(tools, program, folder):
+    """No page of several traces, none of no accesses, and none in the place of its trace."""
+    empty = folder / "empty"
+    empty.write_text("")
+    for words, says in (((empty,), "there are no accesses to draw"), ((TRACE, empty), "draws one trace")):
+        error, status = call(sys.executable, "-SE", tools / "survey", "--program", program, "--html", folder / "page", *NAMED, *words)[1:]
+        expect(f"{words}", (status != 0, says in error, (folder / "page").exists()), (True, True, False))
+    error, status = call(sys.executable, "-SE", tools / "survey", "--program", program, "--html", empty, *NAMED, empty)[1:]
+    expect("its own trace", (status != 0, "is the trace" in error), (True, True))
