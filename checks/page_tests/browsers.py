@@ -1,8 +1,8 @@
 """A browser and a page for tests: what is waited for is a condition, never a time."""
-import json
 import re
 import subprocess
 import sys
+from collections import namedtuple
 from contextlib import contextmanager
 from pathlib import Path
 
@@ -93,6 +93,8 @@ class Browser:
         return [it["message"] for it in self.driver.get_log("browser") if it["level"] in ("SEVERE", "WARNING")]
 
 
+# A mistake in a script or a page: the test that finds it, the file of tools/ that it is in, what is replaced, and by what.
+Mistake = namedtuple("Mistake", "test file old new")
 KEYS = {"left": Keys.ARROW_LEFT, "right": Keys.ARROW_RIGHT}
 
 
@@ -116,11 +118,3 @@ def dialogue(program, words, *commands):
     if status or error:
         raise Wrong(f"status {status}: {error}")
     return out.splitlines()
-
-
-def pair(first, second, capacity, trace=TRACE):
-    return ["--capacity", capacity, "--first", first, "--second", second], ["debug", "--trace", trace]
-
-
-def json_of(text):
-    return json.loads(text)

@@ -5,7 +5,7 @@ import io
 import re
 import sys
 
-from browsers import PALE, TRACE, WIDTHS
+from browsers import PALE, TRACE, WIDTHS, Mistake
 from checks import call, expect
 
 POLICIES = ["lru", "arc", "sieve", "s3-fifo", "wtinylfu", "clairvoyant"]
@@ -102,3 +102,17 @@ def check_refusals(tools, program, folder):
         expect(f"{words}", (status != 0, says in error, (folder / "page").exists()), (True, True, False))
     error, status = call(sys.executable, "-SE", tools / "survey", "--program", program, "--html", empty, *NAMED, empty)[1:]
     expect("its own trace", (status != 0, "is the trace" in error), (True, True))
+
+
+MISTAKES = {
+    "the checksum of nothing": Mistake(check_tables, "lib/mailed.py", "        digest.update(piece)\n", ""),
+    "a source from elsewhere": Mistake(check_tables, "lib/report.html", '<link rel="icon" href="data:,">', '<link rel="icon" href="https://example.org/">'),
+    "a table of another width": Mistake(check_tables, "lib/report.html", ".scroll { overflow-x: auto;", ".scroll {"),
+    "a curve of hits of another policy": Mistake(check_curves, "lib/mailed.py", "100 * rows[policy, it].hits /", "100 * rows[survey.policies[0], it].hits /"),
+    "a curve that stays": Mistake(check_curves, "lib/report.html", "document.querySelectorAll(\"[data-policy]\")", "document.querySelectorAll(\"li[data-policy]\")"),
+    "pictures by a script": Mistake(check_without_scripts, "lib/mailed.py", '<g data-policy="{escape(policy)}"><path d="{steps}"', '<g data-policy="{escape(policy)}"><path'),
+    "a name as HTML": Mistake(check_hostile_name, "lib/mailed.py", '"title": escape(f"Survey of {Path(survey.trace.name).name}")', '"title": f"Survey of {Path(survey.trace.name).name}"'),
+    "a name in the template": Mistake(check_hostile_name, "lib/mailed.py", 'return re.sub(r"@(title|body|data)@", lambda it: filled[it[1]], text).encode(errors="replace")',
+                                      'for _ in 1, 2:\n        text = re.sub(r"@(title|body|data)@", lambda it: filled[it[1]], text)\n    return text.encode()'),
+    "a page of nothing": Mistake(check_refusals, "survey", "    if not survey.accesses:", "    if False:"),
+}

@@ -2,14 +2,14 @@
 import http.client
 import os
 import random
-import re
 import signal
 import subprocess
 from pathlib import Path
 from urllib.parse import parse_qs, urlsplit
 
-from browsers import KEYS, NAMELESS, PALE, TRACE, WIDTHS, dialogue, watched
-from checks import Wrong, becomes, call, expect
+from browsers import KEYS, NAMELESS, PALE, TRACE, WIDTHS, Mistake, dialogue, watched
+from checks import becomes, call, expect
+from lib import sessions
 
 PAIR = "--first", "s3-fifo", "--second", "arc"
 SMALL = TRACE, "--capacity", "20", *PAIR
@@ -357,3 +357,45 @@ def check_looks(browser, tools, program, pictures):
         browser.press("\t")
         outline = browser.run("const it = getComputedStyle(document.activeElement); return [it.outlineStyle, parseFloat(it.outlineWidth) >= 2]")
         expect("the focus", outline, ["solid", True])
+
+
+def check_renewed(program, monkeypatch):
+    """A session that has taken many commands goes on in another process, and answers the same."""
+    trace, *words = SMALL
+    monkeypatch.setattr(sessions, "RENEWED_AFTER", 1000)
+    with trace.open("rb") as file:
+        session, answers, processes = sessions.Session([str(it) for it in (program, "debug", "--trace", trace, *words)], file), set(), set()
+        for _ in range(200):
+            with session.turn() as ask:
+                answers.add(str(ask("goto 1525", "queues", "last")))
+                processes.add(session.process.pid)
+        session.end()
+    expect("the answers, and the processes", (len(answers), 3 <= len(processes) <= 20), (1, True))
+
+
+MISTAKES = {
+    "a token that nobody looks at": Mistake(check_refused, "lib/pages.py", "if not secrets.compare_digest(", "if False and secrets.compare_digest("),
+    "any host": Mistake(check_refused, "lib/pages.py", 'if self.headers.get_all("Host") != [self.server.name]:', "if False:"),
+    "another page that asks": Mistake(check_refused, "lib/pages.py", "!= [self.server.origin]:", "is None:"),
+    "a file beside the page": Mistake(check_refused, "lib/pages.py", 'if asked.path != "/":', "if False:"),
+    "a question of any length": Mistake(check_refused, "lib/pages.py", "if int(length) > MAX_QUESTION:", "if False:"),
+    "a line for the program in a block": Mistake(check_refused, "watch", " and text.isascii() and text.isdigit() and len(text) < 21 and int(text) < 1 << 64", ""),
+    "a name as HTML": Mistake(check_hostile_name, "lib/watch.html", 'find("title").textContent = title', 'find("title").innerHTML = title'),
+    "marks of the other side": Mistake(check_parting, "lib/views.py", "held[number], held[1 - number]", "held[1 - number], held[number]"),
+    "moves of two accesses": Mistake(check_parting, "lib/views.py", "self.queues_at(ask, at - 1) if at", "self.queues_at(ask, max(0, at - 2)) if at"),
+    "a queue from its other end": Mistake(check_parting, "lib/views.py", "[cell(*it) for it in keys]}", "[cell(*it) for it in keys[::-1]]}"),
+    "a position that is not the parting": Mistake(check_parting, "lib/sessions.py", "stop < at else None", "stop <= at else None"),
+    "a parting that is not the last one": Mistake(check_previous, "lib/sessions.py", "found = between(middle)", "found = None"),
+    "a click that is lost": Mistake(check_quick_clicks, "lib/watch.html", "while (finds.length || shown === null || shown.at !== wanted) {",
+                                    "if (finds.length || shown === null || shown.at !== wanted) {"),
+    "a link that names no position": Mistake(check_link, "lib/watch.html", "  go(named());\n  ask", "  go(0);\n  ask"),
+    "a life without its ends": Mistake(check_life, "lib/views.py", "{*left, *own[:LIVES]}", "{*own[:LIVES]}"),
+    "both ends alike": Mistake(check_large, "lib/views.py", "for it in keys[-ENDS:]]", "for it in keys[:ENDS]]"),
+    "curves of another interval": Mistake(check_ground, "lib/views.py", "both + first, both + second", "both + second, both + first"),
+    "an estimate of another block": Mistake(check_estimates, "lib/views.py", '"left": other', '"left": block'),
+    "a window without its target": Mistake(check_estimates, "lib/watch.html", "side.window.target ?", "side.window.goal ?"),
+    "a step of another place": Mistake(check_journal, "lib/views.py", 'ask(f"goto {at}", "show")', 'ask(f"goto {max(0, at - 1)}", "show")'),
+    "a text that is pale": Mistake(check_looks, "lib/watch.html", ".quiet { color: #595959 }", ".quiet { color: #999 }"),
+    "a field without a name": Mistake(check_looks, "lib/watch.html", ' aria-label="Position in the trace"', ""),
+    "a page that is too wide": Mistake(check_looks, "lib/watch.html", "  .two { grid-template-columns: 1fr }", "  .two { grid-template-columns: 500px 1fr }"),
+}

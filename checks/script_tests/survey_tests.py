@@ -637,7 +637,7 @@ MISTAKES = {
     "other accesses": Mistake(check_other_reports, "lib/measures.py", "if counts and (report.accesses, footprint) !=", "if False and (report.accesses, footprint) !="),
     "a picture from one entry on": Mistake(check_titles, "lib/measures.py", "low = max(1, survey.footprint // 100)", "low = 1"),
     "a title without its spread": Mistake(check_titles, "survey", 'args.spread != "mixed"}', "False}"),
-    "two traces in one picture": Mistake(check_titles, "survey", "if args.plot and len(args.trace) > 1:", "if False:"),
+    "two traces in one picture": Mistake(check_titles, "survey", "if file and len(args.trace) > 1:", "if False:"),
     "a jump by the larger capacity": Mistake(check_steep, "lib/measures.py", "(high.hits - low.hits) * low.capacity >=", "(high.hits - low.hits) * high.capacity >="),
     "a capacity of a sample cut off": Mistake(check_names, "lib/measures.py", "max(1, round(it / trace.inverse))", "max(1, int(it / trace.inverse))"),
     "nothing between": Mistake(check_between, "lib/measures.py", "ROUNDS = 2", "ROUNDS = 0"),

@@ -60,7 +60,7 @@ def check_names(survey, folder):
 
 
 MISTAKES = {
-    "a trace in a picture's place": Mistake(check_kept_files, "survey", "        refuse_own(args.plot, args.trace, TOOL)\n", "        pass\n"),
+    "a trace in a picture's place": Mistake(check_kept_files, "survey", "            refuse_own(file, args.trace, TOOL)\n", "            pass\n"),
     "a trace that grows": Mistake(check_kept_files, "lib/traces.py", "!= self.stamp:", "is None:"),
     "a trace that grows at last": Mistake(check_kept_files, "lib/reports.py", "        self.file.begun()  #", "        #"),
     "what was read of a standard input": Mistake(check_begun, "lib/traces.py", "self.start = source.tell() if is_file else 0", "self.start = 0"),
