@@ -21,23 +21,34 @@ IS_QUIET = "const it = document.getElementById('page'); return Boolean(it) && it
 # The texts of a page whose colours are too near to that behind them, by the rule of WCAG 2: 4.5 to 1.
 PALE = """
 const channels = text => text.match(/[\\d.]+/g).map(Number);
-const light = ([red, green, blue]) => [red, green, blue].map(it => it / 255).map(it => it <= 0.03928 ? it / 12.92 : ((it + 0.055) / 1.055) ** 2.4)
-  .reduce((sum, it, at) => sum + it * [0.2126, 0.7152, 0.0722][at], 0);
-const behind = it => { for (; it; it = it.parentElement) { const colour = channels(getComputedStyle(it).backgroundColor); if (colour[3] !== 0) return colour } return [255, 255, 255] };
-return [...document.querySelectorAll("body *")].filter(it => [...it.childNodes].some(part => part.nodeType === 3 && part.data.trim()) && it.checkVisibility()
-  && !it.closest("svg, script, style")).filter(it => {
-    const pair = [light(channels(getComputedStyle(it).color)), light(behind(it))];
-    return (Math.max(...pair) + 0.05) / (Math.min(...pair) + 0.05) < 4.5;
-  }).map(it => it.textContent.slice(0, 40))"""
+const linear = it => it <= 0.03928 ? it / 12.92 : ((it + 0.055) / 1.055) ** 2.4;
+const parts = [0.2126, 0.7152, 0.0722];
+const light = colour => parts.reduce((sum, part, at) => sum + part * linear(colour[at] / 255), 0);
+const behind = it => {
+  for (; it; it = it.parentElement) {
+    const colour = channels(getComputedStyle(it).backgroundColor);
+    if (colour[3] !== 0) return colour;
+  }
+  return [255, 255, 255];
+};
+const hasText = it => [...it.childNodes].some(part => part.nodeType === 3 && part.data.trim()) && it.checkVisibility();
+return [...document.querySelectorAll("body *:not(svg *, script, style)")].filter(hasText).filter(it => {
+  const pair = [light(channels(getComputedStyle(it).color)), light(behind(it))];
+  return (Math.max(...pair) + 0.05) / (Math.min(...pair) + 0.05) < 4.5;
+}).map(it => it.textContent.slice(0, 40))"""
 # What can be chosen and has no name for who cannot see it.
-NAMELESS = """return [...document.querySelectorAll("input, button, select, [tabindex]")].filter(it => !(it.labels && it.labels.length && it.labels[0].textContent.trim())
-  && !it.getAttribute("aria-label") && !(it.tagName === "BUTTON" && it.textContent.trim())).map(it => it.outerHTML.slice(0, 80))"""
+NAMELESS = """
+const isNamed = it => it.getAttribute("aria-label") || it.tagName === "BUTTON" && it.textContent.trim()
+  || it.labels && it.labels.length && it.labels[0].textContent.trim();
+const fields = [...document.querySelectorAll("input, button, select, [tabindex]")];
+return fields.filter(it => !isNamed(it)).map(it => it.outerHTML)"""
 
 
 class Browser:
     def __init__(self):
         options = webdriver.ChromeOptions()
-        for it in ("--headless=new", "--no-sandbox", "--disable-dev-shm-usage", "--hide-scrollbars", "--force-color-profile=srgb"):
+        for it in ("--headless=new", "--no-sandbox", "--disable-dev-shm-usage", "--hide-scrollbars",
+                   "--force-color-profile=srgb"):
             options.add_argument(it)
         options.set_capability("goog:loggingPrefs", {"browser": "ALL"})
         self.driver = webdriver.Chrome(service=Service("/usr/bin/chromedriver"), options=options)
@@ -55,7 +66,8 @@ class Browser:
 
     def until(self, script, *words):
         """What a script gives, once it gives something that is true."""
-        return WebDriverWait(self.driver, patience(SECONDS), 0.02).until(lambda driver: driver.execute_script(script, *words))
+        return WebDriverWait(self.driver, patience(SECONDS),
+                             0.02).until(lambda driver: driver.execute_script(script, *words))
 
     def quiet(self):
         self.until(IS_QUIET)
@@ -93,7 +105,8 @@ class Browser:
         return [it["message"] for it in self.driver.get_log("browser") if it["level"] in ("SEVERE", "WARNING")]
 
 
-# A mistake in a script or a page: the test that finds it, the file of tools/ that it is in, what is replaced, and by what.
+# A mistake in a script or a page: the test that finds it, the file of tools/ that it is in, what is replaced, and by
+# what.
 Mistake = namedtuple("Mistake", "test file old new")
 KEYS = {"left": Keys.ARROW_LEFT, "right": Keys.ARROW_RIGHT}
 
@@ -102,7 +115,8 @@ KEYS = {"left": Keys.ARROW_LEFT, "right": Keys.ARROW_RIGHT}
 def watched(tools, program, *words):
     """The address of a page of tools/watch, and its server."""
     command = [sys.executable, "-SE", tools / "watch", "--program", program, *words]
-    with subprocess.Popen([str(it) for it in command], stdin=subprocess.DEVNULL, stdout=subprocess.PIPE, text=True) as server:
+    with subprocess.Popen([str(it) for it in command], stdin=subprocess.DEVNULL, stdout=subprocess.PIPE,
+                          text=True) as server:
         try:
             address = server.stdout.readline().strip()
             if not re.fullmatch(r"http://127\.0\.0\.1:\d+/\?token=[\w-]{32}", address):

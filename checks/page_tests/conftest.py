@@ -1,5 +1,5 @@
-"""What pytest hands to the tests of the pages, by the names of their parameters: `browser`, Debian's Chromium without a window;
-`tools`, the scripts; `program`, the built program; `folder`, one of the test's own."""
+"""What pytest hands to the tests of the pages, by the names of their parameters: `browser`, Debian's Chromium without a
+window; `tools`, the scripts; `program`, the built program; `folder`, one of the test's own."""
 import os
 import shutil
 import sys
@@ -16,7 +16,8 @@ from browsers import Browser
 
 
 def pytest_addoption(parser):
-    parser.addoption("--program", type=Path, default=TOP / "crates/cachesim/out/cachesim", help="the program that scripts call")
+    parser.addoption("--program", type=Path, default=TOP / "crates/cachesim/out/cachesim",
+                     help="the program that scripts call")
     parser.addoption("--pictures", type=Path, help="the folder that pictures of the pages go to")
 
 

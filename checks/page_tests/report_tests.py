@@ -10,14 +10,18 @@ from checks import call, expect
 
 POLICIES = ["lru", "arc", "sieve", "s3-fifo", "wtinylfu", "clairvoyant"]
 NAMED = [word for it in POLICIES for word in ("--policy", it)]
-ROWS = """return [...document.querySelectorAll("h2")].filter(it => it.textContent === arguments[0])
-  .flatMap(it => [...it.nextElementSibling.querySelectorAll("tr")].map(row => [...row.cells].map(cell => cell.textContent)))"""
+ROWS = """
+const title = [...document.querySelectorAll("h2")].find(it => it.textContent === arguments[0]);
+return [...title.nextElementSibling.querySelectorAll("tr")].map(row => [...row.cells].map(cell => cell.textContent))"""
+SHOWN = """const isShown = it => getComputedStyle(it).display !== "none";
+return [...document.querySelectorAll("svg [data-policy=arc]")].map(isShown)"""
 
 
 def report(tools, program, folder, *words, trace=TRACE):
     """The page of a trace, and what the survey prints as CSV."""
     page = folder / "report.html"
-    out, error, status = call(sys.executable, "-SE", tools / "survey", "--program", program, "--csv", "--html", page, *NAMED, *words, trace)
+    out, error, status = call(sys.executable, "-SE", tools / "survey", "--program", program, "--csv", "--html", page,
+                              *NAMED, *words, trace)
     expect("its end", (status, [it for it in error.splitlines() if "also measured" not in it]), (0, []))
     return page, list(csv.reader(io.StringIO(out)))
 
@@ -36,7 +40,8 @@ def check_tables(browser, tools, program, folder, pictures):
     expect("the checksum", facts["SHA-256 of it"], hashlib.sha256(TRACE.read_bytes()).hexdigest())
     expect("the accesses", (facts["Accesses"], facts["Footprint"]), ("84,333", "979 blocks"))
     expect("the program", facts["Program"].startswith(call(program, "--version")[0].split("\n")[0]), True)
-    expect("sources from elsewhere", re.findall(r"(?:src|href)=\"(?!data:,)|url\(|@import|https?://", page.read_text()), [])
+    expect("sources from elsewhere", re.findall(r"(?:src|href)=\"(?!data:,)|url\(|@import|https?://", page.read_text()),
+           [])
     expect("what was fetched", browser.run("return performance.getEntriesByType('resource').length"), 0)
     for width in WIDTHS:
         browser.picture(pictures / f"report_{width}.png", width)
@@ -51,21 +56,25 @@ def check_curves(browser, tools, program, folder):
     charts = browser.run("return JSON.parse(document.getElementById('data').textContent)")
     places = [int(it.split()[0].replace(",", "")) for it in charts[0]["labels"]]
     swept = call(program, "sweep", *NAMED, *places, stdin=TRACE.open("rb"))[0].splitlines()[1:]
-    rates = {(it.split(",")[0], int(it.split(",")[1])): int(it.split(",")[3]) * 100 / int(it.split(",")[2]) for it in swept}
-    expect("the curves", charts[0]["values"], {policy: [round(rates[policy, it], 4) for it in places] for policy in POLICIES})
-    lines = call(program, "intervals", "--capacity", 200, "--every", 500, *POLICIES, stdin=TRACE.open("rb"))[0].splitlines()[1:]
-    of_arc = [100 * int(it.split(",")[4]) / (int(it.split(",")[3]) - int(it.split(",")[2]) + 1) for it in lines if it.startswith("arc,")]
+    rates = {(it.split(",")[0], int(it.split(",")[1])): int(it.split(",")[3]) * 100 / int(it.split(",")[2])
+             for it in swept}
+    expect("the curves", charts[0]["values"], {policy: [round(rates[policy, it], 4) for it in places]
+                                               for policy in POLICIES})
+    lines = call(program, "intervals", "--capacity", 200, "--every", 500, *POLICIES,
+                 stdin=TRACE.open("rb"))[0].splitlines()[1:]
+    of_arc = [100 * int(it.split(",")[4]) / (int(it.split(",")[3]) - int(it.split(",")[2]) + 1) for it in lines
+              if it.startswith("arc,")]
     expect("over time", charts[1]["values"]["arc"], [round(it, 4) for it in of_arc])
-    shown = "return [...document.querySelectorAll('svg [data-policy=arc]')].map(it => getComputedStyle(it).display !== 'none')"
-    expect("a curve in both pictures", browser.run(shown), [True, True])
+    expect("a curve in both pictures", browser.run(SHOWN), [True, True])
     browser.run("document.querySelector('li[data-policy=arc] input').click()")
-    expect("switched off", browser.run(shown), [False, False])
+    expect("switched off", browser.run(SHOWN), [False, False])
     browser.run("document.getElementById('capacity').focus()")
     browser.driver.switch_to.active_element.send_keys("\ue014\ue014")
     said = browser.find("capacity-value").text
-    expect("the value by a key", (said.startswith(f"{places[1]:,} entries: "), "arc" in said, f"lru {rates['lru', places[1]]:.2f}" in said), (True, False, True))
+    expect("the value by a key", (said.startswith(f"{places[1]:,} entries: "), "arc" in said,
+                                  f"lru {rates['lru', places[1]]:.2f}" in said), (True, False, True))
     browser.run("document.querySelector('li[data-policy=arc] input').click()")
-    expect("switched on", browser.run(shown), [True, True])
+    expect("switched on", browser.run(SHOWN), [True, True])
 
 
 def check_without_scripts(browser, tools, program, folder):
@@ -84,11 +93,12 @@ def check_without_scripts(browser, tools, program, folder):
 
 def check_hostile_name(browser, tools, program, folder):
     """A name with marks of HTML and of the page's own template shows as text."""
-    trace = folder / "<img src=x onerror=\"document.title='made'\">@data@</title><script>document.title='made'<\\script>.lirs"
+    trace = folder / "<img src=x onerror=\"document.title='made'\">@data@</title><script>document.title='made'.lirs"
     trace.write_text("1\n2\n3\n1\n2\n" * 9)
     page, _ = report(tools, program, folder, "--capacity", "2", trace=trace)
     browser.open(page.as_uri())
-    expect("the title", (browser.driver.title, browser.texts("h1")), (f"Survey of {trace.name}", [f"Survey of {trace.name}"]))
+    expect("the title", (browser.driver.title, browser.texts("h1")),
+           (f"Survey of {trace.name}", [f"Survey of {trace.name}"]))
     expect("the trace", browser.texts("dd")[0], str(trace))
     expect("what the browser says", browser.complaints(), [])
 
@@ -98,21 +108,31 @@ def check_refusals(tools, program, folder):
     empty = folder / "empty"
     empty.write_text("")
     for words, says in (((empty,), "there are no accesses to draw"), ((TRACE, empty), "draws one trace")):
-        error, status = call(sys.executable, "-SE", tools / "survey", "--program", program, "--html", folder / "page", *NAMED, *words)[1:]
+        error, status = call(sys.executable, "-SE", tools / "survey", "--program", program, "--html", folder / "page",
+                             *NAMED, *words)[1:]
         expect(f"{words}", (status != 0, says in error, (folder / "page").exists()), (True, True, False))
-    error, status = call(sys.executable, "-SE", tools / "survey", "--program", program, "--html", empty, *NAMED, empty)[1:]
+    error, status = call(sys.executable, "-SE", tools / "survey", "--program", program, "--html", empty, *NAMED,
+                         empty)[1:]
     expect("its own trace", (status != 0, "is the trace" in error), (True, True))
 
 
 MISTAKES = {
     "the checksum of nothing": Mistake(check_tables, "lib/mailed.py", "        digest.update(piece)\n", ""),
-    "a source from elsewhere": Mistake(check_tables, "lib/report.html", '<link rel="icon" href="data:,">', '<link rel="icon" href="https://example.org/">'),
+    "a source from elsewhere": Mistake(check_tables, "lib/report.html", '<link rel="icon" href="data:,">',
+                                       '<link rel="icon" href="https://example.org/">'),
     "a table of another width": Mistake(check_tables, "lib/report.html", ".scroll { overflow-x: auto;", ".scroll {"),
-    "a curve of hits of another policy": Mistake(check_curves, "lib/mailed.py", "100 * rows[policy, it].hits /", "100 * rows[survey.policies[0], it].hits /"),
-    "a curve that stays": Mistake(check_curves, "lib/report.html", "document.querySelectorAll(\"[data-policy]\")", "document.querySelectorAll(\"li[data-policy]\")"),
-    "pictures by a script": Mistake(check_without_scripts, "lib/mailed.py", '<g data-policy="{escape(policy)}"><path d="{steps}"', '<g data-policy="{escape(policy)}"><path'),
-    "a name as HTML": Mistake(check_hostile_name, "lib/mailed.py", '"title": escape(f"Survey of {Path(survey.trace.name).name}")', '"title": f"Survey of {Path(survey.trace.name).name}"'),
-    "a name in the template": Mistake(check_hostile_name, "lib/mailed.py", 'return re.sub(r"@(title|body|data)@", lambda it: filled[it[1]], text).encode(errors="replace")',
-                                      'for _ in 1, 2:\n        text = re.sub(r"@(title|body|data)@", lambda it: filled[it[1]], text)\n    return text.encode()'),
+    "a curve of hits of another policy": Mistake(check_curves, "lib/mailed.py", "100 * rows[policy, it].hits /",
+                                                 "100 * rows[survey.policies[0], it].hits /"),
+    "a curve that stays": Mistake(check_curves, "lib/report.html", "document.querySelectorAll(\"[data-policy]\")",
+                                  "document.querySelectorAll(\"li[data-policy]\")"),
+    "pictures by a script": Mistake(check_without_scripts, "lib/mailed.py",
+                                    '<g data-policy="{escape(policy)}"><path d="{steps}"',
+                                    '<g data-policy="{escape(policy)}"><path'),
+    "a name as HTML": Mistake(check_hostile_name, "lib/mailed.py",
+                              '"title": escape(f"Survey of {Path(survey.trace.name).name}")',
+                              '"title": f"Survey of {Path(survey.trace.name).name}"'),
+    "a name in the template": Mistake(check_hostile_name, "lib/mailed.py",
+                                      "lambda it: filled[it[1]], text)", "lambda it: filled[it[1]], text).replace("
+                                      '"@data@", filled["data"])'),
     "a page of nothing": Mistake(check_refusals, "survey", "    if not survey.accesses:", "    if False:"),
 }

@@ -15,22 +15,37 @@ PAIR = "--first", "s3-fifo", "--second", "arc"
 SMALL = TRACE, "--capacity", "20", *PAIR
 HOSTILE = "<img src=x onerror=\"document.title='made'\">&amp;'`<script>document.title='made'<\\script>.lirs"
 # Each cell of each queue of a policy: its key and number, and which of the marks it has.
-CELLS = """return [...document.querySelectorAll(".side")].map(side => [...side.querySelectorAll(".queue")].map(queue => [
-  queue.querySelector("h3").firstChild.data, [...queue.querySelectorAll(".cell")].map(it => [it.firstChild.data, it.querySelector("sup")?.textContent ?? "",
-  ["now", "new", "only", "ghost"].filter(mark => it.classList.contains(mark)).join(" ")])]))"""
+CELLS = """
+const marksOf = it => ["now", "new", "only", "ghost"].filter(mark => it.classList.contains(mark)).join(" ");
+const cellOf = it => [it.firstChild.data, it.querySelector("sup")?.textContent ?? "", marksOf(it)];
+const queueOf = it => [it.querySelector("h3").firstChild.data, [...it.querySelectorAll(".cell")].map(cellOf)];
+return [...document.querySelectorAll(".side")].map(side => [...side.querySelectorAll(".queue")].map(queueOf))"""
+# The lists of a concurrent run: their names, and their items, with a colon before a node.
+LISTS = """
+const itemOf = it => it.firstChild.data + (it.querySelector("sup") ? ":" + it.querySelector("sup").textContent : "");
+return [...document.querySelectorAll(".queue")].map(it => [it.querySelector("h3").firstChild.data,
+  [...it.querySelectorAll(".cell")].map(itemOf)])"""
+# The first cell of each line of a block's life, and those of both policies.
+LIFE = """
+const rows = [...document.querySelectorAll("#life tbody tr")];
+return rows.map(row => [0, 2, 3].map(it => row.cells[it].textContent))"""
+CELLS_OF_SECOND = "return [...document.querySelectorAll('.side:last-child .cell')].map(it => it.firstChild.data)"
 
 
 def answers_at(program, at, words=SMALL):
-    """What the program says at a position: the queues of both sides as the page has them, and of each its outcome and counts."""
+    """What the program says at a position: the queues of both sides as the page has them, and of each its outcome and
+    counts."""
     trace, *words = words
     call_words = ["debug", "--trace", trace, *words]
-    lines = dialogue(program, call_words, *([f"goto {at - 1}", "queues", f"goto {at}"] if at else []), *(["queues", "last", "show"] if at else ["queues", "show"]))
+    lines = dialogue(program, call_words, *([f"goto {at - 1}", "queues", f"goto {at}"] if at else []),
+                     *(["queues", "last", "show"] if at else ["queues", "show"]))
     lines = [it.split() for it in lines if not it.startswith("at ")]
     show, lines = lines[-4:], lines[:-4]
     last = lines[-2:] if at else []
     block, lines = (lines[-3][3], lines[:-3]) if at else (None, lines)
     queues = lines[len(lines) // 2:] if at else lines
-    before = {(it[0], key.split(":")[0]): it[2] for it in lines[:len(lines) // 2] for key in it[3:] if it[2] != "target"} if at else {}
+    before = {(it[0], key.split(":")[0]): it[2] for it in lines[:len(lines) // 2] for key in it[3:]
+              if it[2] != "target"} if at else {}
     held = [set(it[2:]) for it in show[1::2]]
 
     def cell(side, name, item):
@@ -38,10 +53,12 @@ def answers_at(program, at, words=SMALL):
         if name == "target":
             return [key, "", ""]
         own, other = held["ab".index(side)], held["ba".index(side)]
-        marks = [("now", key == block), ("new", at and before.get((side, key)) != name), ("only", key in own and key not in other), ("ghost", key not in own)]
+        marks = [("now", key == block), ("new", at and before.get((side, key)) != name),
+                 ("only", key in own and key not in other), ("ghost", key not in own)]
         return [key, "" if number == "0" else number, " ".join(mark for mark, is_so in marks if is_so)]
 
-    cells = [[[name, [cell(side, name, it) for it in keys]] for letter, _, name, *keys in queues if letter == side] for side in "ab"]
+    cells = [[[name, [cell(side, name, it) for it in keys]] for letter, _, name, *keys in queues if letter == side]
+             for side in "ab"]
     return {"cells": cells, "outcomes": [it[2:] for it in last], "counts": [it[2:] for it in show[::2]], "block": block}
 
 
@@ -56,7 +73,8 @@ def expect_page(browser, program, at, words=SMALL):
         expect(f"the counts at {at}", [it for it in named[:3] if it not in text], [])
     for number, (outcome, *left) in enumerate(wanted["outcomes"]):
         said = browser.texts(".out")[number]
-        words_of = {"hit": "✓ hit", "kept": "✗ miss, came in", "evicted": f"✗ miss, came in for {left and left[0]}, which left",
+        words_of = {"hit": "✓ hit", "kept": "✗ miss, came in",
+                    "evicted": f"✗ miss, came in for {left and left[0]}, which left",
                     "rejected": f"✗ miss, not let in: {left and left[0]}"}
         expect(f"the outcome at {at}", said, words_of[outcome])
 
@@ -77,11 +95,13 @@ def check_parting(browser, tools, program):
         browser.press("n")
         second = browser.position()
         expect_page(browser, program, second)
-        expect("the second parting", dialogue(program, ["debug", "--trace", trace, *words], "break part", "run", "run")[-1], f"at {second}")
+        expect("the second parting", dialogue(program, ["debug", "--trace", trace, *words], "break part", "run",
+                                              "run")[-1], f"at {second}")
         browser.press("p")
         expect("the parting before", browser.position(), parting)
         browser.click("previous")
-        expect("no parting before", (browser.position(), "There is no earlier parting." in browser.find("said").text), (parting, True))
+        expect("no parting before", (browser.position(), "There is no earlier parting." in browser.find("said").text),
+               (parting, True))
         expect("what the browser says", browser.complaints(), [])
 
 
@@ -123,7 +143,7 @@ def check_quick_clicks(browser, tools, program):
     with watched(tools, program, *SMALL) as (address, _):
         browser.open(f"{address}#at=1400")
         browser.quiet()
-        browser.run("const step = document.querySelector('[data-by=\"1\"]'); for (let it = 0; it < 200; it++) step.click()")
+        browser.run("for (let it = 0; it < 200; it++) document.querySelector('[data-by=\"1\"]').click()")
         browser.quiet()
         expect_page(browser, program, 1600)
         rng, at = random.Random(1), 1600
@@ -155,7 +175,7 @@ def check_life(browser, tools, program):
         browser.quiet()
         browser.find("block").send_keys(block, "\n")
         browser.until("return document.querySelector('#life tbody tr')")
-        rows = browser.run("return [...document.querySelectorAll('#life tbody tr')].map(row => [0, 2, 3].map(it => row.cells[it].textContent))")
+        rows = browser.run(LIFE)
         expect("the life of a block", rows, wanted)
         browser.run("document.querySelectorAll('#life tbody button')[3].click()")
         browser.until("return document.getElementById('at').value === arguments[0]", str(places[3]))
@@ -171,7 +191,8 @@ def check_life(browser, tools, program):
 def asked(address, method="POST", path=None, body='{"ask":"facts"}', **headers):
     """The status of a request, which is that of the page but for what is named; None leaves a header out."""
     parts = urlsplit(address)
-    given = {"Host": parts.netloc, "Origin": f"http://{parts.netloc}", "X-Token": parse_qs(parts.query)["token"][0], "Content-Length": str(len(body)),
+    given = {"Host": parts.netloc, "Origin": f"http://{parts.netloc}", "X-Token": parse_qs(parts.query)["token"][0],
+             "Content-Length": str(len(body)),
              **{name.replace("_", "-"): value for name, value in headers.items()}}
     link = http.client.HTTPConnection(parts.hostname, parts.port, timeout=60)
     link.putrequest(method, path or f"/?{parts.query}", skip_host=True, skip_accept_encoding=True)
@@ -186,13 +207,16 @@ def asked(address, method="POST", path=None, body='{"ask":"facts"}', **headers):
 
 
 def check_refused(browser, tools, program):
-    """Nobody without the token gets in, no other host or page, no other path, and no question that is none or too long."""
+    """Nobody without the token gets in, no other host or page, no other path, and no question that is none or too
+    long."""
     with watched(tools, program, *SMALL) as (address, _):
         token = parse_qs(urlsplit(address).query)["token"][0]
         expect("the page asks", (asked(address)[0], asked(address, "GET")[0]), (200, 200))
         port = urlsplit(address).port
-        for refused in ({"X_Token": None}, {"X_Token": token[:-1]}, {"X_Token": token + "x"}, {"Host": f"example.org:{port}"}, {"Host": "127.0.0.1"},
-                        {"Host": None}, {"Host": f"localhost:{port}"}, {"Origin": "http://example.org"}, {"Origin": "null"}, {"Origin": None}):
+        for refused in ({"X_Token": None}, {"X_Token": token[:-1]}, {"X_Token": token + "x"},
+                        {"Host": f"example.org:{port}"}, {"Host": "127.0.0.1"},
+                        {"Host": None}, {"Host": f"localhost:{port}"}, {"Origin": "http://example.org"},
+                        {"Origin": "null"}, {"Origin": None}):
             expect(f"asked with {refused}", asked(address, **refused)[0], 403)
         for path in ("/", "/?token=", f"/?token={token[:-1]}", f"/?t={token}", "/favicon.ico"):
             expect(f"opened by {path}", asked(address, "GET", path)[0], 403)
@@ -200,11 +224,16 @@ def check_refused(browser, tools, program):
         expect("a foreign page", asked(address, "GET", Origin="http://example.org")[0], 403)
         for path in ("/watch.html", "/../watch", "/etc/passwd", "//etc/passwd", "/%2e%2e/watch"):
             expect(f"the file {path}", asked(address, "GET", f"{path}?token={token}")[0], 404)
-        for status, body, more in ((400, "[]", {}), (400, "{", {}), (400, '{"ask":"state"}', {}), (400, '{"ask":"state","at":-1}', {}),
-                                   (400, '{"ask":"state","at":true}', {}), (400, '{"ask":"state","at":1,"more":1}', {}), (400, '{"ask":"ask"}', {}),
-                                   (400, '{"ask":"life","block":"1\\nquit"}', {}), (400, '{"ask":"life","block":"18446744073709551616"}', {}),
-                                   (400, '{"ask":"find","at":1,"forward":true,"what":"hit 1"}', {}), (400, "[" * 900, {}), (413, " " * 1001, {}),
-                                   (411, "{}", {"Content_Length": None}), (411, "{}", {"Content_Length": "-1"}), (411, "{}", {"Content_Length": "9" * 30}),
+        for status, body, more in ((400, "[]", {}), (400, "{", {}), (400, '{"ask":"state"}', {}),
+                                   (400, '{"ask":"state","at":-1}', {}),
+                                   (400, '{"ask":"state","at":true}', {}), (400, '{"ask":"state","at":1,"more":1}', {}),
+                                   (400, '{"ask":"ask"}', {}),
+                                   (400, '{"ask":"life","block":"1\\nquit"}', {}),
+                                   (400, '{"ask":"life","block":"18446744073709551616"}', {}),
+                                   (400, '{"ask":"find","at":1,"forward":true,"what":"hit 1"}', {}),
+                                   (400, "[" * 900, {}), (413, " " * 1001, {}),
+                                   (411, "{}", {"Content_Length": None}), (411, "{}", {"Content_Length": "-1"}),
+                                   (411, "{}", {"Content_Length": "9" * 30}),
                                    (411, "{}", {"Transfer_Encoding": "chunked"})):
             expect(f"the question {body[:50]} with {more}", asked(address, body=body, **more)[0], status)
         expect("a long address", asked(address, "GET", f"/?token={token}&{'x' * 2000}")[0], 414)
@@ -222,7 +251,8 @@ def check_hostile_name(browser, tools, program, folder):
     with watched(tools, program, trace, "--capacity", "2", *PAIR) as (address, _):
         browser.open(address)
         browser.quiet()
-        expect("the title", (browser.driver.title, browser.find("title").text), (f"s3-fifo and arc over {HOSTILE}",) * 2)
+        expect("the title", (browser.driver.title, browser.find("title").text),
+               (f"s3-fifo and arc over {HOSTILE}",) * 2)
         expect("what the browser says", browser.complaints(), [])
 
 
@@ -236,7 +266,7 @@ def check_large(browser, tools, program, folder):
         lines = dialogue(program, ["debug", "--trace", trace, *words], "goto 250000", "queues")
         queues = {tuple(it.split()[1:3]): [key.split(":")[0] for key in it.split()[3:]] for it in lines[1:]}
         keys = queues["lru", "queue"]
-        cells = browser.run("return [...document.querySelectorAll('.side:last-child .cell')].map(it => it.firstChild.data)")
+        cells = browser.run(CELLS_OF_SECOND)
         expect("both ends of lru", cells, keys[:20] + keys[-20:])
         expect("its length", browser.texts(".side:last-child h3 small"), [" 100,000 blocks"])
         strip = browser.run("return document.querySelector('.side:last-child .strip').getAttribute('aria-label')")
@@ -253,22 +283,29 @@ def check_ground(browser, tools, program):
         browser.open(f"{address}#at=1525")
         browser.quiet()
         said = browser.until("return document.getElementById('there').textContent")
-        rows = [it.split(",") for it in call(program, "compare", "--every", "500", *words, stdin=trace.open("rb"))[0].splitlines()[1:]]
+        rows = [it.split(",") for it in call(program, "compare", "--every", "500", *words,
+                                             stdin=trace.open("rb"))[0].splitlines()[1:]]
         both, first, second = (int(it) for it in next(it for it in rows if int(it[4]) >= 1525)[5:8])
         rates = [f"{(both + it) * 10000 // 500 / 100:.2f} %" for it in (first, second)]
-        expect("the interval", said, f"accesses 1,501 to 2,000: s3-fifo {rates[0]}, arc {rates[1]}, they part at {first + second}")
+        expect("the interval", said,
+               f"accesses 1,501 to 2,000: s3-fifo {rates[0]}, arc {rates[1]}, they part at {first + second}")
         expect("the curves", browser.run("return document.querySelectorAll('#ground path').length"), 2)
 
 
 def check_estimates(browser, tools, program):
-    """Beside a rejection stand the estimates of the block that was turned away and of the one that stayed, and caffeine's window."""
+    """Beside a rejection stand the estimates of the block that was turned away and of the one that stayed, and
+    caffeine's window."""
     words = ["--capacity", "97", "--first", "caffeine", "--second", "tinylfu-lru"]
     with watched(tools, program, TRACE, *words) as (address, _):
-        lines = dialogue(program, ["debug", "--trace", TRACE, *words], *(f"goto {at}\nlast" for at in range(20300, 20371)))
-        at = max(int(lines[number - 2].split()[1]) for number, it in enumerate(lines) if it.startswith("b tinylfu-lru rejected"))
-        left, queues = (dialogue(program, ["debug", "--trace", TRACE, *words], f"goto {it}", ask) for it, ask in ((at, "last"), (at - 1, "queues")))
+        lines = dialogue(program, ["debug", "--trace", TRACE, *words],
+                         *(f"goto {at}\nlast" for at in range(20300, 20371)))
+        at = max(int(lines[number - 2].split()[1]) for number, it in enumerate(lines)
+                 if it.startswith("b tinylfu-lru rejected"))
+        left, queues = (dialogue(program, ["debug", "--trace", TRACE, *words], f"goto {it}", ask)
+                        for it, ask in ((at, "last"), (at - 1, "queues")))
         key, oldest = left[-1].split()[-1], next(it for it in queues if it.startswith("b ")).split()[3]
-        *_, of_key, of_oldest = (dialogue(program, ["debug", "--trace", TRACE, *words], f"goto {at}", f"estimate {it}")[-1].split()[-1] for it in (key, oldest))
+        *_, of_key, of_oldest = (dialogue(program, ["debug", "--trace", TRACE, *words], f"goto {at}",
+                                          f"estimate {it}")[-1].split()[-1] for it in (key, oldest))
         window = dialogue(program, ["debug", "--trace", TRACE, *words], f"goto {at}", "window")[1].split()
         browser.open(f"{address}#at={at}")
         browser.quiet()
@@ -296,15 +333,16 @@ def check_journal(browser, tools, program, folder):
             browser.until("return document.getElementById('at').value === arguments[0]", str(at))
             browser.quiet()
             lines = dialogue(program, ["replay", "--journal", journal, *cache], f"goto {at}", "show")
-            lists = browser.run("return [...document.querySelectorAll('.queue')].map(it => [it.querySelector('h3').firstChild.data, "
-                                "[...it.querySelectorAll('.cell')].map(cell => cell.firstChild.data + (cell.querySelector('sup') ? ':' + cell.querySelector('sup').textContent : ''))])")
+            lists = browser.run(LISTS)
             for name, found in lists:
                 start = {"write queue": "writes"}.get(name, name.replace("read buffer", "stripe"))
                 line = next(it for it in lines if f"{it} ".startswith(f"{start} "))
                 words = line.removeprefix(start).split()
-                expect(f"{name} at {at}", found, [" ".join(it) for it in zip(words[::2], words[1::2])] if start == "writes" else words)
+                expect(f"{name} at {at}", found, [" ".join(it) for it in zip(words[::2], words[1::2])]
+                       if start == "writes" else words)
             holder = next(it for it in lines if it.startswith("holder")).split()[1]
-            expect("the holder", [it.split()[0] for it in browser.texts("tbody th") if "holds" in it], [holder] * (holder != "none"))
+            expect("the holder", [it.split()[0] for it in browser.texts("tbody th") if "holds" in it],
+                   [holder] * (holder != "none"))
         expect("what the browser says", browser.complaints(), [])
 
 
@@ -324,9 +362,12 @@ def check_faults(tools, program, folder):
     """What cannot be shown ends the script with what the program, or the script, says of it."""
     bad = folder / "bad"
     bad.write_text("1\nx\n")
-    for words, status, says in (((bad, "--capacity", "2", *PAIR), 1, "BadNumber line 2"), ((folder / "none", "--capacity", "2", *PAIR), 1, "No such file"),
-                                ((TRACE, "--capacity", "2", "--first", "lru"), 2, "--second"), (("--capacity", "2"), 2, "name a trace"),
-                                ((TRACE, "--capacity", "0", *PAIR), 2, "--capacity"), ((TRACE, "--capacity", "2", "--first", "none", "--second", "lru"), 1, "none"),
+    for words, status, says in (((bad, "--capacity", "2", *PAIR), 1, "BadNumber line 2"),
+                                ((folder / "none", "--capacity", "2", *PAIR), 1, "No such file"),
+                                ((TRACE, "--capacity", "2", "--first", "lru"), 2, "--second"),
+                                (("--capacity", "2"), 2, "name a trace"),
+                                ((TRACE, "--capacity", "0", *PAIR), 2, "--capacity"),
+                                ((TRACE, "--capacity", "2", "--first", "none", "--second", "lru"), 1, "none"),
                                 (("--journal", bad, "--capacity", "8"), 1, "Header")):
         out, error, found = call(tools / "watch", "--program", program, *words)
         expect(f"{words}: {error}", (found, out, says in error, "Traceback" in error), (status, "", True, False))
@@ -355,7 +396,8 @@ def check_looks(browser, tools, program, pictures):
         expect("fields without a name", browser.run(NAMELESS), [])
         browser.run("document.querySelector('button').focus()")
         browser.press("\t")
-        outline = browser.run("const it = getComputedStyle(document.activeElement); return [it.outlineStyle, parseFloat(it.outlineWidth) >= 2]")
+        outline = browser.run("const it = getComputedStyle(document.activeElement); "
+                              "return [it.outlineStyle, parseFloat(it.outlineWidth) >= 2]")
         expect("the focus", outline, ["solid", True])
 
 
@@ -364,7 +406,8 @@ def check_renewed(program, monkeypatch):
     trace, *words = SMALL
     monkeypatch.setattr(sessions, "RENEWED_AFTER", 1000)
     with trace.open("rb") as file:
-        session, answers, processes = sessions.Session([str(it) for it in (program, "debug", "--trace", trace, *words)], file), set(), set()
+        session, answers, processes = sessions.Session([str(it) for it in (program, "debug", "--trace", trace, *words)],
+                                                       file), set(), set()
         for _ in range(200):
             with session.turn() as ask:
                 answers.add(str(ask("goto 1525", "queues", "last")))
@@ -374,28 +417,44 @@ def check_renewed(program, monkeypatch):
 
 
 MISTAKES = {
-    "a token that nobody looks at": Mistake(check_refused, "lib/pages.py", "if not secrets.compare_digest(", "if False and secrets.compare_digest("),
-    "any host": Mistake(check_refused, "lib/pages.py", 'if self.headers.get_all("Host") != [self.server.name]:', "if False:"),
+    "a token that nobody looks at": Mistake(check_refused, "lib/pages.py", "if not secrets.compare_digest(",
+                                            "if False and secrets.compare_digest("),
+    "any host": Mistake(check_refused, "lib/pages.py", 'if self.headers.get_all("Host") != [self.server.name]:',
+                        "if False:"),
     "another page that asks": Mistake(check_refused, "lib/pages.py", "!= [self.server.origin]:", "is None:"),
     "a file beside the page": Mistake(check_refused, "lib/pages.py", 'if asked.path != "/":', "if False:"),
     "a question of any length": Mistake(check_refused, "lib/pages.py", "if int(length) > MAX_QUESTION:", "if False:"),
-    "a line for the program in a block": Mistake(check_refused, "watch", " and text.isascii() and text.isdigit() and len(text) < 21 and int(text) < 1 << 64", ""),
-    "a name as HTML": Mistake(check_hostile_name, "lib/watch.html", 'find("title").textContent = title', 'find("title").innerHTML = title'),
-    "marks of the other side": Mistake(check_parting, "lib/views.py", "held[number], held[1 - number]", "held[1 - number], held[number]"),
-    "moves of two accesses": Mistake(check_parting, "lib/views.py", "self.queues_at(ask, at - 1) if at", "self.queues_at(ask, max(0, at - 2)) if at"),
-    "a queue from its other end": Mistake(check_parting, "lib/views.py", "[cell(*it) for it in keys]}", "[cell(*it) for it in keys[::-1]]}"),
-    "a position that is not the parting": Mistake(check_parting, "lib/sessions.py", "stop < at else None", "stop <= at else None"),
-    "a parting that is not the last one": Mistake(check_previous, "lib/sessions.py", "found = between(middle)", "found = None"),
-    "a click that is lost": Mistake(check_quick_clicks, "lib/watch.html", "while (finds.length || shown === null || shown.at !== wanted) {",
+    "a line for the program in a block": Mistake(check_refused, "watch",
+                                                 " and text.isascii() and text.isdigit() and len(text) < 21 "
+                                                  "and int(text) < 1 << 64", ""),
+    "a name as HTML": Mistake(check_hostile_name, "lib/watch.html", 'find("title").textContent = title',
+                              'find("title").innerHTML = title'),
+    "marks of the other side": Mistake(check_parting, "lib/views.py", "held[number], held[1 - number]",
+                                       "held[1 - number], held[number]"),
+    "moves of two accesses": Mistake(check_parting, "lib/views.py", "self.queues_at(ask, at - 1) if at",
+                                     "self.queues_at(ask, max(0, at - 2)) if at"),
+    "a queue from its other end": Mistake(check_parting, "lib/views.py", "[cell(*it) for it in keys]}",
+                                          "[cell(*it) for it in keys[::-1]]}"),
+    "a position that is not the parting": Mistake(check_parting, "lib/sessions.py", "stop < at else None",
+                                                  "stop <= at else None"),
+    "a parting that is not the last one": Mistake(check_previous, "lib/sessions.py", "found = between(middle)",
+                                                  "found = None"),
+    "a click that is lost": Mistake(check_quick_clicks, "lib/watch.html",
+                                    "while (finds.length || shown === null || shown.at !== wanted) {",
                                     "if (finds.length || shown === null || shown.at !== wanted) {"),
     "a link that names no position": Mistake(check_link, "lib/watch.html", "  go(named());\n  ask", "  go(0);\n  ask"),
     "a life without its ends": Mistake(check_life, "lib/views.py", "{*left, *own[:LIVES]}", "{*own[:LIVES]}"),
     "both ends alike": Mistake(check_large, "lib/views.py", "for it in keys[-ENDS:]]", "for it in keys[:ENDS]]"),
-    "curves of another interval": Mistake(check_ground, "lib/views.py", "both + first, both + second", "both + second, both + first"),
+    "curves of another interval": Mistake(check_ground, "lib/views.py", "both + first, both + second",
+                                          "both + second, both + first"),
     "an estimate of another block": Mistake(check_estimates, "lib/views.py", '"left": other', '"left": block'),
-    "a window without its target": Mistake(check_estimates, "lib/watch.html", "side.window.target ?", "side.window.goal ?"),
-    "a step of another place": Mistake(check_journal, "lib/views.py", 'ask(f"goto {at}", "show")', 'ask(f"goto {max(0, at - 1)}", "show")'),
-    "a text that is pale": Mistake(check_looks, "lib/watch.html", ".quiet { color: #595959 }", ".quiet { color: #999 }"),
+    "a window without its target": Mistake(check_estimates, "lib/watch.html", "side.window.target ?",
+                                           "side.window.goal ?"),
+    "a step of another place": Mistake(check_journal, "lib/views.py", 'ask(f"goto {at}", "show")',
+                                       'ask(f"goto {max(0, at - 1)}", "show")'),
+    "a text that is pale": Mistake(check_looks, "lib/watch.html", ".quiet { color: #595959 }",
+                                   ".quiet { color: #999 }"),
     "a field without a name": Mistake(check_looks, "lib/watch.html", ' aria-label="Position in the trace"', ""),
-    "a page that is too wide": Mistake(check_looks, "lib/watch.html", "  .two { grid-template-columns: 1fr }", "  .two { grid-template-columns: 500px 1fr }"),
+    "a page that is too wide": Mistake(check_looks, "lib/watch.html", "  .two { grid-template-columns: 1fr }",
+                                       "  .two { grid-template-columns: 500px 1fr }"),
 }

@@ -1,4 +1,5 @@
-"""The survey of a trace as one file of HTML, which shows its tables and pictures wherever it is opened, and fetches nothing."""
+"""The survey of a trace as one file of HTML, which shows its tables and pictures wherever it is opened, and fetches
+nothing."""
 import hashlib
 import json
 import math
@@ -24,7 +25,8 @@ DOUBTFUL = 5
 # The marks of gnuplot's numbers, around 0: open ones by odd numbers of a pair, and of what has no inside a line.
 RING, SQUARE, UP = "M-4 0a4 4 0 1 0 8 0a4 4 0 1 0-8 0Z", "M-4-4H4V4H-4Z", "M0-5L5 4H-5Z"
 DOWN, DIAMOND, PENTAGON = "M0 5L5-4H-5Z", "M0-5.5L5.5 0L0 5.5L-5.5 0Z", "M0-5L5-1.2L3 4.5H-3L-5-1.2Z"
-SHAPES = {1: "M-5 0H5M0-5V5", 2: "M-4-4L4 4M4-4L-4 4", 3: "M-5 0H5M0-5V5M-4-4L4 4M4-4L-4 4", 4: SQUARE, 5: SQUARE, 6: RING, 7: RING,
+SHAPES = {1: "M-5 0H5M0-5V5", 2: "M-4-4L4 4M4-4L-4 4", 3: "M-5 0H5M0-5V5M-4-4L4 4M4-4L-4 4", 4: SQUARE, 5: SQUARE,
+          6: RING, 7: RING,
           8: UP, 9: UP, 10: DOWN, 11: DOWN, 12: DIAMOND, 13: DIAMOND, 14: PENTAGON, 15: PENTAGON}
 
 
@@ -33,9 +35,11 @@ def page_of(args, survey, drawn, version):
     curves = chart_of_curves(survey, drawn)
     times = None if args.sampled else chart_over_time(survey, args)
     parts = [facts(args, survey, version), *legend_of(survey.policies)]
-    parts += section("Hit ratio over capacity", "By steps: between two capacities a curve stays at the ratio of the smaller one.", curves)
+    parts += section("Hit ratio over capacity",
+                     "By steps: between two capacities a curve stays at the ratio of the smaller one.", curves)
     if times:
-        parts += section(f"Hit ratio over time, at {times['capacity']} entries", f"Of intervals of {times['every']:,} accesses; in one "
+        parts += section(f"Hit ratio over time, at {times['capacity']} entries",
+                         f"Of intervals of {times['every']:,} accesses; in one "
                          "interval clairvoyant is no upper bound.", times)
     parts += doubts(survey)
     also = also_measured([survey]).get(survey.trace.name, "")
@@ -54,12 +58,16 @@ def facts(args, survey, version):
     for piece in iter(lambda text=trace.file.lines(): text.read(1 << 20), b""):
         digest.update(piece)
         size += len(piece)
-    told = {"Trace": trace.name, "Its text": f"{size:,} bytes, format {args.format}", "SHA-256 of it": digest.hexdigest(), "Accesses": f"{survey.accesses:,}",
-            "Footprint": f"{trace.shown(survey.footprint):,} blocks", "Highest hit ratio possible": f"{survey.highest} %",
+    told = {"Trace": trace.name, "Its text": f"{size:,} bytes, format {args.format}",
+            "SHA-256 of it": digest.hexdigest(), "Accesses": f"{survey.accesses:,}",
+            "Footprint": f"{trace.shown(survey.footprint):,} blocks",
+            "Highest hit ratio possible": f"{survey.highest} %",
             "Sample": args.sampled and f"one block in {args.sampled}: all numbers are estimates of the whole trace",
-            "Left out": args.after and f"the first {args.after:,} accesses", "Options": f"--main {args.main or 99} --spread {args.spread}",
+            "Left out": args.after and f"the first {args.after:,} accesses",
+            "Options": f"--main {args.main or 99} --spread {args.spread}",
             "Program": version}
-    return "<dl>" + "".join(f"<dt>{name}</dt><dd>{escape(str(value))}</dd>" for name, value in told.items() if value) + "</dl>"
+    return "<dl>" + "".join(f"<dt>{name}</dt><dd>{escape(str(value))}</dd>" for name, value in told.items()
+                            if value) + "</dl>"
 
 
 # Pictures.
@@ -76,29 +84,38 @@ def stroke(style):
 
 def mark(style, x, y):
     inside = style.colour if style.marker in (5, 7, 9, 11, 13, 15) else "#fff" if style.marker > 3 else "none"
-    return f'<path d="{SHAPES[style.marker]}" transform="translate({x} {y})" stroke="{style.colour}" stroke-width="1.4" fill="{inside}"/>'
+    return (f'<path d="{SHAPES[style.marker]}" transform="translate({x} {y})" stroke="{style.colour}" '
+            f'stroke-width="1.4" fill="{inside}"/>')
+
+
+def text_at(x, y, anchor, text):
+    return f'<text x="{x}" y="{y}" text-anchor="{anchor}">{text}</text>'
 
 
 def legend_of(policies):
     yield "<h2>Policies</h2><ul class=\"legend\">"
     for it in policies:
         style = style_of(it, policies)
-        yield (f'<li data-policy="{escape(it)}"><svg width="52" height="14" aria-hidden="true"><path d="M0 7H52" stroke-width="2" {stroke(style)}/>'
-               f"{mark(style, 26, 7)}</svg> {escape(it)}</li>")
+        line = f'<path d="M0 7H52" stroke-width="2" {stroke(style)}/>{mark(style, 26, 7)}'
+        yield (f'<li data-policy="{escape(it)}"><svg width="52" height="14" aria-hidden="true">{line}</svg> '
+               f"{escape(it)}</li>")
     yield "</ul>"
 
 
 def section(title, note, chart):
-    return [f"<h2>{escape(title)}</h2>", f'<p class="quiet">{escape(note)}</p>', f'<div class="scroll">{chart["picture"]}</div>',
+    return [f"<h2>{escape(title)}</h2>", f'<p class="quiet">{escape(note)}</p>',
+            f'<div class="scroll">{chart["picture"]}</div>',
             f'<p class="value scripted" id="{chart["id"]}-value"></p>']
 
 
 def chart_of_curves(survey, drawn):
     rows = {(it.policy, it.capacity): it for it in drawn}
     places = capacities_in(rows)
-    values = {policy: [100 * rows[policy, it].hits / rows[policy, it].accesses for it in places] for policy in survey.policies}
+    values = {policy: [100 * rows[policy, it].hits / rows[policy, it].accesses for it in places]
+              for policy in survey.policies}
     shown = [survey.trace.shown(it) for it in places]
-    return chart("capacity", shown, [(it, it) for it in shown], values, "capacity in entries", [f"{it:,} entries" for it in shown], len(shown) > 2)
+    return chart("capacity", shown, [(it, it) for it in shown], values, "capacity in entries",
+                 [f"{it:,} entries" for it in shown], len(shown) > 2)
 
 
 def chart_over_time(survey, args):
@@ -108,7 +125,8 @@ def chart_over_time(survey, args):
     if not capacities or not policies:
         return None
     capacity, every = capacities[(len(capacities) - 1) // 2], every_of(survey.accesses)
-    words = ["intervals", "--capacity", capacity, "--every", every, "--format", options.format, "--spread", options.spread, "--main", options.main]
+    words = ["intervals", "--capacity", capacity, "--every", every, "--format", options.format, "--spread",
+             options.spread, "--main", options.main]
     ended = trace.program.output([*words, *["--long"] * options.is_long, *policies], stdin=trace.file.begun())
     if ended.returncode:
         raise Unreadable(f"{trace.name}: the program refused its intervals")
@@ -120,7 +138,8 @@ def chart_over_time(survey, args):
             spans.append((int(first) - 1, int(last)))
     spans = sorted(set(spans))
     labels = [f"accesses {first + 1:,} to {last:,}" for first, last in spans]
-    return {**chart("time", [last for _, last in spans], spans, values, "accesses", labels, False), "capacity": capacity, "every": every}
+    return {**chart("time", [last for _, last in spans], spans, values, "accesses", labels, False),
+            "capacity": capacity, "every": every}
 
 
 def chart(name, ends, spans, values, axis, labels, is_log):
@@ -138,22 +157,28 @@ def chart(name, ends, spans, values, axis, labels, is_log):
     def up(it):
         return round(top + (above_all - it) / (above_all - bottom) * (HEIGHT - top - under), 1)
 
-    parts = [f'<svg class="picture" id="{name}" viewBox="0 0 {WIDTH} {HEIGHT}" role="img" aria-label="Hit ratio in percent over {axis}, '
-             'a curve for each policy; the tables have the values">']
+    parts = [f'<svg class="picture" id="{name}" viewBox="0 0 {WIDTH} {HEIGHT}" role="img" aria-label="Hit ratio in '
+             f'percent over {axis}, a curve for each policy; the tables have the values">']
     for it in marks_of(bottom, above_all, 0.07):
-        parts.append(f'<path d="M{left} {up(it)}H{WIDTH - right}" stroke="#ddd"/><text x="{left - 8}" y="{up(it) + 4}" text-anchor="end">{it:g}</text>')
+        parts += [f'<path d="M{left} {up(it)}H{WIDTH - right}" stroke="#ddd"/>',
+                  text_at(left - 8, up(it) + 4, "end", f"{it:g}")]
     for it in marks_of(low, high, 0.02 + 0.011 * len(f"{high:,}"), is_log):
-        parts.append(f'<path d="M{across(it)} {top}V{HEIGHT - under}" stroke="#eee"/><text x="{across(it)}" y="{HEIGHT - under + 18}" text-anchor="middle">{it:,.10g}</text>')
-    parts.append(f'<text x="{(left + WIDTH - right) / 2}" y="{HEIGHT - 4}" text-anchor="middle">{axis}{", logarithmic" * is_log}; hit ratio in percent</text>')
+        parts += [f'<path d="M{across(it)} {top}V{HEIGHT - under}" stroke="#eee"/>',
+                  text_at(across(it), HEIGHT - under + 18, "middle", f"{it:,.10g}")]
+    parts.append(text_at((left + WIDTH - right) / 2, HEIGHT - 4, "middle",
+                         f"{axis}{', logarithmic' * is_log}; hit ratio in percent"))
     every = max(1, math.ceil(len(ends) / MARKS))
     for number, (policy, list_of) in enumerate(values.items()):
         style, first = style_of(policy, values), number * every // len(values)
         if spans[0][0] == spans[0][1]:
-            steps = f"M{across(ends[0])} {up(list_of[0])}" + "".join(f"H{across(end)}V{up(it)}" for end, it in zip(ends[1:], list_of[1:]))
+            steps = f"M{across(ends[0])} {up(list_of[0])}" + "".join(f"H{across(end)}V{up(it)}"
+                                                                     for end, it in zip(ends[1:], list_of[1:]))
         else:
-            steps = "M" + "L".join(f"{across(begin)} {up(it)}H{across(end)}" for (begin, end), it in zip(spans, list_of))
+            steps = "M" + "L".join(f"{across(begin)} {up(it)}H{across(end)}" for (begin, end), it in zip(spans,
+                                                                                                         list_of))
         marks = "".join(mark(style, across(end), up(it)) for end, it in [*zip(ends, list_of)][first::every])
-        parts.append(f'<g data-policy="{escape(policy)}"><path d="{steps}" stroke-width="2" {stroke(style)}/>{marks}</g>')
+        line = f'<path d="{steps}" stroke-width="2" {stroke(style)}/>'
+        parts.append(f'<g data-policy="{escape(policy)}">{line}{marks}</g>')
     parts.append(f'<line class="pointer" y1="{top}" y2="{HEIGHT - under}" stroke="#555" style="display:none"/></svg>')
     return {"id": name, "picture": "".join(parts), "places": [*map(across, ends)], "labels": labels,
             "values": {policy: [round(it, 4) for it in list_of] for policy, list_of in values.items()}}
@@ -166,18 +191,22 @@ def table(name, survey, args, also):
     own = {} if name == "traces" else {"trace"}
     kept = [at for at, it in enumerate(head) if it not in own]
     title = TITLES.get(name, "the trace")
-    notes = {**NOTES, **(NOTES_OF_SAMPLE if args.sampled else {})}.get(name, "") + (f"\n({also})" if also and "best" in head else "")
-    if not rows:
-        return f"<h2>{escape(title.capitalize())}</h2><p>None.</p><p class=\"note\">{escape(notes)}</p>"
+    title = title[0].upper() + title[1:]
+    notes = {**NOTES, **(NOTES_OF_SAMPLE if args.sampled else {})}.get(name, "")
+    notes += f"\n({also})" if also and "best" in head else ""
 
     def cell(kind, at, value):
         text = " or ".join(value) or "-" if isinstance(value, tuple) else str(value)
-        names = [it for it in ("name" if head[at] in LEFT else "", "best" if head[at] in FOLDED else "") if it]
-        return f"<{kind}{' class=' + chr(34) + ' '.join(names) + chr(34) if names else ''}>{escape(text)}</{kind}>"
+        names = " ".join(it for it in ("name" * (head[at] in LEFT), "best" * (head[at] in FOLDED)) if it)
+        return f'<{kind} class="{names}">{escape(text)}</{kind}>' if names else f"<{kind}>{escape(text)}</{kind}>"
 
-    lines = ["".join(cell(kind, at, row[at]) for at in kept) for kind, row in (("th", head), *(("td", row) for row in rows))]
-    return (f"<h2>{escape(title[0].upper() + title[1:])}</h2><div class=\"scroll\" tabindex=\"0\" role=\"region\" aria-label=\"{escape(title)}\"><table><thead><tr>{lines[0]}</tr></thead><tbody>"
-            + "".join(f"<tr>{it}</tr>" for it in lines[1:]) + f"</tbody></table></div><p class=\"note\">{escape(notes)}</p>")
+    def line(kind, row):
+        return "<tr>" + "".join(cell(kind, at, row[at]) for at in kept) + "</tr>"
+
+    body = (f"<table><thead>{line('th', head)}</thead><tbody>" + "".join(line("td", row) for row in rows)
+            + "</tbody></table>") if rows else "<p>None.</p>"
+    return (f'<h2>{escape(title)}</h2><div class="scroll" tabindex="0" role="region" aria-label="{escape(title)}">'
+            f'{body}</div><p class="note">{escape(notes)}</p>')
 
 
 def reasons(survey, capacity, choices):
@@ -185,7 +214,8 @@ def reasons(survey, capacity, choices):
     if len(choices) > 1:
         yield f"{len(choices)} are as good there: " + ", ".join(it.name for it in choices)
     if choices and choices[0].worst > DOUBTFUL:
-        yield f"{choices[0].name} has up to {choices[0].worst:.1f} percent more misses than the best policy at a capacity beside it"
+        yield (f"{choices[0].name} has up to {choices[0].worst:.1f} percent more misses than the best policy at a "
+               "capacity beside it")
     for policy, place in survey.spans:
         if place == capacity:
             yield f"{policy} changes within a percent of it: {rate_of(survey, policy, place)}"
@@ -204,7 +234,8 @@ def doubts(survey):
     yield '<div class="scroll"><table><thead><tr><th>capacity</th><th class="name">why</th></tr></thead><tbody>'
     for capacity, texts in found:
         if texts:
-            yield f'<tr><td>{survey.trace.shown(capacity)}</td><td class="name why">{"<br>".join(map(escape, texts))}</td></tr>'
+            why = "<br>".join(map(escape, texts))
+            yield f'<tr><td>{survey.trace.shown(capacity)}</td><td class="name why">{why}</td></tr>'
     yield "</tbody></table></div>"
 
 
@@ -212,7 +243,8 @@ def further(survey):
     """Commands that look further, as they are typed."""
     trace, form = survey.trace, survey.trace.options.format
     name, how = shlex.quote(trace.name) if trace.name != "-" else "TRACE", "" if form == "lirs" else f" --format {form}"
-    chosen = {it: [*dict.fromkeys(choice.key.replace(" --main ", ":main=") for choice in choices)] for it, choices in sorted(survey.choices.items()) if choices}
+    chosen = {it: [*dict.fromkeys(choice.key.replace(" --main ", ":main=") for choice in choices)]
+              for it, choices in sorted(survey.choices.items()) if choices}
     lines = []
     if chosen:
         capacity = [*chosen][(len(chosen) - 1) // 2]
@@ -221,12 +253,16 @@ def further(survey):
         lines += [("What each of two policies holds, access by access, in the browser",
                    f"tools/watch {name}{how} --capacity {capacity} --first {best} --second {other}"),
                   ("Which accesses each of both hits alone, over time",
-                   f"./cachesim compare{how} --capacity {capacity} --first {best} --second {other} --every {every_of(survey.accesses)} < {name} | tools/plot > alone.svg")]
-    lines.append(("Whether the choice by the first half of the trace would have held in the second", f"tools/survey{how} --halves {name}"))
+                   f"./cachesim compare{how} --capacity {capacity} --first {best} --second {other} --every "
+                   f"{every_of(survey.accesses)} < {name} | tools/plot > alone.svg")]
+    lines.append(("Whether the choice by the first half of the trace would have held in the second",
+                  f"tools/survey{how} --halves {name}"))
     for policy, capacity in [*dict.fromkeys((policy, capacity) for policy, capacity in survey.spans)][:3]:
         low, high, by = capacity * 9 // 10, capacity * 11 // 10, max(1, capacity // 50)
-        lines.append((f"How {policy} changes around {capacity} entries", f"./cachesim sweep{how} --policy {policy} $(seq {max(1, low)} {by} {high}) < {name}"))
-    lines.append(("The smallest capacity of each policy with a hit ratio", f"tools/survey{how} --reach {max(1, math.floor(float(survey.highest) * 0.9))} {name}"))
+        lines.append((f"How {policy} changes around {capacity} entries",
+                      f"./cachesim sweep{how} --policy {policy} $(seq {max(1, low)} {by} {high}) < {name}"))
+    lines.append(("The smallest capacity of each policy with a hit ratio",
+                  f"tools/survey{how} --reach {max(1, math.floor(float(survey.highest) * 0.9))} {name}"))
     yield "<h2>To look further</h2>"
     for about, line in lines:
         yield f"<p>{escape(about)}:</p><pre>{escape(as_called(line))}</pre>"

@@ -1,14 +1,16 @@
-"""A page for one user of this machine: a server on 127.0.0.1 that serves one page and answers its questions, to nobody who
-does not have the token of its address."""
+"""A page for one user of this machine: a server on 127.0.0.1 that serves one page and answers its questions, to nobody
+who does not have the token of its address."""
 import json
 import secrets
 from http.server import BaseHTTPRequestHandler, ThreadingHTTPServer
 from urllib.parse import parse_qs, urlsplit
 
 HOST = "127.0.0.1"
-# The longest question, and the longest first line of a request, in bytes; how long a client may take to say it, in seconds.
+# The longest question, and the longest first line of a request, in bytes; how long a client may take to say it, in
+# seconds.
 MAX_QUESTION, MAX_LINE, PATIENCE = 1000, 1000, 30
-HEADERS = {"Cache-Control": "no-store", "Cross-Origin-Opener-Policy": "same-origin", "Cross-Origin-Resource-Policy": "same-origin",
+HEADERS = {"Cache-Control": "no-store", "Cross-Origin-Opener-Policy": "same-origin",
+           "Cross-Origin-Resource-Policy": "same-origin",
            "Referrer-Policy": "no-referrer", "X-Content-Type-Options": "nosniff", "X-Frame-Options": "DENY"}
 # What a page may fetch: its own answers, and what stands in it under the number of its serving.
 POLICY = ("default-src 'none'; connect-src 'self'; img-src data:; script-src 'nonce-{0}'; style-src 'nonce-{0}'; "
@@ -20,8 +22,8 @@ class Refused(Exception):
 
 
 class PageServer(ThreadingHTTPServer):
-    """Serves a page whose text has NONCE where a script or a style begins. A question is an object of JSON, `answer` gives the
-    value for it, and ValueError where it is none."""
+    """Serves a page whose text has NONCE where a script or a style begins. A question is an object of JSON, `answer`
+    gives the value for it, and ValueError where it is none."""
 
     daemon_threads = True
 
@@ -76,7 +78,8 @@ class Exchange(BaseHTTPRequestHandler):
 
     def page(self):
         nonce = secrets.token_urlsafe(16)
-        return "text/html; charset=utf-8", self.server.page.replace("NONCE", nonce).encode(), {"Content-Security-Policy": POLICY.format(nonce)}
+        text = self.server.page.replace("NONCE", nonce)
+        return "text/html; charset=utf-8", text.encode(), {"Content-Security-Policy": POLICY.format(nonce)}
 
     def answer(self):
         length = self.headers.get("Content-Length", "")

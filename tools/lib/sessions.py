@@ -5,8 +5,8 @@ import threading
 
 # A word that is no command, and its answer, which ends the answer to a command.
 NO_COMMAND, END = ".", "fault: Command"
-# A session takes 2^20 bytes of commands: after half of them another process takes its place. So many bytes are written at
-# once, which a pipe holds.
+# A session takes 2^20 bytes of commands: after half of them another process takes its place. So many bytes are written
+# at once, which a pipe holds.
 RENEWED_AFTER, AT_ONCE = 1 << 19, 1 << 14
 
 
@@ -15,8 +15,8 @@ class Ended(Exception):
 
 
 class Session:
-    """One process of the program, which answers one caller at a time. What a caller asks begins with a position, so that it
-    does not matter which process answers, nor what was asked before."""
+    """One process of the program, which answers one caller at a time. What a caller asks begins with a position, so
+    that it does not matter which process answers, nor what was asked before."""
 
     def __init__(self, words, file):
         self.words, self.file, self.lock, self.process, self.written = words, file, threading.Lock(), None, 0
@@ -32,7 +32,8 @@ class Session:
     def begin(self):
         self.end()
         self.process, self.written = subprocess.Popen(self.words, stdin=subprocess.PIPE, stdout=subprocess.PIPE,
-                                                      pass_fds=[self.file.fileno()], encoding="ascii", errors="replace"), 0
+                                                      pass_fds=[self.file.fileno()], encoding="ascii",
+                                                      errors="replace"), 0
 
     def end(self):
         if self.process:
@@ -84,7 +85,8 @@ def next_stop(ask, at, breakpoint):
 
 
 def previous_stop(ask, at, breakpoint):
-    """The last position before this one at which a breakpoint holds: from further and further back, and then by halves."""
+    """The last position before this one at which a breakpoint holds: from further and further back, and then by
+    halves."""
     def between(begin):
         stop = next_stop(ask, begin, breakpoint)
         return stop if stop is not None and stop < at else None

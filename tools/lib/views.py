@@ -1,5 +1,6 @@
-"""What tools/watch shows: the program's answers at a position, as values for its page. Which keys are where, what an access
-did, and every count are the program's; here they are compared and made fewer, where they are too many to draw."""
+"""What tools/watch shows: the program's answers at a position, as values for its page. Which keys are where, what an
+access did, and every count are the program's; here they are compared and made fewer, where they are too many to
+draw."""
 import re
 from array import array
 from bisect import bisect_left, bisect_right
@@ -9,8 +10,8 @@ from .pictures import shade_of
 from .policies import OTHERS, POLICIES
 from .sessions import next_stop, previous_stop, stops
 
-# How many accesses are shown before and behind the position, how many keys of a queue one by one, and of a longer one how many
-# at each end and in how many parts the rest; how many moves; how many lines of a block's life.
+# How many accesses are shown before and behind the position, how many keys of a queue one by one, and of a longer one
+# how many at each end and in how many parts the rest; how many moves; how many lines of a block's life.
 NEAR, CELLS, ENDS, PARTS, MOVES, LIVES = 12, 400, 20, 120, 12, 500
 # In how many intervals the trace is cut at most, for the ground of the slider.
 INTERVALS = 200
@@ -20,7 +21,8 @@ KEPT = 4
 
 def every_of(accesses):
     """The length of an interval: 1, 2 or 5 at a power of ten."""
-    return next(it for power in range(9) for it in (10 ** power, 2 * 10 ** power, 5 * 10 ** power) if it * INTERVALS >= accesses)
+    return next(it for power in range(9) for it in (10 ** power, 2 * 10 ** power, 5 * 10 ** power)
+                if it * INTERVALS >= accesses)
 
 
 def styles_of(words):
@@ -66,14 +68,16 @@ class TraceView:
             answers = ask(*(it for at in places for it in (f"goto {at}", "last")))[1::2]
         lines = [[at, key, *(outcome_of(it)[0:2] for it in outcomes)] for at, (key, *outcomes) in
                  ((int(answer[0].split()[1]), (answer[0].split()[3], *answer[1:])) for answer in answers)]
-        return {"block": block, "lines": lines, "accesses": len(own), "is_cut": is_cut or len({*left, *own}) > len(places)}
+        return {"block": block, "lines": lines, "accesses": len(own),
+                "is_cut": is_cut or len({*left, *own}) > len(places)}
 
     def queues_at(self, ask, at):
         """The queues of both policies, as lists of a name and what it holds, a key and its number."""
         if at not in self.queues:
             _, lines = ask(f"goto {at}", "queues")
             self.queues = dict([*self.queues.items()][1 - KEPT:])
-            self.queues[at] = {side: [(name, [*map(split, keys)]) for letter, _, name, *keys in map(str.split, lines) if letter == side]
+            self.queues[at] = {side: [(name, [*map(split, keys)]) for letter, _, name, *keys in map(str.split, lines)
+                                      if letter == side]
                                for side in "ab"}
         return self.queues[at]
 
@@ -85,7 +89,8 @@ class TraceView:
             block = last[0].split()[3] if at else None
             held = [set(line.split()[2:]) for line in show[1::2]]
             sides = [self.side(ask, number, block, held, before, queues, last, show, window) for number in (0, 1)]
-        return {"at": at, "block": block, "from": max(0, at - NEAR), "near": [*map(str, self.keys[max(0, at - NEAR):at + NEAR])],
+        return {"at": at, "block": block, "from": max(0, at - NEAR),
+                "near": [*map(str, self.keys[max(0, at - NEAR):at + NEAR])],
                 "sides": sides}
 
     def side(self, ask, number, block, held, before, queues, last, show, window):
@@ -98,11 +103,12 @@ class TraceView:
                 "window": {} if words[1] == "none" else dict(zip(words[::2], words[1::2])),
                 "moves": moves[:MOVES], "more": max(0, len(moves) - MOVES),
                 "estimates": self.estimates(ask, number, block, other, before and before[letter]),
-                "queues": [drawn(name, keys, held[number], held[1 - number], new, block) for name, keys in queues[letter]]}
+                "queues": [drawn(name, keys, held[number], held[1 - number], new, block)
+                           for name, keys in queues[letter]]}
 
     def estimates(self, ask, number, block, other, before):
-        """What the filter takes as the frequency of the block that was accessed, of the one that left, and of that which was
-        the oldest of probation, or of the only queue, before."""
+        """What the filter takes as the frequency of the block that was accessed, of the one that left, and of that
+        which was the oldest of probation, or of the only queue, before."""
         oldest = next((keys[0][0] for name, keys in before or [] if name in ("probation", "queue") and keys), None)
         named = {"accessed": block, "left": other, "was oldest": oldest}
         answers = ask(*(f"estimate {key}" for key in named.values() if key))
@@ -152,12 +158,14 @@ def drawn(name, keys, held, held_there, new, block):
 class JournalView:
     """A concurrent run, by `replay` and the text of its journal."""
 
-    FINDS = {"dropped read": " = (full|lost)$", "turn at the maintenance": " begin = began$", "item that leaves": " = (evicted|rejected) ",
+    FINDS = {"dropped read": " = (full|lost)$", "turn at the maintenance": " begin = began$",
+             "item that leaves": " = (evicted|rejected) ",
              "refused write": " = writesfull$", "worker turned away": " = busy$"}
 
     def __init__(self, session, steps, facts):
         self.session, self.steps = session, steps
-        self.found = {name: [at for at, step in enumerate(steps, 1) if re.search(rf"\d+ (?!afterread|afterwrite).*{pattern}", step)]
+        self.found = {name: [at for at, step in enumerate(steps, 1)
+                             if re.search(rf"\d+ (?!afterread|afterwrite).*{pattern}", step)]
                       for name, pattern in self.FINDS.items()}
         self.by_worker = defaultdict(lambda: array("Q"))
         for at, step in enumerate(steps, 1):
@@ -173,7 +181,8 @@ class JournalView:
         return {"found": places[place] if 0 <= place < len(places) else None}
 
     def ground(self, _):
-        """In each interval the looks that found their key, and the steps of the maintenance, by the text of the journal."""
+        """In each interval the looks that found their key, and the steps of the maintenance, by the text of the
+        journal."""
         every, rows = every_of(len(self.steps)), []
         for begin in range(0, len(self.steps), every):
             steps = self.steps[begin:begin + every]
@@ -193,9 +202,11 @@ class JournalView:
         at = self.at(asked)
         with self.session.turn() as ask:
             _, show = ask(f"goto {at}", "show")
-        workers = [[number, self.step(places, bisect_right(places, at) - 1), self.step(places, bisect_right(places, at))]
+        workers = [[number, self.step(places, bisect_right(places, at) - 1),
+                    self.step(places, bisect_right(places, at))]
                    for number, places in sorted(self.by_worker.items())]
-        return {"at": at, "from": max(0, at - NEAR), "near": self.steps[max(0, at - NEAR):at + NEAR], "workers": workers,
+        return {"at": at, "from": max(0, at - NEAR), "near": self.steps[max(0, at - NEAR):at + NEAR],
+                "workers": workers,
                 "show": [self.cut(line.split(" ")) for line in show]}
 
     def step(self, places, index):
@@ -204,5 +215,7 @@ class JournalView:
     @staticmethod
     def cut(words):
         """A line of `show`; of a long one both its ends, and how many words are left out."""
-        return words if len(words) <= CELLS else [words[0], *words[1:ENDS + 1], None, str(len(words) - 1), *words[-ENDS:]]
+        if len(words) <= CELLS:
+            return words
+        return [*words[:ENDS + 1], None, str(len(words) - 1), *words[-ENDS:]]
 
