@@ -1,7 +1,5 @@
 """What pytest hands to the tests of the pages, by the names of their parameters: `browser`, Debian's Chromium without a
 window; `tools`, the scripts; `program`, the built program; `folder`, one of the test's own."""
-import os
-import shutil
 import sys
 import tempfile
 from pathlib import Path

@@ -93,7 +93,7 @@ def check_without_scripts(browser, tools, program, folder):
 
 def check_hostile_name(browser, tools, program, folder):
     """A name with marks of HTML and of the page's own template shows as text."""
-    trace = folder / "<img src=x onerror=\"document.title='made'\">@data@</title><script>document.title='made'.lirs"
+    trace = folder / "<img src=x onerror=\"document.title='made'\">@data@<script>document.title='made'.lirs"
     trace.write_text("1\n2\n3\n1\n2\n" * 9)
     page, _ = report(tools, program, folder, "--capacity", "2", trace=trace)
     browser.open(page.as_uri())

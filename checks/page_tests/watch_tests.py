@@ -442,7 +442,7 @@ MISTAKES = {
     "a click that is lost": Mistake(check_quick_clicks, "lib/watch.html",
                                     "while (finds.length || shown === null || shown.at !== wanted) {",
                                     "if (finds.length || shown === null || shown.at !== wanted) {"),
-    "a link that names no position": Mistake(check_link, "lib/watch.html", "  go(named());\n  ask", "  go(0);\n  ask"),
+    "a link that names no position": Mistake(check_link, "lib/watch.html", "  go(named());\n  ground", "  go(0);\n  ground"),
     "a life without its ends": Mistake(check_life, "lib/views.py", "{*left, *own[:LIVES]}", "{*own[:LIVES]}"),
     "both ends alike": Mistake(check_large, "lib/views.py", "for it in keys[-ENDS:]]", "for it in keys[:ENDS]]"),
     "curves of another interval": Mistake(check_ground, "lib/views.py", "both + first, both + second",
