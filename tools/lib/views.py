@@ -16,7 +16,9 @@ NEAR, CELLS, ENDS, PARTS, MOVES, LIVES = 12, 400, 20, 120, 12, 500
 # In how many intervals the trace is cut at most, for the ground of the slider.
 INTERVALS = 200
 # How many positions' queues are kept, so that a step on or back asks for one only.
-KEPT = 4
+KEPT = 3
+# The queues whose oldest block the filter compares with the one that comes.
+FILTERED = "probation", "queue"
 
 
 def every_of(accesses):
@@ -60,25 +62,22 @@ class TraceView:
 
     def life(self, asked):
         """What became of a block: its accesses, and the accesses at which it left."""
-        block = asked["block"]
+        number = int(asked["block"])
+        block, own = str(number), [at for at, key in enumerate(self.keys, 1) if key == number]
         with self.session.turn() as ask:
             left, is_cut = stops(ask, [f"evict {block}"], LIVES)
-            own = [at for at, key in enumerate(self.keys, 1) if key == int(block)]
             places = sorted({*left, *own[:LIVES]})[:LIVES]
             answers = ask(*(it for at in places for it in (f"goto {at}", "last")))[1::2]
-        lines = [[at, key, *(outcome_of(it)[0:2] for it in outcomes)] for at, (key, *outcomes) in
-                 ((int(answer[0].split()[1]), (answer[0].split()[3], *answer[1:])) for answer in answers)]
-        return {"block": block, "lines": lines, "accesses": len(own),
+        return {"block": block, "lines": [*map(line_of, answers)], "accesses": len(own),
                 "is_cut": is_cut or len({*left, *own}) > len(places)}
 
     def queues_at(self, ask, at):
-        """The queues of both policies, as lists of a name and what it holds, a key and its number."""
+        """The queues of both policies, as lists of a name and its items, a key and where it has one its number."""
         if at not in self.queues:
             _, lines = ask(f"goto {at}", "queues")
             self.queues = dict([*self.queues.items()][1 - KEPT:])
-            self.queues[at] = {side: [(name, [*map(split, keys)]) for letter, _, name, *keys in map(str.split, lines)
-                                      if letter == side]
-                               for side in "ab"}
+            words = [*map(str.split, lines)]
+            self.queues[at] = {side: [(name, items) for letter, _, name, *items in words if letter == side] for side in "ab"}
         return self.queues[at]
 
     def state(self, asked):
@@ -103,13 +102,13 @@ class TraceView:
                 "window": {} if words[1] == "none" else dict(zip(words[::2], words[1::2])),
                 "moves": moves[:MOVES], "more": max(0, len(moves) - MOVES),
                 "estimates": self.estimates(ask, number, block, other, before and before[letter]),
-                "queues": [drawn(name, keys, held[number], held[1 - number], new, block)
-                           for name, keys in queues[letter]]}
+                "queues": [drawn(name, [*map(split, items)], held[number], held[1 - number], new, block)
+                           for name, items in queues[letter]]}
 
     def estimates(self, ask, number, block, other, before):
         """What the filter takes as the frequency of the block that was accessed, of the one that left, and of that
         which was the oldest of probation, or of the only queue, before."""
-        oldest = next((keys[0][0] for name, keys in before or [] if name in ("probation", "queue") and keys), None)
+        oldest = next((split(items[0])[0] for name, items in before or [] if items and name in FILTERED), None)
         named = {"accessed": block, "left": other, "was oldest": oldest}
         answers = ask(*(f"estimate {key}" for key in named.values() if key))
         found = zip([it for it in named.items() if it[1]], (answer[number].split()[-1] for answer in answers))
@@ -127,8 +126,14 @@ def outcome_of(line):
     return outcome, other[0] if other else None
 
 
+def line_of(answer):
+    """What `last` answers: a position, the key that was accessed there, and both outcomes."""
+    (_, at, _, key), *outcomes = answer[0].split(), *map(outcome_of, answer[1:])
+    return [int(at), key, *outcomes]
+
+
 def places_of(queues):
-    return {key: name for name, keys in queues for key, _ in keys if name != "target"}
+    return {split(it)[0]: name for name, items in queues if name != "target" for it in items}
 
 
 def moves_of(before, after):
@@ -158,14 +163,13 @@ def drawn(name, keys, held, held_there, new, block):
 class JournalView:
     """A concurrent run, by `replay` and the text of its journal."""
 
-    FINDS = {"dropped read": " = (full|lost)$", "turn at the maintenance": " begin = began$",
-             "item that leaves": " = (evicted|rejected) ",
-             "refused write": " = writesfull$", "worker turned away": " = busy$"}
+    FINDS = {"dropped read": "(offer|lose) .* = (full|lost)$", "turn at the maintenance": "begin = began$",
+             "item that leaves": "evict = (evicted|rejected) ", "refused write": "(put|remove) .* = writesfull$",
+             "worker turned away": "begin = busy$"}
 
     def __init__(self, session, steps, facts):
         self.session, self.steps = session, steps
-        self.found = {name: [at for at, step in enumerate(steps, 1)
-                             if re.search(rf"\d+ (?!afterread|afterwrite).*{pattern}", step)]
+        self.found = {name: [at for at, step in enumerate(steps, 1) if re.search(f"^[0-9]+ {pattern}", step)]
                       for name, pattern in self.FINDS.items()}
         self.by_worker = defaultdict(lambda: array("Q"))
         for at, step in enumerate(steps, 1):
