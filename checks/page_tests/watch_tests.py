@@ -65,7 +65,8 @@ def answers_at(program, at, words=SMALL):
 def expect_page(browser, program, at, words=SMALL):
     """The page is at a position, and has all that the program says there."""
     wanted = answers_at(program, at, words)
-    expect("the position", (browser.position(), browser.run("return location.hash")), (at, f"#at={at}"))
+    expect("the position", browser.position(), at)
+    browser.until("return location.hash === arguments[0]", f"#at={at}")
     expect(f"the cells at {at}", browser.run(CELLS), wanted["cells"])
     for number, counts in enumerate(wanted["counts"]):
         text = browser.texts(".side header")[number]
@@ -442,7 +443,7 @@ MISTAKES = {
     "a click that is lost": Mistake(check_quick_clicks, "lib/watch.html",
                                     "while (finds.length || shown === null || shown.at !== wanted) {",
                                     "if (finds.length || shown === null || shown.at !== wanted) {"),
-    "a link that names no position": Mistake(check_link, "lib/watch.html", "  go(named());\n  ground", "  go(0);\n  ground"),
+    "a link that names no position": Mistake(check_link, "lib/watch.html", "  go(inAddress());\n  ground", "  go(0);\n  ground"),
     "a life without its ends": Mistake(check_life, "lib/views.py", "{*left, *own[:LIVES]}", "{*own[:LIVES]}"),
     "both ends alike": Mistake(check_large, "lib/views.py", "for it in keys[-ENDS:]]", "for it in keys[:ENDS]]"),
     "curves of another interval": Mistake(check_ground, "lib/views.py", "both + first, both + second",
