@@ -72,12 +72,11 @@ class TraceView:
                 "is_cut": is_cut or len({*left, *own}) > len(places)}
 
     def queues_at(self, ask, at):
-        """The queues of both policies, as lists of a name and its items, a key and where it has one its number."""
+        """The queues of both policies."""
         if at not in self.queues:
             _, lines = ask(f"goto {at}", "queues")
             self.queues = dict([*self.queues.items()][1 - KEPT:])
-            words = [*map(str.split, lines)]
-            self.queues[at] = {side: [(name, items) for letter, _, name, *items in words if letter == side] for side in "ab"}
+            self.queues[at] = {side: [Queue(it) for it in lines if it.startswith(side)] for side in "ab"}
         return self.queues[at]
 
     def state(self, asked):
@@ -102,22 +101,16 @@ class TraceView:
                 "window": {} if words[1] == "none" else dict(zip(words[::2], words[1::2])),
                 "moves": moves[:MOVES], "more": max(0, len(moves) - MOVES),
                 "estimates": self.estimates(ask, number, block, other, before and before[letter]),
-                "queues": [drawn(name, [*map(split, items)], held[number], held[1 - number], new, block)
-                           for name, items in queues[letter]]}
+                "queues": [it.drawn(held[number], held[1 - number], new, block) for it in queues[letter]]}
 
     def estimates(self, ask, number, block, other, before):
         """What the filter takes as the frequency of the block that was accessed, of the one that left, and of that
         which was the oldest of probation, or of the only queue, before."""
-        oldest = next((split(items[0])[0] for name, items in before or [] if items and name in FILTERED), None)
+        oldest = next((it.keys[0] for it in before or [] if it.keys and it.name in FILTERED), None)
         named = {"accessed": block, "left": other, "was oldest": oldest}
         answers = ask(*(f"estimate {key}" for key in named.values() if key))
         found = zip([it for it in named.items() if it[1]], (answer[number].split()[-1] for answer in answers))
         return [[what, key, estimate] for (what, key), estimate in found if estimate != "none"]
-
-
-def split(item):
-    key, _, number = item.partition(":")
-    return key, number
 
 
 def outcome_of(line):
@@ -132,32 +125,53 @@ def line_of(answer):
     return [int(at), key, *outcomes]
 
 
-def places_of(queues):
-    return {split(it)[0]: name for name, items in queues if name != "target" for it in items}
+class Queue:
+    """A queue as `queues` prints it: its items, each a key and where it has one a number behind a colon."""
+
+    def __init__(self, line):
+        _, _, self.name, *self.items = line.split()
+        self.has_numbers = bool(self.items) and ":" in self.items[0]
+        self.keys = re.sub(":[0-9]+(?= |$)", "", line).split()[3:] if self.has_numbers else self.items
+        self.all = frozenset(self.items)
+
+    def drawn(self, held, held_there, new, block):
+        """Its keys one by one with their numbers and what they are marked by, or both its ends and parts of a strip."""
+        is_ghost = bool(self.keys) and self.keys[0] not in held
+
+        def cells(part):
+            return [self.cell(*it, is_ghost, held_there, new, block) for it in zip(self.items[part], self.keys[part])]
+
+        shown = {"name": self.name, "length": len(self.keys)}
+        if len(self.keys) <= CELLS:
+            return {**shown, "cells": cells(slice(None))}
+        bounds = [len(self.keys) * at // PARTS for at in range(PARTS + 1)]
+        marked = {block, *new}
+        parts = [self.part(slice(*it), is_ghost, held_there, marked) for it in zip(bounds, bounds[1:])]
+        return {**shown, "first": cells(slice(ENDS)), "last": cells(slice(-ENDS, None)), "parts": parts}
+
+    def cell(self, item, key, is_ghost, held_there, new, block):
+        if self.name == "target":
+            return [key, "", ""]
+        place = "ghost" if is_ghost else "only" * (key not in held_there)
+        marks = ["now" * (key == block), "new" * (key in new), place]
+        return [key, item[len(key) + 1:], " ".join(filter(None, marks))]
+
+    def part(self, part, is_ghost, held_there, marked):
+        """How many keys a part has, how many of them are held here alone, have their number set, and are marked."""
+        keys, only, numbers = self.keys[part], 0, 0
+        if not is_ghost:
+            only = len(keys) - sum(map(held_there.__contains__, keys))
+        if self.has_numbers:
+            numbers = len(keys) - f"{' '.join(self.items[part])} ".count(":0 ")
+        return [len(keys), only, numbers, sum(map(marked.__contains__, keys))]
 
 
 def moves_of(before, after):
     """Each key that is in another queue than before, that came, or is no longer known, with both queues."""
-    olds, news = places_of(before), places_of(after)
+    pairs = [pair for pair in zip(before, after) if pair[0].name != "target"]
+    olds = {it.partition(":")[0]: old.name for old, new in pairs for it in old.all - new.all}
+    news = {it.partition(":")[0]: new.name for old, new in pairs for it in new.all - old.all}
     return [[key, olds.get(key), news.get(key)] for key in {**news, **olds} if olds.get(key) != news.get(key)]
-
-
-def drawn(name, keys, held, held_there, new, block):
-    """A queue: its keys one by one with what they are marked by, or both its ends and the parts of a strip."""
-    def cell(key, number):
-        place = "ghost" if key not in held else "only" * (key not in held_there)
-        marks = [] if name == "target" else ["now" * (key == block), "new" * (key in new), place]
-        return [key, number, " ".join(filter(None, marks))]
-
-    shown = {"name": name, "length": len(keys)}
-    if len(keys) <= CELLS:
-        return {**shown, "cells": [cell(*it) for it in keys]}
-    bounds = [len(keys) * at // PARTS for at in range(PARTS + 1)]
-    pieces = [keys[low:high] for low, high in zip(bounds, bounds[1:])]
-    return {**shown, "first": [cell(*it) for it in keys[:ENDS]], "last": [cell(*it) for it in keys[-ENDS:]],
-            "parts": [[len(piece), sum(key in held and key not in held_there for key, _ in piece),
-                       sum(number not in ("", "0") for _, number in piece),
-                       sum(key == block or key in new for key, _ in piece)] for piece in pieces]}
 
 
 class JournalView:
