@@ -22,12 +22,13 @@ WIDTH, HEIGHT, AROUND = 1080, 430, (58, 12, 30, 44)
 MARKS = 12
 # A first choice that costs so many percent more misses at a neighbouring capacity is doubtful.
 DOUBTFUL = 5
-# The marks of gnuplot's numbers, around 0: open ones by odd numbers of a pair, and of what has no inside a line.
+# The marks of gnuplot's numbers from 1 on, around 0; the first three have no inside, and of the others some are filled.
 RING, SQUARE, UP = "M-4 0a4 4 0 1 0 8 0a4 4 0 1 0-8 0Z", "M-4-4H4V4H-4Z", "M0-5L5 4H-5Z"
 DOWN, DIAMOND, PENTAGON = "M0 5L5-4H-5Z", "M0-5.5L5.5 0L0 5.5L-5.5 0Z", "M0-5L5-1.2L3 4.5H-3L-5-1.2Z"
-SHAPES = {1: "M-5 0H5M0-5V5", 2: "M-4-4L4 4M4-4L-4 4", 3: "M-5 0H5M0-5V5M-4-4L4 4M4-4L-4 4", 4: SQUARE, 5: SQUARE,
-          6: RING, 7: RING,
-          8: UP, 9: UP, 10: DOWN, 11: DOWN, 12: DIAMOND, 13: DIAMOND, 14: PENTAGON, 15: PENTAGON}
+PLUS, CROSS = "M-5 0H5M0-5V5", "M-4-4L4 4M4-4L-4 4"
+SHAPES = dict(enumerate([PLUS, CROSS, PLUS + CROSS, SQUARE, SQUARE, RING, RING, UP, UP, DOWN, DOWN, DIAMOND, DIAMOND,
+                         PENTAGON, PENTAGON], 1))
+FILLED = {5, 7, 9, 11, 13, 15}
 
 
 def page_of(args, survey, drawn, version):
@@ -39,8 +40,8 @@ def page_of(args, survey, drawn, version):
                      "By steps: between two capacities a curve stays at the ratio of the smaller one.", curves)
     if times:
         parts += section(f"Hit ratio over time, at {times['capacity']} entries",
-                         f"Of intervals of {times['every']:,} accesses; in one "
-                         "interval clairvoyant is no upper bound.", times)
+                         f"Of intervals of {times['every']:,} accesses; in one interval clairvoyant is no upper bound.",
+                         times)
     parts += doubts(survey)
     also = also_measured([survey]).get(survey.trace.name, "")
     parts += [table(name, survey, args, also) for name in args.table]
@@ -83,7 +84,7 @@ def stroke(style):
 
 
 def mark(style, x, y):
-    inside = style.colour if style.marker in (5, 7, 9, 11, 13, 15) else "#fff" if style.marker > 3 else "none"
+    inside = style.colour if style.marker in FILLED else "#fff" if style.marker > 3 else "none"
     return (f'<path d="{SHAPES[style.marker]}" transform="translate({x} {y})" stroke="{style.colour}" '
             f'stroke-width="1.4" fill="{inside}"/>')
 
@@ -219,6 +220,10 @@ def reasons(survey, capacity, choices):
     for policy, place in survey.spans:
         if place == capacity:
             yield f"{policy} changes within a percent of it: {rate_of(survey, policy, place)}"
+    first, _, more = survey.halves.get(capacity, ([], [], {}))
+    if first and more[first[0].key] > DOUBTFUL:
+        yield (f"{first[0].name}, the choice by the first half of the trace, has {more[first[0].key]:.1f} percent more "
+               "misses in the second half than the best policy there")
     for low, high in survey.jumps:
         if below(low.capacity) <= capacity <= above(high.capacity):
             yield (f"{low.policy} jumps from {shown_rate(low)} at {survey.trace.shown(low.capacity)} entries to "
@@ -242,9 +247,12 @@ def doubts(survey):
 def further(survey):
     """Commands that look further, as they are typed."""
     trace, form = survey.trace, survey.trace.options.format
+    sampled = f" --sampled 1/{trace.inverse} --accesses {trace.whole}" if trace.whole else ""
     name, how = shlex.quote(trace.name) if trace.name != "-" else "TRACE", "" if form == "lirs" else f" --format {form}"
-    chosen = {it: [*dict.fromkeys(choice.key.replace(" --main ", ":main=") for choice in choices)]
-              for it, choices in sorted(survey.choices.items()) if choices}
+    taken = trace.program.policies()
+    chosen = {it: [choice.key.replace(" --main ", ":main=") for choice in choices if choice.key.split()[0] in taken]
+              for it, choices in sorted(survey.choices.items())}
+    chosen = {it: words for it, words in chosen.items() if words}
     lines = []
     if chosen:
         capacity = [*chosen][(len(chosen) - 1) // 2]
@@ -256,13 +264,13 @@ def further(survey):
                    f"./cachesim compare{how} --capacity {capacity} --first {best} --second {other} --every "
                    f"{every_of(survey.accesses)} < {name} | tools/plot > alone.svg")]
     lines.append(("Whether the choice by the first half of the trace would have held in the second",
-                  f"tools/survey{how} --halves {name}"))
+                  f"tools/survey{how}{sampled} --halves {name}"))
     for policy, capacity in [*dict.fromkeys((policy, capacity) for policy, capacity in survey.spans)][:3]:
         low, high, by = capacity * 9 // 10, capacity * 11 // 10, max(1, capacity // 50)
         lines.append((f"How {policy} changes around {capacity} entries",
                       f"./cachesim sweep{how} --policy {policy} $(seq {max(1, low)} {by} {high}) < {name}"))
     lines.append(("The smallest capacity of each policy with a hit ratio",
-                  f"tools/survey{how} --reach {max(1, math.floor(float(survey.highest) * 0.9))} {name}"))
+                  f"tools/survey{how}{sampled} --reach {max(1, math.floor(float(survey.highest) * 0.9))} {name}"))
     yield "<h2>To look further</h2>"
     for about, line in lines:
         yield f"<p>{escape(about)}:</p><pre>{escape(as_called(line))}</pre>"
