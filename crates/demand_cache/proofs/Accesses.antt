@@ -1,5 +1,5 @@
 -- Accesses in a loop over a list of keys.
-use Rattle.std.proofs.Common.{◌≡◌, ℕ, ◌+◌, ◌<◌, ◌≤◌, Some, None, List, [], ◌∷◌, take, length, ap, sym, ◌∙◌, arith}
+use Rattle.std.proofs.Common.{◌≡◌, ℕ, suc, ◌+◌, ◌++◌, ◌<◌, ◌≤◌, Some, None, List, [], ◌∷◌, take, drop, length, ap, sym, ◌∙◌, arith, drop-cons, take-append-drop}
 use Rattle.std.specs.Prelude.{slice_index}
 use Rattle.std.proofs.lemmas.List.{take_more, take_all}
 use Rattle.engine_base.specs.declared.limits.TheConstants.{MAX_STEPS}
@@ -7,7 +7,7 @@ use Rattle.engine_base.proofs.Limited.{accepted, refused}
 use Rattle.engine_base.specs.Machine.{state_after_all}
 use Rattle.policy_page.specs.Residents.{Outcome}
 use Rattle.engine_base.proofs.Machine.{state-append}
-use Rattle.demand_cache.specs.DemandCache.{DemandState, demand_access, demand_act, demand_count}
+use Rattle.demand_cache.specs.DemandCache.{DemandState, demand_access, demand_act, demand_count, demand_may_ask, DemandStops}
 
 -- the cache d is the one from the start after the first i of the keys
 pub record HasMade (keys : List ℕ) (i : ℕ) (start d : DemandState) : Type 0 where
@@ -32,3 +32,14 @@ is-accepted keys i start d k below made room h = let full = refused demand_count
 
 pub has-made-all : (keys : List ℕ) (i : ℕ) (start d : DemandState) → length keys ≤ i → HasMade keys i start d → d ≡ state_after_all demand_access start keys
 has-made-all keys i start d all made = made.state ∙ ap (state_after_all demand_access start) (take_all i keys all)
+
+pub stops-next : (keys : List ℕ) (i : ℕ) (start d : DemandState) → i < length keys → HasMade keys i start d → demand_may_ask d (slice_index keys i)
+    → DemandStops keys start d
+stops-next keys i start d below made asks = record {
+  made = take i keys;
+  next = slice_index keys i;
+  later = drop (suc i) keys;
+  split = sym (take-append-drop i keys) ∙ ap (λ l. take i keys ++ l) (drop-cons keys i 0 below);
+  stands = made.state;
+  asks = asks;
+}

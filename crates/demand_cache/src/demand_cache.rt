@@ -45,7 +45,7 @@ impl Model for DemandCache {
 }
 
 impl DemandCache {
-    ghost use Rattle.demand_cache.specs.DemandCache.{demand_access, demand_act, demand_may_ask};
+    ghost use Rattle.demand_cache.specs.DemandCache.{demand_access, demand_act, demand_may_ask, DemandStops};
 
     /// An empty cache. Allocates nothing.
     pub fn new(alloc: Global, policy: DemandPolicy, capacity: u32) -> DemandCache
@@ -92,10 +92,11 @@ impl DemandCache {
     }
 
     /// Makes the accesses in turn, none of which is to be undone: at most `MAX_STEPS` with those that it made. The one error
-    /// is that an allocation failed; it has made some of them then.
+    /// is that an allocation failed: the cache has made those before an access that may ask for memory.
     pub fn access_all(&mut self, keys: &[Key]) -> Result<(), AllocError>
         requires { self.old.stats.accesses + length keys.now ≤ MAX_STEPS }
-        ensures { OnOk result (self.new ≡ state_after_all demand_access self.old keys.now) }
+        ensures all { OnOk result (self.new ≡ state_after_all demand_access self.old keys.now) }
+        ensures memory { OnErr result (DemandStops keys.now self.old self.new) }
     {
         self.policy.access_all(self, keys)
     }
@@ -109,7 +110,8 @@ impl DemandCache {
     ) -> Result<(), AllocError>
         requires policy { policy ≡ self.old.queues.policy }
         requires room { self.old.stats.accesses + length keys.now ≤ MAX_STEPS }
-        ensures { OnOk result (self.new ≡ state_after_all demand_access self.old keys.now) }
+        ensures all { OnOk result (self.new ≡ state_after_all demand_access self.old keys.now) }
+        ensures memory { OnErr result (DemandStops keys.now self.old self.new) }
     {
         for i in 0..keys.len() {
             self.prefetch_at(keys, i);

@@ -7,7 +7,7 @@ ghost use Rattle.queue_moves.specs.Moves.{Plan, item_of};
 ghost use Rattle.queue_moves.specs.Undoing.{IsAccessed};
 ghost use Rattle.demand_cache.specs.DemandPolicy.{page_of, plan_by};
 ghost use Rattle.engine_base.specs.Machine.{state_after_all};
-ghost use Rattle.demand_cache.specs.DemandCache.{IsCountedBy, demand_access};
+ghost use Rattle.demand_cache.specs.DemandCache.{IsCountedBy, DemandStops, demand_access};
 
 use crate::demand_cache::DemandCache;
 use engine_base::{Key, Outcome};
@@ -64,7 +64,8 @@ impl DemandPolicy {
     pub(crate) fn access_all(self, cache: &mut DemandCache, keys: &[Key]) -> Result<(), AllocError>
         requires policy { self ≡ cache.old.queues.policy }
         requires room { cache.old.stats.accesses + length keys.now ≤ MAX_STEPS }
-        ensures { OnOk result (cache.new ≡ state_after_all demand_access cache.old keys.now) }
+        ensures all { OnOk result (cache.new ≡ state_after_all demand_access cache.old keys.now) }
+        ensures memory { OnErr result (DemandStops keys.now cache.old cache.new) }
     {
         match self {
             DemandPolicy::Fifo => cache.access_each::<FifoLoop>(DemandPolicy::Fifo, keys),

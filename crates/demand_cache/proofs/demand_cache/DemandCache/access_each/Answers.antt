@@ -1,6 +1,6 @@
 use Rattle.std.proofs.Common.{ap, ◌∙◌, sym, subst, arith, refl, Err}
-use Rattle.demand_cache.specs.DemandCache.{DemandState}
-use Rattle.demand_cache.proofs.Accesses.{HasMade, has-made-next, is-accepted, has-made-all}
+use Rattle.demand_cache.specs.DemandCache.{DemandState, DemandStops}
+use Rattle.demand_cache.proofs.Accesses.{HasMade, has-made-next, is-accepted, has-made-all, stops-next}
 use Rattle.demand_cache.proofs.demand_cache.DemandCache.access_each.Goals as goal
 
 pub loop-i-init : goal.loop-i-init
@@ -21,5 +21,12 @@ loop-i-preserved g c =
     (subst (HasMade c.args.keys.now c.loop-i.i c.args.self.now) (sym c.prefetch_at.ensures) c.loop-i.invariant)
     c.access_as.ensures.policy c.in-Ok.ensures.accepted
 
-pub returns : goal.returns
-returns g c = has-made-all c.args.keys.now c.loop-i.i c.args.self.now c.loop-i.self (omega arith) c.loop-i.invariant
+pub returns-in-Err-OutOfMemory-clause-memory : goal.returns-in-Err-OutOfMemory-clause-memory
+returns-in-Err-OutOfMemory-clause-memory g c =
+    subst (λ d. DemandStops c.args.keys.now c.args.self.now d) (sym c.in-Err-OutOfMemory.ensures.err)
+    (stops-next c.args.keys.now c.loop-i.i c.args.self.now c.prefetch_at.new.self c.loop-i-test.true
+    (subst (HasMade c.args.keys.now c.loop-i.i c.args.self.now) (sym c.prefetch_at.ensures) c.loop-i.invariant)
+    (c.access_as.ensures.memory (c.in-Err-OutOfMemory.is ∙ ap Err c.in-Err-OutOfMemory.field-0-is)))
+
+pub returns-clause-all : goal.returns-clause-all
+returns-clause-all g c = has-made-all c.args.keys.now c.loop-i.i c.args.self.now c.loop-i.self (omega arith) c.loop-i.invariant
