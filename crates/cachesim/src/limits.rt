@@ -2,6 +2,7 @@
 //! longer proved.
 ghost use Rattle.std.specs.Prelude.{◌≡◌};
 ghost use Rattle.cachesim.specs.declared.fault_report.TheConstants.{DONE, FAULT, REFUSED};
+ghost use Rattle.trace_read.specs.declared.limits.TheConstants.Limits.{DEFAULT, LONG};
 
 use crate::files::MAX_FILE_BYTES;
 use debug_commands::{MAX_BREAKPOINTS, MAX_COMMAND_BYTES};
@@ -44,4 +45,10 @@ const _: () = prove!(
 // The statuses.
 fn statuses()
     ensures { (DONE ≡ 0) × (FAULT ≡ 1) × (REFUSED ≡ 2) }
+{}
+
+// How much of a trace is read: 2^24 accesses and 2^30 bytes, or with `--long` 2^32 - 1 accesses and 2^40 bytes.
+fn traces()
+    ensures default { DEFAULT ≡ record { accesses = 16777216; bytes = 1073741824 } }
+    ensures long { LONG ≡ record { accesses = 4294967295; bytes = 1099511627776 } }
 {}
