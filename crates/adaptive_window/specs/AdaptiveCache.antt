@@ -13,7 +13,6 @@ use Rattle.admission.specs.Frequency.{FrequencyData, empty_frequency, frequency_
 use Rattle.admission.specs.FreqRecord.{frequency_record, frequency_before, FitsRecord, size_of}
 use Rattle.replacement.specs.Admission.{admits_in}
 use Rattle.replacement.specs.Shape.{open_shape_of}
-use Rattle.adaptive_window.specs.declared.adaptive_cache.TheConstants.{COLUMNS}
 use Rattle.adaptive_window.specs.declared.adaptive_cache.AdaptiveRecord.{AdaptiveRecord}
 use Rattle.adaptive_window.specs.Climber.{ClimbRules, caffeine_rules, first_window}
 use Rattle.adaptive_window.specs.AdaptiveWindow.{AdaptiveState, empty_adaptive, adaptive_act}
@@ -53,7 +52,7 @@ abbrev pub empty_cache : Config → Option ℕ → AdaptiveCacheState
 empty_cache c period = record {
   rules = caffeine_rules c.capacity c.main_percent period;
   window = empty_adaptive (caffeine_rules c.capacity c.main_percent period) (first_window c.capacity c.main_percent);
-  frequency = empty_frequency (open_shape_of COLUMNS c);
+  frequency = empty_frequency (open_shape_of 4 c);
   stats = stats_of [];
 }
 

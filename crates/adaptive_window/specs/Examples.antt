@@ -1,7 +1,8 @@
 -- Worked examples.
-use Rattle.std.specs.Prelude.{◌≡◌, ℕ, nat_lt, Bool, true, false, List, [], ◌∷◌, take}
+use Rattle.std.specs.Prelude.{◌≡◌, ℕ, nat_lt, Bool, true, false, Some, None, List, [], ◌∷◌, take}
 use Rattle.engine_base.specs.Stats.{stats_of}
 use Rattle.adaptive_window.specs.AdaptiveWindow.{ClimbRules, Item, empty_adaptive}
+use Rattle.adaptive_window.specs.Climber.{Climber, caffeine_rules, period_of, restarts}
 use Rattle.adaptive_window.specs.Theorems.{Access, adaptive_outcomes, adaptive_state_after}
 
 abbrev pub item : ℕ → Item
@@ -24,10 +25,22 @@ example_keys =
 abbrev pub example_rules : ClimbRules
 example_rules = record { capacity = 4; largest = 3; sample = 6; step = 65536 }
 
+abbrev pub rules_of_sample : ℕ → ClimbRules
+rules_of_sample n = record { capacity = 4; largest = 3; sample = n; step = 65536 }
+
+abbrev pub climber_of_hits : ℕ → ℕ → Climber
+climber_of_hits now last =
+    record { target = 1; grows = false; step = 65536; accesses = 100; hits = now; last_hits = last }
+
 -- At capacity 4, 40 accesses, from a window of 2: it shrinks to 1 after the first period, grows to 2 and 3, stays at 3
 -- where the step was less than an item, and shrinks to 2 and 1, where protected is to have 2; a candidate is admitted if
 -- its key is greater.
 pub record WorkedExample : Type 0 where
+  pub rules : caffeine_rules 100 99 None ≡ record { capacity = 100; largest = 80; sample = 1000; step = 409600 }
+  pub periods : (period_of 100 (Some 50) ≡ 100) × (period_of 100 (Some 200) ≡ 200)
+  -- by 5 points of 100 accesses, and by 4
+  pub restarts_at : (restarts (rules_of_sample 100) (climber_of_hits 55 50) ≡ true)
+      × (restarts (rules_of_sample 100) (climber_of_hits 54 50) ≡ false)
   pub counts : stats_of (adaptive_outcomes example_rules (empty_adaptive example_rules 2) (accesses_to example_keys))
       ≡ record { accesses = 40; hits = 20; misses = 20; evictions = 16; rejections = 13 }
   pub state : adaptive_state_after example_rules (empty_adaptive example_rules 2) (accesses_to example_keys) ≡ record {

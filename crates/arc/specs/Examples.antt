@@ -2,7 +2,7 @@
 use Rattle.std.specs.Prelude.{◌≡◌, ℕ, List, [], ◌∷◌}
 use Rattle.engine_base.specs.declared.outcome.Outcome.TheVariants.{Kept, Hit, Evicted}
 use Rattle.policy_page.specs.Examples.{Outcome, example_counts, counts_with, run_of}
-use Rattle.arc.specs.Arc.{ArcState, empty_arc, arc_act}
+use Rattle.arc.specs.Arc.{ArcState, InB1, InB2, empty_arc, arc_act, arc_target}
 
 abbrev pub small_trace : List ℕ
 small_trace =
@@ -35,7 +35,16 @@ large_state = record {
   p = 7;
 }
 
+-- ghosts of two keys and of five
+abbrev pub two_and_five : ArcState
+two_and_five = record { t1 = []; t2 = []; b1 = 1 ∷ 2 ∷ []; b2 = 3 ∷ 4 ∷ 5 ∷ 6 ∷ 7 ∷ []; p = 5 }
+
+abbrev pub five_and_two : ArcState
+five_and_two = record { t1 = []; t2 = []; b1 = 3 ∷ 4 ∷ 5 ∷ 6 ∷ 7 ∷ []; b2 = 1 ∷ 2 ∷ []; p = 5 }
+
 pub record WorkedExamples : Type 0 where
+  -- the target moves by the quotient of the ghosts' lengths
+  pub targets : (arc_target 9 InB1 two_and_five ≡ 7) × (arc_target 9 InB2 five_and_two ≡ 3)
   -- the keys 1, 2, 3, 1, 4 and 2 at capacity 3
   pub counts : example_counts arc_act empty_arc ≡ counts_with 1 5 2
   pub small : run_of (arc_act 3) empty_arc small_trace

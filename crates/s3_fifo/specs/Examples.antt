@@ -51,6 +51,6 @@ large_state = record {
 pub record WorkedExamples : Type 0 where
   -- the keys 1, 2, 3, 1, 4 and 2 at capacity 3
   pub counts : example_counts (s3_fifo_act 1) empty_s3_fifo ≡ counts_with 2 4 1
-  pub sizes : (part_size 10 9 ≡ 1) × (part_size 10 29 ≡ 2) × (s3_fifo_main_size 2 29 ≡ 27)
+  pub sizes : (part_size 10 9 ≡ 1) × (part_size 10 29 ≡ 2) × (part_size 50 202 ≡ 101) × (s3_fifo_main_size 2 29 ≡ 27)
   pub small : run_of (s3_fifo_act 1 5) empty_s3_fifo small_trace ≡ (small_outcomes, small_state)
   pub large : run_of (s3_fifo_act 2 21) empty_s3_fifo large_trace ≡ (large_outcomes, large_state)
