@@ -20,16 +20,16 @@ use Rattle.long_traces.proofs.Following.{all-follow}
 use Rattle.policy_actors.specs.Faults.{actor_fault}
 use Rattle.sweeps.specs.Intervals.{intervals_fault}
 use Rattle.policies.specs.declared.job_checks.TheConstants.{MAX_ACTORS}
-use Rattle.command_line.specs.Accepted.{Tuning, AreAcceptedIntervals, AreAcceptedJobs, IsAcceptedPart, IsAcceptedRun, IsAcceptedSweep, is_clairvoyant, is_long, needs_whole_trace}
+use Rattle.command_line.specs.Accepted.{AreAcceptedIntervals, AreAcceptedJobs, IsAcceptedJob, IsAcceptedPart, IsAcceptedRun, IsAcceptedSweep, is_clairvoyant, is_clairvoyant_job, is_long, needs_whole_trace}
 use Rattle.command_line.specs.declared.arguments.Arguments.TheVariants.{Intervals, Run, Sweep}
 use Rattle.command_line.specs.declared.arguments.IntervalsArguments.{IntervalsArguments}
 use Rattle.command_line.specs.declared.arguments.RunArguments.{RunArguments}
 use Rattle.command_line.specs.declared.arguments.SweepArguments.{SweepArguments}
-use Rattle.cachesim.specs.TraceOutput.{PartArguments, JobArguments, jobs_asked, jobs_by_policy}
+use Rattle.cachesim.specs.TraceOutput.{PartArguments, JobArguments}
 
-no_fault : (config : Config) (tuning : Tuning) (i : ℕ) (policies : List Policy) → config_fault config ≡ Ok tt → faulty_from i (jobs_by_policy config tuning policies) ≡ None
-no_fault config tuning i [] ok = refl
-no_fault config tuning i (policy ∷ policies) ok = rw ok (no_fault config tuning (i + 1) policies ok)
+no_fault : (i : ℕ) (jobs : List Job) → All IsAcceptedJob jobs → faulty_from i jobs ≡ None
+no_fault i [] all = refl
+no_fault i (job ∷ jobs) all = rw (All-head IsAcceptedJob job jobs all).config (no_fault (i + 1) jobs (All-tail IsAcceptedJob job jobs all))
 
 in_batch : (batch : ℕ) → 1 ≤ batch → batch ≤ MAX_BATCH → is_from_one MAX_BATCH batch ≡ true
 in_batch batch some few = rw (le-leb 1 batch some, le-leb batch MAX_BATCH few) refl
@@ -47,32 +47,31 @@ at_each job i [] ok all = refl
 at_each job i (c ∷ cs) ok all =
     rw (at_other job.config c ok (All-head (λ n. is_from_one MAX_CAPACITY n ≡ true) c cs all)) (at_each job (i + 1) cs ok (All-tail (λ n. is_from_one MAX_CAPACITY n ≡ true) c cs all))
 
-no_config_fault : (config : Config) (tuning : Tuning) (policies : List Policy) (cs : List ℕ) → config_fault config ≡ Ok tt → AllPass (is_from_one MAX_CAPACITY) cs
-    → first_config_fault (jobs_by_policy config tuning policies) cs ≡ None
-no_config_fault config tuning [] cs ok all = refl
-no_config_fault config tuning (policy ∷ policies) cs ok all =
-    rw (at_each (record { policy = policy; config = config; tuning = tuning }) 0 cs ok all) (no_config_fault config tuning policies cs ok all)
+no_config_fault : (jobs : List Job) (cs : List ℕ) → All IsAcceptedJob jobs → AllPass (is_from_one MAX_CAPACITY) cs → first_config_fault jobs cs ≡ None
+no_config_fault [] cs ok all = refl
+no_config_fault (job ∷ jobs) cs ok all =
+    rw (at_each job 0 cs (All-head IsAcceptedJob job jobs ok).config all) (no_config_fault jobs cs (All-tail IsAcceptedJob job jobs ok) all)
 
 -- so the jobs of an accepted `sweep` have no fault, if they are not too many
-pub can_sweep : (sweep : SweepArguments) (jobs : List Job) (capacities : List ℕ) → IsAcceptedSweep sweep → jobs ≡ jobs_asked sweep.jobs
+pub can_sweep : (sweep : SweepArguments) (jobs : List Job) (capacities : List ℕ) → IsAcceptedSweep sweep → jobs ≡ sweep.jobs.list
     → capacities ≡ sweep.capacities → length jobs ≤ MAX_ACTORS → sweep_fault jobs capacities ≡ None
 can_sweep sweep jobs capacities accepted is same few =
-    rw (le-leb (length jobs) MAX_ACTORS few, is, same) (no_config_fault sweep.jobs.config sweep.jobs.tuning sweep.jobs.policies sweep.capacities accepted.jobs.config accepted.capacities)
+    rw (le-leb (length jobs) MAX_ACTORS few, is, same) (no_config_fault sweep.jobs.list sweep.capacities accepted.jobs.list accepted.capacities)
 
 -- so those of an accepted `intervals` have none
-pub can_count : (asked : JobArguments) (jobs : List Job) → AreAcceptedJobs asked → jobs ≡ jobs_asked asked → length jobs ≤ MAX_ACTORS
+pub can_count : (asked : JobArguments) (jobs : List Job) → AreAcceptedJobs asked → jobs ≡ asked.list → length jobs ≤ MAX_ACTORS
     → intervals_fault jobs ≡ None
-can_count asked jobs accepted is few = rw (le-leb (length jobs) MAX_ACTORS few, is) (no_fault asked.config asked.tuning 0 asked.policies accepted.config)
+can_count asked jobs accepted is few = rw (le-leb (length jobs) MAX_ACTORS few, is) (no_fault 0 asked.list accepted.list)
 
 -- and those of an accepted `run` can be run, if they are not too many
-pub can_run : (run : RunArguments) (jobs : List Job) → IsAcceptedRun run → jobs ≡ jobs_asked run.jobs → length jobs ≤ MAX_ACTORS
+pub can_run : (run : RunArguments) (jobs : List Job) → IsAcceptedRun run → jobs ≡ run.jobs.list → length jobs ≤ MAX_ACTORS
     → actor_fault run.batch jobs ≡ None
 can_run run jobs accepted is few =
     rw (in_batch run.batch accepted.some accepted.few) (can_count run.jobs jobs accepted.jobs is few)
 
 -- and the two of an accepted `part` have no fault
 pub pair_accepted : (part : PartArguments) → IsAcceptedPart part → faulty_in (part.first ∷ part.second ∷ []) ≡ None
-pair_accepted part accepted = rw (accepted.first, accepted.second) refl
+pair_accepted part accepted = rw (accepted.first.config, accepted.second.config) refl
 
 -- where no fault is due, the one that came is out of memory
 pub memory_alone : {A : Type 0} (due : Option ActorFault) (r : Result A ActorFault) → due ≡ None → ReturnsFault due r → IfErr r (λ f. f ≡ OutOfMemory)
@@ -88,20 +87,19 @@ forgets : (policy : Policy) → is_clairvoyant policy ≡ false → knows_trace 
 forgets Clairvoyant other = absurd (cc other)
 forgets _ other = refl
 
-each_follows : (config : Config) (tuning : Tuning) (policies : List Policy) → config_fault config ≡ Ok tt → list_any is_clairvoyant policies ≡ false
-    → All FollowsTrace (jobs_by_policy config tuning policies)
-each_follows config tuning [] ok none = All-nil FollowsTrace
-each_follows config tuning (policy ∷ policies) ok none =
-    let both = neither (is_clairvoyant policy) (list_any is_clairvoyant policies) none in
-    All-cons FollowsTrace _ _ (ok, forgets policy both.0) (each_follows config tuning policies ok both.1)
+each_follows : (jobs : List Job) → All IsAcceptedJob jobs → list_any is_clairvoyant_job jobs ≡ false → All FollowsTrace jobs
+each_follows [] ok none = All-nil FollowsTrace
+each_follows (job ∷ jobs) ok none =
+    let both = neither (is_clairvoyant job.policy) (list_any is_clairvoyant_job jobs) none in
+    All-cons FollowsTrace job jobs ((All-head IsAcceptedJob job jobs ok).config, forgets job.policy both.0) (each_follows jobs (All-tail IsAcceptedJob job jobs ok) both.1)
 
 -- the jobs of a `run` that is accepted can be run within its limits
 pub can_follow : (run : RunArguments) (jobs : List Job) → IsAcceptedRun run → needs_whole_trace (Run run) ≡ false
-    → jobs ≡ jobs_asked run.jobs → All (CanFollow run.jobs.limits.accesses) jobs
+    → jobs ≡ run.jobs.list → All (CanFollow run.jobs.limits.accesses) jobs
 can_follow run jobs accepted kept is = elim (cases_Bool (nat_lt MAX_ACCESSES run.jobs.limits.accesses)) [
   | inl long ↦
-      let none : list_any is_clairvoyant run.jobs.policies ≡ false = rw long at kept in
-      subst (All (CanFollow run.jobs.limits.accesses)) (sym is) (all-follow run.jobs.limits.accesses _ (each_follows run.jobs.config run.jobs.tuning run.jobs.policies accepted.jobs.config none))
+      let none : list_any is_clairvoyant_job run.jobs.list ≡ false = rw long at kept in
+      subst (All (CanFollow run.jobs.limits.accesses)) (sym is) (all-follow run.jobs.limits.accesses _ (each_follows run.jobs.list accepted.jobs.list none))
   | inr short ↦ all_follow run.jobs.limits.accesses jobs (ltb-false MAX_ACCESSES run.jobs.limits.accesses short)
 ]
 
@@ -126,20 +124,20 @@ over_capacities P (job ∷ jobs) cs each all has =
 
 -- the jobs of a `sweep` over a long trace can be run while it is read
 pub sweeps_long : (sweep : SweepArguments) (rows : List Job) → IsAcceptedSweep sweep → needs_whole_trace (Sweep sweep) ≡ false → is_long sweep.jobs.limits ≡ true
-    → rows ≡ jobs_over (jobs_asked sweep.jobs) sweep.capacities → All FollowsTrace rows
+    → rows ≡ jobs_over sweep.jobs.list sweep.capacities → All FollowsTrace rows
 sweeps_long sweep rows accepted kept long is =
-    let none : list_any is_clairvoyant sweep.jobs.policies ≡ false = rw long at kept in
+    let none : list_any is_clairvoyant_job sweep.jobs.list ≡ false = rw long at kept in
     subst (All FollowsTrace) (sym is) (over_capacities FollowsTrace _ sweep.capacities (λ job c fits follows. (at_other job.config c follows.0 fits, follows.1)) accepted.capacities
-    (each_follows sweep.jobs.config sweep.jobs.tuning sweep.jobs.policies accepted.jobs.config none))
+    (each_follows sweep.jobs.list accepted.jobs.list none))
 
-pub swept_rows : (sweep : SweepArguments) (jobs rows : List Job) (cs : List ℕ) → jobs ≡ jobs_asked sweep.jobs → cs ≡ sweep.capacities
-    → rows ≡ jobs_over jobs cs → rows ≡ jobs_over (jobs_asked sweep.jobs) sweep.capacities
+pub swept_rows : (sweep : SweepArguments) (jobs rows : List Job) (cs : List ℕ) → jobs ≡ sweep.jobs.list → cs ≡ sweep.capacities
+    → rows ≡ jobs_over jobs cs → rows ≡ jobs_over sweep.jobs.list sweep.capacities
 swept_rows sweep jobs rows cs are is made =
-    made ∙ (ap (λ (js : List Job). jobs_over js cs) are ∙ ap (jobs_over (jobs_asked sweep.jobs)) is)
+    made ∙ (ap (λ (js : List Job). jobs_over js cs) are ∙ ap (jobs_over sweep.jobs.list) is)
 
 -- so are those of an `intervals`
 pub counts_long : (intervals : IntervalsArguments) (jobs : List Job) → AreAcceptedIntervals intervals → needs_whole_trace (Intervals intervals) ≡ false
-    → is_long intervals.jobs.limits ≡ true → jobs ≡ jobs_asked intervals.jobs → All FollowsTrace jobs
+    → is_long intervals.jobs.limits ≡ true → jobs ≡ intervals.jobs.list → All FollowsTrace jobs
 counts_long intervals jobs accepted kept long is =
-    let none : list_any is_clairvoyant intervals.jobs.policies ≡ false = rw long at kept in
-    subst (All FollowsTrace) (sym is) (each_follows intervals.jobs.config intervals.jobs.tuning intervals.jobs.policies accepted.jobs.config none)
+    let none : list_any is_clairvoyant_job intervals.jobs.list ≡ false = rw long at kept in
+    subst (All FollowsTrace) (sym is) (each_follows intervals.jobs.list accepted.jobs.list none)

@@ -4,7 +4,7 @@ use Rattle.clap.specs.Words.{Text}
 use Rattle.engine_base.specs.History.{Entries}
 use Rattle.shell_model.specs.Shell.{Shell, act}
 use Rattle.maintenance.specs.EmptyShell.{Config, IsOpened}
-use Rattle.step_record.specs.declared.job.Policy.{Policy}
+use Rattle.step_record.specs.declared.job.Job.{Job}
 use Rattle.policies.specs.declared.job_checks.TheConstants.{MAX_ACTORS}
 use Rattle.trace_read.specs.TraceText.{fault_within}
 use Rattle.trace_read.specs.declared.limits.Limits.{Limits}
@@ -52,8 +52,8 @@ abbrev pub IsFoundIn : Format → (Fault → Type 0) → Fault → List ℕ → 
 IsFoundIn = IsFoundWithin DEFAULT
 
 -- more policies are named than are run at once
-abbrev pub IsTooMany : List Policy → Fault → Type 0
-IsTooMany policies fault = (fault ≡ Actors) × (MAX_ACTORS < length policies)
+abbrev pub IsTooMany : List Job → Fault → Type 0
+IsTooMany jobs fault = (fault ≡ Actors) × (MAX_ACTORS < length jobs)
 
 -- the commands are more bytes than are read of them
 abbrev pub IsOfCommands : Option (List ℕ) → Fault → Type 0
@@ -79,14 +79,16 @@ IsFoundInFile file P fault = IfSome file (P fault)
 -- the call of these arguments finds the fault in the bytes of the input or of its file, or in the arguments
 abbrev pub IsFound : Arguments → KnownFiles → Option (List ℕ) → Fault → Type 0
 IsFound (asked.Run run) files input fault =
-    IfSome input (IsFoundWithin run.jobs.limits run.jobs.format (IsTooMany run.jobs.policies) fault)
+    IfSome input (IsFoundWithin run.jobs.limits run.jobs.format (IsTooMany run.jobs.list) fault)
 IsFound (asked.Sweep sweep) files input fault =
-    IfSome input (IsFoundWithin sweep.jobs.limits sweep.jobs.format (IsTooMany sweep.jobs.policies) fault)
+    IfSome input (IsFoundWithin sweep.jobs.limits sweep.jobs.format (IsTooMany sweep.jobs.list) fault)
 IsFound (asked.Intervals intervals) files input fault =
-    IfSome input (IsFoundWithin intervals.jobs.limits intervals.jobs.format (IsTooMany intervals.jobs.policies) fault)
+    IfSome input (IsFoundWithin intervals.jobs.limits intervals.jobs.format (IsTooMany intervals.jobs.list) fault)
 IsFound (asked.Part part) files input fault = IfSome input (IsFoundWithin part.limits part.format (λ f. ⊥) fault)
 IsFound (asked.Compare compare) files input fault =
     IfSome input (IsFoundWithin compare.policies.limits compare.policies.format (λ f. ⊥) fault)
+IsFound (asked.Footprint footprint) files input fault =
+    IfSome input (IsFoundWithin footprint.limits footprint.format (λ f. ⊥) fault)
 IsFound (asked.Sample sample) files input fault = IfSome input (IsFoundWithin LONG sample.format (λ f. ⊥) fault)
 IsFound (asked.Drive drive) files input fault = IfSome input (IsFoundIn drive.format (λ f. f ≡ JournalFull) fault)
 IsFound (asked.Debug debug) files input fault = IsFoundInFile (files debug.trace)

@@ -1,5 +1,5 @@
 -- What the program has done at its end, by status.
-use Rattle.std.specs.Prelude.{◌≡◌, ◌⊎◌, ℕ, true, List, Option, IfSome, Ok, Err, codes}
+use Rattle.std.specs.Prelude.{◌≡◌, ◌⊎◌, ℕ, true, List, Option, IfSome, Ok, Err, codes, ◌++◌}
 use Rattle.std.specs.Io.KnownBytes.{Appends}
 use Rattle.clap.specs.Words.{IsAmong, Kinds, Text}
 use Rattle.clap.specs.declared.error.ErrorKind.{ErrorKind}
@@ -64,7 +64,9 @@ usage_line parse.Stripes = codes "fault: Stripes\n"
 usage_line parse.WholeTrace =
     codes "error: clairvoyant has to know the whole trace, which --long does not keep: take a sample of it\n"
 usage_line parse.LongIntervals = codes "error: an interval has at most 16777216 accesses without --long\n"
-usage_line fault = codes "error: a policy or a number is missing\n"
+usage_line fault = codes "error: a word names no policy, or a number is missing\n"
+    ++ (codes "  [policies: lru, slru, tinylfu-lru, tinylfu-slru, wtinylfu, clairvoyant, fifo, clock, sieve, s3-fifo, 2q, arc, caffeine, car]\n"
+    ++ codes "  [with sizes of their own: wtinylfu:main=N, caffeine:main=N:period=N, 2q:in=P:out=P, s3-fifo:small=P]\n")
 
 -- Status 2: the words are refused by clap, or taken and incomplete: they lack a number in its range or a known
 -- policy, or their number of read buffers is not a power of two from 1 to 64, or they name Belady's policy for a long

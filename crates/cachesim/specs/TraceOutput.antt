@@ -1,9 +1,8 @@
--- What the subcommands write that read a trace and write a text: `run` and `sweep`, `intervals`, `part` and `compare`.
-use Rattle.std.specs.Prelude.{◌≡◌, ℕ, List, Option, None, Some, IfSome, flat_map, map}
-use Rattle.engine_base.specs.declared.config.Config.{Config}
+-- What the subcommands write that read a trace and write a text: `run` and `sweep`, `intervals`, `part`,
+-- `compare` and `footprint`.
+use Rattle.std.specs.Prelude.{◌≡◌, ℕ, List, Option, None, Some, IfSome, flat_map, map, codes, ◌++◌}
+use Rattle.std.specs.Fmt.{decimal}
 pub use Rattle.step_record.specs.declared.job.Job.{Job}
-use Rattle.step_record.specs.declared.job.Tuning.{Tuning}
-pub use Rattle.step_record.specs.declared.job.Policy.{Policy}
 use Rattle.engine_base.specs.declared.limits.TheConstants.{MAX_ACCESSES}
 use Rattle.command_line.specs.declared.arguments.Arguments.{Arguments}
 use Rattle.command_line.specs.declared.arguments.Arguments.TheVariants as asked
@@ -15,19 +14,12 @@ use Rattle.trace_read.specs.declared.format.Format.{Format}
 use Rattle.policies.specs.AnyPolicy.{outcomes_on}
 use Rattle.policies.specs.Reports.{report_on}
 use Rattle.sweeps.specs.Intervals.{Interval, intervals_on}
+use Rattle.long_traces.specs.Footprint.{Footprint, footprint_of}
 use Rattle.report.specs.IntervalText.{intervals_text}
 use Rattle.report.specs.Text.{Report, reports_text}
 use Rattle.policy_comparison.specs.ComparedIntervals.{compared_intervals_on, compared_intervals_text}
 use Rattle.policy_comparison.specs.Comparison.{compared_on, comparison_text}
 use Rattle.policy_comparison.specs.Part.{part_line, IsPart}
-
--- one job for each policy, all on one configuration with one tuning
-abbrev pub jobs_by_policy : Config → Tuning → List Policy → List Job
-jobs_by_policy config tuning policies =
-    map (λ policy. record { policy = policy; config = config; tuning = tuning }) policies
-
-abbrev pub jobs_asked : JobArguments → List Job
-jobs_asked asked = jobs_by_policy asked.config asked.tuning asked.policies
 
 -- the report of each job over the accesses: it counts the outcomes of its policy's definition
 abbrev pub reports_on : List Job → List ℕ → List Report
@@ -52,19 +44,26 @@ IfFaultlessWithin most format input P =
 abbrev pub IfFaultless : Format → Option (List ℕ) → (List ℕ → Type 0) → Type 0
 IfFaultless = IfFaultlessWithin MAX_ACCESSES
 
+-- the header and the row of how large a trace is
+abbrev pub footprint_text : Footprint → List ℕ
+footprint_text f = codes "accesses,blocks,once\n"
+    ++ (decimal f.accesses ++ (codes "," ++ (decimal f.blocks ++ (codes "," ++ (decimal f.once ++ codes "\n")))))
+
 -- The text that these arguments ask for, over the accesses: of `run` and `sweep` the report of each policy, at each
 -- capacity; of `intervals` the rows of each policy; of `part` the line of the access at which the two policies part; of
--- `compare` the header and the row of what is counted of both, or a row for each interval.
+-- `compare` the header and the row of what is counted of both, or a row for each interval; of `footprint` how large the
+-- trace is.
 abbrev pub IsText : Arguments → List ℕ → List ℕ → Type 0
 IsText (asked.Run run) keys text =
-    text ≡ reports_text (reports_on (jobs_asked run.jobs) keys)
+    text ≡ reports_text (reports_on run.jobs.list keys)
 IsText (asked.Sweep sweep) keys text =
-    text ≡ reports_text (reports_on (jobs_over (jobs_asked sweep.jobs) sweep.capacities) keys)
+    text ≡ reports_text (reports_on (jobs_over sweep.jobs.list sweep.capacities) keys)
 IsText (asked.Intervals intervals) keys text =
-    text ≡ intervals_text (rows_on intervals.every (jobs_asked intervals.jobs) keys)
+    text ≡ intervals_text (rows_on intervals.every intervals.jobs.list keys)
 IsText (asked.Part part) keys text = (found : Option ℕ)
     × IsPart (outcomes_on part.first keys) (outcomes_on part.second keys) found × (text ≡ part_line found)
 IsText (asked.Compare compare) keys text = text ≡ compared_text compare.policies compare.every keys
+IsText (asked.Footprint footprint) keys text = text ≡ footprint_text (footprint_of keys)
 IsText arguments keys text = ⊥
 
 -- so it is of the bytes of a trace, which have no fault
@@ -79,4 +78,6 @@ IsTextOf (asked.Part part) input text =
     IfFaultlessWithin part.limits.accesses part.format input (λ keys. IsText (asked.Part part) keys text)
 IsTextOf (asked.Compare compare) input text = IfFaultlessWithin compare.policies.limits.accesses compare.policies.format
     input (λ keys. IsText (asked.Compare compare) keys text)
+IsTextOf (asked.Footprint footprint) input text = IfFaultlessWithin footprint.limits.accesses footprint.format
+    input (λ keys. IsText (asked.Footprint footprint) keys text)
 IsTextOf arguments input text = ⊥

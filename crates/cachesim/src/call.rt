@@ -32,8 +32,11 @@ const WHOLE_TRACE: &[u8] =
 // The line of an interval that only a long trace may have, which is a usage error.
 const LONG_INTERVALS: &[u8] = b"error: an interval has at most 16777216 accesses without --long\n";
 
-// The line of arguments that are incomplete, which is a usage error.
-const INCOMPLETE: &[u8] = b"error: a policy or a number is missing\n";
+// The lines of a word that names no policy, or of arguments that are incomplete, which are a usage error.
+const INCOMPLETE: &[u8] = b"error: a word names no policy, or a number is missing
+  [policies: lru, slru, tinylfu-lru, tinylfu-slru, wtinylfu, clairvoyant, fifo, clock, sieve, s3-fifo, 2q, arc, caffeine, car]
+  [with sizes of their own: wtinylfu:main=N, caffeine:main=N:period=N, 2q:in=P:out=P, s3-fifo:small=P]
+";
 
 /// The program, of the words after its name, over an input and two outputs: it returns the
 /// status. `DONE` is 0, `FAULT` 1, with one line on the fault output, and `REFUSED` 2, a usage
@@ -59,6 +62,7 @@ pub fn command<
     // With status 0 the words ask for help, or the bytes read have no fault and those written are what the words ask for:
     // - `run`: the text of the report of each policy; `sweep`: of each at each capacity;
     // - `intervals`: the rows of each policy; `compare`: the row of what is counted of both, or a row for each interval;
+    // - `footprint`: the row of how many accesses, distinct blocks, and blocks that are accessed once there are;
     // - `part`: the line of the access at which the two policies part;
     // - `sample`: the accesses to the blocks of the sample, with a line on the fault output, which is else as it was;
     // - `drive`: the journal of the walks by which the workers read the accesses in turn, in an empty cache;
@@ -69,7 +73,7 @@ pub fn command<
     // With status 1 a fault was found: one of the machine, or that of the words, the trace or the journal. Its line
     // was written to the fault output, whole unless a write or the flush of that output failed. What is found before
     // anything is written, as a faulty line of a trace, leaves the output as it was, and so does every fault of
-    // `run`, `sweep`, `intervals`, `part` and `compare` but a failed write. `sample` has written a beginning of its
+    // `run`, `sweep`, `intervals`, `part`, `compare` and `footprint` but a failed write. `sample` has written a beginning of its
     // text. A run of workers that was stopped has its journal written. A call of the input or the output failed just
     // where that fault says so.
     ensures faulted { result ≡ FAULT → EndsInFault (map (λ s. s.now) words.now) (F.known files.now)

@@ -5,10 +5,9 @@ ghost use Rattle.command_line.specs.Accepted.{IsAcceptedSweep};
 ghost use Rattle.command_line.specs.declared.arguments.Arguments.TheVariants.{Compare, Intervals, Part, Sweep};
 ghost use Rattle.policies.specs.declared.job_checks.TheConstants.{MAX_ACTORS};
 ghost use Rattle.cachesim.specs.FaultCauses.{IsTooMany};
-ghost use Rattle.cachesim.specs.TraceOutput.{IsText, compared_text, jobs_asked};
+ghost use Rattle.cachesim.specs.TraceOutput.{IsText, compared_text};
 
 use crate::fault::{Fault, only_memory};
-use crate::reports::jobs;
 use command_line::{
     CompareArguments, IntervalsArguments, JobArguments, PartArguments, SweepArguments,
 };
@@ -34,15 +33,12 @@ pub fn sweep<T: Threads + Sync, P: Watch>(
 ) -> Result<Vec<u8>, Fault>
     requires { IsAcceptedSweep arguments.now }
     ensures text { IfOk result (λ text. IsText (Sweep arguments.now) trace.now text.items) }
-    ensures fault { IfErr result (λ fault. (fault ≡ Fault.OutOfMemory) ⊎ IsTooMany arguments.now.jobs.policies fault) }
+    ensures fault { IfErr result (λ fault. (fault ≡ Fault.OutOfMemory) ⊎ IsTooMany arguments.now.jobs.list fault) }
 {
-    let jobs = few_jobs(alloc, &arguments.jobs)?;
+    let jobs = few_jobs(&arguments.jobs)?;
     let capacities = arguments.capacities.as_slice();
-    watch.begin(
-        "sweep",
-        Some(sweep_batches(trace, jobs.as_slice(), capacities)),
-    );
-    let reports = sweep_each(rt, alloc, trace, jobs.as_slice(), capacities, watch);
+    watch.begin("sweep", Some(sweep_batches(trace, jobs, capacities)));
+    let reports = sweep_each(rt, alloc, trace, jobs, capacities, watch);
     watch.end();
     Ok(reports_text(alloc, only_memory(reports)?.as_slice())?)
 }
@@ -58,13 +54,13 @@ pub fn intervals<T: Threads + Sync, P: Watch>(
 ) -> Result<Vec<u8>, Fault>
     requires { AreAcceptedIntervals arguments.now }
     ensures text { IfOk result (λ text. IsText (Intervals arguments.now) trace.now text.items) }
-    ensures fault { IfErr result (λ fault. (fault ≡ Fault.OutOfMemory) ⊎ IsTooMany arguments.now.jobs.policies fault) }
+    ensures fault { IfErr result (λ fault. (fault ≡ Fault.OutOfMemory) ⊎ IsTooMany arguments.now.jobs.list fault) }
 {
-    let jobs = few_jobs(alloc, &arguments.jobs)?;
+    let jobs = few_jobs(&arguments.jobs)?;
     let every = arguments.every as usize;
-    let batches = interval_batches(trace, jobs.as_slice(), every);
+    let batches = interval_batches(trace, jobs, every);
     watch.begin("intervals", Some(batches));
-    let rows = sweeps::intervals(rt, alloc, trace, jobs.as_slice(), every, watch);
+    let rows = sweeps::intervals(rt, alloc, trace, jobs, every, watch);
     watch.end();
     Ok(intervals_text(alloc, only_memory(rows)?.as_slice())?)
 }
@@ -155,13 +151,13 @@ fn compare_intervals<R: Threads, P: Watch>(
     Ok(text)
 }
 
-// A job for each policy, where they are not too many.
-fn few_jobs(alloc: Global, asked: &JobArguments) -> Result<Vec<Job>, Fault>
-    ensures jobs { IfOk result (λ jobs. jobs.items ≡ jobs_asked asked.now) }
-    ensures few { IfOk result (λ jobs. length jobs.items ≤ MAX_ACTORS) }
-    ensures fault { IfErr result (λ fault. (fault ≡ Fault.OutOfMemory) ⊎ IsTooMany asked.now.policies fault) }
+// The jobs, where they are not too many.
+fn few_jobs(asked: &JobArguments) -> Result<&[Job], Fault>
+    ensures jobs { IfOk result (λ jobs. jobs.now ≡ asked.now.list) }
+    ensures few { IfOk result (λ jobs. length jobs.now ≤ MAX_ACTORS) }
+    ensures fault { IfErr result (IsTooMany asked.now.list) }
 {
-    let jobs = jobs(alloc, asked)?;
+    let jobs = asked.list.as_slice();
     if jobs.len() > MAX_ACTORS {
         return Err(Fault::Actors);
     }

@@ -6,7 +6,6 @@ ghost use Rattle.command_line.specs.declared.arguments.Arguments.TheVariants.{Co
 ghost use Rattle.cachesim.specs.Subcommand.{IsMade};
 
 use crate::fault::Fault;
-use crate::reports::jobs;
 use command_line::{CompareArguments, IntervalsArguments, PartArguments, SweepArguments};
 use policies::MAX_ACTORS;
 use policy_comparison::{push_compared_intervals, push_comparison, push_part};
@@ -33,12 +32,11 @@ pub fn sweep<T: Threads + Wait + Sync, R: CountedRead, P: Watch>(
 {
     let asked = &arguments.jobs;
     let (format, limits) = (asked.format, asked.limits);
-    if asked.policies.as_slice().len() > MAX_ACTORS {
+    if asked.list.as_slice().len() > MAX_ACTORS {
         long_traces::reports(rt, alloc, input, format, limits, &[], watch)?;
         return Err(Fault::Actors);
     }
-    let jobs = jobs(alloc, asked)?;
-    let each = jobs_over(alloc, jobs.as_slice(), arguments.capacities.as_slice())?;
+    let each = jobs_over(alloc, asked.list.as_slice(), arguments.capacities.as_slice())?;
     watch.begin("sweep", None);
     let reports = long_traces::reports(rt, alloc, input, format, limits, each.as_slice(), watch);
     watch.end();
@@ -60,14 +58,14 @@ pub fn intervals<T: Threads + Wait + Sync, R: CountedRead, P: Watch>(
 {
     let asked = &arguments.jobs;
     let (format, limits) = (asked.format, asked.limits);
-    if asked.policies.as_slice().len() > MAX_ACTORS {
+    if asked.list.as_slice().len() > MAX_ACTORS {
         long_traces::reports(rt, alloc, input, format, limits, &[], watch)?;
         return Err(Fault::Actors);
     }
-    let jobs = jobs(alloc, asked)?;
+    let jobs = asked.list.as_slice();
     let every = arguments.every as usize;
     watch.begin("intervals", None);
-    let rows = long_traces::intervals(alloc, input, format, limits, jobs.as_slice(), every, watch);
+    let rows = long_traces::intervals(alloc, input, format, limits, jobs, every, watch);
     watch.end();
     Ok(intervals_text(alloc, rows?.as_slice())?)
 }

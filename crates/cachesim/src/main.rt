@@ -12,6 +12,7 @@ mod drive;
 mod fault;
 mod fault_report;
 mod files;
+mod footprint;
 mod host;
 mod kept_reports;
 mod limits;

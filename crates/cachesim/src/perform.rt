@@ -11,6 +11,7 @@ use crate::debug::{debug, replay};
 use crate::drive::drive;
 use crate::fault::Fault;
 use crate::files::Files;
+use crate::footprint::footprint;
 use crate::reports::{compare, intervals, part, run, sweep};
 use crate::sample::sample;
 use command_line::Arguments;
@@ -58,6 +59,9 @@ pub fn perform<
         Arguments::Part(arguments) => write_text(part(rt, alloc, arguments, input, watch), out),
         Arguments::Compare(arguments) => {
             write_text(compare(rt, alloc, arguments, input, watch), out)
+        }
+        Arguments::Footprint(arguments) => {
+            write_text(footprint(alloc, arguments, input, watch), out)
         }
         Arguments::Sample(arguments) => sample(alloc, arguments, input, out, fault_out, watch),
         Arguments::Drive(arguments) => drive(rt, alloc, arguments, input, out, watch),

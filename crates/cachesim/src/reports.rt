@@ -1,24 +1,22 @@
 //! The subcommands that make a text of a trace: `run`, `sweep`, `intervals`, `part` and `compare`.
-ghost use Rattle.std.specs.Prelude.{◌≡◌, IfOk, false};
+ghost use Rattle.std.specs.Prelude.{◌≡◌, false};
 ghost use Rattle.command_line.specs.Accepted.{AreAcceptedIntervals, IsAcceptedComparison, IsAcceptedPart};
 ghost use Rattle.command_line.specs.Accepted.{IsAcceptedRun, IsAcceptedSweep, needs_whole_trace};
 ghost use Rattle.command_line.specs.declared.arguments.Arguments.TheVariants.{Compare, Intervals, Part, Run, Sweep};
 ghost use Rattle.cachesim.specs.Subcommand.{IsMade};
-ghost use Rattle.cachesim.specs.TraceOutput.{jobs_asked};
 
 use crate::fault::Fault;
 use crate::{kept_reports, long_reports};
 use command_line::{
-    CompareArguments, IntervalsArguments, JobArguments, PartArguments, RunArguments, SweepArguments,
+    CompareArguments, IntervalsArguments, PartArguments, RunArguments, SweepArguments,
 };
 use policies::MAX_ACTORS;
 use policy_actors::run_reading_within;
 use progress::Watch;
 use report::reports_text;
-use std::alloc::{AllocError, Global};
+use std::alloc::Global;
 use std::sync::Wait;
 use std::thread::Threads;
-use step_record::Job;
 use streams::CountedRead;
 use trace_read::read_trace_within;
 
@@ -36,14 +34,12 @@ pub fn run<T: Threads + Wait + Sync, R: CountedRead, P: Watch>(
     ensures { IsMade (Run arguments.now) (R.remaining input.old) (R.tally input.old) (R.tally input.new) result }
 {
     let (asked, batch) = (&arguments.jobs, arguments.batch);
-    let policies = asked.policies.as_slice();
+    let jobs = asked.list.as_slice();
     let (format, limits) = (asked.format, asked.limits);
-    if policies.len() > MAX_ACTORS {
+    if jobs.len() > MAX_ACTORS {
         run_reading_within(rt, alloc, input, format, limits, &[], batch, watch)?;
         return Err(Fault::Actors);
     }
-    let jobs = jobs(alloc, asked)?;
-    let jobs = jobs.as_slice();
     watch.begin("run", None);
     let reports = run_reading_within(rt, alloc, input, format, limits, jobs, batch, watch);
     watch.end();
@@ -132,21 +128,4 @@ pub fn compare<T: Threads, R: CountedRead, P: Watch>(
     }
     let trace = read_trace_within(alloc, input, arguments.policies.format, limits)?;
     kept_reports::compare(rt, alloc, arguments, &trace, watch)
-}
-
-/// A job for each policy, in order, all on one configuration with one tuning. The one error is out of memory.
-pub fn jobs(alloc: Global, asked: &JobArguments) -> Result<Vec<Job>, AllocError>
-    ensures { IfOk result (λ jobs. jobs.items ≡ jobs_asked asked.now) }
-{
-    let (config, tuning) = (asked.config, asked.tuning);
-    asked
-        .policies
-        .as_slice()
-        .iter()
-        .map(|policy| Job {
-            policy: *policy,
-            config,
-            tuning,
-        })
-        .collect(alloc)
 }

@@ -1,4 +1,3 @@
 pub mod Numbers
 pub mod Naming
 pub mod Folds
-pub mod Words

@@ -1,19 +1,20 @@
 -- The ranges of what a parse gives.
 use Rattle.std.specs.Prelude.{◌≡◌, ◌≤◌, ◌&&◌, ◌||◌, Bool, false, true, nat_lt, IfSome, Ok}
 use Rattle.std.specs.Option.{option_map_or}
-use Rattle.std.specs.List.{AllPass, list_any}
+use Rattle.std.specs.List.{All, AllPass, list_any}
 use Rattle.engine_base.specs.Config.{config_fault, is_from_one}
 pub use Rattle.engine_base.specs.declared.config.Config.{Config}
 use Rattle.engine_base.specs.declared.limits.TheConstants.{MAX_ACCESSES, MAX_BATCH, MAX_CAPACITY}
 use Rattle.engine_base.specs.declared.limits.TheConstants.{MAX_GHOST_PERCENT, MAX_PART_PERCENT}
 pub use Rattle.step_record.specs.declared.job.Tuning.{Tuning}
 pub use Rattle.step_record.specs.declared.job.Policy.{Policy}
+pub use Rattle.step_record.specs.declared.job.Job.{Job}
 use Rattle.step_record.specs.declared.job.Policy.TheVariants.{Clairvoyant}
 use Rattle.engine_base.specs.declared.worker.TheConstants.{MAX_WORKERS}
 pub use Rattle.trace_read.specs.declared.limits.Limits.{Limits}
 use Rattle.trace_read.specs.declared.limits.TheConstants.{MAX_LONG_ACCESSES, MAX_LONG_TRACE_BYTES}
 use Rattle.command_line.specs.declared.arguments.Arguments.{Arguments}
-use Rattle.command_line.specs.declared.arguments.Arguments.TheVariants.{Compare, Debug, Drive, Intervals, Part}
+use Rattle.command_line.specs.declared.arguments.Arguments.TheVariants.{Compare, Debug, Drive, Footprint, Intervals, Part}
 use Rattle.command_line.specs.declared.arguments.Arguments.TheVariants.{Replay, Run, Sample, Sweep}
 use Rattle.command_line.specs.declared.arguments.CompareArguments.{CompareArguments}
 use Rattle.command_line.specs.declared.arguments.DriveArguments.{DriveArguments}
@@ -38,9 +39,13 @@ pub record AreLimits (limits : Limits) : Type 0 where
   pub accesses : limits.accesses ≤ MAX_LONG_ACCESSES
   pub bytes : limits.bytes ≤ MAX_LONG_TRACE_BYTES
 
+-- the numbers of a job are in their ranges
+pub record IsAcceptedJob (job : Job) : Type 0 where
+  pub config : config_fault job.config ≡ Ok tt
+  pub tuning : IsTuning job.tuning
+
 pub record AreAcceptedJobs (jobs : JobArguments) : Type 0 where
-  pub config : config_fault jobs.config ≡ Ok tt
-  pub tuning : IsTuning jobs.tuning
+  pub list : All IsAcceptedJob jobs.list
   pub limits : AreLimits jobs.limits
 
 pub record IsAcceptedRun (run : RunArguments) : Type 0 where
@@ -57,10 +62,8 @@ pub record AreAcceptedIntervals (intervals : IntervalsArguments) : Type 0 where
   pub some : 1 ≤ intervals.every
 
 pub record IsAcceptedPart (part : PartArguments) : Type 0 where
-  pub first : config_fault part.first.config ≡ Ok tt
-  pub second : config_fault part.second.config ≡ Ok tt
-  pub first_tuning : IsTuning part.first.tuning
-  pub second_tuning : IsTuning part.second.tuning
+  pub first : IsAcceptedJob part.first
+  pub second : IsAcceptedJob part.second
   pub limits : AreLimits part.limits
 
 -- an interval has at least one access, where the accesses are cut into such
@@ -80,6 +83,7 @@ AreAccepted (Sweep sweep) = IsAcceptedSweep sweep
 AreAccepted (Intervals intervals) = AreAcceptedIntervals intervals
 AreAccepted (Part part) = IsAcceptedPart part
 AreAccepted (Compare compare) = IsAcceptedComparison compare
+AreAccepted (Footprint footprint) = AreLimits footprint.limits
 AreAccepted (Sample sample) = 2 ≤ sample.inverse
 AreAccepted (Drive drive) = IsAcceptedDrive drive
 AreAccepted (Debug debug) = IsAcceptedPart debug.policies
@@ -90,13 +94,16 @@ abbrev pub is_clairvoyant : Policy → Bool
 is_clairvoyant Clairvoyant = true
 is_clairvoyant policy = false
 
+abbrev pub is_clairvoyant_job : Job → Bool
+is_clairvoyant_job job = is_clairvoyant job.policy
+
 -- a trace within these limits may be too long to be kept
 abbrev pub is_long : Limits → Bool
 is_long limits = nat_lt MAX_ACCESSES limits.accesses
 
--- one of the policies is, over a trace that may be too long to be kept
+-- one of the policies is Belady's, over a trace that may be too long to be kept
 abbrev pub jobs_need_whole_trace : JobArguments → Bool
-jobs_need_whole_trace jobs = is_long jobs.limits && list_any is_clairvoyant jobs.policies
+jobs_need_whole_trace jobs = is_long jobs.limits && list_any is_clairvoyant_job jobs.list
 
 -- so is one of the two
 abbrev pub pair_needs_whole_trace : PartArguments → Bool

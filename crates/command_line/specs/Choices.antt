@@ -17,9 +17,6 @@ use Rattle.trace_read.specs.declared.limits.Limits.{Limits}
 use Rattle.trace_read.specs.declared.limits.TheConstants.Limits.{DEFAULT, LONG}
 pub use Rattle.command_line.specs.declared.choices.WordLists.{WordLists}
 
-abbrev pub policy_words : List Text
-policy_words = map word_of POLICIES
-
 abbrev pub format_words : List Text
 format_words = format_word Lirs ∷ format_word Arc ∷ []
 
@@ -43,7 +40,6 @@ AreWords words names = map (λ s. s.now) names ≡ words
 
 -- the lists have these words, somewhere in memory
 pub record AreLists (lists : WordLists) : Type 0 where
-  pub policies : AreWords policy_words lists.policies.now
   pub formats : AreWords format_words lists.formats.now
   pub spreads : AreWords spread_words lists.spreads.now
   pub rates : AreWords rate_words lists.rates.now

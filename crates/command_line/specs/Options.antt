@@ -79,6 +79,7 @@ subcommands =
     ∷ named (codes "part") (Capacity ∷ Main ∷ Small ∷ In ∷ Out ∷ Period ∷ Spread ∷ Format ∷ Long ∷ First ∷ Second ∷ [])
     ∷ named (codes "compare")
     (Capacity ∷ ComparedEvery ∷ Main ∷ Small ∷ In ∷ Out ∷ Period ∷ Spread ∷ Format ∷ Long ∷ First ∷ Second ∷ [])
+    ∷ named (codes "footprint") (Format ∷ Long ∷ [])
     ∷ named (codes "sample") (Rate ∷ Seed ∷ Format ∷ [])
     ∷ named (codes "drive") (Capacity ∷ Main ∷ Small ∷ In ∷ Out ∷ Period ∷ Spread ∷ Format ∷ Workers ∷ Stripes ∷ Limit ∷ [])
     ∷ named (codes "debug") (Capacity ∷ Main ∷ Small ∷ In ∷ Out ∷ Period ∷ Spread ∷ Format ∷ First ∷ Second ∷ Trace ∷ [])

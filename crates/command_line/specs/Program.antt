@@ -19,7 +19,7 @@ use Rattle.command_line.specs.declared.options.ValueKind.TheVariants.{Rate, Spre
 abbrev pub parser_of : WordLists → ValueKind → ValueParser
 parser_of lists (Number least most) = parser.Signed (pos least) (pos most)
 parser_of lists AnyNumber = parser.Unsigned 0 18446744073709551615
-parser_of lists Policy = parser.Names lists.policies
+parser_of lists Policy = parser.String
 parser_of lists Format = parser.Names lists.formats
 parser_of lists Spread = parser.Names lists.spreads
 parser_of lists Rate = parser.Names lists.rates

@@ -1,20 +1,20 @@
 -- What the matches of a subcommand name: the value of each option, and the arguments made of them.
 use Rattle.std.specs.Prelude.{◌≡◌, ⊤, ℕ, List, Option, Some, None, Result, Ok, Err, codes, ◌&&◌, nat_le}
-use Rattle.std.specs.Prelude.{◌≤◌, Bool, false, if◌then◌else◌, is_none, option_and_then, option_map}
+use Rattle.std.specs.Prelude.{Bool, false, if◌then◌else◌, is_none, option_and_then, option_map}
 use Rattle.std.specs.Int.{is_power_of_two}
 use Rattle.std.specs.Option.{option_map_or}
 use Rattle.std.specs.Result.{result_ok}
 use Rattle.std.specs.Str.{bytes_eq}
-use Rattle.std.specs.Str.Parse.{digits_value, without_leading_plus}
 use Rattle.clap.specs.Words.{Row, Text, all_of, first_of, one_of}
-use Rattle.clap.specs.ValueTests.{is_unsigned_in}
 use Rattle.engine_base.specs.Config.{config_fault}
 use Rattle.engine_base.specs.declared.limits.TheConstants.{MAX_STRIPES}
 use Rattle.engine_base.specs.declared.config.Spread.{Spread}
 use Rattle.trace_read.specs.declared.format.Format.{Format}
-use Rattle.command_line.specs.Accepted.{Limits, Policy, Tuning, Config, has_long_intervals, needs_whole_trace}
-use Rattle.command_line.specs.Options.{ValueKind, OptionName, row_of}
-use Rattle.command_line.specs.Choices.{all_named, format_named, limits_named, policy_named, rate_named, spread_named}
+use Rattle.command_line.specs.Accepted.{Job, Limits, Tuning, Config, has_long_intervals, needs_whole_trace}
+use Rattle.command_line.specs.Options.{OptionName, row_of}
+pub use Rattle.command_line.specs.Numbers.{IsIn, in_range, number_named, value_named}
+use Rattle.command_line.specs.PolicyWords.{job_named}
+use Rattle.command_line.specs.Choices.{all_named, format_named, limits_named, rate_named, spread_named}
 use Rattle.command_line.specs.declared.arguments.Arguments.{Arguments}
 use Rattle.command_line.specs.declared.arguments.Arguments.TheVariants as asked
 use Rattle.command_line.specs.declared.arguments.JobArguments.{JobArguments}
@@ -24,7 +24,6 @@ use Rattle.command_line.specs.declared.fault.ParseFault.TheVariants.{Incomplete,
 pub use Rattle.command_line.specs.declared.fault.ValueFault.{ValueFault}
 use Rattle.command_line.specs.declared.fault.ValueFault.TheVariants as fault
 use Rattle.command_line.specs.declared.options.OptionName.TheVariants as option
-use Rattle.command_line.specs.declared.options.ValueKind.TheVariants.{Number}
 
 -- the value that is asked for, and P; an error says that there is none, or that the allocation failed
 abbrev pub Answers : {A : Type 0} → Option A → (A → Type 0) → Result A ValueFault → Type 0
@@ -36,25 +35,6 @@ abbrev pub AnswersWith : {A : Type 0} → Option A → Result A ValueFault → T
 AnswersWith asked result = Answers asked (λ x. ⊤) result
 
 -- ---- the value of an option
-
--- the number of 64 bits that a text writes in decimal digits: a plus may stand before them
-unfoldable pub number_named : Text → Option ℕ
-number_named text = if is_unsigned_in 0 18446744073709551615 text
-    then Some (digits_value 10 (without_leading_plus text)) else None
-
--- the number, where it is in the range of the values
-abbrev pub in_range : ValueKind → ℕ → Option ℕ
-in_range (Number least most) n = if nat_le least n && nat_le n most then Some n else None
-in_range other n = None
-
--- a number in the range of the values
-abbrev pub IsIn : ValueKind → ℕ → Type 0
-IsIn (Number least most) n = (least ≤ n) × (n ≤ most)
-IsIn other n = ⊥
-
--- the number that a text names as a value of an option
-abbrev pub value_named : OptionName → Text → Option ℕ
-value_named name text = option_and_then (in_range (row_of name).value) (number_named text)
 
 -- the number of 64 bits that is given to an option, and the number in its range
 abbrev pub wide_number_in : OptionName → List Row → Option ℕ
@@ -76,13 +56,15 @@ limits_in rows = limits_named (first_of (row_of option.Long).id rows)
 abbrev pub rate_in : List Row → Option ℕ
 rate_in rows = option_and_then rate_named (first_of (row_of option.Rate).id rows)
 
--- the policy that is given to an option
-abbrev pub policy_in : OptionName → List Row → Option Policy
-policy_in name rows = option_and_then policy_named (first_of (row_of name).id rows)
+-- the job of the policy that is given to an option, on this configuration and with this tuning where its word has no size
+-- of its own
+abbrev pub job_in : OptionName → Config → Tuning → List Row → Option Job
+job_in name config tuning rows = option_and_then (job_named config tuning) (first_of (row_of name).id rows)
 
--- the policies that are given to an option
-abbrev pub policies_in : OptionName → List Row → Option (List Policy)
-policies_in name rows = option_and_then (all_named policy_named) (all_of (row_of name).id rows)
+-- the jobs of the policies that are given to an option, likewise
+abbrev pub job_list_in : OptionName → Config → Tuning → List Row → Option (List Job)
+job_list_in name config tuning rows =
+    option_and_then (all_named (job_named config tuning)) (all_of (row_of name).id rows)
 
 -- the capacities of a sweep
 abbrev pub capacities_in : List Row → Option (List ℕ)
@@ -128,15 +110,14 @@ tuning_in rows = option_and_then (λ small. option_and_then (λ kin. option_map 
 
 -- ---- what a subcommand is asked for; none where its matches are incomplete
 
--- the policies that are given to an option, on this configuration, and their trace
+-- the jobs of the policies that are given to an option, on this configuration where a policy has no size of its own, and
+-- their trace
 unfoldable pub jobs_in : OptionName → Config → List Row → Option JobArguments
-jobs_in name config rows = option_and_then (λ tuning. option_map (λ policies. record {
-  config = config;
-  tuning = tuning;
-  policies = policies;
+jobs_in name config rows = option_and_then (λ tuning. option_map (λ list. record {
+  list = list;
   format = format_in rows;
   limits = limits_in rows;
-}) (policies_in name rows)) (tuning_in rows)
+}) (job_list_in name config tuning rows)) (tuning_in rows)
 
 unfoldable pub run_in : List Row → Option Arguments
 run_in rows = option_and_then (λ config. option_and_then (λ batch. option_map (λ jobs.
@@ -154,19 +135,22 @@ intervals_in rows = option_and_then (λ config. option_and_then (λ every. optio
     asked.Intervals (record { jobs = jobs; every = every }))
     (jobs_in option.Policies config rows)) (number_in option.Every rows)) (config_in rows)
 
--- two policies on one configuration with one tuning
+-- two policies on one configuration with one tuning, where they have no sizes of their own
 unfoldable pub part_in : List Row → Option PartArguments
 part_in rows = option_and_then (λ config. option_and_then (λ tuning. option_and_then (λ first. option_map (λ second. record {
-  first = record { policy = first; config = config; tuning = tuning };
-  second = record { policy = second; config = config; tuning = tuning };
+  first = first;
+  second = second;
   format = format_in rows;
   limits = limits_in rows;
-}) (policy_in option.Second rows)) (policy_in option.First rows)) (tuning_in rows)) (config_in rows)
+}) (job_in option.Second config tuning rows)) (job_in option.First config tuning rows)) (tuning_in rows)) (config_in rows)
 
 -- how long an interval is, where it is given
 unfoldable pub compare_in : List Row → Option Arguments
 compare_in rows = option_map (λ policies.
     asked.Compare (record { policies = policies; every = number_in option.ComparedEvery rows })) (part_in rows)
+
+unfoldable pub footprint_in : List Row → Arguments
+footprint_in rows = asked.Footprint (record { format = format_in rows; limits = limits_in rows })
 
 unfoldable pub sample_in : List Row → Option Arguments
 sample_in rows = option_and_then (λ inverse. option_map (λ seed.
@@ -197,11 +181,12 @@ asked_of name rows = if bytes_eq name (codes "run") then run_in rows
     else (if bytes_eq name (codes "intervals") then intervals_in rows
     else (if bytes_eq name (codes "part") then option_map asked.Part (part_in rows)
     else (if bytes_eq name (codes "compare") then compare_in rows
+    else (if bytes_eq name (codes "footprint") then Some (footprint_in rows)
     else (if bytes_eq name (codes "sample") then sample_in rows
     else (if bytes_eq name (codes "drive") then drive_in rows
     else (if bytes_eq name (codes "debug") then debug_in rows
     else (if bytes_eq name (codes "replay") then replay_in rows
-    else None))))))))
+    else None)))))))))
 
 -- a number of read buffers was given that no cache has
 abbrev pub has_wrong_stripes : List Row → Bool

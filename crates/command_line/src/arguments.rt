@@ -1,11 +1,11 @@
 //! What a call asks for, as typed values, and how they are made of the matches of a subcommand.
 ghost use Rattle.std.specs.Prelude.{◌≡◌};
 ghost use Rattle.command_line.specs.Accepted.{AreAccepted, AreAcceptedJobs, IsTuning, IsAcceptedPart, IsConfig};
-ghost use Rattle.command_line.specs.Values.{Answers, compare_in, concurrent_in, config_at, config_in, debug_in, drive_in};
+ghost use Rattle.command_line.specs.Values.{Answers, compare_in, concurrent_in, config_at, config_in, debug_in, drive_in, footprint_in};
 ghost use Rattle.command_line.specs.Values.{intervals_in, jobs_in, part_in, tuning_in, replay_in, run_in, sample_in, sweep_in};
 
 use crate::fault::{ValueFault, ValueResult};
-use crate::lists::{CapacityList, FilePath, PolicyList};
+use crate::lists::{CapacityList, FilePath, JobList};
 use crate::options::OptionName;
 use crate::values::{Matches, stripes_from};
 use std::alloc::Global;
@@ -25,6 +25,8 @@ pub enum Arguments {
     Part(PartArguments),
     /// `compare`
     Compare(CompareArguments),
+    /// `footprint`
+    Footprint(FootprintArguments),
     /// `sample`
     Sample(SampleArguments),
     /// `drive`
@@ -38,12 +40,8 @@ pub enum Arguments {
 /// The arguments of each call about any number of policies: a job for each of them, over one trace.
 #[derive(Drop)]
 pub struct JobArguments {
-    /// The configuration of each policy. Its numbers are in their ranges.
-    pub config: Config,
-    /// What is chosen of the policies.
-    pub tuning: Tuning,
-    /// The policies, in the order of their reports or rows.
-    pub policies: PolicyList,
+    /// A job for each policy, in the order of their reports or rows. Its numbers are in their ranges.
+    pub list: JobList,
     /// The format of the trace.
     pub format: Format,
     /// The most accesses and bytes of the trace.
@@ -80,7 +78,7 @@ pub struct IntervalsArguments {
 /// The arguments of `part`, and of each call about two policies.
 #[derive(Clone, Copy)]
 pub struct PartArguments {
-    /// The one policy, with the configuration and the tuning of both.
+    /// The one policy.
     pub first: Job,
     /// The other policy.
     pub second: Job,
@@ -97,6 +95,15 @@ pub struct CompareArguments {
     pub policies: PartArguments,
     /// How many accesses an interval has: from 1 to as many as the trace may have. `None` for one row of the whole trace.
     pub every: Option<u32>,
+}
+
+/// The arguments of `footprint`.
+#[derive(Clone, Copy)]
+pub struct FootprintArguments {
+    /// The format of the trace.
+    pub format: Format,
+    /// The most accesses and bytes of the trace.
+    pub limits: Limits,
 }
 
 /// The arguments of `sample`.
@@ -179,19 +186,11 @@ pub(crate) fn part(asked: &Matches<'_, '_>) -> ValueResult<PartArguments>
 {
     let config = policy_config(asked)?;
     let tuning = tuning(asked)?;
-    let first = asked.policy(OptionName::First)?;
-    let second = asked.policy(OptionName::Second)?;
+    let first = asked.job(OptionName::First, &config, &tuning)?;
+    let second = asked.job(OptionName::Second, &config, &tuning)?;
     Ok(PartArguments {
-        first: Job {
-            policy: first,
-            config,
-            tuning,
-        },
-        second: Job {
-            policy: second,
-            config,
-            tuning,
-        },
+        first,
+        second,
         format: asked.format(),
         limits: asked.limits(),
     })
@@ -205,6 +204,18 @@ pub(crate) fn compare(asked: &Matches<'_, '_>) -> ValueResult<Arguments>
     let policies = part(asked)?;
     let every = asked.optional_number(OptionName::ComparedEvery);
     Ok(Arguments::Compare(CompareArguments { policies, every }))
+}
+
+/// What `footprint` is asked for by its matches.
+#[tactic(auto, unfolding(crate::specs::Values::footprint_in))]
+pub(crate) fn footprint(asked: &Matches<'_, '_>) -> Arguments
+    ensures value { result ≡ footprint_in asked.now }
+    ensures accepted { AreAccepted result }
+{
+    Arguments::Footprint(FootprintArguments {
+        format: asked.format(),
+        limits: asked.limits(),
+    })
 }
 
 /// What `sample` is asked for by its matches.
@@ -257,7 +268,8 @@ pub(crate) fn replay(alloc: Global, asked: &Matches<'_, '_>) -> ValueResult<Argu
     Ok(Arguments::Replay(ReplayArguments { config, journal }))
 }
 
-// The policies that the matches name, on this configuration, and their trace.
+// The jobs of the policies that the matches name, on this configuration where a policy has no size of its own, and
+// their trace.
 #[tactic(auto, unfolding(crate::specs::Values::jobs_in))]
 fn jobs(
     alloc: Global,
@@ -269,11 +281,9 @@ fn jobs(
     ensures { Answers (jobs_in name config asked.now) AreAcceptedJobs result }
 {
     let tuning = tuning(asked)?;
-    let policies = asked.policies(alloc, name)?;
+    let list = asked.jobs(alloc, name, &config, &tuning)?;
     Ok(JobArguments {
-        config,
-        tuning,
-        policies,
+        list,
         format: asked.format(),
         limits: asked.limits(),
     })

@@ -4,7 +4,7 @@ ghost use Rattle.std.specs.Str.{bytes_eq};
 ghost use Rattle.step_record.specs.Job.{word_of};
 ghost use Rattle.command_line.specs.Choices.{AreWords, format_named as format_by, format_words};
 ghost use Rattle.command_line.specs.Choices.{limits_named as limits_by};
-ghost use Rattle.command_line.specs.Choices.{policy_named as policy_by, policy_words, spread_named as spread_by};
+ghost use Rattle.command_line.specs.Choices.{policy_named as policy_by, spread_named as spread_by};
 ghost use Rattle.command_line.specs.Choices.{rate_named as rate_by, rate_words};
 ghost use Rattle.command_line.specs.Choices.{spread_words};
 ghost use Rattle.trace_read.specs.declared.limits.TheConstants.{MAX_LONG_ACCESSES, MAX_LONG_TRACE_BYTES};
@@ -24,20 +24,9 @@ const GIVEN: &str = "true";
 /// The words that values are chosen from.
 #[derive(Clone, Copy)]
 pub struct WordLists<'a> {
-    pub policies: &'a [&'a str],
     pub formats: &'a [&'a str],
     pub spreads: &'a [&'a str],
     pub rates: &'a [&'a str],
-}
-
-// How many policies there are.
-const POLICY_COUNT: usize = POLICIES.len();
-
-/// The words that name the policies.
-pub(crate) fn policy_words() -> [&'static str; POLICY_COUNT]
-    ensures { AreWords policy_words result }
-{
-    POLICIES.map(Policy::word)
 }
 
 /// The words that name the formats.

@@ -14,7 +14,7 @@ use std::alloc::{AllocError, Global};
 // The version, which is the newest in `CHANGELOG.md`: `tools/check_manual` compares them.
 const VERSION: &str = "0.1.0";
 
-/// The program's commands, over the words that name policies, formats, spreads and rates.
+/// The program's commands, over the words that name formats, spreads and rates.
 pub(crate) fn program<'a>(alloc: Global, lists: &WordLists<'a>) -> Result<Command<'a>, AllocError>
     ensures { IfOk result (λ c. app_of c ≡ program_app lists.now) }
 {
@@ -113,7 +113,7 @@ fn is_required(place: Place) -> bool
 
 // Whether a value is one of so many words that they do not fit a line.
 fn has_many_words(value: ValueKind) -> bool {
-    matches!(value, ValueKind::Policy | ValueKind::Rate)
+    matches!(value, ValueKind::Rate)
 }
 
 // What `clap` takes as a value.
@@ -123,11 +123,10 @@ fn parser<'a>(value: ValueKind, lists: &WordLists<'a>) -> ValueParser<'a>
     match value {
         ValueKind::Number(least, most) => ValueParser::Signed(i64::from(least), i64::from(most)),
         ValueKind::AnyNumber => ValueParser::Unsigned(0, u64::MAX),
-        ValueKind::Policy => ValueParser::Names(lists.policies),
         ValueKind::Format => ValueParser::Names(lists.formats),
         ValueKind::Spread => ValueParser::Names(lists.spreads),
         ValueKind::Rate => ValueParser::Names(lists.rates),
-        ValueKind::File => ValueParser::String,
+        ValueKind::Policy | ValueKind::File => ValueParser::String,
         ValueKind::Flag => ValueParser::Bool,
     }
 }

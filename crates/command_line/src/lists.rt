@@ -2,7 +2,7 @@
 ghost use Rattle.std.specs.Prelude.{◌≡◌, string_bytes};
 
 use std::marker::Model;
-use step_record::Policy;
+use step_record::Job;
 
 /// What was named, in order.
 #[derive(Drop)]
@@ -10,8 +10,8 @@ pub struct NamedList<T> {
     pub(crate) named: Vec<T>,
 }
 
-/// Policies, in the order in which they were named.
-pub type PolicyList = NamedList<Policy>;
+/// Jobs, in the order in which their policies were named.
+pub type JobList = NamedList<Job>;
 
 /// Capacities, in the order in which they were named.
 pub type CapacityList = NamedList<u32>;

@@ -90,7 +90,7 @@ pub enum ValueKind {
     Number(u32, u32),
     /// A number of 64 bits.
     AnyNumber,
-    /// The word of a policy.
+    /// The word of a policy, with sizes of its own or none.
     Policy,
     /// The word of a format.
     Format,
@@ -120,7 +120,7 @@ pub enum Place {
 }
 
 /// All subcommands, in the order in which help lists them.
-pub static SUBCOMMANDS: [Subcommand; 9] = [
+pub static SUBCOMMANDS: [Subcommand; 10] = [
     Subcommand {
         name: "run",
         about: "Runs policies over the trace on standard input: a report of each",
@@ -204,6 +204,16 @@ pipe.",
             First,
             Second,
         ],
+    },
+    Subcommand {
+        name: "footprint",
+        about: "Counts the accesses of the trace and its distinct blocks",
+        whole: "Prints how large the trace on standard input is: how many accesses, how many
+distinct blocks, and how many of these are accessed once. The trace comes by a
+redirection (< FILE) or a pipe.",
+        usage: None,
+        example: "Example: cachesim footprint < trace.lirs",
+        options: &[Format, Long],
     },
     Subcommand {
         name: "sample",

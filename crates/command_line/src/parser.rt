@@ -1,23 +1,24 @@
 //! The words of a call, to its arguments.
 ghost use Rattle.std.specs.Prelude.{◌≡◌, false, IfOk, map};
 ghost use Rattle.clap.specs.Words.{subcommand_rows_of};
-ghost use Rattle.command_line.specs.Accepted.{AreAccepted, has_long_intervals, jobs_need_whole_trace};
+ghost use Rattle.std.specs.List.{list_any};
+ghost use Rattle.command_line.specs.Accepted.{AreAccepted, has_long_intervals, is_clairvoyant_job, jobs_need_whole_trace};
 ghost use Rattle.command_line.specs.Accepted.{needs_whole_trace, pair_needs_whole_trace};
 ghost use Rattle.command_line.specs.ParseResult.{IsAskedFor, ParsedBy};
 ghost use Rattle.command_line.specs.Values.{Answers, asked_in, asked_of, has_wrong_stripes};
 
 use crate::arguments::{
-    Arguments, JobArguments, PartArguments, compare, debug, drive, intervals, part, replay, run,
-    sample, sweep,
+    Arguments, JobArguments, PartArguments, compare, debug, drive, footprint, intervals, part,
+    replay, run, sample, sweep,
 };
-use crate::choices::{WordLists, format_words, policy_words, rate_words, spread_words};
+use crate::choices::{WordLists, format_words, rate_words, spread_words};
 use crate::commands::program;
 use crate::fault::{ParseFault, ValueFault, ValueResult};
 use crate::options::OptionName;
 use crate::values::{Matches, stripes_from};
 use clap::ArgMatches;
 use std::alloc::Global;
-use step_record::Policy;
+use step_record::{Job, Policy};
 
 /// What the words after the program's name ask for. `Refused` comes exactly where `clap` refuses
 /// them by the commands' rules, also where they ask for help or the version, or where it ran out
@@ -30,12 +31,10 @@ pub fn parse(alloc: Global, words: &[&str]) -> Result<Arguments, ParseFault>
     ensures accepted { IfOk result AreAccepted }
     ensures kept { IfOk result (λ arguments. needs_whole_trace arguments ≡ false) }
 {
-    let policies = policy_words();
     let formats = format_words();
     let spreads = spread_words();
     let rates = rate_words();
     let lists = WordLists {
-        policies: policies.as_slice(),
         formats: formats.as_slice(),
         spreads: spreads.as_slice(),
         rates: rates.as_slice(),
@@ -77,6 +76,7 @@ fn arguments_of(alloc: Global, name: &str, asked: &Matches<'_, '_>) -> ValueResu
         "intervals" => intervals(alloc, asked),
         "part" => part(asked).map(Arguments::Part),
         "compare" => compare(asked),
+        "footprint" => Ok(footprint(asked)),
         "sample" => sample(asked),
         "drive" => drive(asked),
         "debug" => debug(alloc, asked),
@@ -113,7 +113,14 @@ fn needs_whole_trace(arguments: &Arguments) -> bool
 fn jobs_need_whole_trace(jobs: &JobArguments) -> bool
     ensures { result ≡ jobs_need_whole_trace jobs.now }
 {
-    jobs.limits.are_long() && jobs.policies.as_slice().contains(&Policy::Clairvoyant)
+    jobs.limits.are_long() && has_clairvoyant(jobs.list.as_slice())
+}
+
+// Whether one of the jobs is of Belady's policy.
+fn has_clairvoyant(jobs: &[Job]) -> bool
+    ensures { result ≡ list_any is_clairvoyant_job jobs.now }
+{
+    jobs.iter().any(|job| job.policy == Policy::Clairvoyant)
 }
 
 // Whether one of the two has to.

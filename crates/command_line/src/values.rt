@@ -1,26 +1,28 @@
 //! The values that the matches of a subcommand have for an option.
 ghost use Rattle.std.specs.Prelude.{◌≡◌, ◌≤◌, IfOk, IfSome, map, option_and_then, option_map, true};
-ghost use Rattle.std.specs.List.{AllPass};
+ghost use Rattle.std.specs.List.{All, AllPass};
 ghost use Rattle.clap.specs.Words.{all_of, first_of};
 ghost use Rattle.engine_base.specs.Config.{is_from_one};
 ghost use Rattle.engine_base.specs.declared.limits.TheConstants.{MAX_CAPACITY};
-ghost use Rattle.command_line.specs.Choices.{all_named, policy_named as policy_by};
+ghost use Rattle.command_line.specs.Accepted.{IsAcceptedJob, IsConfig, IsTuning};
+ghost use Rattle.command_line.specs.Choices.{all_named};
 ghost use Rattle.command_line.specs.Options.{row_of};
 ghost use Rattle.command_line.specs.Values.{Answers, AnswersWith, IsIn, capacities_in, format_in, in_range as within};
 ghost use Rattle.command_line.specs.Values.{limits_in, number_in};
-ghost use Rattle.command_line.specs.Values.{number_named as number_by, policies_in, policy_in, rate_in, spread_in};
+ghost use Rattle.command_line.specs.Values.{number_named as number_by, job_in, job_list_in, rate_in, spread_in};
 ghost use Rattle.command_line.specs.Values.{stripes_from as stripes_by, value_named as value_by, wide_number_in};
 ghost use Rattle.command_line.specs.declared.options.OptionName.TheVariants.{Capacities};
 ghost use Rattle.trace_read.specs.declared.limits.TheConstants.{MAX_LONG_ACCESSES, MAX_LONG_TRACE_BYTES};
 
-use crate::choices::{format_named, limits_named, policy_named, rate_named, spread_named};
+use crate::choices::{format_named, limits_named, rate_named, spread_named};
 use crate::fault::{ValueFault, ValueResult};
-use crate::lists::{CapacityList, FilePath, NamedList, PolicyList};
+use crate::lists::{CapacityList, FilePath, JobList, NamedList};
 use crate::options::{OptionName, ValueKind};
+use crate::policy_words::job_named;
 use clap::ArgMatches;
 use std::alloc::Global;
 use std::marker::Model;
-use step_record::{MAX_STRIPES, Policy, Spread};
+use step_record::{Config, Job, MAX_STRIPES, Spread, Tuning};
 use trace_read::{Format, Limits};
 
 /// The matches of a subcommand, which contracts see as the rows of what was found.
@@ -94,13 +96,20 @@ impl<'m, 'a> Matches<'m, 'a> {
         limits_named(self.word(OptionName::Long))
     }
 
-    /// The policy that is given to an option.
-    pub(crate) fn policy(&self, option: OptionName) -> ValueResult<Policy>
-        ensures { AnswersWith (policy_in option self.now) result }
+    /// The job of the policy that is given to an option, on this configuration and with this tuning where the policy's
+    /// word has no size of its own.
+    pub(crate) fn job(
+        &self,
+        option: OptionName,
+        config: &Config,
+        tuning: &Tuning,
+    ) -> ValueResult<Job>
+        requires config { IsConfig config.now }
+        requires tuning { IsTuning tuning.now }
+        ensures { Answers (job_in option config.now tuning.now self.now) IsAcceptedJob result }
     {
-        self.word(option)
-            .and_then(policy_named)
-            .ok_or(ValueFault::Incomplete)
+        let word = self.word(option).ok_or(ValueFault::Incomplete)?;
+        job_named(word, config, tuning).ok_or(ValueFault::Incomplete)
     }
 
     /// The path of the file that is given to an option.
@@ -113,11 +122,23 @@ impl<'m, 'a> Matches<'m, 'a> {
         })
     }
 
-    /// The policies that are given to an option.
-    pub(crate) fn policies(&self, alloc: Global, option: OptionName) -> ValueResult<PolicyList>
-        ensures { AnswersWith (policies_in option self.now) result }
+    /// The jobs of the policies that are given to an option, likewise.
+    pub(crate) fn jobs(
+        &self,
+        alloc: Global,
+        option: OptionName,
+        config: &Config,
+        tuning: &Tuning,
+    ) -> ValueResult<JobList>
+        requires config { IsConfig config.now }
+        requires tuning { IsTuning tuning.now }
+        ensures { Answers (job_list_in option config.now tuning.now self.now) (All IsAcceptedJob) result }
     {
-        self.named(alloc, option, policy_named)
+        let named = |word: &str| -> Option<Job>
+            ensures value { result ≡ job_by config.entry.now tuning.entry.now word.now }
+            ensures accepted { IsConfig config.entry.now → IsTuning tuning.entry.now → IfSome result IsAcceptedJob }
+        { job_named(word, config, tuning) };
+        self.named(alloc, option, named)
     }
 
     /// The capacities of a sweep.
@@ -137,8 +158,8 @@ impl<'m, 'a> Matches<'m, 'a> {
         requires { F.IsAlwaysCallable name }
         ensures named { (by : _) → ((word : _) (thing : _) → F.post name word thing → thing ≡ by word.now)
             → AnswersWith (option_and_then (all_named by) (all_of (row_of option).id self.now)) result }
-        ensures passed { (test : _) → ((word : _) (thing : _) → F.post name word thing
-            → IfSome thing (λ x. test x ≡ true)) → IfOk result (AllPass test) }
+        ensures all { (P : _ → Type 0) → ((word : _) (thing : _) → F.post name word thing → IfSome thing P)
+            → IfOk result (All P) }
     {
         let Some(words) = self.words(option) else {
             return Err(ValueFault::Incomplete);
@@ -195,7 +216,15 @@ fn capacity_named(word: &str) -> Option<u32>
     ensures value { result ≡ value_by Capacities word.now }
     ensures range { IfSome result (λ n. is_from_one MAX_CAPACITY n ≡ true) }
 {
-    in_range(OptionName::Capacities.row().value, number_named(word)?)
+    value_named(OptionName::Capacities, word)
+}
+
+/// The number that a word names as a value of an option.
+pub(crate) fn value_named(option: OptionName, word: &str) -> Option<u32>
+    ensures value { result ≡ value_by option word.now }
+    ensures range { IfSome result (IsIn (row_of option).value) }
+{
+    in_range(option.row().value, number_named(word)?)
 }
 
 // The number that a word writes in decimal digits.

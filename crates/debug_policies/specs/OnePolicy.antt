@@ -7,7 +7,7 @@ use Rattle.engine_base.specs.declared.limits.TheConstants.{MAX_ACCESSES, MAX_JOU
 pub use Rattle.engine_base.specs.declared.outcome.Outcome.{Outcome}
 use Rattle.engine_base.specs.declared.outcome.Outcome.TheVariants.{Kept}
 use Rattle.engine_base.specs.Config.{config_fault}
-use Rattle.step_record.specs.Job.{word_of}
+use Rattle.step_record.specs.Job.{name_of}
 use Rattle.engine_base.specs.Stats.{stats_of}
 use Rattle.admission.specs.Frequency.{FrequencyData}
 use Rattle.engine_base.specs.Machine.{after}
@@ -62,7 +62,7 @@ age_at j trace n = age_by (design_of j) j (take n trace)
 -- ---- the text
 
 abbrev pub counts_line : List ℕ → Job → Stats → List ℕ
-counts_line label j s = label ++ (codes " " ++ (word_of j.policy
+counts_line label j s = label ++ (codes " " ++ (name_of j.policy j.sizes
     ++ (count_text (codes " hits ") s.hits ++ (count_text (codes " misses ") s.misses
     ++ (count_text (codes " evictions ") s.evictions
     ++ (count_text (codes " rejections ") s.rejections ++ codes "\n"))))))

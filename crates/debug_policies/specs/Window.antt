@@ -1,7 +1,7 @@
 -- The window of a policy over a trace once the first accesses are made: by the policy's definition.
 use Rattle.std.specs.Prelude.{ℕ, List, ◌++◌, codes, take}
 pub use Rattle.step_record.specs.declared.job.Job.{Job}
-use Rattle.step_record.specs.Job.{word_of}
+use Rattle.step_record.specs.Job.{name_of}
 use Rattle.engine_base.specs.Machine.{after}
 use Rattle.adaptive_window.specs.AdaptiveCache.{Config}
 use Rattle.adaptive_window.specs.AdaptiveWindow.{AdaptiveState}
@@ -61,4 +61,4 @@ window_text (Moving size target) =
     count_text (codes " window ") size ++ (count_text (codes " target ") target ++ codes "\n")
 
 abbrev pub window_line : List ℕ → Job → List ℕ → ℕ → List ℕ
-window_line label j trace n = label ++ (codes " " ++ (word_of j.policy ++ window_text (window_at j trace n)))
+window_line label j trace n = label ++ (codes " " ++ (name_of j.policy j.sizes ++ window_text (window_at j trace n)))

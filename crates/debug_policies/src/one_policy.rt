@@ -2,7 +2,7 @@
 ghost use Rattle.std.specs.Prelude.{◌≡◌, ◌≢◌, ◌≤◌, ◌<◌, ◌+◌, ◌-◌, ◌++◌, Ok, Some, None, IfOk, OnOk, OnErr, [], codes};
 ghost use Rattle.std.specs.Prelude.{◌∷◌, length};
 ghost use Rattle.engine_base.specs.Config.{config_fault};
-ghost use Rattle.step_record.specs.Job.{word_of};
+ghost use Rattle.step_record.specs.Job.{name_of};
 ghost use Rattle.policies.specs.AnyStep.{any_act};
 ghost use Rattle.debug_policies.specs.OnePolicy.{age_at, counts_line, holds_line, outcome_at, policy_lines};
 ghost use Rattle.debug_policies.specs.Window.{window_at, window_line};
@@ -13,7 +13,7 @@ use journal::{BackFault, Session, SessionFault};
 use policies::{AnyPolicy, theorems};
 use std::alloc::{AllocError, Global};
 use std::marker::Model;
-use step_record::{Job, Key, MAX_JOURNAL_LIMIT, Outcome, Stats, Trace};
+use step_record::{Job, Key, MAX_JOURNAL_LIMIT, Outcome, Stats, Trace, push_name};
 
 /// A policy over a trace, and how many of the accesses are made.
 #[derive(Drop)]
@@ -176,13 +176,13 @@ fn make(session: &mut Session<AnyPolicy>, key: Key) -> Result<Outcome, AllocErro
     }
 }
 
-// Adds the label and the policy, with which a line begins.
+// Adds the label and what the policy is called, with which a line begins.
 fn push_policy(text: &mut Vec<u8>, label: &'static str, job: &Job) -> Result<(), AllocError>
     ensures { OnOk result (text.new.items
-        ≡ text.old.items ++ (label.now ++ (codes " " ++ word_of job.now.policy))) }
+        ≡ text.old.items ++ (label.now ++ (codes " " ++ name_of job.now.policy job.now.sizes))) }
 {
-    let word = job.policy.word();
-    push_pieces(text, &[label.as_bytes(), b" ", word.as_bytes()])
+    push_pieces(text, &[label.as_bytes(), b" "])?;
+    push_name(text, job.policy, &job.sizes)
 }
 
 // Adds the line of the counts.

@@ -12,7 +12,7 @@ use std::sync::atomic::AtomicU64;
 use std::sync::atomic::Ordering::SeqCst;
 use std::test::Fail;
 use std::thread::Threads;
-use step_record::{Config, Gate, Job, Key, OpenGate, Policy, Spread, Trace, Tuning};
+use step_record::{Config, Gate, Job, Key, OpenGate, Policy, Sizes, Spread, Trace, Tuning};
 use streams::{CountedReader, CountedWriter};
 
 const fn at_two(policy: Policy) -> Job {
@@ -22,6 +22,7 @@ const fn at_two(policy: Policy) -> Job {
 const fn of_capacity(capacity: u32, policy: Policy) -> Job {
     Job {
         policy,
+        sizes: Sizes::NONE,
         config: Config {
             capacity,
             main_percent: 99,

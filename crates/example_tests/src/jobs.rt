@@ -1,5 +1,5 @@
 //! The configuration and the job of the tests.
-use step_record::{Config, Job, Policy, Spread, Tuning};
+use step_record::{Config, Job, Policy, Sizes, Spread, Tuning};
 
 // A small cache with one read buffer.
 pub(crate) const SMALL: Config = Config {
@@ -13,6 +13,7 @@ pub(crate) const SMALL: Config = Config {
 // Lru with room for two keys.
 pub(crate) const LRU: Job = Job {
     policy: Policy::Lru,
+    sizes: Sizes::NONE,
     config: SMALL,
     tuning: Tuning::PUBLISHED,
 };

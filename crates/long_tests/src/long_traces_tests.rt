@@ -13,7 +13,7 @@ use std::process::Abort;
 use std::sync::Wait;
 use std::test::Fail;
 use std::thread::Threads;
-use step_record::{Config, Job, OpenGate, Policy, Spread, Tuning};
+use step_record::{Config, Job, OpenGate, Policy, Sizes, Spread, Tuning};
 use streams::CountedReader;
 use trace_read::{Format, Limits, TraceFault};
 
@@ -32,6 +32,7 @@ fn job(policy: Policy) -> Result<Job, Fail>
 {
     let job = Job {
         policy,
+        sizes: Sizes::NONE,
         config: AT_TWO,
         tuning: Tuning::PUBLISHED,
     };
@@ -46,6 +47,7 @@ fn counted(policy: Policy, counts: [u64; 5]) -> Report {
     let [accesses, hits, misses, evictions, rejections] = counts;
     Report {
         policy,
+        sizes: Sizes::NONE,
         capacity: 2,
         accesses,
         hits,

@@ -1,3 +1,4 @@
 pub mod Taking
+pub mod Footprint
 pub mod JobRuns
 pub mod Pairs

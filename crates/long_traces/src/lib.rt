@@ -2,6 +2,7 @@
 //!
 //! `reports` makes the report of each of any number of jobs, `intervals` their rows for each interval, `compare` and
 //! `compare_intervals` count at which accesses two policies hit, and `part` finds the first at which just one does.
+//! `footprint` counts the accesses and the blocks.
 //! Each promises what its namesake over a trace that is kept does: what the policies' definitions give over all
 //! accesses of the bytes read. The caches take the accesses piece by piece while the trace is read, so no memory grows
 //! with its length but the rows. The gate is called after each piece, or by `reports` around each batch of an actor.
@@ -9,6 +10,8 @@
 
 mod compared_run;
 mod feed;
+mod footprint;
+mod footprint_run;
 mod job_run;
 mod job_runs;
 mod jobs;
@@ -16,5 +19,6 @@ mod pair;
 mod pairs;
 mod part_run;
 
+pub use footprint::{Footprint, footprint};
 pub use jobs::{intervals, reports};
 pub use pairs::{compare, compare_intervals, part};

@@ -8,6 +8,7 @@ use Rattle.policies.specs.declared.report.Report.{Report}
 abbrev pub report_of : Job → Stats → Report
 report_of job stats = record {
   policy = job.policy;
+  sizes = job.sizes;
   capacity = job.config.capacity;
   accesses = stats.accesses;
   hits = stats.hits;

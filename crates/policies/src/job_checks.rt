@@ -14,6 +14,7 @@ pub fn with_capacity(job: &Job, capacity: u32) -> Job
 {
     Job {
         policy: job.policy,
+        sizes: job.sizes,
         config: Config {
             capacity,
             ..job.config

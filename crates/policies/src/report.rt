@@ -2,13 +2,15 @@
 ghost use Rattle.std.specs.Prelude.{◌≡◌};
 ghost use Rattle.policies.specs.Reports.{rate_of, report_of};
 
-use step_record::{Job, Policy, Stats};
+use step_record::{Job, Policy, Sizes, Stats};
 
 /// What a policy of some capacity made of a trace: how many accesses there were, and how many of
 /// each kind.
 #[derive(Clone, Copy, Debug, PartialEq, Eq)]
 pub struct Report {
     pub policy: Policy,
+    /// The sizes that were given with the policy's word, which rows name.
+    pub sizes: Sizes,
     pub capacity: u32,
     pub accesses: u64,
     pub hits: u64,
@@ -24,6 +26,7 @@ impl Report {
     {
         Report {
             policy: job.policy,
+            sizes: job.sizes,
             capacity: job.config.capacity,
             accesses: stats.accesses,
             hits: stats.hits,

@@ -13,7 +13,7 @@ pub fn is_same_stats(a: &Stats, b: &Stats) -> bool
     a == b
 }
 
-/// Whether both are the same report: `==` compares the policy, the capacity and each count.
+/// Whether both are the same report: `==` compares the policy, its sizes, the capacity and each count.
 pub fn is_same_report(a: &Report, b: &Report) -> bool
     ensures { IsTrue result ↔ a.now ≡ b.now }
 {

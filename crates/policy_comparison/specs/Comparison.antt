@@ -1,7 +1,7 @@
 -- How often two policies hit at the same accesses of a trace.
 use Rattle.std.specs.Prelude.{ℕ, ◌+◌, ◌≤◌, Bool, not, ◌&&◌, List, [], ◌∷◌, ◌++◌, codes, count_by, flat_map, length, map, zip}
 pub use Rattle.step_record.specs.declared.job.Job.{Job}
-use Rattle.step_record.specs.Job.{word_of}
+use Rattle.step_record.specs.Job.{name_of}
 use Rattle.engine_base.specs.Stats.{is_hit, one_if}
 use Rattle.policies.specs.AnyPolicy.{Outcome, outcomes_on}
 use Rattle.debug_commands.specs.Texts.{count_text}
@@ -51,9 +51,9 @@ pub record IsUpTo (n : ℕ) (c : Comparison) : Type 0 where
 
 -- ---- what is printed of it
 
--- a row of two jobs: their policies, the capacity of the first, and numbers
+-- a row of two jobs: what their policies are called, the capacity of the first, and numbers
 abbrev pub pair_row : Job → Job → List ℕ → List ℕ
-pair_row first second numbers = word_of first.policy ++ (codes "," ++ (word_of second.policy
+pair_row first second numbers = name_of first.policy first.sizes ++ (codes "," ++ (name_of second.policy second.sizes
     ++ (flat_map (count_text (codes ",")) (first.config.capacity ∷ numbers) ++ codes "\n")))
 
 abbrev pub comparison_header : List ℕ

@@ -3,9 +3,9 @@ ghost use Rattle.std.specs.Prelude.{◌≡◌, ◌++◌, OnOk};
 ghost use Rattle.engine_base.specs.declared.limits.TheConstants.{MAX_STEPS};
 ghost use Rattle.policy_comparison.specs.Comparison.{comparison_text, counts_with, IsUpTo, no_counts, pair_row};
 
-use debug_commands::{push_count, push_numbers_line, push_pieces};
+use debug_commands::{push_count, push_numbers_line};
 use std::alloc::AllocError;
-use step_record::Job;
+use step_record::{Job, push_name};
 
 /// At how many accesses of a trace both of two policies hit, only the first, only the second, and neither.
 #[derive(Clone, Copy)]
@@ -74,7 +74,7 @@ pub fn push_comparison(
     )
 }
 
-/// Adds a row of two jobs: their policies, the capacity of the first, and numbers. The one error is that an allocation
+/// Adds a row of two jobs: what their policies are called, the capacity of the first, and numbers. The one error is that an allocation
 /// failed.
 pub(crate) fn push_row(
     text: &mut Vec<u8>,
@@ -84,8 +84,9 @@ pub(crate) fn push_row(
 ) -> Result<(), AllocError>
     ensures { OnOk result (text.new.items ≡ text.old.items ++ pair_row first.now second.now numbers.now) }
 {
-    let (word, other) = (first.policy.word(), second.policy.word());
-    push_pieces(text, &[word.as_bytes(), b",", other.as_bytes()])?;
+    push_name(text, first.policy, &first.sizes)?;
+    text.extend_from_slice(b",")?;
+    push_name(text, second.policy, &second.sizes)?;
     push_count(text, b",", u64::from(first.config.capacity))?;
     push_numbers_line(text, b",", numbers)
 }

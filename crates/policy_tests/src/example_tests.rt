@@ -10,7 +10,7 @@ use policies::AnyPolicy;
 use std::alloc::Global;
 use std::process::Abort;
 use std::test::Fail;
-use step_record::{Config, Engine, Job, Key, Outcome, Policy, Spread, Stats, Trace, Tuning};
+use step_record::{Config, Engine, Job, Key, Outcome, Policy, Sizes, Spread, Stats, Trace, Tuning};
 
 // A worked example: a policy at a capacity, the accesses with their outcomes, what is counted (accesses, hits, misses,
 // evictions and rejections), and the keys that stay.
@@ -52,6 +52,7 @@ fn opened(
     let trace = trace_of(rt, alloc, example.accesses)?;
     let job = Job {
         policy,
+        sizes: Sizes::NONE,
         config,
         tuning,
     };

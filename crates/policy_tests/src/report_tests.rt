@@ -2,11 +2,12 @@
 use super::assertions::assert_equal;
 use report::{Report, write_reports};
 use std::test::Fail;
-use step_record::Policy;
+use step_record::{Policy, Sizes};
 use streams::CountedWriter;
 
 const COUNTED: Report = Report {
     policy: Policy::Lru,
+    sizes: Sizes::NONE,
     capacity: 3,
     accesses: 6,
     hits: 1,
@@ -17,6 +18,7 @@ const COUNTED: Report = Report {
 
 const EMPTY: Report = Report {
     policy: Policy::WindowTinyLfu,
+    sizes: Sizes::NONE,
     capacity: 1,
     accesses: 0,
     hits: 0,
@@ -27,6 +29,7 @@ const EMPTY: Report = Report {
 
 const LARGE: Report = Report {
     policy: Policy::Clairvoyant,
+    sizes: Sizes::NONE,
     capacity: 1_048_576,
     accesses: 18_446_744_073_709_551_615,
     hits: 18_446_744_073_709_551_615,

@@ -1,10 +1,11 @@
 -- A record of fields that want no quotes is written as they are, between commas.
-use Rattle.std.proofs.Common.{◌≡◌, ◌∙◌, ◌<◌, ◌≤◌, ◌^◌, ◌/◌, ◌%◌, ◌==◌, ℕ, suc, false, List, [], ◌∷◌, ◌++◌, Option, Some, refl, ap, get_or, map, subst, arith}
+use Rattle.std.proofs.Common.{◌≡◌, ◌∙◌, ◌<◌, ◌≤◌, ◌^◌, ◌/◌, ◌%◌, ◌==◌, ℕ, suc, false, List, [], ◌∷◌, ◌++◌, Option, Some, None, refl, ap, get_or, map, subst, arith}
 use Rattle.std.proofs.lemmas.List.{append-nil}
 use Rattle.std.proofs.lemmas.List.Folds.{list_any-append}
 use Rattle.std.proofs.lemmas.Bool.{ne_eqb, or_from}
 use Rattle.std.proofs.lemmas.Str.Parse.{digit_from_value}
 use Rattle.std.proofs.lemmas.Fmt.{decimal_is_IsNumeral_wide}
+use Rattle.std.specs.Prelude.{codes}
 use Rattle.std.specs.Io.KnownBytes.{Appends}
 use Rattle.std.specs.List.{join_with_byte, list_any}
 use Rattle.std.specs.Fmt.{decimal}
@@ -12,7 +13,9 @@ use Rattle.std.specs.Str.Parse.{AllDigits}
 use Rattle.csv.specs.Writing.{default_writer, field_text, fields_text, is_blank, needs_byte, row_body, row_text}
 use Rattle.policies.specs.Reports.{rate_of}
 use Rattle.report.specs.Text.{Report, line_text, rate_text_of, row_fields}
-use Rattle.step_record.specs.Job.{word_of}
+use Rattle.report.specs.ShortSizes.{AreShort, IsShort}
+use Rattle.step_record.specs.Job.{name_of, word_of}
+use Rattle.step_record.specs.Sizes.{Sizes, size_text, sizes_text}
 use Rattle.step_record.specs.declared.job.Policy.{Policy}
 use Rattle.step_record.specs.declared.job.Policy.TheVariants.{Lru}
 
@@ -70,14 +73,29 @@ pub word_plain : (p : Policy) → IsPlain (word_of p)
 word_plain Lru = refl
 word_plain _ = refl
 
+size_plain : (name : List ℕ) (size : Option ℕ) → IsPlain name → IsShort size → IsPlain (size_text name size)
+size_plain name None h few = refl
+size_plain name (Some n) h few = append_plain name (decimal n) h (decimal_plain n (omega (arith, few)))
+
+sizes_plain : (s : Sizes) → AreShort s → IsPlain (sizes_text s)
+sizes_plain s few =
+    let small = size_plain (codes ":small=") s.small refl few.small in
+    let kout = append_plain _ _ (size_plain (codes ":out=") s.kout refl few.kout) small in
+    let kin = append_plain _ _ (size_plain (codes ":in=") s.kin refl few.kin) kout in
+    let period = append_plain _ _ (size_plain (codes ":period=") s.period refl few.period) kin in
+    append_plain _ _ (size_plain (codes ":main=") s.main refl few.main) period
+
+name_plain : (p : Policy) (s : Sizes) → AreShort s → IsPlain (name_of p s)
+name_plain p s few = append_plain (word_of p) (sizes_text s) (word_plain p) (sizes_plain s few)
+
 numbers_plain : (numbers : List ℕ) (rate : ℕ) → ((k : ℕ) → get_or numbers k 0 < 2 ^ 64) → rate < 10 ^ 64 → AllPlain (map decimal numbers ++ rate_text_of rate ∷ [])
 numbers_plain [] rate small few = (rate_plain rate few, tt)
 numbers_plain (n ∷ numbers) rate small few = (decimal_plain n (omega (arith, small 0)), numbers_plain numbers rate (λ k. small (suc k)) few)
 
 -- a row is written as it is
-pub row_plain : (r : Report) (numbers : List ℕ) → ((k : ℕ) → get_or numbers k 0 < 2 ^ 64) → rate_of r < 10 ^ 64 → row_text default_writer (row_fields r numbers) ≡ line_text (row_fields r numbers)
-row_plain r [] small few = plain_row _ _ _ (word_plain r.policy, numbers_plain [] _ small few)
-row_plain r (n ∷ numbers) small few = plain_row _ _ _ (word_plain r.policy, numbers_plain (n ∷ numbers) _ small few)
+pub row_plain : (r : Report) (numbers : List ℕ) → ((k : ℕ) → get_or numbers k 0 < 2 ^ 64) → rate_of r < 10 ^ 64 → AreShort r.sizes → row_text default_writer (row_fields r numbers) ≡ line_text (row_fields r numbers)
+row_plain r [] small few sizes = plain_row _ _ _ (name_plain r.policy r.sizes sizes, numbers_plain [] _ small few)
+row_plain r (n ∷ numbers) small few sizes = plain_row _ _ _ (name_plain r.policy r.sizes sizes, numbers_plain (n ∷ numbers) _ small few)
 
 -- what a writer of known bytes wrote besides
 pub appended : (old : Option (List ℕ)) (x y z w : List ℕ) → old ≡ Some x → Appends old (Some y) z → z ≡ w → Some y ≡ Some (x ++ w)

@@ -2,7 +2,7 @@
 use Rattle.std.specs.Prelude.{ℕ, ◌/◌, ◌%◌, List, [], ◌∷◌, ◌++◌, codes, map}
 use Rattle.std.specs.List.{flat_map, join_with_byte}
 use Rattle.std.specs.Fmt.{decimal}
-use Rattle.step_record.specs.Job.{word_of}
+use Rattle.step_record.specs.Job.{name_of}
 use Rattle.policies.specs.Reports.{rate_of}
 pub use Rattle.policies.specs.declared.report.Report.{Report}
 
@@ -14,9 +14,9 @@ rate_text_of n = decimal (n / 100) ++ (codes "." ++ (decimal (n % 100 / 10) ++ d
 unfoldable pub line_text : List (List ℕ) → List ℕ
 line_text fields = join_with_byte 44 fields ++ codes "\n"
 
--- the report's policy, some numbers, and its rate
+-- what the report's policy is called, some numbers, and its rate
 abbrev pub row_fields : Report → List ℕ → List (List ℕ)
-row_fields r numbers = word_of r.policy ∷ (map decimal numbers ++ rate_text_of (rate_of r) ∷ [])
+row_fields r numbers = name_of r.policy r.sizes ∷ (map decimal numbers ++ rate_text_of (rate_of r) ∷ [])
 
 abbrev pub report_header : List ℕ
 report_header = codes "policy,capacity,accesses,hits,misses,evictions,rejections,rate\n"

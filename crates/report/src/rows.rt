@@ -4,6 +4,7 @@ ghost use Rattle.std.specs.Io.KnownBytes.{Appends};
 ghost use Rattle.csv.specs.Records.{fields_of, partial_of};
 ghost use Rattle.policies.specs.Reports.{rate_of};
 ghost use Rattle.report.specs.RowWriter.{HasWritten};
+ghost use Rattle.report.specs.ShortSizes.{AreShort};
 ghost use Rattle.report.specs.Text.{line_text, rate_text_of, reports_text, row_fields};
 ghost use Rattle.streams.specs.Part.{AppendsPart};
 ghost use Rattle.streams.specs.Tally.{FailsWhere};
@@ -12,6 +13,7 @@ use super::{Report, WriteFault};
 use csv::{ByteRecord, Writer, WriterBuilder};
 use itoa::Buffer;
 use std::alloc::{AllocError, Global};
+use step_record::push_name;
 use streams::CountedWrite;
 
 /// Writes the text of the reports, and flushes. The writes and flushes of one call share its interruptions, of which
@@ -93,8 +95,12 @@ fn push_fields(
     requires partial { partial_of row.old ≡ [] }
     ensures fields { OnOk result (fields_of row.new ≡ row_fields report.now numbers.now) }
     ensures rate { OnOk result (rate_of report.now < 2 ^ 128) }
+    ensures sizes { OnOk result (AreShort report.now.sizes) }
 {
-    row.push_field(report.policy.word().as_bytes())?;
+    let sizes = report.sizes;
+    let mut name = Vec::new(alloc);
+    push_name(&mut name, report.policy, &sizes)?;
+    row.push_field(name.as_slice())?;
     let mut digits = Buffer::new();
     for number in numbers {
         row.push_field(digits.format(*number).as_bytes())?;

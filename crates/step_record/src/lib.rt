@@ -3,6 +3,7 @@
 #![tactic(auto)]
 
 mod job;
+mod sizes;
 
 pub use engine_base::{
     Act, Answer, BitList, ByWorker, Call, Config, ConfigFault, Drain, Engine, Entry, Gate, Item,
@@ -11,4 +12,5 @@ pub use engine_base::{
     MAX_WORKERS, Node, OpenGate, Outcome, Phase, Reply, Spread, Stats, Step, StepFault, Trace,
     Worker, bits,
 };
-pub use job::{Job, POLICIES, Policy, Tuning};
+pub use job::{Job, POLICIES, Policy, Tuning, push_name};
+pub use sizes::Sizes;

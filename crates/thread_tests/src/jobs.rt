@@ -2,7 +2,7 @@
 use super::sessions::SMALL;
 use policies::{ActorFault, Report};
 use std::test::Fail;
-use step_record::{Config, Job, Policy, Spread, Tuning};
+use step_record::{Config, Job, Policy, Sizes, Spread, Tuning};
 
 pub(crate) fn job(policy: Policy, capacity: u32) -> Job {
     let config = Config {
@@ -12,6 +12,7 @@ pub(crate) fn job(policy: Policy, capacity: u32) -> Job {
     };
     Job {
         policy,
+        sizes: Sizes::NONE,
         config,
         tuning: Tuning::PUBLISHED,
     }
@@ -42,6 +43,7 @@ pub(crate) fn counted(policy: Policy, capacity: u32, counts: [u64; 5]) -> Report
     let [accesses, hits, misses, evictions, rejections] = counts;
     Report {
         policy,
+        sizes: Sizes::NONE,
         capacity,
         accesses,
         hits,

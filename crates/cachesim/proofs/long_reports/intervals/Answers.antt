@@ -1,7 +1,6 @@
-use Rattle.std.proofs.Common.{◌∙◌}
 use Rattle.cachesim.proofs.Accepting.{counts_long}
 use Rattle.cachesim.proofs.long_reports.intervals.Goals as goal
 
 pub intervals-rows-requires-clause-follow : goal.intervals-rows-requires-clause-follow
 intervals-rows-requires-clause-follow g c κs within =
-    counts_long c.args.arguments.now c.as_slice-2.result.now c.requires.accepted c.requires.kept c.requires.long (c.as_slice-2.ensures.value ∙ c.in_ok-jobs.ensures)
+    counts_long c.args.arguments.now c.as_slice-jobs.result.now c.requires.accepted c.requires.kept c.requires.long c.as_slice-jobs.ensures

@@ -8,14 +8,14 @@ use Rattle.cachesim.proofs.long_reports.sweep.Goals as goal
 
 pub reports-reports-requires-clause-follow : goal.reports-reports-requires-clause-follow
 reports-reports-requires-clause-follow g c κs within =
-    let rows = swept_rows c.args.arguments.now _ _ _ (c.as_slice-2.ensures.value ∙ c.in_ok-jobs.ensures) c.as_slice-3.ensures (c.as_slice-4.ensures.value ∙ c.in_ok-each.ensures) in
+    let rows = swept_rows c.args.arguments.now _ _ _ c.as_slice-2.ensures c.as_slice-3.ensures (c.as_slice-4.ensures.value ∙ c.in_ok-each.ensures) in
     sweeps_long c.args.arguments.now c.as_slice-4.result.now c.requires.accepted c.requires.kept c.requires.long rows
 
 pub returns : goal.returns
 returns g c =
     let format = c.args.arguments.now.jobs.format in
     let input = g.R.CountedRead.remaining c.args.input.now in
-    let rows = swept_rows c.args.arguments.now _ _ _ (c.as_slice-2.ensures.value ∙ c.in_ok-jobs.ensures) c.as_slice-3.ensures (c.as_slice-4.ensures.value ∙ c.in_ok-each.ensures) in
+    let rows = swept_rows c.args.arguments.now _ _ _ c.as_slice-2.ensures c.as_slice-3.ensures (c.as_slice-4.ensures.value ∙ c.in_ok-each.ensures) in
     let text = c.in_ok-reports_text.ensures ∙ ap reports_text c.as_slice-5.ensures.value in
     let sound = IfSome_then input c.in_ok-reports-2.ensures.read.ok (λ bytes h. h.1) in
     let made = IfSome_then input c.in_ok-reports-2.ensures.reports (λ bytes is. text ∙ ap reports_text (is ∙ ap (λ (js : List Job). reports_on js (keys_in format bytes)) rows)) in

@@ -1,10 +1,9 @@
-use Rattle.std.proofs.Common.{◌≡◌, ◌∙◌, ap, arith, rules, length, List, None}
-use Rattle.std.proofs.lemmas.List.{length-map}
+use Rattle.std.proofs.Common.{◌≡◌, ◌∙◌, ap, arith, rules, List, None}
 use Rattle.std.proofs.lemmas.Option.{IfSome_then}
 use Rattle.trace_read.specs.TraceText.{keys_in}
 use Rattle.policy_actors.specs.Faults.{Job, actor_fault}
 use Rattle.report.specs.Text.{reports_text}
-use Rattle.cachesim.specs.TraceOutput.{Policy, reports_on}
+use Rattle.cachesim.specs.TraceOutput.{reports_on}
 use Rattle.std.proofs.lemmas.List.Elements.{All-nil}
 use Rattle.policy_actors.specs.Following.{CanFollow}
 use Rattle.cachesim.proofs.Accepting.{can_follow, can_pass, can_run}
@@ -12,15 +11,13 @@ use Rattle.cachesim.proofs.reports.run.Goals as goal
 
 pub run_reading_within-reports-requires-clause-due : goal.run_reading_within-reports-requires-clause-due
 run_reading_within-reports-requires-clause-due g c =
-    let jobs = c.as_slice-jobs.ensures.value ∙ c.in_ok-jobs.ensures in
-    let few = ap (λ (l : List Job). length l) jobs ∙ length-map c.args.arguments.now.jobs.policies _ in
-    let can : actor_fault c.args.arguments.now.batch c.as_slice-jobs.result.now ≡ None = can_run c.args.arguments.now c.as_slice-jobs.result.now c.requires.accepted jobs
-    (omega (arith, few, ap (λ (l : List Policy). length l) c.as_slice-policies.ensures)) in
+    let can : actor_fault c.args.arguments.now.batch c.as_slice-jobs.result.now ≡ None = can_run c.args.arguments.now c.as_slice-jobs.result.now c.requires.accepted
+    c.as_slice-jobs.ensures (omega arith) in
     search rules
 
 pub run_reading_within-reports-requires-clause-follow : goal.run_reading_within-reports-requires-clause-follow
 run_reading_within-reports-requires-clause-follow g c κs within =
-    can_follow c.args.arguments.now c.as_slice-jobs.result.now c.requires.accepted c.requires.kept (c.as_slice-jobs.ensures.value ∙ c.in_ok-jobs.ensures)
+    can_follow c.args.arguments.now c.as_slice-jobs.result.now c.requires.accepted c.requires.kept c.as_slice-jobs.ensures
 
 pub run_reading_within-requires-clause-due : goal.run_reading_within-requires-clause-due
 run_reading_within-requires-clause-due g c κs within = can_pass c.args.arguments.now c.requires.accepted
@@ -32,7 +29,7 @@ pub returns : goal.returns
 returns g c =
     let format = c.args.arguments.now.jobs.format in
     let input = g.R.CountedRead.remaining c.args.input.now in
-    let jobs = c.as_slice-jobs.ensures.value ∙ c.in_ok-jobs.ensures in
+    let jobs = c.as_slice-jobs.ensures in
     let text = c.in_ok-reports_text.ensures ∙ ap reports_text c.as_slice.ensures.value in
     let sound = IfSome_then input c.in_ok-reports.ensures.read.ok (λ bytes h. h.1) in
     let made = IfSome_then input c.in_ok-reports.ensures.reports (λ bytes is. text ∙ ap reports_text (is ∙ ap (λ (js : List Job). reports_on js (keys_in format bytes)) jobs)) in

@@ -16,6 +16,7 @@ returns-in_default c =
       other others.not-intervals,
       other others.not-part,
       other others.not-compare,
+      other others.not-footprint,
       other others.not-sample,
       other others.not-drive,
       other others.not-debug,

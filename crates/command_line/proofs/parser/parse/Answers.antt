@@ -30,7 +30,7 @@ returns-in_err-program-clause-parsed c = given _ _ OutOfMemory c.from_residual.e
 
 pub returns-in_err-matches-clause-parsed : goal.returns-in_err-matches-clause-parsed
 returns-in_err-matches-clause-parsed c =
-    let lists : WordLists = record { policies = c.as_slice.result; formats = c.as_slice-2.result; spreads = c.as_slice-3.result; rates = c.as_slice-4.result } in
+    let lists : WordLists = record { formats = c.as_slice.result; spreads = c.as_slice-2.result; rates = c.as_slice-3.result } in
     let are : AreLists lists = search rules in
     let is : app_of c.in_ok-program.program ≡ program_app lists = c.in_ok-program.ensures in
     let kinds = c.in_err-matches.ensures.kinds (ap is_simple_and_free is ∙ (simple lists).1) in
@@ -40,7 +40,7 @@ returns-in_err-matches-clause-parsed c =
 
 pub returns-clause-parsed : goal.returns-clause-parsed
 returns-clause-parsed c =
-    let lists : WordLists = record { policies = c.as_slice.result; formats = c.as_slice-2.result; spreads = c.as_slice-3.result; rates = c.as_slice-4.result } in
+    let lists : WordLists = record { formats = c.as_slice.result; spreads = c.as_slice-2.result; rates = c.as_slice-3.result } in
     let are : AreLists lists = search rules in
     let is : app_of c.in_ok-program.program ≡ program_app lists = c.in_ok-program.ensures in
     let taken = c.in_ok-matches.ensures.kinds (ap is_simple_and_free is ∙ (simple lists).1) in

@@ -1,7 +1,7 @@
 use Rattle.std.proofs.Common.{◌∙◌, ◌++◌, [], ap, List, ℕ}
 use Rattle.std.specs.Prelude.{codes}
 use Rattle.engine_base.specs.declared.stats.Stats.{Stats}
-use Rattle.step_record.specs.Job.{word_of}
+use Rattle.step_record.specs.Job.{name_of}
 use Rattle.debug_commands.specs.Texts.{count_text}
 use Rattle.debug_commands.proofs.Results.{at_success}
 use Rattle.policy_comparison.proofs.Texts.{four, three}
@@ -11,9 +11,9 @@ pub returns : goal.returns
 returns c =
     let text : List ℕ = c.args.text.now.items in
     let label : List ℕ = c.args.label.now in
-    let word : List ℕ = word_of c.args.job.now.policy in
+    let name : List ℕ = name_of c.args.job.now.policy c.args.job.now.sizes in
     let s : Stats = c.args.stats.now in
-    let front : List ℕ = label ++ (codes " " ++ word) in
+    let front : List ℕ = label ++ (codes " " ++ name) in
     let hits : List ℕ = count_text (codes " hits ") s.hits in
     let misses : List ℕ = count_text (codes " misses ") s.misses in
     let evictions : List ℕ = count_text (codes " evictions ") s.evictions in
@@ -21,5 +21,5 @@ returns c =
     at_success c.push_counts_line.result _ _
     (λ k. k ∙ ap (λ t. t ++ ((hits ++ (misses ++ (evictions ++ (rejections ++ [])))) ++ codes "\n")) c.in_ok-push_policy.ensures
     ∙ ap (λ r. (text ++ front) ++ r) (four hits misses evictions rejections (codes "\n"))
-    ∙ three text label (codes " ") word (hits ++ (misses ++ (evictions ++ (rejections ++ codes "\n")))))
+    ∙ three text label (codes " ") name (hits ++ (misses ++ (evictions ++ (rejections ++ codes "\n")))))
     c.push_counts_line.ensures

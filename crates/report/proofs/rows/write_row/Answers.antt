@@ -13,7 +13,7 @@ returns-in-Ok c text was =
     let few : rate_of c.args.report.now < 10 ^ 64 = omega (arith, c.in_ok-push_fields.ensures.rate) in
     let necessary : (writer_setup c.args.writer.now).style ≢ style.NonNumeric = rw was.setup (λ e. absurd (cc e)) in
     let line : row_text (writer_setup c.args.writer.now) (fields_of c.push_fields.new.row) ≡ line_text fields = ap (λ s. row_text s (fields_of c.push_fields.new.row)) was.setup
-    ∙ ap (row_text default_writer) c.in_ok-push_fields.ensures.fields ∙ row_plain c.args.report.now c.args.numbers.now (λ k. (c.type_inv.numbers k).fits) few in
+    ∙ ap (row_text default_writer) c.in_ok-push_fields.ensures.fields ∙ row_plain c.args.report.now c.args.numbers.now (λ k. (c.type_inv.numbers k).fits) few c.in_ok-push_fields.ensures.sizes in
     record {
       setup = c.in-Ok.ensures.setup ∙ was.setup;
       fields = c.in-Ok.ensures.ended;

@@ -1,4 +1,4 @@
-use Rattle.std.proofs.Common.{◌≡◌, ◌∙◌, sym, arith, refl, true}
+use Rattle.std.proofs.Common.{◌≡◌, ◌∙◌, sym, arith, refl}
 use Rattle.std.proofs.lemmas.Grind.{common_steps}
 use Rattle.std.proofs.lemmas.List.Elements.{All-push}
 use Rattle.command_line.proofs.Naming.{named-next, named-none}
@@ -19,5 +19,5 @@ loop-word-preserved g c = (
   c.loop-word.invariant.0,
   λ by h. rw (c.in_ok-push.ensures.items) (named-next by c.in-Some.words.now _ c.loop-word.word-index
       _ _ (omega arith) (c.loop-word.invariant.1 by h) (sym (h _ _ c.name.ensures) ∙ c.in-Some-name.is)),
-  λ test h. rw (c.in_ok-push.ensures.items) (All-push (λ x. test x ≡ true) c.loop-word.named.items _ (c.loop-word.invariant.2 test h) (rw c.in-Some-name.is at (h _ _ c.name.ensures))),
+  λ P h. rw (c.in_ok-push.ensures.items) (All-push P c.loop-word.named.items _ (c.loop-word.invariant.2 P h) (rw c.in-Some-name.is at (h _ _ c.name.ensures))),
 )

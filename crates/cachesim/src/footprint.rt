@@ -1,0 +1,42 @@
+//! The subcommand `footprint`: how large a trace is.
+ghost use Rattle.std.specs.Prelude.{◌≡◌, IfOk, string_bytes};
+ghost use Rattle.command_line.specs.Accepted.{AreLimits};
+ghost use Rattle.command_line.specs.declared.arguments.Arguments.TheVariants.{Footprint as OfFootprint};
+ghost use Rattle.cachesim.specs.Subcommand.{IsMade};
+ghost use Rattle.cachesim.specs.TraceOutput.{footprint_text};
+
+use crate::fault::Fault;
+use command_line::FootprintArguments;
+use long_traces::Footprint;
+use progress::Watch;
+use std::alloc::{AllocError, Global};
+use streams::CountedRead;
+
+/// A header and a row: how many accesses, how many distinct blocks, and how many of these are accessed once.
+pub fn footprint<R: CountedRead, P: Watch>(
+    alloc: Global,
+    arguments: &FootprintArguments,
+    input: &mut R,
+    watch: &P,
+) -> Result<Vec<u8>, Fault>
+    requires { AreLimits arguments.now.limits }
+    ensures { IsMade (OfFootprint arguments.now) (R.remaining input.old) (R.tally input.old) (R.tally input.new) result }
+{
+    watch.begin("footprint", None);
+    let found = long_traces::footprint(alloc, input, arguments.format, arguments.limits, watch);
+    watch.end();
+    let text = footprint_text(alloc, found?)?;
+    Ok(text.into_bytes())
+}
+
+// The text of a footprint.
+fn footprint_text(alloc: Global, footprint: Footprint) -> Result<String, AllocError>
+    ensures { IfOk result (λ text. string_bytes text ≡ footprint_text footprint) }
+{
+    let Footprint {
+        accesses,
+        blocks,
+        once,
+    } = footprint;
+    format!(in alloc; "accesses,blocks,once\n{accesses},{blocks},{once}\n")
+}
