@@ -1,11 +1,11 @@
 -- What the engine shows, and one access to it as a step.
-use Rattle.std.specs.Prelude.{◌≡◌, ℕ, ◌≤◌, false, Option, List, [], ◌∷◌, ◌++◌}
+use Rattle.std.specs.Prelude.{◌≡◌, ℕ, ◌≤◌, false, Option, List, []}
 use Rattle.engine_base.specs.declared.limits.TheConstants.{MAX_CAPACITY}
 pub use Rattle.engine_base.specs.declared.stats.Stats.{Stats}
 use Rattle.engine_base.specs.Keys.{has_key}
 use Rattle.engine_base.specs.Stats.{stats_of, stats_with, stats_without, IsCounted, IsTally}
 use Rattle.engine_base.specs.Limited.{limited}
-use Rattle.engine_base.specs.Machine.{Machine, state_after_all}
+use Rattle.engine_base.specs.Machine.{Machine, StopsWithin, state_after_all}
 use Rattle.queue_table.specs.Queues.{Item, Queues}
 use Rattle.queue_moves.specs.Moves.{Outcome, Plan, outcome_of, after_all}
 use Rattle.queue_moves.specs.Lists.{QueueLists}
@@ -80,15 +80,6 @@ pub record DemandFits (r : DemandRecord) (d : DemandState) : Type 0 where
   pub counted : IsCounted r.outcome d.stats
   pub counts : IsTally (stats_without r.outcome d.stats)
 
--- Accesses to the keys stopped: some first ones are made, and the one behind them may ask for memory.
-pub record StopsWithin {S : Type 0} (IsAfter : List ℕ → S → Type 0) (may_ask : S → ℕ → Type 0) (keys : List ℕ) (s : S) : Type 0 where
-  pub made : List ℕ
-  pub next : ℕ
-  pub later : List ℕ
-  pub split : keys ≡ made ++ next ∷ later
-  pub stands : IsAfter made s
-  pub asks : may_ask s next
-
--- the accesses of a cache, of which the last that came is d, stopped at one that may ask for memory
+-- accesses to the keys, begun in one cache, stopped in another, where the next may ask for memory
 abbrev pub DemandStops : List ℕ → DemandState → DemandState → Type 0
 DemandStops keys start d = StopsWithin (λ made e. e ≡ state_after_all demand_access start made) demand_may_ask keys d

@@ -1,5 +1,5 @@
 -- A cache as a machine over keys: its states, what an access to a key does, and what it comes to over a list of accesses.
-use Rattle.std.specs.Prelude.{◌≡◌, ◌⊎◌, ℕ, ◌+◌, ◌≤◌, true, List, [], ◌∷◌, length, eqb, count_by}
+use Rattle.std.specs.Prelude.{◌≡◌, ◌⊎◌, ℕ, ◌+◌, ◌≤◌, true, List, [], ◌∷◌, ◌++◌, length, eqb, count_by}
 use Rattle.engine_base.specs.Keys.{has_key}
 use Rattle.engine_base.specs.Stats.{is_hit, is_miss, is_eviction, one_if, stats_of, stats_with}
 pub use Rattle.engine_base.specs.declared.outcome.Outcome.{Outcome}
@@ -58,3 +58,12 @@ pub record KeepsKeys (c : ℕ) (m : Machine) : Type 0 where
 abbrev pub CountsResidents : Machine → Type 0
 CountsResidents m = (keys : List ℕ) →
     length (m.residents (after m keys)) + count_by is_eviction (outcomes m keys) ≡ count_by is_miss (outcomes m keys)
+
+-- Accesses to the keys stopped in a state: some first ones of them are made, and the one behind these may ask for memory.
+pub record StopsWithin {S : Type 0} (IsAfter : List ℕ → S → Type 0) (may_ask : S → ℕ → Type 0) (keys : List ℕ) (s : S) : Type 0 where
+  pub made : List ℕ
+  pub next : ℕ
+  pub later : List ℕ
+  pub split : keys ≡ made ++ next ∷ later
+  pub stands : IsAfter made s
+  pub asks : may_ask s next
