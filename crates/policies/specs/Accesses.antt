@@ -3,7 +3,9 @@ use Rattle.std.specs.Prelude.{◌≡◌, ℕ, ◌≤◌, List, ◌++◌, length}
 pub use Rattle.step_record.specs.declared.job.Job.{Job}
 use Rattle.engine_base.specs.declared.limits.TheConstants.{MAX_STEPS}
 pub use Rattle.policies.specs.declared.any_policy.AnyPolicy.{AnyPolicy}
+use Rattle.demand_cache.specs.DemandCache.{StopsWithin}
 use Rattle.policies.specs.AnyPolicy.{HasAccessed}
+use Rattle.policies.specs.AnyStep.{MayAllocate}
 
 -- the cache stands for the first accesses of a trace, and the keys are the next of them
 pub record IsNext (keys : List ℕ) (d : AnyPolicy) : Type 0 where
@@ -14,3 +16,11 @@ pub record IsNext (keys : List ℕ) (d : AnyPolicy) : Type 0 where
   pub stands : HasAccessed job trace before d
   pub ahead : trace ≡ before ++ (keys ++ rest)
   pub few : length trace ≤ MAX_STEPS
+
+-- the cache d is the one from the start after accesses to the keys, whichever it made before
+abbrev pub IsContinued : List ℕ → AnyPolicy → AnyPolicy → Type 0
+IsContinued keys start d = (j : Job) (trace done : List ℕ) → HasAccessed j trace done start → HasAccessed j trace (done ++ keys) d
+
+-- the accesses to the keys stopped at one that may ask for memory, which none of Belady's policy does
+abbrev pub IsStopped : List ℕ → AnyPolicy → AnyPolicy → Type 0
+IsStopped keys start d = StopsWithin (λ made e. IsContinued made start e) MayAllocate keys d

@@ -1,10 +1,8 @@
 //! The accesses of a trace by a cache: a loop for each policy of queues, compiled for its design, one for the adaptive
 //! window, and one for the optimal policy. The policies that keep each missed key have theirs in `demand_cache`.
-ghost use Rattle.std.specs.Prelude.{◌≡◌, ◌++◌, ◌≤◌, ℕ, List, OnOk, length};
+ghost use Rattle.std.specs.Prelude.{◌≡◌, ◌≤◌, OnOk, OnErr, length};
 ghost use Rattle.queue_cache.specs.Design.{CoversDesign};
-ghost use Rattle.policies.specs.Design.{Job};
-ghost use Rattle.policies.specs.AnyPolicy.{HasAccessed};
-ghost use Rattle.policies.specs.Accesses.{IsNext};
+ghost use Rattle.policies.specs.Accesses.{IsContinued, IsNext, IsStopped};
 
 use crate::any_policy::AnyPolicy;
 use crate::theorems;
@@ -21,8 +19,8 @@ use step_record::{Engine, Key, StepFault};
 /// Makes the accesses in turn, which are the next ones of a trace. The one error is out of memory.
 pub(crate) fn access_queues(cache: &mut QueueCache, keys: &[Key]) -> Result<(), AllocError>
     requires { IsNext keys.now (AnyPolicy.Queues cache.old) }
-    ensures { (j : Job) (trace done : List ℕ) → HasAccessed j trace done (AnyPolicy.Queues cache.old)
-        → OnOk result (HasAccessed j trace (done ++ keys.now) (AnyPolicy.Queues cache.new)) }
+    ensures all { OnOk result (IsContinued keys.now (AnyPolicy.Queues cache.old) (AnyPolicy.Queues cache.new)) }
+    ensures memory { OnErr result (IsStopped keys.now (AnyPolicy.Queues cache.old) (AnyPolicy.Queues cache.new)) }
 {
     let design = cache.design();
     match design.layout {
@@ -41,8 +39,8 @@ pub(crate) fn access_queues(cache: &mut QueueCache, keys: &[Key]) -> Result<(), 
 fn access_each<D: FixedDesign>(cache: &mut QueueCache, keys: &[Key]) -> Result<(), AllocError>
     requires design { CoversDesign D.DESIGN cache.old.setup.design }
     requires next { IsNext keys.now (AnyPolicy.Queues cache.old) }
-    ensures { (j : Job) (trace done : List ℕ) → HasAccessed j trace done (AnyPolicy.Queues cache.old)
-        → OnOk result (HasAccessed j trace (done ++ keys.now) (AnyPolicy.Queues cache.new)) }
+    ensures all { OnOk result (IsContinued keys.now (AnyPolicy.Queues cache.old) (AnyPolicy.Queues cache.new)) }
+    ensures memory { OnErr result (IsStopped keys.now (AnyPolicy.Queues cache.old) (AnyPolicy.Queues cache.new)) }
 {
     theorems::any_step_law();
     theorems::any_accepts();
@@ -61,8 +59,8 @@ fn access_each<D: FixedDesign>(cache: &mut QueueCache, keys: &[Key]) -> Result<(
 #[inline(never)]
 pub(crate) fn access_adaptive(cache: &mut AdaptiveCache, keys: &[Key]) -> Result<(), AllocError>
     requires { IsNext keys.now (AnyPolicy.Adaptive cache.old) }
-    ensures { (j : Job) (trace done : List ℕ) → HasAccessed j trace done (AnyPolicy.Adaptive cache.old)
-        → OnOk result (HasAccessed j trace (done ++ keys.now) (AnyPolicy.Adaptive cache.new)) }
+    ensures all { OnOk result (IsContinued keys.now (AnyPolicy.Adaptive cache.old) (AnyPolicy.Adaptive cache.new)) }
+    ensures memory { OnErr result (IsStopped keys.now (AnyPolicy.Adaptive cache.old) (AnyPolicy.Adaptive cache.new)) }
 {
     theorems::any_step_law();
     theorems::any_accepts();
@@ -83,8 +81,8 @@ struct AdaptiveLoop;
 /// The same by the optimal policy.
 pub(crate) fn access_optimal(cache: &mut Clairvoyant, keys: &[Key]) -> Result<(), AllocError>
     requires { IsNext keys.now (AnyPolicy.Optimal cache.old) }
-    ensures { (j : Job) (trace done : List ℕ) → HasAccessed j trace done (AnyPolicy.Optimal cache.old)
-        → OnOk result (HasAccessed j trace (done ++ keys.now) (AnyPolicy.Optimal cache.new)) }
+    ensures all { OnOk result (IsContinued keys.now (AnyPolicy.Optimal cache.old) (AnyPolicy.Optimal cache.new)) }
+    ensures memory { OnErr result (IsStopped keys.now (AnyPolicy.Optimal cache.old) (AnyPolicy.Optimal cache.new)) }
 {
     theorems::any_step_law();
     theorems::any_accepts();

@@ -1,8 +1,8 @@
 //! A job's run over a trace whose accesses come in batches.
-ghost use Rattle.std.specs.Prelude.{◌≡◌, ◌++◌, [], ℕ, List, Ok, IfOk, IfSome, OnOk};
+ghost use Rattle.std.specs.Prelude.{◌≡◌, ◌++◌, [], ℕ, List, Ok, IfOk, IfSome, OnOk, OnErr};
 ghost use Rattle.engine_base.specs.Config.{config_fault};
 ghost use Rattle.policies.specs.AnyPolicy.{Job, HasAccessed};
-ghost use Rattle.policies.specs.Accesses.{IsNext};
+ghost use Rattle.policies.specs.Accesses.{IsContinued, IsNext, IsStopped};
 ghost use Rattle.policies.specs.CacheRun.{CanTake, HasTaken};
 ghost use Rattle.policies.specs.Reports.{report_on};
 
@@ -97,8 +97,8 @@ fn report_over_uses(alloc: Global, finder: NextUseFinder, job: &Job) -> Result<R
 // Makes all accesses of the trace that the next uses are of, in turn. The one error is out of memory.
 fn access_whole(cache: &mut AnyPolicy, uses: &NextUse) -> Result<(), AllocError>
     requires { IsNext uses.now cache.old }
-    ensures { (j : Job) (trace done : List ℕ) → HasAccessed j trace done cache.old
-        → OnOk result (HasAccessed j trace (done ++ uses.now) cache.new) }
+    ensures all { OnOk result (IsContinued uses.now cache.old cache.new) }
+    ensures memory { OnErr result (IsStopped uses.now cache.old cache.new) }
 {
     theorems::any_step_law();
     theorems::any_accepts();

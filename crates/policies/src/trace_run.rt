@@ -1,8 +1,8 @@
 //! The accesses of a trace by a cache, and its report at their end.
-ghost use Rattle.std.specs.Prelude.{◌≡◌, ◌++◌, [], ℕ, List, take, drop, Ok, IfOk, IfSome, OnOk};
+ghost use Rattle.std.specs.Prelude.{◌≡◌, [], ℕ, List, take, drop, Ok, IfOk, IfSome, OnOk, OnErr};
 ghost use Rattle.engine_base.specs.Config.{config_fault};
 ghost use Rattle.policies.specs.AnyPolicy.{Job, HasAccessed};
-ghost use Rattle.policies.specs.Accesses.{IsNext};
+ghost use Rattle.policies.specs.Accesses.{IsContinued, IsNext, IsStopped};
 ghost use Rattle.policies.specs.Reports.{report_on};
 
 use crate::access_loops::{access_adaptive, access_optimal, access_queues};
@@ -34,12 +34,12 @@ pub fn report_over<G: Gate>(
     Ok(report)
 }
 
-/// Makes the accesses in turn, which are the next ones of a trace. The one error is out of memory; the cache has made
-/// some of them then, and is of no more use.
+/// Makes the accesses in turn, which are the next ones of a trace. The one error is out of memory: the cache has made those
+/// before an access that may ask for memory, which none of Belady's policy does.
 pub fn access_all(cache: &mut AnyPolicy, keys: &[Key]) -> Result<(), AllocError>
     requires { IsNext keys.now cache.old }
-    ensures { (j : Job) (trace done : List ℕ) → HasAccessed j trace done cache.old
-        → OnOk result (HasAccessed j trace (done ++ keys.now) cache.new) }
+    ensures all { OnOk result (IsContinued keys.now cache.old cache.new) }
+    ensures memory { OnErr result (IsStopped keys.now cache.old cache.new) }
 {
     match cache {
         AnyPolicy::Queues(cache) => access_queues(cache, keys),
@@ -49,15 +49,15 @@ pub fn access_all(cache: &mut AnyPolicy, keys: &[Key]) -> Result<(), AllocError>
     }
 }
 
-/// The same, in batches of `MAX_BATCH`. The gate is called before and after each, as worker 0, with the batch's number.
+/// The same, with the same error, in batches of `MAX_BATCH`. The gate is called before and after each, as worker 0, with the batch's number.
 pub fn access_in_batches<G: Gate>(
     cache: &mut AnyPolicy,
     keys: &[Key],
     gate: &G,
 ) -> Result<(), AllocError>
     requires { IsNext keys.now cache.old }
-    ensures { (j : Job) (trace done : List ℕ) → HasAccessed j trace done cache.old
-        → OnOk result (HasAccessed j trace (done ++ keys.now) cache.new) }
+    ensures all { OnOk result (IsContinued keys.now cache.old cache.new) }
+    ensures memory { OnErr result (IsStopped keys.now cache.old cache.new) }
 {
     let size = MAX_BATCH as usize;
     let mut rest = keys;

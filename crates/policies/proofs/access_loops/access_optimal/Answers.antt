@@ -16,5 +16,9 @@ loop-i-preserved c =
     c.loop-i.invariant
     c.any_step_law.ensures _ _ (ap (lifted Optimal) c.in-Ok.ensures.accepted)
 
-pub returns : goal.returns
-returns c = has-made-all c.args.keys.now c.loop-i.i (Optimal c.args.cache.now) (Optimal c.loop-i.cache) (omega arith) c.loop-i.invariant
+pub returns-clause-all : goal.returns-clause-all
+returns-clause-all c = has-made-all c.args.keys.now c.loop-i.i (Optimal c.args.cache.now) (Optimal c.loop-i.cache) (omega arith) c.loop-i.invariant
+
+pub returns-in-Err-OutOfMemory-clause-memory : goal.returns-in-Err-OutOfMemory-clause-memory
+returns-in-Err-OutOfMemory-clause-memory c =
+    absurd (c.apply.ensures.memory (c.in-Err-OutOfMemory.is ∙ ap Err c.in-Err-OutOfMemory.field-0-is))

@@ -16,5 +16,5 @@ access_whole-made-requires c =
 
 pub returns : goal.returns
 returns c =
-    c.report_by-report.ensures c.in_ok-uses.uses (c.in_ok-made.ensures c.args.job.now c.in_ok-uses.uses [] c.in_ok-cache.ensures.stands)
+    c.report_by-report.ensures c.in_ok-uses.uses (c.in_ok-made.ensures.all c.args.job.now c.in_ok-uses.uses [] c.in_ok-cache.ensures.stands)
     ∙ ap (report_on c.args.job.now) c.in_ok-uses.ensures

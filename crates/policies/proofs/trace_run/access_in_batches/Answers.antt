@@ -2,8 +2,9 @@ use Rattle.std.proofs.Common.{◌≡◌, ℕ, ◌*◌, ◌++◌, ◌≤◌, List
 use Rattle.std.proofs.lemmas.Grind.{div_ceil_times}
 use Rattle.engine_base.specs.declared.limits.TheConstants.{MAX_BATCH}
 use Rattle.policies.specs.AnyPolicy.{HasAccessed}
+use Rattle.policies.specs.Accesses.{IsStopped}
 use Rattle.policies.proofs.Batches.{next-piece, next_rest, taken-more}
-use Rattle.policies.proofs.Stretches.{has-made-all}
+use Rattle.policies.proofs.Stretches.{has-made-all, stopped-later}
 use Rattle.policies.proofs.trace_run.access_in_batches.Goals as goal
 
 pub access_all-requires : goal.access_all-requires
@@ -28,12 +29,19 @@ loop-number-preserved g c =
       λ j trace done s.
           subst (λ l. HasAccessed j trace l c.access_all.new.cache)
           (append_assoc done (take (k * MAX_BATCH) keys) c.cut.result.0.now ∙ ap (λ (l : List ℕ). done ++ l) (taken-more MAX_BATCH k keys _ piece))
-          (c.in_ok-access_all.ensures j trace (done ++ take (k * MAX_BATCH) keys) (c.loop-number.invariant.1 j trace done s)),
+          (c.in_ok-access_all.ensures.all j trace (done ++ take (k * MAX_BATCH) keys) (c.loop-number.invariant.1 j trace done s)),
     )
 
-pub returns : goal.returns
-returns g c =
+pub returns-clause-all : goal.returns-clause-all
+returns-clause-all g c =
     let keys = c.args.keys.now in let k = c.loop-number.number in
     let last : c.div_ceil-number-end.result ≡ k = omega arith in
     let all = subst (λ (n : ℕ). length keys ≤ n * MAX_BATCH) (sym c.div_ceil-number-end.ensures ∙ last) (div_ceil_times (length keys) MAX_BATCH (omega arith)).0 in
     has-made-all keys (k * MAX_BATCH) c.args.cache.now c.loop-number.cache all c.loop-number.invariant.1
+
+pub returns-in-Err-clause-memory : goal.returns-in-Err-clause-memory
+returns-in-Err-clause-memory g c =
+    let keys = c.args.keys.now in let m = c.loop-number.number * MAX_BATCH in
+    let piece = c.cut.ensures.front ∙ ap (λ (l : List ℕ). take MAX_BATCH l) c.loop-number.invariant.0 in
+    stopped-later keys m MAX_BATCH c.args.cache.now c.loop-number.cache c.access_all.new.cache c.loop-number.invariant.1
+    (subst (λ l. IsStopped l c.loop-number.cache c.access_all.new.cache) piece c.in_err-access_all.ensures.memory)

@@ -19,5 +19,5 @@ access_in_batches-made-requires g c = (
 pub returns : goal.returns
 returns g c =
     let trace = c.args.trace.now in
-    let e = c.in_ok-made.ensures c.args.job.now trace [] c.in_ok-cache.ensures in
+    let e = c.in_ok-made.ensures.all c.args.job.now trace [] c.in_ok-cache.ensures in
     c.report_by-report.ensures trace (subst (λ l. HasAccessed c.args.job.now trace l c.access_in_batches-made.new.cache) c.keys.ensures.keys e)

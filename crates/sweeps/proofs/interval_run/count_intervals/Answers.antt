@@ -35,7 +35,7 @@ made g c =
     let piece = cut-piece every n c.min.result trace c.loop-number.rest.now c.split_at.result.0.now least c.loop-number.invariant.0 c.split_at.ensures.front in
     subst (λ (l : List ℕ). HasAccessed c.args.job.now trace l c.access_in_batches.new.cache)
     (taken-more every n trace c.split_at.result.0.now piece)
-    (c.in_ok-access_in_batches.ensures c.args.job.now trace (take (n * every) trace) c.loop-number.invariant.1)
+    (c.in_ok-access_in_batches.ensures.all c.args.job.now trace (take (n * every) trace) c.loop-number.invariant.1)
 
 -- some access was left before it
 left : (g : _) (c : goal.After-stats-after g) → c.loop-number._number * c.args.cut.now.every < length (outcomes_on c.args.job.now c.args.cut.now.trace.now)

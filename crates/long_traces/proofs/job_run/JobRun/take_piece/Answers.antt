@@ -15,7 +15,7 @@ returns-then-self-clause-cut c = λ trace n next has.
     let cache = c.access_all.new.cache in
     record {
       rows = record { some = has.rows.some; cut = has.rows.cut; rows = has.rows.rows };
-      stands = made run.job trace c.args.piece.now n cache next (c.in_ok-access_all.ensures run.job trace (take n trace) has.stands);
+      stands = made run.job trace c.args.piece.now n cache next (c.in_ok-access_all.ensures.all run.job trace (take n trace) has.stands);
       within = next.within;
       place = omega (arith, has.place);
       used = omega (arith, c.if-self.true);
@@ -35,7 +35,7 @@ end_row-requires c =
         rows = record { some = n.taken.rows.some; cut = n.taken.rows.cut; rows = n.taken.rows.rows };
         begun = omega (arith, n.next.within, n.taken.place, c.requires.some);
         stands = subst (λ (m : ℕ). HasAccessed run.job n.trace (take m n.trace) cache) full
-            (made run.job n.trace c.args.piece.now n.place cache n.next (c.in_ok-access_all.ensures run.job n.trace (take n.place n.trace) n.taken.stands));
+            (made run.job n.trace c.args.piece.now n.place cache n.next (c.in_ok-access_all.ensures.all run.job n.trace (take n.place n.trace) n.taken.stands));
       };
     }
 
@@ -52,5 +52,5 @@ returns-clause-cut c = λ trace n next has.
       rows = record { some = has.rows.some; cut = has.rows.cut; rows = has.rows.rows };
       begun = omega (arith, next.within, has.place, c.requires.some);
       stands = subst (λ (m : ℕ). HasAccessed run.job trace (take m trace) cache) full
-          (made run.job trace c.args.piece.now n cache next (c.in_ok-access_all.ensures run.job trace (take n trace) has.stands));
+          (made run.job trace c.args.piece.now n cache next (c.in_ok-access_all.ensures.all run.job trace (take n trace) has.stands));
     }) fits)
