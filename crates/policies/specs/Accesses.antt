@@ -3,7 +3,7 @@ use Rattle.std.specs.Prelude.{◌≡◌, ℕ, ◌≤◌, List, ◌++◌, length}
 pub use Rattle.step_record.specs.declared.job.Job.{Job}
 use Rattle.engine_base.specs.declared.limits.TheConstants.{MAX_STEPS}
 pub use Rattle.policies.specs.declared.any_policy.AnyPolicy.{AnyPolicy}
-use Rattle.demand_cache.specs.DemandCache.{StopsWithin}
+use Rattle.engine_base.specs.Machine.{StopsWithin}
 use Rattle.policies.specs.AnyPolicy.{HasAccessed}
 use Rattle.policies.specs.AnyStep.{MayAllocate}
 
