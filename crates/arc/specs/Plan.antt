@@ -1,7 +1,8 @@
 -- ARC (`Arc`) as the plan of an access. The policy's number is p, how many keys t1 is to have.
 use Rattle.std.specs.Prelude.{ℕ, ◌+◌, ◌-◌, ◌*◌, ◌/◌, min, max, nat_lt, ◌==◌, ◌&&◌, ◌||◌, Bool, true, false}
-use Rattle.std.specs.Prelude.{if◌then◌else◌, Option, Some, None, length}
+use Rattle.std.specs.Prelude.{if◌then◌else◌, Option, Some, None, List, [], ◌∷◌, codes, length}
 use Rattle.queue_table.specs.Queues.{Queues}
+use Rattle.named_queues.specs.NamedQueue.{NamedQueueData, plain_queue}
 use Rattle.arc.specs.Arc.{ArcState, empty_arc, arc_residents, arc_act, IsArc}
 use Rattle.queue_moves.specs.Moves.{item_of, standing, Leaving, leaving, goes, Plan, own_plan}
 use Rattle.queue_moves.specs.Tabled.{keys_of}
@@ -92,6 +93,12 @@ plan_at c p (Some at) s = plan_in c p at.0 s
 abbrev pub arc_plan : ℕ → ℕ → ℕ → Queues → Plan
 arc_plan c k p s = plan_at c p (standing (item_of k) s) s
 
+-- the queues, and p
+abbrev pub arc_queues : ArcState → List NamedQueueData
+arc_queues s =
+    plain_queue (codes "t1") s.t1 ∷ plain_queue (codes "t2") s.t2 ∷ plain_queue (codes "b1") s.b1
+    ∷ plain_queue (codes "b2") s.b2 ∷ plain_queue (codes "target") (s.p ∷ []) ∷ []
+
 -- the policy, whose number is its target
 abbrev pub arc_page : PolicyPage
 arc_page = record {
@@ -100,6 +107,7 @@ arc_page = record {
   act = arc_act;
   residents = arc_residents;
   IsState = IsArc;
+  named_queues = arc_queues;
   view = arc_of;
   IsShown = λ x s. Unit {0};
   plan = arc_plan;

@@ -2,8 +2,9 @@
 -- keys. Then the keys with a bit of the queue that gives up a key go to its recent end, and the oldest leaves for its
 -- ghost: of t1 none has to go. The policy's number is p.
 use Rattle.std.specs.Prelude.{ℕ, ◌+◌, ◌-◌, ◌*◌, ◌/◌, min, max, nat_lt, ◌==◌, ◌||◌, Bool, true, false, if◌then◌else◌}
-use Rattle.std.specs.Prelude.{Option, Some, None, length}
+use Rattle.std.specs.Prelude.{Option, Some, None, List, [], ◌∷◌, codes, length}
 use Rattle.queue_table.specs.Queues.{Queues}
+use Rattle.named_queues.specs.NamedQueue.{NamedQueueData, plain_queue}
 use Rattle.car.specs.Car.{CarState, empty_car, car_residents, car_act, IsCar}
 pub use Rattle.queue_moves.specs.declared.records.Run.{Run}
 use Rattle.queue_moves.specs.Moves.{item_of, standing, run, turns_due, after_run, Leaving, leaving, after_leaving}
@@ -11,6 +12,7 @@ use Rattle.queue_moves.specs.Moves.{Own, counts, goes, Plan, own_plan}
 use Rattle.queue_moves.specs.Tabled.{keys_of}
 use Rattle.policy_page.specs.Counted.{counted_keys}
 use Rattle.policy_page.specs.Misses.{run_plan}
+use Rattle.policy_page.specs.Named.{counted_queue}
 use Rattle.policy_page.specs.PolicyPage.{PolicyPage}
 
 -- the queues' numbers
@@ -116,6 +118,12 @@ plan_at c p (Some at) s = if is_resident at.0 then own_plan true (counts 1) p el
 abbrev pub car_plan : ℕ → ℕ → ℕ → Queues → Plan
 car_plan c k p s = plan_at c p (standing (item_of k) s) s
 
+-- the queues, the clocks with the reference bits, and p
+abbrev pub car_queues : CarState → List NamedQueueData
+car_queues s =
+    counted_queue (codes "t1") s.t1 ∷ counted_queue (codes "t2") s.t2 ∷ plain_queue (codes "b1") s.b1
+    ∷ plain_queue (codes "b2") s.b2 ∷ plain_queue (codes "target") (s.p ∷ []) ∷ []
+
 -- the policy, whose number is its target
 abbrev pub car_page : PolicyPage
 car_page = record {
@@ -124,6 +132,7 @@ car_page = record {
   act = car_act;
   residents = car_residents;
   IsState = IsCar;
+  named_queues = car_queues;
   view = car_of;
   IsShown = λ x s. Unit {0};
   plan = car_plan;

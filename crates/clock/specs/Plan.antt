@@ -1,11 +1,13 @@
 -- CLOCK (`Clock`) as a plan of moves. A bit is a count of 0 or 1.
-use Rattle.std.specs.Prelude.{ℕ, nat_lt, None, List, [], length}
+use Rattle.std.specs.Prelude.{ℕ, nat_lt, None, List, [], ◌∷◌, codes, length}
 use Rattle.queue_table.specs.Queues.{Queues}
+use Rattle.named_queues.specs.NamedQueue.{NamedQueueData}
 use Rattle.policy_page.specs.CountedKeys.{CountedKey, keys_of}
 use Rattle.clock.specs.Clock.{clock_act, IsClock}
 use Rattle.queue_moves.specs.Moves.{item_of, standing, run, no_run, turns_due, leaving, counts, goes, Plan}
 use Rattle.policy_page.specs.Counted.{counted_keys}
 use Rattle.policy_page.specs.Planned.{IsWithin, leaver_plan, resident_plan}
+use Rattle.policy_page.specs.Named.{counted_queue}
 use Rattle.policy_page.specs.PolicyPage.{PolicyPage}
 
 -- the one queue
@@ -26,6 +28,10 @@ clock_plan c k x s =
     resident_plan (standing (item_of k) s) (nat_lt (length (s QUEUE)) c) (counts 1) (goes QUEUE 1) x
     (clock_eviction_plan c x s)
 
+-- the queue with the reference bits
+abbrev pub clock_queues : List CountedKey → List NamedQueueData
+clock_queues queue = counted_queue (codes "queue") queue ∷ []
+
 -- the policy, which uses one queue
 abbrev pub clock_page : PolicyPage
 clock_page = record {
@@ -34,6 +40,7 @@ clock_page = record {
   act = clock_act;
   residents = keys_of;
   IsState = IsClock;
+  named_queues = clock_queues;
   view = λ x. clock_of;
   IsShown = λ x. IsWithin 1;
   plan = clock_plan;

@@ -1,6 +1,7 @@
 -- FIFO (`Fifo`) as a plan of moves.
-use Rattle.std.specs.Prelude.{ℕ, nat_lt, None, List, [], length}
+use Rattle.std.specs.Prelude.{ℕ, nat_lt, None, List, [], ◌∷◌, codes, length}
 use Rattle.queue_table.specs.Queues.{Queues}
+use Rattle.named_queues.specs.NamedQueue.{NamedQueueData, plain_queue}
 use Rattle.fifo.specs.Fifo.{fifo_act}
 use Rattle.policy_page.specs.Residents.{AreResidents}
 use Rattle.queue_moves.specs.Moves.{item_of, standing, no_run, leaving, stays, goes, Plan}
@@ -21,6 +22,10 @@ fifo_plan c k x s =
     resident_plan (standing (item_of k) s) (nat_lt (length (s QUEUE)) c) stays (goes QUEUE 0) x
     (leaver_plan no_run no_run (leaving QUEUE None) (goes QUEUE 0) x)
 
+-- the queue
+abbrev pub fifo_queues : List ℕ → List NamedQueueData
+fifo_queues queue = plain_queue (codes "queue") queue ∷ []
+
 -- the policy, which uses one queue
 abbrev pub fifo_page : PolicyPage
 fifo_page = record {
@@ -29,6 +34,7 @@ fifo_page = record {
   act = fifo_act;
   residents = λ queue. queue;
   IsState = AreResidents;
+  named_queues = fifo_queues;
   view = λ x. fifo_of;
   IsShown = λ x. IsWithin 1;
   plan = fifo_plan;

@@ -6,6 +6,7 @@ pub mod Ghost
 pub mod Examples
 pub mod Planned
 pub mod Counted
+pub mod Named
 pub mod PolicyPage
 pub mod Misses
 pub mod Comers

@@ -6,17 +6,20 @@ use Rattle.queue_table.specs.Queues.{Queues, empty_queues}
 use Rattle.policy_page.specs.Residents.{Outcome, KeepsResidents}
 use Rattle.queue_moves.specs.Moves.{item_of, Plan, after_all}
 use Rattle.queue_moves.specs.Tabled.{IsTabled, keys_of}
+use Rattle.named_queues.specs.NamedQueue.{NamedQueueData}
 use Rattle.policy_page.specs.Planned.{IsPlannedBy}
 
 -- Its definition: the state of an empty cache, an access to a key in a cache of some capacity, the resident keys of a state,
--- and what holds of each state. How a number of the policy's own and the queues show such a state, which numbers and queues
--- do, the plan of an access by them, and in which queues the resident keys stand, in one or in two.
+-- what holds of each state, and its queues under their names. How a number of the policy's own and the queues show such a
+-- state, which numbers and queues do, the plan of an access by them, and in which queues the resident keys stand, in one or
+-- in two.
 pub record PolicyPage : Type 1 where
   pub State : Type 0
   pub start : State
   pub act : ℕ → ℕ → State → Outcome × State
   pub residents : State → List ℕ
   pub IsState : ℕ → State → Type 0
+  pub named_queues : State → List NamedQueueData
   pub view : ℕ → Queues → State
   pub IsShown : ℕ → Queues → Type 0
   pub plan : ℕ → ℕ → ℕ → Queues → Plan

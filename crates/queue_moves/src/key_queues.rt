@@ -1,6 +1,6 @@
 //! Queues of keys by number, and the calls that carry out one part of a plan.
-ghost use Rattle.std.specs.Prelude.{◌≡◌, ◌≢◌, ◌<◌, ◌≤◌, ◌+◌, ◌++◌, ℕ, nat_lt, true, false, map, [], length, Ok, Option, Some, None, OnOk, OnErr, IfOk, IfSome, IfNone};
-ghost use Rattle.queue_table.specs.Entries.{entry, occurrences, oldest_of};
+ghost use Rattle.std.specs.Prelude.{◌≡◌, ◌≢◌, ◌<◌, ◌≤◌, ◌+◌, ◌++◌, ℕ, nat_lt, true, false, map, [], length, Ok, Option, Some, None, OnOk, OnErr, IfOk, IfSome, IfNone, Contains};
+ghost use Rattle.queue_table.specs.Entries.{entry, items_of, occurrences, oldest_of};
 ghost use Rattle.queue_table.specs.Queues.{QUEUES, empty_queues, queue_holding};
 ghost use Rattle.queue_table.specs.QueueTable.{queues, spare, HoldsAt};
 ghost use Rattle.queue_moves.specs.Moves.{Entry, after_leaving, item_of, run, standing, turns_due, count_or, leaving, counts, goes};
@@ -320,6 +320,17 @@ impl KeyQueues {
         self.join(key, queue, count)
     }
 
+    /// The keys of a queue, oldest first, with their counts. The one error is that an allocation failed.
+    pub fn entries(&self, queue: u8) -> Result<Vec<Entry>, AllocError>
+        requires { queue < QUEUES }
+        ensures { IfOk result (λ entries. entries.items ≡ queues self.now queue) }
+    {
+        let items = self.table.list(self.alloc, queue)?;
+        let mut entries = Vec::new(self.alloc);
+        push_entries(&mut entries, &self.table, &items)?;
+        Ok(entries)
+    }
+
     /// Appends the keys of a queue to others, oldest first. The one error is that an allocation failed; some keys may be
     /// appended then.
     pub fn add_keys(&self, queue: u8, keys: &mut Vec<Key>) -> Result<(), AllocError>
@@ -328,6 +339,32 @@ impl KeyQueues {
     {
         let items = self.table.list(self.alloc, queue)?;
         push_keys(keys, &items)
+    }
+}
+
+// Appends the items of a queue with the counts beside them.
+fn push_entries(
+    entries: &mut Vec<Entry>,
+    table: &QueueTable,
+    items: &[Item],
+) -> Result<(), AllocError>
+    ensures { (q : ℕ) → q < QUEUES → items.now ≡ items_of (queues table.now q)
+        → OnOk result (entries.new.items ≡ entries.old.items ++ queues table.now q) }
+{
+    for item in items {
+        let count = count_beside(table, *item);
+        entries.push(Entry { item: *item, count })?;
+    }
+    Ok(())
+}
+
+// The count beside an item, where it stands in a queue.
+fn count_beside(table: &QueueTable, item: Item) -> u8
+    ensures { (q n : ℕ) → q < QUEUES → Contains (queues table.now q) (entry item n) → result ≡ n }
+{
+    match table.find(item) {
+        Some(found) => found.count,
+        None => 0,
     }
 }
 

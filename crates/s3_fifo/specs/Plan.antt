@@ -3,8 +3,9 @@
 -- count go to its recent end with their count less 1, and the one that is then the oldest leaves. Else the oldest of the
 -- small queue leaves for the ghost, which may forget its oldest.
 use Rattle.std.specs.Prelude.{ℕ, ◌+◌, ◌-◌, ◌*◌, nat_lt, ◌==◌, ◌||◌, Bool, true, false, if◌then◌else◌}
-use Rattle.std.specs.Prelude.{Option, Some, None, length}
+use Rattle.std.specs.Prelude.{Option, Some, None, List, [], ◌∷◌, codes, length}
 use Rattle.queue_table.specs.Queues.{Queues}
+use Rattle.named_queues.specs.NamedQueue.{NamedQueueData, plain_queue}
 use Rattle.s3_fifo.specs.S3Fifo.{S3FifoState, s3_fifo_main_size, hit_count}
 use Rattle.s3_fifo.specs.S3Fifo.{empty_s3_fifo, s3_fifo_residents, s3_fifo_act, IsS3Fifo}
 pub use Rattle.queue_moves.specs.declared.records.Run.{Run}
@@ -13,6 +14,7 @@ use Rattle.queue_moves.specs.Moves.{Plan, own_plan}
 use Rattle.queue_moves.specs.Tabled.{keys_of}
 use Rattle.policy_page.specs.Counted.{counted_keys}
 use Rattle.policy_page.specs.Misses.{one_leaver, leavers_for_ghost, run_plan}
+use Rattle.policy_page.specs.Named.{counted_queue}
 use Rattle.policy_page.specs.PolicyPage.{PolicyPage}
 
 -- the queues' numbers
@@ -85,6 +87,12 @@ plan_at part c x (Some p) s =
 abbrev pub s3_fifo_plan : ℕ → ℕ → ℕ → ℕ → Queues → Plan
 s3_fifo_plan part c k x s = plan_at part c x (standing (item_of k) s) s
 
+-- the queues, those of the cache with the counts
+abbrev pub s3_fifo_queues : S3FifoState → List NamedQueueData
+s3_fifo_queues s =
+    counted_queue (codes "small") s.small ∷ counted_queue (codes "main") s.main ∷ plain_queue (codes "ghost") s.ghost
+    ∷ []
+
 -- the policy, whatever its small queue is to have
 abbrev pub s3_fifo_page : ℕ → PolicyPage
 s3_fifo_page part = record {
@@ -93,6 +101,7 @@ s3_fifo_page part = record {
   act = s3_fifo_act part;
   residents = s3_fifo_residents;
   IsState = IsS3Fifo part;
+  named_queues = s3_fifo_queues;
   view = λ x. s3_fifo_of;
   IsShown = λ x s. Unit {0};
   plan = s3_fifo_plan part;

@@ -1,7 +1,8 @@
 -- SIEVE (`Sieve`) as a plan of moves. The queue is cut at the hand: the policy's number, 0 or 1, is that of the queue of
 -- the keys ahead of the hand; those that it has passed stand in the other one.
-use Rattle.std.specs.Prelude.{ℕ, ◌+◌, ◌-◌, ◌≤◌, nat_lt, if◌then◌else◌, Some, None, length}
+use Rattle.std.specs.Prelude.{ℕ, ◌+◌, ◌-◌, ◌≤◌, nat_lt, if◌then◌else◌, Some, None, List, [], ◌∷◌, codes, length}
 use Rattle.queue_table.specs.Queues.{Queues}
+use Rattle.named_queues.specs.NamedQueue.{NamedQueueData}
 use Rattle.policy_page.specs.Queues.{is_empty}
 use Rattle.sieve.specs.Sieve.{SieveState, empty_sieve, sieve_residents, sieve_act, IsSieve}
 pub use Rattle.queue_moves.specs.declared.records.Run.{Run}
@@ -9,6 +10,7 @@ use Rattle.queue_moves.specs.Moves.{item_of, standing, run, turns_due, after_run
 use Rattle.queue_moves.specs.Moves.{Plan}
 use Rattle.policy_page.specs.Counted.{counted_keys}
 use Rattle.policy_page.specs.Planned.{IsWithin, leaver_plan, resident_plan}
+use Rattle.policy_page.specs.Named.{counted_queue}
 use Rattle.policy_page.specs.PolicyPage.{PolicyPage}
 
 -- the number of the queue of the passed keys, where those ahead stand in x
@@ -57,6 +59,10 @@ sieve_plan c k x s =
     resident_plan (standing (item_of k) s) (nat_lt (length (s 0) + length (s 1)) c) (counts 1) (goes x 0) x
     (sieve_eviction_plan c x s)
 
+-- the queue's two parts with the visited bits
+abbrev pub sieve_queues : SieveState → List NamedQueueData
+sieve_queues s = counted_queue (codes "passed") s.passed ∷ counted_queue (codes "ahead") s.ahead ∷ []
+
 -- the policy, which uses two queues, and whose number is that of one of them
 abbrev pub sieve_page : PolicyPage
 sieve_page = record {
@@ -65,6 +71,7 @@ sieve_page = record {
   act = sieve_act;
   residents = sieve_residents;
   IsState = IsSieve;
+  named_queues = sieve_queues;
   view = sieve_of;
   IsShown = λ x s. IsWithin 2 s × (x ≤ 1);
   plan = sieve_plan;

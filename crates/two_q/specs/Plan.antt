@@ -1,7 +1,8 @@
 -- 2Q (`TwoQ`) as the plan of an access.
 use Rattle.std.specs.Prelude.{ℕ, ◌+◌, nat_lt, ◌==◌, ◌||◌, Bool, true, false, if◌then◌else◌, Option, Some, None}
-use Rattle.std.specs.Prelude.{length}
+use Rattle.std.specs.Prelude.{List, [], ◌∷◌, codes, length}
 use Rattle.queue_table.specs.Queues.{Queues}
+use Rattle.named_queues.specs.NamedQueue.{NamedQueueData, plain_queue}
 pub use Rattle.two_q.specs.declared.TwoQSizes.{TwoQSizes}
 use Rattle.two_q.specs.TwoQ.{TwoQState, empty_two_q, two_q_residents, two_q_act, IsTwoQ}
 use Rattle.queue_moves.specs.Moves.{item_of, standing, leaving, stays, goes, Plan, own_plan}
@@ -59,6 +60,11 @@ plan_at z c x (Some p) s =
 abbrev pub two_q_plan : TwoQSizes → ℕ → ℕ → ℕ → Queues → Plan
 two_q_plan z c k x s = plan_at z c x (standing (item_of k) s) s
 
+-- the queues
+abbrev pub two_q_queues : TwoQState → List NamedQueueData
+two_q_queues s =
+    plain_queue (codes "a1in") s.a1in ∷ plain_queue (codes "am") s.am ∷ plain_queue (codes "a1out") s.a1out ∷ []
+
 -- the policy, whatever the sizes of its parts
 abbrev pub two_q_page : TwoQSizes → PolicyPage
 two_q_page z = record {
@@ -67,6 +73,7 @@ two_q_page z = record {
   act = two_q_act z;
   residents = two_q_residents;
   IsState = IsTwoQ z;
+  named_queues = two_q_queues;
   view = λ x. two_q_of;
   IsShown = λ x s. Unit {0};
   plan = two_q_plan z;

@@ -1,0 +1,2 @@
+pub mod NamedQueue
+pub mod SegmentQueues
