@@ -208,7 +208,7 @@ quit_line t p (Known command.Run) h = absurd (true≢false (sym h))
 quit_line t p (Known (command.Break b)) h = absurd (true≢false (sym h))
 quit_line t p (Known command.Clear) h = absurd (true≢false (sym h))
 quit_line t p (Known command.Show) h = absurd (true≢false (sym h))
-quit_line t p (Known command.Window) h = absurd (true≢false (sym h))
+quit_line t p (Known (command.View v)) h = absurd (true≢false (sym h))
 quit_line t p (Known command.Own) h = absurd (true≢false (sym h))
 quit_line t p (Known command.Quit) h = refl
 

@@ -72,7 +72,7 @@ response_to t p (command.Break b) =
     if length p.breaks == MAX_BREAKPOINTS then stays p (codes "fault: Breaks\n") else sets p (p.breaks ++ b ∷ [])
 response_to t p command.Clear = sets p []
 response_to t p command.Show = stays p (t.shown p.at)
-response_to t p command.Window = stays p (t.window p.at)
+response_to t p (command.View v) = stays p (t.viewed v p.at)
 response_to t p command.Own = stays p (t.own p.at)
 response_to t p command.Quit = stays p []
 

@@ -9,6 +9,8 @@ use Rattle.debug_commands.specs.declared.breakpoint.Breakpoint.{Breakpoint}
 use Rattle.debug_commands.specs.declared.breakpoint.Breakpoint.TheVariants as point
 use Rattle.debug_commands.specs.declared.command.Command.{Command}
 use Rattle.debug_commands.specs.declared.command.Command.TheVariants as command
+use Rattle.debug_commands.specs.declared.command.View.{View}
+use Rattle.debug_commands.specs.declared.command.View.TheVariants as view
 pub use Rattle.debug_commands.specs.declared.command.Dialect.{Dialect}
 use Rattle.debug_commands.specs.declared.command.Dialect.TheVariants.{Policies, Journal}
 use Rattle.debug_commands.specs.declared.command.InputLine.{InputLine}
@@ -35,7 +37,15 @@ point_named d _ ws = None
 unfoldable pub point_at : Dialect → Reads Breakpoint
 point_at d ws = command_name_at ws >>= λ n. point_named d n.0 n.1
 
--- a command; `window` and `part` are of the policies' debugger, `save` of the journal's
+-- a view
+abbrev pub view_named : Name → Reads View
+view_named name.Window ws = Some (view.Window, ws)
+view_named name.Queues ws = Some (view.Queues, ws)
+view_named name.Last ws = Some (view.Last, ws)
+view_named name.Estimate ws = number_at ws >>= λ k. Some (view.Estimate k.0, k.1)
+view_named _ ws = None
+
+-- a command; the views and `part` are of the policies' debugger, `save` of the journal's
 abbrev pub command_named : Dialect → Name → Reads Command
 command_named d name.Step ws = number_at ws >>= λ n. Some (command.Step n.0, n.1)
 command_named d name.Back ws = number_at ws >>= λ n. Some (command.Back n.0, n.1)
@@ -44,11 +54,11 @@ command_named d name.Run ws = Some (command.Run, ws)
 command_named d name.Break ws = point_at d ws >>= λ b. Some (command.Break b.0, b.1)
 command_named d name.Clear ws = Some (command.Clear, ws)
 command_named d name.Show ws = Some (command.Show, ws)
-command_named Policies name.Window ws = Some (command.Window, ws)
 command_named Policies name.Part ws = Some (command.Own, ws)
 command_named Journal name.Save ws = Some (command.Own, ws)
 command_named d name.Quit ws = Some (command.Quit, ws)
-command_named d _ ws = None
+command_named Policies n ws = view_named n ws >>= λ v. Some (command.View v.0, v.1)
+command_named Journal n ws = None
 
 unfoldable pub command_at : Dialect → Reads Command
 command_at d ws = command_name_at ws >>= λ n. command_named d n.0 n.1

@@ -2,7 +2,7 @@
 use Rattle.std.specs.Prelude.{ℕ, List, Option, codes}
 pub use Rattle.debug_commands.specs.declared.grammar.Name.{Name}
 use Rattle.debug_commands.specs.declared.grammar.Name.TheVariants.{Step, Back, Goto, Run, Break, Clear, Show}
-use Rattle.debug_commands.specs.declared.grammar.Name.TheVariants.{Window, Part, Save}
+use Rattle.debug_commands.specs.declared.grammar.Name.TheVariants.{Window, Queues, Last, Estimate, Part, Save}
 use Rattle.debug_commands.specs.declared.grammar.Name.TheVariants.{Quit, Hit, Evict, Halve, Drop}
 use Rattle.debug_commands.specs.declared.grammar.TheConstants.{NAMES}
 use Rattle.streams.specs.Reads.{first_named}
@@ -16,6 +16,9 @@ command_spelling Break = codes "break"
 command_spelling Clear = codes "clear"
 command_spelling Show = codes "show"
 command_spelling Window = codes "window"
+command_spelling Queues = codes "queues"
+command_spelling Last = codes "last"
+command_spelling Estimate = codes "estimate"
 command_spelling Part = codes "part"
 command_spelling Save = codes "save"
 command_spelling Quit = codes "quit"

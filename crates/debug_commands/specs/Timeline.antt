@@ -2,6 +2,7 @@
 use Rattle.std.specs.Prelude.{ℕ, List}
 use Rattle.debug_commands.specs.declared.breakpoint.StepFacts.{StepFacts}
 use Rattle.debug_commands.specs.declared.command.Dialect.{Dialect}
+use Rattle.debug_commands.specs.declared.command.View.{View}
 
 pub record TimelineData : Type 0 where
   pub dialect : Dialect
@@ -11,7 +12,7 @@ pub record TimelineData : Type 0 where
   pub facts : ℕ → StepFacts
   -- what `show` prints where n steps are made
   pub shown : ℕ → List ℕ
-  -- what `window` prints there, where the dialect has that command
-  pub window : ℕ → List ℕ
+  -- what the command of a view prints there, where the dialect has views
+  pub viewed : View → ℕ → List ℕ
   -- what the dialect's own command prints there
   pub own : ℕ → List ℕ

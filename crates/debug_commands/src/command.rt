@@ -1,6 +1,7 @@
 //! The commands.
 
 use crate::breakpoint::Breakpoint;
+use engine_base::Key;
 
 /// What a line says.
 #[derive(Clone, Copy)]
@@ -30,19 +31,32 @@ pub enum Command {
     Clear,
     /// What is seen at the position.
     Show,
-    /// The sizes of the policies' windows at the position, in the one dialect that has it.
-    Window,
+    /// What else is seen of two policies at the position, in the one dialect that has it.
+    View(View),
     /// The command that only this dialect has: `part` or `save`.
     Own,
     /// Ends the run.
     Quit,
 }
 
-/// Which of the two debuggers the commands are for. They differ by a command and a breakpoint, and the first has one more
-/// command.
+/// What a command of the one dialect shows of two policies at a position.
+#[derive(Clone, Copy)]
+pub enum View {
+    /// The sizes of their windows.
+    Window,
+    /// Their queues.
+    Queues,
+    /// The access that led to the position, and its outcomes.
+    Last,
+    /// What their admission filters take as a key's frequency.
+    Estimate(Key),
+}
+
+/// Which of the two debuggers the commands are for. They differ by a command and a breakpoint, and the first has the views
+/// more.
 #[derive(Clone, Copy)]
 pub enum Dialect {
-    /// Two policies over a trace: `part`, `break part` and `window`.
+    /// Two policies over a trace: `part`, `break part`, `window`, `queues`, `last` and `estimate`.
     Policies,
     /// The journal of a concurrent cache: `save` and `break drop`.
     Journal,

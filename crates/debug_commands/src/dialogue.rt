@@ -194,7 +194,7 @@ fn answer<T: Timeline>(
             text.extend_from_slice(b"ok\n")
         }
         InputLine::Known(Command::Show) => timeline.show(alloc, text),
-        InputLine::Known(Command::Window) => timeline.window(text),
+        InputLine::Known(Command::View(view)) => timeline.view(alloc, view, text),
         InputLine::Known(Command::Own) => timeline.own(alloc, text),
     }
 }

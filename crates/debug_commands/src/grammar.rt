@@ -1,13 +1,13 @@
 //! The grammar of a line, and its words.
 ghost use Rattle.std.specs.Prelude.{◌≡◌, ℕ, List, [], ◌∷◌, MatchOption};
 ghost use Rattle.std.specs.Option.{option_map_or};
-ghost use Rattle.debug_commands.specs.Commands.{command_line_of, command_name_at, command_named, number_at, point_at};
+ghost use Rattle.debug_commands.specs.Commands.{command_line_of, command_name_at, command_named, number_at, point_at, view_named};
 ghost use Rattle.debug_commands.specs.Names.{command_spelling};
 ghost use Rattle.debug_commands.specs.Words.{words_in};
 ghost use Rattle.streams.specs.Reads.{first_named, with_rest};
 
 use crate::breakpoint::Breakpoint;
-use crate::command::{Command, Dialect, InputLine};
+use crate::command::{Command, Dialect, InputLine, View};
 use std::marker::Model;
 use streams::{cut, number, trimmed};
 
@@ -45,6 +45,9 @@ pub enum Name {
     Clear,
     Show,
     Window,
+    Queues,
+    Last,
+    Estimate,
     Part,
     Save,
     Quit,
@@ -68,6 +71,9 @@ impl Name {
             Name::Clear => b"clear",
             Name::Show => b"show",
             Name::Window => b"window",
+            Name::Queues => b"queues",
+            Name::Last => b"last",
+            Name::Estimate => b"estimate",
             Name::Part => b"part",
             Name::Save => b"save",
             Name::Quit => b"quit",
@@ -91,10 +97,6 @@ fn named_command(dialect: Dialect, name: Name, words: &mut Words) -> Option<Comm
         Name::Break => Some(Command::Break(next_breakpoint(dialect, words)?)),
         Name::Clear => Some(Command::Clear),
         Name::Show => Some(Command::Show),
-        Name::Window => match dialect {
-            Dialect::Policies => Some(Command::Window),
-            Dialect::Journal => None,
-        },
         Name::Part => match dialect {
             Dialect::Policies => Some(Command::Own),
             Dialect::Journal => None,
@@ -104,6 +106,22 @@ fn named_command(dialect: Dialect, name: Name, words: &mut Words) -> Option<Comm
             Dialect::Journal => Some(Command::Own),
         },
         Name::Quit => Some(Command::Quit),
+        _ => match dialect {
+            Dialect::Policies => Some(Command::View(named_view(name, words)?)),
+            Dialect::Journal => None,
+        },
+    }
+}
+
+// The view of this name, with what stands next.
+fn named_view(name: Name, words: &mut Words) -> Option<View>
+    ensures { with_rest words.new result ≡ view_named name words.old }
+{
+    match name {
+        Name::Window => Some(View::Window),
+        Name::Queues => Some(View::Queues),
+        Name::Last => Some(View::Last),
+        Name::Estimate => Some(View::Estimate(words.number()?)),
         _ => None,
     }
 }
@@ -174,7 +192,7 @@ impl<'a> Words<'a> {
 }
 
 // All names.
-const NAMES: [Name; 15] = [
+const NAMES: [Name; 18] = [
     Name::Step,
     Name::Back,
     Name::Goto,
@@ -183,6 +201,9 @@ const NAMES: [Name; 15] = [
     Name::Clear,
     Name::Show,
     Name::Window,
+    Name::Queues,
+    Name::Last,
+    Name::Estimate,
     Name::Part,
     Name::Save,
     Name::Quit,

@@ -15,7 +15,7 @@ mod text;
 mod timeline;
 
 pub use breakpoint::{Breakpoint, StepFacts};
-pub use command::{Command, Dialect, InputLine};
+pub use command::{Command, Dialect, InputLine, View};
 pub use dialogue::{MAX_BREAKPOINTS, MAX_COMMAND_BYTES, answer_commands};
 pub use fault::DebugFault;
 pub use grammar::line;

@@ -3,7 +3,7 @@ ghost use Rattle.std.specs.Prelude.{◌≡◌, ◌≤◌, ◌<◌, ◌+◌, ◌-
 ghost use Rattle.debug_commands.specs.Timeline.{TimelineData};
 
 use crate::breakpoint::StepFacts;
-use crate::command::Dialect;
+use crate::command::{Dialect, View};
 use std::alloc::{AllocError, Global};
 
 /// Steps that can be made and undone one by one, at a position: how many of them are made. The one error of each call
@@ -71,10 +71,10 @@ pub trait Timeline {
         requires { IsUsable self.now }
         ensures { OnOk result (text.new.items ≡ text.old.items ++ (timeline self.now).shown (position self.now)) };
 
-    /// Adds what `window` prints, where the dialect has that command.
-    fn window(&self, text: &mut Vec<u8>) -> Result<(), AllocError>
+    /// Adds what the command of a view prints, where the dialect has views.
+    fn view(&self, alloc: Global, view: View, text: &mut Vec<u8>) -> Result<(), AllocError>
         requires { IsUsable self.now }
-        ensures { OnOk result (text.new.items ≡ text.old.items ++ (timeline self.now).window (position self.now)) };
+        ensures { OnOk result (text.new.items ≡ text.old.items ++ (timeline self.now).viewed view (position self.now)) };
 
     /// Adds what the dialect's own command prints.
     fn own(&self, alloc: Global, text: &mut Vec<u8>) -> Result<(), AllocError>

@@ -62,7 +62,7 @@ replay_timeline opening steps = record {
   end = length steps;
   facts = λ n. entry_facts (slice_get steps (n - 1)) (halves_on_step opening steps n);
   shown = λ n. shown_text (state_at opening steps n);
-  window = λ n. [];
+  viewed = λ v n. [];
   own = λ n. journal_of Two (take n steps);
 }
 

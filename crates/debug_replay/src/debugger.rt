@@ -7,7 +7,7 @@ ghost use Rattle.streams.specs.Part.{AppendsPart};
 ghost use Rattle.streams.specs.Tally.{FailsWhere};
 
 use crate::shell_text::push_shell;
-use debug_commands::{DebugFault, Dialect, StepFacts, Timeline, answer_commands};
+use debug_commands::{DebugFault, Dialect, StepFacts, Timeline, View, answer_commands};
 use engine_base::{Act, Key, Reply};
 use journal::Session;
 use journal_text::write_journal;
@@ -116,8 +116,8 @@ impl<'a> Timeline for Replay<'a> {
         push_shell(alloc, self.session.engine(), text)
     }
 
-    // The dialect has no such command.
-    fn window(&self, _text: &mut Vec<u8>) -> Result<(), AllocError> {
+    // The dialect has no views.
+    fn view(&self, _alloc: Global, _view: View, _text: &mut Vec<u8>) -> Result<(), AllocError> {
         Ok(())
     }
 
