@@ -28,7 +28,10 @@ WRONG_WORDS = {
             "--capacity 3 --small 0 s3-fifo", "--capacity 3 --small 100 s3-fifo", "--capacity 3 --in 0 2q",
             "--capacity 3 --in 100 2q", "--capacity 3 --out 0 2q", "--capacity 3 --out 101 2q", "--capacity 3 mru",
             "--capacity 3 --spread even lru", "--capacity 3 --batch 0 lru", "--capacity 3 --batch 65537 lru",
-            "--capacity 3 --long=3 lru"],
+            "--capacity 3 --long=3 lru", "--capacity 3 2q:in", "--capacity 3 2q:in=0", "--capacity 3 2q:in=100",
+            "--capacity 3 2q:out=101", "--capacity 3 2q:small=9", "--capacity 3 2q:in=1:in=1", "--capacity 3 2q:",
+            "--capacity 3 lru:main=1", "--capacity 3 :main=1", "--capacity 3 wtinylfu:main=100",
+            "--capacity 3 caffeine:period=0", "--capacity 3 s3-fifo:small=1,small=2"],
     "sweep": ["--policy lru", "3", "--policy lru 3 0", "--policy lru --capacity 3 4"],
     "part": ["--capacity 2 --first lru"],
     "compare": ["--capacity 2 --second lru", "--first lru --second lru"],
@@ -36,6 +39,7 @@ WRONG_WORDS = {
                   "--capacity 3 --every 4294967296 --long lru"],
     "debug": ["--long --trace none --capacity 3 --first lru --second lru"],
     "drive": ["--long --capacity 3"],
+    "footprint": ["lru", "--capacity 3", "--format csv", "--every 3"],
     "sample": ["", "--rate 8", "--rate 1/1", "--rate 1/3", "--rate 1/2097152", "--rate 1/8 --seed -1",
                "--rate 1/8 --seed 18446744073709551616", "--rate 1/8 --capacity 3", "--rate 1/8 --long"]}
 
@@ -56,6 +60,10 @@ def words(check):
     check.expect_usage_error("blanks around a number", "run", "--capacity", " 3 ", "lru")
     check.expect_report("a number with a sign and a zero", "lru,3,5,2,3,0,0,40.00\n", "run", "--capacity", "+03", "lru",
                         stdin=check.trace)
+    # The second and the third access to 1 hit: a cache of three keeps all that comes.
+    check.expect_report("sizes in the words", lines("2q:in=50:out=1,3,5,2,3,0,0,40.00", "2q,3,5,2,3,0,0,40.00",
+                                                    "caffeine:main=7:period=300,3,5,2,3,0,0,40.00"),
+                        "run", "--capacity", 3, "--in", 9, "2q:out=01:in=+50", "2q", "caffeine:period=300:main=7", stdin=check.trace)
     check.expect_report("over a hundred words", lines(*(f"lru,{it},5,2,3,0,0,40.00" for it in range(3, 123))),
                         "sweep", "--policy", "lru", *range(3, 123), stdin=check.trace)
 
@@ -73,10 +81,9 @@ error: invalid value 'csv' for '--format <FORMAT>'
 For more information, try '--help'.
 """)
     check.expect_usage_error("the text of a long usage error", "run", "--capacity", 3, "zzzz-zzzz-zzzz-zzzz", error=f"""\
-error: invalid value 'zzzz-zzzz-zzzz-zzzz' for '<POLICY>...'
+error: a word names no policy, or a number is missing
   [possible values: {', '.join(check.policies)}]
-
-For more information, try '--help'.
+  [with sizes of their own: wtinylfu:main=N, caffeine:main=N:period=N, 2q:in=P:out=P, s3-fifo:small=P]
 """)
     pair = "--capacity", 3, "--first"
     for call in (["run", "--capacity", 3, "clairvoyant"], ["run", "--capacity", 3, "lru", "clairvoyant", "lru"],
@@ -138,6 +145,8 @@ def long_traces(check):
     past = f"{kept}\n5 1\n16777213 1"
     check.expect("a part past the accesses that are kept", "part", *pair, *scan, out="part 16777219\n", typed=past)
     check.expect("a comparison", "compare", *pair, *scan, typed=past, out=f"{COMPARE_HEADER}lru,fifo,3,16777219,1,1,0,16777217\n")
+    check.expect("the footprint of one access more than is kept", "footprint", "--long", "--format", "arc",
+                 out="accesses,blocks,once\n16777219,16777217,16777215\n", typed="0 16777217\n5 2")
     few = ("sample", "--rate", "1/1048576", "--format", "arc")
     check.expect("a sample of one access more than is kept", *few, out=lines(*FEW), typed="0 16777217",
                  error="17 of 16777217 accesses, 17 blocks: --sampled 1/1048576 --accesses 16777217\n")

@@ -58,15 +58,16 @@ DoneBy words files input before after old new silent line Silent =
     AsksForSome words (λ arguments. IsDone arguments files input before after
     × IsSaid arguments input old new silent line Silent) ⊎ (IsRefused words AsksHelp × Silent)
 
--- the line of arguments that are incomplete
+-- the lines of a word that names no policy, or of arguments that are incomplete
 abbrev pub usage_line : ParseFault → List ℕ
 usage_line parse.Stripes = codes "fault: Stripes\n"
 usage_line parse.WholeTrace =
     codes "error: clairvoyant has to know the whole trace, which --long does not keep: take a sample of it\n"
 usage_line parse.LongIntervals = codes "error: an interval has at most 16777216 accesses without --long\n"
 usage_line fault = codes "error: a word names no policy, or a number is missing\n"
-    ++ (codes "  [policies: lru, slru, tinylfu-lru, tinylfu-slru, wtinylfu, clairvoyant, fifo, clock, sieve, s3-fifo, 2q, arc, caffeine, car]\n"
-    ++ codes "  [with sizes of their own: wtinylfu:main=N, caffeine:main=N:period=N, 2q:in=P:out=P, s3-fifo:small=P]\n")
+    ++ (codes "  [possible values: lru, slru, tinylfu-lru, tinylfu-slru, wtinylfu, clairvoyant, fifo, clock, sieve, "
+    ++ (codes "s3-fifo, 2q, arc, caffeine, car]\n"
+    ++ codes "  [with sizes of their own: wtinylfu:main=N, caffeine:main=N:period=N, 2q:in=P:out=P, s3-fifo:small=P]\n"))
 
 -- Status 2: the words are refused by clap, or taken and incomplete: they lack a number in its range or a known
 -- policy, or their number of read buffers is not a power of two from 1 to 64, or they name Belady's policy for a long

@@ -34,7 +34,8 @@ const LONG_INTERVALS: &[u8] = b"error: an interval has at most 16777216 accesses
 
 // The lines of a word that names no policy, or of arguments that are incomplete, which are a usage error.
 const INCOMPLETE: &[u8] = b"error: a word names no policy, or a number is missing
-  [policies: lru, slru, tinylfu-lru, tinylfu-slru, wtinylfu, clairvoyant, fifo, clock, sieve, s3-fifo, 2q, arc, caffeine, car]
+  [possible values: lru, slru, tinylfu-lru, tinylfu-slru, wtinylfu, clairvoyant, fifo, clock, sieve, \
+s3-fifo, 2q, arc, caffeine, car]
   [with sizes of their own: wtinylfu:main=N, caffeine:main=N:period=N, 2q:in=P:out=P, s3-fifo:small=P]
 ";
 

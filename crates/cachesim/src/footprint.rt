@@ -7,10 +7,10 @@ ghost use Rattle.cachesim.specs.TraceOutput.{footprint_text};
 
 use crate::fault::Fault;
 use command_line::FootprintArguments;
-use long_traces::Footprint;
 use progress::Watch;
 use std::alloc::{AllocError, Global};
 use streams::CountedRead;
+use trace_footprint::Footprint;
 
 /// A header and a row: how many accesses, how many distinct blocks, and how many of these are accessed once.
 pub fn footprint<R: CountedRead, P: Watch>(

@@ -392,7 +392,8 @@ report depends on it",
         id: "policy",
         value_name: "POLICY",
         help: "The policies to run, in the order of their reports;
-no file is named here
+no file is named here; behind a word sizes of its own may stand,
+in place of those of --main, --in and the like: 2q:in=50:out=100
 [possible values: lru, slru, tinylfu-lru, tinylfu-slru, wtinylfu,
 clairvoyant, fifo, clock, sieve, s3-fifo, 2q, arc, caffeine, car]",
         value: ValueKind::Policy,
@@ -403,7 +404,9 @@ clairvoyant, fifo, clock, sieve, s3-fifo, 2q, arc, caffeine, car]",
         id: "policy",
         value_name: "POLICY",
         help: "A policy to run; given more than once,
-the reports of the first come first
+the reports of the first come first; behind a word sizes of its own
+may stand, in place of those of --main, --in and the like:
+2q:in=50:out=100
 [possible values: lru, slru, tinylfu-lru, tinylfu-slru, wtinylfu,
 clairvoyant, fifo, clock, sieve, s3-fifo, 2q, arc, caffeine, car]",
         value: ValueKind::Policy,
@@ -413,7 +416,7 @@ clairvoyant, fifo, clock, sieve, s3-fifo, 2q, arc, caffeine, car]",
     OptionRow {
         id: "first",
         value_name: "POLICY",
-        help: "The one policy, by a word of `run`",
+        help: "The one policy, by a word of `run`, with sizes of its own or none",
         value: ValueKind::Policy,
         place: Place::Named,
         default: None,
@@ -421,7 +424,7 @@ clairvoyant, fifo, clock, sieve, s3-fifo, 2q, arc, caffeine, car]",
     OptionRow {
         id: "second",
         value_name: "POLICY",
-        help: "The other policy, by a word of `run`",
+        help: "The other policy, by a word of `run`, with sizes of its own or none",
         value: ValueKind::Policy,
         place: Place::Named,
         default: None,

@@ -1,32 +1,22 @@
 //! How large a trace is that is read.
 ghost use Rattle.std.specs.Prelude.{◌≡◌, ◌≤◌, Err, IfOk, IfSome};
 ghost use Rattle.streams.specs.Tally.{FailsWhere};
+ghost use Rattle.trace_footprint.specs.Footprint.{footprint_of};
 ghost use Rattle.trace_read.specs.ReadTrace.{IsReadWithin};
 ghost use Rattle.trace_read.specs.TraceText.{keys_in};
 ghost use Rattle.trace_read.specs.declared.limits.TheConstants.{MAX_LONG_ACCESSES, MAX_LONG_TRACE_BYTES};
-ghost use Rattle.long_traces.specs.Footprint.{footprint_of};
 
-use crate::feed::read_taken;
-use crate::footprint_run::FootprintRun;
-use std::alloc::Global;
+use crate::feed::{Taker, read_taken};
+use std::alloc::{AllocError, Global};
 use std::marker::Brand;
-use step_record::Gate;
+use step_record::{Gate, Job, Key};
 use streams::CountedRead;
+use trace_footprint::{Footprint, FootprintCounter};
 use trace_read::{Format, Limits, TraceFault};
 
-/// How large a trace is.
-#[derive(Clone, Copy, Debug, PartialEq, Eq)]
-pub struct Footprint {
-    pub accesses: u64,
-    /// How many distinct blocks are accessed.
-    pub blocks: u64,
-    /// How many of these are accessed once.
-    pub once: u64,
-}
-
-/// How large the trace is that the reader gives. Beside a piece of it, memory has a mark for each block.
+/// How large the trace is that the reader gives. Beside a piece of it, memory has a number for each block.
 ///
-/// Errors: those of `read_trace_within`.
+/// Errors: those of `reports`.
 pub fn footprint<R: CountedRead, G: Gate>(
     alloc: Global,
     reader: &mut R,
@@ -41,9 +31,31 @@ pub fn footprint<R: CountedRead, G: Gate>(
     ensures read { IsReadWithin limits format (R.remaining reader.old) (R.remaining reader.new) result }
     ensures tally { FailsWhere (result ≡ Err TraceFault.Read) (R.tally reader.old) (R.tally reader.new) }
 {
-    let run =
-        read_taken::<Brand, R, FootprintRun, G>(alloc, reader, format, limits, &[], 1, gate)?;
-    let footprint = run.footprint();
-    drop(run);
+    let (jobs, every) = ([], 1);
+    let counter = read_taken::<Brand, R, FootprintCounter, G>(
+        alloc, reader, format, limits, &jobs, every, gate,
+    )?;
+    let footprint = counter.footprint;
+    drop(counter);
     Ok(footprint)
+}
+
+impl Taker for FootprintCounter {
+    ghost use Rattle.long_traces.specs.Footprint.{HasCountedFirst};
+
+    ghost fits = { λ _. Unit {0} };
+
+    ghost has_taken = { HasCountedFirst };
+
+    fn open(
+        alloc: Global,
+        _jobs: &[Job],
+        _every: usize,
+    ) -> Result<FootprintCounter, AllocError> {
+        Ok(FootprintCounter::new(alloc))
+    }
+
+    fn take(&mut self, keys: &[Key]) -> Result<(), AllocError> {
+        FootprintCounter::take(self, keys)
+    }
 }

@@ -11,7 +11,6 @@
 mod compared_run;
 mod feed;
 mod footprint;
-mod footprint_run;
 mod job_run;
 mod job_runs;
 mod jobs;
@@ -19,6 +18,6 @@ mod pair;
 mod pairs;
 mod part_run;
 
-pub use footprint::{Footprint, footprint};
+pub use footprint::footprint;
 pub use jobs::{intervals, reports};
 pub use pairs::{compare, compare_intervals, part};

@@ -5,7 +5,8 @@ use Rattle.std.specs.Set.{distinct_count, is_member}
 use Rattle.std.proofs.lemmas.Bool.Decides.{nat_tests}
 use Rattle.std.proofs.lemmas.List.Folds.{list_any-append}
 use Rattle.std.proofs.lemmas.List.Sums.{sum_by-cons}
-use Rattle.long_traces.specs.Footprint.{times}
+use Rattle.trace_footprint.specs.Counter.{FootprintCounter, HasCounted, mark, mark_in}
+use Rattle.trace_footprint.specs.Footprint.{Footprint, footprint_of, times}
 
 count-cons : (p : ℕ → Bool) (x : ℕ) (xs : List ℕ) → count_by p (x ∷ xs) ≡ cond (p x) 1 0 + count_by p xs
 count-cons p x xs = sum_by-cons (λ y. cond (p y) 1 0) x xs
