@@ -2,12 +2,12 @@
 them, each beside a second one that is written otherwise, by naive lists or by numbers in place of queues."""
 import json
 import random
-from pathlib import Path
+import re
 
-import cache_reference
 from checks import skewed_keys
 from frame import Mistake, expect, expect_parts, fake, file_of, rows_of, run
 from lib.own import loaded
+from survey_tests import on_terminal
 
 # A policy that keeps its newest keys, by a list.
 LRU = """class Lru:
@@ -144,6 +144,7 @@ WRONG = {
     "'evicted', None": f"access 1, to block 5: the answer ('evicted', None) is none of {ANSWERS}",
     "[], []": f"access 1, to block 5: the answer ([], []) is none of {ANSWERS}",
     "('kept', None) if self.times == 1 else {}[key]": "access 2, to block 6: KeyError: 6 (mine.py, line 8)",
+    "('kept', None) if self.times < 2 else next(iter(()))": "access 2, to block 6: StopIteration",
     "('hit', None) if self.times == 1 else 1 // 0": "access 1, to block 5: a hit of a block that it does not hold",
     "('kept', None) if self.times < 3 else ('hit', None) if self.times == 3 else 1 // 0":
         "access 4, to block 7: ZeroDivisionError: integer division or modulo by zero (mine.py, line 8)",
@@ -197,7 +198,8 @@ def check_refused(reference, folder):
 def check_rejecting(reference, folder):
     """A policy may reject the key itself, or keep it and have another leave in its place."""
     answers = "{1: ('kept', None), 2: ('rejected', key), 3: ('hit', None), 4: ('rejected', 5)}[self.times]"
-    out, _ = run(reference, "run", *own_of(folder, ANSWERING.format(answers)), "--capacity", 1, "own:x-1", typed="5\n6\n5\n7\n")
+    own = own_of(folder, ANSWERING.format(answers))
+    out, _ = run(reference, "run", *own, "--capacity", 1, "own:x-1", typed="5\n6\n5\n7\n")
     expect("rejections", out.splitlines()[1], "own:x-1,1,4,1,3,2,2,25.00")
 
 
@@ -243,6 +245,9 @@ def check_survey(survey, folder):
     expect("a sample", row["own:lru"], "84.00")
     expect_parts("a word", run(survey, *words, "--policy", "own:lur", trace, status=1)[1],
                  "--policy own:lur is none of lru, ", ": did you mean own:lru?")
+    drawn = on_terminal(survey, *words, "--policy", "own:lru", "--table", "policies", trace)
+    expect("the progress", re.search(r"\rown:lru: [0-9]+ % of accesses, 0:[0-9]{2}\x1b\[K.*\r\x1b\[K", drawn,
+                                     re.S) is None, False)
     misses = rows_of(run(survey, *words, "--table", "misses", "--csv", trace)[0])[0]
     expect("misses", (misses["own:lru"], misses["% fewer than lru"]), ("4", "85.2"))
     wrong = own_of(folder, ANSWERING.format("'hit', None"))
@@ -296,8 +301,10 @@ MISTAKES = {
     "what leaves is not looked at": Mistake(check_refused, OWN, 'elif answer != KEPT and answer != ("rejected", key):',
                                             "elif False:"),
     "answers of any kind": Mistake(check_refused, OWN, "(answer[0], type(answer[1])) not in MISSES", "False"),
-    "a fault before a wrong answer": Mistake(check_refused, OWN, "first_wrong(piece, answers, held, capacity) or fault",
-                                             "fault or first_wrong(piece, answers, held, capacity)"),
+    "a fault before a wrong answer": Mistake(check_refused, OWN, "at, text = first_wrong(",
+                                             "at, text = raised != 'StopIteration' and (len(answers), raised) "
+                                             "or first_wrong("),
+    "an answer that is missing": Mistake(check_refused, OWN, "if at < len(piece):", "if at < len(answers):"),
     "accesses counted by pieces": Mistake(check_refused, OWN, "access {len(outcomes) + at + 1}", "access {at + 1}"),
     "no bound": Mistake(check_refused, OWN, "if hits > keys.certain_hits(capacity) and", "if False and"),
     "a bound that is none": Mistake(check_refused, "lib/runs.py", "            elif after and farthest[0] < after:",
@@ -310,6 +317,8 @@ MISTAKES = {
     "prints in a report": Mistake(check_files, "lib/runs.py", "    os.dup2(2, 1)\n", ""),
     "the warm-up as the trace": Mistake(check_survey, "lib/reports.py",
                                         "self.warm_up and trace == self.warm_up.fileno()", "False"),
+    "no progress": Mistake(check_survey, "lib/runs.py", "        show_part(what, Accesses.made.value",
+                           "        (what, Accesses.made.value"),
     "no note": Mistake(check_survey, "lib/tables.py", "if own := ", 'if own := "" and '),
     "own ones that nobody asked for": Mistake(check_survey, OWN, "return policies if any(map(is_own, policies)) else ",
                                               "return "),

@@ -91,13 +91,13 @@ def outcomes_of(word, policy, capacity, keys):
     with named_faults(where):
         access = policy(capacity).access
     for piece in keys.pieces():
-        answers, fault = [], None
+        answers, raised = [], "StopIteration"  # which ends the list without a word
         try:
             answers.extend(map(access, piece))
-        except Exception as raised:
-            fault = len(answers), shown(raised)
-        if fault := first_wrong(piece, answers, held, capacity) or fault:
-            at, text = fault
+        except Exception as fault:
+            raised = shown(fault)
+        at, text = first_wrong(piece, answers, held, capacity) or (len(answers), raised)
+        if at < len(piece):
             raise Wrong(f"{where}, access {len(outcomes) + at + 1}, to block {piece[at]}: {text}")
         outcomes += map(itemgetter(0), answers)
     hits = outcomes.count("hit")
@@ -130,12 +130,11 @@ def first_wrong(piece, answers, held, capacity):
 
 
 def counts_of(policies, words, capacities, keys, processes=None):
-    """Accesses, hits, misses, evictions and rejections of these policies at these capacities, side by side."""
+    """Accesses, hits, misses and evictions of these policies at these capacities, side by side."""
     def counted(job):
         word, capacity = job
         times = Counter(outcomes_of(word, policies[word], capacity, keys))
-        left = times["evicted"] + times["rejected"]
-        return len(keys), times["hit"], len(keys) - times["hit"], left, times["rejected"]
+        return len(keys), times["hit"], len(keys) - times["hit"], times["evicted"] + times["rejected"]
 
     jobs = [(word, capacity) for word in words for capacity in capacities]
     keys.times  # once, before there are processes

@@ -166,7 +166,7 @@ class Trace:
     def rows_of_own(self, policies, capacities, is_warm_up):
         keys, options = Accesses(self.keys[:self.left_out]) if is_warm_up else self.keys, self.options
         counts = counts_of(options.own, policies, capacities, keys, options.processes)
-        return {at: Row(*at, *numbers[:4]) for at, numbers in counts.items()}
+        return {at: Row(*at, *numbers) for at, numbers in counts.items()}
 
     def words(self, command, main=None, part=()):
         options = self.options
