@@ -245,6 +245,9 @@ def check_survey(survey, folder):
     expect("a sample", row["own:lru"], "84.00")
     expect_parts("a word", run(survey, *words, "--policy", "own:lur", trace, status=1)[1],
                  "--policy own:lur is none of lru, ", ": did you mean own:lru?")
+    two = own_of(folder, LRU + LRU.replace("Lru", "Other"), "two.py")
+    row = rows_of(run(survey, *program, *two, "--policy", "own:other", "--capacity", 4, "--csv", trace)[0])[0]
+    expect("one of two", [it for it in row if it.startswith("own:")], ["own:other"])
     drawn = on_terminal(survey, *words, "--policy", "own:lru", "--table", "policies", trace)
     expect("the progress", re.search(r"\rown:lru: [0-9]+ % of accesses, 0:[0-9]{2}\x1b\[K.*\r\x1b\[K", drawn,
                                      re.S) is None, False)
@@ -317,14 +320,14 @@ MISTAKES = {
     "prints in a report": Mistake(check_files, "lib/runs.py", "    os.dup2(2, 1)\n", ""),
     "the warm-up as the trace": Mistake(check_survey, "lib/reports.py",
                                         "self.warm_up and trace == self.warm_up.fileno()", "False"),
-    "no progress": Mistake(check_survey, "lib/runs.py", "        show_part(what, Accesses.made.value",
-                           "        (what, Accesses.made.value"),
+    "no progress": Mistake(check_survey, "lib/runs.py", "        show_part(what, sum(Accesses.made)",
+                           "        (what, sum(Accesses.made)"),
     "no note": Mistake(check_survey, "lib/tables.py", "if own := ", 'if own := "" and '),
     "own ones that nobody asked for": Mistake(check_survey, OWN, "return policies if any(map(is_own, policies)) else ",
                                               "return "),
-    "a job without them": Mistake(check_corpus, "lib/jobs.py", 'own=settings["own"], processes=1)', "processes=1)"),
+    "a job without them": Mistake(check_corpus, "lib/jobs.py", 'own=settings["own"],', "own={},"),
     "another file": Mistake(check_corpus, "corpus",
                             "hashlib.sha256(Path(it).read_bytes()).hexdigest() for it in args.own",
                             "0 for it in args.own"),
-    "a legend that says nothing": Mistake(check_legend, "plot", "', not proved' * is_own(curve.policy)", "''"),
+    "a legend that says nothing": Mistake(check_legend, "plot", "* is_own(curve.policy)", "* 0"),
 }

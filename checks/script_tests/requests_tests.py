@@ -23,7 +23,7 @@ def check_requests(survey, folder, program):
 
 
 def check_none(survey, folder):
-    """There is no table of single blocks, nor where the accesses are too many, which is said."""
+    """There is no table of single blocks, nor where the accesses are too many, which is said, nor of half a report."""
     program = "--program", fake(folder, "10")
     call = *program, "--policy", "lru", "--capacity", 1, "--table", "requests", "--csv"
     for form, text in (("arc", "5 1\n6 1\n"), ("lirs", "5\n")):
@@ -31,11 +31,14 @@ def check_none(survey, folder):
     out, error = run(survey, *call, "--format", "arc", file_of(folder, "trace", "0 1000\n" * 8389))
     expect_parts("too many", error, "trace: requests are left out: it has over 8388608 accesses\n")
     expect("no rows", rows_of(out), [])
+    error = run(survey, *call, "--format", "arc", file_of(folder, "trace", REQUESTS), status=1)[1]
+    expect_parts("another report", error, "trace: the program printed other intervals than were asked for\n")
 
 
 MISTAKES = {
     "any block": Mistake(check_requests, "lib/measures.py", "0 not in hits[first:end]", "any(hits[first:end])"),
     "requests of the warm-up": Mistake(check_requests, "lib/measures.py", " if end - count >= trace.left_out]", "]"),
     "a trace from its first line on": Mistake(check_requests, "lib/reports.py", "            file.seek(self.file.start)\n", ""),
+    "half a report": Mistake(check_none, "lib/measures.py", "        if len(hits) != accesses:", "        if False:"),
     "in silence": Mistake(check_none, "lib/measures.py", "        if counts and accesses > MAX_ROWS:", "        if False:"),
 }

@@ -12,7 +12,7 @@ from .policies import MONOTONE, OPTIMAL, WINDOWED, has_sketch
 from .reports import MAX_CAPACITY, Row, rate
 from .runs import side_by_side
 from .samples import check_accesses
-from .traces import blocks_of, ranges_of, times_of_blocks
+from .traces import Unreadable, blocks_of, ranges_of, times_of_blocks
 
 PERCENTS = ["1", "2", "5", "10", "20", "50"]
 # The main parts of wtinylfu that are tried, in percent of the capacity, as --main names them; the rest is its window. The
@@ -228,6 +228,8 @@ def requests_of(trace, rows, policies, accesses, progress):
 
     def counted(job):
         hits = trace.hits_of(*job)
+        if len(hits) != accesses:
+            raise Unreadable(f"{trace.name}: the program printed other intervals than were asked for")
         whole = sum(0 not in hits[first:end] for first, end in parts)
         return Row(*job, len(parts), whole, len(parts) - whole, 0)
 

@@ -91,11 +91,15 @@ def oracle_general(record):
 
 def cloudphysics(record):
     _, size, _, command, _, sector, _ = struct.unpack("<IIIHHQQ", record)
-    return Range(None, sector * SECTOR, size, command & 0xFF in READS)
+    return request(command, sector, size)
 
 
 def cloudphysics2(record):
     command, _, _, size, _, sector, _, _ = struct.unpack("<HHIIIQQQ", record)
+    return request(command, sector, size)
+
+
+def request(command, sector, size):
     return Range(None, sector * SECTOR, size, command & 0xFF in READS)
 
 

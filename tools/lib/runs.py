@@ -2,23 +2,21 @@
 them."""
 import contextlib
 import heapq
-import multiprocessing
+import mmap
 import os
 import sys
 import time
 from collections import Counter
 from functools import cached_property
-from multiprocessing.connection import wait
 
 # A run says after so many accesses how far it is, which a terminal shows as often as that in seconds.
 STEP, SECONDS = 1 << 16, 0.2
-CONTEXT = multiprocessing.get_context("fork")
 
 
 class Accesses(list):
-    """The keys of a trace. Those that runs have gone through are counted, by whichever process."""
+    """The keys of a trace. How many a run has gone through is counted in its place of what all processes see."""
 
-    made = CONTEXT.Value("Q", 0)
+    made, place = [0], 0
 
     def pieces(self):
         """The keys, so many at once."""
@@ -28,8 +26,7 @@ class Accesses(list):
 
     @classmethod
     def count(cls, accesses):
-        with cls.made:
-            cls.made.value += accesses
+        cls.made[cls.place] += accesses
 
     def __iter__(self):
         for piece in self.pieces():
@@ -72,22 +69,25 @@ class Accesses(list):
 def side_by_side(call, jobs, what, accesses, processes=None):
     """What a call makes of each job, each in a process, as many at once as there are processors. All end before a fault
     of the first job that has one is raised. `accesses` is how many all of them make."""
+    # Here, since most calls of most scripts need none of it.
+    from multiprocessing import connection, get_context
+
     waiting, running, found, begun = [*enumerate(jobs)], {}, {}, time.monotonic()
-    Accesses.made.value = 0
+    context, Accesses.made = get_context("fork"), memoryview(mmap.mmap(-1, 8 * len(jobs) + 8)).cast("Q")
     while len(found) < len(jobs):
         while waiting and len(running) < (processes or len(os.sched_getaffinity(0))):
             at, job = waiting.pop(0)
-            reader, writer = CONTEXT.Pipe(duplex=False)
-            process = CONTEXT.Process(target=answer, args=(call, job, writer), daemon=True)
+            reader, writer = context.Pipe(duplex=False)
+            process = context.Process(target=answer, args=(call, job, at, writer), daemon=True)
             process.start()
             writer.close()
             running[reader] = at, process
-        for reader in wait([*running], SECONDS):
+        for reader in connection.wait([*running], SECONDS):
             at, process = running.pop(reader)
             with contextlib.closing(reader):
                 found[at] = received(reader, what)
             process.join()
-        show_part(what, Accesses.made.value, accesses, time.monotonic() - begun)
+        show_part(what, sum(Accesses.made), accesses, time.monotonic() - begun)
     show_part(what)
     answers = [found[at] for at in range(len(jobs))]
     if fault := next((it for it in answers if isinstance(it, Exception)), None):
@@ -103,9 +103,10 @@ def received(reader, what):
         return ValueError(f"{what}: a process was ended, perhaps since memory ran out")
 
 
-def answer(call, job, writer):
+def answer(call, job, place, writer):
     """What a process does: its own output is the pipe alone, so what else prints has standard error."""
     os.dup2(2, 1)
+    Accesses.place = place
     try:
         made = call(job)
     except Exception as fault:
