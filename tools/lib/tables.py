@@ -158,6 +158,9 @@ NOTES = {
              "ratio too, and a larger one may not; never: no cache of any size has that ratio)",
     "powers": "(near a capacity of the survey: past it the sketch doubles its width, so look at both sides)",
 }
+# What stands behind a column of caffeine.
+OF_CAFFEINE = ("(caffeine: its sketch, whom it lets in and a fixed window were measured beside the library; how its window moves is from "
+               "the library's source)")
 NOTES_OF_SAMPLE = {
     "policies": "(best: all within half a point of the best policy, or two where one of both has a sketch, and 5 % of its misses, "
                 f"clairvoyant left out, {AT_WORST}\n(of sieve and slru near a jump, and of any policy where two samples by other seeds "
@@ -259,6 +262,8 @@ def text_of(args, surveys):
             [" or ".join(it) or "-" if isinstance(it, tuple) else it for it in row] for rows in tables.values() for row in rows)
         return out.getvalue()
     notes = {**NOTES, **(NOTES_OF_SAMPLE if args.sampled else {})}
+    if CAFFEINE in surveys[0].policies:
+        notes["policies"] += "\n" + OF_CAFFEINE
     also = {trace: folded_note(f"({text})") for trace, text in also_measured(surveys).items()}
     first = next((name for name in tables if name in ADVICE), None)
     parts = [for_people(name, rows, notes, also if name == first else {})
