@@ -15,7 +15,6 @@ from selenium.webdriver.support.ui import WebDriverWait
 
 TOP = Path(__file__).resolve().parent.parent.parent
 TRACE = TOP / "examples/sqlite.lirs"
-WIDTHS = 400, 1400
 # The page has drawn what was asked of it last.
 IS_QUIET = "const it = document.getElementById('page'); return Boolean(it) && it.getAttribute('aria-busy') === 'false'"
 # The texts of a page whose colours are too near to that behind them, by the rule of WCAG 2: 4.5 to 1.

@@ -5,7 +5,7 @@ import io
 import re
 import sys
 
-from browsers import PALE, TRACE, WIDTHS, Mistake
+from browsers import PALE, TRACE, Mistake
 from checks import call, expect
 
 POLICIES = ["lru", "arc", "sieve", "s3-fifo", "wtinylfu", "clairvoyant"]
@@ -26,7 +26,7 @@ def report(tools, program, folder, *words, trace=TRACE):
     return page, list(csv.reader(io.StringIO(out)))
 
 
-def check_tables(browser, tools, program, folder, pictures):
+def check_tables(browser, tools, program, folder):
     """The tables are those that are printed, the facts those of the file, and nothing is fetched."""
     page, rows = report(tools, program, folder, "--percent", "10", "--percent", "30", "--table", "policies")
     browser.open(page.as_uri())
@@ -43,10 +43,17 @@ def check_tables(browser, tools, program, folder, pictures):
     expect("sources from elsewhere", re.findall(r"(?:src|href)=\"(?!data:,)|url\(|@import|https?://", page.read_text()),
            [])
     expect("what was fetched", browser.run("return performance.getEntriesByType('resource').length"), 0)
-    for width in WIDTHS:
-        browser.picture(pictures / f"report_{width}.png", width)
-    expect("pale texts", browser.run(PALE), [])
     expect("what the browser says", browser.complaints(), [])
+
+
+def check_looks(browser, tools, program, folder, pictures):
+    """At both widths all of the page of a survey with all its tables is there, and its texts stand out."""
+    page = folder / "report.html"
+    call(sys.executable, "-SE", tools / "survey", "--program", program, "--html", page, TRACE.name, cwd=TRACE.parent)
+    browser.open(page.as_uri())
+    browser.picture(folder / "narrow.png", 400)
+    browser.picture(pictures / "report.png", 1400)
+    expect("pale texts", browser.run(PALE), [])
 
 
 def check_curves(browser, tools, program, folder):
@@ -120,7 +127,7 @@ MISTAKES = {
     "the checksum of nothing": Mistake(check_tables, "lib/mailed.py", "        digest.update(piece)\n", ""),
     "a source from elsewhere": Mistake(check_tables, "lib/report.html", '<link rel="icon" href="data:,">',
                                        '<link rel="icon" href="https://example.org/">'),
-    "a table of another width": Mistake(check_tables, "lib/report.html", ".scroll { overflow-x: auto;", ".scroll {"),
+    "a table of another width": Mistake(check_looks, "lib/report.html", ".scroll { overflow-x: auto;", ".scroll {"),
     "a curve of hits of another policy": Mistake(check_curves, "lib/mailed.py", "100 * rows[policy, it].hits /",
                                                  "100 * rows[survey.policies[0], it].hits /"),
     "a curve that stays": Mistake(check_curves, "lib/report.html", "document.querySelectorAll(\"[data-policy]\")",

@@ -7,7 +7,7 @@ import subprocess
 from pathlib import Path
 from urllib.parse import parse_qs, urlsplit
 
-from browsers import KEYS, NAMELESS, PALE, TRACE, WIDTHS, Mistake, dialogue, watched
+from browsers import KEYS, NAMELESS, PALE, TRACE, Mistake, dialogue, watched
 from checks import becomes, call, expect
 from lib import sessions
 
@@ -385,14 +385,14 @@ def check_packed(browser, tools, program, folder):
         expect_page(browser, program, 1525)
 
 
-def check_looks(browser, tools, program, pictures):
+def check_looks(browser, tools, program, folder, pictures):
     """At both widths all of it is on the page, each field has a name, and its texts stand out."""
     with watched(tools, program, *SMALL) as (address, _):
         browser.open(f"{address}#at=1525")
         browser.quiet()
         browser.until("return document.querySelector('#ground path')")
-        for width in WIDTHS:
-            browser.picture(pictures / f"watch_{width}.png", width)
+        browser.picture(folder / "narrow.png", 400)
+        browser.picture(pictures / "watch.png", 1400)
         expect("pale texts", browser.run(PALE), [])
         expect("fields without a name", browser.run(NAMELESS), [])
         browser.run("document.querySelector('button').focus()")
