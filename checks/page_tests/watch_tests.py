@@ -294,26 +294,26 @@ def check_ground(browser, tools, program):
 
 
 def check_estimates(browser, tools, program):
-    """Beside a rejection stand the estimates of the block that was turned away and of the one that stayed, and
-    caffeine's window."""
-    words = ["--capacity", "97", "--first", "caffeine", "--second", "tinylfu-lru"]
-    with watched(tools, program, TRACE, *words) as (address, _):
-        lines = dialogue(program, ["debug", "--trace", TRACE, *words],
-                         *(f"goto {at}\nlast" for at in range(20300, 20371)))
-        at = max(int(lines[number - 2].split()[1]) for number, it in enumerate(lines)
-                 if it.startswith("b tinylfu-lru rejected"))
-        left, queues = (dialogue(program, ["debug", "--trace", TRACE, *words], f"goto {it}", ask)
-                        for it, ask in ((at, "last"), (at - 1, "queues")))
-        key, oldest = left[-1].split()[-1], next(it for it in queues if it.startswith("b ")).split()[3]
-        *_, of_key, of_oldest = (dialogue(program, ["debug", "--trace", TRACE, *words], f"goto {at}",
-                                          f"estimate {it}")[-1].split()[-1] for it in (key, oldest))
-        window = dialogue(program, ["debug", "--trace", TRACE, *words], f"goto {at}", "window")[1].split()
-        browser.open(f"{address}#at={at}")
-        browser.quiet()
-        heads = browser.texts(".side header")
-        for part in (f"{key} (accessed) {of_key}", f"{key} (left) {of_key}", f"{oldest} (was oldest) {of_oldest}"):
-            expect(f"{part} in {heads[1]}", part in heads[1], True)
-        expect(f"the window in {heads[0]}", f"window {window[3]}, going to {window[5]}" in heads[0], True)
+    """Beside a rejection, and beside an eviction, stand the estimates of the block that came, of the one that left, and
+    of the one that was the oldest; and caffeine's window."""
+    words = ["debug", "--trace", TRACE, "--capacity", "97", "--first", "caffeine", "--second", "tinylfu-lru"]
+    lasts = dialogue(program, words, *(f"goto {at}\nlast" for at in range(20300, 20371)))
+    with watched(tools, program, *words[2:]) as (address, _):
+        for outcome in ("rejected", "evicted"):
+            number = max(number for number, it in enumerate(lasts) if it.startswith(f"b tinylfu-lru {outcome}"))
+            (_, place, _, came), left = lasts[number - 2].split(), lasts[number].split()[-1]
+            at = int(place)
+            oldest = dialogue(program, words, f"goto {at - 1}", "queues")[-1].split()[3]
+            asked = [f"estimate {it}" for it in (came, left, oldest)]
+            _, window, _, *estimates = dialogue(program, words, f"goto {at}", "window", *asked)
+            *_, size, _, target = window.split()
+            browser.open(f"{address}#at={at}")
+            browser.quiet()
+            heads = browser.texts(".side header")
+            for key, what, said in zip((came, left, oldest), ("accessed", "left", "was oldest"), estimates[1::2]):
+                part = f"{key} ({what}) {said.split()[-1]}"
+                expect(f"{part} in {heads[1]}", part in heads[1], True)
+            expect(f"the window in {heads[0]}", f"window {size}, going to {target}" in heads[0], True)
 
 
 def check_journal(browser, tools, program, folder):
