@@ -24,6 +24,7 @@ use Rattle.engine_base.specs.Config.{config_fault}
 use Rattle.segments.specs.Items.{nodeless_item}
 use Rattle.admission.specs.declared.freq_record.FreqRecord.{FreqRecord}
 use Rattle.admission.specs.Frequency.{FrequencyData, frequency_with}
+use Rattle.admission.proofs.Weighing.{halvings_few}
 use Rattle.replacement.specs.Admission.{admits_in}
 use Rattle.adaptive_window.specs.declared.adaptive_cache.AdaptiveRecord.{AdaptiveRecord}
 use Rattle.adaptive_window.specs.AdaptiveCache.{Stats, Config, IsRunning, AdaptiveCacheState, cache_act, cache_record_of, cache_access, response_to}
@@ -109,16 +110,12 @@ module _ (r p : ClimbRules) (w v x : AdaptiveState) (f g : FrequencyData) (s z :
       → ◌≡◌ {A = AdaptiveRecord} record { counting = c; window = m } (cache_record_of k before)
   recorded-is c m ec em = rw (ec, em, eg, ep, ev) refl
 
--- a key brings one halving at most
-halvings-few : (k : ℕ) (f : FrequencyData) → (frequency_with k f).halvings ≤ f.halvings + 1
-halvings-few k f = grind (arith, nat_tests)
-
 tally-next : (o : Outcome) (s : Stats) → IsTally s → s.accesses ≢ 4294967296 → IsTally (stats_with o s)
 tally-next v s h below = grind (arith, nat_tests)
 
 pub still-running : (k : ℕ) (o : Outcome) (f g : FrequencyData) (s z : Stats) → IsRunning f s → s.accesses ≢ 4294967296 → g ≡ frequency_with k f → z ≡ stats_with o s → IsRunning g z
 still-running k o f g s z h below eg ez =
-    let few = halvings-few k f in
+    let few = halvings_few f k in
     let most = h.halvings in
     rw (eg, ez) record { counts = tally-next o s h.counts below; halvings = omega (arith, few, most) }
 

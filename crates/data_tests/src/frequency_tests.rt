@@ -84,24 +84,30 @@ fn opens_at_the_largest_capacity(rt: HostRuntime) -> Result<(), Fail> {
     Ok(())
 }
 
-// Without a doorkeeper: the entries, how many keys come in turn, how many recordings, and the age after them. Keys that
-// differ leave many odd counters, which the first halving takes off; a key whose counters are full ages no more.
-const OPEN_AGES: [(u32, u64, u64, u32); 4] = [
-    (16, 160, 160, 64),
-    (16, 80, 160, 80),
-    (100, 1, 20, 15),
-    (100, 1, 15, 15),
+// Without a doorkeeper: the entries, how many keys come in turn, how many recordings, and the age and the halvings after
+// them. Keys that differ leave many odd counters, of which the halving takes a fourth off the age before it is halved; a
+// key whose counters are full ages no more.
+const OPEN_AGES: [(u32, u64, u64, u32, u64); 5] = [
+    (16, 160, 160, 64, 1),
+    (16, 80, 160, 80, 1),
+    (100, 1, 20, 15, 0),
+    (100, 1, 15, 15, 0),
+    (1, 2, 200, 8, 32),
 ];
 
 #[test]
 fn ages_without_a_doorkeeper(rt: HostRuntime) -> Result<(), Fail> {
-    for (capacity, keys, count, age) in OPEN_AGES {
+    for (capacity, keys, count, age, halvings) in OPEN_AGES {
         let mut frequency = Frequency::without_doorkeeper(rt.alloc(), capacity, Spread::Mixed, 4)?;
         for i in 0..count {
             assert!(rt; frequency.halvings() < u64::MAX);
             let _done = frequency.record(i % keys)?;
         }
-        assert_equal(&rt, frequency.age(), age);
+        assert_equal(
+            &rt,
+            (frequency.age(), frequency.halvings()),
+            (age, halvings),
+        );
     }
     Ok(())
 }

@@ -1,10 +1,11 @@
 -- No count passes the number of applied steps.
-use Rattle.std.proofs.Common.{◌≡◌, ℕ, ◌+◌, ◌*◌, eqb, ◌<◌, ◌≤◌, Bool, true, false, nat_lt, Some, None, List, [], ◌∷◌, ap, ◌∙◌, refl, arith, inl, inr}
+use Rattle.std.proofs.Common.{◌≡◌, ℕ, ◌+◌, ◌*◌, ◌<◌, ◌≤◌, Bool, true, false, nat_lt, Some, None, List, [], ◌∷◌, ap, ◌∙◌, refl, arith, inl, inr}
 use Rattle.std.proofs.lemmas.Bool.{cases_Bool}
 use Rattle.std.proofs.lemmas.Bool.Decides.{nat_tests}
 use Rattle.engine_base.specs.History.{next_data, data_after, IsLegal}
 use Rattle.admission.specs.Shape.{Shape, IsShape}
-use Rattle.admission.specs.Frequency.{FrequencyData, frequency_of, frequency_with as recorded_key}
+use Rattle.admission.specs.Frequency.{FrequencyData, frequency_of}
+use Rattle.admission.proofs.Weighing.{halvings_few}
 use Rattle.shell_model.specs.Frequency.{frequency_recorded}
 use Rattle.shell_model.specs.declared.stats.Counted.TheVariants as counted
 use Rattle.shell_model.specs.ShellStats.{Counted, ShellStats, Reply, count_of, AllCounts, shell_stats_after, raises}
@@ -28,11 +29,7 @@ next-step x w b r y made = omega arith
 -- a key more brings one halving at most
 halvings-recorded : (f : FrequencyData) (k : ℕ) → (frequency_recorded f k).halvings ≤ f.halvings + 1
 unfolding frequency_recorded
-halvings-recorded f k =
-    elim (cases_Bool (eqb (f.age + 1) (10 * f.capacity))) as (λ _. (recorded_key k f).halvings ≤ f.halvings + 1) [
-      | inl e ↦ rw e (omega arith)
-      | inr e ↦ rw e (omega arith)
-    ]
+halvings-recorded f k = halvings_few f k
 
 halvings-step : (x : Shell) (w : ℕ) (b : Act) (r : Reply) (y : Shell) → Makes w x b r y → y.frequency.halvings ≤ x.frequency.halvings + 1
 halvings-step x w b r y (k.drained s i rest h e) = halvings-recorded x.frequency i.key
