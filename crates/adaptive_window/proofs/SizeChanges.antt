@@ -12,6 +12,7 @@ use Rattle.replacement.specs.Counts.{queue_occurrences, main_length}
 use Rattle.adaptive_window.specs.Climber.{ClimbRules, distance}
 use Rattle.adaptive_window.specs.Resizing.{Rules, max_size_change, size_towards, demoted_items, queues_after_demotions, lent_items, queues_after_growth, returned_items, queues_after_shrinking}
 use Rattle.adaptive_window.specs.AdaptiveWindow.{rules_at, queues_resized}
+use Rattle.adaptive_window.specs.Steps.{IsWithin}
 use Rattle.adaptive_window.specs.WindowRecord.{size_change, queues_before_change, size_before}
 
 -- ---- a run between two queues
@@ -21,12 +22,12 @@ times-cut j n l = sym (times-append j (take n l) (drop n l)) ∙ ap (occurrences
 
 -- the items that stand in the queues are as before, and so many stand in each
 pub record IsMoved (s t : Queues) (w p q : ℕ) : Type 0 where
-  same : (j : Item) → queue_occurrences j t ≡ queue_occurrences j s
-  window : length t.window ≡ w
-  probation : length t.probation ≡ p
-  protected : length t.protected ≡ q
+  pub same : (j : Item) → queue_occurrences j t ≡ queue_occurrences j s
+  pub window : length t.window ≡ w
+  pub probation : length t.probation ≡ p
+  pub protected : length t.protected ≡ q
 
-pub demoted-moved : (n : ℕ) (s : Queues) → n ≤ length s.protected
+demoted-moved : (n : ℕ) (s : Queues) → n ≤ length s.protected
     → IsMoved s (queues_after_run n Protected Probation s) (length s.window) (length s.probation + n) (length s.protected - n)
 demoted-moved n s few = record {
   same = λ j. omega (arith, times-append j s.probation (take n s.protected), times-cut j n s.protected);
@@ -63,49 +64,47 @@ pub record IsResized (r : ClimbRules) (size : ℕ) (s t : Queues) : Type 0 where
   pub main : size + main_length t ≤ r.capacity
   pub protected : length t.protected ≤ r.largest - size
 
--- the queues fit a window of the size that it had
-pub record IsWithin (r : ClimbRules) (size : ℕ) (s : Queues) : Type 0 where
-  pub window : length s.window ≤ size
-  pub main : size + main_length s ≤ r.capacity
-  pub protected : length s.protected ≤ r.largest - size
-
 module _ (r : ClimbRules) (z : ℕ) (s : Queues) where
-  abbrev rules : Rules
+  abbrev pub rules : Rules
   rules = rules_at r z
 
-  abbrev between : Queues
+  abbrev pub between : Queues
   between = queues_after_demotions rules s
 
-  abbrev demoted : ℕ
+  abbrev pub demoted : ℕ
   demoted = demoted_items rules s
 
-  abbrev lent : ℕ
+  abbrev pub lent : ℕ
   lent = lent_items rules between
 
-  first : IsMoved s between (length s.window) (length s.probation + demoted) (length s.protected - demoted)
+  pub first : IsMoved s between (length s.window) (length s.probation + demoted) (length s.protected - demoted)
   first = demoted-moved demoted s (omega arith)
+
+  pub second : IsMoved between (queues_after_growth rules s) (length between.window + lent) (length between.probation - lent) (length between.protected)
+  second = lent-moved lent between (omega arith)
+
+  -- probation has what the main part has over its size, since protected is within its own
+  pub enough : r.largest ≤ r.capacity → z ≤ r.largest → lent ≡ main_length between - (r.capacity - z)
+  enough fits high = let p = first.probation in let q = first.protected in omega (arith, p, q, fits, high)
 
   growth-back : queues_before_run demoted Protected Probation (queues_before_run lent Probation Window (queues_after_growth rules s)) ≡ s
   growth-back =
       ap (queues_before_run demoted Protected Probation) (run-back lent Probation Window between (λ e. absurd (cc e)) (omega arith))
       ∙ run-back demoted Protected Probation s (λ e. absurd (cc e)) (omega arith)
 
-  grown : (size : ℕ) → r.largest ≤ r.capacity → size < z → z ≤ r.largest → IsWithin r size s → IsResized r z s (queues_after_growth rules s)
+  pub grown : (size : ℕ) → r.largest ≤ r.capacity → size < z → z ≤ r.largest → IsWithin r size s → IsResized r z s (queues_after_growth rules s)
   grown size fits more high h =
-      let then : IsMoved between (queues_after_growth rules s) (length between.window + lent) (length between.probation - lent) (length between.protected) =
-      lent-moved lent between (omega arith) in
       let some : lent ≤ length between.probation = omega arith in
       let a = first.window in
       let b = first.probation in
       let c = first.protected in
-      let d = then.window in
-      let e = then.probation in
-      let f = then.protected in
+      let d = second.window in
+      let e = second.probation in
+      let f = second.protected in
       let w = h.window in
       let m = h.main in
-      let p = h.protected in
       record {
-        same = λ j. then.same j ∙ first.same j;
+        same = λ j. second.same j ∙ first.same j;
         total = omega (arith, a, b, c, d, e, f, some);
         window = omega (arith, a, b, c, d, e, f, some, w, m, more);
         main = omega (arith, a, b, c, d, e, f, some, w, m, more, high, fits);
@@ -115,18 +114,19 @@ module _ (r : ClimbRules) (z : ℕ) (s : Queues) where
   shrinking-back : queues_before_run (returned_items rules s) Window Probation (queues_after_shrinking rules s) ≡ s
   shrinking-back = run-back (returned_items rules s) Window Probation s (λ e. absurd (cc e)) (omega arith)
 
-  shrunk : (size : ℕ) → z < size → IsWithin r size s → IsResized r z s (queues_after_shrinking rules s)
+  pub back : IsMoved s (queues_after_shrinking rules s) (length s.window - returned_items rules s) (length s.probation + returned_items rules s) (length s.protected)
+  back = returned-moved (returned_items rules s) s (omega arith)
+
+  pub shrunk : (size : ℕ) → z < size → IsWithin r size s → IsResized r z s (queues_after_shrinking rules s)
   shrunk size less h =
-      let then : IsMoved s (queues_after_shrinking rules s) (length s.window - returned_items rules s) (length s.probation + returned_items rules s) (length s.protected) =
-      returned-moved (returned_items rules s) s (omega arith) in
-      let d = then.window in
-      let e = then.probation in
-      let f = then.protected in
+      let d = back.window in
+      let e = back.probation in
+      let f = back.protected in
       let w = h.window in
       let m = h.main in
       let p = h.protected in
       record {
-        same = then.same;
+        same = back.same;
         total = omega (arith, d, e, f);
         window = omega (arith, d);
         main = omega (arith, d, e, f, w, m, less);

@@ -5,4 +5,5 @@ pub mod WindowRecord
 pub mod AdaptiveCache
 pub mod Residents
 pub mod Theorems
+pub mod Steps
 pub mod Examples

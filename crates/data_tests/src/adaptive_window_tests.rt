@@ -40,7 +40,7 @@ fn accesses_of_a_small_adaptive_cache(rt: HostRuntime) -> Result<(), Fail> {
     Ok(())
 }
 
-// Steps to the keys of one period, and sees which size the window is to have then.
+// Steps to the keys of one period, and sees which size the window is to have then, and has at once.
 fn step_over(
     rt: &impl Abort,
     session: &mut Session<AdaptiveCache>,
@@ -52,6 +52,7 @@ fn step_over(
         session.step(first.wrapping_add(i.wrapping_mul(apart)))?;
     }
     assert_equal(rt, session.engine().target(), target);
+    assert_equal(rt, session.engine().window_size(), target);
     Ok(())
 }
 

@@ -224,7 +224,7 @@ fault: Command
 // keys, and as many to key 1 again. Caffeine's window has a size of 1 at first, and each of the three is a period. In the
 // first more hit than in none, so the target goes on down, and stays at 1. In the second fewer hit: the direction turns,
 // and the target goes up by the step, a sixteenth of the capacity. In the third more hit, and it goes up again. The size
-// follows by one an access.
+// is the target at once.
 const WINDOWS: [(u32, Policy, &str, &str); 2] = [
     (
         16,
@@ -253,11 +253,11 @@ fault: Command
     (
         32,
         Policy::Lru,
-        "goto 640\nwindow\nstep 1\nwindow\n",
-        "at 640
-a caffeine window 2 target 3
+        "goto 639\nwindow\nstep 1\nwindow\n",
+        "at 639
+a caffeine window 1 target 1
 b lru window none
-at 641
+at 640
 a caffeine window 3 target 3
 b lru window none
 ",

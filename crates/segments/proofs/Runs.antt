@@ -75,11 +75,11 @@ swapped Protected Protected l m s d = absurd (d refl)
 
 -- ---- one list
 
-take-next : (n : ℕ) (l : List Item) → take n l ++ take 1 (drop n l) ≡ take (n + 1) l
-take-next n l =
-    ap (λ x. take n l ++ x) (sym (drop-take n 1 l))
-    ∙ ap (λ x. x ++ drop n (take (n + 1) l)) (sym (take-take n (n + 1) l (omega arith)))
-    ∙ take-append-drop n (take (n + 1) l)
+take-more : (n m : ℕ) (l : List Item) → take n l ++ take m (drop n l) ≡ take (n + m) l
+take-more n m l =
+    ap (λ x. take n l ++ x) (sym (drop-take n m l))
+    ∙ ap (λ x. x ++ drop n (take (n + m) l)) (sym (take-take n (n + m) l (omega arith)))
+    ∙ take-append-drop n (take (n + m) l)
 
 -- the list cut at two places
 drop-between : (a b : ℕ) (l : List Item) → a ≤ b → b ≤ length l → drop a (take b l) ++ drop b l ≡ drop a l
@@ -103,18 +103,19 @@ newest-next n l =
 pub run-none : (p q : Queue) (s : Queues) → queues_after_run 0 p q s ≡ s
 run-none p q s = ap (λ x. with_both p (queue_of p s) q x s) (append-nil (queue_of q s)) ∙ both-same p q s
 
-pub run-next : (n : ℕ) (p q : Queue) (s : Queues) → p ≢ q → queues_after_run 1 p q (queues_after_run n p q s) ≡ queues_after_run (n + 1) p q s
-run-next n p q s apart =
+-- two runs, one after the other, are one
+pub run-more : (n m : ℕ) (p q : Queue) (s : Queues) → p ≢ q → queues_after_run m p q (queues_after_run n p q s) ≡ queues_after_run (n + m) p q s
+run-more n m p q s apart =
     let t : Queues = queues_after_run n p q s in
     let l : List Item = queue_of p s in
     let from : queue_of p t ≡ drop n l = both-from p q (drop n l) (queue_of q s ++ take n l) s apart in
     let to : queue_of q t ≡ queue_of q s ++ take n l = both-to p q (drop n l) (queue_of q s ++ take n l) s in
-    let left : drop 1 (queue_of p t) ≡ drop (n + 1) l = ap (drop 1) from ∙ drop-drop 1 n l in
-    let came : queue_of q t ++ take 1 (queue_of p t) ≡ queue_of q s ++ take (n + 1) l =
-    rw (to, from) (append_assoc (queue_of q s) (take n l) (take 1 (drop n l)) ∙ ap (λ x. queue_of q s ++ x) (take-next n l)) in
-    ap (λ x. with_both p x q (queue_of q t ++ take 1 (queue_of p t)) t) left
-    ∙ ap (λ x. with_both p (drop (n + 1) l) q x t) came
-    ∙ both-twice p q (drop n l) (queue_of q s ++ take n l) (drop (n + 1) l) (queue_of q s ++ take (n + 1) l) s
+    let left : drop m (queue_of p t) ≡ drop (n + m) l = ap (drop m) from ∙ drop-drop m n l in
+    let came : queue_of q t ++ take m (queue_of p t) ≡ queue_of q s ++ take (n + m) l =
+    rw (to, from) (append_assoc (queue_of q s) (take n l) (take m (drop n l)) ∙ ap (λ x. queue_of q s ++ x) (take-more n m l)) in
+    ap (λ x. with_both p x q (queue_of q t ++ take m (queue_of p t)) t) left
+    ∙ ap (λ x. with_both p (drop (n + m) l) q x t) came
+    ∙ both-twice p q (drop n l) (queue_of q s ++ take n l) (drop (n + m) l) (queue_of q s ++ take (n + m) l) s
 
 -- where the queue is empty, none goes
 pub run-empty : (n : ℕ) (p q : Queue) (s : Queues) → queue_of p s ≡ [] → queues_after_run n p q s ≡ s
@@ -139,11 +140,11 @@ push-popped x p q s apart first =
 pub run-moves : (n : ℕ) (x : Item) (p q : Queue) (s t : Queues) → p ≢ q → IsDistinct t → t ≡ queues_after_run n p q s → oldest_of (queue_of p t) ≡ Some x
     → queues_after_move x q t ≡ queues_after_run (n + 1) p q s
 run-moves n x p q s t apart d e first =
-    ap (queues_after_push q x) (taken-first p x t d first) ∙ push-popped x p q t apart first ∙ ap (queues_after_run 1 p q) e ∙ run-next n p q s apart
+    ap (queues_after_push q x) (taken-first p x t d first) ∙ push-popped x p q t apart first ∙ ap (queues_after_run 1 p q) e ∙ run-more n 1 p q s apart
 
 -- none was left to go
 pub run-stays : (n : ℕ) (p q : Queue) (s t : Queues) → p ≢ q → t ≡ queues_after_run n p q s → queue_of p t ≡ [] → t ≡ queues_after_run (n + 1) p q s
-run-stays n p q s t apart e none = sym (run-empty 1 p q t none) ∙ ap (queues_after_run 1 p q) e ∙ run-next n p q s apart
+run-stays n p q s t apart e none = sym (run-empty 1 p q t none) ∙ ap (queues_after_run 1 p q) e ∙ run-more n 1 p q s apart
 
 -- an item more, or none
 pub run-goes-on : (n : ℕ) (done : Option MoveRecord) (p q : Queue) (s t u : Queues) → p ≢ q → IsDistinct t → t ≡ queues_after_run n p q s
