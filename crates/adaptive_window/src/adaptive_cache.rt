@@ -3,6 +3,7 @@ ghost use Rattle.std.specs.Prelude.{◌≡◌, ◌≢◌, ◌≤◌, ◌<◌, �
 ghost use Rattle.std.specs.Prelude.{IfOk, OnOk, OnErr};
 ghost use Rattle.engine_base.specs.declared.limits.TheConstants.{MAX_STEPS};
 ghost use Rattle.engine_base.specs.Config.{config_fault};
+ghost use Rattle.named_queues.specs.SegmentQueues.{three_queues as three_queues_of};
 ghost use Rattle.segments.specs.Queues.{queue_holding, residents_in};
 ghost use Rattle.adaptive_window.specs.AdaptiveCache.{empty_cache, cache_act, cache_may_ask};
 
@@ -10,6 +11,7 @@ use crate::adaptive_window::AdaptiveWindow;
 use crate::window_record::WindowRecord;
 use admission::{FreqRecord, Frequency};
 use engine_base::{Config, Engine, Item, Key, MAX_STEPS, Outcome, Stats, StepFault};
+use named_queues::NamedQueue;
 use queue_table::AHEAD;
 use replacement::open_frequency_without_doorkeeper;
 use std::alloc::{AllocError, Global};
@@ -145,6 +147,13 @@ impl AdaptiveCache {
         ensures { IfOk result (λ keys. keys.items ≡ residents_in self.now.window.queues) }
     {
         self.window.keys(alloc)
+    }
+
+    /// Its queues under their names, with the keys, oldest first. The one error is that an allocation failed.
+    pub fn named_queues(&self, alloc: Global) -> Result<Vec<NamedQueue>, AllocError>
+        ensures { IfOk result (λ named. named.items ≡ three_queues_of self.now.window.queues) }
+    {
+        self.window.named_queues(alloc)
     }
 }
 

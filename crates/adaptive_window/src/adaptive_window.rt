@@ -2,6 +2,7 @@
 ghost use Rattle.std.specs.Prelude.{◌≡◌, ◌≤◌, Some, None, Ok, IfOk, OnOk, OnErr, length};
 ghost use Rattle.engine_base.specs.Config.{config_fault};
 ghost use Rattle.engine_base.specs.Stats.{is_hit as is_hit_of};
+ghost use Rattle.named_queues.specs.SegmentQueues.{three_queues as three_queues_of};
 ghost use Rattle.segments.specs.Queues.{queue_holding, residents_in};
 ghost use Rattle.replacement.specs.Admission.{admits_in};
 ghost use Rattle.replacement.specs.PlanMoves.{needed_by};
@@ -14,6 +15,7 @@ use crate::resizing::{resize, size_before, undo_runs};
 use crate::window_record::WindowRecord;
 use admission::Frequency;
 use engine_base::{Config, Item, Key, Outcome};
+use named_queues::{NamedQueue, three_queues};
 use replacement::{KeptMoves, access, make_room, undo};
 use segments::{Queue, Segments};
 use std::alloc::{AllocError, Global};
@@ -124,6 +126,13 @@ impl AdaptiveWindow {
         ensures { IfOk result (λ keys. keys.items ≡ residents_in self.now.state.queues) }
     {
         self.segments.keys(alloc)
+    }
+
+    /// Its queues under their names, with the keys, oldest first. The one error is that an allocation failed.
+    pub fn named_queues(&self, alloc: Global) -> Result<Vec<NamedQueue>, AllocError>
+        ensures { IfOk result (λ named. named.items ≡ three_queues_of self.now.state.queues) }
+    {
+        three_queues(alloc, &self.segments)
     }
 
     /// Accesses an item, whose key the frequency already has: by the table of moves, with a window of the size in force.

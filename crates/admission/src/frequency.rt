@@ -6,6 +6,7 @@ ghost use Rattle.admission.specs.Shape.{Shape, IsSized};
 ghost use Rattle.admission.specs.Frequency.{IsFrequencyOf, frequency_of, marked, faded, frequency_with, halves};
 ghost use Rattle.admission.specs.Frequency.{halving_words, IsOpenFrequencyOf, ages, halved_age};
 ghost use Rattle.std.specs.Int.{IsPowerOfTwo};
+ghost use Rattle.sketch.specs.Sketch.{least_counter};
 ghost use Rattle.admission.specs.Frequency.{estimate as estimate_of};
 ghost use Rattle.admission.specs.FreqRecord.{frequency_record, record_of, mark_of, lost_of};
 ghost use Rattle.admission.specs.FreqRecord.{frequency_before, FitsRecord, unmarked, FitsMark, unaged, FitsAging};
@@ -201,6 +202,13 @@ impl Frequency {
         let known = self.door.has(key);
         let least = self.sketch.least(key);
         least + known as u8
+    }
+
+    /// The least of a key's four counters: its estimate where the doorkeeper is left out.
+    pub fn least(&self, key: Key) -> u8
+        ensures { result ≡ least_counter key self.now.table }
+    {
+        self.sketch.least(key)
     }
 
     /// Works out what the estimate of a key is read by, and keeps it until another key is prepared. Changes nothing that

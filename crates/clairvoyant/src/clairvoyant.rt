@@ -1,15 +1,19 @@
 //! The cache that knows the trace.
-ghost use Rattle.std.specs.Prelude.{◌≡◌, suc, ◌-◌, ◌*◌, ◌≤◌, ◌<◌, length, slice_index, IfSome};
+ghost use Rattle.std.specs.Prelude.{◌≡◌, suc, ◌-◌, ◌*◌, ◌≤◌, ◌<◌, length, map, slice_index, IfSome};
 ghost use Rattle.std.specs.Prelude.{IfOk, Ok, Some, None};
 ghost use Rattle.engine_base.specs.declared.limits.TheConstants.{MAX_ACCESSES, MAX_CAPACITY};
 ghost use Rattle.clairvoyant.specs.Ranks.{rank, rank_by, key_at};
 ghost use Rattle.clairvoyant.specs.RankSet.{IsTied};
 ghost use Rattle.clairvoyant.specs.Belady.{belady_residents};
 ghost use Rattle.clairvoyant.specs.OptimalRecord.{record_at};
+ghost use Rattle.clairvoyant.specs.Keys.{IsAscendingKeys};
+ghost use Rattle.clairvoyant.specs.NextAccesses.{renumbered};
+ghost use Rattle.named_queues.specs.NamedQueue.{numbered_key};
 
 use crate::BitSet;
 use crate::optimal_record::{EvictedKey, OptimalRecord};
 use engine_base::{Engine, Key, Outcome, Stats, StepFault};
+use named_queues::{NamedQueue, QueueKey};
 use std::alloc::{AllocError, Global};
 use std::marker::Model;
 use trace_index::NextUse;
@@ -149,6 +153,7 @@ fn rank_by(len: usize, next: Option<u32>, last: usize) -> u32
 
 impl Clairvoyant {
     ghost use Rattle.clairvoyant.specs.Clairvoyant.{clairvoyant_at, IsBeladyReached};
+    ghost use Rattle.clairvoyant.specs.NextAccesses.{clairvoyant_queues, next_accesses};
 
     /// An empty cache at the start of a trace, for 1 to `MAX_CAPACITY` keys. The only error is that an allocation
     /// failed; a cache that is open asks for no more.
@@ -192,6 +197,62 @@ impl Clairvoyant {
         }
         keys.sort_unstable();
         Ok(keys)
+    }
+
+    /// Its keys, ascending, as a queue by the name `next`, each with the access at which it comes next, counted from 1,
+    /// and 0 where it never does. The only error is out of memory.
+    pub fn named_queues(&self, alloc: Global) -> Result<Vec<NamedQueue>, AllocError>
+        ensures { IfOk result (λ named. named.items ≡ clairvoyant_queues self.now) }
+    {
+        let keys = self.residents(alloc)?;
+        let next = self.next_accesses(alloc, &keys)?;
+        let mut named = Vec::new(alloc);
+        named.push(NamedQueue::new("next", next))?;
+        Ok(named)
+    }
+
+    // Each of the resident keys with its next access: from the last access of the trace back to the next one, so that of
+    // the uses of a key the first stands.
+    fn next_accesses(&self, alloc: Global, keys: &[Key]) -> Result<Vec<QueueKey>, AllocError>
+        requires { keys.now ≡ self.now.residents }
+        ensures { IfOk result (λ next. next.items ≡ next_accesses self.now) }
+    {
+        let mut next = never_used(alloc, keys)?;
+        let made = self.stats.accesses as usize;
+        let mut place = self.core.uses.len();
+        while place > made {
+            place -= 1;
+            renumber(&mut next, keys, self.core.uses.key(place), place as u64 + 1);
+        }
+        Ok(next)
+    }
+}
+
+// The keys, of which none is used again.
+fn never_used(alloc: Global, keys: &[Key]) -> Result<Vec<QueueKey>, AllocError>
+    ensures { IfOk result (λ next. next.items ≡ map (λ k. numbered_key k 0) keys.now) }
+{
+    let mut next = Vec::new(alloc);
+    for key in keys {
+        next.push(QueueKey {
+            key: *key,
+            number: Some(0),
+        })?;
+    }
+    Ok(next)
+}
+
+// Puts a number beside a key, where it is among the keys.
+fn renumber(next: &mut Vec<QueueKey>, keys: &[Key], key: Key, number: u64)
+    requires keys { map (λ e. e.key) next.old.items ≡ keys.now }
+    requires ascending { IsAscendingKeys keys.now }
+    ensures { next.new.items ≡ renumbered key number next.old.items }
+{
+    if let Ok(i) = keys.binary_search(&key) {
+        next[i] = QueueKey {
+            key,
+            number: Some(number),
+        };
     }
 }
 

@@ -1,5 +1,6 @@
 -- The policies that keep each missed key: the one table of them.
 use Rattle.std.specs.Prelude.{ℕ, List}
+use Rattle.named_queues.specs.NamedQueue.{NamedQueueData}
 use Rattle.queue_table.specs.Queues.{Queues}
 use Rattle.queue_moves.specs.Moves.{Plan}
 use Rattle.engine_base.specs.Machine.{outcomes_of_all}
@@ -36,6 +37,10 @@ plan_by p = (page_of p).plan
 -- the keys that are cached, queue by queue, oldest first
 abbrev pub residents_by : DemandPolicy → ℕ → Queues → List ℕ
 residents_by p x s = (page_of p).residents ((page_of p).view x s)
+
+-- the queues under their names
+abbrev pub named_by : DemandPolicy → ℕ → Queues → List NamedQueueData
+named_by p x s = (page_of p).named_queues ((page_of p).view x s)
 
 -- a state of a cache of capacity c, by the policy's definition
 abbrev pub IsStateOf : DemandPolicy → ℕ → ℕ → Queues → Type 0

@@ -1,5 +1,6 @@
 -- One access to the queues of any of these policies, by the policy's plan; its record, and how the record undoes it.
 use Rattle.std.specs.Prelude.{◌≡◌, ℕ, ◌≤◌, List}
+use Rattle.named_queues.specs.NamedQueue.{NamedQueueData}
 use Rattle.queue_table.specs.Queues.{Queues, empty_queues}
 use Rattle.policy_page.specs.Residents.{Outcome}
 pub use Rattle.queue_moves.specs.declared.records.Moves.{Moves}
@@ -8,7 +9,7 @@ use Rattle.queue_moves.specs.Undoing.{record_of, before_all, FitsMoves, MovesAsk
 use Rattle.queue_moves.specs.Tabled.{IsTabled}
 use Rattle.queue_moves.specs.Lists.{QueueLists, lists_of, queues_in}
 pub use Rattle.demand_cache.specs.declared.demand_policy.DemandPolicy.{DemandPolicy}
-use Rattle.demand_cache.specs.DemandPolicy.{plan_by, residents_by, IsStateOf}
+use Rattle.demand_cache.specs.DemandPolicy.{plan_by, named_by, residents_by, IsStateOf}
 
 -- the queues by number, and the policy's own number: ARC's target, SIEVE's queue ahead of the hand
 pub record DemandQueues : Type 0 where
@@ -32,6 +33,10 @@ plan_of k d = plan_by d.policy d.capacity k d.scalar (queues_of d)
 
 abbrev pub queues_residents : DemandQueues → List ℕ
 queues_residents d = residents_by d.policy d.scalar (queues_of d)
+
+-- the queues under their names, as the policy's definition has them
+abbrev pub queues_named : DemandQueues → List NamedQueueData
+queues_named d = named_by d.policy d.scalar (queues_of d)
 
 -- an access to k: its outcome, and the queues after it
 abbrev pub queues_act : ℕ → DemandQueues → Outcome × DemandQueues

@@ -1,4 +1,5 @@
 pub mod DemandPolicy
+pub mod QueueRow
 pub mod DemandQueues
 pub mod DemandCache
 pub mod Theorems

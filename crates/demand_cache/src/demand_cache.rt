@@ -1,14 +1,19 @@
 //! The engine: a cache whose accesses are counted and can be undone.
-ghost use Rattle.std.specs.Prelude.{◌≡◌, ◌+◌, ◌≤◌, ◌↔◌, ◌++◌, [], length, Err, Some, None, IfOk, OnOk, OnErr};
+ghost use Rattle.std.specs.Prelude.{◌≡◌, ◌+◌, ◌≤◌, ◌↔◌, ◌++◌, [], ◌∷◌, length, map, Err, Some, None, IfOk, OnOk, OnErr};
 ghost use Rattle.engine_base.specs.declared.limits.TheConstants.{MAX_CAPACITY, MAX_STEPS};
 ghost use Rattle.engine_base.specs.Stats.{stats_of};
 ghost use Rattle.queue_table.specs.QueueTable.{queues as queues_at};
 ghost use Rattle.engine_base.specs.Machine.{state_after_all};
-ghost use Rattle.demand_cache.specs.DemandQueues.{empty_cache, queues_residents};
+ghost use Rattle.demand_cache.specs.DemandQueues.{empty_cache, queues_residents, queues_named};
+ghost use Rattle.demand_cache.specs.QueueRow.{named_row, numbered_keys, IsLowRow};
+ghost use Rattle.named_queues.specs.NamedQueue.{plain_key};
+ghost use Rattle.queue_moves.specs.Tabled.{keys_of};
 
-use crate::demand_policy::DemandPolicy;
+use crate::demand_policy::{DemandPolicy, QueueRow};
 use engine_base::{Engine, Key, MAX_STEPS, Outcome, Stats, StepFault};
+use named_queues::{NamedQueue, QueueKey};
 use queue_moves::{KeyQueues, Moves};
+use queue_table::Entry;
 use std::alloc::{AllocError, Global};
 use std::marker::Model;
 
@@ -164,6 +169,20 @@ impl DemandCache {
         Ok(keys)
     }
 
+    /// The queues under their names, with the keys, oldest first, and the numbers beside these. The one error is that an
+    /// allocation failed.
+    pub fn named_queues(&self, alloc: Global) -> Result<Vec<NamedQueue>, AllocError>
+        ensures { IfOk result (λ named. named.items ≡ queues_named self.now.queues) }
+    {
+        self.queues.tabled();
+        let rows = self.policy.queue_rows(alloc, self.scalar)?;
+        let mut named = Vec::new(alloc);
+        for row in &rows {
+            push_row(alloc, &mut named, &self.queues, self.scalar, *row)?;
+        }
+        Ok(named)
+    }
+
     // Appends the resident keys.
     fn add_residents(&self, keys: &mut Vec<Key>) -> Result<(), AllocError>
         ensures { OnOk result (keys.new.items ≡ keys.old.items ++ queues_residents self.now.queues) }
@@ -176,6 +195,65 @@ impl DemandCache {
             None => Ok(()),
         }
     }
+}
+
+// Appends what a policy shows under a name, of the queues and its own number.
+fn push_row(
+    alloc: Global,
+    named: &mut Vec<NamedQueue>,
+    queues: &KeyQueues,
+    scalar: u32,
+    row: QueueRow,
+) -> Result<(), AllocError>
+    requires { IsLowRow row }
+    ensures { OnOk result (named.new.items ≡ named.old.items ++ named_row scalar (queues_at queues.now) row ∷ []) }
+{
+    let mut keys = Vec::new(alloc);
+    let name = match row {
+        QueueRow::Keys(name, queue) => {
+            push_plain(&mut keys, &queues.entries(queue)?)?;
+            name
+        }
+        QueueRow::Counts(name, queue) => {
+            push_counted(&mut keys, &queues.entries(queue)?)?;
+            name
+        }
+        QueueRow::Scalar(name) => {
+            keys.push(QueueKey {
+                key: u64::from(scalar),
+                number: None,
+            })?;
+            name
+        }
+    };
+    named.push(NamedQueue::new(name, keys))?;
+    Ok(())
+}
+
+// Appends the keys of entries.
+fn push_plain(keys: &mut Vec<QueueKey>, entries: &[Entry]) -> Result<(), AllocError>
+    ensures { OnOk result (keys.new.items ≡ keys.old.items ++ map plain_key (keys_of entries.now)) }
+{
+    for entry in entries {
+        keys.push(QueueKey {
+            key: entry.item.key,
+            number: None,
+        })?;
+    }
+    Ok(())
+}
+
+// Appends the keys of entries, each with its count.
+fn push_counted(keys: &mut Vec<QueueKey>, entries: &[Entry]) -> Result<(), AllocError>
+    ensures { OnOk result (keys.new.items ≡ keys.old.items ++ numbered_keys entries.now) }
+{
+    for entry in entries {
+        keys.push(QueueKey {
+            key: entry.item.key,
+            number: Some(u64::from(entry.count)),
+        })?;
+    }
+    Ok(())
 }
 
 impl Engine for DemandCache {

@@ -1,18 +1,19 @@
 //! The policies that keep each missed key: all that names one of them in code.
-ghost use Rattle.std.specs.Prelude.{◌≡◌, Bool, ℕ, ◌+◌, ◌≤◌, ◌<◌, false, length, IfOk, OnOk, OnErr, IfSome};
+ghost use Rattle.std.specs.Prelude.{◌≡◌, Bool, ℕ, ◌+◌, ◌≤◌, ◌<◌, false, length, map, IfOk, OnOk, OnErr, IfSome, All};
 ghost use Rattle.engine_base.specs.declared.limits.TheConstants.{MAX_CAPACITY, MAX_STEPS};
 ghost use Rattle.queue_table.specs.QueueTable.{queues as queues_at};
 ghost use Rattle.queue_table.specs.Queues.{QUEUES, Item, Queues};
 ghost use Rattle.queue_moves.specs.Moves.{Plan, item_of};
 ghost use Rattle.queue_moves.specs.Undoing.{IsAccessed};
 ghost use Rattle.demand_cache.specs.DemandPolicy.{page_of, plan_by};
+ghost use Rattle.demand_cache.specs.QueueRow.{named_row, IsLowRow};
 ghost use Rattle.engine_base.specs.Machine.{state_after_all};
 ghost use Rattle.demand_cache.specs.DemandCache.{IsCountedBy, DemandStops, demand_access};
 
 use crate::demand_cache::DemandCache;
 use engine_base::{Key, Outcome};
 use queue_moves::{Accessed, KeyQueues};
-use std::alloc::AllocError;
+use std::alloc::{AllocError, Global};
 use two_q::TwoQSizes;
 
 /// A policy that keeps each missed key, with the sizes of its parts where they are a choice. Any sizes will do.
@@ -32,6 +33,17 @@ pub enum DemandPolicy {
     Arc,
     /// Recency beside frequency by two clocks, each with a ghost, and a target that adapts (FAST 2004).
     Car,
+}
+
+/// What a policy shows under a name.
+#[derive(Clone, Copy)]
+pub(crate) enum QueueRow {
+    /// The keys of a queue.
+    Keys(&'static str, u8),
+    /// The keys of a queue, each with its count.
+    Counts(&'static str, u8),
+    /// The policy's own number.
+    Scalar(&'static str),
 }
 
 // Selects the instance of an access that is part of each policy's loop.
@@ -93,11 +105,57 @@ impl DemandPolicy {
         match self {
             DemandPolicy::Fifo | DemandPolicy::Clock => (0, None),
             DemandPolicy::Sieve => {
-                let ahead = scalar as u8;
+                let ahead = queue_ahead(scalar);
                 (1 - ahead, Some(ahead))
             }
             DemandPolicy::S3Fifo(_) | DemandPolicy::Arc | DemandPolicy::Car => (0, Some(1)),
             DemandPolicy::TwoQ(_) => (0, Some(2)),
+        }
+    }
+
+    /// Under which names the policy shows which queues, where this is its own number, with which some queues show a state.
+    /// The one error is that an allocation failed.
+    pub(crate) fn queue_rows(self, alloc: Global, scalar: u32) -> Result<Vec<QueueRow>, AllocError>
+        requires { (s : Queues) × (page_of self).IsShown scalar s }
+        ensures rows { IfOk result (λ rows. (s : Queues) → map (named_row scalar s) rows.items
+            ≡ (page_of self).named_queues ((page_of self).view scalar s)) }
+        ensures low { IfOk result (λ rows. All IsLowRow rows.items) }
+    {
+        match self {
+            DemandPolicy::Fifo => Ok(vec![in alloc; QueueRow::Keys("queue", 0)]?),
+            DemandPolicy::Clock => Ok(vec![in alloc; QueueRow::Counts("queue", 0)]?),
+            DemandPolicy::Sieve => {
+                let ahead = queue_ahead(scalar);
+                let passed = 1 - ahead;
+                Ok(vec![in alloc;
+                    QueueRow::Counts("passed", passed),
+                    QueueRow::Counts("ahead", ahead),
+                ]?)
+            }
+            DemandPolicy::S3Fifo(_) => Ok(vec![in alloc;
+                QueueRow::Counts("small", 0),
+                QueueRow::Counts("main", 1),
+                QueueRow::Keys("ghost", 2),
+            ]?),
+            DemandPolicy::TwoQ(_) => Ok(vec![in alloc;
+                QueueRow::Keys("a1in", 0),
+                QueueRow::Keys("am", 2),
+                QueueRow::Keys("a1out", 1),
+            ]?),
+            DemandPolicy::Arc => Ok(vec![in alloc;
+                QueueRow::Keys("t1", 0),
+                QueueRow::Keys("t2", 1),
+                QueueRow::Keys("b1", 2),
+                QueueRow::Keys("b2", 3),
+                QueueRow::Scalar("target"),
+            ]?),
+            DemandPolicy::Car => Ok(vec![in alloc;
+                QueueRow::Counts("t1", 0),
+                QueueRow::Counts("t2", 1),
+                QueueRow::Keys("b1", 2),
+                QueueRow::Keys("b2", 3),
+                QueueRow::Scalar("target"),
+            ]?),
         }
     }
 
@@ -184,6 +242,14 @@ impl DemandPolicy {
             DemandPolicy::Car => car::step::<Accessed>(queues, capacity, scalar, key),
         }
     }
+}
+
+// The queue of the keys ahead of SIEVE's hand, by the policy's own number.
+fn queue_ahead(scalar: u32) -> u8
+    requires { scalar ≤ 1 }
+    ensures { result ≡ scalar }
+{
+    scalar as u8
 }
 
 // What is read of a step.

@@ -15,6 +15,7 @@ use crate::fixed_design::FixedDesign;
 use crate::record::AccessRecord;
 use admission::{FreqRecord, Frequency};
 use engine_base::{Config, Engine, Item, Key, MAX_STEPS, Outcome, Stats, StepFault};
+use named_queues::{NamedQueue, one_queue, three_queues, two_queues};
 use queue_table::AHEAD;
 use replacement::{KeptMoves, Rules, access, make_room, open_frequency, undo};
 use segments::{Queue, Segments};
@@ -60,6 +61,7 @@ impl<P> Model for QueueCache<P> {
 
 impl<P: Drop> QueueCache<P> {
     ghost use Rattle.segments.specs.Queues.{residents_in};
+    ghost use Rattle.queue_cache.specs.Design.{named_in};
     ghost use Rattle.queue_cache.specs.QueueCache.{StandsFor};
     ghost use Rattle.queue_cache.specs.QueueStep.{queue_act, queue_record_of, queue_undone, queue_asks, QueueFits};
     ghost use Rattle.queue_cache.specs.QueueStep.{queue_may_ask, queue_words, queue_pace};
@@ -192,6 +194,17 @@ impl<P: Drop> QueueCache<P> {
         ensures { IfOk result (λ keys. keys.items ≡ residents_in self.now.queues) }
     {
         self.segments.keys(alloc)
+    }
+
+    /// Its queues under their names, with the keys, oldest first. The one error is that an allocation failed.
+    pub fn named_queues(&self, alloc: Global) -> Result<Vec<NamedQueue>, AllocError>
+        ensures { IfOk result (λ named. named.items ≡ named_in self.now.setup.design.layout self.now.queues) }
+    {
+        match self.setup.design.layout {
+            Layout::OneQueue => one_queue(alloc, &self.segments),
+            Layout::TwoQueues => two_queues(alloc, &self.segments),
+            Layout::ThreeQueues => three_queues(alloc, &self.segments),
+        }
     }
 }
 

@@ -1,0 +1,26 @@
+-- What a policy shows under a name, from its queues by number and its own number.
+use Rattle.std.specs.Prelude.{ℕ, ◌<◌, List, [], ◌∷◌, map}
+use Rattle.named_queues.specs.NamedQueue.{NamedQueueData, numbered_key, plain_queue}
+use Rattle.named_queues.specs.declared.named_queue.QueueKey.{QueueKey}
+use Rattle.policy_page.specs.Counted.{counted_keys}
+use Rattle.policy_page.specs.CountedKeys.{CountedKey}
+use Rattle.policy_page.specs.Named.{counted_queue}
+use Rattle.queue_moves.specs.Tabled.{Entry, keys_of}
+use Rattle.queue_table.specs.Queues.{QUEUES, Queues}
+pub use Rattle.demand_cache.specs.declared.demand_policy.QueueRow.{QueueRow}
+use Rattle.demand_cache.specs.declared.demand_policy.QueueRow.TheVariants.{Keys, Counts, Scalar}
+
+-- the keys of entries, each with its count
+abbrev pub numbered_keys : List Entry → List QueueKey
+numbered_keys l = map (λ (e : CountedKey). numbered_key e.key e.count) (counted_keys l)
+
+abbrev pub named_row : ℕ → Queues → QueueRow → NamedQueueData
+named_row x s (Keys name q) = plain_queue name.now (keys_of (s q))
+named_row x s (Counts name q) = counted_queue name.now (counted_keys (s q))
+named_row x s (Scalar name) = plain_queue name.now (x ∷ [])
+
+-- the queue is one of those that there are
+abbrev pub IsLowRow : QueueRow → Type 0
+IsLowRow (Keys name q) = q < QUEUES
+IsLowRow (Counts name q) = q < QUEUES
+IsLowRow (Scalar name) = Unit {0}
