@@ -243,8 +243,9 @@ a pipe.",
         about: "Answers commands about two policies over the trace of a file",
         whole: "Answers commands on standard input about two policies over the trace of a file.
 A command is a line: step N, back N, goto N, run, break hit K, break evict K,
-break halve, break part, clear, show, window, part, quit. Here standard input
-has the commands, and --trace names the file of the trace.",
+break halve, break part, clear, show, window, queues, last, estimate K, part,
+quit. Here standard input has the commands, and --trace names the file of the
+trace.",
         usage: Some(
             "cachesim debug [OPTIONS] --capacity <N> --first <POLICY>
                       --second <POLICY> --trace <FILE>",

@@ -1,11 +1,12 @@
 -- A session over a policy, whose applied steps are the first accesses of a trace.
-use Rattle.std.proofs.Common.{◌≡◌, ◌∙◌, ◌≤◌, ◌<◌, ◌+◌, ℕ, zero, suc, Some, List, [], ◌∷◌, ◌++◌, Result, Ok, Err, length, take, get_or, refl, ap, sym, subst, arith, length-append, append-nil, append_assoc}
-use Rattle.std.specs.Prelude.{slice_index, IfOk, OnErr}
+use Rattle.std.proofs.Common.{◌≡◌, ◌∙◌, ◌≤◌, ◌<◌, ◌+◌, ℕ, zero, suc, Some, List, [], ◌∷◌, ◌++◌, Result, Ok, Err, length, take, get_or, refl, ap, sym, subst, arith, length-append, append-nil, append_assoc, drop}
+use Rattle.std.specs.Prelude.{slice_get, slice_index, slice_index_or, IfOk, OnErr}
 use Rattle.std.specs.declared.alloc.AllocError.{AllocError}
-use Rattle.std.proofs.lemmas.List.{take_more, take-append-le}
+use Rattle.std.proofs.lemmas.List.{take_more, take-append-drop, take-append-le}
 use Rattle.engine_base.specs.History.{data_after, next_data, IsLegal}
 use Rattle.journal.specs.Session.{Entry, SessionState, IsMovedTo}
-use Rattle.policies.specs.AnyPolicy.{Outcome, Job, HasAccessed}
+use Rattle.engine_base.specs.declared.outcome.Outcome.TheVariants.{Kept}
+use Rattle.policies.specs.AnyPolicy.{Outcome, Job, HasAccessed, outcomes_on}
 use Rattle.policies.specs.AnyStep.{any_act}
 use Rattle.policies.specs.Theorems.{AnyAnswers, AnyStepLaw}
 use Rattle.debug_policies.specs.OnePolicy.{AnyPolicy, outcome_at, steps_of, IsPolicyAt}
@@ -115,3 +116,32 @@ moved law j trace n old new is to le legal shows =
       stands = subst (λ k. HasAccessed j trace (take k trace) new.engine) (sym to.applied)
           (subst (λ l. HasAccessed j trace l new.engine) steps (subst (HasAccessed j trace (steps_of new.kept)) (sym shows) after_them));
     }
+
+-- ---- the replies of the applied steps
+
+replies : AnyStepLaw → AnyAnswers → (j : Job) (trace keys rest : List ℕ) (x : AnyPolicy) (es : List (Entry ℕ Outcome)) (i : ℕ) (e : Entry ℕ Outcome)
+    → HasAccessed j trace keys x → IsLegal any_act x es → trace ≡ keys ++ (steps_of es ++ rest) → slice_get es i ≡ Some e
+    → e.reply ≡ slice_index_or (outcomes_on j trace) (length keys + i) Kept
+replies law answers j trace keys rest x [] i e s legal whole at = absurd (cc at)
+replies law answers j trace keys rest x (f ∷ es) zero e s legal whole at =
+    let same : f ≡ e = cc at in
+    let y : AnyPolicy = next_data (any_act x f.step) x in
+    let none : length keys ≡ length keys + 0 = omega arith in
+    ap (λ (v : Entry ℕ Outcome). v.reply) (sym same)
+    ∙ answers j trace keys (steps_of es ++ rest) f.step x f.reply y Kept whole s legal.0
+    ∙ ap (λ k. slice_index_or (outcomes_on j trace) k Kept) none
+replies law answers j trace keys rest x (f ∷ es) (suc i) e s legal whole at =
+    let y : AnyPolicy = next_data (any_act x f.step) x in
+    let long : length (keys ++ f.step ∷ []) + i ≡ length keys + suc i =
+    let l : length (keys ++ f.step ∷ []) ≡ length keys + 1 = length-append keys (f.step ∷ []) in omega (arith, l) in
+    replies law answers j trace (keys ++ f.step ∷ []) rest y es i e (law j trace keys x f.step f.reply y s legal.0) legal.1
+    (whole ∙ sym (append_assoc keys (f.step ∷ []) (steps_of es ++ rest))) at
+    ∙ ap (λ k. slice_index_or (outcomes_on j trace) k Kept) long
+
+-- that of an applied step is the outcome of the trace's access
+pub kept_reply : AnyStepLaw → AnyAnswers → (j : Job) (trace : List ℕ) (s : State) → IsPolicyAt j trace s → IsLegal any_act s.opening s.kept
+    → (i : ℕ) (e : Entry ℕ Outcome) → slice_get s.kept i ≡ Some e → e.reply ≡ outcome_at j trace (suc i)
+kept_reply law answers j trace s is legal i e at =
+    let n : ℕ = length s.kept in
+    replies law answers j trace [] (drop n trace) s.opening s.kept i e is.opening legal
+    (sym (ap (λ l. l ++ drop n trace) is.steps ∙ take-append-drop n trace)) at

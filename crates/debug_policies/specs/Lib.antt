@@ -1,4 +1,5 @@
-pub mod Window
 pub mod OnePolicy
+pub mod Window
+pub mod Inside
 pub mod TwoPolicies
 pub mod ConfigFault

@@ -61,11 +61,14 @@ age_at j trace n = age_by (design_of j) j (take n trace)
 
 -- ---- the text
 
+-- a line that names the policy, with its end
+abbrev pub policy_line : List ℕ → Job → List ℕ → List ℕ
+policy_line label j rest = label ++ (codes " " ++ (name_of j.policy j.sizes ++ rest))
+
 abbrev pub counts_line : List ℕ → Job → Stats → List ℕ
-counts_line label j s = label ++ (codes " " ++ (name_of j.policy j.sizes
-    ++ (count_text (codes " hits ") s.hits ++ (count_text (codes " misses ") s.misses
-    ++ (count_text (codes " evictions ") s.evictions
-    ++ (count_text (codes " rejections ") s.rejections ++ codes "\n"))))))
+counts_line label j s = policy_line label j (count_text (codes " hits ") s.hits
+    ++ (count_text (codes " misses ") s.misses ++ (count_text (codes " evictions ") s.evictions
+    ++ (count_text (codes " rejections ") s.rejections ++ codes "\n"))))
 
 abbrev pub holds_line : List ℕ → List ℕ → List ℕ
 holds_line label keys = label ++ (codes " holds" ++ (flat_map (count_text (codes " ")) keys ++ codes "\n"))

@@ -1,15 +1,19 @@
 -- Two policies over a trace, as the debugger walks them. (Its breakpoints and texts are defined by this project.)
-use Rattle.std.specs.Prelude.{◌≡◌, ◌≤◌, ℕ, ◌+◌, ◌-◌, Bool, false, not, ◌||◌, nat_lt, if◌then◌else◌, Option, Some}
+use Rattle.std.specs.Prelude.{◌≡◌, ◌≤◌, ℕ, zero, suc, ◌+◌, ◌-◌, Bool, false, not, ◌||◌, nat_lt, if◌then◌else◌, Option, Some}
 use Rattle.std.specs.Prelude.{None, List, [], ◌∷◌, ◌++◌, codes, length, slice_index}
 use Rattle.engine_base.specs.declared.outcome.Outcome.TheVariants.{Hit, Kept, Evicted, Rejected}
 use Rattle.engine_base.specs.Stats.{is_hit}
 use Rattle.policies.specs.AnyPolicy.{Outcome, Job, outcomes_on}
 use Rattle.debug_commands.specs.Timeline.{TimelineData}
 use Rattle.debug_commands.specs.declared.breakpoint.StepFacts.{StepFacts}
+use Rattle.debug_commands.specs.Texts.{count_text}
 use Rattle.debug_commands.specs.declared.command.Dialect.TheVariants.{Policies}
+use Rattle.debug_commands.specs.declared.command.View.{View}
+use Rattle.debug_commands.specs.declared.command.View.TheVariants.{Window, Queues, Last, Estimate}
 use Rattle.debug_policies.specs.OnePolicy.{age_at, outcome_at, policy_lines, OnePolicyState}
 use Rattle.policy_comparison.specs.Part.{part_line}
 use Rattle.debug_policies.specs.Window.{window_line}
+use Rattle.debug_policies.specs.Inside.{estimate_line, outcome_line, queue_lines}
 
 -- ---- what breakpoints look at
 
@@ -50,6 +54,27 @@ first_parting n [] ps = None
 first_parting n (a ∷ os) [] = None
 first_parting n (a ∷ os) (b ∷ ps) = if just_one (is_hit a) (is_hit b) then Some n else first_parting (n + 1) os ps
 
+-- the outcomes of access n, counted from 1
+abbrev pub outcome_lines : List ℕ → Job → Job → ℕ → List ℕ
+outcome_lines trace first second n = outcome_line (codes "a") first trace n ++ outcome_line (codes "b") second trace n
+
+-- the access that led to position n, and its outcomes
+abbrev pub last_lines : List ℕ → Job → Job → ℕ → List ℕ
+last_lines trace first second zero = codes "access none\n"
+last_lines trace first second (suc i) =
+    count_text (codes "access ") (suc i) ++ (count_text (codes " block ") (slice_index trace i)
+    ++ (codes "\n" ++ outcome_lines trace first second (suc i)))
+
+-- what a view shows once the first n accesses are made
+abbrev pub viewed_at : List ℕ → Job → Job → View → ℕ → List ℕ
+viewed_at trace first second Window n =
+    window_line (codes "a") first trace n ++ window_line (codes "b") second trace n
+viewed_at trace first second Queues n =
+    queue_lines (codes "a") first trace n ++ queue_lines (codes "b") second trace n
+viewed_at trace first second Last n = last_lines trace first second n
+viewed_at trace first second (Estimate key) n =
+    estimate_line (codes "a") first trace n key ++ estimate_line (codes "b") second trace n key
+
 -- ---- the timeline: its steps are the accesses of the trace
 
 abbrev pub policies_timeline : List ℕ → Job → Job → TimelineData
@@ -58,7 +83,7 @@ policies_timeline trace first second = record {
   end = length trace;
   facts = facts_at trace first second;
   shown = λ n. policy_lines (codes "a") first trace n ++ policy_lines (codes "b") second trace n;
-  window = λ n. window_line (codes "a") first trace n ++ window_line (codes "b") second trace n;
+  viewed = viewed_at trace first second;
   own = λ n. part_line (first_parting 1 (outcomes_on first trace) (outcomes_on second trace));
 }
 

@@ -1,7 +1,6 @@
 -- The window of a policy over a trace once the first accesses are made: by the policy's definition.
 use Rattle.std.specs.Prelude.{ℕ, List, ◌++◌, codes, take}
 pub use Rattle.step_record.specs.declared.job.Job.{Job}
-use Rattle.step_record.specs.Job.{name_of}
 use Rattle.engine_base.specs.Machine.{after}
 use Rattle.adaptive_window.specs.AdaptiveCache.{Config}
 use Rattle.adaptive_window.specs.AdaptiveWindow.{AdaptiveState}
@@ -15,6 +14,7 @@ use Rattle.policies.specs.declared.design.Design.TheVariants.{KnowsTrace, Queues
 use Rattle.policies.specs.Design.{design_of}
 use Rattle.policies.specs.declared.design.Design.{Design}
 use Rattle.policies.specs.AnyPolicy.{adaptive_engine}
+use Rattle.debug_policies.specs.OnePolicy.{policy_line}
 pub use Rattle.debug_policies.specs.declared.window.Window.{Window}
 use Rattle.debug_policies.specs.declared.window.Window.TheVariants.{Absent, Fixed, Moving}
 
@@ -61,4 +61,4 @@ window_text (Moving size target) =
     count_text (codes " window ") size ++ (count_text (codes " target ") target ++ codes "\n")
 
 abbrev pub window_line : List ℕ → Job → List ℕ → ℕ → List ℕ
-window_line label j trace n = label ++ (codes " " ++ (name_of j.policy j.sizes ++ window_text (window_at j trace n)))
+window_line label j trace n = policy_line label j (window_text (window_at j trace n))

@@ -10,7 +10,8 @@ ghost use Rattle.streams.specs.Part.{AppendsPart};
 ghost use Rattle.streams.specs.Tally.{FailsWhere};
 
 use crate::one_policy::OnePolicy;
-use debug_commands::{DebugFault, Dialect, StepFacts, Timeline, answer_commands};
+use crate::views::{push_estimates, push_last, push_queues, push_windows};
+use debug_commands::{DebugFault, Dialect, StepFacts, Timeline, View, answer_commands};
 use policies::theorems;
 use policy_comparison::{hits, part, push_part};
 use std::alloc::{AllocError, Global};
@@ -158,9 +159,14 @@ impl<'a, T: Threads> Timeline for TwoPolicies<'a, T> {
         self.second.show(alloc, "b", text)
     }
 
-    fn window(&self, text: &mut Vec<u8>) -> Result<(), AllocError> {
-        self.first.show_window("a", text)?;
-        self.second.show_window("b", text)
+    fn view(&self, alloc: Global, view: View, text: &mut Vec<u8>) -> Result<(), AllocError> {
+        let (first, second) = (&self.first, &self.second);
+        match view {
+            View::Window => push_windows(text, first, second),
+            View::Queues => push_queues(alloc, text, first, second),
+            View::Last => push_last(text, first, second),
+            View::Estimate(key) => push_estimates(text, first, second, key),
+        }
     }
 
     fn own(&self, alloc: Global, text: &mut Vec<u8>) -> Result<(), AllocError> {

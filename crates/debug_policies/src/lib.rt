@@ -4,7 +4,9 @@
 #![tactic(auto)]
 
 mod debugger;
+mod inside;
 mod one_policy;
+mod views;
 mod window;
 
 pub use debug_commands::DebugFault;

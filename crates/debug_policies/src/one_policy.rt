@@ -1,15 +1,19 @@
 //! One policy over a trace, in a session that goes back and forth.
 ghost use Rattle.std.specs.Prelude.{◌≡◌, ◌≢◌, ◌≤◌, ◌<◌, ◌+◌, ◌-◌, ◌++◌, Ok, Some, None, IfOk, OnOk, OnErr, [], codes};
 ghost use Rattle.std.specs.Prelude.{◌∷◌, length};
+ghost use Rattle.std.specs.List.{flat_map};
 ghost use Rattle.engine_base.specs.Config.{config_fault};
 ghost use Rattle.step_record.specs.Job.{name_of};
 ghost use Rattle.policies.specs.AnyStep.{any_act};
 ghost use Rattle.debug_policies.specs.OnePolicy.{age_at, counts_line, holds_line, outcome_at, policy_lines};
+ghost use Rattle.debug_policies.specs.Inside.{estimate_at, estimate_line, outcome_line, queue_line, queue_lines};
 ghost use Rattle.debug_policies.specs.Window.{window_at, window_line};
 
+use crate::inside::{push_estimate, push_outcome, push_queue};
 use crate::window::{Window, push_window, window_in};
 use debug_commands::{push_counts_line, push_numbers_line, push_pieces};
 use journal::{BackFault, Session, SessionFault};
+use named_queues::NamedQueue;
 use policies::{AnyPolicy, theorems};
 use std::alloc::{AllocError, Global};
 use std::marker::Model;
@@ -132,6 +136,64 @@ impl<'a> OnePolicy<'a> {
         window_in(self.session.engine(), &self.job)
     }
 
+    /// What its admission filter takes as a key's frequency, where it has one.
+    pub fn estimate(&self, key: Key) -> Option<u8>
+        ensures { result ≡ estimate_at self.now.job self.now.trace self.now.at key }
+    {
+        self.session.engine().estimate(key)
+    }
+
+    /// The outcome of the last access that is made.
+    pub fn last_outcome(&self) -> Outcome
+        requires { 1 ≤ self.now.at }
+        ensures { result ≡ outcome_at self.now.job self.now.trace self.now.at }
+    {
+        theorems::any_step_law();
+        theorems::any_answers();
+        match self.session.entry(self.session.len()) {
+            Some(entry) => entry.reply,
+            None => unreachable!(),
+        }
+    }
+
+    /// Adds a line for each of its queues. The one error is that an allocation failed.
+    pub fn show_queues(
+        &self,
+        alloc: Global,
+        label: &'static str,
+        text: &mut Vec<u8>,
+    ) -> Result<(), AllocError>
+        ensures { OnOk result (text.new.items
+            ≡ text.old.items ++ queue_lines label.now self.now.job self.now.trace self.now.at) }
+    {
+        let queues = self.session.engine().named_queues(alloc)?;
+        push_queues(text, label, &self.job, queues.as_slice())
+    }
+
+    /// Adds the line of the outcome of the last access that is made. The one error is that an allocation failed.
+    pub fn show_outcome(&self, label: &'static str, text: &mut Vec<u8>) -> Result<(), AllocError>
+        requires { 1 ≤ self.now.at }
+        ensures { OnOk result (text.new.items
+            ≡ text.old.items ++ outcome_line label.now self.now.job self.now.trace self.now.at) }
+    {
+        push_policy(text, label, &self.job)?;
+        push_outcome(text, self.last_outcome())
+    }
+
+    /// Adds the line of its estimate of a key. The one error is that an allocation failed.
+    pub fn show_estimate(
+        &self,
+        label: &'static str,
+        key: Key,
+        text: &mut Vec<u8>,
+    ) -> Result<(), AllocError>
+        ensures { OnOk result (text.new.items
+            ≡ text.old.items ++ estimate_line label.now self.now.job self.now.trace self.now.at key) }
+    {
+        push_policy(text, label, &self.job)?;
+        push_estimate(text, self.estimate(key))
+    }
+
     /// Adds the line of its window. The one error is that an allocation failed.
     pub fn show_window(&self, label: &'static str, text: &mut Vec<u8>) -> Result<(), AllocError>
         ensures { OnOk result (text.new.items
@@ -183,6 +245,35 @@ fn push_policy(text: &mut Vec<u8>, label: &'static str, job: &Job) -> Result<(),
 {
     push_pieces(text, &[label.as_bytes(), b" "])?;
     push_name(text, job.policy, &job.sizes)
+}
+
+// Adds the lines of queues.
+fn push_queues(
+    text: &mut Vec<u8>,
+    label: &'static str,
+    job: &Job,
+    queues: &[NamedQueue],
+) -> Result<(), AllocError>
+    ensures { OnOk result (text.new.items
+        ≡ text.old.items ++ flat_map (queue_line label.now job.now) queues.now) }
+{
+    for queue in queues {
+        push_queue_line(text, label, job, queue)?;
+    }
+    Ok(())
+}
+
+// Adds the line of a queue.
+fn push_queue_line(
+    text: &mut Vec<u8>,
+    label: &'static str,
+    job: &Job,
+    queue: &NamedQueue,
+) -> Result<(), AllocError>
+    ensures { OnOk result (text.new.items ≡ text.old.items ++ queue_line label.now job.now queue.now) }
+{
+    push_policy(text, label, job)?;
+    push_queue(text, queue)
 }
 
 // Adds the line of the counts.

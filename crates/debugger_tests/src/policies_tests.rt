@@ -287,9 +287,20 @@ fn assert_windows<R: Abort + Threads>(
     let trace = there_and_back(alloc, capacity)?;
     let first = of_capacity(capacity, Policy::Caffeine);
     let second = of_capacity(capacity, other);
+    assert_answers(rt, alloc, &trace, (&first, &second), (commands, wanted))
+}
+
+// Sees what the debugger answers to commands about two policies over a trace.
+fn assert_answers<R: Abort + Threads>(
+    rt: &R,
+    alloc: Global,
+    trace: &Trace,
+    (first, second): (&Job, &Job),
+    (commands, wanted): (&str, &str),
+) -> Result<(), Fail> {
     let mut input = commands.as_bytes();
     let mut out = CountedWriter::new(Vec::with_capacity(alloc, ROOM)?);
-    match run_debug(rt, alloc, &trace, &first, &second, &mut input, &mut out) {
+    match run_debug(rt, alloc, trace, first, second, &mut input, &mut out) {
         Ok(()) => assert_equal(rt, out.get_ref().as_slice(), wanted.as_bytes()),
         Err(DebugFault::OutOfMemory) => return Err(Fail::from("out of memory")),
         Err(_) => return Err(Fail::from("a fault")),
@@ -301,6 +312,143 @@ fn assert_windows<R: Abort + Threads>(
 fn the_window_at_each_place(rt: HostRuntime) -> Result<(), Fail> {
     for row in WINDOWS {
         assert_windows(&rt, rt.alloc(), row)?;
+    }
+    Ok(())
+}
+
+// Two policies, commands and their answers, over the accesses 1, 2, 1, 3, 2 at capacity 2. At the fourth Lru, SIEVE and ARC
+// evict 2, which nobody asked for twice, CLOCK and Belady's policy 1; S3-FIFO and 2Q evict 1 too, since a hit moves nothing
+// in their queues of new keys. At the fifth ARC finds 2 in its ghost, so the target rises by one, and 1 leaves.
+const INSIDE: [(Policy, Policy, &str, &str); 5] = [
+    (
+        Policy::Lru,
+        Policy::SegmentedLru,
+        "queues\nlast\ngoto 4\nqueues\nlast\nback 1\nlast\nback 1\nlast\nestimate 1\nestimate\nqueues 1\n",
+        "a lru queue
+b slru probation
+b slru protected
+access none
+at 4
+a lru queue 1 3
+b slru probation 3
+b slru protected 1
+access 4 block 3
+a lru evicted 2
+b slru evicted 2
+at 3
+access 3 block 1
+a lru hit
+b slru hit
+at 2
+access 2 block 2
+a lru kept
+b slru kept
+a lru estimate none
+b slru estimate none
+fault: Command
+fault: Command
+",
+    ),
+    (
+        Policy::Arc,
+        Policy::Clairvoyant,
+        "goto 5\nqueues\nlast\nback 1\nqueues\nlast\nback 2\nqueues\n",
+        "at 5
+a arc t1 3
+a arc t2 2
+a arc b1
+a arc b2 1
+a arc target 1
+b clairvoyant next 2:0 3:0
+access 5 block 2
+a arc evicted 1
+b clairvoyant hit
+at 4
+a arc t1 3
+a arc t2 1
+a arc b1 2
+a arc b2
+a arc target 0
+b clairvoyant next 2:5 3:0
+access 4 block 3
+a arc evicted 2
+b clairvoyant evicted 1
+at 2
+a arc t1 1 2
+a arc t2
+a arc b1
+a arc b2
+a arc target 0
+b clairvoyant next 1:3 2:5
+",
+    ),
+    (
+        Policy::Clock,
+        Policy::Sieve,
+        "goto 3\nqueues\nstep 1\nqueues\nlast\nstep 1\nqueues\nlast\n",
+        "at 3
+a clock queue 1:1 2:1
+b sieve passed
+b sieve ahead 1:1 2:0
+at 4
+a clock queue 2:0 3:1
+b sieve passed
+b sieve ahead 1:0 3:0
+access 4 block 3
+a clock evicted 1
+b sieve evicted 2
+at 5
+a clock queue 2:1 3:1
+b sieve passed
+b sieve ahead 3:0 2:0
+access 5 block 2
+a clock hit
+b sieve evicted 1
+",
+    ),
+    (
+        Policy::S3Fifo,
+        Policy::TwoQ,
+        "goto 5\nqueues\nlast\n",
+        "at 5
+a s3-fifo small 2:1 3:0
+a s3-fifo main
+a s3-fifo ghost 1
+b 2q a1in 2 3
+b 2q am
+b 2q a1out 1
+access 5 block 2
+a s3-fifo hit
+b 2q hit
+",
+    ),
+    (
+        Policy::TinyLfuLru,
+        Policy::Caffeine,
+        "goto 1\nestimate 1\nqueues\nlast\nback 1\nestimate 1\n",
+        "at 1
+a tinylfu-lru estimate 1
+b caffeine estimate 1
+a tinylfu-lru queue 1
+b caffeine window 1
+b caffeine probation
+b caffeine protected
+access 1 block 1
+a tinylfu-lru kept
+b caffeine kept
+at 0
+a tinylfu-lru estimate 0
+b caffeine estimate 0
+",
+    ),
+];
+
+#[test]
+fn what_stands_in_the_queues_at_each_place(rt: HostRuntime) -> Result<(), Fail> {
+    let trace = trace_of(rt.alloc(), &[1, 2, 1, 3, 2])?;
+    for (first, second, commands, wanted) in INSIDE {
+        let jobs = (&at_two(first), &at_two(second));
+        assert_answers(&rt, rt.alloc(), &trace, jobs, (commands, wanted))?;
     }
     Ok(())
 }

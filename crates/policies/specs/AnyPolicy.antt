@@ -1,5 +1,5 @@
 -- What a cache of any policy shows, and what a job over a trace comes to.
-use Rattle.std.specs.Prelude.{◌≡◌, ℕ, zero, suc, ◌≤◌, Option, Some, None, Result, Ok, Err, List, length, map, take}
+use Rattle.std.specs.Prelude.{◌≡◌, ℕ, zero, suc, ◌≤◌, Option, Some, None, Result, Ok, Err, List, length, map, option_map, take}
 pub use Rattle.engine_base.specs.declared.config.ConfigFault.{ConfigFault}
 pub use Rattle.step_record.specs.declared.job.Job.{Job}
 pub use Rattle.engine_base.specs.declared.outcome.Outcome.{Outcome}
@@ -7,13 +7,17 @@ use Rattle.engine_base.specs.declared.outcome.Outcome.TheVariants.{Rejected}
 pub use Rattle.engine_base.specs.declared.stats.Stats.{Stats}
 use Rattle.engine_base.specs.Config.{config_fault}
 use Rattle.engine_base.specs.Stats.{stats_of}
-use Rattle.admission.specs.Frequency.{FrequencyData}
+use Rattle.admission.specs.Frequency.{FrequencyData, estimate}
+use Rattle.sketch.specs.Sketch.{least_counter}
 use Rattle.engine_base.specs.Machine.{Machine, after, outcomes}
 use Rattle.adaptive_window.specs.Residents.{adaptive_machine, cache_residents}
 use Rattle.clairvoyant.specs.Belady.{belady_outcomes}
 use Rattle.clairvoyant.specs.Clairvoyant.{ClairvoyantState, clairvoyant_at}
+use Rattle.clairvoyant.specs.NextAccesses.{clairvoyant_queues}
+use Rattle.named_queues.specs.NamedQueue.{NamedQueueData}
+use Rattle.named_queues.specs.SegmentQueues.{three_queues}
 pub use Rattle.demand_cache.specs.declared.demand_policy.DemandPolicy.{DemandPolicy}
-use Rattle.demand_cache.specs.DemandQueues.{queues_residents}
+use Rattle.demand_cache.specs.DemandQueues.{queues_named, queues_residents}
 use Rattle.demand_cache.specs.DemandPolicy.{outcomes_of_page}
 use Rattle.demand_cache.specs.DemandCache.{demand_machine}
 use Rattle.segments.specs.Queues.{residents_in}
@@ -23,6 +27,7 @@ pub use Rattle.policies.specs.declared.design.Design.{Design}
 use Rattle.policies.specs.declared.design.Design.TheVariants as design
 use Rattle.policies.specs.Design.{design_of, queue_setup}
 use Rattle.queue_cache.specs.declared.design.QueueDesign.{QueueDesign}
+use Rattle.queue_cache.specs.Design.{named_in}
 use Rattle.queue_cache.specs.QueueCache.{queue_machine}
 
 -- ---- a job over a trace
@@ -78,11 +83,25 @@ any_residents (Optimal d) = d.residents
 any_residents (Demand d) = queues_residents d.queues
 any_residents (Adaptive d) = cache_residents d
 
+-- the queues under their names
+abbrev pub any_queues : AnyPolicy → List NamedQueueData
+any_queues (Queues d) = named_in d.setup.design.layout d.queues
+any_queues (Optimal d) = clairvoyant_queues d
+any_queues (Demand d) = queues_named d.queues
+any_queues (Adaptive d) = three_queues d.window.queues
+
 abbrev pub frequency_in : AnyPolicy → Option FrequencyData
 frequency_in (Queues d) = d.frequency
 frequency_in (Optimal d) = None
 frequency_in (Demand d) = None
 frequency_in (Adaptive d) = Some d.frequency
+
+-- what the admission filter takes as a key's frequency: Caffeine's has no doorkeeper, and goes by its counters alone
+abbrev pub estimate_in : ℕ → AnyPolicy → Option ℕ
+estimate_in key (Queues d) = option_map (estimate key) d.frequency
+estimate_in key (Optimal d) = None
+estimate_in key (Demand d) = None
+estimate_in key (Adaptive d) = Some (least_counter key d.frequency.table)
 
 -- A cache of a job of the design x, whose engine is the machine m, made these accesses.
 pub record IsAfter (j : Job) (x : Design) (m : Machine) (keys : List ℕ) (d : m.State) : Type 0 where

@@ -8,6 +8,7 @@ use adaptive_window::{AdaptiveCache, AdaptiveRecord};
 use admission::Frequency;
 use clairvoyant::{Clairvoyant, NextUse, OptimalRecord};
 use demand_cache::{DemandCache, DemandRecord};
+use named_queues::NamedQueue;
 use queue_cache::{AccessRecord, AnyDesign, QueueCache};
 use std::alloc::{AllocError, Global};
 use step_record::{Engine, Job, Key, Outcome, Stats, StepFault, Trace};
@@ -40,7 +41,7 @@ pub enum AnyRecord {
 
 impl AnyPolicy {
     ghost use Rattle.engine_base.specs.Config.{config_fault};
-    ghost use Rattle.policies.specs.AnyPolicy.{HasAccessed, stats_in, any_residents, frequency_in};
+    ghost use Rattle.policies.specs.AnyPolicy.{HasAccessed, stats_in, any_residents, any_queues, estimate_in, frequency_in};
     ghost use Rattle.policies.specs.Design.{design_of};
     ghost use Rattle.policies.specs.AnyStep.{any_act, MayAllocate};
 
@@ -162,6 +163,20 @@ impl AnyPolicy {
         }
     }
 
+    /// What its admission filter takes as a key's frequency, where it has one.
+    pub fn estimate(&self, key: Key) -> Option<u8>
+        ensures { result ≡ estimate_in key self.now }
+    {
+        match self {
+            AnyPolicy::Queues(cache) => match cache.frequency() {
+                Some(frequency) => Some(frequency.estimate(key)),
+                None => None,
+            },
+            AnyPolicy::Adaptive(cache) => Some(cache.frequency().least(key)),
+            AnyPolicy::Optimal(_) | AnyPolicy::Demand(_) => None,
+        }
+    }
+
     /// The keys that it holds: of a policy of queues, and of the adaptive window, those of the window, of probation and
     /// of protected in that order, oldest first; of the optimal policy in ascending order; of the others queue by queue, oldest first. The
     /// one error is that an allocation failed.
@@ -173,6 +188,19 @@ impl AnyPolicy {
             AnyPolicy::Optimal(cache) => cache.residents(alloc),
             AnyPolicy::Demand(cache) => cache.residents(alloc),
             AnyPolicy::Adaptive(cache) => cache.residents(alloc),
+        }
+    }
+
+    /// Its queues under their names, with the keys, oldest first, each with the number that the policy keeps beside it; of
+    /// the optimal policy its keys, ascending, each with its next access. The one error is that an allocation failed.
+    pub fn named_queues(&self, alloc: Global) -> Result<Vec<NamedQueue>, AllocError>
+        ensures { IfOk result (λ named. named.items ≡ any_queues self.now) }
+    {
+        match self {
+            AnyPolicy::Queues(cache) => cache.named_queues(alloc),
+            AnyPolicy::Optimal(cache) => cache.named_queues(alloc),
+            AnyPolicy::Demand(cache) => cache.named_queues(alloc),
+            AnyPolicy::Adaptive(cache) => cache.named_queues(alloc),
         }
     }
 }

@@ -1,0 +1,16 @@
+use Rattle.std.proofs.Common.{◌≡◌, ◌∙◌, ◌+◌, ◌-◌, ◌≤◌, ap, sym, subst, List, ℕ, suc, length, arith}
+use Rattle.debug_policies.specs.OnePolicy.{Job, OnePolicyState, outcome_at}
+use Rattle.debug_policies.proofs.Sessions.{kept_reply}
+use Rattle.debug_policies.proofs.one_policy.OnePolicy.last_outcome.Goals as goal
+
+pub returns-in-Some : goal.returns-in-Some
+returns-in-Some c =
+    let trace : List ℕ = c.self.inside.trace.now in
+    let j : Job = c.self.inside.job in
+    let s = c.self.inside.session in
+    let n : ℕ = length s.kept in
+    let made : 1 ≤ n = subst (λ (w : OnePolicyState). 1 ≤ w.at) (sym c.self.view_is) c.requires in
+    let on : suc (n - 1) ≡ n = omega (arith, made) in
+    kept_reply c.any_step_law.ensures c.any_answers.ensures j trace s c.self.invariant c.len.ensures.sound.legal (n - 1) c.in-Some.entry.now c.in-Some.ensures
+    ∙ ap (outcome_at j trace) on
+    ∙ ap (λ (w : OnePolicyState). outcome_at w.job w.trace w.at) c.self.view_is
