@@ -1,6 +1,6 @@
 use Rattle.std.proofs.Common.{◌≡◌, ◌∙◌, ◌++◌, ap, subst, List, ℕ}
 use Rattle.std.specs.Prelude.{codes, OnOk}
-use Rattle.step_record.specs.Job.{word_of}
+use Rattle.step_record.specs.Job.{name_of}
 use Rattle.debug_policies.specs.Inside.{outcome_text}
 use Rattle.debug_policies.specs.OnePolicy.{Outcome, OnePolicyState, outcome_at}
 use Rattle.policy_comparison.proofs.Texts.{added_behind}
@@ -16,5 +16,5 @@ returns c =
     let outcome : Outcome = outcome_at one.job one.trace one.at in
     let more : OnOk c.push_outcome.result (last ≡ mid ++ outcome_text outcome) =
     subst (λ (o : Outcome). OnOk c.push_outcome.result (last ≡ mid ++ outcome_text o)) c.last_outcome.ensures c.push_outcome.ensures in
-    added_behind c.push_outcome.result text label (codes " ") (word_of one.job.policy) (outcome_text outcome) mid last
-    (c.in_ok-push_policy.ensures ∙ ap (λ (w : OnePolicyState). text ++ (label ++ (codes " " ++ word_of w.job.policy))) c.self.view_is) more
+    added_behind c.push_outcome.result text label (codes " ") (name_of one.job.policy one.job.sizes) (outcome_text outcome) mid last
+    (c.in_ok-push_policy.ensures ∙ ap (λ (w : OnePolicyState). text ++ (label ++ (codes " " ++ name_of w.job.policy w.job.sizes))) c.self.view_is) more
