@@ -8,7 +8,7 @@ use Rattle.clap.specs.Words.{ReadsOne}
 use Rattle.clap.specs.ValueTests.{is_unsigned_in}
 use Rattle.clap.specs.declared.builder.value_parser.ValueParser.TheVariants as parser
 use Rattle.clap.proofs.ValueTestLemmas.{Accepts-accepts, accepts-Accepts}
-use Rattle.command_line.specs.Values.{number_named}
+use Rattle.command_line.specs.Numbers.{number_named}
 
 abbrev most : ℕ
 most = 18446744073709551615

@@ -12,7 +12,8 @@ use Rattle.engine_base.specs.declared.config.Spread.{Spread}
 use Rattle.trace_read.specs.declared.format.Format.{Format}
 use Rattle.command_line.specs.Accepted.{Job, Limits, Tuning, Config, has_long_intervals, needs_whole_trace}
 use Rattle.command_line.specs.Options.{OptionName, row_of}
-pub use Rattle.command_line.specs.Numbers.{IsIn, in_range, number_named, value_named}
+pub use Rattle.command_line.specs.Numbers.{IsIn, in_range, value_named}
+unfoldable pub use Rattle.command_line.specs.Numbers.{number_named}
 use Rattle.command_line.specs.PolicyWords.{job_named}
 use Rattle.command_line.specs.Choices.{all_named, format_named, limits_named, rate_named, spread_named}
 use Rattle.command_line.specs.declared.arguments.Arguments.{Arguments}

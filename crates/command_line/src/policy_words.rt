@@ -1,8 +1,7 @@
 //! The words that name policies, with sizes of their own or none: `lru`, `2q:in=50:out=100`.
-ghost use Rattle.std.specs.Prelude.{◌≡◌, ◌==◌, ◌<◌, ◌∷◌, find, length, IfSome};
+ghost use Rattle.std.specs.Prelude.{◌≡◌, ◌==◌, ◌<◌, [], ◌∷◌, length, IfSome};
 ghost use Rattle.std.specs.List.{after_first, before_first};
 ghost use Rattle.std.specs.Option.{option_map_or};
-ghost use Rattle.std.specs.Str.{bytes_eq};
 ghost use Rattle.command_line.specs.Accepted.{IsAcceptedJob, IsConfig, IsTuning};
 ghost use Rattle.command_line.specs.Options.{row_of};
 ghost use Rattle.command_line.specs.PolicyWords.{AreInRange, all_sized, job_named as job_by, part_list, size_list};

@@ -1,11 +1,14 @@
 -- What one access more does to the counts of a trace.
-use Rattle.std.proofs.Common.{◌≡◌, ◌∙◌, ◌==◌, ◌&&◌, ◌||◌, ◌+◌, ◌++◌, ℕ, zero, suc, Bool, true, false, not, cond, List, [], ◌∷◌, length, refl, ap, sym, arith}
+use Rattle.std.proofs.Common.{◌≡◌, ◌∙◌, ◌==◌, ◌&&◌, ◌||◌, ◌+◌, ◌++◌, ℕ, zero, suc, Bool, true, false, not, cond, List, [], ◌∷◌, length, Option, Some, None, refl, ap, sym, arith, ◌≤◌, ◌<◌, ◌-◌, is_some}
 use Rattle.std.specs.List.{count_by, list_any}
-use Rattle.std.specs.Set.{distinct_count, is_member}
+use Rattle.std.specs.Set.{distinct_count, is_member, unique_keys}
+use Rattle.std.proofs.lemmas.Bool.{ne_eqb}
 use Rattle.std.proofs.lemmas.Bool.Decides.{nat_tests}
 use Rattle.std.proofs.lemmas.List.Folds.{list_any-append}
-use Rattle.std.proofs.lemmas.List.Sums.{sum_by-cons}
-use Rattle.trace_footprint.specs.Counter.{FootprintCounter, HasCounted, mark, mark_in}
+use Rattle.std.proofs.lemmas.List.Sums.{count_by-le-length, sum_by-cons}
+use Rattle.std.proofs.lemmas.List.{length_push}
+use Rattle.std.proofs.lemmas.Map.Made.{distinct_count-le}
+use Rattle.trace_footprint.specs.Counter.{AreFewer, footprint_with, mark}
 use Rattle.trace_footprint.specs.Footprint.{Footprint, footprint_of, times}
 
 count-cons : (p : ℕ → Bool) (x : ℕ) (xs : List ℕ) → count_by p (x ∷ xs) ≡ cond (p x) 1 0 + count_by p xs
@@ -25,7 +28,7 @@ same-count : (p q : ℕ → Bool) → ((x : ℕ) → p x ≡ q x) → (xs : List
 same-count p q e xs = λ i. count_by (λ x. e x i) xs
 
 -- those of one key beside all others
-others : (ℕ → Bool) → ℕ → ℕ → Bool
+abbrev others : (ℕ → Bool) → ℕ → ℕ → Bool
 others p k x = p x && not (x == k)
 
 apart-one : (px pk is : Bool) (c o t : ℕ) → (is ≡ true → px ≡ pk) → c ≡ o + cond pk t 0
@@ -59,8 +62,18 @@ is_once keys key = times key keys == 1
 pub times-push : (block : ℕ) (xs : List ℕ) (k : ℕ) → times block (xs ++ k ∷ []) ≡ times block xs + cond (k == block) 1 0
 times-push block xs k = count-push (λ key. key == block) xs k
 
+and-false : (b : Bool) → (b && false) ≡ false
+and-false true = refl
+and-false false = refl
+
+same-one : (t c : ℕ) (is : Bool) → (is ≡ false → c ≡ 0) → ((t + c == 1) && not is) ≡ ((t == 1) && not is)
+same-one t c true none = and-false (t + c == 1) ∙ sym (and-false (t == 1))
+same-one t c false none = let same : t + c ≡ t = omega (arith, none refl) in ap (λ n. (n == 1) && true) same
+
 same-others : (xs : List ℕ) (k x : ℕ) → others (is_once (xs ++ k ∷ [])) k x ≡ others (is_once xs) k x
-same-others xs k x = let more = times-push x xs k in grind (arith, nat_tests)
+same-others xs k x =
+    ap (λ n. (n == 1) && not (x == k)) (times-push x xs k)
+    ∙ same-one (times x xs) (cond (k == x) 1 0) (x == k) (λ no. grind (arith, nat_tests))
 
 -- one block more where the access is its first, one fewer where it is its second
 abbrev pub after-one : ℕ → ℕ → ℕ → Type 0
@@ -71,7 +84,12 @@ after-one (suc (suc n)) old new = new ≡ old
 once-cases : (t a old new : ℕ) → old ≡ a + cond (t == 1) t 0 → new ≡ (a + cond (t + 1 == 1) t 0) + cond (t + 1 == 1) 1 0 → after-one t old new
 once-cases zero a old new o n = omega (arith, o, n)
 once-cases (suc zero) a old new o n = omega (arith, o, n)
-once-cases (suc (suc t)) a old new o n = omega (arith, o, n)
+once-cases (suc (suc t)) a old new o n =
+    let now : (suc (suc t) == 1) ≡ false = ne_eqb _ _ (λ e. omega arith) in
+    let then : (suc (suc t) + 1 == 1) ≡ false = ne_eqb _ _ (λ e. omega arith) in
+    let o' : old ≡ a + 0 = o ∙ ap (λ b. a + cond b (suc (suc t)) 0) now in
+    let n' : new ≡ (a + 0) + 0 = n ∙ ap (λ b. (a + cond b (suc (suc t)) 0) + cond b 1 0) then in
+    omega (arith, o', n')
 
 pub once-push : (xs : List ℕ) (k : ℕ) → after-one (times k xs) (count_by (is_once xs) xs) (count_by (is_once (xs ++ k ∷ [])) (xs ++ k ∷ []))
 once-push xs k =
@@ -99,10 +117,11 @@ accessed k (x ∷ xs) =
     grind (arith, nat_tests)
 
 blocks-cons : (x : ℕ) (xs : List ℕ) → blocks (x ∷ xs) ≡ cond (has xs x) 0 1 + blocks xs
-blocks-cons x xs = elim (has xs x) as (λ b. length (cond b (unique xs) (x ∷ unique xs)) ≡ cond b 0 1 + blocks xs) [ true ↦ refl | false ↦ refl ]
+blocks-cons x xs = by-cases (has xs x) (unique_keys (λ a b. a == b) xs)
   where
-    unique : List ℕ → List ℕ
-    unique ys = Rattle.std.specs.Set.unique_keys (λ a b. a == b) ys
+    by-cases : (b : Bool) (us : List ℕ) → length (cond b us (x ∷ us)) ≡ cond b 0 1 + length us
+    by-cases true us = omega arith
+    by-cases false us = omega arith
 
 blocks-push : (xs : List ℕ) (k : ℕ) → blocks (xs ++ k ∷ []) ≡ blocks xs + cond (has xs k) 0 1
 blocks-push [] k = refl
@@ -111,15 +130,81 @@ blocks-push (x ∷ xs) k =
     let first = blocks-cons x (xs ++ k ∷ []) in
     let old = blocks-cons x xs in
     let in-more : has (xs ++ k ∷ []) x ≡ (has xs x || (x == k || false)) = list_any-append (λ y. x == y) xs (k ∷ []) in
-    pushed x k (has xs x) (has xs k) _ _ _ _ (λ e. ap (has xs) e) in-more rest first old
+    pushed x k (has xs x) (has xs k) _ _ _ _ (λ e. ap (has xs) e) in-more rest first _ old
   where
     pushed : (x k : ℕ) (here there : Bool) (more : Bool) (b c d : ℕ) → (x ≡ k → here ≡ there) → more ≡ (here || (x == k || false))
         → b ≡ c + cond there 0 1 → d ≡ cond more 0 1 + b → (e : ℕ) → e ≡ cond here 0 1 + c → d ≡ e + cond (k == x || there) 0 1
     pushed x k here there more b c d same m e f g h = grind (arith, nat_tests)
 
 pub blocks-after : (xs : List ℕ) (k : ℕ) → blocks (xs ++ k ∷ []) ≡ blocks xs + cond (times k xs == 0) 1 0
-blocks-after xs k = blocks-push xs k ∙ ap (λ n. blocks xs + n) (ap (λ b. cond b 0 1) (accessed k xs) ∙ turned (times k xs == 0))
+blocks-after xs k = blocks-push xs k ∙ ap (λ n. blocks xs + n) (ap (λ (b : Bool). cond {A = ℕ} b 0 1) (accessed k xs) ∙ turned (times k xs == 0))
   where
-    turned : (b : Bool) → cond (not b) 0 1 ≡ cond b 1 0
+    turned : (b : Bool) → cond {A = ℕ} (not b) 0 1 ≡ cond b 1 0
     turned true = refl
     turned false = refl
+
+-- ---- all of them
+
+abbrev of_three : ℕ → ℕ → ℕ → Footprint
+of_three accesses blocks once = record { accesses = accesses; blocks = blocks; once = once }
+
+with-cases : (t l b o l' b' o' : ℕ) → l' ≡ l + 1 → b' ≡ b + cond {A = ℕ} (t == 0) 1 0 → after-one t o o'
+    → footprint_with (mark t) (of_three l b o) ≡ of_three l' b' o'
+with-cases zero l b o l' b' o' long block one = rw (long, block, one) refl
+with-cases (suc zero) l b o l' b' o' long block one =
+    let same : b' ≡ b = omega (arith, block) in
+    let fewer : o' ≡ o - 1 = omega (arith, one) in
+    rw (long, same, fewer) refl
+with-cases (suc (suc t)) l b o l' b' o' long block one =
+    let no : (suc (suc t) == 0) ≡ false = ne_eqb _ _ (λ e. omega arith) in
+    let zero-more : b' ≡ b + 0 = block ∙ ap (λ (x : Bool). b + cond {A = ℕ} x 1 0) no in
+    let same : b' ≡ b = omega (arith, zero-more) in
+    rw (long, same, one) refl
+
+-- the footprint of one access more
+pub footprint-more : (done : List ℕ) (k : ℕ) → footprint_with (mark (times k done)) (footprint_of done) ≡ footprint_of (done ++ k ∷ [])
+unfolding footprint_of
+footprint-more done k =
+    with-cases (times k done) (length done) (blocks done) (count_by (is_once done) done) _ _ _
+    (length_push done k) (blocks-after done k) (once-push done k)
+
+-- no number is larger than how many accesses there are
+pub footprint-few : (done : List ℕ) (n : ℕ) → length done < n → AreFewer n (footprint_of done)
+unfolding footprint_of
+footprint-few done n few = record {
+  accesses = few;
+  blocks = let least = distinct_count-le (λ a b. a == b) done in omega (arith, least, few);
+  once = let least = count_by-le-length (is_once done) done in omega (arith, least, few);
+}
+
+some-once : (done : List ℕ) (k t : ℕ) → t ≡ times k done → mark t ≡ Some false → 1 ≤ count_by (is_once done) done
+some-once done k zero is e = absurd (cc e)
+some-once done k (suc zero) is e =
+    let all : count_by (is_once done) done ≡ count_by (others (is_once done) k) done + 1 =
+    apart (is_once done) k done ∙ ap (λ t. count_by (others (is_once done) k) done + cond (t == 1) t 0) (sym is) in
+    omega (arith, all)
+some-once done k (suc (suc t)) is e = absurd (cc e)
+
+-- where a block was accessed once, one is
+pub footprint-once : (done : List ℕ) (k : ℕ) → mark (times k done) ≡ Some false → 1 ≤ (footprint_of done).once
+unfolding footprint_of
+footprint-once done k e = some-once done k (times k done) refl e
+
+-- ---- marks
+
+mark-again : (t : ℕ) → Some (is_some (mark t)) ≡ mark (t + 1)
+mark-again zero = refl
+mark-again (suc zero) = refl
+mark-again (suc (suc t)) = let more : suc (suc t) + 1 ≡ suc (suc (suc t)) = omega arith in rw more refl
+
+-- the mark of a block with one access more
+pub mark-more : (done : List ℕ) (k block : ℕ) (old : Option Bool) → old ≡ mark (times k done)
+    → cond (k == block) (Some (is_some old)) (mark (times block done)) ≡ mark (times block (done ++ k ∷ []))
+mark-more done k block old is =
+    let more = times-push block done k in
+    by-cases (k == block) more (λ e. let same : k ≡ block = grind (arith, nat_tests) in is ∙ ap (λ q. mark (times q done)) same)
+  where
+    by-cases : (b : Bool) → times block (done ++ k ∷ []) ≡ times block done + cond b 1 0 → (b ≡ true → old ≡ mark (times block done))
+        → cond b (Some (is_some old)) (mark (times block done)) ≡ mark (times block (done ++ k ∷ []))
+    by-cases true more old-is = ap (λ m. Some (is_some m)) (old-is refl) ∙ mark-again (times block done) ∙ ap mark (sym more)
+    by-cases false more old-is = let same : times block done ≡ times block (done ++ k ∷ []) = omega (arith, more) in ap mark same

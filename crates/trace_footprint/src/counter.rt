@@ -1,8 +1,8 @@
 //! What is counted of accesses that come piece by piece.
-ghost use Rattle.std.specs.Prelude.{◌≡◌, ◌≤◌, ◌<◌, ◌+◌, ◌++◌, ◌^◌, ℕ, List, [], ◌∷◌, Some, cond, nat_eq, is_some, IfOk};
+ghost use Rattle.std.specs.Prelude.{◌≡◌, ◌≤◌, ◌<◌, ◌+◌, ◌++◌, ◌^◌, ℕ, List, [], ◌∷◌, Some, cond, nat_eq, false, is_some, IfOk};
 ghost use Rattle.std.specs.Prelude.{OnOk, length};
 ghost use Rattle.engine_base.specs.declared.limits.TheConstants.{MAX_STEPS};
-ghost use Rattle.trace_footprint.specs.Counter.{HasCounted, mark_in};
+ghost use Rattle.trace_footprint.specs.Counter.{AreFewer, HasCounted, footprint_with, mark_in};
 
 use crate::footprint::Footprint;
 use engine_base::Key;
@@ -53,16 +53,34 @@ impl FootprintCounter {
         ensures { (done : List ℕ) → HasCounted done self.old → OnOk result (HasCounted (done ++ key ∷ []) self.new) }
     {
         let number = self.footprint.blocks.min(MAX_NUMBER - 1) as u32;
-        match mark(&mut self.places, key, number)? {
-            None => {
-                self.footprint.blocks += 1;
-                self.footprint.once += 1;
-            }
-            Some(false) => self.footprint.once -= 1,
-            Some(true) => {}
-        }
-        self.footprint.accesses += 1;
+        let before = mark(&mut self.places, key, number)?;
+        self.footprint = counted(self.footprint, before);
         Ok(())
+    }
+}
+
+// The footprint with an access more, to a block that was accessed again before or only once, or never.
+fn counted(footprint: Footprint, before: Option<bool>) -> Footprint
+    requires few { AreFewer MAX_STEPS footprint }
+    requires some { before ≡ Some false → 1 ≤ footprint.once }
+    ensures { result ≡ footprint_with before footprint }
+{
+    let accesses = footprint.accesses + 1;
+    match before {
+        None => Footprint {
+            accesses,
+            blocks: footprint.blocks + 1,
+            once: footprint.once + 1,
+        },
+        Some(false) => Footprint {
+            accesses,
+            blocks: footprint.blocks,
+            once: footprint.once - 1,
+        },
+        Some(true) => Footprint {
+            accesses,
+            ..footprint
+        },
     }
 }
 
