@@ -4,7 +4,7 @@
 # takes no value, these are the command's options and what stands without a name.
 _cachesim_words() {
     case $1:$2 in
-    'cachesim:'*) echo 'run sweep intervals part compare sample drive debug replay help -h --help -V --version' ;;
+    'cachesim:'*) echo 'run sweep intervals part compare footprint sample drive debug replay help -h --help -V --version' ;;
     'cachesim run:--capacity') echo '' ;;
     'cachesim run:--main') echo '' ;;
     'cachesim run:--small') echo '' ;;
@@ -57,6 +57,8 @@ _cachesim_words() {
     'cachesim compare:--first') echo 'lru slru tinylfu-lru tinylfu-slru wtinylfu clairvoyant fifo clock sieve s3-fifo 2q arc caffeine car' ;;
     'cachesim compare:--second') echo 'lru slru tinylfu-lru tinylfu-slru wtinylfu clairvoyant fifo clock sieve s3-fifo 2q arc caffeine car' ;;
     'cachesim compare:'*) echo '--capacity --every --main --small --in --out --period --spread --format --long --first --second -h --help' ;;
+    'cachesim footprint:--format') echo 'lirs arc' ;;
+    'cachesim footprint:'*) echo '--format --long -h --help' ;;
     'cachesim sample:--rate') echo '1/2 1/4 1/8 1/16 1/32 1/64 1/128 1/256 1/512 1/1024 1/2048 1/4096 1/8192 1/16384 1/32768 1/65536 1/131072 1/262144 1/524288 1/1048576' ;;
     'cachesim sample:--seed') echo '' ;;
     'cachesim sample:--format') echo 'lirs arc' ;;
@@ -96,7 +98,7 @@ _cachesim_words() {
     'cachesim replay:--stripes') echo '' ;;
     'cachesim replay:--limit') echo '' ;;
     'cachesim replay:'*) echo '--capacity --main --small --in --out --period --spread --journal --stripes --limit -h --help' ;;
-    'cachesim help:'*) echo 'run sweep intervals part compare sample drive debug replay' ;;
+    'cachesim help:'*) echo 'run sweep intervals part compare footprint sample drive debug replay' ;;
     'cachesim-survey:--policy') echo 'lru slru tinylfu-lru tinylfu-slru wtinylfu clairvoyant fifo clock sieve s3-fifo 2q arc caffeine car' ;;
     'cachesim-survey:--capacity') echo '' ;;
     'cachesim-survey:--percent') echo '' ;;
