@@ -267,7 +267,8 @@ def check_corpus(corpus, folder):
     found = {json.loads(it.read_text())["accesses"]: json.loads(it.read_text())["misses"]["100"]
              for it in (folder / "out/results").iterdir()}
     expect("the misses", found, {12: {"lru": 11, "own:lru": 4}, 30: {"lru": 27, "own:lru": 4}})
-    expect_parts("the report", run(corpus, "report", folder / "out", "--baseline", "lru")[0], "own:lru")
+    expect_parts("the report", run(corpus, "report", folder / "out", "--baseline", "lru")[0], "own:lru  ",
+                 "(own:lru: not proved, a program of one's own; each of its answers was checked)\n")
     error = run(corpus, *call, *own_of(folder, LRU + "\n"), *traces, status=1)[1]
     expect_parts("another file", error, "has results of other own: name another folder")
     wrong = own_of(folder, ANSWERING.format("'hit', None"))
@@ -322,12 +323,12 @@ MISTAKES = {
                                         "self.warm_up and trace == self.warm_up.fileno()", "False"),
     "no progress": Mistake(check_survey, "lib/runs.py", "        show_part(what, sum(Accesses.made)",
                            "        (what, sum(Accesses.made)"),
-    "no note": Mistake(check_survey, "lib/tables.py", "if own := ", 'if own := "" and '),
+    "no note": Mistake(check_survey, "lib/tables.py", "if note := ", 'if note := "" and '),
     "own ones that nobody asked for": Mistake(check_survey, OWN, "return policies if any(map(is_own, policies)) else ",
                                               "return "),
     "a job without them": Mistake(check_corpus, "lib/jobs.py", 'own=settings["own"],', "own={},"),
     "another file": Mistake(check_corpus, "corpus",
                             "hashlib.sha256(Path(it).read_bytes()).hexdigest() for it in args.own",
                             "0 for it in args.own"),
-    "a legend that says nothing": Mistake(check_legend, "plot", "* is_own(curve.policy)", "* 0"),
+    "a legend that says nothing": Mistake(check_legend, OWN, '", not proved" * is_own(policy)', '""'),
 }

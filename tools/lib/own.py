@@ -27,6 +27,16 @@ def is_own(policy):
     return policy.startswith(PREFIX)
 
 
+def note_of(policies):
+    """What is said below a table that has policies of one's own."""
+    own = ", ".join(filter(is_own, policies))
+    return f"({own}: not proved, a program of one's own; each of its answers was checked)\n" if own else ""
+
+
+def in_legend(name, policy):
+    return name + ", not proved" * is_own(policy)
+
+
 def with_own(policies, own):
     """Policies with all of one's own, where none of these is among them."""
     return policies if any(map(is_own, policies)) else [*policies, *own]

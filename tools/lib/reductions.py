@@ -3,6 +3,7 @@ import statistics
 from collections import namedtuple
 from fractions import Fraction
 
+from .own import in_legend
 from .pictures import ends_around, marks_of, quoted, terminal_of
 from .policies import OPTIMAL, POLICIES
 
@@ -88,7 +89,8 @@ def boxes_of(columns, baseline, is_png):
 
 def box_of(at, policy):
     colour = f"linecolor rgb '{POLICIES[policy].colour if policy in POLICIES else '#888888'}'"
-    return (f"$policy{at} using 1:3:2:6:5 with candlesticks whiskerbars 0.5 {colour} title {quoted(policy)}, "
+    return (f"$policy{at} using 1:3:2:6:5 with candlesticks whiskerbars 0.5 {colour} "
+            f"title {quoted(in_legend(policy, policy))}, "
             f"$policy{at} using 1:4:4:4:4 with candlesticks linewidth 2 {colour} notitle, "
             f"$policy{at} using 1:7 with points pointtype 7 pointsize 0.6 linecolor rgb 'black' notitle")
 

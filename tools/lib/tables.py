@@ -6,7 +6,7 @@ import textwrap
 from itertools import groupby, zip_longest
 
 from .advice import nearly_best
-from .own import is_own
+from .own import note_of
 from .measures import ADVICE, MAINS, PARTS, capacities_in, window
 from .policies import CAFFEINE, OPTIMAL
 from .reports import MAX_CAPACITY, rate
@@ -268,8 +268,8 @@ def text_of(args, surveys):
     first = next((name for name in tables if name in ADVICE), None)
     parts = [for_people(name, rows, notes, also if name == first else {})
              for name, rows in tables.items() if len(rows) > 1 or name in NONE]
-    if own := ", ".join(it for it in surveys[0].policies if is_own(it)):
-        parts.append(folded_note(f"({own}: not proved, a program of one's own; each of its answers was checked)"))
+    if note := note_of(surveys[0].policies):
+        parts.append(folded_note(note))
     if args.sampled:
         parts.append(f"(estimates by one block in {args.sampled})\n")
     if args.after:
