@@ -180,7 +180,7 @@ def check_refused(reference, folder):
     error = run(reference, *call, *own_of(folder, CHEATING), status=1, typed=typed)[1].splitlines()[-1]
     expect("a cheat", error,
            "tools/reference: own:x-1 at 2 entries: 0 misses, where Belady's policy has 3, and no policy has fewer")
-    for seed in range(6):
+    for seed in range(2):
         typed = "".join(f"{it}\n" for it in [*skewed_keys(60, 9, seed), *[*range(8)] * 4])
         for capacity in (1, 2, 5):
             fewest = rows_of(run(reference, "run", "--capacity", capacity, "clairvoyant", typed=typed)[0])[0]["misses"]
@@ -216,7 +216,7 @@ def check_files(reference, folder):
         expect_parts(text, run(reference, "run", *own_of(folder, text), "--capacity", 3, "own:lru", status=1,
                                typed=typed)[1], said)
     expect_parts("no file", run(reference, "run", "--own", folder / "none.py", "--capacity", 3, "lru", status=1,
-                                typed=typed)[1], "none.py: FileNotFoundError")
+                                typed=typed)[1], "none.py is no file")
     expect_parts("a word", run(reference, "run", "--capacity", 3, "own:lru", status=2, typed=typed)[1],
                  "invalid choice: 'own:lru'")
     file_of(folder, "beside.py", "from colorsys import hls_to_rgb\nprint('begun')\n")

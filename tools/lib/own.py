@@ -71,6 +71,8 @@ def loaded(files):
 def module_of(file):
     """A file as a module, which finds others beside it. What it prints goes to standard error."""
     path = Path(file).resolve()
+    if not path.is_file():
+        raise Wrong(f"{file} is no file")
     name = f"own policies in {path}"
     spec = importlib.util.spec_from_loader(name, importlib.machinery.SourceFileLoader(name, str(path)))
     module = importlib.util.module_from_spec(spec)
