@@ -294,6 +294,7 @@ def check_pictures(plot, folder):
 
 
 MISTAKES = {
+    "a logarithmic axis from 1000 on": Mistake(check_dense, "plot", '"set logscale x" if is_log else', '"set logscale x" if is_log or places[-1] >= 1000 else'),
     "thick where nothing is known": Mistake(check_thin, "plot", "SURE = 2", "SURE = 80"),
     "thin from one point on": Mistake(check_thin, "plot", "SURE = 2", "SURE = 1"),
     "thin where it falls": Mistake(check_thin, "plot", "abs(point[1] - before[1]) > SURE", "(before[1] - point[1]) > SURE"),

@@ -11,9 +11,9 @@ def by(program, sample):
 
 
 def check_blocks(sample, folder, program):
-    """Of each block all accesses are there or none, in their order."""
+    """Of each block all accesses are there or none, in their order; a pipe of over a megabyte too."""
     sampled = by(program, sample)
-    for count, inverse, least, most in ((140000, 2, 60000, 80000), (60000, 8, 1000, 20000)):
+    for count, inverse, least, most in ((140000, 2, 60000, 80000), (300000, 8, 10000, 80000)):
         blocks = [it * it % 40009 for it in range(count)]
         trace = file_of(folder, "trace", "*\n\n" + "".join(f"{it}\n" for it in blocks))
         out, error = sampled("--rate", f"1/{inverse}", trace)
@@ -66,5 +66,7 @@ MISTAKES = {
     "another rate": Mistake(check_rate, "sample", '"--rate={args.rate}"', '"--rate=1/2"'),
     "lines of one format": Mistake(check_ranges, "sample", '"--format={args.format}"', '"--format=lirs"'),
     "a status that is lost": Mistake(check_refusals, "sample", "else ended.returncode)", "else 0)"),
+    "a megabyte of a pipe": Mistake(check_blocks, "lib/traces.py", "shutil.copyfileobj(gzip.open(source) if first.startswith(GZIP) else source, copy, COPIED)",
+                                    "copy.write((gzip.open(source) if first.startswith(GZIP) else source).read(COPIED))"),
     "a rate of no power of two": Mistake(check_refusals, "lib/samples.py", "number & number - 1 or", "False or"),
 }

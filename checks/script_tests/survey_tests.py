@@ -203,6 +203,15 @@ def check_many_rows(survey, folder):
     expect("sixty rows", [row.split()[1] for row in rows.splitlines()[2:62]], [str(211 + it) for it in range(60)])
 
 
+def check_small(survey, folder):
+    """Each cache of one entry to twelve has its row: of 20 blocks an entry is 5 percent."""
+    trace = file_of(folder, "trace", "".join(f"{it % 20}\n" for it in range(400)))
+    many = [word for it in range(1, 13) for word in ("--capacity", it)]
+    words = "--program", fake(folder, "None if capacity >= distinct else 4 * capacity"), "--policy", "lru", "--table", "policies", "--csv"
+    expect("the rows", [(row["capacity"], row["% of footprint"], row["lru"]) for row in rows_of(run(survey, trace, *words, *many)[0])],
+           [(f"{it}", f"{5 * it}.0", f"{4 * it}.00") for it in range(1, 13)])
+
+
 def on_terminal(script, *words):
     """What a call of a script that ends well draws on a terminal."""
     terminal, error = pty.openpty()
@@ -302,6 +311,8 @@ def check_large(survey, folder):
     sample = run(*words, "--table", "traces", "--table", "reach", "--reach", "15", "--sampled", "1/8", "--accesses", "12000000", "--after", "3")[0]
     expect("the ratio of a sample", sample.splitlines()[1], f"{trace},11999997,9600000,7200000,19.99")
     expect("no reach in a sample", rows_of(sample.partition("19.99\n")[2])[0]["capacity"], "> 8388608")
+    sample = run(*words, "--table", "traces", "--sampled", "1/64", "--accesses", "96000000")[0]
+    expect("a sample of many blocks", sample.splitlines()[1], f"{trace},96000000,76800000,57600000,20.00")
 
 
 def check_large_capacities(survey, folder):
@@ -514,6 +525,9 @@ def check_sampled_once(survey, folder):
         "trace,accesses,footprint,used once,highest possible %", f"{trace},16000,808,8,94.95",
         "trace,to reach,policy,capacity,% of footprint,hit ratio,not at,hit ratio there",
         f"{trace},90,lru,808,100.0,94.95,800,59.95", f"{trace},95,lru,never,-,-,808,94.95"])
+    said = file_of(folder, "said", "7 of 900 accesses, 3 blocks: --sampled 1/2 --accesses 900\n1001 of 16000 accesses, 101 blocks: --sampled 1/8 --accesses 16000\n")
+    out = run(survey, trace, "--program", program, "--sampled", said, "--csv", "--table", "traces", "--policy", "lru")[0]
+    expect("the last that is said", out.splitlines()[1], f"{trace},16000,808,8,94.95")
     expect("less than an entry of a sample", rows_of(run(*words, "--csv", "--capacity", "3")[0])[0]["capacity"], "8")
     text = run(*words[:-2], "--capacity", "1024")[0]
     expect("powers of two of a sample", "power of two" in text, False)
@@ -628,6 +642,12 @@ MISTAKES = {
     "a sample's jump to an entry": Mistake(check_sampled, "lib/tables.py", "NOTES_OF_SAMPLE if args.sampled else {}", "{}"),
     "points below of the last of the best": Mistake(check_nearly_best, "lib/tables.py", "it.rows[best[0].key, capacity])] if", "it.rows[best[-1].key, capacity])] if"),
     "nineteen rows": Mistake(check_many_rows, "lib/tables.py", "for row in rows[1:]]", "for row in rows[1:21]]"),
+    "forty rows": Mistake(check_many_rows, "lib/tables.py", "for row in rows[1:]]", "for row in rows[1:41]]"),
+    "the part of a footprint below nine entries": Mistake(check_small, "lib/tables.py", "100 * capacity / survey.footprint", "100 * max(9, capacity) / survey.footprint"),
+    "no row below nine entries": Mistake(check_small, "lib/measures.py", "return sorted({capacity for _, capacity in rows})",
+                                         "return sorted({capacity for _, capacity in rows if capacity > 8})"),
+    "ten million blocks of a sample": Mistake(check_large, "lib/reports.py", "return count * self.inverse", "return min(10**7, count * self.inverse)"),
+    "the first that is said of a sample": Mistake(check_sampled_once, "lib/samples.py", "= said[-1]", "= said[0]"),
     "the best by hits alone": Mistake(check_at_worst, "lib/advice.py", "key=lambda it: worst[it[0]]", "key=lambda it: 0"),
     "the row alone": Mistake(check_at_worst, "lib/advice.py", "more[max(0, at - 1):at + 2]", "more[at:at + 1]"),
     "the row below alone": Mistake(check_at_worst, "lib/advice.py", "more[max(0, at - 1):at + 2]", "more[max(0, at - 1):at + 1]"),
