@@ -104,6 +104,7 @@ _cachesim_words() {
     'cachesim-survey:--percent') echo '' ;;
     'cachesim-survey:--reach') echo '' ;;
     'cachesim-survey:--plot') echo '<FILE>' ;;
+    'cachesim-survey:--html') echo '<FILE>' ;;
     'cachesim-survey:--after') echo '' ;;
     'cachesim-survey:--sampled') echo '' ;;
     'cachesim-survey:--accesses') echo '' ;;
@@ -113,7 +114,18 @@ _cachesim_words() {
     'cachesim-survey:--spread') echo 'mixed plain' ;;
     'cachesim-survey:--table') echo 'traces policies misses halves windows parts jumps reach powers' ;;
     'cachesim-survey:--program') echo '<FILE>' ;;
-    'cachesim-survey:'*) echo '<FILE> -h --help --policy --capacity --percent --reach --plot --after --sampled --accesses --jump --format --long --halves --main --spread --table --csv --program' ;;
+    'cachesim-survey:'*) echo '<FILE> -h --help --policy --capacity --percent --reach --plot --html --after --sampled --accesses --jump --format --long --halves --main --spread --table --csv --program' ;;
+    'cachesim-watch:--capacity') echo '' ;;
+    'cachesim-watch:--first') echo 'lru slru tinylfu-lru tinylfu-slru wtinylfu clairvoyant fifo clock sieve s3-fifo 2q arc caffeine car' ;;
+    'cachesim-watch:--second') echo 'lru slru tinylfu-lru tinylfu-slru wtinylfu clairvoyant fifo clock sieve s3-fifo 2q arc caffeine car' ;;
+    'cachesim-watch:--journal') echo '<FILE>' ;;
+    'cachesim-watch:--format') echo 'lirs arc' ;;
+    'cachesim-watch:--main') echo '' ;;
+    'cachesim-watch:--spread') echo 'mixed plain' ;;
+    'cachesim-watch:--stripes') echo '' ;;
+    'cachesim-watch:--limit') echo '' ;;
+    'cachesim-watch:--program') echo '<FILE>' ;;
+    'cachesim-watch:'*) echo '<FILE> -h --help --capacity --first --second --journal --format --main --spread --stripes --limit --open --program' ;;
     'cachesim-plot:--after') echo '' ;;
     'cachesim-plot:--sampled') echo '' ;;
     'cachesim-plot:--accesses') echo '' ;;
@@ -166,4 +178,4 @@ _cachesim() {
         mapfile -t -O "${#COMPREPLY[@]}" COMPREPLY < <(compgen -f -- "$word")
     fi
 }
-complete -F _cachesim cachesim cachesim-survey cachesim-plot cachesim-corpus cachesim-sample cachesim-journal
+complete -F _cachesim cachesim cachesim-survey cachesim-watch cachesim-plot cachesim-corpus cachesim-sample cachesim-journal

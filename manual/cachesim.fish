@@ -131,6 +131,7 @@ complete -c cachesim-survey -l capacity -x -d 'a capacity, in place of 1, 2, 5, 
 complete -c cachesim-survey -l percent -x -d 'a capacity in percent of the footprint, in the same place; also more than once'
 complete -c cachesim-survey -l reach -x -d 'a hit ratio in percent: search for the smallest capacity of each policy that has it'
 complete -c cachesim-survey -l plot -r -F -d 'draw all policies over the capacity, by steps and with both ends of each jump, as SVG, or as PNG where FILE ends so'
+complete -c cachesim-survey -l html -r -F -d 'a page to mail: one file with the tables, the same curves and hits over time, which opens anywhere'
 complete -c cachesim-survey -l after -x -d 'leave the first N accesses out of all counts, of a sample as large a part of it as of the whole'
 complete -c cachesim-survey -l sampled -x -d 'TRACE is from a sample by cachesim-sample, of this rate: estimate the whole trace. In place of 1/N and --accesses also a file with what cachesim-sample said of it, which has to fit exactly'
 complete -c cachesim-survey -l accesses -x -d 'with --sampled 1/N: the accesses of the whole trace. Refused where those of the sample times N are over twice as many or under half, or where it has no fewer'
@@ -143,6 +144,21 @@ complete -c cachesim-survey -l spread -x -a 'mixed plain' -d 'as in cachesim swe
 complete -c cachesim-survey -l table -x -a 'traces policies misses halves windows parts jumps reach powers' -d 'only this table, of traces, policies, misses, halves, windows, parts, jumps, reach, powers; also more than once'
 complete -c cachesim-survey -l csv -d 'CSV; that of the policies where no --table is named'
 complete -c cachesim-survey -l program -r -F -d 'the program to call (cachesim beside the script, or on the path)'
+
+complete -c cachesim-watch -f
+complete -c cachesim-watch -s h -l help -d 'show this help message and exit'
+complete -c cachesim-watch -F
+complete -c cachesim-watch -l capacity -x -d 'how many entries the cache holds'
+complete -c cachesim-watch -l first -x -a 'lru slru tinylfu-lru tinylfu-slru wtinylfu clairvoyant fifo clock sieve s3-fifo 2q arc caffeine car' -d 'a policy, also with sizes of its own, as 2q:in=50'
+complete -c cachesim-watch -l second -x -a 'lru slru tinylfu-lru tinylfu-slru wtinylfu clairvoyant fifo clock sieve s3-fifo 2q arc caffeine car' -d 'the policy beside it'
+complete -c cachesim-watch -l journal -r -F -d 'in place of a trace and policies: what cachesim drive printed'
+complete -c cachesim-watch -l format -x -a 'lirs arc' -d 'the format of the trace (lirs)'
+complete -c cachesim-watch -l main -x -d 'of wtinylfu, of caffeine at first, and of the concurrent cache (99)'
+complete -c cachesim-watch -l spread -x -a 'mixed plain' -d 'how keys are spread over a sketch (mixed)'
+complete -c cachesim-watch -l stripes -x -d 'with --journal: how many read buffers (4)'
+complete -c cachesim-watch -l limit -x -d 'with --journal: how many steps there is room for (16777216)'
+complete -c cachesim-watch -l open -d 'open the page in the browser'
+complete -c cachesim-watch -l program -r -F -d 'the program to call (cachesim beside the script, or on the path)'
 
 complete -c cachesim-plot -f
 complete -c cachesim-plot -s h -l help -d 'show this help message and exit'
