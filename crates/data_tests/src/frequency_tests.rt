@@ -4,8 +4,10 @@ ghost use Rattle.std.specs.Prelude.{◌≤◌};
 ghost use Rattle.engine_base.specs.declared.limits.TheConstants.{MAX_CAPACITY};
 
 use super::assertions::assert_equal;
+use adaptive_window::AdaptiveCache;
 use admission::Frequency;
-use engine_base::{Key, Spread};
+use engine_base::{Config, Key, Spread};
+use journal::Session;
 use std::alloc::{AllocError, Global};
 use std::process::Abort;
 use std::test::Fail;
@@ -84,30 +86,48 @@ fn opens_at_the_largest_capacity(rt: HostRuntime) -> Result<(), Fail> {
     Ok(())
 }
 
-// Without a doorkeeper: the entries, how many keys come in turn, how many recordings, and the age and the halvings after
-// them. Keys that differ leave many odd counters, of which the halving takes a fourth off the age before it is halved; a
-// key whose counters are full ages no more.
-const OPEN_AGES: [(u32, u64, u64, u32, u64); 5] = [
-    (16, 160, 160, 64, 1),
-    (16, 80, 160, 80, 1),
-    (100, 1, 20, 15, 0),
-    (100, 1, 15, 15, 0),
-    (1, 2, 200, 8, 32),
+// The sketch of a cache without a doorkeeper: the entries, how many keys come in turn, how many accesses, and the age and
+// the halvings after them. Keys that differ leave many odd counters, of which the halving takes a fourth off the age
+// before it is halved; a key whose counters are full ages no more.
+const OPEN_AGES: [(u32, Key, u64, (u32, u64)); 5] = [
+    (16, 160, 160, (64, 1)),
+    (16, 80, 160, (80, 1)),
+    (100, 1, 20, (15, 0)),
+    (100, 1, 15, (15, 0)),
+    (1, 2, 200, (8, 32)),
 ];
+
+// Sees the age and the halvings after accesses to some keys in turn.
+fn assert_ages(
+    rt: &impl Abort,
+    session: &mut Session<AdaptiveCache>,
+    keys: Key,
+    count: u64,
+    wanted: (u32, u64),
+) -> Result<(), Fail> {
+    for i in 0..count {
+        assert!(rt; 0 < keys);
+        session.step(i % keys)?;
+    }
+    let frequency = session.engine().frequency();
+    assert_equal(rt, (frequency.age(), frequency.halvings()), wanted);
+    Ok(())
+}
 
 #[test]
 fn ages_without_a_doorkeeper(rt: HostRuntime) -> Result<(), Fail> {
-    for (capacity, keys, count, age, halvings) in OPEN_AGES {
-        let mut frequency = Frequency::without_doorkeeper(rt.alloc(), capacity, Spread::Mixed, 4)?;
-        for i in 0..count {
-            assert!(rt; frequency.halvings() < u64::MAX);
-            let _done = frequency.record(i % keys)?;
-        }
-        assert_equal(
-            &rt,
-            (frequency.age(), frequency.halvings()),
-            (age, halvings),
-        );
+    for (capacity, keys, count, wanted) in OPEN_AGES {
+        let config = Config {
+            capacity,
+            main_percent: 99,
+            spread: Spread::Mixed,
+            stripes: 1,
+            journal_limit: 200,
+        };
+        assert!(rt; config.check() == Ok(()));
+        let cache = AdaptiveCache::new(rt.alloc(), &config, None)?;
+        let mut session = Session::open(rt.alloc(), cache, 200);
+        assert_ages(&rt, &mut session, keys, count, wanted)?;
     }
     Ok(())
 }
