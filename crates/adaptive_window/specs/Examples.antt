@@ -1,8 +1,9 @@
 -- Worked examples.
-use Rattle.std.specs.Prelude.{◌≡◌, ℕ, nat_lt, Bool, true, false, Some, None, List, [], ◌∷◌, take}
+use Rattle.std.specs.Prelude.{◌≡◌, ℕ, nat_lt, Bool, true, false, Some, None, List, [], ◌∷◌, map, take}
+use Rattle.std.specs.List.{range_with_len}
 use Rattle.engine_base.specs.Stats.{stats_of}
-use Rattle.adaptive_window.specs.AdaptiveWindow.{ClimbRules, Item, empty_adaptive}
 use Rattle.adaptive_window.specs.Climber.{Climber, caffeine_rules, period_of, restarts}
+use Rattle.adaptive_window.specs.AdaptiveWindow.{ClimbRules, Item, AdaptiveState, empty_adaptive, adaptive_act}
 use Rattle.adaptive_window.specs.Theorems.{Access, adaptive_outcomes, adaptive_state_after}
 
 abbrev pub item : ℕ → Item
@@ -81,4 +82,43 @@ pub record JumpingExample : Type 0 where
     };
     size = 4;
     climber = record { target = 4; grows = true; step = 196608; accesses = 0; hits = 0; last_hits = 2 };
+  }
+
+-- ---- the ends of periods at capacity 16, whose first window is 1
+
+abbrev pub is_never : ℕ → ℕ → Bool
+is_never candidate victim = false
+
+-- so many items, the first of this key
+abbrev pub items_from : ℕ → ℕ → List Item
+items_from first count = map item (range_with_len first count)
+
+-- Key 1 came 160 times, and keys 100 to 258 once each: 159 accesses of the second period.
+abbrev pub before_320 : AdaptiveState
+before_320 = record {
+  queues = record { window = item 258 ∷ []; probation = item 1 ∷ items_from 100 14; protected = [] };
+  size = 1;
+  climber = record { target = 1; grows = false; step = 65536; accesses = 159; hits = 0; last_hits = 159 };
+}
+
+-- Then key 259, and key 1 159 times: as many of the third period.
+abbrev pub before_480 : AdaptiveState
+before_480 = record {
+  queues = record { window = item 259 ∷ item 1 ∷ []; probation = items_from 100 14; protected = [] };
+  size = 2;
+  climber = record { target = 2; grows = true; step = 65536; accesses = 159; hits = 159; last_hits = 0 };
+}
+
+-- Where no candidate is admitted: with access 320, to key 259, the target is 2, since fewer hit; with 480, to key 1, it is 3.
+-- The size is the target at once, and probation's oldest goes to the window.
+pub record PeriodsExample : Type 0 where
+  pub second : (adaptive_act (caffeine_rules 16 99 None) is_never (item 259) before_320).1 ≡ record {
+    queues = record { window = item 259 ∷ item 1 ∷ []; probation = items_from 100 14; protected = [] };
+    size = 2;
+    climber = record { target = 2; grows = true; step = 65536; accesses = 0; hits = 0; last_hits = 0 };
+  }
+  pub third : (adaptive_act (caffeine_rules 16 99 None) is_never (item 1) before_480).1 ≡ record {
+    queues = record { window = item 259 ∷ item 1 ∷ item 100 ∷ []; probation = items_from 101 13; protected = [] };
+    size = 3;
+    climber = record { target = 3; grows = true; step = 65536; accesses = 0; hits = 0; last_hits = 160 };
   }

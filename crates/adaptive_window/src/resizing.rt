@@ -1,5 +1,6 @@
 //! How the window's size in force goes to its target, and how the queues follow.
 ghost use Rattle.std.specs.Prelude.{◌≡◌, ◌≤◌, ◌<◌, ◌-◌};
+ghost use Rattle.engine_base.specs.declared.limits.TheConstants.{MAX_CAPACITY};
 ghost use Rattle.segments.specs.Queues.{total_items};
 ghost use Rattle.adaptive_window.specs.Resizing.{size_towards};
 ghost use Rattle.adaptive_window.specs.AdaptiveWindow.{queues_resized};
@@ -25,7 +26,7 @@ pub(crate) fn resize(segments: &mut Segments, rules: &ClimbRules, target: u32, s
     requires target { target ≤ rules.now.largest }
     requires size { size ≤ rules.now.largest }
     requires fits { rules.now.largest ≤ rules.now.capacity }
-    requires small { rules.now.capacity ≤ 1048576 }
+    requires small { rules.now.capacity ≤ MAX_CAPACITY }
     requires few { total_items segments.old.lists ≤ rules.now.capacity }
     ensures size { result.size ≡ size_towards target size }
     ensures change { result.change ≡ size_change rules.now target size segments.old.lists }
@@ -51,7 +52,7 @@ fn grow(segments: &mut Segments, rules: &ClimbRules, target: u32, size: u32) -> 
     requires below { size < target }
     requires target { target ≤ rules.now.largest }
     requires fits { rules.now.largest ≤ rules.now.capacity }
-    requires small { rules.now.capacity ≤ 1048576 }
+    requires small { rules.now.capacity ≤ MAX_CAPACITY }
     requires few { total_items segments.old.lists ≤ rules.now.capacity }
     ensures size { result.size ≡ size_towards target size }
     ensures change { result.change ≡ size_change rules.now target size segments.old.lists }
@@ -81,7 +82,7 @@ fn grow(segments: &mut Segments, rules: &ClimbRules, target: u32, size: u32) -> 
 fn shrink(segments: &mut Segments, rules: &ClimbRules, target: u32, size: u32) -> Resized
     requires above { target < size }
     requires size { size ≤ rules.now.largest }
-    requires small { rules.now.capacity ≤ 1048576 }
+    requires small { rules.now.capacity ≤ MAX_CAPACITY }
     requires few { total_items segments.old.lists ≤ rules.now.capacity }
     ensures size { result.size ≡ size_towards target size }
     ensures change { result.change ≡ size_change rules.now target size segments.old.lists }
@@ -102,7 +103,7 @@ fn shrink(segments: &mut Segments, rules: &ClimbRules, target: u32, size: u32) -
 
 // How many items a part has over its size.
 fn excess(items: usize, size: usize) -> u32
-    requires { items ≤ 1048576 }
+    requires { items ≤ MAX_CAPACITY }
     ensures { result ≡ items - size }
 {
     items.saturating_sub(size) as u32
@@ -128,7 +129,7 @@ pub(crate) fn undo_runs(segments: &mut Segments, change: SizeChange)
 /// The size before a change.
 pub(crate) fn size_before(change: SizeChange, size: u32) -> u32
     requires some { 1 ≤ size_before_of change size }
-    requires few { size_before_of change size ≤ 1048576 }
+    requires few { size_before_of change size ≤ MAX_CAPACITY }
     ensures { result ≡ size_before_of change size }
 {
     match change {
