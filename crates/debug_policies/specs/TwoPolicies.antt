@@ -1,5 +1,5 @@
 -- Two policies over a trace, as the debugger walks them. (Its breakpoints and texts are defined by this project.)
-use Rattle.std.specs.Prelude.{◌≡◌, ◌≤◌, ℕ, zero, suc, ◌+◌, ◌-◌, Bool, false, not, ◌||◌, nat_lt, if◌then◌else◌, Option, Some}
+use Rattle.std.specs.Prelude.{◌≡◌, ◌≤◌, ℕ, ◌+◌, ◌-◌, ◌==◌, Bool, false, not, ◌||◌, nat_lt, if◌then◌else◌, Option, Some}
 use Rattle.std.specs.Prelude.{None, List, [], ◌∷◌, ◌++◌, codes, length, slice_index}
 use Rattle.engine_base.specs.declared.outcome.Outcome.TheVariants.{Hit, Kept, Evicted, Rejected}
 use Rattle.engine_base.specs.Stats.{is_hit}
@@ -58,12 +58,15 @@ first_parting n (a ∷ os) (b ∷ ps) = if just_one (is_hit a) (is_hit b) then S
 abbrev pub outcome_lines : List ℕ → Job → Job → ℕ → List ℕ
 outcome_lines trace first second n = outcome_line (codes "a") first trace n ++ outcome_line (codes "b") second trace n
 
+-- access n
+abbrev pub access_line : List ℕ → ℕ → List ℕ
+access_line trace n =
+    count_text (codes "access ") n ++ (count_text (codes " block ") (slice_index trace (n - 1)) ++ codes "\n")
+
 -- the access that led to position n, and its outcomes
 abbrev pub last_lines : List ℕ → Job → Job → ℕ → List ℕ
-last_lines trace first second zero = codes "access none\n"
-last_lines trace first second (suc i) =
-    count_text (codes "access ") (suc i) ++ (count_text (codes " block ") (slice_index trace i)
-    ++ (codes "\n" ++ outcome_lines trace first second (suc i)))
+last_lines trace first second n =
+    if n == 0 then codes "access none\n" else access_line trace n ++ outcome_lines trace first second n
 
 -- what a view shows once the first n accesses are made
 abbrev pub viewed_at : List ℕ → Job → Job → View → ℕ → List ℕ

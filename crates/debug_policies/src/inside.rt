@@ -1,5 +1,5 @@
 //! What is printed of a policy's queues, of an outcome and of an estimate.
-ghost use Rattle.std.specs.Prelude.{◌≡◌, ◌++◌, OnOk};
+ghost use Rattle.std.specs.Prelude.{◌≡◌, ◌++◌, OnOk, codes};
 ghost use Rattle.std.specs.List.{flat_map};
 ghost use Rattle.debug_policies.specs.Inside.{estimate_text, key_text, outcome_text, queue_text};
 
@@ -13,18 +13,17 @@ pub(crate) fn push_queue(text: &mut Vec<u8>, queue: &NamedQueue) -> Result<(), A
     ensures { OnOk result (text.new.items ≡ text.old.items ++ queue_text queue.now) }
 {
     push_pieces(text, &[b" ", queue.name().as_bytes()])?;
-    push_keys(text, queue.keys())?;
-    text.extend_from_slice(b"\n")
+    push_keys_line(text, queue.keys())
 }
 
-// Adds keys, each with the number beside it.
-fn push_keys(text: &mut Vec<u8>, keys: &[QueueKey]) -> Result<(), AllocError>
-    ensures { OnOk result (text.new.items ≡ text.old.items ++ flat_map key_text keys.now) }
+// Adds keys, each with the number beside it, and a line feed.
+fn push_keys_line(text: &mut Vec<u8>, keys: &[QueueKey]) -> Result<(), AllocError>
+    ensures { OnOk result (text.new.items ≡ text.old.items ++ (flat_map key_text keys.now ++ codes "\n")) }
 {
     for key in keys {
         push_key(text, *key)?;
     }
-    Ok(())
+    text.extend_from_slice(b"\n")
 }
 
 // Adds a key, and the number beside it.

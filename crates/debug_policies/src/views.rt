@@ -1,6 +1,6 @@
 //! What the commands of the views print of two policies. The one error of each is that an allocation failed.
 ghost use Rattle.std.specs.Prelude.{◌≡◌, ◌≤◌, ◌++◌, OnOk};
-ghost use Rattle.debug_policies.specs.TwoPolicies.{outcome_lines, viewed_at, IsPartWalk};
+ghost use Rattle.debug_policies.specs.TwoPolicies.{access_line, outcome_lines, viewed_at, IsPartWalk};
 ghost use Rattle.debug_commands.specs.declared.command.View.TheVariants as view;
 
 use crate::one_policy::OnePolicy;
@@ -47,13 +47,21 @@ pub(crate) fn push_last(
     ensures { OnOk result (text.new.items
         ≡ text.old.items ++ viewed_at first.now.trace first.now.job second.now.job view.Last first.now.at) }
 {
-    let made = first.position();
-    if made == 0 {
+    if first.position() == 0 {
         return text.extend_from_slice(b"access none\n");
     }
-    let block = first.trace().keys()[made - 1];
-    push_counts_line(text, &[(b"access ", made as u64), (b" block ", block)])?;
+    push_access(text, first)?;
     push_outcomes(text, first, second)
+}
+
+// Adds that access.
+fn push_access(text: &mut Vec<u8>, first: &OnePolicy) -> Result<(), AllocError>
+    requires { 1 ≤ first.now.at }
+    ensures { OnOk result (text.new.items ≡ text.old.items ++ access_line first.now.trace first.now.at) }
+{
+    let made = first.position();
+    let block = first.trace().keys()[made - 1];
+    push_counts_line(text, &[(b"access ", made as u64), (b" block ", block)])
 }
 
 // Adds the outcomes of that access.

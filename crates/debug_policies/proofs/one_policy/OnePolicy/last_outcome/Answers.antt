@@ -10,7 +10,7 @@ returns-in-Some c =
     let s = c.self.inside.session in
     let n : ℕ = length s.kept in
     let made : 1 ≤ n = subst (λ (w : OnePolicyState). 1 ≤ w.at) (sym c.self.view_is) c.requires in
-    let on : suc (n - 1) ≡ n = omega (arith, made) in
-    kept_reply c.any_step_law.ensures c.any_answers.ensures j trace s c.self.invariant c.len.ensures.sound.legal (n - 1) c.in-Some.entry.now c.in-Some.ensures
+    let on : suc (c.len.result - 1) ≡ n = omega (arith, made, c.len.ensures.len) in
+    kept_reply c.any_step_law.ensures c.any_answers.ensures j trace s c.self.invariant c.len.ensures.sound.legal (c.len.result - 1) c.in-Some.entry.now c.in-Some.ensures
     ∙ ap (outcome_at j trace) on
     ∙ ap (λ (w : OnePolicyState). outcome_at w.job w.trace w.at) c.self.view_is
