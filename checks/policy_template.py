@@ -12,7 +12,8 @@ ROW = ["crates/demand_cache/src/demand_policy.rt", "crates/demand_cache/specs/De
 WORD = ["crates/step_record/src/job.rt", JOB, "crates/policies/src/design.rt", "crates/policies/specs/Design.antt"]
 CODE = [*ROW, *WORD]
 # Where a step that requires a state has it.
-ANSWERS = [f"crates/demand_cache/proofs/demand_policy/DemandPolicy/{it}/Answers.antt" for it in ("count_out", "step")]
+ANSWERS = [f"crates/demand_cache/proofs/demand_policy/DemandPolicy/{it}/Answers.antt"
+           for it in ("count_out", "queue_rows", "step")]
 OPTIONS = "crates/command_line/src/options.rt"
 EXAMPLES = "crates/policy_tests/src/example_tests.rt"
 REFERENCE = "checks/cache_reference/demand_policies.py"
