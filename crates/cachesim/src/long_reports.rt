@@ -36,7 +36,11 @@ pub fn sweep<T: Threads + Wait + Sync, R: CountedRead, P: Watch>(
         long_traces::reports(rt, alloc, input, format, limits, &[], watch)?;
         return Err(Fault::Actors);
     }
-    let each = jobs_over(alloc, asked.list.as_slice(), arguments.capacities.as_slice())?;
+    let each = jobs_over(
+        alloc,
+        asked.list.as_slice(),
+        arguments.capacities.as_slice(),
+    )?;
     watch.begin("sweep", None);
     let reports = long_traces::reports(rt, alloc, input, format, limits, each.as_slice(), watch);
     watch.end();

@@ -19,8 +19,9 @@ mod policy_words;
 mod values;
 
 pub use arguments::{
-    Arguments, CompareArguments, DebugArguments, DriveArguments, FootprintArguments, IntervalsArguments,
-    JobArguments, PartArguments, ReplayArguments, RunArguments, SampleArguments, SweepArguments,
+    Arguments, CompareArguments, DebugArguments, DriveArguments, FootprintArguments,
+    IntervalsArguments, JobArguments, PartArguments, ReplayArguments, RunArguments,
+    SampleArguments, SweepArguments,
 };
 pub use fault::ParseFault;
 pub use lists::{CapacityList, FilePath, JobList, NamedList};

@@ -35,7 +35,7 @@ pub fn footprint<R: CountedRead, G: Gate>(
     let counter = read_taken::<Brand, R, FootprintCounter, G>(
         alloc, reader, format, limits, &jobs, every, gate,
     )?;
-    let footprint = counter.footprint;
+    let footprint = counter.footprint();
     drop(counter);
     Ok(footprint)
 }
@@ -47,11 +47,7 @@ impl Taker for FootprintCounter {
 
     ghost has_taken = { HasCountedFirst };
 
-    fn open(
-        alloc: Global,
-        _jobs: &[Job],
-        _every: usize,
-    ) -> Result<FootprintCounter, AllocError> {
+    fn open(alloc: Global, _jobs: &[Job], _every: usize) -> Result<FootprintCounter, AllocError> {
         Ok(FootprintCounter::new(alloc))
     }
 

@@ -3,6 +3,7 @@ ghost use Rattle.std.specs.Prelude.{◌≡◌, ◌≤◌, ◌<◌, ◌+◌, ◌+
 ghost use Rattle.std.specs.Prelude.{OnOk, length};
 ghost use Rattle.engine_base.specs.declared.limits.TheConstants.{MAX_STEPS};
 ghost use Rattle.trace_footprint.specs.Counter.{AreFewer, HasCounted, footprint_with, mark_in};
+ghost use Rattle.trace_footprint.specs.Footprint.{footprint_of};
 
 use crate::footprint::Footprint;
 use engine_base::Key;
@@ -16,9 +17,9 @@ const MAX_NUMBER: u64 = 1 << 23;
 /// the blocks' own numbers are low.
 #[derive(Drop)]
 pub struct FootprintCounter {
-    pub footprint: Footprint,
+    footprint: Footprint,
     // For each block about how many there were at its last access, with the last bit set if that was not its first.
-    pub places: KeyPlaces,
+    places: KeyPlaces,
 }
 
 impl FootprintCounter {
@@ -34,6 +35,13 @@ impl FootprintCounter {
             },
             places: KeyPlaces::new(alloc),
         }
+    }
+
+    /// What it has counted.
+    pub fn footprint(&self) -> Footprint
+        ensures { (done : List ℕ) → HasCounted done self.now → result ≡ footprint_of done }
+    {
+        self.footprint
     }
 
     /// Counts these accesses too. The one error is out of memory; the counter is of no more use then.
