@@ -15,7 +15,8 @@ use Rattle.policies.specs.Reports.{rate_of}
 use Rattle.report.specs.Text.{Report, line_text, rate_text_of, row_fields}
 use Rattle.report.specs.ShortSizes.{AreShort, IsShort}
 use Rattle.step_record.specs.Job.{name_of, word_of}
-use Rattle.step_record.specs.Sizes.{Sizes, size_text, sizes_text}
+use Rattle.step_record.specs.Sizes.{size_text, sizes_text}
+use Rattle.step_record.specs.declared.sizes.Sizes.{Sizes}
 use Rattle.step_record.specs.declared.job.Policy.{Policy}
 use Rattle.step_record.specs.declared.job.Policy.TheVariants.{Lru}
 

@@ -1,6 +1,6 @@
 -- Sizes of few digits, as those of a report are by their types.
 use Rattle.std.specs.Prelude.{ℕ, ◌<◌, ◌^◌, Option, IfSome}
-use Rattle.step_record.specs.Sizes.{Sizes}
+use Rattle.step_record.specs.declared.sizes.Sizes.{Sizes}
 
 abbrev pub IsShort : Option ℕ → Type 0
 IsShort size = IfSome size (λ n. n < 2 ^ 32)
