@@ -53,6 +53,7 @@ CALLS = [
     (["csv", "--key", "hash", "--separator", "tab"], "time\thash\n0\t-5\n0\t42\n0\t18446744073709551615\n",
      f"{2**64 - 5}\n42\n{TOP}\n",
      "3 of 3 records, for --format lirs"),
+    (["csv", "--key", "id"], "\ufefftime, id\n1, 7\n", "7\n", "1 of 1 records, for --format lirs"),
     (["csv", "--key", 2, "--only", "3=get,gets", "--text"], '0,"a,b",get\n0,a,set\n\n0,b,get\n1,"a,b",gets\n',
      "0\n1\n0\n",
      "3 of 4 records, for --format lirs; left out: 1 (3 is none of get,gets)"),

@@ -29,7 +29,7 @@ class Faulty(Exception):
 
 def number_of(text):
     """A whole number of 64 bits. One below 0 is the number below 2^64 with the same bits."""
-    digits = text.removeprefix("-")
+    digits = text.strip().removeprefix("-")
     if not (digits.isascii() and digits.isdigit() and len(digits) <= 20) or not -BLOCKS // 2 <= int(text) < BLOCKS:
         raise Faulty(f"{ascii(text[:SHOWN])} is no whole number of 64 bits")
     return int(text) % BLOCKS
@@ -117,9 +117,10 @@ def records_of(args, file):
         return ((read, record) for record in iter(partial(file.read, length), b""))
     if args.form in LINES:
         return ((LINES[args.form], line) for line in file)
-    texts = io.TextIOWrapper(file, "utf-8", "surrogateescape", newline="")
+    texts = io.TextIOWrapper(file, "utf-8-sig", "surrogateescape", newline="")
     rows = csv.reader(texts, delimiter=args.separator) if args.separator else map(str.split, texts)
-    read = partial(row, Columns(args, None if args.key.isdecimal() else next(rows, [])))
+    header = None if args.key.isdecimal() else [it.strip() for it in next(rows, [])]
+    read = partial(row, Columns(args, header))
     return ((read, it) for it in rows if it)
 
 
