@@ -220,8 +220,10 @@ def check_files(reference, folder):
     expect_parts("a word", run(reference, "run", "--capacity", 3, "own:lru", status=2, typed=typed)[1],
                  "invalid choice: 'own:lru'")
     file_of(folder, "beside.py", "from colorsys import hls_to_rgb\nprint('begun')\n")
-    text = "import beside\n" + LRU.replace("        if", "        print(key)\n        if")
-    out, error = run(reference, "run", *own_of(folder, text, "colorsys.py"), "--capacity", 3, "own:lru", typed=typed)
+    text = "from __future__ import annotations\nfrom dataclasses import dataclass\nimport beside\n"
+    text += "@dataclass\nclass _Data:\n    of: int\n" + LRU.replace("        if", "        print(key)\n        if")
+    out, error = run(reference, "run", *own_of(folder, text + "Same = Lru\n", "colorsys.py"), "--capacity", 3,
+                     "own:lru", typed=typed)
     expect("the report", out.splitlines()[1:], ["own:lru,3,6,1,5,2,0,16.66"])
     expect_parts("what it prints", error, "begun\n", "\n1\n2\n3\n1\n4\n2\n")
 
@@ -314,7 +316,7 @@ MISTAKES = {
     "a bound that is none": Mistake(check_refused, "lib/runs.py", "            elif after and farthest[0] < after:",
                                     "            elif False:"),
     "the key itself as another one": Mistake(check_rejecting, OWN, "        if left != key:\n", "        if True:\n"),
-    "private classes": Mistake(check_files, OWN, 'and it.__name__[0] != "_" ', ""),
+    "private classes": Mistake(check_files, OWN, 'it.__name__[0] != "_" and ', ""),
     "one for another": Mistake(check_files, OWN, "            if PREFIX + name in found:\n", "            if False:\n"),
     "its folder before Python's": Mistake(check_files, OWN, "sys.path.append(str(path.parent))",
                                           "sys.path.insert(0, str(path.parent))"),

@@ -53,9 +53,7 @@ def loaded(files):
     policy."""
     found = {}
     for file in files:
-        module = module_of(file)
-        policies = [it for it in vars(module).values() if isinstance(it, type) and it.__module__ == module.__name__
-                    and it.__name__[0] != "_" and callable(getattr(it, "access", None))]
+        policies = policies_of(module_of(file))
         if not policies:
             raise Wrong(f"{file} has no class with a method `access`")
         for it in policies:
@@ -68,6 +66,11 @@ def loaded(files):
     return found
 
 
+def policies_of(module):
+    classes = (it for it in vars(module).values() if isinstance(it, type) and it.__module__ == module.__name__)
+    return [it for it in dict.fromkeys(classes) if it.__name__[0] != "_" and callable(getattr(it, "access", None))]
+
+
 def module_of(file):
     """A file as a module, which finds others beside it. What it prints goes to standard error."""
     path = Path(file).resolve()
@@ -75,7 +78,7 @@ def module_of(file):
         raise Wrong(f"{file} is no file")
     name = f"own policies in {path}"
     spec = importlib.util.spec_from_loader(name, importlib.machinery.SourceFileLoader(name, str(path)))
-    module = importlib.util.module_from_spec(spec)
+    module = sys.modules[name] = importlib.util.module_from_spec(spec)
     sys.path.append(str(path.parent))
     with contextlib.redirect_stdout(sys.stderr), named_faults(file):
         spec.loader.exec_module(module)
