@@ -108,24 +108,14 @@ _cachesim_words() {
     'cachesim-survey:--after') echo '' ;;
     'cachesim-survey:--sampled') echo '' ;;
     'cachesim-survey:--accesses') echo '' ;;
+    'cachesim-survey:--own') echo '<FILE>' ;;
     'cachesim-survey:--jump') echo '' ;;
     'cachesim-survey:--format') echo 'lirs arc' ;;
     'cachesim-survey:--main') echo '' ;;
     'cachesim-survey:--spread') echo 'mixed plain' ;;
-    'cachesim-survey:--table') echo 'traces policies misses halves windows parts jumps reach powers' ;;
+    'cachesim-survey:--table') echo 'traces policies misses halves windows parts requests jumps reach powers' ;;
     'cachesim-survey:--program') echo '<FILE>' ;;
-    'cachesim-survey:'*) echo '<FILE> -h --help --policy --capacity --percent --reach --plot --html --after --sampled --accesses --jump --format --long --halves --main --spread --table --csv --program' ;;
-    'cachesim-watch:--capacity') echo '' ;;
-    'cachesim-watch:--first') echo 'lru slru tinylfu-lru tinylfu-slru wtinylfu clairvoyant fifo clock sieve s3-fifo 2q arc caffeine car' ;;
-    'cachesim-watch:--second') echo 'lru slru tinylfu-lru tinylfu-slru wtinylfu clairvoyant fifo clock sieve s3-fifo 2q arc caffeine car' ;;
-    'cachesim-watch:--journal') echo '<FILE>' ;;
-    'cachesim-watch:--format') echo 'lirs arc' ;;
-    'cachesim-watch:--main') echo '' ;;
-    'cachesim-watch:--spread') echo 'mixed plain' ;;
-    'cachesim-watch:--stripes') echo '' ;;
-    'cachesim-watch:--limit') echo '' ;;
-    'cachesim-watch:--program') echo '<FILE>' ;;
-    'cachesim-watch:'*) echo '<FILE> -h --help --capacity --first --second --journal --format --main --spread --stripes --limit --open --program' ;;
+    'cachesim-survey:'*) echo '<FILE> -h --help --policy --capacity --percent --reach --plot --after --sampled --accesses --own --jump --format --long --halves --main --spread --table --csv --program' ;;
     'cachesim-plot:--after') echo '' ;;
     'cachesim-plot:--sampled') echo '' ;;
     'cachesim-plot:--accesses') echo '' ;;
@@ -139,10 +129,11 @@ _cachesim_words() {
     'cachesim-corpus run:--percent') echo '' ;;
     'cachesim-corpus run:--format') echo 'lirs arc' ;;
     'cachesim-corpus run:--jobs') echo '' ;;
+    'cachesim-corpus run:--own') echo '<FILE>' ;;
     'cachesim-corpus run:--program') echo '<FILE>' ;;
     'cachesim-corpus run:--out') echo '<FILE>' ;;
     'cachesim-corpus run:--hosts') echo '<FILE>' ;;
-    'cachesim-corpus run:'*) echo '<FILE> -h --help --policy --percent --format --jobs --program --out --hosts --send --slurm' ;;
+    'cachesim-corpus run:'*) echo '<FILE> -h --help --policy --percent --format --jobs --own --program --out --hosts --send --slurm' ;;
     'cachesim-corpus report:--baseline') echo 'lru slru tinylfu-lru tinylfu-slru wtinylfu clairvoyant fifo clock sieve s3-fifo 2q arc caffeine car' ;;
     'cachesim-corpus report:--plot') echo '<FILE>' ;;
     'cachesim-corpus report:--scatter') echo 'lru slru tinylfu-lru tinylfu-slru wtinylfu clairvoyant fifo clock sieve s3-fifo 2q arc caffeine car' ;;
@@ -152,6 +143,14 @@ _cachesim_words() {
     'cachesim-sample:--format') echo 'lirs arc' ;;
     'cachesim-sample:--program') echo '<FILE>' ;;
     'cachesim-sample:'*) echo '<FILE> -h --help --rate --seed --format --program' ;;
+    'cachesim-convert:--from') echo 'csv log text arc msr spc blktrace oracleGeneral cloudphysics cloudphysics2' ;;
+    'cachesim-convert:--key') echo '' ;;
+    'cachesim-convert:--size') echo '' ;;
+    'cachesim-convert:--only') echo '' ;;
+    'cachesim-convert:--separator') echo '' ;;
+    'cachesim-convert:--block') echo '' ;;
+    'cachesim-convert:--numbers') echo '<FILE>' ;;
+    'cachesim-convert:'*) echo '<FILE> -h --help --from --key --size --only --separator --text --sizes --reads --block --numbers --skip' ;;
     'cachesim-journal:'*) echo '<FILE> -h --help --csv' ;;
     esac
 }
@@ -178,4 +177,4 @@ _cachesim() {
         mapfile -t -O "${#COMPREPLY[@]}" COMPREPLY < <(compgen -f -- "$word")
     fi
 }
-complete -F _cachesim cachesim cachesim-survey cachesim-watch cachesim-plot cachesim-corpus cachesim-sample cachesim-journal
+complete -F _cachesim cachesim cachesim-survey cachesim-plot cachesim-corpus cachesim-sample cachesim-convert cachesim-journal

@@ -135,13 +135,14 @@ complete -c cachesim-survey -l html -r -F -d 'a page to mail: one file with the 
 complete -c cachesim-survey -l after -x -d 'leave the first N accesses out of all counts, of a sample as large a part of it as of the whole'
 complete -c cachesim-survey -l sampled -x -d 'TRACE is from a sample by cachesim-sample, of this rate: estimate the whole trace. In place of 1/N and --accesses also a file with what cachesim-sample said of it, which has to fit exactly'
 complete -c cachesim-survey -l accesses -x -d 'with --sampled 1/N: the accesses of the whole trace. Refused where those of the sample times N are over twice as many or under half, or where it has no fewer'
+complete -c cachesim-survey -l own -r -F -d 'a Python file with policies of your own, which is run; their words are own:NAME; also more than once'
 complete -c cachesim-survey -l jump -x -d 'by how many points the hit ratio changes at least in a jump (2)'
 complete -c cachesim-survey -l format -x -a 'lirs arc' -d 'the format of the traces (lirs)'
 complete -c cachesim-survey -l long -d 'as in cachesim sweep: traces of up to 2^32 - 1 accesses, without clairvoyant'
 complete -c cachesim-survey -l halves -d 'only `best` of each half of the trace, and what the first half'\''s choice costs in the second'
 complete -c cachesim-survey -l main -x -d 'of wtinylfu, and of caffeine at first, as in cachesim sweep (99, and other windows in a table)'
 complete -c cachesim-survey -l spread -x -a 'mixed plain' -d 'as in cachesim sweep (mixed)'
-complete -c cachesim-survey -l table -x -a 'traces policies misses halves windows parts jumps reach powers' -d 'only this table, of traces, policies, misses, halves, windows, parts, jumps, reach, powers; also more than once'
+complete -c cachesim-survey -l table -x -a 'traces policies misses halves windows parts requests jumps reach powers' -d 'only this table, of traces, policies, misses, halves, windows, parts, requests, jumps, reach, powers; also more than once'
 complete -c cachesim-survey -l csv -d 'CSV; that of the policies where no --table is named'
 complete -c cachesim-survey -l program -r -F -d 'the program to call (cachesim beside the script, or on the path)'
 
@@ -185,6 +186,7 @@ complete -c cachesim-corpus -n '__cachesim_is run' -l policy -x -a 'lru slru tin
 complete -c cachesim-corpus -n '__cachesim_is run' -l percent -x -d 'a size of the cache in percent of the footprint; also more than once (1 and 10)'
 complete -c cachesim-corpus -n '__cachesim_is run' -l format -x -a 'lirs arc' -d 'the format of all traces (lirs)'
 complete -c cachesim-corpus -n '__cachesim_is run' -l jobs -x -d 'how many jobs at once, on each host (here as many as there are processors and memory for)'
+complete -c cachesim-corpus -n '__cachesim_is run' -l own -r -F -d 'a Python file with policies of your own, which is run; their words are own:NAME; also more than once'
 complete -c cachesim-corpus -n '__cachesim_is run' -l program -r -F -d 'the program to call'
 complete -c cachesim-corpus -n '__cachesim_is run' -l out -r -F -d 'the folder for what is found'
 complete -c cachesim-corpus -n '__cachesim_is run' -l hosts -r -F -d 'run on the hosts of this file, one a line, : for this machine'
@@ -204,6 +206,21 @@ complete -c cachesim-sample -l rate -x -d 'how many of the blocks: 1/2, 1/4, 1/8
 complete -c cachesim-sample -l seed -x -d 'another number keeps other blocks (1)'
 complete -c cachesim-sample -l format -x -a 'lirs arc' -d 'the format of the trace (lirs)'
 complete -c cachesim-sample -l program -r -F -d 'the program to call (cachesim beside the script, or on the path)'
+
+complete -c cachesim-convert -f
+complete -c cachesim-convert -s h -l help -d 'show this help message and exit'
+complete -c cachesim-convert -F
+complete -c cachesim-convert -l from -x -a 'csv log text arc msr spc blktrace oracleGeneral cloudphysics cloudphysics2' -d 'the format that TRACE has: csv, log, text, arc, msr, spc, blktrace, oracleGeneral, cloudphysics, cloudphysics2'
+complete -c cachesim-convert -l key -x -d 'of csv: the column of the object'
+complete -c cachesim-convert -l size -x -d 'of csv: the column of the size in bytes'
+complete -c cachesim-convert -l only -x -d 'of csv: only rows with such a value'
+complete -c cachesim-convert -l separator -x -d 'of csv: the character between two fields; tab; or space, for any number of these (,)'
+complete -c cachesim-convert -l text -d 'of csv: keys of any kind, which are numbered'
+complete -c cachesim-convert -l sizes -d 'of oracleGeneral and log: with the size of each object'
+complete -c cachesim-convert -l reads -d 'of disks: without writes'
+complete -c cachesim-convert -l block -x -d 'how long a block is (4096)'
+complete -c cachesim-convert -l numbers -r -F -d 'write the table of numbered keys, as CSV'
+complete -c cachesim-convert -l skip -d 'leave out what cannot be read'
 
 complete -c cachesim-journal -f
 complete -c cachesim-journal -s h -l help -d 'show this help message and exit'
