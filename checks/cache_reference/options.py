@@ -41,9 +41,14 @@ POLICIES = {
 SIZES = {"wtinylfu": ["main"], "caffeine": ["main", "period"], "2q": ["in", "out"], "s3-fifo": ["small"]}
 
 
+def parts_of(word):
+    """A policy's word, and the sizes behind it."""
+    return [word] if word in POLICIES else word.split(":")
+
+
 def policy_of(word):
     """A policy's word with its sizes, as reports print it, or None where it is none."""
-    policy, *sizes = word.split(":")
+    policy, *sizes = parts_of(word)
     names, _, texts = zip(*(it.partition("=") for it in sizes)) if sizes else ((), (), ())
     numbers = {name: NUMBERS[name].read(text) for name, text in zip(names, texts) if name in SIZES.get(policy, [])}
     if policy not in POLICIES or len(numbers) < len(sizes) or None in numbers.values():
@@ -53,6 +58,6 @@ def policy_of(word):
 
 def opened(word, capacity, options, keys):
     """A policy of a word that reports print, whose sizes stand above the options."""
-    policy, *sizes = word.split(":")
+    policy, *sizes = parts_of(word)
     own = {name: int(number) for name, number in (it.split("=") for it in sizes)}
     return POLICIES[policy](capacity, {**options, **own}, keys)

@@ -1,4 +1,6 @@
 """Tests of tools/reference, beside calls of the program."""
+from cache_reference import policy_of
+from cache_reference.caffeine import Caffeine
 from lib.policies import POLICIES
 from frame import Mistake, expect, expect_full_disk, run
 
@@ -36,6 +38,31 @@ def check_beside_program(reference, program):
         (out, error), wanted = (run(it, *words, status=status, typed=text) for it in (reference, program))
         expect(f"{text} as {form}", (out, error.partition("\n")[2]), wanted)
     expect_full_disk(reference, "run", *CACHE, "lru", typed="1\n")
+
+
+def check_caffeine():
+    """The age of its sketch: after a halving over 160 new keys, and over 80 that come twice; of a key that comes 20 times, of
+    which 15 raise a counter. And how large the window is at the end of each period."""
+    for capacity, keys, age in ((16, range(160), 64), (16, [*range(80)] * 2, 80), (100, [7] * 20, 15)):
+        cache = Caffeine(capacity, 99, "mixed", None)
+        for key in keys:
+            cache.access(key)
+        expect(f"the age of {capacity} entries", cache.frequency.age, age)
+    cache, sizes = Caffeine(16, 99, "mixed", None), []
+    for at, key in enumerate([1] * 160 + [*range(100, 260)] + [1] * 160, 1):
+        cache.access(key)
+        sizes += [cache.queues.window_size] * (at % 160 == 0)
+    expect("the window", sizes, [1, 2, 3])
+
+
+def check_words():
+    """How reports print a policy's word, or that it is none."""
+    for word, printed in (("2q:out=+7:in=030", "2q:in=30:out=7"), ("caffeine:period=20000:main=050", "caffeine:main=50:period=20000"),
+                          ("s3-fifo:small=1", "s3-fifo:small=1"), ("lru", "lru"), ("wtinylfu:main=99", "wtinylfu:main=99"),
+                          *dict.fromkeys(("slru:", "2q:in", "2q:in=", "2q:in=0", "2q:in=100", "2q:in=3,out=4", "2q:small=1", "2q :in=1", ":main=3",
+                                          "2q:in=1:in=1", "wtinylfu:Main=3", "wtinylfu:main=100", "wtinylfu:period=9", "caffeine:period=0",
+                                          "caffeine:period=4294967296", "s3-fifo:small=-1", "arc:in=1", "lru2")).items()):
+        expect(word, policy_of(word), printed)
 
 
 MISTAKES = {
