@@ -6,8 +6,8 @@ import java.lang.reflect.Field;
 import java.util.concurrent.ThreadLocalRandom;
 
 /**
- * Plays a trace, a number a line, into Caffeine: for each word, a capacity, a line of how many accesses hit with each of some
- * seeds. All maintenance is done in this thread, after each access, so that the seed says all that happens.
+ * Plays a trace, a number a line, into Caffeine: for each word, a capacity, a line of how many accesses hit by each of
+ * some seeds. All maintenance is done in this thread, after each access, so that the seed says all that happens.
  */
 class CaffeineHits {
     private static final int SEEDS = 4;

@@ -1,5 +1,5 @@
-"""W-TinyLFU whose window is moved by a hill climber, as the library Caffeine runs it, in whole numbers (its Design page, and
-its class FrequencySketch, version 3)."""
+"""W-TinyLFU whose window is moved by a hill climber, as the library Caffeine runs it, in whole numbers (its Design page,
+and its class FrequencySketch, version 3)."""
 from .frequency import Sketch
 from .policies import WindowTinyLfu
 
@@ -8,8 +8,8 @@ MOVES_OF_AN_ACCESS = 1000
 
 
 class FrequencySketch(Sketch):
-    """Sixteen counters for each entry, and no doorkeeper. A recording that raises no counter does not make it older, and of
-    four counters that lose their odd one at a halving, one recording is taken off its age."""
+    """Sixteen counters for each entry, and no doorkeeper. A recording that raises no counter does not make it older. At a
+    halving a recording is taken off its period for each four counters that are odd; its age is half of what is left."""
 
     def __init__(self, capacity, spread):
         super().__init__(capacity, spread, columns=4)

@@ -1,5 +1,5 @@
-"""The debugger of two policies. A timeline has what each step from one position to the next did, and says what `show`, or a
-command like it, prints at each."""
+"""The debugger of two policies. A timeline has what each step from one position to the next did, and says what `show`, or
+a command like it, prints at each."""
 from collections import Counter
 
 from .caffeine import Caffeine

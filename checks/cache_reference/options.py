@@ -7,8 +7,8 @@ from .demand_policies import POLICIES as DEMAND_POLICIES
 from .policies import Clairvoyant, Lru, SegmentedLru, TinyLfu, WindowTinyLfu
 
 class Number(namedtuple("Number", "default low high help")):
-    """A whole number within bounds, with what holds where it is not given: tools/reference has them all, and check_random asks
-    for them."""
+    """A whole number within bounds, with what holds where it is not given: tools/reference has them all, and check_random
+    asks for them."""
 
     def read(self, text):
         """The number that a word is, or None."""
