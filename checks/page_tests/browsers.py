@@ -59,8 +59,9 @@ class Browser:
                                     {"width": width, "height": height, "deviceScaleFactor": 1, "mobile": width < 500})
 
     def open(self, address):
-        # Another position of a page that stands here would be no new page.
+        # Another position of a page that stands here would be no new page. What was said of others is past.
         self.driver.get("about:blank")
+        self.complaints()
         self.driver.get(address)
 
     def until(self, script, *words):

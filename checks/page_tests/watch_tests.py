@@ -443,7 +443,7 @@ MISTAKES = {
     "a click that is lost": Mistake(check_quick_clicks, "lib/watch.html",
                                     "while (finds.length || shown === null || shown.at !== wanted) {",
                                     "if (finds.length || shown === null || shown.at !== wanted) {"),
-    "a link that names no position": Mistake(check_link, "lib/watch.html", "  go(inAddress());\n  ground", "  go(0);\n  ground"),
+    "a link that names no position": Mistake(check_link, "lib/watch.html", "    go(inAddress());\n", "    go(0);\n"),
     "a life without its ends": Mistake(check_life, "lib/views.py", "{*left, *own[:LIVES]}", "{*own[:LIVES]}"),
     "both ends alike": Mistake(check_large, "lib/views.py", "cells(slice(-ENDS, None))", "cells(slice(ENDS))"),
     "curves of another interval": Mistake(check_ground, "lib/views.py", "both + first, both + second",
