@@ -10,6 +10,7 @@ from urllib.parse import parse_qs, urlsplit
 from browsers import KEYS, NAMELESS, PALE, TRACE, Mistake, dialogue, watched
 from checks import becomes, call, expect
 from lib import sessions
+from lib.traces import TraceFile
 
 PAIR = "--first", "s3-fifo", "--second", "arc"
 SMALL = TRACE, "--capacity", "20", *PAIR
@@ -406,14 +407,13 @@ def check_renewed(program, monkeypatch):
     """A session that has taken many commands goes on in another process, and answers the same."""
     trace, *words = SMALL
     monkeypatch.setattr(sessions, "RENEWED_AFTER", 1000)
-    with trace.open("rb") as file:
-        session, answers, processes = sessions.Session([str(it) for it in (program, "debug", "--trace", trace, *words)],
-                                                       file), set(), set()
-        for _ in range(200):
-            with session.turn() as ask:
-                answers.add(str(ask("goto 1525", "queues", "last")))
-                processes.add(session.process.pid)
-        session.end()
+    called, answers, processes = [str(it) for it in (program, "debug", "--trace", trace, *words)], set(), set()
+    session = sessions.Session(called, TraceFile(trace))
+    for _ in range(200):
+        with session.turn() as ask:
+            answers.add(str(ask("goto 1525", "queues", "last")))
+            processes.add(session.process.pid)
+    session.end()
     expect("the answers, and the processes", (len(answers), 3 <= len(processes) <= 20), (1, True))
 
 

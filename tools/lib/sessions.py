@@ -15,8 +15,8 @@ class Ended(Exception):
 
 
 class Session:
-    """One process of the program, which answers one caller at a time. What a caller asks begins with a position, so
-    that it does not matter which process answers, nor what was asked before."""
+    """One process of the program over a file, which answers one caller at a time. What a caller asks begins with a
+    position, so that it does not matter which process answers, nor what was asked before."""
 
     def __init__(self, words, file):
         self.words, self.file, self.lock, self.process, self.written = words, file, threading.Lock(), None, 0
@@ -31,9 +31,8 @@ class Session:
 
     def begin(self):
         self.end()
-        self.process, self.written = subprocess.Popen(self.words, stdin=subprocess.PIPE, stdout=subprocess.PIPE,
-                                                      pass_fds=[self.file.fileno()], encoding="ascii",
-                                                      errors="replace"), 0
+        pipes = {"stdin": subprocess.PIPE, "stdout": subprocess.PIPE, "encoding": "ascii", "errors": "replace"}
+        self.process, self.written = subprocess.Popen(self.words, pass_fds=[self.file.begun()], **pipes), 0
 
     def end(self):
         if self.process:
