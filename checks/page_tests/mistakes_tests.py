@@ -1,4 +1,4 @@
-"""Each test of a page is worth something: over a copy of the scripts with a mistake that is its own to find, it fails."""
+"""Each test of a page is worth something: over a copy of the scripts with a mistake that is its own to find it fails."""
 import inspect
 import shutil
 
@@ -7,7 +7,8 @@ import report_tests
 import watch_tests
 from checks import replaced
 
-MISTAKES = [pytest.param(mistake, id=f"{name}: {words}") for name, module in (("watch", watch_tests), ("report", report_tests))
+MODULES = {"watch": watch_tests, "report": report_tests}
+MISTAKES = [pytest.param(mistake, id=f"{name}: {words}") for name, module in MODULES.items()
             for words, mistake in module.MISTAKES.items()]
 
 

@@ -2,6 +2,7 @@
 who does not have the token of its address."""
 import json
 import secrets
+import sys
 from http.server import BaseHTTPRequestHandler, ThreadingHTTPServer
 from urllib.parse import parse_qs, urlsplit
 
@@ -34,8 +35,10 @@ class PageServer(ThreadingHTTPServer):
         self.origin = f"http://{self.name}"
         self.address = f"{self.origin}/?token={self.token}"
 
-    def handle_error(self, *_):
+    def handle_error(self, request, client_address):
         """A client that goes away is no fault."""
+        if not isinstance(sys.exc_info()[1], OSError):
+            super().handle_error(request, client_address)
 
 
 class Exchange(BaseHTTPRequestHandler):

@@ -16,7 +16,7 @@ from .options import as_called
 from .own import counts_of, is_own, outcomes_of
 from .policies import tip_for
 from .runs import Accesses
-from .traces import FORMATS, TraceFile, Unreadable, beginning_of, blocks_read, ranges_of
+from .traces import FORMATS, TraceFile, Unreadable, beginning_of, read_blocks, ranges_of
 
 MAX_CAPACITY = 1 << 20
 SWEEP = "policy,capacity,accesses,hits,misses,evictions,rejections,rate"
@@ -159,7 +159,7 @@ class Trace:
 
     @cached_property
     def keys(self):
-        keys = Accesses(blocks_read(self.file.lines(), self.options.format))
+        keys = Accesses(read_blocks(self.file.lines(), self.options.format))
         self.file.begun()
         return keys
 

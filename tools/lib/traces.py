@@ -118,16 +118,14 @@ def blocks_of(lines, form):
     return (block for first, count in ranges_of(lines, form) for block in range(first, first + count))
 
 
-def blocks_read(lines, form):
-    """The blocks of a trace that the program has read without a fault."""
-    if form == "arc":
-        return blocks_of(lines, form)
-    return (int(line) for line in lines if line.strip() not in (b"", b"*"))
+def read_blocks(lines, form):
+    """The blocks of a trace that the program has read without a fault, in order."""
+    return (int(line) for line in lines if line.strip() not in (b"", b"*")) if form == "lirs" else blocks_of(lines, form)
 
 
 def times_of_blocks(lines, form):
     """How often each block is accessed in a trace that the program has read without a fault."""
-    return Counter(blocks_read(lines, form))
+    return Counter(read_blocks(lines, form))
 
 
 def beginning_of(lines, form, accesses):
