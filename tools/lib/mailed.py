@@ -10,6 +10,7 @@ from pathlib import Path
 
 from .measures import above, below, capacities_in
 from .options import as_called
+from .own import in_legend, is_own
 from .pictures import ends_around, marks_of
 from .policies import OTHERS, POLICIES
 from .tables import FOLDED, LEFT, NOTES, NOTES_OF_SAMPLE, TABLES, TITLES, also_measured, rate_of, shown_rate
@@ -99,7 +100,7 @@ def legend_of(policies):
         style = style_of(it, policies)
         line = f'<path d="M0 7H52" stroke-width="2" {stroke(style)}/>{mark(style, 26, 7)}'
         yield (f'<li data-policy="{escape(it)}"><svg width="52" height="14" aria-hidden="true">{line}</svg> '
-               f"{escape(it)}</li>")
+               f"{escape(in_legend(it, it))}</li>")
     yield "</ul>"
 
 
@@ -265,7 +266,7 @@ def further(survey):
                    f"{every_of(survey.accesses)} < {name} | tools/plot > alone.svg")]
     lines.append(("Whether the choice by the first half of the trace would have held in the second",
                   f"tools/survey{how}{sampled} --halves {name}"))
-    for policy, capacity in [*dict.fromkeys((policy, capacity) for policy, capacity in survey.spans)][:3]:
+    for policy, capacity in [*dict.fromkeys(it for it in survey.spans if not is_own(it[0]))][:3]:
         low, high, by = capacity * 9 // 10, capacity * 11 // 10, max(1, capacity // 50)
         lines.append((f"How {policy} changes around {capacity} entries",
                       f"./cachesim sweep{how} --policy {policy} $(seq {max(1, low)} {by} {high}) < {name}"))
