@@ -1,7 +1,7 @@
 use Rattle.std.proofs.Common.{◌≡◌, ◌++◌, List, ℕ, Result, Ok, Err, OnOk, OnErr, sym, subst}
 use Rattle.engine_base.specs.Machine.{state_after_all}
 use Rattle.demand_cache.specs.DemandCache.{DemandState, DemandStops, demand_access}
-use Rattle.policies.specs.declared.any_policy.AnyPolicy.TheVariants.{Demand}
+use Rattle.policies.specs.declared.any_policy.AnyPolicy.TheVariants.{Adaptive, Demand, Optimal, Queues}
 use Rattle.policies.specs.Accesses.{AnyPolicy, IsContinued, IsNext, IsStopped}
 use Rattle.policies.specs.AnyPolicy.{HasAccessed}
 use Rattle.policies.proofs.Machines.{demand-made, demand-next}
@@ -40,3 +40,27 @@ pub returns-in-Demand-clause-memory : goal.returns-in-Demand-clause-memory
 returns-in-Demand-clause-memory c =
     subst (λ (d : AnyPolicy). OnErr c.access_all.result (IsStopped c.args.keys.now d (Demand c.access_all.new.self))) (sym c.in-Demand.is)
     (on_err c.access_all.result (stopped c.args.keys.now c.in-Demand.cache c.access_all.new.self) c.access_all.ensures.memory)
+
+pub returns-in-Queues-clause-all : goal.returns-in-Queues-clause-all
+returns-in-Queues-clause-all c =
+    subst (λ (d : AnyPolicy). OnOk c.access_queues.result (IsContinued c.args.keys.now d (Queues c.access_queues.new.cache))) (sym c.in-Queues.is) c.access_queues.ensures.all
+
+pub returns-in-Queues-clause-memory : goal.returns-in-Queues-clause-memory
+returns-in-Queues-clause-memory c =
+    subst (λ (d : AnyPolicy). OnErr c.access_queues.result (IsStopped c.args.keys.now d (Queues c.access_queues.new.cache))) (sym c.in-Queues.is) c.access_queues.ensures.memory
+
+pub returns-in-Adaptive-clause-all : goal.returns-in-Adaptive-clause-all
+returns-in-Adaptive-clause-all c =
+    subst (λ (d : AnyPolicy). OnOk c.access_adaptive.result (IsContinued c.args.keys.now d (Adaptive c.access_adaptive.new.cache))) (sym c.in-Adaptive.is) c.access_adaptive.ensures.all
+
+pub returns-in-Adaptive-clause-memory : goal.returns-in-Adaptive-clause-memory
+returns-in-Adaptive-clause-memory c =
+    subst (λ (d : AnyPolicy). OnErr c.access_adaptive.result (IsStopped c.args.keys.now d (Adaptive c.access_adaptive.new.cache))) (sym c.in-Adaptive.is) c.access_adaptive.ensures.memory
+
+pub returns-in-Optimal-clause-all : goal.returns-in-Optimal-clause-all
+returns-in-Optimal-clause-all c =
+    subst (λ (d : AnyPolicy). OnOk c.access_optimal.result (IsContinued c.args.keys.now d (Optimal c.access_optimal.new.cache))) (sym c.in-Optimal.is) c.access_optimal.ensures.all
+
+pub returns-in-Optimal-clause-memory : goal.returns-in-Optimal-clause-memory
+returns-in-Optimal-clause-memory c =
+    subst (λ (d : AnyPolicy). OnErr c.access_optimal.result (IsStopped c.args.keys.now d (Optimal c.access_optimal.new.cache))) (sym c.in-Optimal.is) c.access_optimal.ensures.memory

@@ -1,4 +1,4 @@
-use Rattle.std.proofs.Common.{◌≡◌, ℕ, ◌*◌, ◌++◌, ◌≤◌, List, length, take, drop, ap, sym, ◌∙◌, subst, arith, append_assoc}
+use Rattle.std.proofs.Common.{Result, Ok, Err, OnErr, ◌≡◌, ℕ, ◌*◌, ◌++◌, ◌≤◌, List, length, take, drop, ap, sym, ◌∙◌, subst, arith, append_assoc}
 use Rattle.std.proofs.lemmas.Grind.{div_ceil_times}
 use Rattle.engine_base.specs.declared.limits.TheConstants.{MAX_BATCH}
 use Rattle.policies.specs.AnyPolicy.{HasAccessed}
@@ -6,6 +6,10 @@ use Rattle.policies.specs.Accesses.{IsStopped}
 use Rattle.policies.proofs.Batches.{next-piece, next_rest, taken-more}
 use Rattle.policies.proofs.Stretches.{has-made-all, stopped-later}
 use Rattle.policies.proofs.trace_run.access_in_batches.Goals as goal
+
+at_error : {T E P : Type 0} (r : Result T E) → P → OnErr r P
+at_error (Ok v) h = tt
+at_error (Err e) h = h
 
 pub access_all-requires : goal.access_all-requires
 access_all-requires g c =
@@ -39,9 +43,10 @@ returns-clause-all g c =
     let all = subst (λ (n : ℕ). length keys ≤ n * MAX_BATCH) (sym c.div_ceil-number-end.ensures ∙ last) (div_ceil_times (length keys) MAX_BATCH (omega arith)).0 in
     has-made-all keys (k * MAX_BATCH) c.args.cache.now c.loop-number.cache all c.loop-number.invariant.1
 
-pub returns-in-Err-clause-memory : goal.returns-in-Err-clause-memory
-returns-in-Err-clause-memory g c =
+pub returns-in_err-access_all-clause-memory : goal.returns-in_err-access_all-clause-memory
+returns-in_err-access_all-clause-memory g c =
     let keys = c.args.keys.now in let m = c.loop-number.number * MAX_BATCH in
     let piece = c.cut.ensures.front ∙ ap (λ (l : List ℕ). take MAX_BATCH l) c.loop-number.invariant.0 in
-    stopped-later keys m MAX_BATCH c.args.cache.now c.loop-number.cache c.access_all.new.cache c.loop-number.invariant.1
-    (subst (λ l. IsStopped l c.loop-number.cache c.access_all.new.cache) piece c.in_err-access_all.ensures.memory)
+    at_error c.from_residual.result
+    (stopped-later keys m MAX_BATCH c.args.cache.now c.loop-number.cache c.access_all.new.cache c.loop-number.invariant.1
+    (subst (λ l. IsStopped l c.loop-number.cache c.access_all.new.cache) piece c.in_err-access_all.ensures.memory))
