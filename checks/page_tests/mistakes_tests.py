@@ -1,4 +1,4 @@
-"""Each test of a page is worth something: over a copy of the scripts with a mistake that is its own to find it fails."""
+"""Each test of a page is worth something: over a copy of the scripts with a mistake of its own to find it fails."""
 import inspect
 import shutil
 
