@@ -89,11 +89,11 @@ class Browser:
     def position(self):
         return int(self.find("at").get_attribute("value"))
 
-    def picture(self, file, width):
-        """A picture of the whole page at this width, which is not wider."""
+    def picture(self, file, width, most=20000):
+        """A picture of the whole page at this width, which is not wider, or of so many lines of it at most."""
         self.resize(width)
         height = self.run("return document.documentElement.scrollHeight")
-        self.resize(width, height)
+        self.resize(width, min(height, most))
         self.driver.save_screenshot(str(file))
         found = self.run("return document.documentElement.scrollWidth")
         self.resize(1400)

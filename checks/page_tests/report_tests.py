@@ -52,7 +52,7 @@ def check_looks(browser, tools, program, folder, pictures):
     call(sys.executable, "-SE", tools / "survey", "--program", program, "--html", page, TRACE.name, cwd=TRACE.parent)
     browser.open(page.as_uri())
     browser.picture(folder / "narrow.png", 400)
-    browser.picture(pictures / "report.png", 1400)
+    browser.picture(pictures / "report.png", 1400, 1800)
     expect("pale texts", browser.run(PALE), [])
 
 
