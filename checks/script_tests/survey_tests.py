@@ -690,7 +690,7 @@ MISTAKES = {
     "powers of two that are not near": Mistake(check_jumps_and_powers, "lib/measures.py", "<< bits)) * 20 <= it", "<< bits)) * 19 <= it"),
     "a megabyte of a packed trace": Mistake(check_ways, "lib/traces.py", "shutil.copyfileobj(gzip.open(source) if first.startswith(GZIP) else source, copy, COPIED)",
                                             "copy.write((gzip.open(source) if first.startswith(GZIP) else source).read(COPIED))"),
-    "blocks by how they are written": Mistake(check_ways, "lib/traces.py", "Counter(int(line) for", "Counter(line for"),
+    "blocks by how they are written": Mistake(check_ways, "lib/traces.py", "(int(line) for line", "(line for line"),
     "a misses column of hits": Mistake(check_best, "lib/tables.py", "it.rows[policy, capacity].misses", "it.rows[policy, capacity].hits"),
     "a report of the program that is missing": Mistake(check_lost_row, "lib/reports.py", "if [row[:2] for row in rows] !=",
                                                        "if [] and [row[:2] for row in rows] !="),
