@@ -10,7 +10,7 @@
 
 mod compared_run;
 mod feed;
-mod footprint;
+mod footprints;
 mod job_run;
 mod job_runs;
 mod jobs;
@@ -18,6 +18,6 @@ mod pair;
 mod pairs;
 mod part_run;
 
-pub use footprint::footprint;
+pub use footprints::footprint;
 pub use jobs::{intervals, reports};
 pub use pairs::{compare, compare_intervals, part};

@@ -1,6 +1,6 @@
 use Rattle.std.proofs.Common.{[]}
 use Rattle.trace_read.specs.TraceText.{keys_of_file}
-use Rattle.long_traces.proofs.footprint.footprint.Given as goal
+use Rattle.long_traces.proofs.footprints.footprint.Given as goal
 
 abbrev pub ghosts-read_taken : goal.ghosts-read_taken
 ghosts-read_taken g a = record {

@@ -3,7 +3,7 @@ use Rattle.trace_footprint.specs.Counter.{HasCounted}
 use Rattle.trace_footprint.specs.Footprint.{footprint_of}
 use Rattle.long_traces.proofs.Runs.{from-known}
 use Rattle.long_traces.specs.Footprint.{HasCountedFirst}
-use Rattle.long_traces.proofs.footprint.footprint.Goals as goal
+use Rattle.long_traces.proofs.footprints.footprint.Goals as goal
 
 pub returns-clause-footprint : goal.returns-clause-footprint
 returns-clause-footprint g c =
