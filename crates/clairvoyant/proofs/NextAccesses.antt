@@ -5,27 +5,16 @@ use Rattle.std.proofs.lemmas.Bool.{cases_eq, cases_lt}
 use Rattle.std.proofs.lemmas.Bool.Decides.{nat_tests}
 use Rattle.named_queues.specs.NamedQueue.{numbered_key}
 use Rattle.named_queues.specs.declared.named_queue.QueueKey.{QueueKey}
-use Rattle.trace_index.specs.Uses.{next_from, next_place_in, number_of}
+use Rattle.trace_index.specs.Uses.{next_from, next_place_in}
 use Rattle.clairvoyant.specs.Keys.{IsBelowAll, IsAscendingKeys}
 use Rattle.clairvoyant.specs.NextAccesses.{renumbered, with_next}
 
 -- ---- one place further back
 
-drop-all : (t : List ℕ) → drop (length t) t ≡ []
-drop-all [] = refl
-drop-all (a ∷ t) = drop-all t
-
 drop-one : (t : List ℕ) (p : ℕ) → p < length t → drop p t ≡ slice_index t p ∷ drop (suc p) t
 drop-one [] p h = absurd (omega (arith, h))
 drop-one (a ∷ t) zero h = refl
 drop-one (a ∷ t) (suc p) h = drop-one t p (omega (arith, h))
-
--- at the end of the trace no key comes again
-pub at-end : (t keys : List ℕ) → map (λ k. numbered_key k 0) keys ≡ map (with_next t (length t)) keys
-at-end t [] = refl
-at-end t (k ∷ keys) =
-    let none : with_next t (length t) k ≡ numbered_key k 0 = ap (λ l. numbered_key k (number_of (next_place_in (length t) k l))) (drop-all t) in
-    rw none (ap (λ l. numbered_key k 0 ∷ l) (at-end t keys))
 
 one-back : (t : List ℕ) (p k : ℕ) → p < length t
     → (if k == slice_index t p then numbered_key (slice_index t p) (suc p) else with_next t (suc p) k) ≡ with_next t p k

@@ -5,7 +5,7 @@ use Rattle.std.proofs.lemmas.List.{append_assoc, length-take-le, take-append-dro
 use Rattle.std.proofs.Math.Seq.{take-append_seam, drop-append_seam}
 use Rattle.segments.specs.declared.records.Queue.{Queue}
 use Rattle.segments.specs.declared.records.Queue.TheVariants.{Window, Probation, Protected}
-use Rattle.segments.specs.Items.{Item, occurrences, items_without, oldest_of, last_item, IsGap}
+use Rattle.segments.specs.Items.{Item, occurrences, items_without, oldest_of, last_item}
 use Rattle.segments.specs.Queues.{Queues, queue_of, with_queue, IsDistinct, queues_after_push, queues_after_pop, queues_after_move, queues_without}
 use Rattle.segments.specs.Moves.{MoveRecord, queues_before_move}
 use Rattle.segments.specs.Runs.{newest_items, items_before_newest, with_both, queues_after_run, queues_before_run}
@@ -155,12 +155,6 @@ run-goes-on n (Some r) p q s t u apart d e item lists none = lists ∙ run-moves
 
 -- ---- back
 
-pub back-none : (p q : Queue) (s : Queues) → queues_before_run 0 p q s ≡ s
-back-none p q s =
-    ap (λ x. with_both p (x ++ queue_of p s) q (items_before_newest 0 (queue_of q s)) s) (drop_all (length (queue_of q s) - 0) (queue_of q s) (omega arith))
-    ∙ ap (λ x. with_both p (queue_of p s) q x s) (take_all (length (queue_of q s) - 0) (queue_of q s) (omega arith))
-    ∙ both-same p q s
-
 pub back-next : (n : ℕ) (p q : Queue) (s : Queues) → p ≢ q → queues_before_run 1 p q (queues_before_run n p q s) ≡ queues_before_run (n + 1) p q s
 back-next n p q s apart =
     let t : Queues = queues_before_run n p q s in
@@ -238,7 +232,3 @@ back-stays n p q s t apart e none =
     ∙ sym (ap (λ x. with_both p (newest_items 1 x ++ queue_of p t) q (items_before_newest 1 x) t) l ∙ ap (λ x. with_both p (queue_of p t) q x t) (sym l))
     ∙ ap (queues_before_run 1 p q) e
     ∙ back-next n p q s apart
-
--- an item may go back to the old end of any queue
-pub old-end : (l : List Item) → IsGap None l
-old-end l = record { before = []; behind = l; whole = refl; older_last = refl }
