@@ -1,3 +1,4 @@
+use Rattle.std.proofs.Common.{◌∙◌, sym}
 use Rattle.admission.proofs.Weighing.{weight_falls}
 use Rattle.adaptive_window.proofs.Fitting.{act-is, recorded-is, still-running}
 use Rattle.adaptive_window.proofs.adaptive_cache.AdaptiveCacheEngine.apply.Goals as goal
@@ -23,3 +24,6 @@ returns-clause-words c = weight_falls c.record.new.self c.in-Ok.counting c.in-Ok
 pub invariant_of-self-2 : goal.invariant_of-self-2
 invariant_of-self-2 c =
     still-running c.args.step.now c.access-done.result.outcome c.self.inside.frequency c.record.new.self c.self.inside.stats c.count.new.self c.self.invariant c.in_ok-make_room.ensures.below c.in-Ok.ensures.after c.count.ensures
+
+pub returns-clause-not_now : goal.returns-clause-not_now
+returns-clause-not_now c = (λ e. absurd (cc e), λ none. absurd (cc (sym none ∙ returns-clause-accepted c)))
