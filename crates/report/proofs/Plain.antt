@@ -78,13 +78,20 @@ size_plain : (name : List ℕ) (size : Option ℕ) → IsPlain name → IsShort 
 size_plain name None h few = refl
 size_plain name (Some n) h few = append_plain name (decimal n) h (decimal_plain n (omega (arith, few)))
 
+size_first : (name : List ℕ) (size : Option ℕ) (rest : List ℕ) → IsPlain name → IsShort size → IsPlain rest → IsPlain (size_text name size ++ rest)
+size_first name size rest h few k = append_plain (size_text name size) rest (size_plain name size h few) k
+
 sizes_plain : (s : Sizes) → AreShort s → IsPlain (sizes_text s)
 sizes_plain s few =
-    let small = size_plain (codes ":small=") s.small refl few.small in
-    let kout = append_plain _ _ (size_plain (codes ":out=") s.kout refl few.kout) small in
-    let kin = append_plain _ _ (size_plain (codes ":in=") s.kin refl few.kin) kout in
-    let period = append_plain _ _ (size_plain (codes ":period=") s.period refl few.period) kin in
-    append_plain _ _ (size_plain (codes ":main=") s.main refl few.main) period
+    let small = size_text (codes ":small=") s.small in
+    let kout = size_text (codes ":out=") s.kout ++ small in
+    let kin = size_text (codes ":in=") s.kin ++ kout in
+    let period = size_text (codes ":period=") s.period ++ kin in
+    size_first (codes ":main=") s.main period refl few.main
+    (size_first (codes ":period=") s.period kin refl few.period
+    (size_first (codes ":in=") s.kin kout refl few.kin
+    (size_first (codes ":out=") s.kout small refl few.kout
+    (size_plain (codes ":small=") s.small refl few.small))))
 
 name_plain : (p : Policy) (s : Sizes) → AreShort s → IsPlain (name_of p s)
 name_plain p s few = append_plain (word_of p) (sizes_text s) (word_plain p) (sizes_plain s few)

@@ -6,6 +6,7 @@ ghost use Rattle.policies.specs.Reports.{rate_of};
 ghost use Rattle.report.specs.RowWriter.{HasWritten};
 ghost use Rattle.report.specs.ShortSizes.{AreShort};
 ghost use Rattle.report.specs.Text.{line_text, rate_text_of, reports_text, row_fields};
+ghost use Rattle.step_record.specs.Job.{name_of};
 ghost use Rattle.streams.specs.Part.{AppendsPart};
 ghost use Rattle.streams.specs.Tally.{FailsWhere};
 
@@ -13,7 +14,7 @@ use super::{Report, WriteFault};
 use csv::{ByteRecord, Writer, WriterBuilder};
 use itoa::Buffer;
 use std::alloc::{AllocError, Global};
-use step_record::push_name;
+use step_record::{Policy, Sizes, push_name};
 use streams::CountedWrite;
 
 /// Writes the text of the reports, and flushes. The writes and flushes of one call share its interruptions, of which
@@ -97,9 +98,7 @@ fn push_fields(
     ensures rate { OnOk result (rate_of report.now < 2 ^ 128) }
     ensures sizes { OnOk result (AreShort report.now.sizes) }
 {
-    let sizes = report.sizes;
-    let mut name = Vec::new(alloc);
-    push_name(&mut name, report.policy, &sizes)?;
+    let name = policy_name(alloc, report.policy, report.sizes)?;
     row.push_field(name.as_slice())?;
     let mut digits = Buffer::new();
     for number in numbers {
@@ -107,6 +106,16 @@ fn push_fields(
     }
     let rate = rate_text(alloc, report.rate())?;
     row.push_field(rate.as_bytes())
+}
+
+// What a policy with these sizes is called.
+fn policy_name(alloc: Global, policy: Policy, sizes: Sizes) -> Result<Vec<u8>, AllocError>
+    ensures name { IfOk result (λ name. name.items ≡ name_of policy sizes) }
+    ensures sizes { AreShort sizes }
+{
+    let mut name = Vec::new(alloc);
+    push_name(&mut name, policy, &sizes)?;
+    Ok(name)
 }
 
 // The rate in percent, with two decimals.
