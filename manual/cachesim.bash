@@ -115,7 +115,18 @@ _cachesim_words() {
     'cachesim-survey:--spread') echo 'mixed plain' ;;
     'cachesim-survey:--table') echo 'traces policies misses halves windows parts requests jumps reach powers' ;;
     'cachesim-survey:--program') echo '<FILE>' ;;
-    'cachesim-survey:'*) echo '<FILE> -h --help --policy --capacity --percent --reach --plot --after --sampled --accesses --own --jump --format --long --halves --main --spread --table --csv --program' ;;
+    'cachesim-survey:'*) echo '<FILE> -h --help --policy --capacity --percent --reach --plot --html --after --sampled --accesses --own --jump --format --long --halves --main --spread --table --csv --program' ;;
+    'cachesim-watch:--capacity') echo '' ;;
+    'cachesim-watch:--first') echo 'lru slru tinylfu-lru tinylfu-slru wtinylfu clairvoyant fifo clock sieve s3-fifo 2q arc caffeine car' ;;
+    'cachesim-watch:--second') echo 'lru slru tinylfu-lru tinylfu-slru wtinylfu clairvoyant fifo clock sieve s3-fifo 2q arc caffeine car' ;;
+    'cachesim-watch:--journal') echo '<FILE>' ;;
+    'cachesim-watch:--format') echo 'lirs arc' ;;
+    'cachesim-watch:--main') echo '' ;;
+    'cachesim-watch:--spread') echo 'mixed plain' ;;
+    'cachesim-watch:--stripes') echo '' ;;
+    'cachesim-watch:--limit') echo '' ;;
+    'cachesim-watch:--program') echo '<FILE>' ;;
+    'cachesim-watch:'*) echo '<FILE> -h --help --capacity --first --second --journal --format --main --spread --stripes --limit --open --program' ;;
     'cachesim-plot:--after') echo '' ;;
     'cachesim-plot:--sampled') echo '' ;;
     'cachesim-plot:--accesses') echo '' ;;
@@ -177,4 +188,4 @@ _cachesim() {
         mapfile -t -O "${#COMPREPLY[@]}" COMPREPLY < <(compgen -f -- "$word")
     fi
 }
-complete -F _cachesim cachesim cachesim-survey cachesim-plot cachesim-corpus cachesim-sample cachesim-convert cachesim-journal
+complete -F _cachesim cachesim cachesim-survey cachesim-watch cachesim-plot cachesim-corpus cachesim-sample cachesim-convert cachesim-journal
