@@ -1,5 +1,5 @@
 -- The words of a command that are no numbers.
-use Rattle.std.specs.Prelude.{ℕ, List, Option, codes}
+use Rattle.std.specs.Prelude.{ℕ, List, [], ◌∷◌, Option, codes}
 pub use Rattle.debug_commands.specs.declared.grammar.Name.{Name}
 use Rattle.debug_commands.specs.declared.grammar.Name.TheVariants.{Step, Back, Goto, Run, Break, Clear, Show}
 use Rattle.debug_commands.specs.declared.grammar.Name.TheVariants.{Window, Queues, Last, Estimate, Part, Save}
@@ -26,6 +26,12 @@ command_spelling Hit = codes "hit"
 command_spelling Evict = codes "evict"
 command_spelling Halve = codes "halve"
 command_spelling Drop = codes "drop"
+
+-- all of them: the code's list is this one
+abbrev pub command_names : List Name
+command_names =
+    Step ∷ Back ∷ Goto ∷ Run ∷ Break ∷ Clear ∷ Show ∷ Window ∷ Queues ∷ Last ∷ Estimate ∷ Part ∷ Save ∷ Quit ∷ Hit ∷ Evict
+    ∷ Halve ∷ Drop ∷ []
 
 -- the name that is spelled so
 unfoldable pub name_of : List ℕ → Option Name

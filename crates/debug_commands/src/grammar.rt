@@ -2,8 +2,9 @@
 ghost use Rattle.std.specs.Prelude.{◌≡◌, ℕ, List, [], ◌∷◌, MatchOption};
 ghost use Rattle.std.specs.Option.{option_map_or};
 ghost use Rattle.debug_commands.specs.Commands.{command_line_of, command_name_at, command_named, number_at, point_at, view_named};
-ghost use Rattle.debug_commands.specs.Names.{command_spelling};
+ghost use Rattle.debug_commands.specs.Names.{command_names, command_spelling};
 ghost use Rattle.debug_commands.specs.Words.{words_in};
+ghost use Rattle.debug_commands.specs.declared.grammar.TheConstants.{NAMES};
 ghost use Rattle.streams.specs.Reads.{first_named, with_rest};
 
 use crate::breakpoint::Breakpoint;
@@ -212,6 +213,11 @@ const NAMES: [Name; 18] = [
     Name::Halve,
     Name::Drop,
 ];
+
+// The list by its value: with another one this is not proved.
+fn names()
+    ensures { NAMES ≡ command_names }
+{}
 
 // The first of the names that is spelled so.
 fn first_named(names: &[Name], word: &[u8]) -> Option<Name>
