@@ -14,7 +14,8 @@ use Rattle.trace_read.specs.declared.format.Format.{Format}
 use Rattle.policies.specs.AnyPolicy.{outcomes_on}
 use Rattle.policies.specs.Reports.{report_on}
 use Rattle.sweeps.specs.Intervals.{Interval, intervals_on}
-use Rattle.trace_footprint.specs.Footprint.{Footprint, footprint_of}
+use Rattle.trace_footprint.specs.Footprint.{footprint_of}
+use Rattle.trace_footprint.specs.declared.footprint.Footprint.{Footprint}
 use Rattle.report.specs.IntervalText.{intervals_text}
 use Rattle.report.specs.Text.{Report, reports_text}
 use Rattle.policy_comparison.specs.ComparedIntervals.{compared_intervals_on, compared_intervals_text}

@@ -1,6 +1,7 @@
 -- What a counter has of a trace whose accesses come in pieces.
 use Rattle.std.specs.Prelude.{ℕ, List, take}
-use Rattle.trace_footprint.specs.Counter.{FootprintCounter, HasCounted}
+use Rattle.trace_footprint.specs.Counter.{HasCounted}
+use Rattle.trace_footprint.specs.declared.counter.FootprintCounter.{FootprintCounter}
 use Rattle.long_traces.specs.Taking.{Task}
 
 -- it has counted the first n accesses, whatever for
