@@ -1,4 +1,4 @@
-use Rattle.std.proofs.Common.{◌≡◌, ◌+◌, ◌++◌, ◌∙◌, ap, arith, length, length-take, List, ℕ, OnOk, subst, sym, take}
+use Rattle.std.proofs.Common.{◌≡◌, ◌++◌, ◌∙◌, ap, arith, length, length-take, List, ℕ, OnOk, subst, sym, take}
 use Rattle.std.proofs.Math.Seq.{take-add}
 use Rattle.trace_footprint.specs.Counter.{HasCounted}
 use Rattle.long_traces.proofs.footprints.FootprintCounterTaker.take.Goals as goal
