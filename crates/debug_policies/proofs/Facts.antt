@@ -1,6 +1,7 @@
 -- What two policies show together.
-use Rattle.std.proofs.Common.{◌≡◌, ◌≢◌, ◌∙◌, ◌<◌, ◌+◌, ℕ, zero, suc, Bool, true, false, Option, Some, None, Result, Ok, Err, List, [], ◌∷◌, ◌++◌, length, get_or, refl, ap, sym, subst, arith}
-use Rattle.std.specs.Prelude.{is_err, OnOk, OnErr, IfSome, IfErr}
+use Rattle.std.proofs.Common.{◌≡◌, ◌≢◌, ◌∙◌, ◌<◌, ◌+◌, ℕ, zero, suc, Bool, true, false, Option, Some, None, Result, Ok, Err, List, [], ◌∷◌, ◌++◌, ◌≤◌, eqb, length, get_or, refl, ap, sym, subst, arith}
+use Rattle.std.specs.Prelude.{codes, if◌then◌else◌, is_err, is_ok, OnOk, OnErr, IfSome, IfErr}
+use Rattle.std.proofs.lemmas.Bool.{ne_eqb}
 use Rattle.streams.specs.Part.{AppendsPart}
 use Rattle.engine_base.specs.declared.outcome.Outcome.TheVariants.{Kept}
 use Rattle.engine_base.specs.Stats.{is_hit}
@@ -11,7 +12,7 @@ use Rattle.policies.specs.FaultyJobs.{Job, ConfigFault, config_or}
 use Rattle.debug_policies.specs.ConfigFault.{DebugFault, ReturnsConfig, UntouchedAtConfig}
 use Rattle.debug_policies.specs.OnePolicy.{Outcome, OnePolicyState}
 use Rattle.policy_comparison.specs.Part.{IsPart}
-use Rattle.debug_policies.specs.TwoPolicies.{first_parting, just_one, IsPartWalk}
+use Rattle.debug_policies.specs.TwoPolicies.{access_line, first_parting, just_one, last_lines, outcome_lines, IsPartWalk}
 use Rattle.debug_commands.proofs.Results.{at_success}
 use Rattle.policy_comparison.proofs.Texts.{piece}
 
@@ -26,6 +27,23 @@ both_added r f g one other before mid last is first second =
     let there : g other.job other.trace other.at ≡ b = ap (λ x. g other.job x other.at) is.trace ∙ ap (g other.job one.trace) is.together in
     at_success r (last ≡ mid ++ g other.job other.trace other.at) (last ≡ before ++ (a ++ b))
     (λ k. piece before mid last a b first (k ∙ ap (λ x. mid ++ x) there)) second
+
+-- ---- the access that led to a position
+
+pub last_is_none : {E : Type 0} (r : Result (Unit {0}) E) (trace : List ℕ) (first second : Job) (n : ℕ) (text last : List ℕ) → n ≡ 0
+    → last ≡ (if is_ok r then text ++ codes "access none\n" else text) → OnOk r (last ≡ text ++ last_lines trace first second n)
+last_is_none (Err e) trace first second n text last none h = tt
+last_is_none (Ok u) trace first second zero text last none h = h
+last_is_none (Ok u) trace first second (suc m) text last none h = absurd (omega (arith, none))
+
+pub last_is_made : {E : Type 0} (r : Result (Unit {0}) E) (trace : List ℕ) (first second : Job) (n : ℕ) (text mid last : List ℕ) → 1 ≤ n
+    → mid ≡ text ++ access_line trace n → OnOk r (last ≡ mid ++ outcome_lines trace first second n)
+    → OnOk r (last ≡ text ++ last_lines trace first second n)
+last_is_made (Err e) trace first second n text mid last made front back = tt
+last_is_made (Ok u) trace first second n text mid last made front back =
+    let some : eqb n 0 ≡ false = ne_eqb n 0 (λ none. omega (arith, made, none)) in
+    subst (λ b. last ≡ text ++ (if b then codes "access none\n" else access_line trace n ++ outcome_lines trace first second n)) (sym some)
+    (piece text mid last (access_line trace n) (outcome_lines trace first second n) front back)
 
 -- ---- where they part
 

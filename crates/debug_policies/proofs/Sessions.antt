@@ -143,5 +143,7 @@ pub kept_reply : AnyStepLaw → AnyAnswers → (j : Job) (trace : List ℕ) (s :
     → (i : ℕ) (e : Entry ℕ Outcome) → slice_get s.kept i ≡ Some e → e.reply ≡ outcome_at j trace (suc i)
 kept_reply law answers j trace s is legal i e at =
     let n : ℕ = length s.kept in
+    let none : 0 + i ≡ i = omega arith in
     replies law answers j trace [] (drop n trace) s.opening s.kept i e is.opening legal
     (sym (ap (λ l. l ++ drop n trace) is.steps ∙ take-append-drop n trace)) at
+    ∙ ap (λ k. slice_index_or (outcomes_on j trace) k Kept) none

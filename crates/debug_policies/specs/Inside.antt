@@ -1,6 +1,6 @@
 -- The queues of a policy over a trace once the first accesses are made, the outcome of the last of these, and what the
 -- policy's admission filter takes as a key's frequency: by the policy's definition.
-use Rattle.std.specs.Prelude.{ℕ, Option, Some, None, option_map, List, ◌∷◌, [], ◌++◌, codes, take}
+use Rattle.std.specs.Prelude.{ℕ, Option, Some, None, option_map, List, [], ◌++◌, codes, take}
 use Rattle.std.specs.List.{flat_map}
 use Rattle.admission.specs.Frequency.{estimate}
 use Rattle.sketch.specs.Sketch.{least_counter}

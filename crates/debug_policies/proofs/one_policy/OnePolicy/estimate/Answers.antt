@@ -1,6 +1,6 @@
 use Rattle.std.proofs.Common.{◌∙◌, ap, List, ℕ, take, length}
 use Rattle.policies.specs.AnyPolicy.{estimate_in}
-use Rattle.debug_policies.specs.OnePolicy.{AnyPolicy, Job, OnePolicyState}
+use Rattle.debug_policies.specs.OnePolicy.{Job, OnePolicyState}
 use Rattle.debug_policies.specs.Inside.{estimate_at}
 use Rattle.debug_policies.proofs.Shown.{shown_estimate}
 use Rattle.debug_policies.proofs.one_policy.OnePolicy.estimate.Goals as goal

@@ -1,10 +1,21 @@
-use Rattle.std.proofs.Common.{◌≡◌, ◌∙◌, ◌+◌, ◌-◌, ◌≤◌, ap, sym, subst, List, ℕ, suc, length, arith}
+use Rattle.std.proofs.Common.{◌≡◌, ◌∙◌, ◌-◌, ◌<◌, ◌≤◌, ◌⊎◌, inl, inr, ap, sym, subst, List, ℕ, suc, length, arith}
 use Rattle.debug_policies.specs.OnePolicy.{Job, OnePolicyState, outcome_at}
 use Rattle.debug_policies.proofs.Sessions.{kept_reply}
 use Rattle.debug_policies.proofs.one_policy.OnePolicy.last_outcome.Goals as goal
 
-pub returns-in-Some : goal.returns-in-Some
-returns-in-Some c =
+-- the last of those that are made is there
+not-missing : (n k : ℕ) → n ≡ k → 1 ≤ k → (n ≡ 0) ⊎ (k < n) → ⊥
+not-missing n k same made (inl none) = omega (arith, same, made, none)
+not-missing n k same made (inr past) = omega (arith, same, made, past)
+
+pub unreachable-requires : goal.unreachable-requires
+unreachable-requires c =
+    let s = c.self.inside.session in
+    let made : 1 ≤ length s.kept = subst (λ (w : OnePolicyState). 1 ≤ w.at) (sym c.self.view_is) c.requires in
+    not-missing c.len.result (length s.kept) c.len.ensures.len made c.in-None.ensures
+
+pub returns : goal.returns
+returns c =
     let trace : List ℕ = c.self.inside.trace.now in
     let j : Job = c.self.inside.job in
     let s = c.self.inside.session in
