@@ -2,6 +2,8 @@
 use Rattle.std.proofs.Common.{◌≡◌, ◌<◌, ◌+◌, ℕ, zero, suc, refl, arith, Result, Ok, Err, List, [], ◌∷◌, ◌++◌, length, take, map, slice_index_or, Option, Some, None, ap}
 use Rattle.std.specs.Prelude.{IfOk, option_map}
 use Rattle.std.specs.Borrow.{Bor}
+use Rattle.std.specs.List.{All}
+use Rattle.std.proofs.lemmas.List.Elements.{All-weaker}
 use Rattle.clap.specs.Words.{Text}
 use Rattle.command_line.specs.Choices.{all_named, and_more}
 use Rattle.command_line.specs.Values.{ValueFault, Answers, AnswersWith}
@@ -42,3 +44,8 @@ pub answered : {A : Type 0} (asked : Option A) (P : A → Type 0) (r : Result A 
 answered asked P (Ok x) a h = (a.0, h)
 answered asked P (Err Incomplete) a h = a
 answered asked P (Err OutOfMemory) a h = tt
+
+-- what holds of each thing of a list holds where more does
+pub each : {A : Type 0} (P Q : A → Type 0) → ((x : A) → P x → Q x) → (r : Result (List A) ValueFault) → IfOk r (All P) → IfOk r (All Q)
+each P Q f (Ok xs) h = All-weaker P Q f xs h
+each P Q f (Err e) h = tt

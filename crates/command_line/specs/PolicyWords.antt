@@ -1,5 +1,5 @@
 -- A policy's word with sizes of its own: `2q:in=50:out=100`.
-use Rattle.std.specs.Prelude.{◌≡◌, ◌≤◌, ◌==◌, ℕ, Bool, List, [], ◌∷◌, Option, Some, None, IfSome, find}
+use Rattle.std.specs.Prelude.{◌≤◌, ◌==◌, ℕ, List, [], ◌∷◌, Option, Some, None, IfSome, find}
 use Rattle.std.specs.Prelude.{if◌then◌else◌, is_none, option_and_then, option_map}
 use Rattle.std.specs.List.{after_first, before_first, slice_split}
 use Rattle.std.specs.Str.{bytes_eq}

@@ -1,5 +1,5 @@
 //! The values that the matches of a subcommand have for an option.
-ghost use Rattle.std.specs.Prelude.{◌≡◌, ◌≤◌, IfOk, IfSome, map, option_and_then, option_map, true};
+ghost use Rattle.std.specs.Prelude.{◌≡◌, ◌≤◌, IfOk, IfSome, Some, map, option_and_then, option_map, true};
 ghost use Rattle.std.specs.List.{All, AllPass};
 ghost use Rattle.clap.specs.Words.{all_of, first_of};
 ghost use Rattle.engine_base.specs.Config.{is_from_one};
@@ -7,6 +7,7 @@ ghost use Rattle.engine_base.specs.declared.limits.TheConstants.{MAX_CAPACITY};
 ghost use Rattle.command_line.specs.Accepted.{IsAcceptedJob, IsConfig, IsTuning};
 ghost use Rattle.command_line.specs.Choices.{all_named};
 ghost use Rattle.command_line.specs.Options.{row_of};
+ghost use Rattle.command_line.specs.PolicyWords.{job_named as job_by};
 ghost use Rattle.command_line.specs.Values.{Answers, AnswersWith, IsIn, capacities_in, format_in, in_range as within};
 ghost use Rattle.command_line.specs.Values.{limits_in, number_in};
 ghost use Rattle.command_line.specs.Values.{number_named as number_by, job_in, job_list_in, rate_in, spread_in};
@@ -158,8 +159,7 @@ impl<'m, 'a> Matches<'m, 'a> {
         requires { F.IsAlwaysCallable name }
         ensures named { (by : _) → ((word : _) (thing : _) → F.post name word thing → thing ≡ by word.now)
             → AnswersWith (option_and_then (all_named by) (all_of (row_of option).id self.now)) result }
-        ensures all { (P : _ → Type 0) → ((word : _) (thing : _) → F.post name word thing → IfSome thing P)
-            → IfOk result (All P) }
+        ensures each { IfOk result (All (λ thing. (word : _) × F.post name word (Some thing))) }
     {
         let Some(words) = self.words(option) else {
             return Err(ValueFault::Incomplete);

@@ -1,8 +1,18 @@
+use Rattle.std.proofs.Common.{◌≡◌, Some}
+use Rattle.std.specs.Borrow.{Bor}
+use Rattle.clap.specs.Words.{Text}
+use Rattle.command_line.specs.Accepted.{Config, IsAcceptedJob, IsConfig, IsTuning, Job, Tuning}
 use Rattle.command_line.specs.PolicyWords.{job_named}
-use Rattle.command_line.proofs.Naming.{answered}
+use Rattle.command_line.proofs.Naming.{answered, each}
 use Rattle.command_line.proofs.values.Matches.jobs.Goals as goal
+
+accepted : (config : Config) (tuning : Tuning) → IsConfig config → IsTuning tuning → (job : Job)
+    → (word : Bor Text) × ((Some job ≡ job_named config tuning word.now) × (IsConfig config → IsTuning tuning → IsAcceptedJob job)) → IsAcceptedJob job
+accepted config tuning is are job given = given.1.1 is are
 
 pub returns : goal.returns
 returns c =
-    answered _ _ c.named.result (c.named.ensures.named (job_named c.args.config.now c.args.tuning.now) (λ word thing h. h.0))
-    (c.named.ensures.all _ (λ word thing h. h.1 c.requires.config c.requires.tuning))
+    let config = c.args.config.now in
+    let tuning = c.args.tuning.now in
+    answered _ _ c.named.result (c.named.ensures.named (job_named config tuning) (λ word thing h. h.0))
+    (each _ IsAcceptedJob (accepted config tuning c.requires.config c.requires.tuning) c.named.result c.named.ensures.each)

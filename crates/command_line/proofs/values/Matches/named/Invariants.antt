@@ -1,6 +1,5 @@
 use Rattle.std.proofs.Common.{◌≡◌, map, take, Some}
 use Rattle.std.specs.List.{All}
-use Rattle.std.specs.Prelude.{IfSome}
 use Rattle.command_line.specs.Choices.{all_named}
 use Rattle.command_line.proofs.values.Matches.named.Given as goal
 
@@ -8,4 +7,4 @@ abbrev pub invariant-loop-word : goal.invariant-loop-word
 invariant-loop-word g l = goal.F-IsAlwaysCallable g l.name
     × ((by : _) → ((word : _) (thing : _) → goal.F-post g l.name word thing → thing ≡ by word.now)
     → all_named by (map (λ s. s.now) (take l.word-index l.words)) ≡ Some l.named.items)
-    × ((P : _ → Type 0) → ((word : _) (thing : _) → goal.F-post g l.name word thing → IfSome thing P) → All P l.named.items)
+    × All (λ thing. (word : _) × goal.F-post g l.name word (Some thing)) l.named.items
