@@ -12,8 +12,7 @@ went (Err e) none h = absurd (true≢false none)
 pub returns-else-is_err : goal.returns-else-is_err
 returns-else-is_err c = elim c.match-self.branch [
   | in-Cache w ↦ λ j trace done s.
-      let made = w.access_all-taken.ensures j trace done (subst (HasTaken j trace done) w.in-Cache.is s) in
-      subst (HasTaken j trace (done ++ c.args.keys.now)) (sym w.self-is)
-      (went w.access_all-taken.result (ap is_err (sym w.taken-is) ∙ sym c.if-is_err.ensures.value) made)
+      let made = went w.access_all-taken.result (ap is_err (sym w.taken-is) ∙ sym c.if-is_err.ensures.value) w.access_all-taken.ensures.all in
+      subst (HasTaken j trace (done ++ c.args.keys.now)) (sym w.self-is) (made j trace done (subst (HasTaken j trace done) w.in-Cache.is s))
   | in-NextUses w ↦ λ j trace done s. search rules
 ]
