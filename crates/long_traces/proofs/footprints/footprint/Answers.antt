@@ -11,4 +11,4 @@ returns-clause-footprint g c =
     (λ all. c.footprint-footprint.result ≡ footprint_of all) c.args.format (g.R.CountedRead.remaining c.args.reader.now)
     c.in_ok-counter.ensures.taken
     (λ all has. c.footprint-footprint.ensures all
-        (subst (λ (keys : List ℕ). HasCounted keys c.in_ok-counter.counter) (take_all (length all) all (omega arith)) has))
+    (subst (λ (keys : List ℕ). HasCounted keys c.in_ok-counter.counter) (take_all (length all) all (omega arith)) has))
