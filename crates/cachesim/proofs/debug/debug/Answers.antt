@@ -1,4 +1,4 @@
-use Rattle.std.proofs.Common.{◌≡◌, ap, refl, subst, false, rules, ℕ, List, Option, None, Err}
+use Rattle.std.proofs.Common.{◌≡◌, ap, refl, subst, true, false, rules, ℕ, List, Option, None, Err}
 use Rattle.std.proofs.lemmas.Option.{IfSome_then}
 use Rattle.std.specs.Prelude.{IfSome}
 use Rattle.trace_read.specs.TraceText.{fault_in, keys_in}
@@ -17,6 +17,26 @@ debugging : (P : TimelineData → ℕ → Type 0) (asked : PartArguments) (file 
 debugging P asked file text keys has sound are holds =
     IfSome_then file has (λ bytes is. subst (λ (xs : List ℕ). (fault_in asked.format xs ≡ None) × P (policies_timeline (keys_in asked.format xs) asked.first asked.second) 0) is
     (sound, subst (λ (ks : List ℕ). P (policies_timeline ks asked.first asked.second) 0) are holds))
+
+pub returns : goal.returns
+returns g c =
+    let asked = c.args.arguments.now.policies in
+    let known = g.F.Files.known c.args.files.now in
+    let file = known c.args.arguments.now.trace in
+    let input = g.R.CountedRead.remaining c.args.input.now in
+    let before = g.W.CountedWrite.contents c.args.out.now in
+    let after = g.W.CountedWrite.contents c.run_debug.new.out in
+    let text = c.as_slice.result.now in
+    let read = c.in_ok-trace.ensures.ok in
+    let has = known_text known c.as_str.result.now c.args.arguments.now.trace c.in_ok-bytes.bytes.items text c.as_str.ensures c.in_ok-bytes.ensures.bytes c.as_slice.ensures.value in
+    record {
+      done = debugging (Answering true input before after) asked file text _ has read.1 read.2 c.in_ok-run_debug.ensures.done;
+      leaves = tt;
+      fault = tt;
+      reads = search rules;
+      writes = search rules;
+      flushed = search rules;
+    }
 
 pub returns-in_err-run_debug : goal.returns-in_err-run_debug
 returns-in_err-run_debug g c =
