@@ -73,11 +73,21 @@ class Check:
         self.expect(name, *words, status=1, error=f"{line}\n", **how)
 
     def expect_usage_error(self, name, *words, error=None):
-        """Status 2, no output, and a text on standard error that is there to its end; or this text, whole."""
+        """Status 2, no output, and a text on standard error that is there to its end, or that of a word which names no
+        policy; or this text, whole."""
         found = self.call(*words, stdin=self.trace)
-        if error is None and re.fullmatch(rb"error: .+\n\nFor more information, try '--help'\.\n", found.error, re.DOTALL):
+        whole = re.fullmatch(rb"error: .+\n\nFor more information, try '--help'\.\n", found.error, re.DOTALL)
+        if error is None and (whole or found.error == octets(self.no_policy())):
             error = found.error
         self.compare(name, found, Ended(2, b"", octets(error or "error: ..\n\nFor more information, try '--help'.\n")))
+
+    def no_policy(self):
+        """What the program says of a word that names no policy, or has a size that the policy does not take."""
+        return f"""\
+error: a word names no policy, or a number is missing
+  [possible values: {', '.join(self.policies)}]
+  [with sizes of their own: wtinylfu:main=N, caffeine:main=N:period=N, 2q:in=P:out=P, s3-fifo:small=P]
+"""
 
     def expect_full(self, name, *words, **how):
         with open("/dev/full", "wb") as full:

@@ -80,11 +80,7 @@ error: invalid value 'csv' for '--format <FORMAT>'
 
 For more information, try '--help'.
 """)
-    check.expect_usage_error("the text of a long usage error", "run", "--capacity", 3, "zzzz-zzzz-zzzz-zzzz", error=f"""\
-error: a word names no policy, or a number is missing
-  [possible values: {', '.join(check.policies)}]
-  [with sizes of their own: wtinylfu:main=N, caffeine:main=N:period=N, 2q:in=P:out=P, s3-fifo:small=P]
-""")
+    check.expect_usage_error("the text of a long usage error", "run", "--capacity", 3, "zzzz-zzzz-zzzz-zzzz", error=check.no_policy())
     pair = "--capacity", 3, "--first"
     for call in (["run", "--capacity", 3, "clairvoyant"], ["run", "--capacity", 3, "lru", "clairvoyant", "lru"],
                  ["run", "--capacity", 3, *["clairvoyant"] * 65], ["sweep", "--policy", "lru", "--policy", "clairvoyant", 3],
