@@ -369,7 +369,7 @@ def check_faults(tools, program, folder):
                                 ((TRACE, "--capacity", "2", "--first", "lru"), 2, "--second"),
                                 (("--capacity", "2"), 2, "name a trace"),
                                 ((TRACE, "--capacity", "0", *PAIR), 2, "--capacity"),
-                                ((TRACE, "--capacity", "2", "--first", "none", "--second", "lru"), 1, "none"),
+                                ((TRACE, "--capacity", "2", "--first", "none", "--second", "lru"), 1, "names no policy"),
                                 (("--journal", bad, "--capacity", "8"), 1, "Header")):
         out, error, found = call(tools / "watch", "--program", program, *words)
         expect(f"{words}: {error}", (found, out, says in error, "Traceback" in error), (status, "", True, False))
