@@ -521,7 +521,7 @@ MISTAKES = {
     "near by half a point alone": Mistake(check_near, "lib/reductions.py", " and 20 * (misses - lowest) <= lowest", ""),
     "boxes over one another": Mistake(check_known_report, "lib/reductions.py", "percents.index(percent) * wide + at", "percents.index(percent) + at"),
     "whiskers as boxes": Mistake(check_known_report, "lib/reductions.py", "using 1:3:2:6:5 with", "using 1:2:2:6:6 with"),
-    "each box as the first": Mistake(check_known_report, "lib/reductions.py", "title {quoted(policy)}, ", "title {quoted('lru')}, "),
+    "each box as the first": Mistake(check_known_report, "lib/reductions.py", "quoted(in_legend(policy, policy))", "quoted('lru')"),
     "the points of one size": Mistake(check_known_report, "lib/reductions.py", 'f"$size{at} with points', 'f"$size0 with points'),
     "the line of the other policy": Mistake(check_known_report, "lib/reductions.py", "above the line {pair[1]} has", "above the line {pair[0]} has"),
     "two runs at once": Mistake(check_faults, "corpus", "fcntl.LOCK_EX | fcntl.LOCK_NB", "fcntl.LOCK_UN"),

@@ -218,7 +218,7 @@ def check_files(reference, folder):
     expect_parts("no file", run(reference, "run", "--own", folder / "none.py", "--capacity", 3, "lru", status=1,
                                 typed=typed)[1], "none.py is no file")
     expect_parts("a word", run(reference, "run", "--capacity", 3, "own:lru", status=2, typed=typed)[1],
-                 "invalid choice: 'own:lru'")
+                 "own:lru is no policy")
     file_of(folder, "beside.py", "from colorsys import hls_to_rgb\nprint('begun')\n")
     text = "from __future__ import annotations\nfrom dataclasses import dataclass\nimport beside\n"
     text += "@dataclass\nclass _Data:\n    of: int\n" + LRU.replace("        if", "        print(key)\n        if")
