@@ -1,5 +1,6 @@
 """A browser and a page for tests: what is waited for is a condition, never a time."""
 import re
+import signal
 import subprocess
 import sys
 from collections import namedtuple
@@ -115,8 +116,9 @@ KEYS = {"left": Keys.ARROW_LEFT, "right": Keys.ARROW_RIGHT}
 def watched(tools, program, *words):
     """The address of a page of tools/watch, and its server."""
     command = [sys.executable, "-SE", tools / "watch", "--program", program, *words]
-    with subprocess.Popen([str(it) for it in command], stdin=subprocess.DEVNULL, stdout=subprocess.PIPE,
-                          text=True) as server:
+    # What is begun in the background ignores an interrupt, and so would the server.
+    with subprocess.Popen([str(it) for it in command], stdin=subprocess.DEVNULL, stdout=subprocess.PIPE, text=True,
+                          preexec_fn=lambda: signal.signal(signal.SIGINT, signal.SIG_DFL)) as server:
         try:
             address = server.stdout.readline().strip()
             if not re.fullmatch(r"http://127\.0\.0\.1:\d+/\?token=[\w-]{32}", address):
