@@ -3,7 +3,6 @@ pub mod Words
 pub mod Commands
 pub mod Breakpoints
 pub mod Timeline
-pub mod Texts
 pub mod Answers
 pub mod AnswerText
 pub mod InputBytes

@@ -17,11 +17,11 @@ use crate::breakpoint::{Breakpoint, first_holding};
 use crate::command::{Command, InputLine};
 use crate::fault::DebugFault;
 use crate::grammar;
-use crate::text::{push_counts_line, push_pieces};
 use crate::timeline::Timeline;
 use std::alloc::{AllocError, Global};
 use streams::{
-    CountedRead, CountedWrite, RetryBudget, WriteAllFault, flush, read_some, write_some,
+    CountedRead, CountedWrite, RetryBudget, WriteAllFault, flush, push_counts_line, push_pieces,
+    read_some, write_some,
 };
 
 /// The most bytes of commands that are read, line feeds included: 2^20.

@@ -11,7 +11,6 @@ mod command;
 mod dialogue;
 mod fault;
 mod grammar;
-mod text;
 mod timeline;
 
 pub use breakpoint::{Breakpoint, StepFacts};
@@ -19,5 +18,4 @@ pub use command::{Command, Dialect, InputLine, View};
 pub use dialogue::{MAX_BREAKPOINTS, MAX_COMMAND_BYTES, answer_commands};
 pub use fault::DebugFault;
 pub use grammar::line;
-pub use text::{push_count, push_counts_line, push_numbers_line, push_pieces};
 pub use timeline::Timeline;

@@ -13,7 +13,7 @@ use Rattle.debug_policies.specs.ConfigFault.{DebugFault, ReturnsConfig, Untouche
 use Rattle.debug_policies.specs.OnePolicy.{Outcome, OnePolicyState}
 use Rattle.policy_comparison.specs.Part.{IsPart}
 use Rattle.debug_policies.specs.TwoPolicies.{access_line, first_parting, just_one, last_lines, outcome_lines, IsPartWalk}
-use Rattle.debug_commands.proofs.Results.{at_success}
+use Rattle.streams.proofs.Results.{at_success}
 use Rattle.policy_comparison.proofs.Texts.{piece}
 
 -- ---- what both add to a text

@@ -8,7 +8,7 @@ use Rattle.engine_base.specs.declared.outcome.Outcome.TheVariants.{Hit, Kept, Ev
 use Rattle.engine_base.specs.Machine.{after}
 use Rattle.clairvoyant.specs.Clairvoyant.{clairvoyant_at}
 use Rattle.clairvoyant.specs.NextAccesses.{clairvoyant_queues}
-use Rattle.debug_commands.specs.Texts.{count_text}
+use Rattle.streams.specs.Texts.{count_text}
 use Rattle.demand_cache.specs.DemandQueues.{queues_named}
 use Rattle.named_queues.specs.NamedQueue.{NamedQueueData}
 use Rattle.named_queues.specs.declared.named_queue.QueueKey.{QueueKey}

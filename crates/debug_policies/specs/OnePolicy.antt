@@ -13,7 +13,7 @@ use Rattle.admission.specs.Frequency.{FrequencyData}
 use Rattle.engine_base.specs.Machine.{after}
 use Rattle.adaptive_window.specs.Residents.{cache_residents}
 use Rattle.clairvoyant.specs.Belady.{belady_residents}
-use Rattle.debug_commands.specs.Texts.{count_text}
+use Rattle.streams.specs.Texts.{count_text}
 use Rattle.demand_cache.specs.DemandQueues.{queues_residents}
 use Rattle.journal.specs.Session.{Entry, SessionState}
 use Rattle.queue_cache.specs.QueueCache.{frequency_after}

@@ -6,7 +6,7 @@ use Rattle.engine_base.specs.Stats.{is_hit}
 use Rattle.policies.specs.AnyPolicy.{Outcome, Job, outcomes_on}
 use Rattle.debug_commands.specs.Timeline.{TimelineData}
 use Rattle.debug_commands.specs.declared.breakpoint.StepFacts.{StepFacts}
-use Rattle.debug_commands.specs.Texts.{count_text}
+use Rattle.streams.specs.Texts.{count_text}
 use Rattle.debug_commands.specs.declared.command.Dialect.TheVariants.{Policies}
 use Rattle.debug_commands.specs.declared.command.View.{View}
 use Rattle.debug_commands.specs.declared.command.View.TheVariants.{Window, Queues, Last, Estimate}

@@ -4,7 +4,7 @@ pub use Rattle.step_record.specs.declared.job.Job.{Job}
 use Rattle.engine_base.specs.Machine.{after}
 use Rattle.adaptive_window.specs.AdaptiveCache.{Config}
 use Rattle.adaptive_window.specs.AdaptiveWindow.{AdaptiveState}
-use Rattle.debug_commands.specs.Texts.{count_text}
+use Rattle.streams.specs.Texts.{count_text}
 use Rattle.policies.specs.declared.any_policy.AnyPolicy.{AnyPolicy}
 use Rattle.policies.specs.declared.any_policy.AnyPolicy.TheVariants as cache
 use Rattle.queue_cache.specs.declared.design.Layout.{Layout}

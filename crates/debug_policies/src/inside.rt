@@ -3,10 +3,10 @@ ghost use Rattle.std.specs.Prelude.{◌≡◌, ◌++◌, OnOk, codes};
 ghost use Rattle.std.specs.List.{flat_map};
 ghost use Rattle.debug_policies.specs.Inside.{estimate_text, key_text, outcome_text, queue_text};
 
-use debug_commands::{push_count, push_counts_line, push_pieces};
 use named_queues::{NamedQueue, QueueKey};
 use std::alloc::AllocError;
 use step_record::Outcome;
+use streams::{push_count, push_counts_line, push_pieces};
 
 /// Adds the end of the line of a queue: its name, and its keys. The one error is that an allocation failed.
 pub(crate) fn push_queue(text: &mut Vec<u8>, queue: &NamedQueue) -> Result<(), AllocError>

@@ -11,13 +11,13 @@ ghost use Rattle.debug_policies.specs.Window.{window_at, window_line};
 
 use crate::inside::{push_estimate, push_outcome, push_queue};
 use crate::window::{Window, push_window, window_in};
-use debug_commands::{push_counts_line, push_numbers_line, push_pieces};
 use journal::{BackFault, Session, SessionFault};
 use named_queues::NamedQueue;
 use policies::{AnyPolicy, theorems};
 use std::alloc::{AllocError, Global};
 use std::marker::Model;
 use step_record::{Job, Key, MAX_JOURNAL_LIMIT, Outcome, Stats, Trace, push_name};
+use streams::{push_counts_line, push_numbers_line, push_pieces};
 
 /// A policy over a trace, and how many of the accesses are made.
 #[derive(Drop)]

@@ -4,9 +4,9 @@ ghost use Rattle.debug_policies.specs.TwoPolicies.{access_line, outcome_lines, v
 ghost use Rattle.debug_commands.specs.declared.command.View.TheVariants as view;
 
 use crate::one_policy::OnePolicy;
-use debug_commands::push_counts_line;
 use std::alloc::{AllocError, Global};
 use step_record::Key;
+use streams::push_counts_line;
 
 /// Adds the windows.
 pub(crate) fn push_windows(

@@ -4,10 +4,10 @@ ghost use Rattle.engine_base.specs.Config.{config_fault};
 ghost use Rattle.policies.specs.Design.{design_of};
 ghost use Rattle.debug_policies.specs.Window.{fixed_window, window_in, window_text};
 
-use debug_commands::push_counts_line;
 use policies::{AnyPolicy, Design, Layout, design_of};
 use std::alloc::AllocError;
 use step_record::Job;
+use streams::push_counts_line;
 
 /// The window of a policy, where new keys go first.
 #[derive(Clone, Copy)]

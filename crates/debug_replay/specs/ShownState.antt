@@ -5,7 +5,7 @@ use Rattle.std.specs.List.{flat_map}
 use Rattle.engine_base.specs.declared.drain.Drain.TheVariants as drain
 use Rattle.engine_base.specs.declared.drain.Phase.TheVariants.{Reads, Writes, Evictions}
 use Rattle.admission.specs.Frequency.{FrequencyData}
-use Rattle.debug_commands.specs.Texts.{count_text}
+use Rattle.streams.specs.Texts.{count_text}
 use Rattle.shell_buffers.specs.Buffers.{Item, stripe_at}
 use Rattle.shell_buffers.specs.declared.task.Task.TheVariants.{Add, Update, Remove}
 use Rattle.shell_model.specs.Shell.{Task, Phase, Drain, Shell}

@@ -8,13 +8,13 @@ ghost use Rattle.debug_replay.specs.ShownState.{tasks_line};
 ghost use Rattle.segments.specs.Queues.{queue_of};
 
 use admission::Frequency;
-use debug_commands::{push_count, push_counts_line, push_pieces};
 use engine_base::{Drain, Item, Phase};
 use maintenance::Shell;
 use segments::Queue;
 use shell_buffers::Task;
 use shell_model::ShellStats;
 use std::alloc::{AllocError, Global};
+use streams::{push_count, push_counts_line, push_pieces};
 
 /// Adds the lines that show a concurrent cache. The one error is that an allocation failed.
 pub fn push_shell(alloc: Global, shell: &Shell, text: &mut Vec<u8>) -> Result<(), AllocError>

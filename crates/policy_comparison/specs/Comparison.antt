@@ -4,7 +4,7 @@ pub use Rattle.step_record.specs.declared.job.Job.{Job}
 use Rattle.step_record.specs.Job.{name_of}
 use Rattle.engine_base.specs.Stats.{is_hit, one_if}
 use Rattle.policies.specs.AnyPolicy.{Outcome, outcomes_on}
-use Rattle.debug_commands.specs.Texts.{count_text}
+use Rattle.streams.specs.Texts.{count_text}
 pub use Rattle.policy_comparison.specs.declared.comparison.Comparison.{Comparison}
 
 -- ---- the definition

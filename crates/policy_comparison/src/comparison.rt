@@ -3,9 +3,9 @@ ghost use Rattle.std.specs.Prelude.{◌≡◌, ◌++◌, OnOk};
 ghost use Rattle.engine_base.specs.declared.limits.TheConstants.{MAX_STEPS};
 ghost use Rattle.policy_comparison.specs.Comparison.{comparison_text, counts_with, IsUpTo, no_counts, pair_row};
 
-use debug_commands::{push_count, push_numbers_line};
 use std::alloc::AllocError;
 use step_record::{Job, push_name};
+use streams::{push_count, push_numbers_line};
 
 /// At how many accesses of a trace both of two policies hit, only the first, only the second, and neither.
 #[derive(Clone, Copy)]

@@ -6,11 +6,11 @@ ghost use Rattle.policy_comparison.specs.Part.{AgreeBelow, part_line, IsPart};
 ghost use Rattle.policy_comparison.specs.TwoCaches.{AreAbreastOfSome, OnOutcomes};
 
 use crate::two_caches::{STRETCH, TwoCaches};
-use debug_commands::push_counts_line;
 use policies::{ActorFault, theorems};
 use std::alloc::{AllocError, Global};
 use std::thread::Threads;
 use step_record::{Gate, Job, OpenGate, Trace};
+use streams::push_counts_line;
 
 /// The first access of the trace, counted from 1, at which the policy of one job hits and that of the other does not;
 /// `None` where there is no such access. The two caches make the accesses side by side where a thread can be made.

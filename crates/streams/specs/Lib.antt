@@ -6,3 +6,4 @@ pub mod Numbers
 pub mod Part
 pub mod Reads
 pub mod Tally
+pub mod Texts

@@ -2,7 +2,7 @@ use Rattle.std.proofs.Common.{arith}
 use Rattle.std.proofs.lemmas.Grind.{elements}
 use Rattle.streams.proofs.Tallies.{further, later}
 use Rattle.debug_commands.proofs.Ahead.{flushed}
-use Rattle.debug_commands.proofs.Results.{at_fault, at_success}
+use Rattle.streams.proofs.Results.{at_fault, at_success}
 use Rattle.debug_commands.proofs.dialogue.send.Goals as goal
 
 pub returns-clause-bytes : goal.returns-clause-bytes

@@ -1,7 +1,7 @@
 use Rattle.std.proofs.Common.{◌≡◌, ◌∙◌, ◌++◌, ap, append-nil, sym, subst, Option, Some, List, ℕ}
 use Rattle.std.specs.Prelude.{codes, OnOk}
-use Rattle.debug_commands.specs.Texts.{count_text}
-use Rattle.debug_commands.proofs.Results.{at_success}
+use Rattle.streams.specs.Texts.{count_text}
+use Rattle.streams.proofs.Results.{at_success}
 use Rattle.debug_policies.specs.Inside.{number_text}
 use Rattle.policy_comparison.proofs.Texts.{piece}
 use Rattle.debug_policies.proofs.inside.push_key.Goals as goal

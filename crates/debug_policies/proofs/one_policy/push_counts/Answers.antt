@@ -2,8 +2,8 @@ use Rattle.std.proofs.Common.{◌∙◌, ◌++◌, [], ap, List, ℕ}
 use Rattle.std.specs.Prelude.{codes}
 use Rattle.engine_base.specs.declared.stats.Stats.{Stats}
 use Rattle.step_record.specs.Job.{name_of}
-use Rattle.debug_commands.specs.Texts.{count_text}
-use Rattle.debug_commands.proofs.Results.{at_success}
+use Rattle.streams.specs.Texts.{count_text}
+use Rattle.streams.proofs.Results.{at_success}
 use Rattle.policy_comparison.proofs.Texts.{four, three}
 use Rattle.debug_policies.proofs.one_policy.push_counts.Goals as goal
 

@@ -1,7 +1,7 @@
 use Rattle.std.proofs.Common.{◌≡◌, ◌∙◌, ◌++◌, [], ap, append_assoc, List, ℕ}
 use Rattle.std.specs.Prelude.{codes}
 use Rattle.step_record.specs.Job.{name_of}
-use Rattle.debug_commands.proofs.Results.{at_success}
+use Rattle.streams.proofs.Results.{at_success}
 use Rattle.debug_policies.proofs.one_policy.push_policy.Goals as goal
 
 pub returns : goal.returns

@@ -1,7 +1,7 @@
 use Rattle.std.proofs.Common.{◌≡◌, ◌∙◌, ◌++◌, ◌-◌, [], ap, append_assoc, List, ℕ}
 use Rattle.std.specs.Prelude.{codes, slice_index}
-use Rattle.debug_commands.specs.Texts.{count_text}
-use Rattle.debug_commands.proofs.Results.{at_success}
+use Rattle.streams.specs.Texts.{count_text}
+use Rattle.streams.proofs.Results.{at_success}
 use Rattle.debug_policies.specs.TwoPolicies.{access_line}
 use Rattle.debug_policies.proofs.views.push_access.Goals as goal
 

@@ -1,6 +1,6 @@
 use Rattle.std.proofs.Common.{◌++◌, List, ℕ, [], ◌∷◌}
 use Rattle.policy_comparison.specs.Comparison.{Comparison, comparison_header, pair_row}
-use Rattle.debug_commands.proofs.Results.{at_success}
+use Rattle.streams.proofs.Results.{at_success}
 use Rattle.policy_comparison.proofs.Texts.{piece}
 use Rattle.policy_comparison.proofs.comparison.push_comparison.Goals as goal
 

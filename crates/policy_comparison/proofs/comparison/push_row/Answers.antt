@@ -2,8 +2,8 @@ use Rattle.std.proofs.Common.{◌∙◌, ◌++◌, ap, append_assoc, sym, List, 
 use Rattle.std.specs.Prelude.{codes}
 use Rattle.std.specs.List.{flat_map}
 use Rattle.step_record.specs.Job.{name_of}
-use Rattle.debug_commands.specs.Texts.{count_text}
-use Rattle.debug_commands.proofs.Results.{at_success}
+use Rattle.streams.specs.Texts.{count_text}
+use Rattle.streams.proofs.Results.{at_success}
 use Rattle.policy_comparison.proofs.Texts.{three}
 use Rattle.policy_comparison.proofs.comparison.push_row.Goals as goal
 

@@ -3,7 +3,7 @@ use Rattle.policies.specs.AnyPolicy.{Job, outcomes_on}
 use Rattle.policy_comparison.specs.Part.{part_line, IsPart}
 use Rattle.debug_policies.specs.TwoPolicies.{first_parting}
 use Rattle.debug_policies.proofs.Facts.{part_is}
-use Rattle.debug_commands.proofs.Results.{at_success}
+use Rattle.streams.proofs.Results.{at_success}
 use Rattle.debug_policies.proofs.debugger.TwoPoliciesTimeline.own.Goals as goal
 
 pub returns-in-Ok : goal.returns-in-Ok

@@ -4,7 +4,7 @@ use Rattle.policies.specs.AnyPolicy.{Job, any_residents, stats_in}
 use Rattle.policies.proofs.FirstAccesses.{first-counts}
 use Rattle.debug_policies.specs.OnePolicy.{counts_line, holds_line, policy_lines, residents_at, stats_at, OnePolicyState}
 use Rattle.debug_policies.proofs.Shown.{shown_keys}
-use Rattle.debug_commands.proofs.Results.{at_success}
+use Rattle.streams.proofs.Results.{at_success}
 use Rattle.policy_comparison.proofs.Texts.{piece}
 use Rattle.debug_policies.proofs.one_policy.OnePolicy.show.Goals as goal
 

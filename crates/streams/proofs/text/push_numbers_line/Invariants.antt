@@ -1,7 +1,7 @@
 use Rattle.std.proofs.Common.{◌≡◌, ◌++◌, take}
 use Rattle.std.specs.List.{flat_map}
-use Rattle.debug_commands.specs.Texts.{count_text}
-use Rattle.debug_commands.proofs.text.push_numbers_line.Given as goal
+use Rattle.streams.specs.Texts.{count_text}
+use Rattle.streams.proofs.text.push_numbers_line.Given as goal
 
 abbrev pub invariant-loop-number : goal.invariant-loop-number
 invariant-loop-number l =

@@ -1,6 +1,6 @@
 use Rattle.std.proofs.Common.{arith}
 use Rattle.std.proofs.lemmas.Grind.{common_steps}
-use Rattle.debug_commands.proofs.text.push_counts_line.Goals as goal
+use Rattle.streams.proofs.text.push_counts_line.Goals as goal
 
 pub loop-name-preserved : goal.loop-name-preserved
 loop-name-preserved c = grind (arith, common_steps)

@@ -1,6 +1,6 @@
 use Rattle.std.proofs.Common.{◌≡◌, ◌++◌, take}
 use Rattle.std.specs.List.{flat_map}
-use Rattle.debug_commands.proofs.text.push_pieces.Given as goal
+use Rattle.streams.proofs.text.push_pieces.Given as goal
 
 abbrev pub invariant-loop-piece : goal.invariant-loop-piece
 invariant-loop-piece l = l.text.items ≡ l.initial.text.items ++ flat_map (λ piece. piece.now) (take l.piece-index l.pieces)

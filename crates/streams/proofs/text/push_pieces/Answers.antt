@@ -1,6 +1,6 @@
 use Rattle.std.proofs.Common.{arith}
 use Rattle.std.proofs.lemmas.Grind.{common_steps}
-use Rattle.debug_commands.proofs.text.push_pieces.Goals as goal
+use Rattle.streams.proofs.text.push_pieces.Goals as goal
 
 pub loop-piece-preserved : goal.loop-piece-preserved
 loop-piece-preserved c = grind (arith, common_steps)

@@ -1,7 +1,7 @@
 //! Text appended to a buffer.
 ghost use Rattle.std.specs.Prelude.{◌≡◌, ◌++◌, OnOk, codes};
 ghost use Rattle.std.specs.List.{flat_map};
-ghost use Rattle.debug_commands.specs.Texts.{count_text};
+ghost use Rattle.streams.specs.Texts.{count_text};
 
 use itoa::Buffer;
 use std::alloc::AllocError;
