@@ -493,7 +493,7 @@ MISTAKES = {
     "a whole point for half": Mistake(check_beside_reference, "lib/reductions.py", "200 * (misses - lowest)", "100 * (misses - lowest)"),
     "Belady's among the best": Mistake(check_beside_reference, "lib/reductions.py", "policy != OPTIMAL or", "True or"),
     "a size of another footprint": Mistake(check_beside_reference, "lib/measures.py", "footprint * percent / 100", "footprint * percent / 50"),
-    "a footprint of short traces alone": Mistake(check_long, "lib/jobs.py", "[MAX_CAPACITY], part=[\"--long\"]", "[MAX_CAPACITY]"),
+    "a footprint of short traces alone": Mistake(check_long, "lib/jobs.py", '"clairvoyant" not in settings["policies"]', "False"),
     "names by lines": Mistake(check_faults, "lib/jobs.py", 'split(b"\\0")', "split()"),
     "failed traces in silence": Mistake(check_faults, "corpus", 'return [it for it in results if "fault" in it]', "return []"),
     "finished jobs done again": Mistake(check_faults, "corpus", "not in (None, stamp)", "is not None"),

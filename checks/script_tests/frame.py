@@ -114,6 +114,7 @@ def rows_of(text):
 # to each is a hit.
 FAKE = """#!{python} -SE
 import sys
+from collections import Counter
 if "--help" in sys.argv:
     sys.exit(print("      --policy <POLICY>\\n          A policy\\n          \\n          [possible values: {policies}]"))
 words = sys.argv[2:]
@@ -125,6 +126,9 @@ distinct = top = 0
 for first, count in sorted(ranges):
     distinct += max(0, first + count - max(first, top))
     top = max(top, first + count)
+if sys.argv[1] == "footprint":
+    times = Counter(block for first, count in ranges for block in range(first, first + count)).values()
+    sys.exit(print(f"accesses,blocks,once\\n{{sum(times)}},{{len(times)}},{{[*times].count(1)}}"))
 main = int(option["--main"])
 rows = ["policy,capacity,accesses,hits,misses,evictions,rejections,rate"]
 for policy in (word for before, word in zip(words, words[1:]) if before == "--policy"):

@@ -231,7 +231,7 @@ def check_files(reference, folder):
 def check_survey(survey, folder):
     """A column beside those of the program, of which `best` and a note speak, with the warm-up left out, and of a
     sample."""
-    trace, program = file_of(folder, "trace", TRACE * 5), ("--program", fake(folder, "10"))
+    trace, program = file_of(folder, "trace", TRACE * 4 + TRACE.replace("1", "\t01")), ("--program", fake(folder, "10"))
     words = *program, *own_of(folder), "--capacity", 4
     # At 4 entries all but the first access to each is a hit: 26 of 30, where the program has 3.
     row = rows_of(run(survey, *words, "--csv", trace)[0])[0]
@@ -321,14 +321,15 @@ MISTAKES = {
     "its folder before Python's": Mistake(check_files, OWN, "sys.path.append(str(path.parent))",
                                           "sys.path.insert(0, str(path.parent))"),
     "prints in a report": Mistake(check_files, "lib/runs.py", "    os.dup2(2, 1)\n", ""),
-    "the warm-up as the trace": Mistake(check_survey, "lib/reports.py",
-                                        "self.warm_up and trace == self.warm_up.fileno()", "False"),
+    "the warm-up as the trace": Mistake(check_survey, "lib/reports.py", "(own, capacities, is_warm_up)",
+                                        "(own, capacities, False)"),
+    "blocks by how they are written": Mistake(check_survey, "lib/traces.py", "(int(line) for line", "(line for line"),
     "no progress": Mistake(check_survey, "lib/runs.py", "        show_part(what, sum(Accesses.made)",
                            "        (what, sum(Accesses.made)"),
     "no note": Mistake(check_survey, "lib/tables.py", "if note := ", 'if note := "" and '),
     "own ones that nobody asked for": Mistake(check_survey, OWN, "return policies if any(map(is_own, policies)) else ",
                                               "return "),
-    "a job without them": Mistake(check_corpus, "lib/jobs.py", 'own=settings["own"],', "own={},"),
+    "a job without them": Mistake(check_corpus, "lib/jobs.py", 'settings["own"], processes', "{}, processes"),
     "another file": Mistake(check_corpus, "corpus",
                             "hashlib.sha256(Path(it).read_bytes()).hexdigest() for it in args.own",
                             "0 for it in args.own"),

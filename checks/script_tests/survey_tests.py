@@ -368,10 +368,10 @@ def check_lost_row(survey, folder, program):
 def check_other_reports(survey, folder):
     """Columns of another program, and accesses that the trace does not have, are not believed."""
     trace = file_of(folder, "trace", "1\n2\n1\n")
-    for old, new, part in (("rejections,rate", "rejections,rate,more", "other reports"), ("accesses = sum(", "accesses = -1 + sum(", "other accesses")):
+    for old, new in (("rejections,rate", "rejections,rate,more"), ("accesses = sum(", "accesses = -1 + sum(")):
         program = fake(folder)
         program.write_text(program.read_text().replace(old, new))
-        expect_parts(part, run(survey, trace, "--program", program, "--table", "traces", status=1)[1], part)
+        expect_parts(new, run(survey, trace, "--program", program, "--table", "policies", status=1)[1], "other reports")
 
 
 def check_searches(survey, folder):
@@ -653,8 +653,8 @@ MISTAKES = {
     "the row below alone": Mistake(check_at_worst, "lib/advice.py", "more[max(0, at - 1):at + 2]", "more[max(0, at - 1):at + 1]"),
     "the row above alone": Mistake(check_at_worst, "lib/advice.py", "more[max(0, at - 1):at + 2]", "more[at:at + 2]"),
     "the least loss": Mistake(check_at_worst, "lib/advice.py", "max(it[key] for it in", "min(it[key] for it in"),
-    "columns of another program": Mistake(check_other_reports, "lib/reports.py", "if found != SWEEP.split(\",\"):", "if False:"),
-    "other accesses": Mistake(check_other_reports, "lib/measures.py", "if counts and (report.accesses, footprint) !=", "if False and (report.accesses, footprint) !="),
+    "columns of another program": Mistake(check_other_reports, "lib/reports.py", "if found != header.split(\",\"):", "if False:"),
+    "other accesses": Mistake(check_other_reports, "lib/reports.py", "else self.accesses\n", "else rows[0].accesses\n"),
     "a picture from one entry on": Mistake(check_titles, "lib/measures.py", "low = max(1, survey.footprint // 100)", "low = 1"),
     "a title without its spread": Mistake(check_titles, "survey", 'args.spread != "mixed"}', "False}"),
     "two traces in one picture": Mistake(check_titles, "survey", "if file and len(args.trace) > 1:", "if False:"),
@@ -678,9 +678,9 @@ MISTAKES = {
     "--long that is not handed on": Mistake(check_long, "lib/reports.py", '*["--long"] * options.is_long, ', ""),
     "clairvoyant with --long": Mistake(check_long, "survey", "if not args.long or it != OPTIMAL]", "]"),
     "--percent beside --capacity dropped": Mistake(check_best, "lib/measures.py", "args.percent or map(Decimal, [] if args.capacity else PERCENTS)", "map(Decimal, [] if args.capacity else args.percent or PERCENTS)"),
-    "a warm-up with another window": Mistake(check_after, "lib/reports.py", "self.reports(policies, capacities, main, self.warm_up", "self.reports(policies, capacities, None, self.warm_up"),
+    "a warm-up with another window": Mistake(check_after, "lib/reports.py", "main, part, is_warm_up=True", "None, part, is_warm_up=True"),
     "misses of the warm-up too": Mistake(check_after, "lib/reports.py", "misses=row.misses - begun.misses", "misses=row.misses"),
-    "blocks of the warm-up as new ones": Mistake(check_large, "lib/measures.py", "if trace.warm_up else 0", "if False else 0"),
+    "blocks of the warm-up as new ones": Mistake(check_large, "lib/measures.py", "footprint - known", "footprint"),
     "the largest cache of a sample": Mistake(check_large, "lib/tables.py", "> {it.trace.shown(MAX_CAPACITY)}", "> {MAX_CAPACITY}"),
     "blocks used once of a sample": Mistake(check_sampled_once, "lib/tables.py", "it.trace.shown(it.once)", "it.once"),
     "the powers of two of a sample": Mistake(check_sampled_once, "survey", ' and (name != "powers" or not args.sampled)', ""),
@@ -690,24 +690,21 @@ MISTAKES = {
     "powers of two that are not near": Mistake(check_jumps_and_powers, "lib/measures.py", "<< bits)) * 20 <= it", "<< bits)) * 19 <= it"),
     "a megabyte of a packed trace": Mistake(check_ways, "lib/traces.py", "shutil.copyfileobj(gzip.open(source) if first.startswith(GZIP) else source, copy, COPIED)",
                                             "copy.write((gzip.open(source) if first.startswith(GZIP) else source).read(COPIED))"),
-    "blocks by how they are written": Mistake(check_ways, "lib/traces.py", "(int(line) for line", "(line for line"),
     "a misses column of hits": Mistake(check_best, "lib/tables.py", "it.rows[policy, capacity].misses", "it.rows[policy, capacity].hits"),
-    "a report of the program that is missing": Mistake(check_lost_row, "lib/reports.py", "if [row[:2] for row in rows] !=",
-                                                       "if [] and [row[:2] for row in rows] !="),
+    "a report of the program that is missing": Mistake(check_lost_row, "lib/reports.py", "if [row[:3] for row in rows] !=",
+                                                       "if [] and [row[:3] for row in rows] !="),
     "a row at another capacity": Mistake(check_reach, "lib/measures.py", "return between(low, high, LRU_TRIES)",
                                          "return between(low + 1, high, LRU_TRIES)"),
     "sixty readings of a trace": Mistake(check_percent_of_reach, "lib/traces.py", "        return self.file.fileno()", "        self.read = getattr(self, 'read', 0) + 1\n"
                                          "        return self.file.fileno() if self.read <= 60 else os.open(os.devnull, os.O_RDONLY)"),
     "a search that ends early": Mistake(check_percent_of_reach, "lib/measures.py", "max(1, high // 100)", "max(1, high // 10)"),
-    "a block that comes twice counted as used once": Mistake(check_beside_run, "lib/measures.py", "if times == 1", "if times <= 2"),
+    "each block as used once": Mistake(check_beside_run, "lib/reports.py", "return accesses, blocks, once", "return accesses, blocks, blocks"),
     "options that are not handed on": Mistake(check_beside_run, "lib/reports.py",
                                               ', "--spread", options.spread]\n        return [*words, "--main", main or options.main,',
                                               ']\n        return [*words, "--main", "99",'),
     "no main": Mistake(check_beside_run, "lib/reports.py", "main or options.main", '"99"'),
     "a power of two left out": Mistake(check_jumps_and_powers, "lib/measures.py", "range(1, 20)", "[*range(1, 15), *range(16, 20)]"),
-    "the ratio of a large trace": Mistake(check_large, "lib/measures.py", "row.accesses, (footprint - known) * trace.inverse",
-                                          "row.accesses, row.misses"),
-    "a warm-up of a sample that is none": Mistake(check_large, "lib/measures.py", "if trace.warm_up else 0", "if trace.after else 0"),
+    "a warm-up of a sample that is none": Mistake(check_large, "lib/measures.py", "if trace.warm_up else (0", "if trace.after else (0"),
     "capacities left out in silence": Mistake(check_large_capacities, "lib/measures.py", "if capacity > MAX_CAPACITY:", "if False:"),
     "whole points of --jump": Mistake(check_reach, "lib/measures.py", ">= points * low.accesses", ">= max(1, int(points)) * low.accesses"),
     "the ratio before a jump after it": Mistake(check_jumps_and_powers, "lib/tables.py", "shown_rate(low), shown_rate(high),",
@@ -721,7 +718,7 @@ MISTAKES = {
     "ranges cut at their lines": Mistake(check_after, "lib/traces.py", "taken = min(count, accesses)", "taken = count"),
     "a sample that is not scaled": Mistake(check_sampled, "lib/reports.py", "row.misses * self.inverse", "row.misses"),
     "a sample below 0": Mistake(check_sampled, "lib/reports.py", "min(accesses, row.misses", "max(0, row.misses"),
-    "a sample of another trace": Mistake(check_sampled, "lib/measures.py", 'check_accesses(args, f"{trace.name}: ", report.accesses)', "pass"),
+    "a sample of another trace": Mistake(check_sampled, "lib/measures.py", 'check_accesses(args, f"{trace.name}: ", accesses)', "pass"),
     "the capacity of a sample": Mistake(check_sampled, "lib/measures.py", "round(it / trace.inverse)", "it"),
     "reports of a program that fails": Mistake(check_lost_row, "lib/reports.py", "        if ended.returncode:\n            raise Unreadable(f\"{trace.name}",
                                                 "        if ended.returncode and not ended.stdout:\n            raise Unreadable(f\"{trace.name}"),

@@ -16,7 +16,7 @@ from pathlib import Path
 
 from .measures import part_of
 from .reports import MAX_CAPACITY, Options, Program, Trace
-from .traces import Unreadable, times_of_blocks
+from .traces import Unreadable
 
 # What a job takes at most beside its caches, of the longest trace and with clairvoyant.
 JOB_MEMORY = 1 << 29
@@ -43,25 +43,23 @@ class JobProgram(Program):
 def line_of(program, settings, name):
     """The line of a job: the rows of all policies at all parts of the footprint of its trace, or why there are none."""
     try:
-        result = rows_of(Trace(program, name, Options(settings["format"], "99", "mixed", own=settings["own"],
-                                                      processes=1)), settings)
+        # Belady's policy takes no long trace.
+        is_long = "clairvoyant" not in settings["policies"]
+        options = Options(settings["format"], "99", "mixed", is_long, settings["own"], processes=1)
+        result = rows_of(Trace(program, name, options), settings)
     except (Unreadable, ValueError) as fault:
         result = {"fault": str(fault).removeprefix(f"{name}: ")}
     return json.dumps({"trace": name, **result}) + "\n"
 
 
 def rows_of(trace, settings):
-    report = trace.sweep(["lru"], [MAX_CAPACITY], part=["--long"])["lru", MAX_CAPACITY]
-    # Without an eviction the misses are the distinct blocks.
-    footprint = len(times_of_blocks(trace.file.lines(), trace.options.format)) if report.evictions else report.misses
+    accesses, footprint, _ = trace.footprint()
     if not footprint:
         raise Unreadable("it has no accesses")
     parts = {percent: part_of(footprint, Decimal(percent)) for percent in settings["percents"]}
     capacities = sorted({it for it in parts.values() if it <= MAX_CAPACITY})
-    # Belady's policy takes no long trace.
-    length = [] if "clairvoyant" in settings["policies"] else ["--long"]
-    rows = trace.sweep(settings["policies"], capacities, part=length) if capacities else {}
-    return {"footprint": footprint, "accesses": report.accesses,
+    rows = trace.sweep(settings["policies"], capacities) if capacities else {}
+    return {"footprint": footprint, "accesses": accesses,
             "misses": {percent: {policy: rows[policy, capacity].misses for policy in settings["policies"]}
                        for percent, capacity in parts.items() if capacity in capacities}}
 

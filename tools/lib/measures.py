@@ -12,7 +12,7 @@ from .policies import MONOTONE, OPTIMAL, WINDOWED, has_sketch
 from .reports import MAX_CAPACITY, Row, rate
 from .runs import side_by_side
 from .samples import check_accesses
-from .traces import Unreadable, blocks_of, ranges_of, times_of_blocks
+from .traces import Unreadable, ranges_of
 
 PERCENTS = ["1", "2", "5", "10", "20", "50"]
 # The main parts of wtinylfu that are tried, in percent of the capacity, as --main names them; the rest is its window. The
@@ -79,39 +79,30 @@ def survey_of(trace, policies, args, progress):
     """Everything that is printed of one trace."""
     progress.begin_trace(trace.name)
     progress.begins("footprint")
-    largest = trace.reports(["lru"], [MAX_CAPACITY], None, trace.file.begun())
-    report = largest["lru", MAX_CAPACITY]
-    check_accesses(args, f"{trace.name}: ", report.accesses)
-    counts = times_of_blocks(trace.file.lines(), trace.options.format) if "traces" in args.table or report.evictions else {}
-    # Without an eviction the misses are the distinct blocks.
-    footprint = len(counts) if report.evictions else report.misses
-    if counts and (report.accesses, footprint) != (counts.total(), len(counts)):
-        sys.exit(f"{trace.program.tool}: {trace.name} has other accesses than the program says")
-    if not trace.leave_out(report.accesses):
+    accesses, footprint, once = trace.footprint()
+    check_accesses(args, f"{trace.name}: ", accesses)
+    if not trace.leave_out(accesses):
         progress.erase()
         return Survey(trace, 0, footprint, 0, "0.00", policies, {})
-    highest = highest_of(trace, largest, footprint)
-    once, top = sum(1 for times in counts.values() if times == 1), min(footprint, MAX_CAPACITY)
+    highest, top = highest_of(trace, accesses, footprint), min(footprint, MAX_CAPACITY)
     asked = asked_of(policies, args)
     rows, near, between = rows_of(trace, asked, footprint, args, progress)
     survey = Survey(trace, highest.accesses, footprint, once, rate(highest.hits, highest.accesses), policies, rows,
                     spans_of(rows, near), between, choices_of(trace, counted(rows, near)),
-                    halves_of(trace, asked, rows, report.accesses, progress), parts_of(trace, rows, policies, progress),
-                    requests_of(trace, rows, policies, report.accesses, progress),
+                    halves_of(trace, asked, rows, accesses, progress), parts_of(trace, rows, policies, progress),
+                    requests_of(trace, rows, policies, accesses, progress),
                     [*jumps_of_lru(trace, top, args.jump, progress), *other_jumps(rows, near, args.jump)],
                     reaches_of(trace, rows, policies, args.reach, top, highest, progress), powers_of(trace, rows, policies, progress))
     progress.erase()
     return survey
 
 
-def highest_of(trace, largest, footprint):
-    """The row of a cache that holds the whole footprint."""
-    row = trace.converted(largest)["lru", MAX_CAPACITY]
-    if not row.evictions:
-        return row
-    known = len(set(blocks_of(trace.warm_up_lines(), trace.options.format))) if trace.warm_up else 0
-    misses = min(row.accesses, (footprint - known) * trace.inverse)
-    return row._replace(hits=row.accesses - misses, misses=misses)
+def highest_of(trace, accesses, footprint):
+    """The row of a cache that holds the whole footprint: it misses the first access to each block, after a warm-up to each
+    that did not come there."""
+    begun, known, _ = trace.footprint(is_warm_up=True) if trace.warm_up else (0, 0, 0)
+    accesses, misses = accesses - begun, footprint - known
+    return trace.estimated(Row(OPTIMAL, footprint, accesses, accesses - misses, misses, 0))
 
 
 def asked_of(policies, args):

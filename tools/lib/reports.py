@@ -20,6 +20,7 @@ from .traces import FORMATS, TraceFile, Unreadable, beginning_of, read_blocks, r
 
 MAX_CAPACITY = 1 << 20
 SWEEP = "policy,capacity,accesses,hits,misses,evictions,rejections,rate"
+FOOTPRINT = "accesses,blocks,once"
 
 Row = namedtuple("Row", "policy capacity accesses hits misses evictions")
 # The options of a call: the format of the trace, --main of wtinylfu, --spread, --long, and one's own policies, with how
@@ -66,15 +67,15 @@ class Program:
                 sys.exit(f"{self.tool}: --policy {policy} is none of {', '.join(taken)}{tip_for(policy, taken)}")
         return list(dict.fromkeys(named or []))
 
-    def rows(self, words, file, trace):
-        """The rows of a sweep of a trace, of which this is an open file, with their rate left out."""
+    def rows(self, words, file, trace, header):
+        """The rows of a report of a trace, of which this is an open file, as lists of words."""
         ended = self.output(words, stdin=file)
         if ended.returncode:
             raise Unreadable(f"{trace.name}: {self.refusal(ended, trace.faulty_line(), trace.options.format)}")
         found, *rows = csv.reader(ended.stdout.decode().splitlines())
-        if found != SWEEP.split(","):
+        if found != header.split(","):
             self.refuse_reports(trace.name)
-        return [(policy, *map(int, numbers)) for policy, *numbers, _ in rows]
+        return rows
 
     @staticmethod
     def refusal(_, faulty_line, form):
@@ -99,7 +100,29 @@ class Trace:
     def __init__(self, program, name, options, inverse=1, whole=None, after=0):
         self.program, self.name, self.options = program, name, options
         self.inverse, self.whole, self.after = inverse, whole, after
-        self.file, self.warm_up, self.left_out = TraceFile(name), None, 0
+        self.file, self.warm_up, self.left_out, self.accesses = TraceFile(name), None, 0, None
+
+    def begun(self, is_warm_up):
+        """The number of the open file of the trace, or of its warm-up, set to where it begins."""
+        if not is_warm_up:
+            return self.file.begun()
+        os.lseek(self.warm_up.fileno(), 0, os.SEEK_SET)
+        return self.warm_up.fileno()
+
+    def report(self, words, header, is_warm_up):
+        """The rows of a report of the trace, or of its warm-up."""
+        rows = self.program.rows(words, self.begun(is_warm_up), self, header)
+        self.file.begun()  # as at first, or it has changed meanwhile
+        return rows
+
+    def footprint(self, is_warm_up=False):
+        """How many accesses the trace has, or its warm-up, how many distinct blocks, and how many of these come once."""
+        words = ["footprint", "--format", self.options.format, *["--long"] * self.options.is_long]
+        (counts,) = self.report(words, FOOTPRINT, is_warm_up)
+        accesses, blocks, once = map(int, counts)
+        if not is_warm_up:
+            self.accesses = accesses
+        return accesses, blocks, once
 
     def leave_out(self, accesses):
         """Leaves the warm-up out of this trace of so many accesses from here on, and says whether any are left: of a sample as
@@ -127,35 +150,25 @@ class Trace:
             return str(fault)
         return None
 
-    def warm_up_lines(self):
-        os.lseek(self.warm_up.fileno(), 0, os.SEEK_SET)
-        return os.fdopen(os.dup(self.warm_up.fileno()), "rb")
-
     def shown(self, count):
         """A capacity, or another number of blocks, as it is of the trace that was sampled."""
         return count * self.inverse
 
     def sweep(self, policies, capacities, main=None, part=()):
         """A row of each policy at each capacity, keyed by both, with another main part, or another size of a part."""
-        return self.converted(self.reports(policies, capacities, main, self.file.begun(), part), main, part)
-
-    def converted(self, rows, main=None, part=()):
+        rows = self.reports(policies, capacities, main, part)
         if self.warm_up:
             # What a policy hits in the warm-up does not depend on what follows. Belady's policy knows that, but it has the
             # most hits of all up to every place, so these too are those of the warm-up alone.
-            policies, capacities = ([*dict.fromkeys(it)] for it in zip(*rows))
-            os.lseek(self.warm_up.fileno(), 0, os.SEEK_SET)
-            begun = self.reports(policies, capacities, main, self.warm_up.fileno(), part)
+            begun = self.reports(policies, capacities, main, part, is_warm_up=True)
             rows = {at: self.without(row, begun[at]) for at, row in rows.items()}
         return {at: self.estimated(row) for at, row in rows.items()}
 
-    def reports(self, policies, capacities, main, trace, part=()):
-        if not policies:
-            return {}
+    def reports(self, policies, capacities, main, part, is_warm_up=False):
         own = [it for it in policies if is_own(it)]
-        rows = self.rows_of_own(own, capacities, self.warm_up and trace == self.warm_up.fileno()) if own else {}
+        rows = self.rows_of_own(own, capacities, is_warm_up) if own else {}
         known = [it for it in policies if it not in own]
-        return {**(self.rows_of_program(known, capacities, main, trace, part) if known else {}), **rows}
+        return {**(self.rows_of_program(known, capacities, main, part, is_warm_up) if known else {}), **rows}
 
     @cached_property
     def keys(self):
@@ -187,14 +200,13 @@ class Trace:
         Accesses.count(len(hits))
         return bytes(hits)
 
-    def rows_of_program(self, policies, capacities, main, trace, part):
-        words = [*self.words("sweep", main, part), *(word for policy in policies for word in ("--policy", policy)),
-                 *capacities]
-        rows = self.program.rows(words, trace, self)
-        self.file.begun()  # as at first, or it has changed meanwhile
-        if [row[:2] for row in rows] != [(policy, capacity) for policy in policies for capacity in capacities]:
+    def rows_of_program(self, policies, capacities, main, part, is_warm_up):
+        words = [*self.words("sweep", main, part), *(word for it in policies for word in ("--policy", it)), *capacities]
+        rows = [Row(row[0], *map(int, row[1:6])) for row in self.report(words, SWEEP, is_warm_up)]
+        accesses = self.left_out if is_warm_up else self.accesses
+        if [row[:3] for row in rows] != [(policy, capacity, accesses) for policy in policies for capacity in capacities]:
             self.program.refuse_reports(self.name)
-        return {row[:2]: Row(*row[:6]) for row in rows}
+        return {row[:2]: row for row in rows}
 
     @staticmethod
     def without(row, begun):

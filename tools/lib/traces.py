@@ -9,7 +9,6 @@ import subprocess
 import sys
 import tempfile
 import zlib
-from collections import Counter
 from pathlib import Path
 
 FORMATS = ["lirs", "arc"]
@@ -114,18 +113,11 @@ def number_of(field):
     return int(field if len(field) < 20 else field.lstrip(b"0")[:21] or b"0") if field.isdigit() else BLOCKS
 
 
-def blocks_of(lines, form):
-    return (block for first, count in ranges_of(lines, form) for block in range(first, first + count))
-
-
 def read_blocks(lines, form):
     """The blocks of a trace that the program has read without a fault, in order."""
-    return (int(line) for line in lines if line.strip() not in (b"", b"*")) if form == "lirs" else blocks_of(lines, form)
-
-
-def times_of_blocks(lines, form):
-    """How often each block is accessed in a trace that the program has read without a fault."""
-    return Counter(read_blocks(lines, form))
+    if form == "lirs":
+        return (int(line) for line in lines if line.strip() not in (b"", b"*"))
+    return (block for first, count in ranges_of(lines, form) for block in range(first, first + count))
 
 
 def beginning_of(lines, form, accesses):
