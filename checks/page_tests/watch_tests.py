@@ -369,7 +369,10 @@ def check_faults(tools, program, folder):
                                 ((TRACE, "--capacity", "2", "--first", "lru"), 2, "--second"),
                                 (("--capacity", "2"), 2, "name a trace"),
                                 ((TRACE, "--capacity", "0", *PAIR), 2, "--capacity"),
-                                ((TRACE, "--capacity", "2", "--first", "none", "--second", "lru"), 1, "names no policy"),
+                                ((TRACE, "--capacity", "2", "--first", "2q:in=50", "--second", "LRU"), 1,
+                                 "--second LRU is none of lru, "),
+                                ((TRACE, "--capacity", "2", "--first", "2q:in=0", "--second", "lru"), 1,
+                                 "--first 2q:in=0 is none of lru, "),
                                 (("--journal", bad, "--capacity", "8"), 1, "Header")):
         out, error, found = call(tools / "watch", "--program", program, *words)
         expect(f"{words}: {error}", (found, out, says in error, "Traceback" in error), (status, "", True, False))

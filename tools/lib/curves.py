@@ -5,9 +5,8 @@ from collections import namedtuple
 
 from .options import as_called
 from .policies import OPTIMAL
-from .reports import SWEEP
+from .reports import INTERVALS, SWEEP
 
-INTERVALS = "policy,capacity,first,last,hits,misses,evictions,rejections,rate"
 COMPARISONS = "first,second,capacity,from,to,both,first_only,second_only,neither"
 HEADERS = (SWEEP, INTERVALS, COMPARISONS)
 TOOL = as_called("tools/plot")

@@ -13,8 +13,8 @@ from .options import as_called
 from .own import in_legend, is_own
 from .pictures import ends_around, marks_of
 from .policies import OTHERS, POLICIES
+from .reports import INTERVALS
 from .tables import FOLDED, LEFT, NOTES, NOTES_OF_SAMPLE, TABLES, TITLES, also_measured, rate_of, shown_rate
-from .traces import Unreadable
 from .views import every_of
 
 # The room of a picture, and of what stands around its curves: left, top, right, below.
@@ -122,19 +122,14 @@ def chart_of_curves(survey, drawn):
 
 def chart_over_time(survey, args):
     """The picture of `intervals` at the middle one of the capacities, or None of a trace without any."""
-    trace, options, capacities = survey.trace, survey.trace.options, capacities_in(survey.rows)
-    policies = [it for it in survey.policies if it in trace.program.policies()]
+    trace, capacities = survey.trace, capacities_in(survey.rows)
+    policies = [it for it in survey.policies if not is_own(it)]
     if not capacities or not policies:
         return None
     capacity, every = capacities[(len(capacities) - 1) // 2], every_of(survey.accesses)
-    words = ["intervals", "--capacity", capacity, "--every", every, "--format", options.format, "--spread",
-             options.spread, "--main", options.main]
-    ended = trace.program.output([*words, *["--long"] * options.is_long, *policies], stdin=trace.file.begun())
-    if ended.returncode:
-        raise Unreadable(f"{trace.name}: the program refused its intervals")
-    lines = [it.split(",") for it in ended.stdout.decode().splitlines()[1:]]
+    words = [*trace.words("intervals"), "--capacity", capacity, "--every", every, *policies]
     values, spans = {}, []
-    for policy, _, first, last, hits, misses, *_ in lines:
+    for policy, _, first, last, hits, misses, *_ in trace.report(words, INTERVALS):
         if int(first) > args.after:
             values.setdefault(policy, []).append(100 * int(hits) / (int(hits) + int(misses)))
             spans.append((int(first) - 1, int(last)))
@@ -250,8 +245,7 @@ def further(survey):
     trace, form = survey.trace, survey.trace.options.format
     sampled = f" --sampled 1/{trace.inverse} --accesses {trace.whole}" if trace.whole else ""
     name, how = shlex.quote(trace.name) if trace.name != "-" else "TRACE", "" if form == "lirs" else f" --format {form}"
-    taken = trace.program.policies()
-    chosen = {it: [choice.key.replace(" --main ", ":main=") for choice in choices if choice.key.split()[0] in taken]
+    chosen = {it: [choice.key.replace(" --main ", ":main=") for choice in choices if not is_own(choice.key)]
               for it, choices in sorted(survey.choices.items())}
     chosen = {it: words for it, words in chosen.items() if words}
     lines = []

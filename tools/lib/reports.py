@@ -20,6 +20,7 @@ from .traces import FORMATS, TraceFile, Unreadable, beginning_of, read_blocks, r
 
 MAX_CAPACITY = 1 << 20
 SWEEP = "policy,capacity,accesses,hits,misses,evictions,rejections,rate"
+INTERVALS = "policy,capacity,first,last,hits,misses,evictions,rejections,rate"
 FOOTPRINT = "accesses,blocks,once"
 
 Row = namedtuple("Row", "policy capacity accesses hits misses evictions")
@@ -64,8 +65,18 @@ class Program:
         taken = [*self.policies(), *own] if named else []
         for policy in named or []:
             if policy not in taken:
-                sys.exit(f"{self.tool}: --policy {policy} is none of {', '.join(taken)}{tip_for(policy, taken)}")
+                self.refuse_word("--policy", policy, taken, tip_for(policy, taken))
         return list(dict.fromkeys(named or []))
+
+    def check_word(self, option, word):
+        """Ends the script where a word names no policy of the program, or has sizes of its own that this one does not take."""
+        if self.output(["run", "--capacity", 1, word], stdin=subprocess.DEVNULL, stderr=subprocess.DEVNULL).returncode == 2:
+            taken, policy = self.policies(), word.partition(":")[0]
+            more = ", or has a size that it does not take" if policy in taken else tip_for(policy, taken)
+            self.refuse_word(option, word, taken, more)
+
+    def refuse_word(self, option, word, taken, more):
+        sys.exit(f"{self.tool}: {option} {word} is none of {', '.join(taken)}{more}")
 
     def rows(self, words, file, trace, header):
         """The rows of a report of a trace, of which this is an open file, as lists of words."""
@@ -109,7 +120,7 @@ class Trace:
         os.lseek(self.warm_up.fileno(), 0, os.SEEK_SET)
         return self.warm_up.fileno()
 
-    def report(self, words, header, is_warm_up):
+    def report(self, words, header, is_warm_up=False):
         """The rows of a report of the trace, or of its warm-up."""
         rows = self.program.rows(words, self.begun(is_warm_up), self, header)
         self.file.begun()  # as at first, or it has changed meanwhile
