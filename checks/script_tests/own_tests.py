@@ -3,6 +3,7 @@ them, each beside a second one that is written otherwise, by naive lists or by n
 import json
 import random
 import re
+import sys
 
 from checks import skewed_keys
 from frame import Mistake, expect, expect_parts, fake, file_of, rows_of, run
@@ -279,6 +280,33 @@ def check_corpus(corpus, folder):
                  "own:x-1 at 1 entries, access 1, to block 1: a hit of a block")
 
 
+# The first of five processes waits until another call has begun and ended, whose counts have one place alone.
+AT_ONCE = """import os, sys
+sys.path.insert(0, sys.argv[1])
+from concurrent.futures import ThreadPoolExecutor
+from lib.runs import Accesses, side_by_side
+(begun, begin), (ended, end) = os.pipe(), os.pipe()
+def counted(job):
+    if job == 0:
+        os.write(begin, b".")
+        os.read(ended, 1)
+    Accesses.count(1)
+    return job
+with ThreadPoolExecutor() as pool:
+    first = pool.submit(side_by_side, counted, range(5), "", 0, 1)
+    os.read(begun, 1)
+    print(side_by_side(str, [7], "", 0, 1))
+    os.write(end, b".")
+    print(first.result())
+"""
+
+
+def check_at_once(corpus, folder):
+    """Calls at the same time, as of several traces, count for themselves."""
+    out, _ = run(sys.executable, "-SE", file_of(folder, "at_once.py", AT_ONCE), corpus.parent)
+    expect("the results", out, "['7']\n[0, 1, 2, 3, 4]\n")
+
+
 def check_legend(plot):
     """The legend says of a policy of one's own that it is not proved."""
     header, row = "policy,capacity,accesses,hits,misses,evictions,rejections,rate\n", "lru,3,6,1,5,2,0,16.66\n"
@@ -333,5 +361,7 @@ MISTAKES = {
     "another file": Mistake(check_corpus, "corpus",
                             "hashlib.sha256(Path(it).read_bytes()).hexdigest() for it in args.own",
                             "0 for it in args.own"),
+    "counts of another call": Mistake(check_at_once, "lib/runs.py", "Accesses.made, Accesses.place = made, place",
+                                      "Accesses.place = place"),
     "a legend that says nothing": Mistake(check_legend, OWN, '", not proved" * is_own(policy)', '""'),
 }

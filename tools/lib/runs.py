@@ -73,12 +73,13 @@ def side_by_side(call, jobs, what, accesses, processes=None):
     from multiprocessing import connection, get_context
 
     waiting, running, found, begun = [*enumerate(jobs)], {}, {}, time.monotonic()
-    context, Accesses.made = get_context("fork"), memoryview(mmap.mmap(-1, 8 * len(jobs) + 8)).cast("Q")
+    # Of this call alone: a script may run others at the same time.
+    context, made = get_context("fork"), memoryview(mmap.mmap(-1, 8 * len(jobs) + 8)).cast("Q")
     while len(found) < len(jobs):
         while waiting and len(running) < (processes or len(os.sched_getaffinity(0))):
             at, job = waiting.pop(0)
             reader, writer = context.Pipe(duplex=False)
-            process = context.Process(target=answer, args=(call, job, at, writer), daemon=True)
+            process = context.Process(target=answer, args=(call, job, made, at, writer), daemon=True)
             process.start()
             writer.close()
             running[reader] = at, process
@@ -87,7 +88,7 @@ def side_by_side(call, jobs, what, accesses, processes=None):
             with contextlib.closing(reader):
                 found[at] = received(reader, what)
             process.join()
-        show_part(what, sum(Accesses.made), accesses, time.monotonic() - begun)
+        show_part(what, sum(made), accesses, time.monotonic() - begun)
     show_part(what)
     answers = [found[at] for at in range(len(jobs))]
     if fault := next((it for it in answers if isinstance(it, Exception)), None):
@@ -103,16 +104,16 @@ def received(reader, what):
         return ValueError(f"{what}: a process was ended, perhaps since memory ran out")
 
 
-def answer(call, job, place, writer):
+def answer(call, job, made, place, writer):
     """What a process does: its own output is the pipe alone, so what else prints has standard error."""
     os.dup2(2, 1)
-    Accesses.place = place
+    Accesses.made, Accesses.place = made, place
     try:
-        made = call(job)
+        found = call(job)
     except Exception as fault:
-        made = fault
+        found = fault
     with contextlib.suppress(BrokenPipeError):  # its caller was ended
-        writer.send(made)
+        writer.send(found)
 
 
 def show_part(what, made=0, accesses=0, seconds=0):
