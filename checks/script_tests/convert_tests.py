@@ -48,7 +48,8 @@ CALLS = [
     (["log", "--sizes"], LOG, "0 2\n0 2\n2 1\n",
      "3 of 6 records, for --format arc; left out: 1 (no known size), 1 (no GET), "
      "1 (another status than 200, 206 and 304); 1 sizes are others than the object's first, which counts"),
-    (["arc"], f"7 2 x\n\n{TOP} 1\n5 0\n", f"7\n8\n{TOP}\n", "3 of 4 records, for --format lirs; left out: 1 (an empty line)"),
+    (["arc"], f"7 2 x\n\n{TOP} 1\n5 0\n", f"7\n8\n{TOP}\n",
+     "2 of 4 records, for --format lirs; left out: 1 (an empty line), 1 (no blocks)"),
     (["text"], "b\n\n b\nb\r\n", "0\n1\n2\n0\n", "4 of 4 records, for --format lirs"),
     (["csv", "--key", "hash", "--separator", "tab"], "time\thash\n0\t-5\n0\t42\n0\t18446744073709551615\n",
      f"{2**64 - 5}\n42\n{TOP}\n",
@@ -56,7 +57,7 @@ CALLS = [
     (["csv", "--key", "id"], "\ufefftime, id\n1, 7\n", "7\n", "1 of 1 records, for --format lirs"),
     (["csv", "--key", 2, "--only", "3=get,gets", "--text"], '0,"a,b",get\n0,a,set\n\n0,b,get\n1,"a,b",gets\n',
      "0\n1\n0\n",
-     "3 of 4 records, for --format lirs; left out: 1 (3 is none of get,gets)"),
+     "3 of 5 records, for --format lirs; left out: 1 (3 is none of get,gets), 1 (an empty line)"),
     (["csv", "--key", 2, "--size", 3, "--separator", "space"], "1 77 9000\n2  88 100\n3 77\t9000\n", "0 3\n3 1\n0 3\n",
      "3 of 3 records, for --format arc"),
     (["csv", "--key", 1, "--skip"], "7\n7x\n-9223372036854775809\n18446744073709551616\n8\n", "7\n8\n",
@@ -86,6 +87,9 @@ def check_many(convert, folder):
     """More lines than are written at once, and an output that cannot be written."""
     text = "".join(f"{it * it % 9001}\n" for it in range(40000))
     expect("the lines", run(convert, "--from", "csv", "--key", 1, typed=text)[0], text)
+    out, error = run(convert, "--from", "arc", typed="1 1\n" + "5 0\n" * 40000 + "7 1\n")
+    expect("behind many that have none", (out, error),
+           ("1\n7\n", "tools/convert: 2 of 40002 records, for --format lirs; left out: 40000 (no blocks)\n"))
     expect_full_disk(convert, "--from", "text", typed=text)
     expect_quiet_interrupt(convert, folder, "--from", "text")
 
@@ -104,15 +108,29 @@ def check_refusals(convert, folder):
             (["csv", "--key", "0"], "1,2\n", "there is no column '0'"),
             (["csv", "--key", "2"], "1,2\n1\n", "record 2: it has 1 fields where 2 are needed: ['1']"),
             (["csv", "--key", "1"], "٣\n", "is no whole number of 64 bits"),
-            (["csv", "--key", "1"], "1" * 200000, "field larger than field limit")):
+            (["csv", "--key", "1", "--size", "2"], "1,4\n2,-1\n", "record 2: '-1' is no size: ['2', '-1']"),
+            (["csv", "--key", "1", "--size", "2", "--block", 1], f"1,{TOP}\n",
+             f"record 1: an object has 2^40 blocks at most: ['1', '{TOP}']"),
+            (["log", "--sizes"], LOG.replace(" 5000", " " + "5" * 5000), "is no whole number of 64 bits"),
+            # The quotes of the first row would have all others in them.
+            (["csv", "--key", "id", "--skip"], 'id,url\n1,a\n2,"b\n3,c\n', "record 2: unexpected end of data"),
+            (["csv", "--key", "2", "--text"], '1,a\n2,"b"c\n', "record 2: ',' expected after '\"'"),
+            (["csv", "--key", "1"], "1" * 200000, "record 1: field larger than field limit")):
         expect_parts(f"{words}", run(convert, "--from", *words, status=1, typed=given)[1],
                      f"tools/convert: {said}" if ": " in said else said)
     for words, said in ((["csv"], "--key COLUMN goes with --from csv"),
                         (["msr", "--key", "1"], "--key COLUMN goes with --from csv"),
+                        (["text", "--only", "1=a"], "--only goes with --from csv"),
+                        (["arc", "--sizes"], "--sizes goes with --from oracleGeneral, log"),
+                        (["csv", "--key", "1", "--reads"], "--reads goes with --from msr, spc, "),
                         (["csv", "--key", "1", "--separator", ";;"], ";; is not one character, tab or space"),
                         (["other"], "invalid choice")):
         expect_parts(f"{words}", run(convert, "--from", *words, status=2)[1], said)
     expect_parts("no file", run(convert, "--from", "text", folder / "none", status=1)[1], "none: No such file")
+    trace = file_of(folder, "trace", "a\n")
+    expect_parts("a table in its place", run(convert, "--from", "text", "--numbers", trace, trace, status=1)[1],
+                 "is the trace")
+    expect("what stands there", trace.read_text(), "a\n")
 
 
 MISTAKES = {
@@ -135,5 +153,12 @@ MISTAKES = {
     "the first lines alone": Mistake(check_many, "convert", 'while text := "".join(islice(lines, LINES)):',
                                      'if text := "".join(islice(lines, LINES)):'),
     "what cannot be read is left out": Mistake(check_refusals, "convert", "if not self.args.skip:", "if False:"),
+    "quotes without an end": Mistake(check_refusals, "lib/records.py", ", strict=True)", ")"),
+    "empty lines in silence": Mistake(check_formats, "lib/records.py", "((read, it) for it in rows)",
+                                      "((read, it) for it in rows if it)"),
+    "ranges of no block in silence": Mistake(check_many, "lib/records.py", "    if not run.count:\n", "    if False:\n"),
+    "a size below 0": Mistake(check_refusals, "lib/records.py", '    if "-" in text:\n', "    if False:\n"),
+    "options of another format": Mistake(check_refusals, "convert", "and args.form not in forms", "and False"),
+    "a table in a trace's place": Mistake(check_refusals, "convert", "    if args.numbers:\n        refuse", "    if False:\n        refuse"),
     "blocks of another disk": Mistake(check_refusals, "convert", "if last >= DISK:", "if False:"),
 }

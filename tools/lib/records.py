@@ -35,6 +35,12 @@ def number_of(text):
     return int(text) % BLOCKS
 
 
+def size_of(text):
+    if "-" in text:
+        raise Faulty(f"{ascii(text[:SHOWN])} is no size")
+    return number_of(text)
+
+
 def decoded(line):
     return line.decode("utf-8", "surrogateescape").rstrip("\r\n")
 
@@ -50,6 +56,8 @@ def arc(line):
     if not words:
         raise LeftOut("an empty line")
     run = Run(*map(number_of, fields_of(words, 2)[:2]))
+    if not run.count:
+        raise LeftOut("no blocks")
     if run.first + run.count > BLOCKS:
         raise Faulty("it has blocks past 2^64")
     return run
@@ -81,7 +89,7 @@ def log(line):
         raise LeftOut("no GET")
     if found[2] not in (b"200", b"206", b"304"):
         raise LeftOut("another status than 200, 206 and 304")
-    return Object(target.rpartition(" ")[0] or target, int(found[3].replace(b"-", b"0")))
+    return Object(target.rpartition(" ")[0] or target, number_of(decoded(found[3]).replace("-", "0")))
 
 
 def oracle_general(record):
@@ -118,10 +126,10 @@ def records_of(args, file):
     if args.form in LINES:
         return ((LINES[args.form], line) for line in file)
     texts = io.TextIOWrapper(file, "utf-8-sig", "surrogateescape", newline="")
-    rows = csv.reader(texts, delimiter=args.separator) if args.separator else map(str.split, texts)
+    rows = csv.reader(texts, delimiter=args.separator, strict=True) if args.separator else map(str.split, texts)
     header = None if args.key.isdecimal() else [it.strip() for it in next(rows, [])]
     read = partial(row, Columns(args, header))
-    return ((read, it) for it in rows if it)
+    return ((read, it) for it in rows)
 
 
 class Columns:
@@ -143,10 +151,12 @@ class Columns:
 
 
 def row(columns, fields):
+    if not fields:
+        raise LeftOut("an empty line")
     fields_of(fields, columns.least)
     for at, name, values in columns.only:
         if fields[at] not in values:
             raise LeftOut(f"{name} is none of {','.join(values)}")
     key = fields[columns.key]
     return Object(key if columns.is_text else number_of(key),
-                  columns.size is not None and number_of(fields[columns.size]))
+                  columns.size is not None and size_of(fields[columns.size]))

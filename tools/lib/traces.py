@@ -142,11 +142,11 @@ def write(output, tool):
         sys.exit(f"{tool}: the output cannot be written: {fault.strerror}")
 
 
-def refuse_own(picture, traces, tool):
-    """Ends a script whose picture would take the place of one of its traces."""
+def refuse_own(file, traces, tool):
+    """Ends a script that would put a picture or a table in the place of one of its traces."""
     for trace in traces:
-        if os.path.exists(picture) and os.path.exists(trace) and os.path.samefile(picture, trace):
-            sys.exit(f"{tool}: {picture} is the trace {trace}: name another file for the picture")
+        if os.path.exists(file) and os.path.exists(trace) and os.path.samefile(file, trace):
+            sys.exit(f"{tool}: {file} is the trace {trace}: name another file")
 
 
 def replace_file(name, data, tool):
