@@ -144,6 +144,7 @@ WRONG = {
     "'kept', 5": f"access 1, to block 5: the answer ('kept', 5) is none of {ANSWERS}",
     "'evicted', None": f"access 1, to block 5: the answer ('evicted', None) is none of {ANSWERS}",
     "[], []": f"access 1, to block 5: the answer ([], []) is none of {ANSWERS}",
+    "__import__('sys').exit(0)": "access 1, to block 5: SystemExit: 0 (mine.py, line 8)",
     "('kept', None) if self.times == 1 else {}[key]": "access 2, to block 6: KeyError: 6 (mine.py, line 8)",
     "('kept', None) if self.times < 2 else next(iter(()))": "access 2, to block 6: StopIteration",
     "('hit', None) if self.times == 1 else 1 // 0": "access 1, to block 5: a hit of a block that it does not hold",
@@ -169,6 +170,20 @@ class Mine:
         sys._getframe(1).f_locals["held"].add(key)
         return "hit", None
 """
+# Its word is no "hit" when it is asked at first, and each word when it is asked again.
+LYING = """class Word(str):
+    times = 0
+    def __eq__(self, _):
+        self.times += 1
+        return self.times > 1
+    __hash__ = str.__hash__
+class Mine:
+    name = "x-1"
+    def __init__(self, capacity):
+        pass
+    def access(self, key):
+        return Word("hit"), None
+"""
 
 
 def check_refused(reference, folder):
@@ -181,6 +196,9 @@ def check_refused(reference, folder):
     error = run(reference, *call, *own_of(folder, CHEATING), status=1, typed=typed)[1].splitlines()[-1]
     expect("a cheat", error,
            "tools/reference: own:x-1 at 2 entries: 0 misses, where Belady's policy has 3, and no policy has fewer")
+    error = run(reference, *call, *own_of(folder, LYING), status=1, typed=typed)[1].splitlines()[-1]
+    expect("a lie", error, "tools/reference: own:x-1 at 2 entries, access 1, to block 5: the answer ('hit', None) is "
+           f"none of {ANSWERS}")
     for seed in range(2):
         typed = "".join(f"{it}\n" for it in [*skewed_keys(60, 9, seed), *[*range(8)] * 4])
         for capacity in (1, 2, 5):
@@ -212,6 +230,7 @@ def check_files(reference, folder):
         "import nothing_such\n": "mine.py: ModuleNotFoundError: No module named 'nothing_such' (mine.py, line 1)",
         LRU + LRU.replace("Lru", "LRU"): "mine.py: own:lru is there twice",
                            LRU + "    name = 'a,b'\n": "mine.py: 'a,b' is no name of a policy",
+        LRU + "raise SystemExit\n": "mine.py: SystemExit:  (mine.py, line 12)",
         "def (\n": "mine.py: SyntaxError: invalid syntax (mine.py, line 1)"}
     for text, said in texts.items():
         expect_parts(text, run(reference, "run", *own_of(folder, text), "--capacity", 3, "own:lru", status=1,
@@ -334,7 +353,10 @@ MISTAKES = {
                                       "            if False:\n"),
     "what leaves is not looked at": Mistake(check_refused, OWN, 'elif answer != KEPT and answer != ("rejected", key):',
                                             "elif False:"),
-    "answers of any kind": Mistake(check_refused, OWN, "(answer[0], type(answer[1])) not in MISSES", "False"),
+    "answers of any kind": Mistake(check_refused, OWN, "answer[0], type(answer[1])) not in MISSES", "False)"),
+    "words that lie": Mistake(check_refused, OWN, "or type(answer[0]) is not str or (", "or ("),
+    "an end in silence": Mistake(check_files, OWN, "    except RAISED as fault:\n        raise",
+                                 "    except Exception as fault:\n        raise"),
     "a fault before a wrong answer": Mistake(check_refused, OWN, "at, text = first_wrong(",
                                              "at, text = raised != 'StopIteration' and (len(answers), raised) "
                                              "or first_wrong("),
@@ -352,8 +374,8 @@ MISTAKES = {
     "the warm-up as the trace": Mistake(check_survey, "lib/reports.py", "(own, capacities, is_warm_up)",
                                         "(own, capacities, False)"),
     "blocks by how they are written": Mistake(check_survey, "lib/traces.py", "(int(line) for line", "(line for line"),
-    "no progress": Mistake(check_survey, "lib/runs.py", "        show_part(what, sum(Accesses.made)",
-                           "        (what, sum(Accesses.made)"),
+    "no progress": Mistake(check_survey, "lib/runs.py", "        show_part(what, sum(made)",
+                           "        (what, sum(made)"),
     "no note": Mistake(check_survey, "lib/tables.py", "if note := ", 'if note := "" and '),
     "own ones that nobody asked for": Mistake(check_survey, OWN, "return policies if any(map(is_own, policies)) else ",
                                               "return "),

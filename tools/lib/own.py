@@ -16,6 +16,8 @@ PREFIX = "own:"
 HIT, KEPT = ("hit", None), ("kept", None)
 # The other outcomes, each with the type of what stands beside it.
 MISSES = ("kept", type(None)), ("evicted", int), ("rejected", int)
+# What ends a program of one's own, which ends no script in silence.
+RAISED = Exception, SystemExit
 ANSWERS = '("hit", None), ("kept", None), ("evicted", K), ("rejected", key)'
 
 
@@ -90,7 +92,7 @@ def named_faults(where):
     """Says of what a program of one's own raises where that was."""
     try:
         yield
-    except Exception as fault:
+    except RAISED as fault:
         raise Wrong(f"{where}: {shown(fault)}") from None
 
 
@@ -109,7 +111,7 @@ def outcomes_of(word, policy, capacity, keys):
         answers, raised = [], "StopIteration"  # which ends the list without a word
         try:
             answers.extend(map(access, piece))
-        except Exception as fault:
+        except RAISED as fault:
             raised = shown(fault)
         at, text = first_wrong(piece, answers, held, capacity) or (len(answers), raised)
         if at < len(piece):
@@ -130,7 +132,9 @@ def first_wrong(piece, answers, held, capacity):
             continue
         if key in held:
             return at, f"the answer {ascii(answer)} to a block that it holds"
-        if type(answer) is not tuple or len(answer) != 2 or (answer[0], type(answer[1])) not in MISSES:
+        # A word of another type may be equal to what it likes.
+        if type(answer) is not tuple or len(answer) != 2 or type(answer[0]) is not str or (
+                answer[0], type(answer[1])) not in MISSES:
             return at, f"the answer {ascii(answer)} is none of {ANSWERS}"
         _, left = answer
         if left in held:
