@@ -4,6 +4,8 @@ import os
 import random
 import signal
 import subprocess
+import sys
+from concurrent.futures import ThreadPoolExecutor
 from pathlib import Path
 from urllib.parse import parse_qs, urlsplit
 
@@ -378,6 +380,39 @@ def check_faults(tools, program, folder):
         expect(f"{words}: {error}", (found, out, says in error, "Traceback" in error), (status, "", True, False))
 
 
+# It answers each command of `debug` by a line. The first `compare` waits behind its first access until a pipe is opened;
+# each says how many accesses it read.
+TWICE = """#!{python} -SE
+import os, sys
+from pathlib import Path
+if sys.argv[1] == "debug":
+    for line in sys.stdin:
+        print("fault: Command" if line == ".\\n" else "a", flush=True)
+    sys.exit()
+text, begun = os.read(0, 2), Path({folder!r}) / "begun"
+if not begun.exists():
+    begun.touch()
+    open(begun.parent / "pipe").read()
+count = (text + sys.stdin.buffer.read()).count(b"\\n")
+print(f"head\\na,b,2,1,{{count}},0,0,0,{{count}}")
+"""
+
+
+def check_opened_twice(tools, folder):
+    """Where a page is opened twice, each has the ground of the whole trace."""
+    program, trace = folder / "program", folder / "trace"
+    program.write_text(TWICE.format(python=sys.executable, folder=str(folder)))
+    program.chmod(0o755)
+    trace.write_text("1\n2\n3\n")
+    os.mkfifo(folder / "pipe")
+    with watched(tools, program, trace, "--capacity", "2", *PAIR) as (address, _), ThreadPoolExecutor() as pool:
+        first = pool.submit(asked, address, body='{"ask":"ground"}')
+        expect("the first begins", becomes((folder / "begun").exists, 60), True)
+        second = asked(address, body='{"ask":"ground"}')
+        (folder / "pipe").write_text("")
+        expect("both", [first.result(), second], [(200, '{"every":1,"rows":[[3,0,0,0,3]]}')] * 2)
+
+
 def check_packed(browser, tools, program, folder):
     """A packed trace is the same trace."""
     trace, *words = SMALL
@@ -451,6 +486,7 @@ MISTAKES = {
     "both ends alike": Mistake(check_large, "lib/views.py", "cells(slice(-ENDS, None))", "cells(slice(ENDS))"),
     "curves of another interval": Mistake(check_ground, "lib/views.py", "both + first, both + second",
                                           "both + second, both + first"),
+    "one place in a file for two": Mistake(check_opened_twice, "watch", "stdin=own,", "stdin=file.begun(),"),
     "an estimate of another block": Mistake(check_estimates, "lib/views.py", '"left": other', '"left": block'),
     "a window without its target": Mistake(check_estimates, "lib/watch.html", "${size.target ?", "${size.goal ?"),
     "a step of another place": Mistake(check_journal, "lib/views.py", 'ask(f"goto {at}", "show")',

@@ -38,7 +38,7 @@ def check_none(survey, folder):
 MISTAKES = {
     "any block": Mistake(check_requests, "lib/measures.py", "0 not in hits[first:end]", "any(hits[first:end])"),
     "requests of the warm-up": Mistake(check_requests, "lib/measures.py", " if end - count >= trace.left_out]", "]"),
-    "a trace from its first line on": Mistake(check_requests, "lib/reports.py", "            file.seek(self.file.start)\n", ""),
+    "a trace from its first line on": Mistake(check_requests, "lib/traces.py", "        file.seek(self.start)\n", ""),
     "half a report": Mistake(check_none, "lib/measures.py", "        if len(hits) != accesses:", "        if False:"),
     "in silence": Mistake(check_none, "lib/measures.py", "        if counts and accesses > MAX_ROWS:", "        if False:"),
 }

@@ -201,8 +201,7 @@ class Trace:
         """Whether each access hits, as a byte 1 or 0. Other processes may ask that at the same time."""
         if is_own(policy):
             return bytes(it == "hit" for it in outcomes_of(policy, self.options.own[policy], capacity, self.keys))
-        with open(f"/proc/self/fd/{self.file.begun()}", "rb") as file:
-            file.seek(self.file.start)
+        with self.file.apart() as file:
             words = [*self.words("intervals"), "--capacity", capacity, "--every", 1, policy]
             ended = self.program.output(words, stdin=file, stderr=subprocess.PIPE)
         if ended.returncode:

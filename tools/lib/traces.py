@@ -54,6 +54,12 @@ class TraceFile:
     def lines(self):
         return os.fdopen(os.dup(self.begun()), "rb")
 
+    def apart(self):
+        """The file, opened once more where the trace begins: who reads it moves no place of another."""
+        file = open(f"/proc/self/fd/{self.begun()}", "rb")
+        file.seek(self.start)
+        return file
+
 
 def stamp_of(file):
     """The size of a file and the time of its last change, by which a change is seen, or None where it is not here."""
