@@ -226,12 +226,13 @@ def check_refused(browser, tools, program):
             expect(f"opened by {path}", asked(address, "GET", path)[0], 403)
         expect("a foreign host", asked(address, "GET", Host="example.org")[0], 403)
         expect("a foreign page", asked(address, "GET", Origin="http://example.org")[0], 403)
-        for path in ("/watch.html", "/../watch", "/etc/passwd", "//etc/passwd", "/%2e%2e/watch"):
+        for path in ("/watch.html", "/../watch", "/etc/passwd", "//etc/passwd", "/%2e%2e/watch", "http://[/",
+                     "http://example.org/"):
             expect(f"the file {path}", asked(address, "GET", f"{path}?token={token}")[0], 404)
         for status, body, more in ((400, "[]", {}), (400, "{", {}), (400, '{"ask":"state"}', {}),
                                    (400, '{"ask":"state","at":-1}', {}),
                                    (400, '{"ask":"state","at":true}', {}), (400, '{"ask":"state","at":1,"more":1}', {}),
-                                   (400, '{"ask":"ask"}', {}),
+                                   (400, '{"ask":"ask"}', {}), (400, '{"ask":[]}', {}), (400, '{"ask":{}}', {}),
                                    (400, '{"ask":"life","block":"1\\nquit"}', {}),
                                    (400, '{"ask":"life","block":"18446744073709551616"}', {}),
                                    (400, '{"ask":"find","at":1,"forward":true,"what":"hit 1"}', {}),
@@ -461,7 +462,7 @@ MISTAKES = {
     "any host": Mistake(check_refused, "lib/pages.py", 'if self.headers.get_all("Host") != [self.server.name]:',
                         "if False:"),
     "another page that asks": Mistake(check_refused, "lib/pages.py", "!= [self.server.origin]:", "is None:"),
-    "a file beside the page": Mistake(check_refused, "lib/pages.py", 'if asked.path != "/":', "if False:"),
+    "a file beside the page": Mistake(check_refused, "lib/pages.py", 'if path != "/":', "if False:"),
     "a question of any length": Mistake(check_refused, "lib/pages.py", "if int(length) > MAX_QUESTION:", "if False:"),
     "a line for the program in a block": Mistake(check_refused, "watch",
                                                  " and text.isascii() and text.isdigit() and len(text) < 21 "

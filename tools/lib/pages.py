@@ -4,7 +4,7 @@ import json
 import secrets
 import sys
 from http.server import BaseHTTPRequestHandler, ThreadingHTTPServer
-from urllib.parse import parse_qs, urlsplit
+from urllib.parse import parse_qs
 
 HOST = "127.0.0.1"
 # The longest question, and the longest first line of a request, in bytes; how long a client may take to say it, in
@@ -68,15 +68,15 @@ class Exchange(BaseHTTPRequestHandler):
         """Refuses what does not come from the page, or from who has its address."""
         if len(self.requestline) > MAX_LINE:
             raise Refused(414, "the address is too long")
-        asked = urlsplit(self.path)
-        given = self.headers.get("X-Token") if self.command == "POST" else parse_qs(asked.query).get("token", [""])[0]
+        path, _, query = self.path.partition("?")
+        given = self.headers.get("X-Token") if self.command == "POST" else parse_qs(query).get("token", [""])[0]
         if self.headers.get_all("Host") != [self.server.name]:
             raise Refused(403, "another host is meant")
         if self.headers.get_all("Origin", [self.server.origin] * (self.command == "GET")) != [self.server.origin]:
             raise Refused(403, "another page asks")
         if not secrets.compare_digest((given or "").encode(), self.server.token.encode()):
             raise Refused(403, "the address has another token")
-        if asked.path != "/":
+        if path != "/":
             raise Refused(404, "there is one page here")
 
     def page(self):

@@ -211,7 +211,7 @@ class JournalView:
 
     def life(self, asked):
         """The steps that name a key: as a word of their own behind the act, or before a node."""
-        block = asked["block"]
+        block = str(int(asked["block"]))
         named = re.compile(rf"(look|put|remove) {block} |(offer|lose) \d+ {block} |= \w+ {block} \d+$")
         lines = [[at, step] for at, step in enumerate(self.steps, 1) if named.search(step)]
         return {"block": block, "lines": lines[:LIVES], "is_cut": len(lines) > LIVES}
