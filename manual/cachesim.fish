@@ -158,7 +158,7 @@ complete -c cachesim-watch -l main -x -d 'of wtinylfu, of caffeine at first, and
 complete -c cachesim-watch -l spread -x -a 'mixed plain' -d 'how keys are spread over a sketch (mixed)'
 complete -c cachesim-watch -l stripes -x -d 'with --journal: how many read buffers (4)'
 complete -c cachesim-watch -l limit -x -d 'with --journal: how many steps there is room for (16777216)'
-complete -c cachesim-watch -l open -d 'open the page in the browser'
+complete -c cachesim-watch -l open -d 'open the page in the browser, from whose command other users of this machine can read its address'
 complete -c cachesim-watch -l program -r -F -d 'the program to call (cachesim beside the script, or on the path)'
 
 complete -c cachesim-plot -f
