@@ -49,8 +49,8 @@ class JournalTimeline:
     looks, odd, whole = {"show": 0}, "drop", "save"
 
     def __init__(self, data, capacity, stripes, limit, main, spread):
-        self.shell, self.lines, self.events = Shell(capacity, stripes, main, spread), [], []
-        self.shown, self.limit = [self.shell.show()], limit
+        self.opened = lambda: Shell(capacity, stripes, main, spread)
+        self.shell, self.steps, self.lines, self.events, self.limit = self.opened(), [], [], [], limit
         self.read(data.decode("latin-1"))
         self.at = len(self.events)
 
@@ -88,10 +88,13 @@ class JournalTimeline:
         is_halved = self.shell.queues.frequency.age < age
         self.events.append(events_of(hits, left, is_halved, ["drop"] * (name in ("full", "lost"))))
         self.lines.append(line)
-        self.shown.append(self.shell.show())
+        self.steps.append((worker, act))
 
     def look(self, at, _):
-        return self.shown[at]
+        shell = self.opened()
+        for worker, act in self.steps[:at]:
+            shell.step(worker, act)
+        return shell.show()
 
     def whole_answer(self, at):
         return journal(self.lines[:at])
