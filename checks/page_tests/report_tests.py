@@ -1,9 +1,11 @@
 """Tests of the page of tools/survey --html in a browser, beside the tables that the survey prints."""
 import csv
+import gzip
 import hashlib
 import io
 import re
 import sys
+from html import unescape
 
 from browsers import PALE, TRACE, Mistake
 from checks import call, expect
@@ -110,6 +112,20 @@ def check_hostile_name(browser, tools, program, folder):
     expect("what the browser says", browser.complaints(), [])
 
 
+def check_commands(tools, program, folder):
+    """The commands that look further have the options of the survey, and read its packed trace as they stand."""
+    trace = folder / "a trace.gz"
+    trace.write_bytes(gzip.compress("".join(f"{it * it % 61 % 17}\n" for it in range(200)).encode()))
+    words = "--capacity", "5", "--main", "50", "--spread", "plain", "--table", "policies"
+    lines = re.findall("<pre>(.*?)</pre>", report(tools, program, folder, *words, trace=trace)[0].read_text())
+    expect("without the options", [it for it in lines if " --main 50 --spread plain " not in it], [])
+    called = [unescape(it).partition(" | tools/plot")[0] for it in lines if "./cachesim" in it]
+    expect("calls of compare", sum("./cachesim compare" in it for it in called), 1)
+    for line in called:
+        _, error, status = call("/bin/sh", "-c", line.replace("./cachesim", str(program)))
+        expect(line, (error, status), ("", 0))
+
+
 def check_refusals(tools, program, folder):
     """No page of several traces, none of no accesses, and none in the place of its trace."""
     empty = folder / "empty"
@@ -140,5 +156,7 @@ MISTAKES = {
     "a name in the template": Mistake(check_hostile_name, "lib/mailed.py",
                                       "lambda it: filled[it[1]], text)", "lambda it: filled[it[1]], text).replace("
                                       '"@data@", filled["data"])'),
+    "commands without options": Mistake(check_commands, "lib/mailed.py", "if is_told)", "if False)"),
+    "a packed trace as it is": Mistake(check_commands, "lib/mailed.py", "packer = trace.file.packed_by", "packer = None"),
     "a page of nothing": Mistake(check_refusals, "survey", "    if not survey.accesses:", "    if False:"),
 }

@@ -242,9 +242,19 @@ def doubts(survey):
 
 def further(survey):
     """Commands that look further, as they are typed."""
-    trace, form = survey.trace, survey.trace.options.format
+    trace, options = survey.trace, survey.trace.options
     sampled = f" --sampled 1/{trace.inverse} --accesses {trace.whole}" if trace.whole else ""
-    name, how = shlex.quote(trace.name) if trace.name != "-" else "TRACE", "" if form == "lirs" else f" --format {form}"
+    name = shlex.quote(trace.name) if trace.name != "-" else "TRACE"
+    told = {f" --format {options.format}": options.format != "lirs", f" --main {options.main}": options.main != "99",
+            f" --spread {options.spread}": options.spread != "mixed"}
+    how = "".join(text for text, is_told in told.items() if is_told)
+    long = " --long" * options.is_long
+
+    def called(command, words):
+        packer = trace.file.packed_by
+        call = f"./cachesim {command}{how}{long} {words}"
+        return f"{packer} -dc {name} | {call}" if packer else f"{call} < {name}"
+
     chosen = {it: [choice.key.replace(" --main ", ":main=") for choice in choices if not is_own(choice.key)]
               for it, choices in sorted(survey.choices.items())}
     chosen = {it: words for it, words in chosen.items() if words}
@@ -256,16 +266,16 @@ def further(survey):
         lines += [("What each of two policies holds, access by access, in the browser",
                    f"tools/watch {name}{how} --capacity {capacity} --first {best} --second {other}"),
                   ("Which accesses each of both hits alone, over time",
-                   f"./cachesim compare{how} --capacity {capacity} --first {best} --second {other} --every "
-                   f"{every_of(survey.accesses)} < {name} | tools/plot > alone.svg")]
+                   called("compare", f"--capacity {capacity} --first {best} --second {other} --every "
+                          f"{every_of(survey.accesses)}") + " | tools/plot > alone.svg")]
     lines.append(("Whether the choice by the first half of the trace would have held in the second",
-                  f"tools/survey{how}{sampled} --halves {name}"))
+                  f"tools/survey{how}{long}{sampled} --halves {name}"))
     for policy, capacity in [*dict.fromkeys(it for it in survey.spans if not is_own(it[0]))][:3]:
         low, high, by = capacity * 9 // 10, capacity * 11 // 10, max(1, capacity // 50)
         lines.append((f"How {policy} changes around {capacity} entries",
-                      f"./cachesim sweep{how} --policy {policy} $(seq {max(1, low)} {by} {high}) < {name}"))
+                      called("sweep", f"--policy {policy} $(seq {max(1, low)} {by} {high})")))
     lines.append(("The smallest capacity of each policy with a hit ratio",
-                  f"tools/survey{how}{sampled} --reach {max(1, math.floor(float(survey.highest) * 0.9))} {name}"))
+                  f"tools/survey{how}{long}{sampled} --reach {max(1, math.floor(float(survey.highest) * 0.9))} {name}"))
     yield "<h2>To look further</h2>"
     for about, line in lines:
         yield f"<p>{escape(about)}:</p><pre>{escape(as_called(line))}</pre>"

@@ -13,6 +13,7 @@ from pathlib import Path
 
 FORMATS = ["lirs", "arc"]
 GZIP, ZSTD = b"\x1f\x8b", b"\x28\xb5\x2f\xfd"
+PACKERS = {"gzip": GZIP, "zstd": ZSTD}
 COPIED = 1 << 20
 # The number of a block is below this one.
 BLOCKS = 1 << 64
@@ -37,6 +38,7 @@ class TraceFile:
             source = os.fdopen(os.dup(0), "rb") if name == "-" else open(name, "rb")
             first = source.peek(len(ZSTD))[:len(ZSTD)]
             is_file = stat.S_ISREG(os.fstat(source.fileno()).st_mode) and not first.startswith((GZIP, ZSTD))
+            self.packed_by = next((it for it, sign in PACKERS.items() if first.startswith(sign)), None)
             # A caller may have read lines of a standard input.
             self.start = source.tell() if is_file else 0
             self.file = source if is_file else copy_of(source, first)
