@@ -57,9 +57,9 @@ def check_curves(plot, folder):
                  ' . "\\n" . \'a_\' . "\'" . \'"\\, 1000 accesses, --main 80, thin: over 2 points between two places\'', "title 'lru'", "title 'clairvoyant'", "terminal svg",
                  "capacity (entries, logarithmic)")
     expect("whose curves they are", named_curves(rest), [("0", "lru"), ("1", "clairvoyant")])
-    curves, rest = drawn(plot, "--below-optimal", "--y", "0:50", "--title", "A title of its own", path)
+    curves, rest = drawn(plot, "--below-optimal", "--y", "0:50", path)
     expect("points below Belady's", curves, [[(10, 24.6), (20, 19.3), (40, 9.9)]])
-    expect_parts("what was given", rest, "set yrange [0.0:50.0]", "set title 'A title of its own'")
+    expect_parts("what was given", rest, "set yrange [0.0:50.0]", "set title 'Points below clairvoyant over capacity' . ")
     rest = [drawn(plot, *words, path)[1] for words in ((), ("--steps",))]
     expect("steps of three capacities", ["with steps" in it for it in rest], [False, True])
     expect_full_disk(plot, "--commands", path)
@@ -191,7 +191,6 @@ def check_intervals(plot, folder):
     curves, rest = drawn(plot, rows)
     expect("the intervals", curves, [[(0, 50), (10, 50), (10, 20), (20, 20), (20, 75), (24, 75)]])
     expect_parts("around them", rest, "set xrange [0:24]", "'24' 24", "24 accesses, capacity 9, intervals of 10'")
-    expect_parts("its own title", drawn(plot, "--title", "A title of its own", rows)[1], "set title 'A title of its own' . ")
     two = file_of(folder, "two.csv", INTERVALS + interval_rows("lru", 10, 5, 6) + interval_rows("lru", 10, 7, 8, capacity=20))
     curves, rest = drawn(plot, two)
     expect("whose curves they are", (named_curves(rest), [[height for _, height in it[::2]] for it in curves]),
@@ -214,7 +213,6 @@ def check_comparisons(plot, folder):
     expect("the curves", curves, [[(0, 30), (10, 30), (10, 0), (14, 0)], [(0, 10), (10, 10), (10, 50), (14, 50)]])
     expect_parts("around them", rest, "alone over accesses", "it alone hits (%)", "14 accesses, capacity 9, intervals of 10")
     expect("whose curves they are", named_curves(rest), [("0", "lru"), ("1", "wtinylfu")])
-    expect_parts("its own title", drawn(plot, "--title", "A title of its own", rows)[1], "set title 'A title of its own' . ")
     for line in ("lru,wtinylfu,9,1,10,2,3,1,5", "lru,wtinylfu,9,1,10,2,3,1", "lru,wtinylfu,9,1,0,0,0,0,0"):
         expect_parts(line, run(plot, "--commands", status=1, typed=COMPARISONS + line + "\n")[1], "line 2 ")
     run(plot, "--commands", "--below-optimal", rows, status=1)
@@ -256,7 +254,7 @@ def check_unsafe_texts(plot, folder):
     given, files = [], SWEEP + sweep_rows("lru", (5, 1), (6, 2))
     for text in ("plain", UNSAFE):
         paths = [file_of(folder, f"{text}{it}.csv", files).name for it in (1, 2)]
-        words = f"--title={text}", f"--trace={text}", f"--options={text}", *paths
+        words = f"--trace={text}", f"--options={text}", *paths
         run(plot, *words, cwd=folder, env=environment)
         given.append((folder / "given").read_text())
         expect("what gnuplot is given", given[-1], run(plot, "--commands", *words, cwd=folder)[0])
@@ -269,7 +267,7 @@ def check_unsafe_texts(plot, folder):
     named = [run(plot, "--commands", typed=SWEEP + sweep_rows(it, (5, 1), (6, 2)))[0] for it in ("plain", name)]
     expect("the commands around a policy's name", *map(without_texts, named))
     files = SWEEP + sweep_rows(name, (5, 1), (6, 2))
-    words = [*words[:3], file_of(folder, "named.csv", files)]
+    words = [*words[:2], file_of(folder, "named.csv", files)]
     if shutil.which("gnuplot"):
         for kind in ([], ["--png"]):
             run(plot, *kind, *words, cwd=folder)
@@ -324,7 +322,7 @@ MISTAKES = {
     "heights of whole points": Mistake(check_curves, "plot", "{height:.6f}", "{round(height)}"),
     "every second place of a long curve": Mistake(check_dense, "plot", "for _, end, height in curve.points]",
                                                   "for _, end, height in curve.points[::2 if len(curve.points) > 60 else 1]]"),
-    "--title ignored": Mistake(check_curves, "plot", "(args.title or what)", "what"),
+    "--options ignored": Mistake(check_curves, "plot", ", args.options]", "]"),
     "points below the optimum of the first interval": Mistake(
         check_below_optimal_intervals, "lib/curves.py", "best.get((row.begin, row.end, row.capacity))",
         "best.get((0, rows[0].end, row.capacity))"),
@@ -339,8 +337,6 @@ MISTAKES = {
     "curves of over a hundred places cut": Mistake(check_dense, "plot", "for _, end, height in curve.points]", "for _, end, height in curve.points[:100]]"),
     "level curves outside of the axis": Mistake(check_heights, "plot", "low, high = max(0, (low + high) / 2 - 0.5), (low + high) / 2 + 0.5", "low, high = 0, 0.5"),
     "the accesses of the first file": Mistake(check_files, "plot", "'/'.join(map(str, ends))", "min(ends)"),
-    "a title of intervals ignored": Mistake(check_intervals, "plot", "(args.title or what)", "(header == SWEEP and args.title or what)"),
-    "a title of a comparison ignored": Mistake(check_comparisons, "plot", "(args.title or what)", "(header != COMPARISONS and args.title or what)"),
     "steps of intervals": Mistake(check_intervals, "plot", "places >= DENSE) and not is_stepped", "places >= DENSE)"),
     "markers at each place": Mistake(check_dense, "plot", "if places >= DENSE else 1", "if places < DENSE else 1"),
     "the markers of two curves over each other": Mistake(check_intervals, "plot", "first = at * every // len(curves)", "first = 0"),

@@ -253,7 +253,6 @@ def check_cliffs(survey, folder):
     expect("the jumps", run(*words, "--csv", "--table", "jumps")[0],
            f"trace,policy,jumps from,to,hit ratio from,to,points\n{trace},slru,9,10,20.00,17.00,-3.00\n"
            f"{trace},slru,198,200,60.00,40.00,-20.00\n{trace},slru,200,202,40.00,61.00,21.00\n")
-    expect_parts("a large one", run(*words, "--csv", "--table", "jumps", "--jump", "21")[0], f"points\n{trace},slru,200,202,")
     expect_parts("in a table", run(*words)[0], "others but clairvoyant: within a percent of the survey's\ncapacities)", "-20.00\n")
     expect_parts("no jump", run(*words, "--policy", "lru", "--table", "jumps")[0], "no jump (lru: at any capacity; others")
     run(*words, "--policy", "slru", "--table", "traces", "--plot", "picture.svg", cwd=folder, env=gnuplot_by(folder, NOTING))
@@ -274,14 +273,12 @@ def check_reach(survey, folder):
     expect("jumps", run(survey, trace, "--program", program, "--csv", "--table", "jumps")[0],
            "trace,policy,jumps from,to,hit ratio from,to,points\n"
            f"{trace},lru,122,123,5.00,60.00,55.00\n{trace},lru,199,200,60.00,80.00,20.00\n")
-    small = fake(folder, "None if capacity >= 200 else 100 * capacity if capacity < 5 else 500 + 15 * (capacity >= 91) + 6 * (capacity >= 180)")
+    small = fake(folder, "None if capacity >= 200 else 100 * capacity if capacity < 5 else 500 + 19 * (capacity >= 91) + 20 * (capacity >= 180)")
     small.write_text(small.read_text().replace("* percent // 100", "* percent // 1000"))
-    least, *more = (run(survey, trace, "--program", small, "--csv", "--table", "jumps", "--jump", it)[0].count("\n") for it in ("2", "1.6", "1", "0.5"))
-    expect("jumps of 1.5 points and of 0.6", [it - least for it in more], [0, 1, 2])
+    jumps = rows_of(run(survey, trace, "--program", small, "--csv", "--table", "jumps", "--policy", "lru")[0])
+    expect("a rise of 1.9 points and one of 2", [(row["jumps from"], row["to"]) for row in jumps], [("179", "180"), ("199", "200")])
     row = run(survey, trace, "--program", small, *words[4:], "--reach", "20")[0].splitlines()[1]
     expect("one entry too few", row, f"{trace},20,lru,2,1.0,20.00,1,10.00")
-    program = fake(folder, f"None if capacity >= 200 else {rates}")
-    expect("large jumps", run(survey, trace, "--program", program, "--csv", "--table", "jumps", "--jump", "30")[0].count("\n"), 2)
 
 
 def check_percent_of_reach(survey, folder):
@@ -359,7 +356,7 @@ def check_lost_row(survey, folder, program):
                      f"tools/survey: {text}: line 1 is no line of the format {words[1]}: '{line}': another format is {hint}, and docs/TRACES.md converts")
     for word in ("1M", "1048577"):
         expect_parts("a word", run(survey, trace, "--capacity", word, "--program", program, status=2)[1], f"{word} is not a whole number")
-    for option in ("--percent", "--reach", "--jump"):
+    for option in ("--percent", "--reach"):
         expect_parts(option, run(survey, trace, option, "nan", status=2)[1], "nan is not a number from 0 to 100")
     expect_quiet_interrupt(survey, folder, "--program", program)
     expect_full_disk(survey, trace, "--program", fake(folder))
@@ -706,7 +703,8 @@ MISTAKES = {
     "a power of two left out": Mistake(check_jumps_and_powers, "lib/measures.py", "range(1, 20)", "[*range(1, 15), *range(16, 20)]"),
     "a warm-up of a sample that is none": Mistake(check_large, "lib/measures.py", "if trace.warm_up else (0", "if trace.after else (0"),
     "capacities left out in silence": Mistake(check_large_capacities, "lib/measures.py", "if capacity > MAX_CAPACITY:", "if False:"),
-    "whole points of --jump": Mistake(check_reach, "lib/measures.py", ">= points * low.accesses", ">= max(1, int(points)) * low.accesses"),
+    "two points that are no jump": Mistake(check_reach, "lib/measures.py", ">= points * low.accesses", "> points * low.accesses"),
+    "a jump of less than two points": Mistake(check_reach, "lib/measures.py", "LEAST_JUMP = 50, 2", "LEAST_JUMP = 50, 1.5"),
     "the ratio before a jump after it": Mistake(check_jumps_and_powers, "lib/tables.py", "shown_rate(low), shown_rate(high),",
                                                 "shown_rate(low), shown_rate(low if low.capacity > 9999 else high),"),
     "the next smaller capacity at 2 or 3 entries": Mistake(check_reach, "lib/tables.py", "shown_rate(below) if below else",

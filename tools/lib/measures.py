@@ -21,9 +21,9 @@ MAINS = [99, 90, 80, 50, 20]
 # The sizes of parts that are tried, in percent of the capacity, as the option names them: those of the papers, which are the
 # program's own, and three others.
 PARTS = [("s3-fifo", "small", 10, [1, 5, 25]), ("2q", "in", 25, [5, 50, 75]), ("2q", "out", 50, [10, 25, 100])]
-# The curve of lru is read at neighbouring capacities that differ by one in so many, or by one entry. Where smaller jumps than
-# of two points are asked for, these are nearer, or such a jump would not be steep from one to the other.
-FINENESS, LEAST_JUMP = 50, Decimal("0.1")
+# The curve of lru is read at neighbouring capacities that differ by one in so many, or by one entry; a jump of it, and of
+# another policy near a capacity, has so many points at least.
+FINENESS, LEAST_JUMP = 50, 2
 # How many capacities are tried at once between two capacities of lru.
 LRU_TRIES = 64
 # How often the capacities between two whose best policies disagree are measured, each time nearer to them.
@@ -91,7 +91,7 @@ def survey_of(trace, policies, args, progress):
                     spans_of(rows, near), between, choices_of(trace, counted(rows, near)),
                     halves_of(trace, asked, rows, accesses, progress), parts_of(trace, rows, policies, progress),
                     requests_of(trace, rows, policies, accesses, progress),
-                    [*jumps_of_lru(trace, top, args.jump, progress), *other_jumps(rows, near, args.jump)],
+                    [*jumps_of_lru(trace, top, progress), *other_jumps(rows, near)],
                     reaches_of(trace, rows, policies, args.reach, top, highest, progress), powers_of(trace, rows, policies, progress))
     progress.erase()
     return survey
@@ -249,15 +249,15 @@ def steep_parts(rows):
     return parts
 
 
-def jumps_of_lru(trace, top, points, progress):
+def jumps_of_lru(trace, top, progress):
     """Where the hit ratio of lru jumps: the curve at capacities near to each other, then each jump closer by."""
     if not progress.begins("jumps of lru"):
         return []
-    capacities, fineness = [1], max(FINENESS, int(100 / max(points, LEAST_JUMP)))
+    capacities = [1]
     while capacities[-1] < top:
-        capacities.append(min(top, capacities[-1] + max(1, capacities[-1] // fineness)))
+        capacities.append(min(top, capacities[-1] + max(1, capacities[-1] // FINENESS)))
     curve = [row for _, row in sorted(trace.sweep(["lru"], capacities).items())]
-    found = [part for part in steep_parts(curve) if rises_by(points, *part)]
+    found = [part for part in steep_parts(curve) if rises_by(LEAST_JUMP, *part)]
     inside = [capacity for first, last in found for capacity in between(first.capacity, last.capacity, LRU_TRIES)]
     close = trace.sweep(["lru"], inside) if inside else {}
     jumps = []
@@ -265,19 +265,19 @@ def jumps_of_lru(trace, top, points, progress):
         rows = [row for (_, capacity), row in sorted(close.items()) if first.capacity < capacity < last.capacity]
         parts = steep_parts([first, *rows, last])
         jumps.append((parts[0][0], parts[-1][1]))
-    return [jump for jump in jumps if rises_by(points, *jump)]
+    return [jump for jump in jumps if rises_by(LEAST_JUMP, *jump)]
 
 
 def rises_by(points, low, high):
     return (high.hits - low.hits) * 100 >= points * low.accesses
 
 
-def other_jumps(rows, near, points):
+def other_jumps(rows, near):
     """Where the hit ratio of a policy that may lose by a larger capacity jumps within a percent of a survey's capacity."""
     known, others = {**near, **rows}, dict.fromkeys(policy for policy, _ in near)
     pairs = dict.fromkeys(pair for it in capacities_in(rows) for pair in ((below(it), it), (it, above(it))))
     found = ((known[policy, low], known[policy, high]) for policy in others for low, high in pairs)
-    return [(low, high) for low, high in found if is_jump(points, low, high)]
+    return [jump for jump in found if is_jump(LEAST_JUMP, *jump)]
 
 
 def halves_of(trace, asked, rows, accesses, progress):
