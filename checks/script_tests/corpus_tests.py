@@ -29,7 +29,7 @@ FAULTY = r"'x\x1b[2J-----------------------------------' .."
 ODD = "a 'b\" $(touch made) {} {#}\n-c\\d.lirs"
 # By the number of distinct blocks of a trace of 100 accesses: fifo hits 50 percent, lru 45, 50, 55, 60 and 65, and sieve 52;
 # with a cache of half of them 60, 62 to 70 and 61.
-KNOWN = ("None if capacity > 1000 else {'fifo': 60, 'lru': 60 + distinct // 5, 'sieve': 61}[policy] if 2 * capacity == distinct "
+KNOWN = ("{'fifo': 60, 'lru': 60 + distinct // 5, 'sieve': 61}[policy] if 2 * capacity == distinct "
          "else {'fifo': 50, 'lru': 40 + distinct // 2, 'sieve': 52}[policy]")
 SECONDS_TO_END = 30
 SSHD, SLURM = ("parallel", "rsync", "ssh", "ssh-keygen", "sshd"), ("sbatch", "slurmctld", "slurmd", "munged")
@@ -130,8 +130,7 @@ def check_known_report(corpus, folder):
 
 def check_near(corpus, folder):
     """Near to the best is who is within half a point with at most 5 percent more misses, at two hit ratios."""
-    program = fake(folder, "None if capacity > 1000 else __import__('fractions').Fraction(distinct - (policy == 'lru') * 4, 10)",
-                   policies=["fifo", "lru"])
+    program = fake(folder, "distinct - (policy == 'lru') * 4", policies=["fifo", "lru"], parts=1000)
     # Of 1000 accesses fifo misses 100 and 40, and lru 104 and 44: 4 and 10 percent more.
     for distinct, near in ((900, "1"), (960, "0")):
         trace = trace_of(folder, f"{distinct}.lirs", [it % distinct for it in range(1000)])

@@ -109,9 +109,14 @@ def rows_of(text):
     return list(csv.DictReader(io.StringIO(text)))
 
 
-# A program whose reports are known: a policy hits as many percent as the expression gives, of `policy`, `capacity` and
-# `main`; where it gives None, no access but at a capacity that holds all blocks of the trace, where all but the first access
-# to each is a hit.
+def looping(folder, blocks, accesses):
+    """A trace of so many accesses to so many blocks, again and again."""
+    return file_of(folder, "trace", "".join(f"{it % blocks}\n" for it in range(accesses)))
+
+
+# A program whose reports are known: at capacities below `top` a policy hits as many hundredths as the expression gives, of
+# `policy`, `capacity` and `main`; from there on, which is where all blocks of the trace are held, all but the first access to
+# each.
 FAKE = """#!{python} -SE
 import sys
 from collections import Counter
@@ -133,8 +138,7 @@ main = int(option["--main"])
 rows = ["policy,capacity,accesses,hits,misses,evictions,rejections,rate"]
 for policy in (word for before, word in zip(words, words[1:]) if before == "--policy"):
     for capacity in (int(word) for before, word in zip(words, words[1:]) if word.isdigit() and before[:2] != "--"):
-        percent = {percent}
-        hits = accesses * percent // 100 if percent is not None else accesses - distinct if capacity >= distinct else 0
+        hits = accesses * ({percent}) // {parts} if capacity < {top} else accesses - distinct
         rate = 10000 * hits // accesses if accesses else 0
         rows.append(f"{{policy}},{{capacity}},{{accesses}},{{hits}},{{accesses - hits}},"
                     f"{{max(0, accesses - hits - capacity)}},0,{{rate // 100}}.{{rate % 100:02}}")
@@ -142,8 +146,9 @@ print("\\n".join(rows{cut}))
 """
 
 
-def fake(folder, percent="None", cut="", policies=POLICIES):
+def fake(folder, percent="0", cut="", policies=POLICIES, parts=100, top="distinct"):
     """The program whose hits are this expression; `cut` changes the list of its lines."""
-    path = file_of(folder, "fake", FAKE.format(python=sys.executable, percent=percent, cut=cut, policies=", ".join(policies)))
+    words = {"percent": percent, "cut": cut, "policies": ", ".join(policies), "parts": parts, "top": top}
+    path = file_of(folder, "fake", FAKE.format(python=sys.executable, **words))
     path.chmod(0o755)
     return path

@@ -251,7 +251,8 @@ def check_files(reference, folder):
 def check_survey(survey, folder):
     """A column beside those of the program, of which `best` and a note speak, with the warm-up left out, and of a
     sample."""
-    trace, program = file_of(folder, "trace", TRACE * 4 + TRACE.replace("1", "\t01")), ("--program", fake(folder, "10"))
+    trace = file_of(folder, "trace", TRACE * 4 + TRACE.replace("1", "\t01"))
+    program = "--program", fake(folder, "10", top="1 << 21")
     words = *program, *own_of(folder), "--capacity", 4
     # At 4 entries all but the first access to each is a hit: 26 of 30, where the program has 3.
     row = rows_of(run(survey, *words, "--csv", trace)[0])[0]
@@ -283,7 +284,8 @@ def check_survey(survey, folder):
 def check_corpus(corpus, folder):
     """A policy of one's own beside those of the program, in each job; another file of the same name is refused."""
     traces = [file_of(folder, f"trace{it}", TRACE * it) for it in (2, 5)]
-    call = "run", "--program", fake(folder, "10"), "--out", folder / "out", "--percent", 100, "--policy", "lru"
+    program = fake(folder, "10", top="1 << 21")
+    call = "run", "--program", program, "--out", folder / "out", "--percent", 100, "--policy", "lru"
     run(corpus, *call, *own_of(folder), *traces)
     # 4 misses of 12 and of 30, where the program has 11 of 12 and 27 of 30.
     found = {json.loads(it.read_text())["accesses"]: json.loads(it.read_text())["misses"]["100"]

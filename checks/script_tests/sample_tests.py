@@ -66,7 +66,5 @@ MISTAKES = {
     "another rate": Mistake(check_rate, "sample", '"--rate={args.rate}"', '"--rate=1/2"'),
     "lines of one format": Mistake(check_ranges, "sample", '"--format={args.format}"', '"--format=lirs"'),
     "a status that is lost": Mistake(check_refusals, "sample", "else ended.returncode)", "else 0)"),
-    "a megabyte of a pipe": Mistake(check_blocks, "lib/traces.py", "shutil.copyfileobj(gzip.open(source) if first.startswith(GZIP) else source, copy, COPIED)",
-                                    "copy.write((gzip.open(source) if first.startswith(GZIP) else source).read(COPIED))"),
     "a rate of no power of two": Mistake(check_refusals, "lib/samples.py", "number & number - 1 or", "False or"),
 }

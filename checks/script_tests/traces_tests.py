@@ -4,6 +4,7 @@ import gzip
 import io
 import os
 import random
+import shutil
 import subprocess
 import sys
 
@@ -59,7 +60,23 @@ def check_names(survey, folder):
         expect_parts("a line break", run(survey, *words, path, status=2)[1], "a name with a line break stands in no table", ascii(str(path)))
 
 
+def check_beside(survey, folder):
+    """A script calls the program beside its folder, also where that folder or the script itself is a link."""
+    trace, linked, copied = file_of(folder, "trace", "1\n2\n1\n"), folder / "linked", folder / "copied"
+    linked.mkdir()
+    (linked / "tools").symlink_to(survey.parent)
+    shutil.copytree(survey.parent, copied / "tools")
+    (folder / "links").mkdir()
+    (folder / "links/survey").symlink_to(copied / "tools/survey")
+    for top, script in ((linked, linked / "tools/survey"), (copied, folder / "links/survey")):
+        fake(folder).rename(top / "cachesim")
+        out = run(script, "--csv", "--table", "traces", trace, env={**os.environ, "PATH": "/usr/bin:/bin"})[0]
+        expect(f"by {script}", out.splitlines()[1], f"{trace},3,2,1,33.33")
+
+
 MISTAKES = {
+    "no link of a folder": Mistake(check_beside, "lib/reports.py", "(Path(script).absolute(), ", "(Path(script).resolve(), "),
+    "no link of a script": Mistake(check_beside, "lib/reports.py", ", Path(script).resolve())]", ", Path(script).absolute())]"),
     "a trace in a picture's place": Mistake(check_kept_files, "survey", "            refuse_own(file, args.trace, TOOL)\n", "            pass\n"),
     "a trace that grows": Mistake(check_kept_files, "lib/traces.py", "!= self.stamp:", "is None:"),
     "a trace that grows at last": Mistake(check_kept_files, "lib/reports.py", "        self.file.begun()  #", "        #"),

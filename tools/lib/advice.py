@@ -5,7 +5,7 @@ from collections import namedtuple
 
 from .policies import CAFFEINE, OPTIMAL, WINDOWED, has_sketch
 
-# What is named: as it is typed, by its rows' name, and how many percent more misses than the best policy it has at worst.
+# What is named: as it is typed, by its rows' name, and how many percent more misses than the best it has at worst.
 Choice = namedtuple("Choice", "name key worst")
 
 
@@ -29,8 +29,9 @@ def typed(key, main):
 
 def more_misses(rows):
     """How many percent more misses than the fewest each row has."""
-    least = min(row.misses for row in rows.values())
-    return {key: 100 * (row.misses - least) / least if least else math.inf * (row.misses > 0) for key, row in rows.items()}
+    misses = {key: row.misses for key, row in rows.items()}
+    least = min(misses.values())
+    return {key: 100 * (it - least) / least if least else math.inf * (it > 0) for key, it in misses.items()}
 
 
 def nearly_best(trace, rows):
@@ -40,8 +41,8 @@ def nearly_best(trace, rows):
 
 
 def is_as_good(trace, row, best):
-    """Whether a row is within half a point of the best one and has at most 5 percent more misses: near 100 percent half a
-    point is much of the misses. Of a sample it is two points where a sketch is in play, whose errors differ."""
+    """Whether a row is within half a point of the best one and has at most 5 percent more misses: near 100 percent half
+    a point is much of the misses. Of a sample it is two points where a sketch is in play, whose errors differ."""
     is_rough = trace.whole and (has_sketch(row.policy) or has_sketch(best.policy))
     is_close = (best.hits - row.hits) * (50 if is_rough else 200) <= row.accesses
     return is_close and (row.misses - best.misses) * 20 <= best.misses

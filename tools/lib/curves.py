@@ -1,5 +1,5 @@
-"""Reports as curves, for tools/plot: rows of `cachesim sweep`, `cachesim intervals` and `cachesim compare --every`, and what is
-refused of them."""
+"""Reports as curves, for tools/plot: rows of `cachesim sweep`, `cachesim intervals` and `cachesim compare --every`, and
+what is refused of them."""
 import sys
 from collections import namedtuple
 
@@ -76,7 +76,7 @@ def refuse_hidden(rows, where, is_intervals):
 
 
 def estimated(row, inverse, accesses):
-    """A row of a sample of one block in so many as that of the whole trace: as many times the misses and the capacity."""
+    """A row of a sample as that of the whole trace: as many times the misses and the capacity."""
     misses = min(accesses, (row.accesses - row.hits) * inverse)
     capacity = row.capacity * inverse
     return row._replace(capacity=capacity, begin=capacity, end=capacity, accesses=accesses, hits=accesses - misses)
@@ -85,8 +85,8 @@ def estimated(row, inverse, accesses):
 def curves_of(rows, where, is_intervals, suffix, is_below):
     """A curve for each policy, for intervals also for each capacity.
 
-    Points below Belady's policy are, of intervals, those of all accesses up to the end of each: in an interval of its own
-    Belady's policy is no upper bound.
+    Points below Belady's policy are, of intervals, those of all accesses up to the end of each: in an interval of its
+    own Belady's policy is no upper bound.
     """
     best = {(row.begin, row.end, row.capacity): row for row in rows if row.policy == OPTIMAL}
     capacities, curves, sums = {row.capacity for row in rows}, {}, {}
@@ -98,7 +98,8 @@ def curves_of(rows, where, is_intervals, suffix, is_below):
                 refuse(f"{where}line {row.line} has no row of {OPTIMAL} beside it: run that policy too")
             seen, lost = sums.get((row.policy, row.capacity), (0, 0)) if is_intervals else (0, 0)
             if is_intervals and seen != row.begin:
-                refuse(f"{where}line {row.line} is of accesses from {row.begin + 1} on, and those from {seen + 1} on are missing")
+                refuse(f"{where}line {row.line} is of accesses from {row.begin + 1} on, and those from {seen + 1} on "
+                       "are missing")
             seen, lost = seen + row.accesses, lost + optimal.hits - row.hits
             sums[row.policy, row.capacity] = seen, lost
             height = 100 * lost / seen

@@ -1,5 +1,5 @@
-"""The jobs of tools/corpus: what one makes of its trace, and the programs that run them, each of which prints the line of
-a job once that has ended: GNU parallel, Slurm, or this script by a pool of threads."""
+"""The jobs of tools/corpus: what one makes of its trace, and the programs that run them, each of which prints the line
+of a job once that has ended: GNU parallel, Slurm, or this script by a pool of threads."""
 import contextlib
 import json
 import os
@@ -85,9 +85,8 @@ def words_of_job(script, program, settings):
 
 def has_gnu_parallel():
     """Whether `parallel` is GNU's: another program has that name too."""
-    if not shutil.which("parallel"):
-        return False
-    return subprocess.run(["parallel", "--version"], capture_output=True, check=False).stdout.startswith(b"GNU parallel")
+    asked = ["parallel", "--version"]
+    return bool(shutil.which(asked[0])) and b"GNU parallel" in subprocess.run(asked, capture_output=True).stdout
 
 
 def sent_files(folder, program, own):
@@ -121,7 +120,7 @@ def words_of_pool(folder, job, names, jobs):
 
 
 def words_of_slurm(folder, job, names, jobs, label):
-    """A job array of Slurm. Each task takes an equal part of the list, and puts what it finds into the folder itself."""
+    """A job array of Slurm. Each task takes an equal part of the list, and puts what it finds into the folder."""
     tasks = min(len(names), MAX_TASKS)
     limit = f"%{jobs}" if jobs else ""
     log = str(folder / "slurm-").replace("%", "%%")
@@ -147,8 +146,8 @@ class Engine:
             if signal.getsignal(number) != signal.SIG_IGN:
                 signal.signal(number, self.take_signal)
         # A group of its own, so that an interrupt of the terminal ends it once and in order.
-        self.process = subprocess.Popen([str(it) for it in words], stdin=subprocess.DEVNULL, stdout=subprocess.PIPE,
-                                        env={**os.environ, "PARALLEL_SHELL": "/bin/sh"}, cwd=folder, start_new_session=True)
+        how = {"cwd": folder, "start_new_session": True, "stdin": subprocess.DEVNULL, "stdout": subprocess.PIPE}
+        self.process = subprocess.Popen(map(str, words), env={**os.environ, "PARALLEL_SHELL": "/bin/sh"}, **how)
 
     def lines(self):
         """The lines of jobs, until all have ended or a signal came."""

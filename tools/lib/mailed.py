@@ -1,5 +1,4 @@
-"""The survey of a trace as one file of HTML, which shows its tables and pictures wherever it is opened, and fetches
-nothing."""
+"""The survey of a trace as one file of HTML, which shows its tables and pictures anywhere, and fetches nothing."""
 import hashlib
 import json
 import math

@@ -1,5 +1,5 @@
-"""What tools/survey measures of a trace: its footprint, every policy at several capacities, the windows of wtinylfu, jumps
-of the hit ratio, the capacities that reach one, and both sides of powers of two."""
+"""What tools/survey measures of a trace: its footprint, every policy at several capacities, the windows of wtinylfu,
+jumps of the hit ratio, the capacities that reach one, and both sides of powers of two."""
 import math
 import os
 import sys
@@ -15,14 +15,14 @@ from .samples import check_accesses
 from .traces import Unreadable, ranges_of
 
 PERCENTS = ["1", "2", "5", "10", "20", "50"]
-# The main parts of wtinylfu that are tried, in percent of the capacity, as --main names them; the rest is its window. The
-# first is the program's own.
+# The main parts of wtinylfu that are tried, in percent of the capacity, as --main names them; the rest is its window.
+# The first is the program's own.
 MAINS = [99, 90, 80, 50, 20]
-# The sizes of parts that are tried, in percent of the capacity, as the option names them: those of the papers, which are the
-# program's own, and three others.
+# The sizes of parts that are tried, in percent of the capacity, as the option names them: those of the papers, which
+# are the program's own, and three others.
 PARTS = [("s3-fifo", "small", 10, [1, 5, 25]), ("2q", "in", 25, [5, 50, 75]), ("2q", "out", 50, [10, 25, 100])]
-# The curve of lru is read at neighbouring capacities that differ by one in so many, or by one entry; a jump of it, and of
-# another policy near a capacity, has so many points at least.
+# The curve of lru is read at neighbouring capacities that differ by one in so many, or by one entry; a jump of it, and
+# of another policy near a capacity, has so many points at least.
 FINENESS, LEAST_JUMP = 50, 2
 # How many capacities are tried at once between two capacities of lru.
 LRU_TRIES = 64
@@ -32,15 +32,15 @@ ROUNDS = 2
 LEAST_SPAN = Decimal("0.5")
 # How many capacities in equal ratios a picture has, from 1 percent of the footprint on.
 DRAWN = 30
-# The most accesses of which it is looked up how many requests hit, and of all that are looked up at once: each is a
-# row.
+# The most accesses of which it is looked up how many requests hit, and of all that are looked up at once.
 MAX_ROWS = 1 << 23
 # The tables with `best`.
 ADVICE = {"policies", "misses", "halves"}
 
-# `rows` has those of `policies` and of what else is asked for `best`, `spans` the lowest and the highest row near a capacity at
-# which a policy moves; `between` are the capacities that nobody asked for. `parts` has a row for each policy, option, size and
-# capacity, `requests` one for each policy and capacity, `reaches` the row that reaches a ratio and one that does not.
+# `rows` has those of `policies` and of what else is asked for `best`, `spans` the lowest and the highest row near a
+# capacity at which a policy moves; `between` are the capacities that nobody asked for. `parts` has a row for each
+# policy, option, size and capacity, `requests` one for each policy and capacity, `reaches` the row that reaches a ratio
+# and one that does not.
 Survey = namedtuple("Survey",
                     "trace accesses footprint once highest policies rows spans between choices halves parts requests "
                     "jumps reaches powers", defaults=({}, {}, [], {}, [], {}, {}, [], [], []))
@@ -92,14 +92,15 @@ def survey_of(trace, policies, args, progress):
                     halves_of(trace, asked, rows, accesses, progress), parts_of(trace, rows, policies, progress),
                     requests_of(trace, rows, policies, accesses, progress),
                     [*jumps_of_lru(trace, top, progress), *other_jumps(rows, near)],
-                    reaches_of(trace, rows, policies, args.reach, top, highest, progress), powers_of(trace, rows, policies, progress))
+                    reaches_of(trace, rows, policies, args.reach, top, highest, progress),
+                    powers_of(trace, rows, policies, progress))
     progress.erase()
     return survey
 
 
 def highest_of(trace, accesses, footprint):
-    """The row of a cache that holds the whole footprint: it misses the first access to each block, after a warm-up to each
-    that did not come there."""
+    """The row of a cache that holds the whole footprint: it misses the first access to each block, after a warm-up to
+    each that did not come there."""
     begun, known, _ = trace.footprint(is_warm_up=True) if trace.warm_up else (0, 0, 0)
     accesses, misses = accesses - begun, footprint - known
     return trace.estimated(Row(OPTIMAL, footprint, accesses, accesses - misses, misses, 0))
@@ -147,7 +148,7 @@ def measured(trace, asked, capacities):
 
 
 def rows_near(trace, asked, capacities):
-    """The rows one percent, or one entry, below and above each capacity of the policies that may lose by a larger one."""
+    """The rows a percent, or an entry, below and above each capacity of the policies that may lose by a larger one."""
     others = [policy for policy, main in asked.values() if policy not in MONOTONE and not main]
     tries = sorted({near for it in capacities for near in (below(it), above(it))}.difference(capacities))
     return trace.sweep(others, tries) if others and tries else {}
@@ -161,7 +162,8 @@ def spans_of(rows, near):
         around = [known.get((policy, it)) for it in (below(capacity), capacity, above(capacity))]
         if None not in around and any(is_jump(LEAST_SPAN, *pair) for pair in zip(around, around[1:])):
             lowest, *_, highest = sorted(around, key=lambda it: it.hits)
-            apart = [abs(it.hits - row.hits) for it in rows.values() if it.capacity == capacity and it.policy not in (policy, OPTIMAL)]
+            others = (it for it in rows.values() if it.capacity == capacity and it.policy not in (policy, OPTIMAL))
+            apart = [abs(it.hits - row.hits) for it in others]
             if highest.hits - lowest.hits > min(apart, default=0):
                 spans[policy, capacity] = lowest, highest
     return spans
@@ -179,12 +181,13 @@ def capacities_in(rows):
 def capacities_of(trace, footprint, args, progress):
     """The capacities that are given, or those parts of the footprint, of which none is over the largest capacity."""
     percents = args.percent or map(Decimal, [] if args.capacity else PERCENTS)
-    found = {part_of(footprint, percent) for percent in percents} | {max(1, round(it / trace.inverse)) for it in args.capacity or []}
+    found = {part_of(footprint, percent) for percent in percents}
+    found |= {max(1, round(it / trace.inverse)) for it in args.capacity or []}
     for capacity in sorted(found):
         if capacity > MAX_CAPACITY:
             progress.erase()
-            print(f"{trace.program.tool}: {trace.name}: {trace.shown(capacity)} entries are left out: the largest cache has "
-                  f"{trace.shown(MAX_CAPACITY)}", file=sys.stderr)
+            print(f"{trace.program.tool}: {trace.name}: {trace.shown(capacity)} entries are left out: the largest "
+                  f"cache has {trace.shown(MAX_CAPACITY)}", file=sys.stderr)
     return sorted(it for it in found if it <= MAX_CAPACITY)
 
 
@@ -273,7 +276,7 @@ def rises_by(points, low, high):
 
 
 def other_jumps(rows, near):
-    """Where the hit ratio of a policy that may lose by a larger capacity jumps within a percent of a survey's capacity."""
+    """Where a policy that may lose by a larger capacity jumps within a percent of a survey's capacity."""
     known, others = {**near, **rows}, dict.fromkeys(policy for policy, _ in near)
     pairs = dict.fromkeys(pair for it in capacities_in(rows) for pair in ((below(it), it), (it, above(it))))
     found = ((known[policy, low], known[policy, high]) for policy in others for low, high in pairs)
@@ -281,15 +284,16 @@ def other_jumps(rows, near):
 
 
 def halves_of(trace, asked, rows, accesses, progress):
-    """The choices in the first half of a trace and in the second, and how many percent more misses than the best each name
-    has in the second, by capacity."""
+    """The choices in the first half of a trace and in the second, and how many percent more misses than the best each
+    name has in the second, by capacity."""
     later = trace.without_half(accesses) if progress.begins("halves") else None
     if not later:
         return {}
     second = measured(later, asked, capacities_in(rows))
-    first, names = {at: trace.without(rows[at], row) for at, row in second.items()}, [it for it in asked if it != OPTIMAL]
+    first = {at: trace.without(rows[at], row) for at, row in second.items()}
     halves = [choices_of(trace, it) for it in (first, second)]
-    return {it: (halves[0][it], halves[1][it], more_misses({name: second[name, it] for name in names})) for it in halves[0]}
+    more = {it: more_misses({name: second[name, it] for name in asked if name != OPTIMAL}) for it in halves[0]}
+    return {it: (halves[0][it], halves[1][it], more[it]) for it in more}
 
 
 def below(capacity):
@@ -360,8 +364,8 @@ def powers_of(trace, rows, policies, progress):
 
 
 def drawn_of(survey, progress):
-    """Every policy at capacities in equal ratios from 1 percent of the footprint on, at both ends of each jump, and between
-    two of these where a policy changes by over two points."""
+    """Every policy at capacities in equal ratios from 1 percent of the footprint on, at both ends of each jump, and
+    between two of these where a policy changes by over two points."""
     progress.begins("picture")
     top = min(survey.footprint, MAX_CAPACITY)
     low = max(1, survey.footprint // 100)
@@ -370,7 +374,6 @@ def drawn_of(survey, progress):
     for _ in range(ROUNDS + 1):
         rows.update(survey.trace.sweep(survey.policies, sorted(tries)) if tries else {})
         places = capacities_in(rows)
-        tries = {math.isqrt(low * high) for low, high in zip(places, places[1:])
-                 if any(abs(rows[it, low].hits - rows[it, high].hits) * 50 > rows[it, low].accesses for it in survey.policies)}
-        tries -= {*places}
+        tries = {math.isqrt(low * high) for low, high in zip(places, places[1:]) for it in survey.policies
+                 if abs(rows[it, low].hits - rows[it, high].hits) * 50 > rows[it, low].accesses} - {*places}
     return rows.values()

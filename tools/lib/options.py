@@ -10,8 +10,8 @@ IS_INSTALLED = Path(sys.argv[0]).name.startswith("cachesim-")
 
 
 def as_called(text):
-    """A text that names scripts, the program and documents as the repository does, by the names of tools/install where the
-    script is called by one."""
+    """A text that names scripts, the program and documents as the repository does, by the names of tools/install where
+    the script is called by one."""
     if not IS_INSTALLED:
         return text
     text = text.replace("./cachesim", "cachesim").replace("tools/", "cachesim-")

@@ -51,8 +51,7 @@ def add_option(parser):
 
 
 def loaded(files):
-    """The classes with a method `access` that these files have, by their words. One whose name begins with _ is no
-    policy."""
+    """The classes with a method `access` of these files by their words. One whose name begins with _ is no policy."""
     found = {}
     for file in files:
         policies = policies_of(module_of(file))

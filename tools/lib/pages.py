@@ -7,8 +7,7 @@ from http.server import BaseHTTPRequestHandler, ThreadingHTTPServer
 from urllib.parse import parse_qs
 
 HOST = "127.0.0.1"
-# The longest question, and the longest first line of a request, in bytes; how long a client may take to say it, in
-# seconds.
+# The most bytes of a question and of a request's first line, and how many seconds a client may take to say it.
 MAX_QUESTION, MAX_LINE, PATIENCE = 1000, 1000, 30
 HEADERS = {"Cache-Control": "no-store", "Cross-Origin-Opener-Policy": "same-origin",
            "Cross-Origin-Resource-Policy": "same-origin",

@@ -52,8 +52,8 @@ def terminal_of(is_png):
 
 
 def quoted(text):
-    """A text for gnuplot in single quotes, in which it runs no command, expands no macro and reads no escape. Apostrophes
-    and line feeds are put between such pieces; what else cannot be shown is a question mark."""
+    """A text for gnuplot in single quotes, in which it runs no command, expands no macro and reads no escape.
+    Apostrophes and line feeds are put between such pieces; what else cannot be shown is a question mark."""
     shown = "".join(it if it.isprintable() or it == "\n" else "?" for it in text)
     return "'" + shown.replace("'", """' . "'" . '""").replace("\n", """' . "\\n" . '""") + "'"
 

@@ -111,7 +111,8 @@ def request(command, sector, size):
     return Range(None, sector * SECTOR, size, command & 0xFF in READS)
 
 
-LINES = {"log": log, "text": lambda line: Object(decoded(line)), "arc": arc, "msr": msr, "spc": spc, "blktrace": blktrace}
+LINES = {"log": log, "text": lambda line: Object(decoded(line)), "arc": arc, "msr": msr, "spc": spc,
+         "blktrace": blktrace}
 # How many bytes a record has, and how it is read.
 BINARY = {"oracleGeneral": (24, oracle_general), "cloudphysics": (32, cloudphysics),
           "cloudphysics2": (40, cloudphysics2)}

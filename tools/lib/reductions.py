@@ -8,10 +8,11 @@ from .pictures import ends_around, marks_of, quoted, terminal_of
 from .policies import OPTIMAL, POLICIES
 
 NOTE = """(percent of misses fewer than {baseline} has, over the traces; P50: the median, between two traces linearly)
-(best on: so many traces; near on: within half a point of the best hit ratio there and 5 % of its misses; clairvoyant is left out)
+(best on: so many traces; near on: within half a point of the best hit ratio there and 5 % of its misses; clairvoyant \
+is left out)
 """
 # The colours of the sizes in a scatter.
-COLOURS = [POLICIES[it].colour for it in ("lru", "wtinylfu", "tinylfu-lru", "tinylfu-slru", "slru", "clock", "arc", "sieve")]
+COLOURS = [POLICIES[it].colour for it in "lru wtinylfu tinylfu-lru tinylfu-slru slru clock arc sieve".split()]
 
 # Of one policy at one size: its part of the misses fewer for each trace, and on how many it is the best, or near to it.
 Column = namedtuple("Column", "percent policy parts best near")
@@ -48,7 +49,8 @@ def table_of(columns):
         if it.parts:
             numbers = [statistics.mean(it.parts), *percentiles_of(it.parts)]
             wins = ("-", "-") if it.policy == OPTIMAL else (str(it.best), str(it.near))
-            yield it.percent, it.policy, str(len(it.parts)), *(f"{float(round(number, 2)):.2f}" for number in numbers), *wins
+            shown = (f"{float(round(number, 2)):.2f}" for number in numbers)
+            yield it.percent, it.policy, str(len(it.parts)), *shown, *wins
 
 
 def axis_of(name, numbers):
@@ -60,7 +62,8 @@ def axis_of(name, numbers):
 
 
 def frame_of(title, is_png):
-    return [terminal_of(is_png), f"set title {quoted(title)}", "set key outside right center reverse Left samplen 2 spacing 1.3",
+    return [terminal_of(is_png), f"set title {quoted(title)}",
+            "set key outside right center reverse Left samplen 2 spacing 1.3",
             "set grid ytics linecolor rgb '#dddddd' linetype 1", "set border 3"]
 
 
@@ -81,10 +84,11 @@ def boxes_of(columns, baseline, is_png):
     yield from axis_of("y", [number for row in rows.values() for number in row])
     yield f"set ylabel {quoted(f'% of misses fewer than {baseline}')}"
     # The text of a mark is a format.
-    names = ", ".join(f"{quoted(f'{it} %% of the footprint')} {at * wide + (wide - 2) / 2}" for at, it in enumerate(percents))
-    yield from (f"set xtics nomirror scale 0 ({names})", f"set xrange [-1:{len(percents) * wide - 1}]",
+    names = (f"{quoted(f'{it} %% of the footprint')} {at * wide + (wide - 2) / 2}" for at, it in enumerate(percents))
+    yield from (f"set xtics nomirror scale 0 ({', '.join(names)})", f"set xrange [-1:{len(percents) * wide - 1}]",
                 "set boxwidth 0.7", "set style fill solid 0.4")
-    yield "plot 0 linecolor rgb '#888888' notitle, \\\n    " + ", \\\n    ".join(box_of(at, it) for at, it in enumerate(policies))
+    boxes = ", \\\n    ".join(box_of(at, it) for at, it in enumerate(policies))
+    yield f"plot 0 linecolor rgb '#888888' notitle, \\\n    {boxes}"
 
 
 def box_of(at, policy):

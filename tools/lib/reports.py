@@ -41,8 +41,8 @@ class Program:
 
     @staticmethod
     def beside(script):
-        """`cachesim` beside the folder of a script, or where tools/install puts it, also where the folder or the script is a
-        link; else that on the path."""
+        """`cachesim` beside the folder of a script, or where tools/install puts it, also where the folder or the script
+        is a link; else that on the path."""
         tops = [it.parent.parent for it in (Path(script).absolute(), Path(script).resolve())]
         files = [*(top / "cachesim" for top in tops), tops[1].parent / "bin/cachesim"]
         return next((str(it) for it in files if it.is_file()), "cachesim")
@@ -69,8 +69,9 @@ class Program:
         return list(dict.fromkeys(named or []))
 
     def check_word(self, option, word):
-        """Ends the script where a word names no policy of the program, or has sizes of its own that this one does not take."""
-        if self.output(["run", "--capacity", 1, word], stdin=subprocess.DEVNULL, stderr=subprocess.DEVNULL).returncode == 2:
+        """Ends the script where a word names no policy of the program, or has sizes that this one does not take."""
+        nothing = subprocess.DEVNULL
+        if self.output(["run", "--capacity", 1, word], stdin=nothing, stderr=nothing).returncode == 2:
             taken, policy = self.policies(), word.partition(":")[0]
             more = ", or has a size that it does not take" if policy in taken else tip_for(policy, taken)
             self.refuse_word(option, word, taken, more)
@@ -94,7 +95,8 @@ class Program:
         other = next(it for it in FORMATS if it != form)
         if not faulty_line:
             return as_called("the program refused it: of a longer trace tools/sample makes a sample")
-        return as_called(f"{faulty_line}: another format is --format {other}, and docs/TRACES.md converts what is in none")
+        hint = f"another format is --format {other}, and docs/TRACES.md converts what is in none"
+        return as_called(f"{faulty_line}: {hint}")
 
     def refuse_reports(self, name):
         sys.exit(f"{self.tool}: the program printed other reports of {name} than were asked for")
@@ -103,9 +105,9 @@ class Program:
 class Trace:
     """A trace, how the program is to read it, and what its reports stand for.
 
-    Of a sample of one block in `inverse`, taken of a trace of `whole` accesses, a row estimates that trace: it has as many
-    times the misses, and its other accesses are hits (the correction of SHARDS-adj, Waldspurger et al. 2015). A row's
-    capacity stays that of the sample: `shown` is the trace's. With `after` a row leaves out the first accesses.
+    Of a sample of one block in `inverse`, taken of a trace of `whole` accesses, a row estimates that trace: it has as
+    many times the misses, and its other accesses are hits (the correction of SHARDS-adj, Waldspurger et al. 2015). A
+    row's capacity stays that of the sample: `shown` is the trace's. With `after` a row leaves out the first accesses.
     """
 
     def __init__(self, program, name, options, inverse=1, whole=None, after=0):
@@ -127,7 +129,7 @@ class Trace:
         return rows
 
     def footprint(self, is_warm_up=False):
-        """How many accesses the trace has, or its warm-up, how many distinct blocks, and how many of these come once."""
+        """How many accesses the trace has, or its warm-up, how many distinct blocks, and how many that come once."""
         words = ["footprint", "--format", self.options.format, *["--long"] * self.options.is_long]
         (counts,) = self.report(words, FOOTPRINT, is_warm_up)
         accesses, blocks, once = map(int, counts)
@@ -136,8 +138,8 @@ class Trace:
         return accesses, blocks, once
 
     def leave_out(self, accesses):
-        """Leaves the warm-up out of this trace of so many accesses from here on, and says whether any are left: of a sample as
-        large a part is left out as of the whole trace."""
+        """Leaves the warm-up out of this trace of so many accesses from here on, and says whether any are left: of a
+        sample as large a part is left out as of the whole trace."""
         after = self.after * accesses // self.whole if self.whole else self.after
         if 0 < after < accesses:
             self.warm_up, self.left_out = tempfile.TemporaryFile(), after
@@ -169,8 +171,8 @@ class Trace:
         """A row of each policy at each capacity, keyed by both, with another main part, or another size of a part."""
         rows = self.reports(policies, capacities, main, part)
         if self.warm_up:
-            # What a policy hits in the warm-up does not depend on what follows. Belady's policy knows that, but it has the
-            # most hits of all up to every place, so these too are those of the warm-up alone.
+            # What a policy hits in the warm-up does not depend on what follows. Belady's policy knows that, but it has
+            # the most hits of all up to every place, so these too are those of the warm-up alone.
             begun = self.reports(policies, capacities, main, part, is_warm_up=True)
             rows = {at: self.without(row, begun[at]) for at, row in rows.items()}
         return {at: self.estimated(row) for at, row in rows.items()}
@@ -214,7 +216,7 @@ class Trace:
         words = [*self.words("sweep", main, part), *(word for it in policies for word in ("--policy", it)), *capacities]
         rows = [Row(row[0], *map(int, row[1:6])) for row in self.report(words, SWEEP, is_warm_up)]
         accesses = self.left_out if is_warm_up else self.accesses
-        if [row[:3] for row in rows] != [(policy, capacity, accesses) for policy in policies for capacity in capacities]:
+        if [row[:3] for row in rows] != [(policy, it, accesses) for policy in policies for it in capacities]:
             self.program.refuse_reports(self.name)
         return {row[:2]: row for row in rows}
 

@@ -1,5 +1,4 @@
-"""Runs in Python over the accesses of a trace: side by side by processes, how far they are, and the bound of all of
-them."""
+"""Runs in Python over the accesses of a trace, side by side by processes, how far they are, and their bound."""
 import contextlib
 import heapq
 import mmap
@@ -37,8 +36,7 @@ class Accesses(list):
         return Counter(super().__iter__())
 
     def certain_hits(self, capacity):
-        """The hits of a cache that keeps the most frequent keys and rejects all others. Belady's policy has as many at
-        least."""
+        """The hits of a cache that keeps the most frequent keys. Belady's policy has as many at least."""
         return sum(times - 1 for _, times in self.times.most_common(capacity))
 
     @cached_property

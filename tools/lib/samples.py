@@ -11,8 +11,8 @@ SAID = re.compile(r"([0-9]+) of ([1-9][0-9]*) accesses, [0-9]+ blocks: --sampled
 
 
 def inverse_of_rate(text):
-    """The N of a rate 1/N of a sample, where N is a power of two: such a rate alone leaves a capacity and its part of it in
-    the same place between two powers of two."""
+    """The N of a rate 1/N of a sample, where N is a power of two: such a rate alone leaves a capacity and its part of
+    it in the same place between two powers of two."""
     upper, _, lower = text.partition("/")
     number = int(lower) if upper == "1" and lower.isascii() and lower.isdigit() else 0
     if number < 2 or number & number - 1 or number > 1 << 20:
@@ -39,11 +39,12 @@ def named(text):
 def add_options(parser, what):
     """The options of a script that takes a sample, or what was made of one."""
     parser.add_argument("--sampled", type=named, metavar="1/N",
-                        help=as_called(f"{what} from a sample by tools/sample, of this rate: estimate the whole trace. In place of 1/N "
-                                       "and --accesses also a file with what tools/sample said of it, which has to fit exactly"))
+                        help=as_called(f"{what} from a sample by tools/sample, of this rate: estimate the whole trace. "
+                                       "In place of 1/N and --accesses also a file with what tools/sample said of it, "
+                                       "which has to fit exactly"))
     parser.add_argument("--accesses", type=whole_number(1 << 60), metavar="N",
-                        help="with --sampled 1/N: the accesses of the whole trace. Refused where those of the sample times N are "
-                             "over twice as many or under half, or where it has no fewer")
+                        help="with --sampled 1/N: the accesses of the whole trace. Refused where those of the sample "
+                             "times N are over twice as many or under half, or where it has no fewer")
 
 
 def settle(parser, args):
@@ -60,8 +61,8 @@ def settle(parser, args):
 def check_accesses(args, where, accesses):
     """Ends a script whose sample has so many accesses, where it cannot be the one that the arguments name.
 
-    A sample at 1/N has about one access in N of the whole trace; how far it is off depends on the most used blocks. Where
-    one has a tenth of the accesses, the sample is named by what tools/sample said, which is compared exactly.
+    A sample at 1/N has about one access in N of the whole trace; how far it is off depends on the most used blocks.
+    Where one has a tenth of the accesses, the sample is named by what tools/sample said, which is compared exactly.
     """
     if not args.sampled:
         return
@@ -69,5 +70,6 @@ def check_accesses(args, where, accesses):
     if kept is not None and accesses != kept:
         args.usage_error(f"{where}it has {accesses} accesses, and the sample that --sampled names has {kept}")
     if kept is None and not (whole <= 2 * stands_for and stands_for <= 2 * whole and accesses < whole):
-        args.usage_error(as_called(f"{where}its {accesses} accesses at 1/{args.sampled} stand for {stands_for}, far from --accesses {whole}: is "
-                         "it that sample? Where a few blocks have most accesses, name the file with what tools/sample said"))
+        args.usage_error(as_called(
+            f"{where}its {accesses} accesses at 1/{args.sampled} stand for {stands_for}, far from --accesses {whole}: "
+            "is it that sample? Where a few blocks have most accesses, name the file with what tools/sample said"))

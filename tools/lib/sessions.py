@@ -84,8 +84,7 @@ def next_stop(ask, at, breakpoint):
 
 
 def previous_stop(ask, at, breakpoint):
-    """The last position before this one at which a breakpoint holds: from further and further back, and then by
-    halves."""
+    """The last position before this one at which a breakpoint holds: from further back, and then by halves."""
     def between(begin):
         stop = next_stop(ask, begin, breakpoint)
         return stop if stop is not None and stop < at else None

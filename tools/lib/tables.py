@@ -1,5 +1,5 @@
-"""The tables of tools/survey: what was measured of its traces as rows of cells, and these as CSV or in columns for people.
-A cell that names several policies is a tuple of them, from the best one on."""
+"""The tables of tools/survey: what was measured of its traces as rows of cells, and these as CSV or in columns for
+people. A cell that names several policies is a tuple of them, from the best one on."""
 import csv
 import io
 import textwrap
@@ -13,8 +13,8 @@ from .reports import MAX_CAPACITY, rate
 
 # How wide a table for people is at most, but for a trace's name.
 MAX_WIDTH = 80
-# So many columns say what a row is of: where a table is too wide for one block of lines, each block has them. The gap is
-# what stands between two columns.
+# So many columns say what a row is of: where a table is too wide for one block of lines, each block has them. The gap
+# is what stands between two columns.
 KEYS, GAP = 2, 2
 
 
@@ -51,7 +51,8 @@ def traces_table(surveys):
 
 def policies_table(surveys):
     is_bounded = OPTIMAL in surveys[0].policies
-    yield "trace", "% of footprint", "capacity", *surveys[0].policies, *["below optimal"] * is_bounded, "at worst", "best"
+    bound = ["below optimal"] * is_bounded
+    yield "trace", "% of footprint", "capacity", *surveys[0].policies, *bound, "at worst", "best"
     for it, capacity, place in places_of(surveys):
         best = it.choices.get(capacity, [])
         below, worst = ["-"] * is_bounded, "-"
@@ -144,28 +145,30 @@ TITLES = {"policies": "hit ratios in percent", "misses": "misses", "halves": "be
           "windows": "hit ratios of wtinylfu in percent", "parts": "hit ratios in percent by the sizes of parts",
           "requests": "requests that hit whole, in percent", "jumps": "jumps of the hit ratio",
           "reach": "capacities that reach a hit ratio", "powers": "on both sides of a power of two"}
-AT_WORST = ("in the order of how many percent more misses than the best they have at worst, there or at the capacities beside it. "
-            "LOW-HIGH: the policy changes so much within a percent of the capacity; its lowest counts)")
+AT_WORST = ("clairvoyant left out, in the order of how many percent more misses than the best they have at worst, there "
+            "or at the capacities beside it. LOW-HIGH: the policy changes so much within a percent of the capacity; its "
+            "lowest counts)")
 NOTES = {
-    "policies": f"(best: all within half a point of the best policy and 5 % of its misses, clairvoyant left out, {AT_WORST}",
+    "policies": f"(best: all within half a point of the best policy and 5 % of its misses, {AT_WORST}",
     "halves": "(% more misses: of the first half's first name, in the second half, than the best policy there)",
     "windows": "(--main 99 has a window of 1 percent, --main 20 one of 80)",
     "parts": "(the program's own sizes, those of the papers: --small 10, --in 25 and --out 50)",
     "requests": "(a request is a line of the trace, and hits where all its blocks do; best: as above, by these; "
                 "clairvoyant is no bound of them)",
     "jumps": "(lru: at any capacity; others but clairvoyant: within a percent of the survey's capacities)",
-    "reach": "(the smallest capacity found, to one percent; of other policies than lru and clairvoyant a smaller one may reach the "
-             "ratio too, and a larger one may not; never: no cache of any size has that ratio)",
+    "reach": "(the smallest capacity found, to one percent; of other policies than lru and clairvoyant a smaller one "
+             "may reach the ratio too, and a larger one may not; never: no cache of any size has that ratio)",
     "powers": "(near a capacity of the survey: past it the sketch doubles its width, so look at both sides)",
 }
 # What stands behind a column of caffeine.
-OF_CAFFEINE = ("(caffeine: its sketch, whom it lets in and a fixed window were measured beside the library; how its window moves is from "
-               "the library's source)")
+OF_CAFFEINE = ("(caffeine: its sketch, whom it lets in and a fixed window were measured beside the library; how its "
+               "window moves is from the library's source)")
 NOTES_OF_SAMPLE = {
-    "policies": "(best: all within half a point of the best policy, or two where one of both has a sketch, and 5 % of its misses, "
-                f"clairvoyant left out, {AT_WORST}\n(of sieve and slru near a jump, and of any policy where two samples by other seeds "
-                "disagree, a sample says nothing)",
-    "jumps": f"{NOTES['jumps']}\n(where a sample jumps is known to some percent: 3 at 1000 entries of its cache, 10 at 100)",
+    "policies": "(best: all within half a point of the best policy, or two where one of both has a sketch, and 5 % of "
+                f"its misses, {AT_WORST}\n(of sieve and slru near a jump, and of any policy where two samples by other "
+                "seeds disagree, a sample says nothing)",
+    "jumps": f"{NOTES['jumps']}\n(where a sample jumps is known to some percent: 3 at 1000 entries of its cache, 10 at "
+             "100)",
 }
 # What is said in place of an empty table.
 NONE = {"policies": "no accesses", "halves": "no halves", "jumps": "no jump " + NOTES["jumps"]}
@@ -205,7 +208,8 @@ def lines_of(cells, is_left, widths):
 def in_two(head):
     """A head in two lines, which are about as long as each other."""
     words = head.split()
-    return min(([" ".join(words[:at]), " ".join(words[at:])] for at in range(len(words))), key=lambda it: max(map(len, it)))
+    pairs = ([" ".join(words[:at]), " ".join(words[at:])] for at in range(len(words)))
+    return min(pairs, key=lambda it: max(map(len, it)))
 
 
 def block_of(block, rows, heads, least):
@@ -219,8 +223,8 @@ def block_of(block, rows, heads, least):
 
 
 def aligned(rows, most=MAX_WIDTH):
-    """Rows of cells, the first of which are heads, in as many blocks of columns as are needed. Where they do not fit as they are,
-    heads have two lines and names as many as they need."""
+    """Rows of cells, the first of which are heads, in as many blocks of columns as are needed. Where they do not fit as
+    they are, heads have two lines and names as many as they need."""
     rows = list(rows)
     for heads, width in (([[head] for head in rows[0]], 1 << 20), ([in_two(head) for head in rows[0]], 1)):
         least = [max(len(line) for lines in (head, *(folded(it, width) for it in cells)) for line in lines)
@@ -255,11 +259,12 @@ def also_measured(surveys):
 
 def text_of(args, surveys):
     # Of CSV a number is one.
-    tables = {name: list(TABLES[name]([it._replace(spans={}) for it in surveys] if args.csv else surveys)) for name in args.table}
+    surveys = [it._replace(spans={}) for it in surveys] if args.csv else surveys
+    tables = {name: list(TABLES[name](surveys)) for name in args.table}
     if args.csv:
-        out = io.StringIO()
-        csv.writer(out, lineterminator="\n").writerows(
-            [" or ".join(it) or "-" if isinstance(it, tuple) else it for it in row] for rows in tables.values() for row in rows)
+        out, every = io.StringIO(), (row for rows in tables.values() for row in rows)
+        rows = ([" or ".join(it) or "-" if isinstance(it, tuple) else it for it in row] for row in every)
+        csv.writer(out, lineterminator="\n").writerows(rows)
         return out.getvalue()
     notes = {**NOTES, **(NOTES_OF_SAMPLE if args.sampled else {})}
     if CAFFEINE in surveys[0].policies:
@@ -273,6 +278,6 @@ def text_of(args, surveys):
     if args.sampled:
         parts.append(f"(estimates by one block in {args.sampled})\n")
     if args.after:
-        about = "about " * bool(args.sampled)
-        parts.append(folded_note(f"(without {about}the first {args.after} accesses, where clairvoyant is no upper bound)"))
+        left_out = f"{'about ' * bool(args.sampled)}the first {args.after} accesses"
+        parts.append(folded_note(f"(without {left_out}, where clairvoyant is no upper bound)"))
     return "\n".join(parts)

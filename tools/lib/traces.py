@@ -94,7 +94,7 @@ def unpack_zstd(source, copy):
 
 
 def ranges_of(lines, form):
-    """The first block and the count of each line with accesses; ValueError names the first line that the program refuses."""
+    """The first block and the count of each line with accesses; ValueError names the first line that is refused."""
     for number, line in enumerate(lines, 1):
         text = line.strip(b" \t\r\n")
         if not text or form == "lirs" and text == b"*":
@@ -117,7 +117,7 @@ def shown(line):
 
 
 def number_of(field):
-    """The number that a field is, or BLOCKS or more: int() takes signs and underscores too, and no thousands of digits."""
+    """The number that a field is, or BLOCKS or more: int() takes signs and underscores, and no thousands of digits."""
     return int(field if len(field) < 20 else field.lstrip(b"0")[:21] or b"0") if field.isdigit() else BLOCKS
 
 
@@ -158,8 +158,8 @@ def refuse_own(file, traces, tool):
 
 
 def replace_file(name, data, tool):
-    """Writes a file beside its place and moves it there, so that what stood there stays where that fails. What is no file,
-    as a pipe, is written as it is."""
+    """Writes a file beside its place and moves it there, so that what stood there stays where that fails. What is no
+    file, as a pipe, is written as it is."""
     place = os.path.realpath(name)
     is_file = os.path.isfile(name) or not os.path.exists(name)
     # Nobody else knows the name, whatever runs on other machines.

@@ -1,6 +1,5 @@
 """What tools/watch shows: the program's answers at a position, as values for its page. Which keys are where, what an
-access did, and every count are the program's; here they are compared and made fewer, where they are too many to
-draw."""
+access did, and every count are the program's; here they are compared, and made fewer where they are too many."""
 import re
 from array import array
 from bisect import bisect_left, bisect_right
@@ -199,8 +198,7 @@ class JournalView:
         return {"found": places[place] if 0 <= place < len(places) else None}
 
     def ground(self, _):
-        """In each interval the looks that found their key, and the steps of the maintenance, by the text of the
-        journal."""
+        """In each interval the looks that found their key, and the steps of the maintenance, by the journal's text."""
         every, rows = every_of(len(self.steps)), []
         for begin in range(0, len(self.steps), every):
             steps = self.steps[begin:begin + every]
