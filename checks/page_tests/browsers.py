@@ -65,6 +65,11 @@ class Browser:
         self.complaints()
         self.driver.get(address)
 
+    def show(self, address, at=0):
+        """Opens a page of tools/watch at a position."""
+        self.open(f"{address}#at={at}" if at else address)
+        self.quiet()
+
     def until(self, script, *words):
         """What a script gives, once it gives something that is true."""
         return WebDriverWait(self.driver, patience(SECONDS),

@@ -88,8 +88,7 @@ def check_parting(browser, tools, program):
     trace, *words = SMALL
     parting = int(call(program, "part", *words, stdin=trace.open("rb"))[0].split()[1])
     with watched(tools, program, *SMALL) as (address, _):
-        browser.open(address)
-        browser.quiet()
+        browser.show(address)
         expect_page(browser, program, 0)
         browser.click("next")
         expect_page(browser, program, parting)
@@ -112,8 +111,7 @@ def check_parting(browser, tools, program):
 def check_link(browser, tools, program):
     """A link names the position, and an input goes there; the end is an end."""
     with watched(tools, program, *SMALL) as (address, _):
-        browser.open(f"{address}#at=60000")
-        browser.quiet()
+        browser.show(address, 60000)
         expect_page(browser, program, 60000)
         browser.run("location.hash = '#at=59998'")
         browser.until("return document.getElementById('at').value === '59998'")
@@ -136,8 +134,7 @@ def check_previous(browser, tools, program):
     partings = [int(it.removeprefix("at ")) for it in lines if it.startswith("at ")]
     with watched(tools, program, *SMALL) as (address, _):
         for at in (partings[0] + 1, partings[299], partings[200] - 1, partings[120] + 1):
-            browser.open(f"{address}#at={at}")
-            browser.quiet()
+            browser.show(address, at)
             browser.press("p")
             expect(f"before {at}", browser.position(), max(it for it in partings if it < at))
 
@@ -145,8 +142,7 @@ def check_previous(browser, tools, program):
 def check_quick_clicks(browser, tools, program):
     """200 quick clicks, and then some here and there, leave page and process at one position."""
     with watched(tools, program, *SMALL) as (address, _):
-        browser.open(f"{address}#at=1400")
-        browser.quiet()
+        browser.show(address, 1400)
         browser.run("for (let it = 0; it < 200; it++) document.querySelector('[data-by=\"1\"]').click()")
         browser.quiet()
         expect_page(browser, program, 1600)
@@ -175,8 +171,7 @@ def check_life(browser, tools, program):
 
     wanted = [[f"{at:,}", *(shown(at, *it) for it in pair)] for at, *pair in zip(places, outcomes[::2], outcomes[1::2])]
     with watched(tools, program, *SMALL) as (address, _):
-        browser.open(address)
-        browser.quiet()
+        browser.show(address)
         browser.find("block").send_keys(block, "\n")
         browser.until("return document.querySelector('#life tbody tr')")
         rows = browser.run(LIFE)
@@ -254,8 +249,7 @@ def check_hostile_name(browser, tools, program, folder):
     trace = folder / HOSTILE
     trace.write_text("1\n2\n1\n")
     with watched(tools, program, trace, "--capacity", "2", *PAIR) as (address, _):
-        browser.open(address)
-        browser.quiet()
+        browser.show(address)
         expect("the title", (browser.driver.title, browser.find("title").text),
                (f"s3-fifo and arc over {HOSTILE}",) * 2)
         expect("what the browser says", browser.complaints(), [])
@@ -266,8 +260,7 @@ def check_large(browser, tools, program, folder):
     trace, words = folder / "trace", ["--capacity", "100000", "--first", "s3-fifo", "--second", "lru"]
     trace.write_text("".join(f"{it % 130000}\n" for it in range(300000)))
     with watched(tools, program, trace, *words) as (address, _):
-        browser.open(f"{address}#at=250000")
-        browser.quiet()
+        browser.show(address, 250000)
         lines = dialogue(program, ["debug", "--trace", trace, *words], "goto 250000", "queues")
         queues = {tuple(it.split()[1:3]): [key.split(":")[0] for key in it.split()[3:]] for it in lines[1:]}
         keys = queues["lru", "queue"]
@@ -285,8 +278,7 @@ def check_ground(browser, tools, program):
     """The curves of the slider's ground are the rows of `compare`, as far as its line says them."""
     trace, *words = SMALL
     with watched(tools, program, *SMALL) as (address, _):
-        browser.open(f"{address}#at=1525")
-        browser.quiet()
+        browser.show(address, 1525)
         said = browser.until("return document.getElementById('there').textContent")
         rows = [it.split(",") for it in call(program, "compare", "--every", "500", *words,
                                              stdin=trace.open("rb"))[0].splitlines()[1:]]
@@ -311,8 +303,7 @@ def check_estimates(browser, tools, program):
             asked = [f"estimate {it}" for it in (came, left, oldest)]
             _, window, _, *estimates = dialogue(program, words, f"goto {at}", "window", *asked)
             *_, size, _, target = window.split()
-            browser.open(f"{address}#at={at}")
-            browser.quiet()
+            browser.show(address, at)
             heads = browser.texts(".side header")
             for key, what, said in zip((came, left, oldest), ("accessed", "left", "was oldest"), estimates[1::2]):
                 part = f"{key} ({what}) {said.split()[-1]}"
@@ -328,8 +319,7 @@ def check_journal(browser, tools, program, folder):
     journal.write_text(text)
     with watched(tools, program, "--journal", journal, *cache) as (address, _):
         at = next(number for number, it in enumerate(steps, 1) if number > 300 and " = began" in it)
-        browser.open(f"{address}#at={at - 1}")
-        browser.quiet()
+        browser.show(address, at - 1)
         browser.run("document.getElementById('what').value = 'turn at the maintenance'")
         browser.click("next")
         expect("the next turn", browser.position(), at)
@@ -420,16 +410,14 @@ def check_packed(browser, tools, program, folder):
     packed = folder / "trace.gz"
     packed.write_bytes(subprocess.run(["gzip", "-c", trace], stdout=subprocess.PIPE, check=True).stdout)
     with watched(tools, program, packed, *words) as (address, _):
-        browser.open(f"{address}#at=1525")
-        browser.quiet()
+        browser.show(address, 1525)
         expect_page(browser, program, 1525)
 
 
 def check_looks(browser, tools, program, folder, pictures):
     """At both widths all of it is on the page, each field has a name, and its texts stand out."""
     with watched(tools, program, *SMALL) as (address, _):
-        browser.open(f"{address}#at=1525")
-        browser.quiet()
+        browser.show(address, 1525)
         browser.until("return document.querySelector('#ground path')")
         browser.picture(folder / "narrow.png", 400)
         browser.picture(pictures / "watch.png", 1400)

@@ -10,13 +10,14 @@ import sys
 import tempfile
 from collections import namedtuple
 from functools import cached_property
+from itertools import islice
 from pathlib import Path
 
 from .options import as_called
 from .own import counts_of, is_own, outcomes_of
 from .policies import tip_for
 from .runs import Accesses
-from .traces import FORMATS, TraceFile, Unreadable, beginning_of, read_blocks, ranges_of
+from .traces import FORMATS, TraceFile, Unreadable, beginning_of, read_blocks, shown
 
 MAX_CAPACITY = 1 << 20
 SWEEP = "policy,capacity,accesses,hits,misses,evictions,rejections,rate"
@@ -155,13 +156,14 @@ class Trace:
         return later if later.warm_up else None
 
     def faulty_line(self):
-        """The first line that the program refuses, if it refuses one."""
-        try:
-            for _ in ranges_of(self.file.lines(), self.options.format):
-                pass
-        except ValueError as fault:
-            return str(fault)
-        return None
+        """The first line that the program refuses, if it refuses one: the number is what it says of the trace."""
+        words = ["footprint", "--long", "--format", self.options.format]
+        said = self.program.output(words, stdin=self.file.begun(), stderr=subprocess.PIPE).stderr
+        number = re.search(rb"^fault: (?!TooLong)\w+ line ([0-9]+)$", said, re.MULTILINE)
+        if not number:
+            return None
+        line = next(islice(self.file.lines(), int(number[1]) - 1, None))
+        return f"line {int(number[1])} is no line of the format {self.options.format}: {shown(line)}"
 
     def shown(self, count):
         """A capacity, or another number of blocks, as it is of the trace that was sampled."""

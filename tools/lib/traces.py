@@ -94,20 +94,10 @@ def unpack_zstd(source, copy):
 
 
 def ranges_of(lines, form):
-    """The first block and the count of each line with accesses; ValueError names the first line that is refused."""
-    for number, line in enumerate(lines, 1):
-        text = line.strip(b" \t\r\n")
-        if not text or form == "lirs" and text == b"*":
-            continue
-        if form == "lirs":
-            block, count = number_of(text), 1
-        else:
-            fields = [it for it in text.replace(b"\t", b" ").split(b" ") if it]
-            block, count = number_of(fields[0]), number_of(fields[1]) if len(fields) > 1 else BLOCKS
-        if max(block, count) == BLOCKS or block + count > BLOCKS:
-            raise ValueError(f"line {number} is no line of the format {form}: {shown(line)}")
-        if count:
-            yield block, count
+    """The first block and the count of each line with accesses, of a trace that the program has read without a fault."""
+    for fields in map(bytes.split, lines):
+        if fields and fields != [b"*"] and (count := 1 if form == "lirs" else int(fields[1])):
+            yield int(fields[0]), count
 
 
 def shown(line):
@@ -116,13 +106,8 @@ def shown(line):
     return ascii(text[:SHOWN]) + " .." * (len(text) > SHOWN)
 
 
-def number_of(field):
-    """The number that a field is, or BLOCKS or more: int() takes signs and underscores, and no thousands of digits."""
-    return int(field if len(field) < 20 else field.lstrip(b"0")[:21] or b"0") if field.isdigit() else BLOCKS
-
-
 def read_blocks(lines, form):
-    """The blocks of a trace that the program has read without a fault, in order."""
+    """The blocks of such a trace, in order."""
     if form == "lirs":
         return (int(line) for line in lines if line.strip() not in (b"", b"*"))
     return (block for first, count in ranges_of(lines, form) for block in range(first, first + count))
