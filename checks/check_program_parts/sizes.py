@@ -8,7 +8,6 @@ from .calls import COMPARE_HEADER, HEADER, INTERVALS_HEADER, PARTING, RECORDED, 
 
 FILTERED = ("tinylfu-lru", "tinylfu-slru", "wtinylfu", "caffeine")
 ACCESSES_OF_RECORDED = 84333
-KILOBYTES_OF_SMALL_CACHES = 60000
 
 
 def there_and_back(check, first, second, trace, count, near, *cache):
@@ -48,18 +47,6 @@ def large_caches(check):
                                       for at in range(count))))
     for first, second in (("clock", "sieve"), ("s3-fifo", "2q"), ("arc", "wtinylfu")):
         there_and_back(check, first, second, trace, count, 2 * count // 7, "--capacity", capacity)
-
-
-@part()
-def small_caches(check):
-    """Two caches of one entry, there and back over many halvings, in little memory: a first table has few buckets, and the record
-    of a halving no room but for its bits."""
-    count = check.size(20000, 2000)
-    trace = check.file("halvings", lines(*(at % 7 for at in range(count))))
-    for first, second in zip(check.policies[::2], check.policies[1::2]):
-        check.expect(f"small caches of {first} and {second}", "debug", "--capacity", 1, "--first", first, "--second", second,
-                     "--trace", trace, typed=lines(f"goto {count}", f"back {count}"), out=lines(f"at {count}", "at 0"),
-                     under=("bash", "-c", f'ulimit -d {KILOBYTES_OF_SMALL_CACHES} && exec "$@"', "bash"))
 
 
 @part(6)
