@@ -1,5 +1,6 @@
 """What pytest hands to the tests of the pages, by the names of their parameters: `browser`, Debian's Chromium without a
 window; `tools`, the scripts; `program`, the built program; `folder`, one of the test's own."""
+import shutil
 import sys
 import tempfile
 from pathlib import Path
@@ -36,9 +37,11 @@ def browser():
     it.quit()
 
 
-@pytest.fixture
-def tools():
-    return TOP / "tools"
+@pytest.fixture(scope="session")
+def tools(tmp_path_factory):
+    """A copy of the scripts, in which all tests pass: so a mistake in another one is what its test finds."""
+    return shutil.copytree(TOP / "tools", tmp_path_factory.mktemp("copy") / "tools",
+                           ignore=shutil.ignore_patterns("__pycache__"))
 
 
 @pytest.fixture

@@ -126,6 +126,20 @@ def check_commands(tools, program, folder):
         expect(line, (error, status), ("", 0))
 
 
+def check_own(tools, program, folder):
+    """Of a policy of one's own a page says that it is not proved, and that it is in no picture over time."""
+    (folder / "mine.py").write_text("class Mine:\n    def __init__(self, capacity):\n        pass\n"
+                                    "    def access(self, key):\n        return 'rejected', key\n")
+    trace = folder / "trace"
+    trace.write_text("1\n2\n1\n" * 9)
+    page, _ = report(tools, program, folder, "--own", folder / "mine.py", "--policy", "own:mine", "--capacity", "2",
+                     "--table", "traces", trace=trace)
+    text = unescape(page.read_text())
+    expect("what it says", [it for it in ("own:mine, not proved", "Policies of one's own are left out.")
+                            if it not in text], [])
+    expect("its curve", text.count('<g data-policy="own:mine">'), 1)
+
+
 def check_refusals(tools, program, folder):
     """No page of several traces, none of no accesses, and none in the place of its trace."""
     empty = folder / "empty"
@@ -158,5 +172,6 @@ MISTAKES = {
                                       '"@data@", filled["data"])'),
     "commands without options": Mistake(check_commands, "lib/mailed.py", "if is_told)", "if False)"),
     "a packed trace as it is": Mistake(check_commands, "lib/mailed.py", "packer = trace.file.packed_by", "packer = None"),
+    "own ones that are missed": Mistake(check_own, "lib/mailed.py", "any(map(is_own, survey.policies))", "False"),
     "a page of nothing": Mistake(check_refusals, "survey", "    if not survey.accesses:", "    if False:"),
 }

@@ -40,8 +40,8 @@ def page_of(args, survey, drawn, version):
                      "By steps: between two capacities a curve stays at the ratio of the smaller one.", curves)
     if times:
         parts += section(f"Hit ratio over time, at {times['capacity']} entries",
-                         f"Of intervals of {times['every']:,} accesses; in one interval clairvoyant is no upper bound.",
-                         times)
+                         f"Of intervals of {times['every']:,} accesses; in one interval clairvoyant is no upper bound."
+                         + " Policies of one's own are left out." * any(map(is_own, survey.policies)), times)
     parts += doubts(survey)
     also = also_measured([survey]).get(survey.trace.name, "")
     parts += [table(name, survey, args, also) for name in args.table]
