@@ -145,6 +145,4 @@ MISTAKES = {
     "keys of few digits": Mistake(check_many, "journal", "[1-9][0-9]*)", "[1-9][0-9]{0,18})"),
     "most tasks at a later step": Mistake(check_many, "journal", "if self.waiting > self.most:", "if self.waiting >= self.most:"),
     "an interrupt that is told": Mistake(check_ways, "lib/traces.py", "signal.SIG_DFL)", "signal.default_int_handler)"),
-    "a full disk": Mistake(check_ways, "lib/traces.py", "    except OSError as fault:\n        sys.exit(f\"{tool}",
-                           "    except OSError as fault:\n        print(f\"{tool}"),
 }

@@ -198,11 +198,10 @@ def check_intervals(plot, folder):
     expect_parts("of two capacities", rest, "20 accesses, intervals of 10")
     expect("without the warm-up", drawn(plot, "--after", "10", rows)[0], [[(10, 20), (20, 20), (20, 75), (24, 75)]])
     run(plot, "--commands", "--after", "24", rows, status=1)
-    for count, note in ((200, ""), (201, "402 intervals lie too near to each other: --every 11 or more"), (300, "600 intervals lie too near to each other: --every 15 or more")):
-        many = INTERVALS + interval_rows("lru", 10, *(it % 7 for it in range(count))) + interval_rows("slru", 10, *[5] * count)
-        commands, said = run(plot, "--commands", typed=many)
-        expect("a carpet", (len(curves_in(commands)[0][0]), said.partition(", or")[0]), (2 * count, "tools/plot: " * bool(note) + note))
-        expect("its lines", ("with steps" in commands, "with lines" in commands), (False, True))
+    many = INTERVALS + interval_rows("lru", 10, *(it % 7 for it in range(300))) + interval_rows("slru", 10, *[5] * 300)
+    commands = run(plot, "--commands", typed=many)[0]
+    expect("many", [len(it) for it in curves_in(commands)[0]], [600, 600])
+    expect("its lines", ("with steps" in commands, "with lines" in commands), (False, True))
     expect_parts("its markers", commands, "$curve0 every 50::1 with points ", "$curve1 every 50::25 with points ")
 
 
@@ -343,13 +342,11 @@ MISTAKES = {
     "steps from 31 capacities on": Mistake(check_dense, "plot", "DENSE, MARKERS = 30", "DENSE, MARKERS = 31"),
     "intervals after the hundredth left out": Mistake(check_intervals, "plot", "for begin, end, height in curve.points for place in (begin, end)]\n    return",
                                                       "for begin, end, height in curve.points[:100] for place in (begin, end)]\n    return"),
-    "a note of carpets from 403 intervals on": Mistake(check_intervals, "plot", "MAX_INTERVALS = 400", "MAX_INTERVALS = 402"),
     "the names of three curves changed over": Mistake(check_styles, "plot", "in_legend(curve.name, curve.policy)",
                                                       "curves[len(curves) - 1 - at if len(curves) > 2 else at].name"),
     "one capacity of two": Mistake(check_intervals, "plot", "== 1:\n            yield f\"capacity", ">= 1:\n            yield f\"capacity"),
     "points below another capacity's optimum": Mistake(check_below_optimal_intervals, "lib/curves.py", "best.get((row.begin, row.end, row.capacity))",
                                                        "best.get((row.begin, row.end, rows[0].capacity))"),
-    "a carpet in silence": Mistake(check_intervals, "plot", "if places > MAX_INTERVALS:", "if False:"),
     "a sample's capacity": Mistake(check_sampled, "lib/curves.py", "row.capacity * inverse", "row.capacity"),
     "a sample of far fewer accesses": Mistake(check_sampled, "lib/samples.py", "whole <= 2 * stands_for", "True"),
     "a sample of far more accesses": Mistake(check_sampled, "lib/samples.py", "stands_for <= 2 * whole", "True"),

@@ -32,7 +32,7 @@ class JobProgram(Program):
     """The program as a job calls it, which says nothing by itself."""
 
     def output(self, words, **how):
-        return super().output(words, stderr=subprocess.PIPE, **how)
+        return super().output(words, **{"stderr": subprocess.PIPE, **how})
 
     @staticmethod
     def refusal(ended, faulty_line, _):
