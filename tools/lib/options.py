@@ -49,7 +49,7 @@ def number_in(low, high):
 def whole_number(high, low=1):
     """The type of whole numbers within these bounds."""
     def read(text):
-        if not (text.isascii() and text.isdigit() and low <= int(text[:99]) <= high):
+        if not (re.fullmatch(r"\+?[0-9]+", text) and low <= int(text[:99]) <= high):
             raise argparse.ArgumentTypeError(f"{text} is not a whole number from {low} to {high}")
         return int(text)
     return read

@@ -7,8 +7,10 @@ import struct
 from collections import namedtuple
 from functools import partial
 
-from .traces import BLOCKS, SHOWN
+from .traces import SHOWN
 
+# The number of a block is below this one.
+BLOCKS = 1 << 64
 Object = namedtuple("Object", "key size", defaults=(None,))
 Range = namedtuple("Range", "disk offset size is_read")
 Run = namedtuple("Run", "first count")

@@ -15,8 +15,6 @@ FORMATS = ["lirs", "arc"]
 GZIP, ZSTD = b"\x1f\x8b", b"\x28\xb5\x2f\xfd"
 PACKERS = {"gzip": GZIP, "zstd": ZSTD}
 COPIED = 1 << 20
-# The number of a block is below this one.
-BLOCKS = 1 << 64
 # So many characters of a faulty line are shown.
 SHOWN = 40
 
