@@ -16,6 +16,8 @@ SECONDS = 300
 
 # How a call ended: its status, or that it did not end, its output and its standard error.
 Ended = namedtuple("Ended", "status out error")
+# A mistake in a script or a page: the test that finds it, the file of tools/ that it is in, what is replaced, and by what.
+Mistake = namedtuple("Mistake", "test file old new")
 
 # An interrupt ends a check, and what it began, without a word.
 if signal.getsignal(signal.SIGINT) is signal.default_int_handler:

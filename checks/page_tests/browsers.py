@@ -3,11 +3,10 @@ import re
 import signal
 import subprocess
 import sys
-from collections import namedtuple
 from contextlib import contextmanager
 from pathlib import Path
 
-from checks import SECONDS, Wrong, call, patience
+from checks import SECONDS, Mistake, Wrong, call, patience
 from selenium import webdriver
 from selenium.webdriver.chrome.service import Service
 from selenium.webdriver.common.by import By
@@ -111,9 +110,6 @@ class Browser:
         return [it["message"] for it in self.driver.get_log("browser") if it["level"] in ("SEVERE", "WARNING")]
 
 
-# A mistake in a script or a page: the test that finds it, the file of tools/ that it is in, what is replaced, and by
-# what.
-Mistake = namedtuple("Mistake", "test file old new")
 KEYS = {"left": Keys.ARROW_LEFT, "right": Keys.ARROW_RIGHT}
 
 

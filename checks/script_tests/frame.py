@@ -9,10 +9,9 @@ import signal
 import subprocess
 import sys
 import time
-from collections import namedtuple
 from pathlib import Path
 
-from checks import SECONDS, Wrong, call, expect, patience
+from checks import SECONDS, Mistake, Wrong, call, expect, patience
 from lib.policies import POLICIES as LISTED
 
 POLICIES = ["lru", "slru", "tinylfu-lru", "tinylfu-slru", "wtinylfu", "clairvoyant"]
@@ -21,9 +20,6 @@ EVERY = [*POLICIES, *(it for it in LISTED if it not in POLICIES)]
 # A name and a title of which gnuplot or a shell would run a part, if it read it as more than a text: each part makes a file
 # `made` in the folder of the call.
 UNSAFE = "'`touch made`' \\'`touch made`\\\" . system('touch made') @GPVAL_TERM \"`touch made`\n!touch made\n"
-
-# A mistake in a script: the test that finds it, the file of tools/ that it is in, what is replaced, and by what.
-Mistake = namedtuple("Mistake", "test file old new")
 
 
 def run(script, *words, status=0, typed="", **how):

@@ -354,6 +354,4 @@ MISTAKES = {
     "another sample than is said": Mistake(check_sampled, "lib/samples.py", "accesses != kept", "accesses < kept"),
     "a sample below 0": Mistake(check_sampled, "lib/curves.py", "min(accesses, (row", "max(0, (row"),
     "a closed reader with status 0": Mistake(check_curves, "lib/traces.py", "os._exit(141)", "os._exit(0)"),
-    "half a picture on a full disk": Mistake(check_curves, "lib/traces.py", "    except OSError as fault:\n        sys.exit(f\"{tool}",
-                                             "    except OSError as fault:\n        print(f\"{tool}"),
 }

@@ -51,11 +51,9 @@ class Session:
         return answers + self.answers(asked)
 
     def answers(self, asked):
-        try:
+        with contextlib.suppress(BrokenPipeError):  # what it has answered says that it ended
             self.process.stdin.write("".join(asked))
             self.process.stdin.flush()
-        except BrokenPipeError:
-            pass  # what it has answered says that it ended
         self.written += sum(map(len, asked))
         return [self.answer() for _ in asked]
 
