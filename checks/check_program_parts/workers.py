@@ -1,7 +1,6 @@
 """Journals of workers on threads: each is read by the rule of walks, each reply compared with that of the reference, and
 read back by the program."""
 import re
-import shlex
 import sys
 
 from checks import TOP, Ended, ended, skewed_keys
@@ -18,10 +17,10 @@ def crowd(check, name, times=1):
     return check.file(name, lines(*keys) * times)
 
 
-def check_walks(check, name, *words, typed=""):
-    """What checks/check_walks says."""
+def check_walks(check, name, *words):
+    """What checks/check_walks says, whose words these are."""
     call = [sys.executable, TOP / "checks/check_walks", *words]
-    check.compare(name, ended(call, SECONDS_OF_A_LONG_CALL, typed), Ended(0, b"", b""))
+    check.compare(f"{name}, its walks", ended(call, SECONDS_OF_A_LONG_CALL), Ended(0, b"", b""))
 
 
 def steps_of(journal):
@@ -30,8 +29,8 @@ def steps_of(journal):
     return int(last[1]) if last else 0
 
 
-def journal_of(check, name, trace, workers, capacity, stripes, main, spread, *more):
-    """Has the program read the journal of workers back and forth. Returns the line of it for checks/check_walks."""
+def check_journal(check, name, trace, workers, capacity, stripes, main, spread, *more):
+    """The journal of workers: what it has, and what the program says that reads it back and forth."""
     cache = "--capacity", capacity, "--stripes", stripes, "--main", main, "--spread", spread, *more
     journal = check.answer(name, "drive", "--workers", workers, *cache, stdin=trace)
     path, steps = check.file(f"journal_of_{check.tried}", journal), steps_of(journal)
@@ -42,31 +41,30 @@ def journal_of(check, name, trace, workers, capacity, stripes, main, spread, *mo
     check.expect_same(f"{name}, as it is shown", lines(show.count(b"\n")), lines(10 + stripes))
     moves = lines("at 0", f"at {steps}", f"at {middle}", f"at {steps}").encode()
     check.expect_same(f"{name}, read back", answers, show + moves + show + journal)
-    return shlex.join(map(str, [path, trace, workers, stripes, capacity, main, spread])) + "\n"
+    check_walks(check, name, path, trace, workers, stripes, capacity, main, spread)
 
 
 @part(30)
 def crowd_at_one_buffer(check):
     """A crowd of workers, whose journal has some 400,000 steps."""
-    name, trace = "a crowd at one read buffer", crowd(check, "crowd")
-    check_walks(check, name, "--list", typed=journal_of(check, name, trace, 64, 50, 1, 99, "mixed", "--limit", 2**24))
+    trace = crowd(check, "crowd")
+    check_journal(check, "a crowd at one read buffer", trace, 64, 50, 1, 99, "mixed", "--limit", 2**24)
 
 
 @part(30)
 def crowd_at_a_buffer_each(check):
     """The same with a read buffer for each worker."""
-    name, trace = "a crowd at a read buffer each", crowd(check, "crowd")
-    check_walks(check, name, "--list", typed=journal_of(check, name, trace, 64, 50, 64, 99, "mixed", "--limit", 2**24))
+    trace = crowd(check, "crowd")
+    check_journal(check, "a crowd at a read buffer each", trace, 64, 50, 64, 99, "mixed", "--limit", 2**24)
 
 
 @part(20)
 def workers(check):
     """Each number of workers, each number of read buffers, and limits of the journal."""
-    trace, journals = check.file("mixed.lirs", lines(*skewed_keys(400, 99))), []
+    trace = check.file("mixed.lirs", lines(*skewed_keys(400, 99)))
     for count in range(1, 65, check.size(1, 9)):
-        journals.append(journal_of(check, f"{count} workers", trace, count, 9, 1 << count % 7, count * 37 % 100,
-                                   ("mixed", "plain")[count % 2]))
-    check_walks(check, "1 to 64 workers", "--list", typed="".join(journals))
+        check_journal(check, f"{count} workers", trace, count, 9, 1 << count % 7, count * 37 % 100,
+                      ("mixed", "plain")[count % 2])
     alone = "drive", "--capacity", 9, "--workers", 1
     whole = check.answer("one worker", *alone, stdin=trace)
     steps = steps_of(whole)
@@ -76,8 +74,9 @@ def workers(check):
         check.expect(f"a journal of {limit} steps", *alone, "--limit", limit, stdin=trace, status=1,
                      out=cut + f"steps {limit}\n".encode(), error="fault: JournalFull\n")
     defaults = check.answer("workers with the defaults", "drive", "--capacity", 50, stdin=trace)
-    check_walks(check, "two workers and four read buffers", trace, 2, 4, 50, typed=defaults)
-    check.expect("workers with the defaults, read back", "replay", "--capacity", 50, "--journal", check.file("default", defaults),
+    journal = check.file("default", defaults)
+    check_walks(check, "two workers and four read buffers", journal, trace, 2, 4, 50, 99, "mixed")
+    check.expect("workers with the defaults, read back", "replay", "--capacity", 50, "--journal", journal,
                  typed="save\n", out=defaults)
 
 
@@ -92,8 +91,8 @@ def full_journals(check):
         rows = found.out.splitlines(keepends=True) or [b"none"]
         check.compare(name, Ended(found.status, rows[-1], found.error), Ended(1, f"steps {steps}\n".encode(), b"fault: JournalFull\n"))
         compared = min(steps, COMPARED)
-        beginning = b"".join(rows[:compared + 1]).decode() + f"steps {compared}\n"
-        check_walks(check, f"{name}, its walks", "--cut", trace, workers, 4, 50, typed=beginning)
+        beginning = check.file("beginning", b"".join(rows[:compared + 1]) + f"steps {compared}\n".encode())
+        check_walks(check, name, "--cut", beginning, trace, workers, 4, 50, 99, "mixed")
         answers = check.answer(f"{name}, read back", "replay", "--capacity", 50, "--journal", check.file("full", found.out), *more,
                                typed=lines("goto 0", f"goto {steps}", "save"))
         check.expect_same(f"{name}, read back", answers, lines("at 0", f"at {steps}").encode() + found.out)
