@@ -1,5 +1,5 @@
 -- Which fault is found: that of the trace or the journal, of the arguments, or of the machine.
-use Rattle.std.specs.Prelude.{◌≡◌, ◌≢◌, ◌<◌, ◌⊎◌, ℕ, false, List, Option, None, Some, IfSome, length}
+use Rattle.std.specs.Prelude.{◌≡◌, ◌≢◌, ◌<◌, ◌≤◌, ◌⊎◌, ℕ, false, List, Option, None, Some, IfSome, length}
 use Rattle.clap.specs.Words.{Text}
 use Rattle.engine_base.specs.History.{Entries}
 use Rattle.shell_model.specs.Shell.{Shell, act}
@@ -23,6 +23,7 @@ use Rattle.cachesim.specs.DriveOutput.{Fault, Format, LeavesDrive}
 use Rattle.cachesim.specs.SampleOutput.{IsPartSampled}
 use Rattle.cachesim.specs.FaultLine.{Tally, IsReported}
 use Rattle.cachesim.specs.Outcome.{AsksForSome, AsksHelp}
+use Rattle.cachesim.specs.TraceOutput.{AreFaultless}
 use Rattle.cachesim.specs.declared.fault.Fault.TheVariants.{Actors, Debug, Journal, JournalFull, NoFile, OutOfMemory}
 use Rattle.cachesim.specs.declared.fault.Fault.TheVariants.{Trace, Write}
 
@@ -37,15 +38,16 @@ IsOfMachine (Debug large.Read) = Unit {0}
 IsOfMachine (Debug large.Write) = Unit {0}
 IsOfMachine fault = ⊥
 
--- the bytes are too many for a trace within these limits, or this is the fault of its first faulty line
+-- the bytes are too many for a trace within these limits, or few enough, and this is the fault of the first faulty line
 abbrev pub IsTraceFault : Limits → Format → List ℕ → TraceFault → Type 0
 IsTraceFault limits format bytes trace.TooLarge = limits.bytes < length bytes
-IsTraceFault limits format bytes fault = fault_within limits.accesses format bytes ≡ Some fault
+IsTraceFault limits format bytes fault =
+    (length bytes ≤ limits.bytes) × (fault_within limits.accesses format bytes ≡ Some fault)
 
--- the fault is that of the bytes as a trace within these limits, or they have none and P holds of it
+-- the fault is that of the bytes as a trace within these limits, or they are one and P holds of the fault
 abbrev pub IsFoundWithin : Limits → Format → (Fault → Type 0) → Fault → List ℕ → Type 0
 IsFoundWithin limits format P (Trace fault) bytes = IsTraceFault limits format bytes fault
-IsFoundWithin limits format P fault bytes = (fault_within limits.accesses format bytes ≡ None) × P fault
+IsFoundWithin limits format P fault bytes = AreFaultless limits format bytes × P fault
 
 -- the same of a trace that is kept
 abbrev pub IsFoundIn : Format → (Fault → Type 0) → Fault → List ℕ → Type 0

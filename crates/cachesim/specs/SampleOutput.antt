@@ -1,23 +1,24 @@
 -- What `sample` writes: the sample of the trace, and a line that says what it is. (Defined by this project.)
-use Rattle.std.specs.Prelude.{◌≡◌, ℕ, List, ◌++◌, Option, None, IfSome, codes, length}
+use Rattle.std.specs.Prelude.{ℕ, List, ◌++◌, Option, IfSome, codes, length}
 use Rattle.std.specs.Fmt.{decimal}
 use Rattle.std.specs.Io.KnownBytes.{Appends}
 use Rattle.streams.specs.Part.{AppendsPart}
-use Rattle.trace_read.specs.TraceText.{fault_within, keys_in}
-use Rattle.trace_read.specs.declared.limits.TheConstants.{MAX_LONG_ACCESSES}
+use Rattle.trace_read.specs.TraceText.{keys_in}
+use Rattle.trace_read.specs.declared.limits.TheConstants.Limits.{LONG}
 use Rattle.trace_sample.specs.Numbers.{numbers_text}
 use Rattle.trace_sample.specs.Sample.{block_count, sample_of}
 pub use Rattle.trace_sample.specs.declared.counts.SampleCounts.{SampleCounts}
 pub use Rattle.command_line.specs.declared.arguments.SampleArguments.{SampleArguments}
+use Rattle.cachesim.specs.TraceOutput.{IfFaultlessWithin}
 
 -- the accesses that are kept
 abbrev pub kept_of : SampleArguments → List ℕ → List ℕ
 kept_of sample keys = sample_of sample.inverse sample.seed keys
 
--- the bytes have no fault, and the text of the accesses that are kept was written
+-- the bytes are a long trace, and the text of the accesses that are kept was written
 abbrev pub IsSampled : SampleArguments → Option (List ℕ) → Option (List ℕ) → Option (List ℕ) → Type 0
-IsSampled sample input before after = IfSome input (λ bytes. (fault_within MAX_LONG_ACCESSES sample.format bytes ≡ None)
-    × Appends before after (numbers_text (kept_of sample (keys_in sample.format bytes))))
+IsSampled sample input before after = IfFaultlessWithin LONG sample.format input
+    (λ keys. Appends before after (numbers_text (kept_of sample keys)))
 
 -- a beginning of that text was written
 abbrev pub IsPartSampled : SampleArguments → Option (List ℕ) → Option (List ℕ) → Option (List ℕ) → Type 0

@@ -1,9 +1,8 @@
 -- What the subcommands write that read a trace and write a text: `run` and `sweep`, `intervals`, `part`,
 -- `compare` and `footprint`.
-use Rattle.std.specs.Prelude.{◌≡◌, ℕ, List, Option, None, Some, IfSome, flat_map, map, codes, ◌++◌}
+use Rattle.std.specs.Prelude.{◌≡◌, ◌≤◌, ℕ, List, Option, None, Some, IfSome, flat_map, map, codes, length, ◌++◌}
 use Rattle.std.specs.Fmt.{decimal}
 pub use Rattle.step_record.specs.declared.job.Job.{Job}
-use Rattle.engine_base.specs.declared.limits.TheConstants.{MAX_ACCESSES}
 use Rattle.command_line.specs.declared.arguments.Arguments.{Arguments}
 use Rattle.command_line.specs.declared.arguments.Arguments.TheVariants as asked
 pub use Rattle.command_line.specs.declared.arguments.JobArguments.{JobArguments}
@@ -11,8 +10,11 @@ pub use Rattle.command_line.specs.declared.arguments.PartArguments.{PartArgument
 use Rattle.sweeps.specs.Sweep.{jobs_over}
 use Rattle.trace_read.specs.TraceText.{fault_within, keys_in}
 use Rattle.trace_read.specs.declared.format.Format.{Format}
+use Rattle.trace_read.specs.declared.limits.Limits.{Limits}
+use Rattle.trace_read.specs.declared.limits.TheConstants.Limits.{DEFAULT}
 use Rattle.policies.specs.AnyPolicy.{outcomes_on}
 use Rattle.policies.specs.Reports.{report_on}
+use Rattle.policies.specs.declared.job_checks.TheConstants.{MAX_ACTORS}
 use Rattle.sweeps.specs.Intervals.{Interval, intervals_on}
 use Rattle.trace_footprint.specs.Footprint.{footprint_of}
 use Rattle.trace_footprint.specs.declared.footprint.Footprint.{Footprint}
@@ -36,14 +38,19 @@ compared_text pair None keys = comparison_text pair.first pair.second (compared_
 compared_text pair (Some every) keys =
     compared_intervals_text pair.first pair.second (compared_intervals_on every pair.first pair.second keys)
 
--- the bytes read have no fault, of at most so many accesses, and P holds of the accesses in them
-abbrev pub IfFaultlessWithin : ℕ → Format → Option (List ℕ) → (List ℕ → Type 0) → Type 0
-IfFaultlessWithin most format input P =
-    IfSome input (λ bytes. (fault_within most format bytes ≡ None) × P (keys_in format bytes))
+-- the bytes are a trace within these limits: they are no more, and have no fault
+abbrev pub AreFaultless : Limits → Format → List ℕ → Type 0
+AreFaultless limits format bytes =
+    (length bytes ≤ limits.bytes) × (fault_within limits.accesses format bytes ≡ None)
+
+-- the bytes read are one, and P holds of the accesses in them
+abbrev pub IfFaultlessWithin : Limits → Format → Option (List ℕ) → (List ℕ → Type 0) → Type 0
+IfFaultlessWithin limits format input P =
+    IfSome input (λ bytes. AreFaultless limits format bytes × P (keys_in format bytes))
 
 -- the same of a trace that is kept
 abbrev pub IfFaultless : Format → Option (List ℕ) → (List ℕ → Type 0) → Type 0
-IfFaultless = IfFaultlessWithin MAX_ACCESSES
+IfFaultless = IfFaultlessWithin DEFAULT
 
 -- the header and the row of how large a trace is
 abbrev pub footprint_text : Footprint → List ℕ
@@ -67,18 +74,23 @@ IsText (asked.Compare compare) keys text = text ≡ compared_text compare.polici
 IsText (asked.Footprint footprint) keys text = text ≡ footprint_text (footprint_of keys)
 IsText arguments keys text = ⊥
 
--- so it is of the bytes of a trace, which have no fault
+-- no more policies than are run at once
+abbrev pub AreFew : List Job → Type 0
+AreFew jobs = length jobs ≤ MAX_ACTORS
+
+-- so it is of the bytes of a trace within its limits, and of few policies
 abbrev pub IsTextOf : Arguments → Option (List ℕ) → List ℕ → Type 0
-IsTextOf (asked.Run run) input text =
-    IfFaultlessWithin run.jobs.limits.accesses run.jobs.format input (λ keys. IsText (asked.Run run) keys text)
-IsTextOf (asked.Sweep sweep) input text =
-    IfFaultlessWithin sweep.jobs.limits.accesses sweep.jobs.format input (λ keys. IsText (asked.Sweep sweep) keys text)
-IsTextOf (asked.Intervals intervals) input text = IfFaultlessWithin intervals.jobs.limits.accesses intervals.jobs.format
-    input (λ keys. IsText (asked.Intervals intervals) keys text)
+IsTextOf (asked.Run run) input text = AreFew run.jobs.list
+    × IfFaultlessWithin run.jobs.limits run.jobs.format input (λ keys. IsText (asked.Run run) keys text)
+IsTextOf (asked.Sweep sweep) input text = AreFew sweep.jobs.list
+    × IfFaultlessWithin sweep.jobs.limits sweep.jobs.format input (λ keys. IsText (asked.Sweep sweep) keys text)
+IsTextOf (asked.Intervals intervals) input text = AreFew intervals.jobs.list
+    × IfFaultlessWithin intervals.jobs.limits intervals.jobs.format input
+    (λ keys. IsText (asked.Intervals intervals) keys text)
 IsTextOf (asked.Part part) input text =
-    IfFaultlessWithin part.limits.accesses part.format input (λ keys. IsText (asked.Part part) keys text)
-IsTextOf (asked.Compare compare) input text = IfFaultlessWithin compare.policies.limits.accesses compare.policies.format
+    IfFaultlessWithin part.limits part.format input (λ keys. IsText (asked.Part part) keys text)
+IsTextOf (asked.Compare compare) input text = IfFaultlessWithin compare.policies.limits compare.policies.format
     input (λ keys. IsText (asked.Compare compare) keys text)
-IsTextOf (asked.Footprint footprint) input text = IfFaultlessWithin footprint.limits.accesses footprint.format
-    input (λ keys. IsText (asked.Footprint footprint) keys text)
+IsTextOf (asked.Footprint footprint) input text =
+    IfFaultlessWithin footprint.limits footprint.format input (λ keys. IsText (asked.Footprint footprint) keys text)
 IsTextOf arguments input text = ⊥

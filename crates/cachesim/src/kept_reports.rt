@@ -1,11 +1,11 @@
 //! What `sweep`, `intervals`, `part` and `compare` make of a trace that is kept.
-ghost use Rattle.std.specs.Prelude.{◌≡◌, ◌≤◌, ◌⊎◌, IfErr, IfOk, None, Some, length};
+ghost use Rattle.std.specs.Prelude.{◌≡◌, ◌≤◌, ◌⊎◌, IfErr, IfOk, None, OnOk, Some, length};
 ghost use Rattle.command_line.specs.Accepted.{AreAcceptedIntervals, IsAcceptedComparison, IsAcceptedPart};
 ghost use Rattle.command_line.specs.Accepted.{IsAcceptedSweep};
 ghost use Rattle.command_line.specs.declared.arguments.Arguments.TheVariants.{Compare, Intervals, Part, Sweep};
 ghost use Rattle.policies.specs.declared.job_checks.TheConstants.{MAX_ACTORS};
 ghost use Rattle.cachesim.specs.FaultCauses.{IsTooMany};
-ghost use Rattle.cachesim.specs.TraceOutput.{IsText, compared_text};
+ghost use Rattle.cachesim.specs.TraceOutput.{AreFew, IsText, compared_text};
 
 use crate::fault::{Fault, only_memory};
 use command_line::{
@@ -33,6 +33,7 @@ pub fn sweep<T: Threads + Sync, P: Watch>(
 ) -> Result<Vec<u8>, Fault>
     requires { IsAcceptedSweep arguments.now }
     ensures text { IfOk result (λ text. IsText (Sweep arguments.now) trace.now text.items) }
+    ensures few { OnOk result (AreFew arguments.now.jobs.list) }
     ensures fault { IfErr result (λ fault. (fault ≡ Fault.OutOfMemory) ⊎ IsTooMany arguments.now.jobs.list fault) }
 {
     let jobs = few_jobs(&arguments.jobs)?;
@@ -54,6 +55,7 @@ pub fn intervals<T: Threads + Sync, P: Watch>(
 ) -> Result<Vec<u8>, Fault>
     requires { AreAcceptedIntervals arguments.now }
     ensures text { IfOk result (λ text. IsText (Intervals arguments.now) trace.now text.items) }
+    ensures few { OnOk result (AreFew arguments.now.jobs.list) }
     ensures fault { IfErr result (λ fault. (fault ≡ Fault.OutOfMemory) ⊎ IsTooMany arguments.now.jobs.list fault) }
 {
     let jobs = few_jobs(&arguments.jobs)?;
@@ -155,6 +157,7 @@ fn compare_intervals<R: Threads, P: Watch>(
 fn few_jobs(asked: &JobArguments) -> Result<&[Job], Fault>
     ensures jobs { IfOk result (λ jobs. jobs.now ≡ asked.now.list) }
     ensures few { IfOk result (λ jobs. length jobs.now ≤ MAX_ACTORS) }
+    ensures asked { OnOk result (AreFew asked.now.list) }
     ensures fault { IfErr result (IsTooMany asked.now.list) }
 {
     let jobs = asked.list.as_slice();

@@ -62,11 +62,11 @@ pub fn intervals<T: Threads + Wait + Sync, R: CountedRead, P: Watch>(
 {
     let asked = &arguments.jobs;
     let (format, limits) = (asked.format, asked.limits);
-    if asked.list.as_slice().len() > MAX_ACTORS {
+    let jobs = asked.list.as_slice();
+    if jobs.len() > MAX_ACTORS {
         long_traces::reports(rt, alloc, input, format, limits, &[], watch)?;
         return Err(Fault::Actors);
     }
-    let jobs = asked.list.as_slice();
     let every = arguments.every as usize;
     watch.begin("intervals", None);
     let rows = long_traces::intervals(alloc, input, format, limits, jobs, every, watch);

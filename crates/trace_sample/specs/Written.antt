@@ -1,12 +1,11 @@
 -- What the writing of a sample comes to.
-use Rattle.std.specs.Prelude.{◌≡◌, ℕ, Bool, true, false, List, Option, None, Result, Err, IfSome, length}
+use Rattle.std.specs.Prelude.{◌≡◌, ◌≤◌, ℕ, Bool, true, false, List, Option, None, Result, Err, IfSome, length}
 use Rattle.std.specs.Global.{Vec}
 use Rattle.trace_read.specs.ReadTrace.{IsReadWithin}
 use Rattle.trace_read.specs.declared.fault.TraceFault.{TraceFault}
 use Rattle.trace_read.specs.declared.fault.TraceFault.TheVariants.{OutOfMemory}
 pub use Rattle.trace_read.specs.declared.format.Format.{Format}
 use Rattle.trace_read.specs.TraceText.{fault_within}
-use Rattle.trace_read.specs.declared.limits.TheConstants.{MAX_LONG_ACCESSES}
 use Rattle.trace_read.specs.declared.limits.TheConstants.Limits.{LONG}
 use Rattle.trace_sample.specs.Sample.{block_count, sample_of}
 pub use Rattle.trace_sample.specs.declared.counts.SampleCounts.{SampleCounts}
@@ -30,9 +29,10 @@ abbrev pub fault_at : Bool → SampleFault
 fault_at true = Write
 fault_at false = Trace OutOfMemory
 
--- the bytes are those of a long trace without a fault
+-- the bytes are those of a long trace: no more than one has, and without a fault
 abbrev pub IsFaultless : Format → Option (List ℕ) → Type 0
-IsFaultless format bytes = IfSome bytes (λ bytes. fault_within MAX_LONG_ACCESSES format bytes ≡ None)
+IsFaultless format bytes = IfSome bytes (λ bytes.
+    (length bytes ≤ LONG.bytes) × (fault_within LONG.accesses format bytes ≡ None))
 
 -- the fault of what was read of the trace, or a failed write, or no memory
 abbrev pub IsOfOutcome : Result (Vec ℕ) TraceFault → SampleFault → Type 0

@@ -64,7 +64,7 @@ module _ (config : Config) (workers : ℕ) (format : Format) (input before after
     legal = subst (λ o. IsLegal act o new.kept) opening legal;
     room = room;
     walks = IfSome_then input read (λ bytes h. (
-      h.1,
+      (h.0, h.1),
       subst (λ ks. Walks config.stripes workers ks new.kept) h.2
           (subst (λ n. Walks n workers keys new.kept) (ap (λ x. x.config.stripes) (empty.same ∙ empty.opened.is)) made),
     ));
@@ -104,7 +104,7 @@ module _ (config : Config) (workers : ℕ) (format : Format) (input before after
     of_run : (f : Fault) → LeavesRun run before after f → IsOfMachine f ⊎ IfSome input (IsFoundIn format (λ g. g ≡ fault.JournalFull) f)
     of_run fault.OutOfMemory h = inl tt
     of_run fault.Write h = inl tt
-    of_run fault.JournalFull h = inr (IfSome_then input read (λ bytes sound. (sound.1, refl)))
+    of_run fault.JournalFull h = inr (IfSome_then input read (λ bytes sound. ((sound.0, sound.1), refl)))
     of_run _ h = absurd h
 
 -- what follows from what is said of the value in an `Ok`

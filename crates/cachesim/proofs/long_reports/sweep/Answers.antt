@@ -1,8 +1,8 @@
-use Rattle.std.proofs.Common.{◌∙◌, ap, rules, List}
+use Rattle.std.proofs.Common.{◌∙◌, ap, arith, rules, subst, List}
 use Rattle.std.proofs.lemmas.Option.{IfSome_then}
 use Rattle.trace_read.specs.TraceText.{keys_in}
 use Rattle.report.specs.Text.{reports_text}
-use Rattle.cachesim.specs.TraceOutput.{Job, reports_on}
+use Rattle.cachesim.specs.TraceOutput.{Job, AreFew, reports_on}
 use Rattle.cachesim.proofs.Accepting.{swept_rows, sweeps_long}
 use Rattle.cachesim.proofs.long_reports.sweep.Goals as goal
 
@@ -17,6 +17,7 @@ returns g c =
     let input = g.R.CountedRead.remaining c.args.input.now in
     let rows = swept_rows c.args.arguments.now _ _ _ c.as_slice-2.ensures c.as_slice-3.ensures (c.as_slice-4.ensures.value ∙ c.in_ok-each.ensures) in
     let text = c.in_ok-reports_text.ensures ∙ ap reports_text c.as_slice-5.ensures.value in
-    let sound = IfSome_then input c.in_ok-reports-2.ensures.read.ok (λ bytes h. h.1) in
+    let few : AreFew c.args.arguments.now.jobs.list = subst AreFew c.as_slice.ensures (omega arith) in
+    let sound = c.in_ok-reports-2.ensures.read.ok in
     let made = IfSome_then input c.in_ok-reports-2.ensures.reports (λ bytes is. text ∙ ap reports_text (is ∙ ap (λ (js : List Job). reports_on js (keys_in format bytes)) rows)) in
-    record { text = search (rules, sound, made); fault = search rules; reads = search rules; unwritten = search rules }
+    record { text = search (rules, few, sound, made); fault = search rules; reads = search rules; unwritten = search rules }

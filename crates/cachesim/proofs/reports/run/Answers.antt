@@ -1,9 +1,9 @@
-use Rattle.std.proofs.Common.{◌≡◌, ◌∙◌, ap, arith, rules, List, None}
+use Rattle.std.proofs.Common.{◌≡◌, ◌∙◌, ap, arith, rules, subst, List, None}
 use Rattle.std.proofs.lemmas.Option.{IfSome_then}
 use Rattle.trace_read.specs.TraceText.{keys_in}
 use Rattle.policy_actors.specs.Faults.{Job, actor_fault}
 use Rattle.report.specs.Text.{reports_text}
-use Rattle.cachesim.specs.TraceOutput.{reports_on}
+use Rattle.cachesim.specs.TraceOutput.{AreFew, reports_on}
 use Rattle.std.proofs.lemmas.List.Elements.{All-nil}
 use Rattle.policy_actors.specs.Following.{CanFollow}
 use Rattle.cachesim.proofs.Accepting.{can_follow, can_pass, can_run}
@@ -31,6 +31,7 @@ returns g c =
     let input = g.R.CountedRead.remaining c.args.input.now in
     let jobs = c.as_slice-jobs.ensures in
     let text = c.in_ok-reports_text.ensures ∙ ap reports_text c.as_slice.ensures.value in
-    let sound = IfSome_then input c.in_ok-reports.ensures.read.ok (λ bytes h. h.1) in
+    let few : AreFew c.args.arguments.now.jobs.list = subst AreFew jobs (omega arith) in
+    let sound = c.in_ok-reports.ensures.read.ok in
     let made = IfSome_then input c.in_ok-reports.ensures.reports (λ bytes is. text ∙ ap reports_text (is ∙ ap (λ (js : List Job). reports_on js (keys_in format bytes)) jobs)) in
-    record { text = search (rules, sound, made); fault = search rules; reads = search rules; unwritten = search rules }
+    record { text = search (rules, few, sound, made); fault = search rules; reads = search rules; unwritten = search rules }
