@@ -1,8 +1,8 @@
 //! A job's run over a trace whose accesses come in batches.
-ghost use Rattle.std.specs.Prelude.{◌≡◌, ◌++◌, [], ℕ, List, Ok, IfOk, IfSome, OnOk, OnErr};
+ghost use Rattle.std.specs.Prelude.{◌≡◌, ◌++◌, [], ℕ, List, Ok, IfOk, IfSome, IsSome, OnOk, OnErr};
 ghost use Rattle.engine_base.specs.Config.{config_fault};
 ghost use Rattle.policies.specs.AnyPolicy.{Job, HasAccessed};
-ghost use Rattle.policies.specs.Accesses.{IsContinued, IsNext, IsStopped};
+ghost use Rattle.policies.specs.Accesses.{AnyPolicy, IsContinued, IsNext, IsStopped};
 ghost use Rattle.policies.specs.CacheRun.{CanTake, HasTaken};
 ghost use Rattle.policies.specs.Reports.{report_on};
 
@@ -49,8 +49,11 @@ impl CacheRun {
     /// Takes the next accesses, or none from now on where there is no memory for them.
     pub fn take(&mut self, keys: &[Key])
         requires { CanTake keys.now self.old }
-        ensures { (j : Job) (trace done : List ℕ) → HasTaken j trace done self.old
+        ensures taken { (j : Job) (trace done : List ℕ) → HasTaken j trace done self.old
             → HasTaken j trace (done ++ keys.now) self.new }
+        // A run that has a cache is out of memory only at an access that may ask for some.
+        ensures memory { (d : AnyPolicy) → self.old ≡ CacheRun.Cache d → self.new ≡ CacheRun.OutOfMemory
+            → (e : AnyPolicy) × IsStopped keys.now d e }
     {
         let taken = match self {
             CacheRun::Cache(cache) => access_all(cache, keys),
@@ -68,8 +71,10 @@ impl CacheRun {
     /// The report of the job once all accesses were taken; `None` where there was no memory.
     pub fn finish(self, alloc: Global, job: &Job) -> Option<Report>
         requires { config_fault job.now.config ≡ Ok tt }
-        ensures { (trace : List ℕ) → HasTaken job.now trace trace self
+        ensures report { (trace : List ℕ) → HasTaken job.now trace trace self
             → IfSome result (λ r. r ≡ report_on job.now trace) }
+        // A run that has a cache has a report.
+        ensures some { (d : AnyPolicy) → self ≡ CacheRun.Cache d → IsSome result }
     {
         match self {
             CacheRun::Cache(cache) => Some(report_by(cache, job)),

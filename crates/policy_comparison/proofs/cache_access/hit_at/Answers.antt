@@ -11,10 +11,10 @@ access-requires g c =
 pub returns-clause-stands : goal.returns-clause-stands
 returns-clause-stands g c = λ j trace n next s.
     moves trace n _ next c.any_step_law.ensures j c.prefetch_at.new.self c.in_ok-outcome.outcome c.access.new.cache
-    (warmed j trace (take n trace) c.args.cache.now c.prefetch_at.new.self c.prefetch_at.ensures s) c.in_ok-outcome.ensures
+    (warmed j trace (take n trace) c.args.cache.now c.prefetch_at.new.self c.prefetch_at.ensures s) c.in_ok-outcome.ensures.accepted
 
 pub returns-clause-hit : goal.returns-clause-hit
 returns-clause-hit g c = λ j trace n next s.
     c.hits.ensures
     ∙ answers trace n _ next c.any_answers.ensures j c.prefetch_at.new.self c.in_ok-outcome.outcome c.access.new.cache
-    (warmed j trace (take n trace) c.args.cache.now c.prefetch_at.new.self c.prefetch_at.ensures s) c.in_ok-outcome.ensures
+    (warmed j trace (take n trace) c.args.cache.now c.prefetch_at.new.self c.prefetch_at.ensures s) c.in_ok-outcome.ensures.accepted
