@@ -120,7 +120,6 @@ def call(*words, **how):
 
 
 def listed_policies(program):
-    """The policies that a program lists."""
     listed = re.search(r"\[possible values: (lru,\s[^]]*)\]", call(program, "run", "--help")[0])
     return re.split(r",\s+", listed[1]) if listed else []
 

@@ -41,7 +41,6 @@ def policy_of(top, word):
 
 
 def named(word):
-    """A new policy of this word."""
     if not re.fullmatch(r"[a-z][a-z0-9]*(-[a-z0-9]+)*", word):
         raise ValueError(f"`{word}` is no name: small letters and digits, joined by single dashes")
     return Policy(word.replace("-", "_"), "".join(it.capitalize() for it in word.split("-")), word)

@@ -15,7 +15,6 @@ class Fault(Exception):
 
 
 def number_of(field):
-    """The number that a field is, or None."""
     # int() takes no thousands of digits.
     number = int(field.lstrip(b"0")[:21] or b"0") if field.isdigit() else ALL_BITS + 1
     return number if number <= ALL_BITS else None

@@ -405,7 +405,6 @@ def check_opened_twice(tools, folder):
 
 
 def check_packed(browser, tools, program, folder):
-    """A packed trace is the same trace."""
     trace, *words = SMALL
     packed = folder / "trace.gz"
     packed.write_bytes(subprocess.run(["gzip", "-c", trace], stdout=subprocess.PIPE, check=True).stdout)

@@ -106,7 +106,6 @@ def check_many(journal, folder):
 
 
 def check_large(journal, folder):
-    """A journal of many steps."""
     for count in (120000, 250000):
         steps = "0 begin = busy\n" * count + "0 put 5 = added 0\n"
         expect_parts("many steps", run(journal, typed=f"cachesim journal 2\n{steps}steps {count + 1}\n")[0],

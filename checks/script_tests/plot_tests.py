@@ -14,13 +14,11 @@ INTERVALS = "policy,capacity,first,last,hits,misses,evictions,rejections,rate\n"
 
 
 def sweep_rows(policy, *places, accesses=100):
-    """A row for each capacity and its hits."""
     return "".join(f"{policy},{capacity},{accesses},{hits},{accesses - hits},0,0,{100 * hits // accesses}.00\n"
                    for capacity, hits in places)
 
 
 def interval_rows(policy, length, *hits, capacity=9):
-    """A row for each interval of this length, and its hits."""
     return "".join(f"{policy},{capacity},{at * length + 1},{(at + 1) * length},{it},{length - it},0,0,{100 * it // length}.00\n"
                    for at, it in enumerate(hits))
 

@@ -188,7 +188,6 @@ def check_width(survey, folder):
 
 
 def check_many_rows(survey, folder):
-    """A table has a row for each of sixty capacities."""
     many = [word for it in range(60) for word in ("--capacity", 211 + it)]
     rows = run(survey, file_of(folder, "trace", "1\n2\n1\n"), "--program", fake(folder), *many, "--policy", "slru", "--table", "policies")[0]
     expect("sixty rows", [row.split()[1] for row in rows.splitlines()[2:62]], [str(211 + it) for it in range(60)])
