@@ -1,16 +1,15 @@
--- Accesses that are handed on while lines are taken.
-use Rattle.std.proofs.Common.{◌≡◌, ◌∙◌, ◌≤◌, ◌+◌, ◌-◌, ◌^◌, ℕ, zero, suc, List, [], ◌∷◌, ◌++◌, length, take, drop, refl, ap, sym, subst, arith, Option, Some, None, IfSome, append_assoc, length-append, length-drop, drop-drop}
-use Rattle.std.proofs.Math.Seq.{take-append_seam}
-use Rattle.std.proofs.lemmas.List.{append-nil, drop-append-le}
-use Rattle.streams.specs.Feeds.{lines_of}
+-- Accesses that are handed over while lines are taken.
+use Rattle.std.proofs.Common.{◌≡◌, ◌∙◌, ◌≤◌, ◌+◌, ◌-◌, ◌^◌, ℕ, zero, suc, List, [], ◌∷◌, ◌++◌, length, drop, refl, ap, sym, arith, Some, None, append_assoc, length-append, length-drop, drop-drop}
+use Rattle.std.proofs.lemmas.List.{append-nil, drop_all}
+use Rattle.streams.proofs.Feeds.{cut_line}
+use Rattle.streams.specs.Feeds.{feed_in, lines_of}
 use Rattle.trace_read.proofs.Steps.{goes_on}
-use Rattle.trace_read.proofs.Runs.{length_run, run_fits, run_is}
+use Rattle.trace_read.proofs.Runs.{length_run, run_fits, run_is, run_none}
 use Rattle.trace_read.specs.Lines.{Format, line_of, run_from, run_of}
-use Rattle.trace_read.specs.ScanState.{Scan, BlockRun, fault_ahead, keys_ahead, AreFirst, IsHandedOn, IsLineGiven, IsPieceTaken, IsRunGiven, IsSameLine}
-use Rattle.trace_read.specs.UsualLine.{IsLongRun}
+use Rattle.trace_read.specs.Pending.{Pending, pending_count, pending_keys}
+use Rattle.trace_read.specs.ScanState.{Scan, Taken, fault_ahead, keys_ahead, IsLastEnded, IsLineGiven, IsNextEnded, IsSameLine, IsScan, IsTaken, IsTakenUpTo}
+use Rattle.trace_read.specs.UsualLine.{BlockRun, IsLongRun}
 use Rattle.trace_read.specs.TraceText.{all_keys, fault_after, first_fault, keys_or_none, line_fault, line_keys, IsRead}
-
--- ---- lists
 
 pub run_split : (s k n : ℕ) → run_from s (k + n) ≡ run_from s k ++ run_from (s + k) n
 unfolding run_from
@@ -23,115 +22,78 @@ run_split s (suc k) n =
     let f : s + 1 + k ≡ s + suc k = omega arith in
     ap (run_from s) e ∙ ap (λ xs. s ∷ xs) (run_split (s + 1) k n) ∙ ap (λ x. s ∷ (run_from (s + 1) k ++ run_from x n)) f
 
-split_at : (n : ℕ) (xs : List ℕ) → xs ≡ take n xs ++ drop n xs
-split_at zero xs = refl
-split_at (suc n) [] = refl
-split_at (suc n) (x ∷ xs) = ap (λ l. x ∷ l) (split_at n xs)
+-- ---- a run that is pending
 
--- what is first of a list is also after some of both were handed on
-pub first_later : (whole all : List ℕ) (d : ℕ) (xs ys : List ℕ) → AreFirst whole all → d ≤ length whole → xs ++ ys ≡ drop d whole → AreFirst xs (drop d all)
-first_later whole all d xs ys first within is =
-    let more = drop (length whole) all in
-    let cut : all ≡ whole ++ more = split_at (length whole) all ∙ ap (λ l. l ++ more) (sym first) in
-    let later : drop d all ≡ xs ++ (ys ++ more) = ap (drop d) cut ∙ drop-append-le d whole more within ∙ ap (λ l. l ++ more) (sym is) ∙ append_assoc xs ys more in
-    sym (ap (take (length xs)) later ∙ take-append_seam xs (ys ++ more))
+pub none_pending : (run : Pending) → pending_count run ≡ 0 → pending_keys run ≡ []
+none_pending run none = ap (run_from (run.run.start + run.done)) none ∙ run_none (run.run.start + run.done)
 
--- some of the first were handed on
-pub run_on : (keys new tail whole : List ℕ) (d g e : ℕ) → keys ++ tail ≡ drop d whole → new ≡ drop g keys → g ≤ length keys → e ≡ d + g → new ++ tail ≡ drop e whole
-run_on keys new tail whole d g e is given within sum =
-    ap (λ l. l ++ tail) given ∙ sym (drop-append-le g keys tail within) ∙ ap (drop g) is ∙ drop-drop g d whole ∙ ap (λ k. drop k whole) (sym sum)
-
--- one handing on after another
-pub drops : (a b c : ℕ) (first mid last : List ℕ) → a ≤ b → b ≤ c → b ≤ a + length first → mid ≡ drop (b - a) first → last ≡ drop (c - b) mid → c ≤ b + length mid
-    → (last ≡ drop (c - a) first) × (c ≤ a + length first)
-drops a b c first mid last low high within one two few =
-    let len : length mid ≡ length first - (b - a) = ap length one ∙ length-drop (b - a) first in
-    let sum : (b - a) + (c - b) ≡ c - a = omega arith in (
-      two ∙ ap (drop (c - b)) one ∙ drop-drop (c - b) (b - a) first ∙ ap (λ k. drop k first) sum,
-      omega (arith, len),
-    )
-
--- the same of those after the first
-pub drops_on : (b c : ℕ) (first mid last : List ℕ) → b ≤ c → b ≤ length first → mid ≡ drop b first → last ≡ drop (c - b) mid → c ≤ b + length mid
-    → (last ≡ drop c first) × (c ≤ length first)
-drops_on b c first mid last order within one two few =
-    let len : length mid ≡ length first - b = ap length one ∙ length-drop b first in
-    let sum : b + (c - b) ≡ c = omega arith in (
-      two ∙ ap (drop (c - b)) one ∙ drop-drop (c - b) b first ∙ ap (λ k. drop k first) sum,
-      omega (arith, len),
-    )
-
--- ---- the accesses of the whole file
-
-pub next_after : (file old : Option (List ℕ)) (a b : ℕ) (first mid : List ℕ) → file ≡ old → a ≤ b → mid ≡ drop (b - a) first → IfSome old (λ all. drop a all ≡ first) → IfSome file (λ all. drop b all ≡ mid)
-next_after file old a b first mid same order given h = subst (λ f. IfSome f (λ all. drop b all ≡ mid)) (sym same) (go old h)
-  where
-    go : (f : Option (List ℕ)) → IfSome f (λ all. drop a all ≡ first) → IfSome f (λ all. drop b all ≡ mid)
-    go None h = tt
-    go (Some all) h =
-        let sum : b ≡ a + (b - a) = omega arith in
-        ap (λ k. drop k all) sum ∙ sym (drop-drop (b - a) a all) ∙ ap (drop (b - a)) h ∙ sym given
-
-pub line_first : (format : Format) (file : Option (List ℕ)) (h : ℕ) (keys text : List ℕ) (lines ls : List (List ℕ)) → lines ≡ text ∷ ls → IfSome file (λ all. drop h all ≡ keys ++ all_keys format lines)
-    → IfSome file (λ all. AreFirst (keys ++ line_keys format text) (drop h all))
-unfolding all_keys
-line_first format None h keys text lines ls is next = tt
-line_first format (Some all) h keys text lines ls is next =
-    let whole : drop h all ≡ (keys ++ line_keys format text) ++ all_keys format ls = next ∙ ap (λ l. keys ++ all_keys format l) is ∙ sym (append_assoc keys (line_keys format text) (all_keys format ls)) in
-    sym (ap (take (length (keys ++ line_keys format text))) whole ∙ take-append_seam (keys ++ line_keys format text) (all_keys format ls))
+-- what is given and what is pending counts as handed on
+pub all_counted : (keys : List ℕ) (run : Pending) (old new : ℕ) → new ≡ old + length (keys ++ pending_keys run) → new ≡ old + length keys + pending_count run
+all_counted keys run old new is =
+    let len : length (keys ++ pending_keys run) ≡ length keys + pending_count run = length-append keys (pending_keys run) ∙ ap (λ n. length keys + n) (length_run (run.run.start + run.done) (pending_count run)) in
+    omega (arith, is, len)
 
 -- ---- a line
 
-module _ (old : Scan) (text : List ℕ) (new : Scan) (xs : List ℕ) (given : IsLineGiven old text new) where
+module _ (old : Scan) (text given : List ℕ) (new : Scan) (xs : List ℕ) (is : IsLineGiven old text given new) where
   abbrev whole : List ℕ
   whole = old.keys.items ++ line_keys old.format text
 
-  abbrev gone : ℕ
-  gone = new.handed_on - old.handed_on
-
   read : IsRead old.format old.max_accesses old.line old.handed_on old.keys.items text whole
-  read = record { sound = given.sound; added = refl }
-
-  within : gone ≤ length whole
-  within = omega (arith, given.order)
+  read = record { sound = is.sound; added = refl }
 
   pub given_ahead : (ls : List (List ℕ)) → lines_of (old.partial_line.items ++ xs) ≡ text ∷ ls
       → (first_fault new.format new.max_accesses new.line (new.handed_on + length new.keys.items) ls ≡ fault_ahead old xs)
-      × (new.keys.items ++ all_keys new.format ls ≡ drop gone (keys_ahead old xs))
-      × (new.handed_on ≤ old.handed_on + length (keys_ahead old xs))
-  given_ahead ls is =
-      let next = goes_on old.format old.max_accesses old.line old.handed_on old.keys.items text whole (old.partial_line.items ++ xs) ls is read in
-      let count : new.handed_on + length new.keys.items ≡ old.handed_on + length whole = omega (arith, given.order, ap length given.keys ∙ length-drop gone whole) in
-      let len : length (keys_ahead old xs) ≡ length whole + length (all_keys old.format ls) = ap length next.1 ∙ length-append whole (all_keys old.format ls) in (
-        ap (λ f. first_fault f new.max_accesses new.line (new.handed_on + length new.keys.items) ls) given.format
-            ∙ ap (λ m. first_fault old.format m new.line (new.handed_on + length new.keys.items) ls) given.limit
-            ∙ ap (λ n. first_fault old.format old.max_accesses n (new.handed_on + length new.keys.items) ls) given.line
+      × (given ++ (new.keys.items ++ all_keys new.format ls) ≡ keys_ahead old xs)
+  given_ahead ls lines =
+      let next = goes_on old.format old.max_accesses old.line old.handed_on old.keys.items text whole (old.partial_line.items ++ xs) ls lines read in
+      let len : length given + length new.keys.items ≡ length whole = sym (length-append given new.keys.items) ∙ ap length is.keys in
+      let count : new.handed_on + length new.keys.items ≡ old.handed_on + length whole = omega (arith, is.count, len) in (
+        ap (λ f. first_fault f new.max_accesses new.line (new.handed_on + length new.keys.items) ls) is.format
+            ∙ ap (λ m. first_fault old.format m new.line (new.handed_on + length new.keys.items) ls) is.limit
+            ∙ ap (λ n. first_fault old.format old.max_accesses n (new.handed_on + length new.keys.items) ls) is.line
             ∙ ap (λ k. first_fault old.format old.max_accesses (old.line + 1) k ls) count
             ∙ sym next.0,
-        ap (λ f. new.keys.items ++ all_keys f ls) given.format
-            ∙ ap (λ l. l ++ all_keys old.format ls) given.keys
-            ∙ sym (drop-append-le gone whole (all_keys old.format ls) within)
-            ∙ ap (drop gone) (sym next.1),
-        omega (arith, given.order, len),
+        ap (λ f. given ++ (new.keys.items ++ all_keys f ls)) is.format
+            ∙ sym (append_assoc given new.keys.items (all_keys old.format ls))
+            ∙ ap (λ l. l ++ all_keys old.format ls) is.keys
+            ∙ sym next.1,
       )
 
-  pub given_more : (ys : List ℕ) → lines_of (old.partial_line.items ++ xs) ≡ text ∷ lines_of ys
-      → (fault_ahead new ys ≡ fault_ahead old xs) × (keys_ahead new ys ≡ drop gone (keys_ahead old xs)) × (new.handed_on ≤ old.handed_on + length (keys_ahead old xs))
-  given_more ys is =
-      let next = given_ahead (lines_of ys) is in
-      let rest : new.partial_line.items ++ ys ≡ ys = ap (λ l. l ++ ys) given.partial_line in (
+  given_more : (ys : List ℕ) → lines_of (old.partial_line.items ++ xs) ≡ text ∷ lines_of ys
+      → (fault_ahead new ys ≡ fault_ahead old xs) × (given ++ keys_ahead new ys ≡ keys_ahead old xs)
+  given_more ys lines =
+      let next = given_ahead (lines_of ys) lines in
+      let rest : new.partial_line.items ++ ys ≡ ys = ap (λ l. l ++ ys) is.partial_line in (
         ap (λ l. first_fault new.format new.max_accesses new.line (new.handed_on + length new.keys.items) (lines_of l)) rest ∙ next.0,
-        ap (λ l. new.keys.items ++ all_keys new.format (lines_of l)) rest ∙ next.1,
-        next.2,
+        ap (λ l. given ++ (new.keys.items ++ all_keys new.format (lines_of l))) rest ∙ next.1,
       )
 
 -- the last line
-pub last_given : (old : Scan) (text : List ℕ) (new : Scan) → IsLineGiven old text new → lines_of (old.partial_line.items ++ []) ≡ text ∷ []
-    → (fault_ahead old [] ≡ None) × (new.keys.items ≡ drop (new.handed_on - old.handed_on) (keys_ahead old [])) × (new.handed_on ≤ old.handed_on + length (keys_ahead old []))
+pub last_given : (old : Scan) (text given : List ℕ) (new : Scan) → IsLineGiven old text given new → lines_of (old.partial_line.items ++ []) ≡ text ∷ []
+    → (fault_ahead old [] ≡ None) × (given ++ new.keys.items ≡ keys_ahead old [])
 unfolding first_fault all_keys
-last_given old text new given is =
-    let next = given_ahead old text new [] given [] is in
-    (sym next.0, sym (append-nil new.keys.items) ∙ next.1, next.2)
+last_given old text given new is lines =
+    let next = given_ahead old text given new [] is [] lines in
+    (sym next.0, ap (λ l. given ++ l) (sym (append-nil new.keys.items)) ∙ next.1)
+
+pub last_many : (old : Scan) (text given : List ℕ) (new : Scan) → IsLineGiven old text given new → lines_of (old.partial_line.items ++ []) ≡ text ∷ [] → new.keys.items ≡ [] → IsLastEnded old given new
+last_many old text given new is lines none =
+    let last = last_given old text given new is lines in
+    record { sound = last.0; keys = sym (append-nil given) ∙ ap (λ k. given ++ k) (sym none) ∙ last.1; count = is.count; limit = is.limit; partial_line = is.partial_line; line = is.line }
+
+pub last_few : (old : Scan) (text first given : List ℕ) (mid new : Scan) → IsLineGiven old text first mid → lines_of (old.partial_line.items ++ []) ≡ text ∷ [] → first ≡ [] → given ≡ mid.keys.items
+    → new.handed_on ≡ mid.handed_on + length mid.keys.items → IsSameLine mid new → IsLastEnded old given new
+last_few old text first given mid new is lines none gives count same =
+    let last = last_given old text first mid is lines in
+    record {
+      sound = last.0;
+      keys = gives ∙ ap (λ g. g ++ mid.keys.items) (sym none) ∙ last.1;
+      count = omega (arith, count, is.count, ap length none, ap length gives);
+      limit = same.limit ∙ is.limit;
+      partial_line = same.partial_line ∙ is.partial_line;
+      line = same.line ∙ is.line;
+    }
 
 -- a line that is a run
 module _ (format : Format) (text : List ℕ) (start count : ℕ) (fits : start + count ≤ 2 ^ 64) (is : line_of format text ≡ run_of (Some start) (Some count)) where
@@ -141,74 +103,105 @@ module _ (format : Format) (text : List ℕ) (start count : ℕ) (fits : start +
   pub run_sound : (most n before : ℕ) → before + count ≤ most → line_fault format most n before text ≡ None
   run_sound most n before few = ap (fault_after most n before) is ∙ (run_fits most n before start count fits few).0
 
--- the next line began after accesses of this one
-pub record IsNextLine (mid new : Scan) : Type 0 where
-  pub keys : new.keys.items ≡ mid.keys.items
-  pub handed_on : new.handed_on ≡ mid.handed_on
-  pub line : new.line ≡ mid.line + 1
-  pub partial_line : new.partial_line.items ≡ []
-  pub format : new.format ≡ mid.format
-  pub limit : new.max_accesses ≡ mid.max_accesses
-
-pub run_given : (old mid new : Scan) (text : List ℕ) (room : ℕ) (run : BlockRun) → IsLongRun old.format text room run → old.handed_on + length old.keys.items + run.count ≤ old.max_accesses
-    → IsRunGiven old run mid → IsSameLine old mid → IsNextLine mid new → IsLineGiven old text new
-run_given old mid new text room run is few given same next =
-    let keys = run_keys old.format text run.start run.count is.fits is.is in
-    let len : length (old.keys.items ++ line_keys old.format text) ≡ length old.keys.items + run.count = ap (λ l. length (old.keys.items ++ l)) keys ∙ length-append old.keys.items (run_from run.start run.count)
-    ∙ ap (λ n. length old.keys.items + n) (length_run run.start run.count) in
+-- a line of many, of which the accesses before it were handed over
+pub run_given : (old new : Scan) (text given : List ℕ) (room : ℕ) (run : BlockRun) → IsLongRun old.format text room run → old.handed_on + length old.keys.items + run.count ≤ old.max_accesses
+    → given ≡ old.keys.items ++ run_from run.start run.count → new.keys.items ≡ [] → new.handed_on ≡ old.handed_on + length old.keys.items + run.count
+    → new.line ≡ old.line + 1 → new.partial_line.items ≡ [] → new.format ≡ old.format → new.max_accesses ≡ old.max_accesses → IsLineGiven old text given new
+run_given old new text given room run is few gives none count line part format limit =
+    let len : length given ≡ length old.keys.items + run.count = ap length gives ∙ length-append old.keys.items (run_from run.start run.count) ∙ ap (λ n. length old.keys.items + n) (length_run run.start run.count) in
     record {
       sound = run_sound old.format text run.start run.count is.fits is.is old.max_accesses old.line (old.handed_on + length old.keys.items) few;
-      keys = next.keys ∙ given.keys ∙ ap (λ l. drop (mid.handed_on - old.handed_on) (old.keys.items ++ l)) (sym keys) ∙ ap (λ h. drop (h - old.handed_on) (old.keys.items ++ line_keys old.format text)) (sym next.handed_on);
-      order = (omega (arith, given.order, next.handed_on), omega (arith, given.order, next.handed_on, len));
-      partial_line = next.partial_line;
-      line = next.line ∙ ap (λ n. n + 1) same.line;
-      format = next.format ∙ same.format;
-      limit = next.limit ∙ same.limit;
+      keys = ap (λ k. given ++ k) none ∙ append-nil given ∙ gives ∙ ap (λ l. old.keys.items ++ l) (sym (run_keys old.format text run.start run.count is.fits is.is));
+      count = omega (arith, count, len);
+      partial_line = part;
+      line = line;
+      format = format;
+      limit = limit;
     }
 
-pub read_given : (old mid new : Scan) (text : List ℕ) → IsRead old.format old.max_accesses old.line old.handed_on old.keys.items text mid.keys.items → mid.handed_on ≡ old.handed_on → IsSameLine old mid → IsNextLine mid new
-    → IsLineGiven old text new
-read_given old mid new text read handed_on same next =
-    let none : new.handed_on - old.handed_on ≡ 0 = omega (arith, handed_on, next.handed_on) in
-    record {
-      sound = read.sound;
-      keys = next.keys ∙ read.added ∙ ap (λ k. drop k (old.keys.items ++ line_keys old.format text)) {x = 0} (sym none);
-      order = (omega (arith, handed_on, next.handed_on), omega (arith, handed_on, next.handed_on));
-      partial_line = next.partial_line;
-      line = next.line ∙ ap (λ n. n + 1) same.line;
-      format = next.format ∙ same.format;
-      limit = next.limit ∙ same.limit;
-    }
-
--- what the scan gave after a piece
-pub given_then : (first mid last : Scan) (piece : List ℕ) → IsPieceTaken first piece mid → IsHandedOn mid last → IsPieceTaken first piece last
-given_then first mid last piece taken given = record {
-  fault = λ rest. after rest ∙ taken.fault rest;
-  keys = λ rest. (joined rest).0;
-  order = omega (arith, taken.order, given.order);
-  given = λ rest. (joined rest).1;
-  limit = given.same.limit ∙ taken.limit;
+-- any other line, whose accesses are in the scan
+pub read_given : (old new : Scan) (text given : List ℕ) → IsRead old.format old.max_accesses old.line old.handed_on old.keys.items text new.keys.items → given ≡ [] → new.handed_on ≡ old.handed_on
+    → new.line ≡ old.line + 1 → new.partial_line.items ≡ [] → new.format ≡ old.format → new.max_accesses ≡ old.max_accesses → IsLineGiven old text given new
+read_given old new text given read none count line part format limit = record {
+  sound = read.sound;
+  keys = ap (λ g. g ++ new.keys.items) none ∙ read.added;
+  count = omega (arith, count, ap length none);
+  partial_line = part;
+  line = line;
+  format = format;
+  limit = limit;
 }
-  where
-    gone : ℕ
-    gone = last.handed_on - mid.handed_on
 
-    count : last.handed_on + length last.keys.items ≡ mid.handed_on + length mid.keys.items
-    count = omega (arith, given.order, ap length given.keys ∙ length-drop gone mid.keys.items)
+-- ---- a piece
 
-    after : (rest : List ℕ) → fault_ahead last rest ≡ fault_ahead mid rest
-    after rest = ap (λ l. first_fault last.format last.max_accesses last.line (last.handed_on + length last.keys.items) (lines_of (l ++ rest))) given.same.partial_line
-        ∙ ap (λ f. first_fault f last.max_accesses last.line (last.handed_on + length last.keys.items) (lines_of (mid.partial_line.items ++ rest))) given.same.format
-        ∙ ap (λ m. first_fault mid.format m last.line (last.handed_on + length last.keys.items) (lines_of (mid.partial_line.items ++ rest))) given.same.limit
-        ∙ ap (λ n. first_fault mid.format mid.max_accesses n (last.handed_on + length last.keys.items) (lines_of (mid.partial_line.items ++ rest))) given.same.line
-        ∙ ap (λ k. first_fault mid.format mid.max_accesses mid.line k (lines_of (mid.partial_line.items ++ rest))) count
+module _ (first scan : Scan) (piece : List ℕ) (at : ℕ) (is : IsTaken first piece at [] scan) where
+  abbrev rest : List ℕ
+  rest = drop at piece
 
-    left : (rest : List ℕ) → keys_ahead last rest ≡ drop gone (keys_ahead mid rest)
-    left rest = ap (λ l. last.keys.items ++ all_keys last.format (lines_of (l ++ rest))) given.same.partial_line
-        ∙ ap (λ f. last.keys.items ++ all_keys f (lines_of (mid.partial_line.items ++ rest))) given.same.format
-        ∙ ap (λ l. l ++ all_keys mid.format (lines_of (mid.partial_line.items ++ rest))) given.keys
-        ∙ sym (drop-append-le gone mid.keys.items _ (omega (arith, given.order)))
+  behind : (n : ℕ) → drop (at + n) piece ≡ drop n rest
+  behind n = sym (drop-drop n at piece ∙ ap (λ k. drop k piece) (omega arith))
 
-    joined : (rest : List ℕ) → (keys_ahead last rest ≡ drop (last.handed_on - first.handed_on) (keys_ahead first (piece ++ rest))) × (last.handed_on ≤ first.handed_on + length (keys_ahead first (piece ++ rest)))
-    joined rest = drops first.handed_on mid.handed_on last.handed_on (keys_ahead first (piece ++ rest)) (keys_ahead mid rest) (keys_ahead last rest) taken.order given.order.0 (taken.given rest) (taken.keys rest) (left rest)
-        (omega (arith, given.order, length-append mid.keys.items (all_keys mid.format (lines_of (mid.partial_line.items ++ rest)))))
+  left : length rest ≡ length piece - at
+  left = length-drop at piece
+
+  -- the next line
+  pub line_ended : (new : Scan) (keys : List ℕ) (line : Taken) → IsScan scan → IsNextEnded scan rest keys line new → IsTaken first piece (at + line.bytes) (keys ++ pending_keys line.run) new
+  line_ended new keys line kept ended = record {
+    fault = λ more. ap (λ l. fault_ahead new (l ++ more)) over ∙ (next more).0 ∙ is.fault more;
+    keys = λ more. ap (λ l. (keys ++ pending_keys line.run) ++ keys_ahead new (l ++ more)) over ∙ (next more).1 ∙ is.keys more;
+    count = omega (arith, ended.given.count, is.count);
+    limit = ended.given.limit ∙ is.limit;
+    within = omega (arith, ended.place, ended.within, left, is.within);
+    lines = omega (arith, ended.given.line, ended.place, is.lines);
+  }
+    where
+      over : drop (at + line.bytes) piece ≡ drop (feed_in rest + 1) rest
+      over = behind line.bytes ∙ ap (λ k. drop k rest) ended.place
+
+      next : (more : List ℕ) → (fault_ahead new (drop (feed_in rest + 1) rest ++ more) ≡ fault_ahead scan (rest ++ more))
+          × ((keys ++ pending_keys line.run) ++ keys_ahead new (drop (feed_in rest + 1) rest ++ more) ≡ keys_ahead scan (rest ++ more))
+      next more = given_more scan _ (keys ++ pending_keys line.run) new (rest ++ more) ended.given (drop (feed_in rest + 1) rest ++ more)
+          (cut_line scan.partial_line.items rest more (feed_in rest) kept.partial_line refl ended.within)
+
+  -- the lines up to a place
+  pub lines_taken : (new : Scan) (n : ℕ) → IsTakenUpTo scan rest 0 n new → IsTaken first piece (at + n) [] new
+  lines_taken new n taken = record {
+    fault = λ more. ap (λ l. fault_ahead new (l ++ more)) (behind n) ∙ taken.fault more ∙ is.fault more;
+    keys = λ more. ap (λ l. keys_ahead new (l ++ more)) (behind n) ∙ taken.keys more ∙ is.keys more;
+    count = taken.handed_on ∙ is.count;
+    limit = taken.limit ∙ is.limit;
+    within = omega (arith, taken.order, left, is.within);
+    lines = omega (arith, taken.lines, is.lines);
+  }
+
+  -- the bytes behind the last line feed
+  pub rest_taken : (new : Scan) (given : List ℕ) → new.partial_line.items ≡ scan.partial_line.items ++ rest → given ≡ scan.keys.items → new.keys.items ≡ []
+      → new.handed_on ≡ scan.handed_on + length scan.keys.items → new.line ≡ scan.line → new.format ≡ scan.format → new.max_accesses ≡ scan.max_accesses → IsTaken first piece (length piece) given new
+  rest_taken new given part gives none count line format limit = record {
+    fault = λ more. (next more).0 ∙ is.fault more;
+    keys = λ more. (next more).1 ∙ is.keys more;
+    count = omega (arith, count, is.count, ap length gives);
+    limit = limit ∙ is.limit;
+    within = omega arith;
+    lines = omega (arith, line, is.lines, is.within);
+  }
+    where
+      held : new.handed_on + length new.keys.items ≡ scan.handed_on + length scan.keys.items
+      held = omega (arith, count, ap length none)
+
+      ahead : (more : List ℕ) → new.partial_line.items ++ (drop (length piece) piece ++ more) ≡ scan.partial_line.items ++ (rest ++ more)
+      ahead more = ap (λ l. new.partial_line.items ++ (l ++ more)) (drop_all (length piece) piece (omega arith)) ∙ ap (λ l. l ++ more) part ∙ append_assoc scan.partial_line.items rest more
+
+      next : (more : List ℕ) → (fault_ahead new (drop (length piece) piece ++ more) ≡ fault_ahead scan (rest ++ more))
+          × (given ++ keys_ahead new (drop (length piece) piece ++ more) ≡ keys_ahead scan (rest ++ more))
+      next more = (
+        ap (λ l. first_fault new.format new.max_accesses new.line (new.handed_on + length new.keys.items) (lines_of l)) (ahead more)
+            ∙ ap (λ f. first_fault f new.max_accesses new.line (new.handed_on + length new.keys.items) (lines_of (scan.partial_line.items ++ (rest ++ more)))) format
+            ∙ ap (λ m. first_fault scan.format m new.line (new.handed_on + length new.keys.items) (lines_of (scan.partial_line.items ++ (rest ++ more)))) limit
+            ∙ ap (λ n. first_fault scan.format scan.max_accesses n (new.handed_on + length new.keys.items) (lines_of (scan.partial_line.items ++ (rest ++ more)))) line
+            ∙ ap (λ k. first_fault scan.format scan.max_accesses scan.line k (lines_of (scan.partial_line.items ++ (rest ++ more)))) held,
+        ap (λ l. given ++ (new.keys.items ++ all_keys new.format (lines_of l))) (ahead more)
+            ∙ ap (λ f. given ++ (new.keys.items ++ all_keys f (lines_of (scan.partial_line.items ++ (rest ++ more))))) format
+            ∙ ap (λ k. given ++ (k ++ all_keys scan.format (lines_of (scan.partial_line.items ++ (rest ++ more))))) none
+            ∙ ap (λ g. g ++ all_keys scan.format (lines_of (scan.partial_line.items ++ (rest ++ more)))) gives,
+      )

@@ -1,13 +1,13 @@
 -- What a scan of the lines comes to, whatever bytes still follow.
-use Rattle.std.specs.Prelude.{◌≡◌, ℕ, ◌+◌, ◌-◌, ◌^◌, ◌≤◌, ◌<◌, ◌⊎◌}
+use Rattle.std.specs.Prelude.{◌≡◌, ℕ, ◌+◌, ◌^◌, ◌≤◌, ◌<◌, ◌⊎◌}
 use Rattle.std.specs.Prelude.{List, [], ◌++◌, Option, Some, None, IfSome, length, drop, take}
-use Rattle.streams.specs.Feeds.{lines_of, HasNoFeed}
+use Rattle.streams.specs.Feeds.{feed_in, lines_of, HasNoFeed}
 use Rattle.trace_read.specs.DigitRuns.{DigitRuns, DigitRun, IsDigitRuns, IsNextRun}
-use Rattle.trace_read.specs.Lines.{run_from}
+use Rattle.trace_read.specs.Pending.{pending_count, pending_keys}
 use Rattle.trace_read.specs.TraceText.{TraceFault, all_keys, first_fault, line_fault, line_keys, IsOfLine}
-pub use Rattle.trace_read.specs.declared.arc.BlockRun.{BlockRun}
 use Rattle.trace_read.specs.declared.fault.TraceFault.TheVariants.{OutOfMemory}
 pub use Rattle.trace_read.specs.declared.scan.Scan.{Scan}
+pub use Rattle.trace_read.specs.declared.scan.Taken.{Taken}
 
 -- the fault of the whole file, and its accesses but for those that were handed on, where these bytes still follow
 abbrev pub fault_ahead : Scan → List ℕ → Option TraceFault
@@ -23,15 +23,24 @@ pub record IsScan (s : Scan) : Type 0 where
   pub few : s.handed_on + length s.keys.items ≤ s.max_accesses
   pub partial_line : HasNoFeed s.partial_line.items
 
--- the scan that took a piece, and handed on accesses from the first on, comes to what the piece and the rest came to
--- before, but for these
-pub record IsPieceTaken (old : Scan) (piece : List ℕ) (new : Scan) : Type 0 where
-  pub fault : (rest : List ℕ) → fault_ahead new rest ≡ fault_ahead old (piece ++ rest)
-  pub keys : (rest : List ℕ)
-      → keys_ahead new rest ≡ drop (new.handed_on - old.handed_on) (keys_ahead old (piece ++ rest))
-  pub order : old.handed_on ≤ new.handed_on
-  pub given : (rest : List ℕ) → new.handed_on ≤ old.handed_on + length (keys_ahead old (piece ++ rest))
+-- the scan took a piece up to a place, handed these accesses over, and comes with the rest to what all came to before,
+-- but for these
+pub record IsTaken (old : Scan) (piece : List ℕ) (place : ℕ) (given : List ℕ) (new : Scan) : Type 0 where
+  pub fault : (more : List ℕ) → fault_ahead new (drop place piece ++ more) ≡ fault_ahead old (piece ++ more)
+  pub keys : (more : List ℕ) → given ++ keys_ahead new (drop place piece ++ more) ≡ keys_ahead old (piece ++ more)
+  pub count : new.handed_on ≡ old.handed_on + length given
   pub limit : new.max_accesses ≡ old.max_accesses
+  pub within : place ≤ length piece
+  pub lines : new.line ≤ old.line + place
+
+-- the last line came to its end, and these accesses were handed over: nothing else is ahead
+pub record IsLastEnded (old : Scan) (given : List ℕ) (new : Scan) : Type 0 where
+  pub sound : fault_ahead old [] ≡ None
+  pub keys : given ≡ keys_ahead old []
+  pub count : new.handed_on ≡ old.handed_on + length given
+  pub limit : new.max_accesses ≡ old.max_accesses
+  pub partial_line : new.partial_line.items ≡ []
+  pub line : new.line ≡ old.line + 1
 
 -- the scan is in the same line
 pub record IsSameLine (old new : Scan) : Type 0 where
@@ -40,40 +49,23 @@ pub record IsSameLine (old new : Scan) : Type 0 where
   pub partial_line : new.partial_line.items ≡ old.partial_line.items
   pub limit : new.max_accesses ≡ old.max_accesses
 
--- the scan handed some of its accesses on, from the first on, and nothing else changed
-pub record IsHandedOn (old new : Scan) : Type 0 where
-  pub order : (old.handed_on ≤ new.handed_on) × (new.handed_on ≤ old.handed_on + length old.keys.items)
-  pub keys : new.keys.items ≡ drop (new.handed_on - old.handed_on) old.keys.items
-  pub same : IsSameLine old new
-
--- the accesses that the scan had, those of a run, and nothing else: some are handed on, the others there
-pub record IsRunGiven (old : Scan) (run : BlockRun) (new : Scan) : Type 0 where
-  pub keys : new.keys.items
-      ≡ drop (new.handed_on - old.handed_on) (old.keys.items ++ run_from run.start run.count)
-  pub order : (old.handed_on ≤ new.handed_on)
-      × (new.handed_on ≤ old.handed_on + length old.keys.items + run.count)
-
--- a line of this text came to its end, and some of the accesses up to its last were handed on
-pub record IsLineGiven (old : Scan) (text : List ℕ) (new : Scan) : Type 0 where
+-- a line of this text came to its end, and these of the accesses up to its last were handed over
+pub record IsLineGiven (old : Scan) (text given : List ℕ) (new : Scan) : Type 0 where
   pub sound : line_fault old.format old.max_accesses old.line (old.handed_on + length old.keys.items) text ≡ None
-  pub keys : new.keys.items
-      ≡ drop (new.handed_on - old.handed_on) (old.keys.items ++ line_keys old.format text)
-  pub order : (old.handed_on ≤ new.handed_on)
-      × (new.handed_on ≤ old.handed_on + length (old.keys.items ++ line_keys old.format text))
+  pub keys : given ++ new.keys.items ≡ old.keys.items ++ line_keys old.format text
+  pub count : new.handed_on ≡ old.handed_on + length given
   pub partial_line : new.partial_line.items ≡ []
   pub line : new.line ≡ old.line + 1
   pub format : new.format ≡ old.format
   pub limit : new.max_accesses ≡ old.max_accesses
 
--- these are the first of those
-abbrev pub AreFirst : List ℕ → List ℕ → Type 0
-AreFirst xs ys = xs ≡ take (length xs) ys
-
--- where the accesses of the whole file are known, those that the scan still gives with a piece are the next of them,
--- for some bytes after the piece
-pub record AreNext (file : Option (List ℕ)) (scan : Scan) (piece : List ℕ) : Type 0 where
-  pub rest : List ℕ
-  pub next : IfSome file (λ all. drop scan.handed_on all ≡ keys_ahead scan (piece ++ rest))
+-- the next line came to its end in these bytes: all its accesses are in the scan, or it is one of many
+pub record IsNextEnded (old : Scan) (bytes keys : List ℕ) (line : Taken) (new : Scan) : Type 0 where
+  pub place : line.bytes ≡ feed_in bytes + 1
+  pub within : feed_in bytes < length bytes
+  pub given : IsLineGiven old (old.partial_line.items ++ take (feed_in bytes) bytes) (keys ++ pending_keys line.run) new
+  pub many : 0 < pending_count line.run → new.keys.items ≡ []
+  pub none : pending_count line.run ≡ 0 → keys ≡ []
 
 -- the scan took the lines between two places of these bytes, and comes with the rest to what all from the first place
 -- on came to before

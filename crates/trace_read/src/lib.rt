@@ -5,12 +5,13 @@
 //! the accesses of all lines in order where no line is faulty, and else the fault of the first
 //! faulty line, with its number. The rules of both formats are defined by this project.
 //!
-//! `read_followed` lets a `Follower` take accesses after each piece, from the first on, and gives the
-//! ones that it left. It is given the `Limits` on accesses and bytes, as `read_trace_within` is; `read_trace` has those by
-//! default.
+//! A `Reading` gives the accesses to its caller, some at a time, within `Limits` on accesses and bytes. `read_trace` and
+//! `read_trace_within` keep them all; `read_followed` lets a `Follower` take them, from the first on, and gives the ones
+//! that it left.
 //!
-//! A file is read in one pass, piece by piece, and no bytes are kept but those of a line that a
-//! piece cut in two. The accesses of a line of many are made and handed on some hundreds at a time. `Read` and `TooLarge` come before the fault of a line.
+//! A file is read in one pass, piece by piece, and no bytes are kept but those of the last piece and of a line that a
+//! piece cut in two. The accesses of a line of many are made and given some hundreds at a time. `Read` and `TooLarge`
+//! come before the fault of a line.
 #![tactic(auto)]
 
 mod arc;
@@ -21,8 +22,10 @@ mod follower;
 mod format;
 mod limits;
 mod lirs;
+mod pending;
 mod pieces;
 mod reader;
+mod reading;
 mod scan;
 
 pub use engine_base::Trace;
@@ -31,3 +34,4 @@ pub use follower::Follower;
 pub use format::Format;
 pub use limits::{Limits, MAX_LONG_ACCESSES, MAX_LONG_TRACE_BYTES};
 pub use reader::{read_followed, read_trace, read_trace_within};
+pub use reading::Reading;

@@ -2,25 +2,31 @@
 ghost use Rattle.std.specs.Prelude.{◌≡◌, ◌↔◌, ◌≤◌, ◌<◌, ◌+◌, ◌-◌, ◌^◌, ◌++◌, ◌⊎◌, ℕ, List, [], Some, None, OnOk};
 ghost use Rattle.std.specs.Prelude.{IfOk, IfErr, IfSome, IsTrue, MatchOption, length, take, drop, vec_len};
 ghost use Rattle.trace_read.specs.DigitRuns.{IsNextRun};
-ghost use Rattle.trace_read.specs.Lines.{run_from};
 ghost use Rattle.trace_read.specs.UsualLine.{AreFourStars, BeginsUsual, IsLongRun, IsStarLine, IsUsualLine};
 ghost use Rattle.trace_read.specs.TraceText.{fault_within, keys_in, line_keys, IsOfLine, IsRead, IsTraceRefused, IsStopped};
-ghost use Rattle.trace_read.specs.ScanState.{fault_ahead, keys_ahead, AreFirst, AreLinesTaken, AreNext, CanTakeFrom, IsHandedOn, IsLineGiven, IsPieceTaken, IsRefusedFrom, IsRunGiven, IsSameLine, IsScan, IsTakenUpTo};
+ghost use Rattle.trace_read.specs.Pending.{pending_count, pending_keys};
+ghost use Rattle.trace_read.specs.ScanState.{fault_ahead, keys_ahead, AreLinesTaken, CanTakeFrom, IsLastEnded, IsLineGiven, IsNextEnded, IsRefusedFrom, IsSameLine, IsScan, IsTaken, IsTakenUpTo};
 ghost use Rattle.streams.specs.Feeds.{feed_in};
 
 use super::TraceFault;
-use super::arc::{
-    AT_ONCE, BlockRun, UsualLine, add_arc_line, long_run, push_reserved_run, usual_run,
-};
+use super::arc::{BlockRun, UsualLine, add_arc_line, long_run, push_reserved_run, usual_run};
 use super::digit_runs::{DigitRun, DigitRuns, are_at};
 use super::digits::{MAX_DIGITS, first_word};
-use super::follower::Follower;
 use super::format::Format;
 use super::lirs::{add_lirs_line, usual_number};
+use super::pending::Pending;
 use engine_base::Key;
 use std::alloc::Global;
 use std::mem;
 use streams::place_of;
+
+/// What a scan took of some bytes: so many from the front, up to behind a line of many accesses where there are some of
+/// these.
+#[derive(Drop)]
+pub struct Taken {
+    pub bytes: usize,
+    pub run: Pending,
+}
 
 /// A scan of the lines of a trace file, whose bytes come in pieces. It keeps no byte but those of
 /// the line that the last piece cut in two.
@@ -33,7 +39,7 @@ pub struct Scan {
     format: Format,
     // The most accesses that the file may have.
     max_accesses: usize,
-    // The accesses that were read and not handed on yet; how many were handed on.
+    // The accesses that were read and not handed over yet; how many were, with those of lines of many.
     keys: Vec<Key>,
     handed_on: usize,
     // The number of the line that comes to its end next.
@@ -51,6 +57,7 @@ impl Scan {
         ensures line { result.line ≡ 1 }
         ensures handed_on { result.handed_on ≡ 0 }
         ensures limit { result.max_accesses ≡ max_accesses }
+        ensures none { result.keys.items ≡ [] }
     {
         Scan {
             alloc,
@@ -63,98 +70,91 @@ impl Scan {
         }
     }
 
-    /// Takes the next bytes: adds the accesses of each line that ends in them. Where a line stands for many, the
-    /// follower may take some at once. `OutOfMemory` comes where there is none for the accesses or for what is there of
-    /// a line, and the fault of a line at the first faulty line, whatever follows it. After either the scan is of no
-    /// more use.
-    pub fn take<F: Follower>(&mut self, piece: &[u8], follower: &mut F) -> Result<(), TraceFault>
+    /// Takes the next bytes, all of them or up to behind the first line of many accesses. The accesses that they end are
+    /// handed over in the empty list, but for those of that line, which are not made: `Taken` has their run. `OutOfMemory`
+    /// comes where there is none for the accesses or for what is there of a line, and the fault of a line at the first
+    /// faulty line, whatever follows it. After either the scan is of no more use.
+    pub fn take(&mut self, piece: &[u8], keys: &mut Vec<Key>) -> Result<Taken, TraceFault>
         requires scan { IsScan self.old }
         requires lines { self.old.line + length piece.now < 2 ^ 64 }
-        requires limit { self.old.max_accesses ≤ F.most follower.old }
-        requires handed_on { F.taken follower.old ≡ self.old.handed_on }
-        requires next { AreNext (F.file follower.old) self.old piece.now }
+        requires limit { self.old.max_accesses < 2 ^ 64 }
+        requires none { keys.old.items ≡ [] }
         ensures scan { OnOk result (IsScan self.new) }
-        ensures handed_on { OnOk result (F.taken follower.new ≡ self.new.handed_on) }
-        ensures file { F.file follower.new ≡ F.file follower.old }
-        ensures most { F.most follower.new ≡ F.most follower.old }
-        ensures taken { OnOk result (IsPieceTaken self.old piece.now self.new) }
-        ensures lines { OnOk result (self.new.line ≤ self.old.line + length piece.now) }
+        ensures none { OnOk result (self.new.keys.items ≡ []) }
+        ensures taken { IfOk result (λ t. IsTaken self.old piece.now t.bytes
+            (keys.new.items ++ pending_keys t.run) self.new) }
+        ensures some { IfOk result (λ t. 0 < length piece.now → 0 < t.bytes) }
         ensures err { IfErr result (λ e. (e ≡ TraceFault.OutOfMemory)
             ⊎ (IsOfLine e
             × ((rest : List ℕ) → fault_ahead self.old (piece.now ++ rest) ≡ Some e))) }
     {
-        let mut rest = piece;
+        let mut at = 0;
         'lines: loop {
-            let Some(end) = self.end_next(rest, follower)? else {
+            let rest = &piece[at..];
+            let Some(line) = self.end_next(rest, keys)? else {
                 self.partial_line.extend_from_slice(rest)?;
-                return Ok(());
+                self.hand_over(keys);
+                return Ok(Taken {
+                    bytes: piece.len(),
+                    run: Pending::none(),
+                });
             };
-            rest = &rest[end + 1..];
-            let taken = self.take_lines(rest)?;
-            rest = &rest[taken..];
+            at += line.bytes;
+            if line.run.count() > 0 {
+                return Ok(Taken {
+                    bytes: at,
+                    run: line.run,
+                });
+            }
+            let taken = self.take_lines(&piece[at..])?;
+            at += taken;
         }
     }
 
-    /// The accesses that the bytes name and that were not handed on, where no more bytes come. The faults are those
-    /// of `take`, of the last line.
-    pub fn end<F: Follower>(mut self, follower: &mut F) -> Result<Vec<Key>, TraceFault>
-        requires scan { IsScan self }
-        requires lines { self.line + 1 < 2 ^ 64 }
-        requires limit { self.max_accesses ≤ F.most follower.old }
-        requires handed_on { F.taken follower.old ≡ self.handed_on }
-        requires next { IfSome (F.file follower.old) (λ all. drop self.handed_on all ≡ keys_ahead self []) }
-        ensures sound { OnOk result (fault_ahead self [] ≡ None) }
-        ensures ok { IfOk result (λ keys.
-            keys.items ≡ drop (F.taken follower.new - F.taken follower.old) (keys_ahead self [])) }
-        ensures order { OnOk result ((F.taken follower.old ≤ F.taken follower.new)
-            × (F.taken follower.new ≤ F.taken follower.old + length (keys_ahead self []))) }
-        ensures few { IfOk result (λ keys. F.taken follower.new + vec_len keys ≤ self.max_accesses) }
-        ensures file { F.file follower.new ≡ F.file follower.old }
+    /// Ends the last line, where no more bytes come, and hands its accesses over as `take` does. The faults are those of
+    /// `take`, of that line.
+    pub fn end(&mut self, keys: &mut Vec<Key>) -> Result<Pending, TraceFault>
+        requires scan { IsScan self.old }
+        requires lines { self.old.line + 1 < 2 ^ 64 }
+        requires limit { self.old.max_accesses < 2 ^ 64 }
+        requires none { keys.old.items ≡ [] }
+        ensures scan { OnOk result (IsScan self.new) }
+        ensures none { OnOk result (self.new.keys.items ≡ []) }
+        ensures ended { IfOk result (λ run. IsLastEnded self.old (keys.new.items ++ pending_keys run) self.new) }
         ensures err { IfErr result (λ e. (e ≡ TraceFault.OutOfMemory)
-            ⊎ (IsOfLine e × (fault_ahead self [] ≡ Some e))) }
+            ⊎ (IsOfLine e × (fault_ahead self.old [] ≡ Some e))) }
     {
-        self.end_line(follower)?;
-        let Scan { keys, .. } = self;
-        Ok(keys)
+        let run = self.end_line(keys)?;
+        if run.count() == 0 {
+            self.hand_over(keys);
+        }
+        Ok(run)
     }
 
-    /// Lets the follower take accesses, which are no longer in the scan then.
-    pub fn give<F: Follower>(&mut self, follower: &mut F)
+    // Hands the accesses over, which are no longer in the scan then.
+    fn hand_over(&mut self, keys: &mut Vec<Key>)
+        requires none { keys.old.items ≡ [] }
         requires few { self.old.handed_on + length self.old.keys.items ≤ self.old.max_accesses }
-        requires limit { self.old.max_accesses ≤ F.most follower.old }
-        requires handed_on { F.taken follower.old ≡ self.old.handed_on }
-        requires next { IfSome (F.file follower.old) (λ all.
-            AreFirst self.old.keys.items (drop self.old.handed_on all)) }
-        ensures few { self.new.handed_on + length self.new.keys.items ≤ self.new.max_accesses }
-        ensures handed_on { F.taken follower.new ≡ self.new.handed_on }
-        ensures left { IsHandedOn self.old self.new }
-        ensures file { F.file follower.new ≡ F.file follower.old }
-        ensures most { F.most follower.new ≡ F.most follower.old }
+        requires limit { self.old.max_accesses < 2 ^ 64 }
+        ensures keys { keys.new.items ≡ self.old.keys.items }
+        ensures none { self.new.keys.items ≡ [] }
+        ensures given { self.new.handed_on ≡ self.old.handed_on + length self.old.keys.items }
+        ensures same { IsSameLine self.old self.new }
     {
-        let held = self.keys.len();
-        follower.follow(&mut self.keys);
-        self.handed_on += held - self.keys.len();
+        mem::swap(&mut self.keys, keys);
+        self.handed_on += keys.len();
     }
 
-    // Adds the accesses of the next line, where it ends in these bytes, and returns the place of its end.
-    fn end_next<F: Follower>(
-        &mut self,
-        bytes: &[u8],
-        follower: &mut F,
-    ) -> Result<Option<usize>, TraceFault>
+    // Ends the next line as `end_line` does, where it ends in these bytes, and returns with its run how many they are.
+    fn end_next(&mut self, bytes: &[u8], keys: &mut Vec<Key>) -> Result<Option<Taken>, TraceFault>
         requires scan { IsScan self.old }
         requires lines { self.old.line + length bytes.now < 2 ^ 64 }
-        requires limit { self.old.max_accesses ≤ F.most follower.old }
-        requires handed_on { F.taken follower.old ≡ self.old.handed_on }
-        requires next { AreNext (F.file follower.old) self.old bytes.now }
+        requires limit { self.old.max_accesses < 2 ^ 64 }
+        requires none { keys.old.items ≡ [] }
         ensures scan { OnOk result (IsScan self.new) }
-        ensures handed_on { OnOk result (F.taken follower.new ≡ self.new.handed_on) }
-        ensures file { F.file follower.new ≡ F.file follower.old }
-        ensures most { F.most follower.new ≡ F.most follower.old }
-        ensures ended { IfOk result (λ end. MatchOption end
-            ((feed_in bytes.now ≡ length bytes.now) × (self.new ≡ self.old))
-            (λ k. (k ≡ feed_in bytes.now) × (k < length bytes.now)
-            × IsLineGiven self.old (self.old.partial_line.items ++ take k bytes.now) self.new)) }
+        ensures ended { IfOk result (λ line. MatchOption line
+            ((feed_in bytes.now ≡ length bytes.now) × (self.new ≡ self.old) × (keys.new.items ≡ []))
+            (λ t. IsNextEnded self.old bytes.now keys.new.items t self.new)) }
         ensures err { IfErr result (λ e. (feed_in bytes.now < length bytes.now)
             × IsStopped self.old.format self.old.max_accesses self.old.line self.old.handed_on self.old.keys.items
             (self.old.partial_line.items ++ take (feed_in bytes.now) bytes.now) e) }
@@ -164,24 +164,25 @@ impl Scan {
             return Ok(None);
         }
         self.partial_line.extend_from_slice(&bytes[..end])?;
-        self.end_line(follower)?;
-        Ok(Some(end))
+        let run = self.end_line(keys)?;
+        Ok(Some(Taken {
+            bytes: end + 1,
+            run,
+        }))
     }
 
-    // Adds the accesses of the line that is there, all of it.
-    fn end_line<F: Follower>(&mut self, follower: &mut F) -> Result<(), TraceFault>
+    // Adds the accesses of the line that is there. Where they are many, they are not made: those before them are handed
+    // over, and the run is returned.
+    fn end_line(&mut self, keys: &mut Vec<Key>) -> Result<Pending, TraceFault>
         requires few { self.old.handed_on + length self.old.keys.items ≤ self.old.max_accesses }
         requires lines { self.old.line + 1 < 2 ^ 64 }
-        requires limit { self.old.max_accesses ≤ F.most follower.old }
-        requires handed_on { F.taken follower.old ≡ self.old.handed_on }
-        requires next { IfSome (F.file follower.old) (λ all. AreFirst
-            (self.old.keys.items ++ line_keys self.old.format self.old.partial_line.items)
-            (drop self.old.handed_on all)) }
+        requires limit { self.old.max_accesses < 2 ^ 64 }
+        requires none { keys.old.items ≡ [] }
         ensures scan { OnOk result (IsScan self.new) }
-        ensures handed_on { OnOk result (F.taken follower.new ≡ self.new.handed_on) }
-        ensures file { F.file follower.new ≡ F.file follower.old }
-        ensures most { F.most follower.new ≡ F.most follower.old }
-        ensures given { OnOk result (IsLineGiven self.old self.old.partial_line.items self.new) }
+        ensures given { IfOk result (λ run. IsLineGiven self.old self.old.partial_line.items
+            (keys.new.items ++ pending_keys run) self.new) }
+        ensures many { IfOk result (λ run. 0 < pending_count run → self.new.keys.items ≡ []) }
+        ensures none { IfOk result (λ run. pending_count run ≡ 0 → keys.new.items ≡ []) }
         ensures err { IfErr result
             (IsStopped self.old.format self.old.max_accesses self.old.line self.old.handed_on self.old.keys.items
             self.old.partial_line.items) }
@@ -190,41 +191,17 @@ impl Scan {
         let room = limit - self.handed_on - self.keys.len();
         let text = self.partial_line.as_slice();
         if let Some(run) = long_line(format, text, room) {
-            self.give_run(run, follower)?;
-        } else {
-            let (line, keys) = (self.line, &mut self.keys);
-            add_line(format, text, line, self.handed_on, limit, keys)?;
+            self.hand_over(keys);
+            self.handed_on += run.count as usize;
+            self.partial_line.clear();
+            self.line += 1;
+            return Ok(Pending::new(run));
         }
+        let (line, handed_on) = (self.line, self.handed_on);
+        add_line(format, text, line, handed_on, limit, &mut self.keys)?;
         self.partial_line.clear();
         self.line += 1;
-        Ok(())
-    }
-
-    // Adds the accesses of a run, and lets the follower take some whenever a few are there.
-    fn give_run<F: Follower>(&mut self, run: BlockRun, follower: &mut F) -> Result<(), TraceFault>
-        requires fits { run.start + run.count ≤ 2 ^ 64 }
-        requires few { self.old.handed_on + length self.old.keys.items + run.count ≤ self.old.max_accesses }
-        requires limit { self.old.max_accesses ≤ F.most follower.old }
-        requires handed_on { F.taken follower.old ≡ self.old.handed_on }
-        requires next { IfSome (F.file follower.old) (λ all.
-            AreFirst (self.old.keys.items ++ run_from run.start run.count) (drop self.old.handed_on all)) }
-        ensures given { OnOk result (IsRunGiven self.old run self.new) }
-        ensures same { OnOk result (IsSameLine self.old self.new) }
-        ensures few { OnOk result (self.new.handed_on + length self.new.keys.items ≤ self.new.max_accesses) }
-        ensures handed_on { OnOk result (F.taken follower.new ≡ self.new.handed_on) }
-        ensures file { F.file follower.new ≡ F.file follower.old }
-        ensures most { F.most follower.new ≡ F.most follower.old }
-        ensures err { IfErr result (λ e. e ≡ TraceFault.OutOfMemory) }
-    {
-        let mut done = 0;
-        'steps: while done < run.count {
-            let count = (run.count - done).min(AT_ONCE);
-            self.keys.reserve(count as usize)?;
-            push_reserved_run(run.start + done, count, &mut self.keys);
-            self.give(follower);
-            done += count;
-        }
-        Ok(())
+        Ok(Pending::none())
     }
 
     // Takes lines from the front of these bytes, 64 bytes at a time, and returns where the next line begins. The last
@@ -367,8 +344,8 @@ impl Scan {
     }
 }
 
-// Adds the accesses of a line to those of the lines before it, of which `handed_on` are with the follower already, of
-// at most `limit` in all.
+// Adds the accesses of a line to those of the lines before it, of which `handed_on` were handed over, of at most `limit`
+// in all.
 fn add_line(
     format: Format,
     text: &[u8],
