@@ -294,7 +294,7 @@ MISTAKES = {
     "thin from one point on": Mistake(check_thin, "plot", "SURE = 2", "SURE = 1"),
     "thin where it falls": Mistake(check_thin, "plot", "abs(point[1] - before[1]) > SURE", "(before[1] - point[1]) > SURE"),
     "places without a mark": Mistake(check_thin, "plot", "if every > 1 and not is_stepped:", "if False:"),
-    "unknown policies in one style": Mistake(check_unknown, "plot", "dict(zip(unknown, OTHERS))", "dict(zip(unknown, OTHERS[:1] * 4))"),
+    "unknown policies in one style": Mistake(check_unknown, "lib/policies.py", "OTHERS[at % len(OTHERS)]", "OTHERS[0]"),
     "a fifth unknown policy": Mistake(check_unknown, "plot", "if len(unknown) > len(OTHERS):", "if False:"),
     "two kinds in one picture": Mistake(check_refusals, "plot", "if len(headers) > 1:", "if False:"),
     "an axis of no height": Mistake(check_refusals, "plot", "low < low + 1e-6 <= high", "low < high"),

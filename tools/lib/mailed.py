@@ -11,7 +11,7 @@ from .measures import above, below, capacities_in
 from .options import as_called
 from .own import in_legend, is_own
 from .pictures import ends_around, marks_of
-from .policies import OTHERS, POLICIES
+from .policies import styled
 from .reports import INTERVALS
 from .tables import FOLDED, LEFT, NOTES, NOTES_OF_SAMPLE, TABLES, TITLES, also_measured, rate_of, shown_rate
 from .views import every_of
@@ -73,11 +73,6 @@ def facts(args, survey, version):
 
 # Pictures.
 
-def style_of(policy, policies):
-    unknown = sorted(set(policies) - POLICIES.keys())
-    return POLICIES.get(policy) or OTHERS[unknown.index(policy) % len(OTHERS)]
-
-
 def stroke(style):
     dash = "" if style.dash == "1" else f' stroke-dasharray="{style.dash.strip("()")}"'
     return f'stroke="{style.colour}" fill="none"{dash}'
@@ -96,7 +91,7 @@ def text_at(x, y, anchor, text):
 def legend_of(policies):
     yield "<h2>Policies</h2><ul class=\"legend\">"
     for it in policies:
-        style = style_of(it, policies)
+        style = styled(policies)[it]
         line = f'<path d="M0 7H52" stroke-width="2" {stroke(style)}/>{mark(style, 26, 7)}'
         yield (f'<li data-policy="{escape(it)}"><svg width="52" height="14" aria-hidden="true">{line}</svg> '
                f"{escape(in_legend(it, it))}</li>")
@@ -165,7 +160,7 @@ def chart(name, ends, spans, values, axis, labels, is_log):
                          f"{axis}{', logarithmic' * is_log}; hit ratio in percent"))
     every = max(1, math.ceil(len(ends) / MARKS))
     for number, (policy, list_of) in enumerate(values.items()):
-        style, first = style_of(policy, values), number * every // len(values)
+        style, first = styled(values)[policy], number * every // len(values)
         if spans[0][0] == spans[0][1]:
             steps = f"M{across(ends[0])} {up(list_of[0])}" + "".join(f"H{across(end)}V{up(it)}"
                                                                      for end, it in zip(ends[1:], list_of[1:]))

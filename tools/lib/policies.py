@@ -29,9 +29,15 @@ POLICIES = {
     CAFFEINE: Policy("#1b7837", 11, "(10,3,2,3,2,3)", True, True),
     OPTIMAL: Policy("#000000", 2, "(22,5)", False, True),
 }
-# How policies of other programs are drawn, in the order of their names.
+# How policies of other programs are drawn.
 OTHERS = [Policy("#ff1493", 15, "(1,4)", False, False), Policy("#3333ff", 14, "(24,4,2,4)", False, False),
           Policy("#8fbc3f", 13, "(2,8)", False, False), Policy("#5c4033", 15, "(12,2,2,2)", False, False)]
+
+
+def styled(names):
+    """How policies are drawn: also these of other programs, in the order of their names."""
+    unknown = sorted({*names} - POLICIES.keys())
+    return {**POLICIES, **{it: OTHERS[at % len(OTHERS)] for at, it in enumerate(unknown)}}
 
 
 def has_sketch(name):

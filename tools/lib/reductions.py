@@ -5,7 +5,7 @@ from fractions import Fraction
 
 from .own import in_legend
 from .pictures import ends_around, marks_of, quoted, terminal_of
-from .policies import OPTIMAL, POLICIES
+from .policies import OPTIMAL, POLICIES, styled
 
 NOTE = """(percent of misses fewer than {baseline} has, over the traces; P50: the median, between two traces linearly)
 (best on: so many traces; near on: within half a point of the best hit ratio there and 5 % of its misses; clairvoyant \
@@ -87,12 +87,12 @@ def boxes_of(columns, baseline, is_png):
     names = (f"{quoted(f'{it} %% of the footprint')} {at * wide + (wide - 2) / 2}" for at, it in enumerate(percents))
     yield from (f"set xtics nomirror scale 0 ({', '.join(names)})", f"set xrange [-1:{len(percents) * wide - 1}]",
                 "set boxwidth 0.7", "set style fill solid 0.4")
-    boxes = ", \\\n    ".join(box_of(at, it) for at, it in enumerate(policies))
+    boxes = ", \\\n    ".join(box_of(at, it, styled(policies)[it].colour) for at, it in enumerate(policies))
     yield f"plot 0 linecolor rgb '#888888' notitle, \\\n    {boxes}"
 
 
-def box_of(at, policy):
-    colour = f"linecolor rgb '{POLICIES[policy].colour if policy in POLICIES else '#888888'}'"
+def box_of(at, policy, colour):
+    colour = f"linecolor rgb '{colour}'"
     return (f"$policy{at} using 1:3:2:6:5 with candlesticks whiskerbars 0.5 {colour} "
             f"title {quoted(in_legend(policy, policy))}, "
             f"$policy{at} using 1:4:4:4:4 with candlesticks linewidth 2 {colour} notitle, "
