@@ -1,3 +1,3 @@
-pub mod Parts
 pub mod Sampling
-pub mod States
+pub mod Sampled
+pub mod Ended

@@ -1,8 +1,10 @@
 //! What a sample keeps of the accesses that it is given.
-ghost use Rattle.std.specs.Prelude.{◌≡◌, ◌≤◌, ◌<◌, ◌+◌, ◌^◌, [], ◌∷◌, OnOk, length};
-ghost use Rattle.trace_sample.specs.Kept.{Keeps};
+ghost use Rattle.std.specs.Prelude.{◌≡◌, ◌≤◌, ◌<◌, ◌+◌, ◌^◌, ◌==◌, [], ◌∷◌, OnOk, length};
+ghost use Rattle.std.specs.List.{IsDistinct};
+ghost use Rattle.trace_sample.specs.Kept.{HasNothing, Keeps};
 ghost use Rattle.trace_sample.specs.Sample.{sample_of};
 
+use crate::counts::SampleCounts;
 use crate::rule::{BlockTest, SampleRule};
 use engine_base::Key;
 use itoa::Buffer;
@@ -24,9 +26,7 @@ impl Kept {
     pub fn new(alloc: Global, rule: SampleRule) -> Kept
         requires { 2 ≤ rule.inverse }
         ensures rule { result.test.rule ≡ rule }
-        ensures blocks { result.blocks.keys ≡ [] }
-        ensures accesses { result.accesses ≡ 0 }
-        ensures text { result.text.items ≡ [] }
+        ensures none { HasNothing result }
     {
         Kept {
             test: BlockTest::new(rule),
@@ -48,6 +48,18 @@ impl Kept {
             self.take(*key)?;
         }
         Ok(())
+    }
+
+    /// How much it kept of so many accesses.
+    pub fn counts(&self, accesses: u64) -> SampleCounts
+        ensures accesses { (result.accesses ≡ accesses) × (result.kept ≡ self.now.accesses) }
+        ensures blocks { (result.blocks ≡ length self.now.blocks.keys) × IsDistinct (λ a b. a == b) self.now.blocks.keys }
+    {
+        SampleCounts {
+            kept: self.accesses,
+            accesses,
+            blocks: self.blocks.len() as u64,
+        }
     }
 
     // Keeps an access where the sample has it.

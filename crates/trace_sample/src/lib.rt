@@ -7,9 +7,7 @@
 mod counts;
 mod fault;
 mod kept;
-mod output;
 mod rule;
-mod sampler;
 mod write;
 
 pub use counts::SampleCounts;

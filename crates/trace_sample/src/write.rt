@@ -1,25 +1,28 @@
 //! A sample, written while its trace is read.
-ghost use Rattle.std.specs.Prelude.{◌≡◌, ◌≤◌, ◌+◌, ◌⊎◌, List, Option, Some, IfSome, IfOk, IfErr, OnOk, OnErr, IsOk, Err, length, drop, true};
+ghost use Rattle.std.specs.Prelude.{◌≡◌, ◌≤◌, [], Err, IfErr, IfOk, IfSome, OnErr, OnOk, false, true};
 ghost use Rattle.std.specs.Io.KnownBytes.{Appends, IsAtEnd};
 ghost use Rattle.streams.specs.Part.{AppendsPart};
-ghost use Rattle.streams.specs.Tally.{FailsWhere};
-ghost use Rattle.trace_read.specs.ReadTrace.{IsReadWithin};
-ghost use Rattle.trace_read.specs.TraceText.{AreOfFile, fault_within, keys_in};
-ghost use Rattle.trace_read.specs.declared.limits.TheConstants.{MAX_LONG_ACCESSES};
+ghost use Rattle.streams.specs.Tally.{Exhausts, FailsWhere, Spends};
+ghost use Rattle.trace_read.specs.Reading.{IsReading, given_by};
+ghost use Rattle.trace_read.specs.TraceText.{keys_in};
+ghost use Rattle.trace_read.specs.declared.limits.TheConstants.Limits.{LONG};
+ghost use Rattle.trace_sample.specs.Kept.{HasNothing};
 ghost use Rattle.trace_sample.specs.Numbers.{numbers_text};
 ghost use Rattle.trace_sample.specs.Sample.{sample_of};
-ghost use Rattle.trace_sample.specs.Written.{Counts, IsFaultless, IsOfOutcome, IsSampleFault};
+ghost use Rattle.trace_sample.specs.Waiting.{IsTextWritten};
+ghost use Rattle.trace_sample.specs.Written.{Counts, IsFaultless, IsSampleFault, IsSampleWritten};
 
 use crate::counts::SampleCounts;
 use crate::fault::SampleFault;
-use crate::output::{LentWriter, Loan, SampleStart};
+use crate::kept::Kept;
 use crate::rule::SampleRule;
-use crate::sampler::{Sampler, WatchedSampler};
 use engine_base::{Gate, Key};
 use std::alloc::Global;
-use std::marker::Brand;
-use streams::{CountedRead, CountedWrite};
-use trace_read::{Format, Limits, TraceFault, read_followed};
+use streams::{CountedRead, CountedWrite, RetryBudget, WriteAllFault, flush, write_some};
+use trace_read::{Format, Limits, Reading, TraceFault};
+
+// Text is written once it has so many bytes.
+const LONG_TEXT: usize = 65_536;
 
 /// Reads a trace within the limits of a long one, and writes its sample while it reads: a number a line, flushed at the
 /// end. It returns how much there was. Text is written some of it at a time, so what is written before an error is a
@@ -50,73 +53,72 @@ pub fn write_sample<R: CountedRead, W: CountedWrite, G: Gate>(
     ensures reads { FailsWhere (result ≡ Err (SampleFault.Trace TraceFault.Read)) (R.tally reader.old) (R.tally reader.new) }
     ensures writes { FailsWhere (result ≡ Err SampleFault.Write) (W.tally writer.old) (W.tally writer.new) }
 {
-    let loan = Loan { writer };
-    let (writer, result) = sample_from::<Brand, R, W, G>(alloc, reader, format, rule, loan, gate);
-    let _ = writer;
-    result
+    let mut reading = Reading::new(alloc, format, Limits::LONG);
+    let mut kept = Kept::new(alloc, rule);
+    let mut keys = Vec::new(alloc);
+    write_pieces(reader, &mut reading, &mut keys, &mut kept, writer, gate)
 }
 
-// The same, where the accesses of the trace and the writer before the first byte have names. It gives the writer back.
-fn sample_from<'w, S: SampleStart, R: CountedRead, W: CountedWrite, G: Gate>(
-    alloc: Global,
+// The same by a reading that is before the first byte, where nothing is kept yet.
+fn write_pieces<R: CountedRead, W: CountedWrite, G: Gate>(
     reader: &mut R,
-    format: Format,
-    rule: SampleRule,
-    loan: Loan<'w, W>,
+    reading: &mut Reading,
+    keys: &mut Vec<Key>,
+    kept: &mut Kept,
+    writer: &mut W,
     gate: &G,
-) -> (&'w mut W, Result<SampleCounts, SampleFault>)
-    requires some { 2 ≤ rule.inverse }
-    requires rule { (rule.inverse ≡ S.inverse) × (rule.seed ≡ S.seed) }
-    requires file { AreOfFile format (R.remaining reader.old) S.file }
-    requires name { loan.writer.ghost_name ≡ S.name }
-    requires writer { (W.contents loan.writer.now ≡ S.contents) × (W.tally loan.writer.now ≡ S.tally) }
-    ensures name { result.0.ghost_name ≡ S.name }
-    ensures sound { OnOk result.1 (IsFaultless format (R.remaining reader.old)) }
-    ensures text { OnOk result.1 (IfSome S.file (λ all.
-        Appends S.contents (W.contents result.0.now) (numbers_text (sample_of S.inverse S.seed all)))) }
-    ensures counts { IfOk result.1 (λ counts. IfSome S.file (λ all. Counts S.inverse S.seed all counts)) }
-    ensures end { OnOk result.1 (IsAtEnd (R.remaining reader.new)) }
-    ensures flushed { OnOk result.1 (W.is_flushed result.0.now ≡ true) }
-    ensures part { OnErr result.1 (IfSome S.file (λ all.
-        AppendsPart S.contents (W.contents result.0.now) (numbers_text (sample_of S.inverse S.seed all)))) }
-    ensures fault { IfErr result.1 (IsSampleFault format (R.remaining reader.old) (R.remaining reader.new)) }
-    ensures reads { FailsWhere (result.1 ≡ Err (SampleFault.Trace TraceFault.Read)) (R.tally reader.old)
-        (R.tally reader.new) }
-    ensures writes { FailsWhere (result.1 ≡ Err SampleFault.Write) S.tally (W.tally result.0.now) }
+) -> Result<SampleCounts, SampleFault>
+    requires reading { IsReading (R.remaining reader.old) (R.remaining reader.old) (R.tally reader.old) (R.tally reader.old) reading.old }
+    requires long { reading.old.limits ≡ LONG }
+    requires first { given_by reading.old ≡ 0 }
+    requires none { HasNothing kept.old }
+    ensures { IsSampleWritten kept.old.test.rule reading.old.format (R.remaining reader.old) (R.remaining reader.new)
+        (R.tally reader.old) (R.tally reader.new) (W.contents writer.old) (W.contents writer.new) (W.tally writer.old)
+        (W.tally writer.new) (W.is_flushed writer.new) result }
 {
-    let writer: LentWriter<'w, S, W> = LentWriter::new(loan);
-    let mut watched: WatchedSampler<'_, S, LentWriter<'w, S, W>, G> = WatchedSampler {
-        sampler: Sampler::new(alloc, rule, writer),
-        gate,
-    };
-    let read = read_followed(alloc, reader, format, Limits::LONG, &mut watched);
-    let WatchedSampler { mut sampler, .. } = watched;
-    let result = outcome(&mut sampler, read);
-    (sampler.into_writer().into_writer(), result)
+    let mut budget = RetryBudget::new();
+    let mut accesses = 0;
+    'pieces: loop {
+        let more = match reading.next(reader, keys) {
+            Ok(more) => more,
+            Err(fault) => return Err(SampleFault::Trace(fault)),
+        };
+        if let Err(_) = kept.add(keys.as_slice()) {
+            return Err(SampleFault::Trace(TraceFault::OutOfMemory));
+        }
+        accesses += keys.len() as u64;
+        gate.after(0, accesses);
+        if let Err(_) = pass_on(kept, more, writer, &mut budget) {
+            return Err(SampleFault::Write);
+        }
+        if !more {
+            return Ok(kept.counts(accesses));
+        }
+    }
 }
 
-// What the sampler comes to once the trace was read, or was not.
-fn outcome<S: SampleStart, W: CountedWrite>(
-    sampler: &mut Sampler<S, W>,
-    read: Result<Vec<Key>, TraceFault>,
-) -> Result<SampleCounts, SampleFault>
-    requires few { IfOk read (λ rest. sampler.old.taken + length rest.items ≤ MAX_LONG_ACCESSES) }
-    requires last { IfOk read (λ rest. IfSome S.file (λ all.
-        (sampler.old.taken ≤ length all) × (rest.items ≡ drop sampler.old.taken all))) }
-    ensures ok { OnOk result (IsOk read) }
-    ensures text { OnOk result (IfSome S.file (λ all.
-        Appends S.contents (W.contents sampler.new.output.writer) (numbers_text (sample_of S.inverse S.seed all)))) }
-    ensures counts { IfOk result (λ counts. IfSome S.file (λ all. Counts S.inverse S.seed all counts)) }
-    ensures flushed { OnOk result (W.is_flushed sampler.new.output.writer ≡ true) }
-    ensures part { OnErr result (IfSome S.file (λ all.
-        AppendsPart S.contents (W.contents sampler.new.output.writer) (numbers_text (sample_of S.inverse S.seed all)))) }
-    ensures fault { IfErr result (IsOfOutcome read) }
-    ensures own { IfErr read (λ e. sampler.old.is_open ≡ true → result ≡ Err (SampleFault.Trace e)) }
-    ensures writes { FailsWhere (result ≡ Err SampleFault.Write) S.tally (W.tally sampler.new.output.writer) }
+// Writes the text that waits, where it is long. Where no more comes, it is written in any case, and the writer flushed.
+fn pass_on<W: CountedWrite>(
+    kept: &mut Kept,
+    more: bool,
+    writer: &mut W,
+    budget: &mut RetryBudget,
+) -> Result<(), WriteAllFault>
+    ensures same { (kept.new.test ≡ kept.old.test) × (kept.new.blocks ≡ kept.old.blocks) × (kept.new.accesses ≡ kept.old.accesses) }
+    ensures written { OnOk result (IsTextWritten (W.contents writer.old) (W.contents writer.new) kept.new.text.items kept.old.text.items) }
+    ensures none { OnOk result (more ≡ false → kept.new.text.items ≡ []) }
+    ensures flushed { OnOk result (more ≡ false → W.is_flushed writer.new ≡ true) }
+    ensures part { OnErr result (AppendsPart (W.contents writer.old) (W.contents writer.new) kept.old.text.items) }
+    ensures spent { OnOk result (Spends budget.old budget.new (W.tally writer.old) (W.tally writer.new)) }
+    ensures exhausted { OnErr result (Exhausts budget.old (W.tally writer.old) (W.tally writer.new)) }
 {
-    match read {
-        Ok(rest) => sampler.end(rest.as_slice()),
-        Err(fault) if sampler.is_open => Err(SampleFault::Trace(fault)),
-        Err(_) => Err(sampler.fault()),
+    if more && kept.text.len() < LONG_TEXT {
+        return Ok(());
     }
+    write_some(writer, kept.text.as_slice(), budget)?;
+    kept.text.clear();
+    if more {
+        return Ok(());
+    }
+    flush(writer, budget)
 }

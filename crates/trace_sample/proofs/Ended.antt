@@ -1,0 +1,55 @@
+-- How the writing of a sample ends.
+use Rattle.std.proofs.Common.{◌≡◌, ◌+◌, ℕ, Bool, List, length, Option, Ok, Err, subst}
+use Rattle.trace_read.proofs.Readings.{read_as}
+use Rattle.std.specs.Prelude.{IfSome}
+use Rattle.std.specs.Io.KnownBytes.{IsAtEnd}
+use Rattle.streams.specs.Tally.{FailsWhere}
+use Rattle.streams.specs.declared.tally.Tally.{Tally}
+use Rattle.trace_read.specs.Reading.{GivesNext}
+use Rattle.trace_read.specs.ReadTrace.{IsReadWithin}
+use Rattle.trace_read.specs.TraceText.{keys_in}
+use Rattle.trace_read.specs.declared.fault.TraceFault.{TraceFault}
+use Rattle.trace_read.specs.declared.limits.Limits.{Limits}
+use Rattle.trace_read.specs.declared.limits.TheConstants.Limits.{LONG}
+use Rattle.trace_read.specs.declared.fault.TraceFault.TheVariants.{OutOfMemory}
+use Rattle.trace_sample.specs.Kept.{Kept, Keeps}
+use Rattle.trace_sample.specs.Sample.{sample_of}
+use Rattle.trace_sample.specs.Written.{Format, SampleRule, IsFaultless, IsSampleFault}
+use Rattle.trace_sample.specs.declared.fault.SampleFault.TheVariants.{Trace}
+use Rattle.trace_sample.proofs.Sampled.{IsSampled, both, sampled_more}
+
+-- a fault of the reading at the limits of a long trace is one of the sample
+pub fault_at : (limits : Limits) (format own : Format) (old new : Option (List ℕ)) (fault : TraceFault) → limits ≡ LONG → format ≡ own
+    → IsReadWithin {T = Bool} limits format old new (Err fault) → IsSampleFault own old new (Trace fault)
+fault_at limits format own old new OutOfMemory long same is = tt
+fault_at limits format own old new fault long same is = read_as limits LONG format own old new fault long same is
+
+pub read_all : (limits : Limits) (format own : Format) (old new : Option (List ℕ)) (more : Bool) → limits ≡ LONG → format ≡ own
+    → IsReadWithin {T = Bool} limits format old new (Ok more) → IsFaultless own old × IsAtEnd new
+read_all limits format own old new more long same is =
+    let here : IsReadWithin {T = Bool} LONG own old new (Ok more) = subst (λ f. IsReadWithin {T = Bool} LONG f old new (Ok more)) same
+    (subst (λ l. IsReadWithin {T = Bool} l format old new (Ok more)) long is) in
+    (here.ok, here.end)
+
+-- ---- a piece more
+
+pub next_of : (format own : Format) (old : Option (List ℕ)) (given taken : ℕ) (more : Bool) (keys : List ℕ) → format ≡ own → given ≡ taken
+    → GivesNext format old given more keys → GivesNext own old taken more keys
+next_of format own old given taken more keys same place is =
+    subst (λ f. GivesNext f old taken more keys) same (subst (λ n. GivesNext format old n more keys) place is)
+
+-- its accesses were kept
+pub kept_more : (rule : SampleRule) (format : Format) (old : Option (List ℕ)) (taken : ℕ) (more : Bool) (keys slice : List ℕ) (was new : Kept) (start now : Option (List ℕ))
+    → GivesNext format old taken more keys → was.test.rule ≡ rule → slice ≡ keys → Keeps was new (sample_of was.test.rule.inverse was.test.rule.seed slice)
+    → IfSome old (λ bytes. IsSampled rule.inverse rule.seed taken was start now (keys_in format bytes))
+    → IfSome old (λ bytes. IsSampled rule.inverse rule.seed (taken + length keys) new start now (keys_in format bytes))
+kept_more rule format old taken more keys slice was new start now gives own same keeps is = both old gives.next is (λ b n s.
+    sampled_more rule.inverse rule.seed taken keys (keys_in format b) was new start now n
+    (subst (λ l. Keeps was new (sample_of rule.inverse rule.seed l)) same (subst (λ (r : SampleRule). Keeps was new (sample_of r.inverse r.seed slice)) own keeps)) s)
+
+-- calls that fail just where others do, and calls that did not fail
+pub fails_as : {P Q : Type 0} (old new : Tally) → (P → Q) → (Q → P) → FailsWhere Q old new → FailsWhere P old new
+fails_as old new to from fails = record { failing = λ p. fails.failing (to p); served = λ n. fails.served (λ q. n (from q)) }
+
+pub fails_not : {P Q : Type 0} (old new : Tally) → (P → ⊥) → (Q → ⊥) → FailsWhere Q old new → FailsWhere P old new
+fails_not old new p q fails = fails_as old new (λ x. absurd (p x)) (λ x. absurd (q x)) fails

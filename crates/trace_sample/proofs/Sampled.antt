@@ -1,0 +1,144 @@
+-- What a sample has written and kept of the first accesses of a trace.
+use Rattle.std.proofs.Common.{◌≡◌, ◌∙◌, ◌≤◌, ◌+◌, ◌++◌, ◌==◌, ◌||◌, ℕ, List, [], length, take, drop, Option, Some, None, IfSome, ap, sym, subst, append_assoc, append-nil, refl, arith}
+use Rattle.std.specs.HashSet.{contains}
+use Rattle.std.specs.List.{IsDistinct, list_any}
+use Rattle.std.specs.Set.{is_member}
+use Rattle.std.specs.Io.KnownBytes.{Appends}
+use Rattle.std.proofs.KnownBytes.{Appends-nil, Appends-trans}
+use Rattle.std.proofs.Math.Seq.{take-append-add}
+use Rattle.std.proofs.lemmas.Cmp.{nat_eq_equiv}
+use Rattle.std.proofs.lemmas.Map.Made.{length-from_keys}
+use Rattle.std.proofs.lemmas.List.{drop-take, length-append, take-append-drop, take-append-le, take-take, take_all}
+use Rattle.std.proofs.lemmas.List.Elements.{filter-append}
+use Rattle.std.proofs.lemmas.List.Folds.{list_any-append}
+use Rattle.streams.specs.Part.{AppendsPart}
+use Rattle.trace_sample.specs.Hash.{is_sampled}
+use Rattle.trace_sample.specs.Kept.{Kept, HasNothing, Keeps}
+use Rattle.trace_sample.specs.Numbers.{numbers_text}
+use Rattle.trace_sample.specs.Sample.{block_count, sample_of, sample_up_to}
+use Rattle.trace_sample.specs.Waiting.{IsTextWritten}
+use Rattle.trace_sample.specs.Written.{Counts, SampleCounts}
+use Rattle.trace_sample.proofs.Sampling.{numbers-append}
+
+-- ---- a text that waits in a buffer (as in journal_text)
+
+-- more was gathered
+gathered : (old new : Option (List ℕ)) (waiting now more bytes all : List ℕ) → now ≡ waiting ++ more → all ≡ bytes ++ more
+    → IsTextWritten old new waiting bytes → IsTextWritten old new now all
+gathered old new waiting now more bytes all n a (sent, is, wrote) =
+    (sent, a ∙ ap (λ b. b ++ more) is ∙ append_assoc sent waiting more ∙ ap (λ w. sent ++ w) (sym n), wrote)
+
+-- of what waits some was written, or nothing
+passed : (old mid new : Option (List ℕ)) (waiting now bytes : List ℕ) → IsTextWritten old mid waiting bytes
+    → IsTextWritten mid new now waiting → IsTextWritten old new now bytes
+passed old mid new waiting now bytes (first, is, wrote) (more, rest, then) =
+    (first ++ more, is ∙ ap (λ w. first ++ w) rest ∙ sym (append_assoc first more now), Appends-trans old mid new first more wrote then)
+
+none_of : (now : Option (List ℕ)) (bytes : List ℕ) → AppendsPart now now bytes
+none_of now bytes = (0, omega arith, Appends-nil now)
+
+-- a beginning of what waits is written
+broken : (old mid new : Option (List ℕ)) (waiting bytes : List ℕ) → IsTextWritten old mid waiting bytes → AppendsPart mid new waiting → AppendsPart old new bytes
+broken old mid new waiting bytes (sent, is, wrote) (n, within, part) =
+    let few : length sent + n ≤ length bytes = omega (within, ap (λ (b : List ℕ). length b) is ∙ length-append sent waiting, arith) in
+    let taken : take (length sent + n) bytes ≡ sent ++ take n waiting = ap (take (length sent + n)) is ∙ take-append-add sent waiting n in
+    (length sent + n, few, subst (Appends old new) (sym taken) (Appends-trans old mid new sent (take n waiting) wrote part))
+
+-- a beginning of these bytes is one of more
+part_of_more : (old new : Option (List ℕ)) (bytes more : List ℕ) → AppendsPart old new bytes → AppendsPart old new (bytes ++ more)
+part_of_more old new bytes more (n, within, part) =
+    let few : n ≤ length (bytes ++ more) = omega (within, length-append bytes more, arith) in
+    (n, few, subst (Appends old new) (sym (take-append-le n bytes more within)) part)
+
+-- ---- the sample of the first accesses
+
+take_plus : (a n : ℕ) (xs : List ℕ) → take (a + n) xs ≡ take a xs ++ take n (drop a xs)
+take_plus a n xs =
+    sym (take-append-drop a (take (a + n) xs)) ∙ ap (λ l. l ++ drop a (take (a + n) xs)) (take-take a (a + n) xs (omega arith))
+    ∙ ap (λ l. take a xs ++ l) (drop-take a n xs)
+
+no_text : numbers_text [] ≡ []
+unfolding numbers_text
+no_text = refl
+
+pub both : {P Q R : List ℕ → Type 0} (bytes : Option (List ℕ)) → IfSome bytes P → IfSome bytes Q → ((b : List ℕ) → P b → Q b → R b) → IfSome bytes R
+both None p q step = tt
+both (Some b) p q step = step b p q
+
+pub always : {P : List ℕ → Type 0} (bytes : Option (List ℕ)) → ((b : List ℕ) → P b) → IfSome bytes P
+always None step = tt
+always (Some b) step = step b
+
+-- so much was kept of the first accesses, and written of their text or waits
+pub record IsSampled (inverse seed taken : ℕ) (kept : Kept) (start now : Option (List ℕ)) (all : List ℕ) : Type 0 where
+  pub counted : kept.accesses ≡ length (sample_up_to inverse seed taken all)
+  pub blocks : (q : ℕ) → contains (λ a b. a == b) kept.blocks q ≡ is_member (λ a b. a == b) (sample_up_to inverse seed taken all) q
+  pub text : IsTextWritten start now kept.text.items (numbers_text (sample_up_to inverse seed taken all))
+
+module _ (inverse seed : ℕ) where
+  pub nothing_sampled : (kept : Kept) (start : Option (List ℕ)) (all : List ℕ) → HasNothing kept → IsSampled inverse seed 0 kept start start all
+  nothing_sampled kept start all none = record {
+    counted = none.accesses;
+    blocks = λ q. ap (λ k. list_any (λ x. q == x) k) none.blocks;
+    text = ([], no_text ∙ sym none.text, Appends-nil start);
+  }
+
+  -- those of the first accesses, and those of the next
+  sample_plus : (taken : ℕ) (keys all : List ℕ) → keys ≡ take (length keys) (drop taken all)
+      → sample_up_to inverse seed (taken + length keys) all ≡ sample_up_to inverse seed taken all ++ sample_of inverse seed keys
+  sample_plus taken keys all next =
+      ap (sample_of inverse seed) (take_plus taken (length keys) all ∙ ap (λ l. take taken all ++ l) (sym next))
+      ∙ filter-append (is_sampled inverse seed) (take taken all) keys
+
+  -- the next accesses were kept
+  pub sampled_more : (taken : ℕ) (keys all : List ℕ) (old new : Kept) (start now : Option (List ℕ)) → keys ≡ take (length keys) (drop taken all)
+      → Keeps old new (sample_of inverse seed keys) → IsSampled inverse seed taken old start now all → IsSampled inverse seed (taken + length keys) new start now all
+  sampled_more taken keys all old new start now next keeps is =
+      let plus = sample_plus taken keys all next in
+      record {
+        counted = keeps.count.accesses ∙ ap (λ m. m + length (sample_of inverse seed keys)) is.counted ∙ sym (ap length plus ∙ length-append _ _);
+        blocks = λ q. keeps.count.blocks q ∙ ap (λ x. x || is_member (λ a b. a == b) (sample_of inverse seed keys) q) (is.blocks q)
+            ∙ sym (ap (λ l. is_member (λ a b. a == b) l q) plus ∙ list_any-append (λ x. q == x) (sample_up_to inverse seed taken all) (sample_of inverse seed keys));
+        text = gathered start now old.text.items new.text.items (numbers_text (sample_of inverse seed keys)) _ _ keeps.text (ap numbers_text plus ∙ numbers-append _ _) is.text;
+      }
+
+  -- what waits went on
+  pub sampled_on : (taken : ℕ) (all : List ℕ) (old new : Kept) (start mid now : Option (List ℕ)) → new.blocks ≡ old.blocks → new.accesses ≡ old.accesses
+      → IsTextWritten mid now new.text.items old.text.items → IsSampled inverse seed taken old start mid all → IsSampled inverse seed taken new start now all
+  sampled_on taken all old new start mid now same count on is = record {
+    counted = count ∙ is.counted;
+    blocks = λ q. ap (λ k. contains (λ a b. a == b) k q) same ∙ is.blocks q;
+    text = passed start mid now old.text.items new.text.items _ is.text on;
+  }
+
+  -- what is written is a beginning of the whole text, also where a part of what waits is written after it
+  pub sampled_part : (taken : ℕ) (all : List ℕ) (kept : Kept) (start mid now : Option (List ℕ)) → AppendsPart mid now kept.text.items
+      → IsSampled inverse seed taken kept start mid all → AppendsPart start now (numbers_text (sample_of inverse seed all))
+  sampled_part taken all kept start mid now part is =
+      subst (AppendsPart start now)
+      (sym (ap (λ l. numbers_text (sample_of inverse seed l)) (sym (take-append-drop taken all))
+      ∙ ap numbers_text (filter-append (is_sampled inverse seed) (take taken all) (drop taken all)) ∙ numbers-append _ _))
+      (part_of_more start now _ _ (broken start mid now kept.text.items _ is.text part))
+
+  pub sampled_so_far : (taken : ℕ) (all : List ℕ) (kept : Kept) (start now : Option (List ℕ)) → IsSampled inverse seed taken kept start now all
+      → AppendsPart start now (numbers_text (sample_of inverse seed all))
+  sampled_so_far taken all kept start now is = sampled_part taken all kept start now now (none_of now kept.text.items) is
+
+  -- of all accesses, where nothing waits
+  pub sampled_all : (taken : ℕ) (all : List ℕ) (kept : Kept) (start now : Option (List ℕ)) → taken ≡ length all → kept.text.items ≡ [] → IsSampled inverse seed taken kept start now all
+      → Appends start now (numbers_text (sample_of inverse seed all))
+  sampled_all taken all kept start now long none is =
+      let whole : take taken all ≡ all = take_all taken all (omega (arith, long)) in
+      subst (Appends start now)
+      (sym (ap (λ l. numbers_text (sample_of inverse seed l)) (sym whole) ∙ is.text.1 ∙ ap (λ w. is.text.0 ++ w) none ∙ append-nil is.text.0)) is.text.2
+
+  pub sampled_counts : (taken : ℕ) (all : List ℕ) (kept : Kept) (start now : Option (List ℕ)) (counts : SampleCounts) → taken ≡ length all
+      → (counts.accesses ≡ taken) × (counts.kept ≡ kept.accesses) → (counts.blocks ≡ length kept.blocks.keys) × IsDistinct (λ a b. a == b) kept.blocks.keys
+      → IsSampled inverse seed taken kept start now all → Counts inverse seed all counts
+  sampled_counts taken all kept start now counts long is size sampled =
+      let whole : take taken all ≡ all = take_all taken all (omega (arith, long)) in
+      record {
+        accesses = is.0 ∙ long;
+        kept = is.1 ∙ sampled.counted ∙ ap (λ l. length (sample_of inverse seed l)) whole;
+        blocks = size.0 ∙ length-from_keys nat_eq_equiv kept.blocks.keys _ size.1 sampled.blocks ∙ ap (λ l. block_count (sample_of inverse seed l)) whole;
+      }
