@@ -119,19 +119,6 @@ run_given old new text given room run is few gives none count line part format l
       limit = limit;
     }
 
--- any other line, whose accesses are in the scan
-pub read_given : (old new : Scan) (text given : List ℕ) → IsRead old.format old.max_accesses old.line old.handed_on old.keys.items text new.keys.items → given ≡ [] → new.handed_on ≡ old.handed_on
-    → new.line ≡ old.line + 1 → new.partial_line.items ≡ [] → new.format ≡ old.format → new.max_accesses ≡ old.max_accesses → IsLineGiven old text given new
-read_given old new text given read none count line part format limit = record {
-  sound = read.sound;
-  keys = ap (λ g. g ++ new.keys.items) none ∙ read.added;
-  count = omega (arith, count, ap length none);
-  partial_line = part;
-  line = line;
-  format = format;
-  limit = limit;
-}
-
 -- ---- a piece
 
 module _ (first scan : Scan) (piece : List ℕ) (at : ℕ) (is : IsTaken first piece at [] scan) where
