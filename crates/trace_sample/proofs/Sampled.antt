@@ -5,10 +5,10 @@ use Rattle.std.specs.List.{IsDistinct, list_any}
 use Rattle.std.specs.Set.{is_member}
 use Rattle.std.specs.Io.KnownBytes.{Appends}
 use Rattle.std.proofs.KnownBytes.{Appends-nil, Appends-trans}
-use Rattle.std.proofs.Math.Seq.{take-append-add}
+use Rattle.std.proofs.Math.Seq.{take-add, take-append-add}
 use Rattle.std.proofs.lemmas.Cmp.{nat_eq_equiv}
 use Rattle.std.proofs.lemmas.Map.Made.{length-from_keys}
-use Rattle.std.proofs.lemmas.List.{drop-take, length-append, take-append-drop, take-append-le, take-take, take_all}
+use Rattle.std.proofs.lemmas.List.{length-append, take-append-drop, take-append-le, take_all}
 use Rattle.std.proofs.lemmas.List.Elements.{filter-append}
 use Rattle.std.proofs.lemmas.List.Folds.{list_any-append}
 use Rattle.streams.specs.Part.{AppendsPart}
@@ -52,11 +52,6 @@ part_of_more old new bytes more (n, within, part) =
 
 -- ---- the sample of the first accesses
 
-take_plus : (a n : ℕ) (xs : List ℕ) → take (a + n) xs ≡ take a xs ++ take n (drop a xs)
-take_plus a n xs =
-    sym (take-append-drop a (take (a + n) xs)) ∙ ap (λ l. l ++ drop a (take (a + n) xs)) (take-take a (a + n) xs (omega arith))
-    ∙ ap (λ l. take a xs ++ l) (drop-take a n xs)
-
 no_text : numbers_text [] ≡ []
 unfolding numbers_text
 no_text = refl
@@ -87,7 +82,7 @@ module _ (inverse seed : ℕ) where
   sample_plus : (taken : ℕ) (keys all : List ℕ) → keys ≡ take (length keys) (drop taken all)
       → sample_up_to inverse seed (taken + length keys) all ≡ sample_up_to inverse seed taken all ++ sample_of inverse seed keys
   sample_plus taken keys all next =
-      ap (sample_of inverse seed) (take_plus taken (length keys) all ∙ ap (λ l. take taken all ++ l) (sym next))
+      ap (sample_of inverse seed) (take-add taken (length keys) all ∙ ap (λ l. take taken all ++ l) (sym next))
       ∙ filter-append (is_sampled inverse seed) (take taken all) keys
 
   -- the next accesses were kept

@@ -4,7 +4,7 @@ use Rattle.streams.proofs.Tallies.{further, later, unspent}
 use Rattle.streams.specs.declared.retry_budget.TheConstants.{INTERRUPTIONS}
 use Rattle.trace_read.specs.TraceText.{keys_in}
 use Rattle.trace_read.proofs.Readings.{exhausted, spent_only}
-use Rattle.trace_sample.proofs.Ended.{fails_as, fails_not, fault_at, kept_more, next_of, read_all}
+use Rattle.trace_sample.proofs.Ended.{ended_early, fails_as, fails_not, fault_at, kept_more, next_of, read_all}
 use Rattle.trace_sample.proofs.Sampled.{IsSampled, always, both, nothing_sampled, sampled_all, sampled_counts, sampled_on, sampled_part, sampled_so_far}
 use Rattle.trace_sample.proofs.write.write_pieces.Goals as goal
 
@@ -25,34 +25,20 @@ returns-in-Err g c =
     let i = c.pieces.invariant in
     let first = g.R.CountedRead.remaining c.args.reader.now in
     let tally = g.R.CountedRead.tally c.args.reader.now in
-    record {
-      sound = tt;
-      text = tt;
-      counts = tt;
-      end = tt;
-      flushed = tt;
-      part = IfSome_then first i.sampled (λ b s. sampled_so_far _ _ c.pieces.accesses _ c.pieces.kept _ _ s);
-      fault = fault_at c.pieces.reading.limits c.pieces.reading.format _ first _ c.in-Err.fault i.limits i.format (c.in-Err.ensures.read first tally i.reading (λ q. absurd (cc q)));
-      reads = fails_as _ _ (λ q. cc q) (λ q. cc q) (c.in-Err.ensures.tally first tally i.reading);
-      writes = spent_only c.pieces.budget _ _ (λ q. absurd (cc q)) i.spent;
-    }
+    ended_early _ _ first _ _ _ _ _ _ _ _ _
+    (IfSome_then first i.sampled (λ b s. sampled_so_far _ _ c.pieces.accesses _ c.pieces.kept _ _ s)) (fault_at c.pieces.reading.limits c.pieces.reading.format _ first _ c.in-Err.fault i.limits i.format (c.in-Err.ensures.read first tally i.reading (λ q. absurd (cc q))))
+    (fails_as _ _ (λ q. cc q) (λ q. cc q) (c.in-Err.ensures.tally first tally i.reading))
+    (spent_only c.pieces.budget _ _ (λ q. absurd (cc q)) i.spent)
 
 pub returns-in-Err-add : goal.returns-in-Err-add
 returns-in-Err-add g c =
     let i = c.pieces.invariant in
     let first = g.R.CountedRead.remaining c.args.reader.now in
     let tally = g.R.CountedRead.tally c.args.reader.now in
-    record {
-      sound = tt;
-      text = tt;
-      counts = tt;
-      end = tt;
-      flushed = tt;
-      part = IfSome_then first i.sampled (λ b s. sampled_so_far _ _ c.pieces.accesses _ c.pieces.kept _ _ s);
-      fault = tt;
-      reads = fails_not _ _ (λ q. absurd (cc q)) (λ q. absurd (cc q)) (c.in-Ok.ensures.tally first tally i.reading);
-      writes = spent_only c.pieces.budget _ _ (λ q. absurd (cc q)) i.spent;
-    }
+    ended_early _ _ first _ _ _ _ _ _ _ _ _
+    (IfSome_then first i.sampled (λ b s. sampled_so_far _ _ c.pieces.accesses _ c.pieces.kept _ _ s)) tt
+    (fails_not _ _ (λ q. absurd (cc q)) (λ q. absurd (cc q)) (c.in-Ok.ensures.tally first tally i.reading))
+    (spent_only c.pieces.budget _ _ (λ q. absurd (cc q)) i.spent)
 
 pub returns-in-Err-pass_on : goal.returns-in-Err-pass_on
 returns-in-Err-pass_on g c =
@@ -62,17 +48,10 @@ returns-in-Err-pass_on g c =
     let next = next_of c.pieces.reading.format c.args.reading.now.format first _ c.pieces.accesses c.in-Ok.more c.next.new.keys.items i.format i.place (c.in-Ok.ensures.keys first tally i.reading) in
     let kept = kept_more c.args.kept.now.test.rule c.args.reading.now.format first c.pieces.accesses c.in-Ok.more c.next.new.keys.items c.as_slice.result.now c.pieces.kept c.add.new.self
     (g.W.CountedWrite.contents c.args.writer.now) (g.W.CountedWrite.contents c.pieces.writer) next i.rule c.as_slice.ensures.value c.in_default.ensures.kept i.sampled in
-    record {
-      sound = tt;
-      text = tt;
-      counts = tt;
-      end = tt;
-      flushed = tt;
-      part = IfSome_then first kept (λ b s. sampled_part _ _ (c.pieces.accesses + length c.next.new.keys.items) _ c.add.new.self _ _ _ c.in-Err-pass_on.ensures.part s);
-      fault = tt;
-      reads = fails_not _ _ (λ q. absurd (cc q)) (λ q. absurd (cc q)) (c.in-Ok.ensures.tally first tally i.reading);
-      writes = exhausted _ _ refl (later INTERRUPTIONS c.pieces.budget _ _ _ i.spent c.in-Err-pass_on.ensures.exhausted);
-    }
+    ended_early _ _ first _ _ _ _ _ _ _ _ _
+    (IfSome_then first kept (λ b s. sampled_part _ _ (c.pieces.accesses + length c.next.new.keys.items) _ c.add.new.self _ _ _ c.in-Err-pass_on.ensures.part s)) tt
+    (fails_not _ _ (λ q. absurd (cc q)) (λ q. absurd (cc q)) (c.in-Ok.ensures.tally first tally i.reading))
+    (exhausted _ _ refl (later INTERRUPTIONS c.pieces.budget _ _ _ i.spent c.in-Err-pass_on.ensures.exhausted))
 
 pub returns-then-not-more : goal.returns-then-not-more
 returns-then-not-more g c =
