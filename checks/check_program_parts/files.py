@@ -6,6 +6,7 @@ import subprocess
 from checks import Ended, patience, read_until
 
 from .calls import HEADER, PARTING, RECORDED, SECONDS, lines, part, shown
+from .reports import FEW
 
 # A put, and the maintenance that it brings, cut off after four steps.
 CUT = """cachesim journal 2
@@ -52,6 +53,8 @@ def streams(check):
         check.expect_fault("a long trace over that limit", "fault: BadNumber line 1", *run, "--long", stdin=large)
     with open("/dev/full", "wb") as full:
         check.compare("a fault to a full standard error", check.call(*run, typed="x\n", stderr=full), Ended(1, b"", b""))
+        check.compare("the line of a sample to a full standard error", check.call("sample", "--rate", "1/1048576", stderr=full,
+                                                                                  typed=lines(1, *FEW)), Ended(1, lines(*FEW).encode(), b""))
     check.expect_full("help to a full output", "--help")
     check.expect_full("a report to a full output", *run, stdin=check.trace)
     check.expect_full("a sample to a full output", "sample", "--rate", "1/2", typed=lines(*range(1, 21)))

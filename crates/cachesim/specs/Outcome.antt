@@ -1,6 +1,9 @@
 -- What the program has done at its end, by status.
 use Rattle.std.specs.Prelude.{◌≡◌, ◌⊎◌, ℕ, true, List, Option, IfSome, Ok, Err, codes, ◌++◌}
 use Rattle.std.specs.Io.KnownBytes.{Appends}
+use Rattle.streams.specs.Part.{AppendsPart}
+use Rattle.streams.specs.Tally.{Exhausts}
+use Rattle.streams.specs.declared.retry_budget.TheConstants.{INTERRUPTIONS}
 use Rattle.clap.specs.Words.{IsAmong, Kinds, Text}
 use Rattle.clap.specs.declared.error.ErrorKind.{ErrorKind}
 use Rattle.clap.specs.declared.error.ErrorKind.TheVariants.{DisplayHelp, DisplayVersion}
@@ -12,7 +15,7 @@ use Rattle.command_line.specs.declared.fault.ParseFault.TheVariants as parse
 use Rattle.cachesim.specs.FaultLine.{Tally, WritesLine}
 use Rattle.cachesim.specs.DebugOutput.{Answering, Debugging, KnownFiles, Replaying}
 use Rattle.cachesim.specs.DriveOutput.{IsDriven}
-use Rattle.cachesim.specs.SampleOutput.{IsSampled, sample_line}
+use Rattle.cachesim.specs.SampleOutput.{SampleArguments, IsSampled, sample_line}
 use Rattle.cachesim.specs.TraceOutput.{IsTextOf}
 use Rattle.trace_read.specs.TraceText.{keys_in}
 
@@ -30,12 +33,12 @@ IsDone (asked.Sample sample) files input before after = IsSampled sample input b
 IsDone arguments files input before after =
     (text : List ℕ) × IsTextOf arguments input text × Appends before after text
 
--- What is said on the fault output with status 0, from `silent` to `line`: by `sample` the line that says what it wrote,
--- all of it, or a beginning where that output failed, which counted `old` and `new`; by no other anything.
-abbrev pub IsSaid : Arguments → Option (List ℕ) → Tally → Tally → Option (List ℕ) → Option (List ℕ) → Type 0 → Type 0
-IsSaid (asked.Sample sample) input old new silent line Silent =
-    IfSome input (λ bytes. WritesLine old new silent line (sample_line sample (keys_in sample.format bytes)))
-IsSaid arguments input old new silent line Silent = Silent
+-- What is said on the fault output with status 0, from `silent` to `line`: by `sample` the line that says what it
+-- wrote, by no other anything.
+abbrev pub IsSaid : Arguments → Option (List ℕ) → Option (List ℕ) → Option (List ℕ) → Type 0 → Type 0
+IsSaid (asked.Sample sample) input silent line Silent =
+    IfSome input (λ bytes. Appends silent line (sample_line sample (keys_in sample.format bytes)))
+IsSaid arguments input silent line Silent = Silent
 
 -- the words ask for these arguments, and P holds of them
 abbrev pub AsksForSome : List Text → (Arguments → Type 0) → Type 0
@@ -53,10 +56,21 @@ RefusesWords kinds = (kind : ErrorKind) × (¬ is_help kind) × IsAmong kind kin
 
 -- Status 0: the words are taken, and what they ask for is done and said, or they ask for help.
 abbrev pub DoneBy : List Text → KnownFiles → Option (List ℕ) → Option (List ℕ) → Option (List ℕ)
-    → Tally → Tally → Option (List ℕ) → Option (List ℕ) → Type 0 → Type 0
-DoneBy words files input before after old new silent line Silent =
+    → Option (List ℕ) → Option (List ℕ) → Type 0 → Type 0
+DoneBy words files input before after silent line Silent =
     AsksForSome words (λ arguments. IsDone arguments files input before after
-    × IsSaid arguments input old new silent line Silent) ⊎ (IsRefused words AsksHelp × Silent)
+    × IsSaid arguments input silent line Silent) ⊎ (IsRefused words AsksHelp × Silent)
+
+-- Status 1 of a `sample` that is done and not said: all of the sample was written, and no call of the input or the output
+-- failed (`Served`), but one of the fault output did, which counted `old` and `new`. It has a beginning of the line.
+pub record DoneUnsaid (words : List Text) (old new : Tally) (input before after silent line : Option (List ℕ))
+    (Served : Type 0) : Type 0 where
+  pub sample : SampleArguments
+  pub asks : AsksFor words (Ok (asked.Sample sample))
+  pub sampled : IsSampled sample input before after
+  pub served : Served
+  pub failed : Exhausts INTERRUPTIONS old new
+  pub part : IfSome input (λ bytes. AppendsPart silent line (sample_line sample (keys_in sample.format bytes)))
 
 -- the lines of a word that names no policy, or of arguments that are incomplete
 abbrev pub usage_line : ParseFault → List ℕ

@@ -6,11 +6,11 @@ ghost use Rattle.streams.specs.declared.retry_budget.TheConstants.{INTERRUPTIONS
 ghost use Rattle.cachesim.specs.CallFaults.{AreServed, BlamesCalls};
 ghost use Rattle.cachesim.specs.FaultLine.{IsReported};
 ghost use Rattle.cachesim.specs.FaultCauses.{EndsInFault};
-ghost use Rattle.cachesim.specs.Outcome.{DoneBy, RefusedBy, is_help};
+ghost use Rattle.cachesim.specs.Outcome.{DoneBy, DoneUnsaid, RefusedBy, is_help};
 ghost use Rattle.cachesim.specs.declared.fault_report.TheConstants.{DONE, FAULT, REFUSED};
 
 use crate::fault::Fault;
-use crate::fault_report::{DONE, report_fault, report_usage_error};
+use crate::fault_report::{DONE, report_done, report_fault, report_usage_error};
 use crate::files::Files;
 use crate::perform::perform;
 use clap::Error;
@@ -69,21 +69,27 @@ pub fn command<
     // - `drive`: the journal of the walks by which the workers read the accesses in turn, in an empty cache;
     // - `debug`, `replay`: the answers to the commands read, about a file that is a trace or a journal without a fault.
     ensures done { result ≡ DONE → DoneBy (map (λ s. s.now) words.now) (F.known files.now) (R.remaining input.old)
-        (W.contents out.old) (W.contents out.new) (X.tally fault_out.old) (X.tally fault_out.new)
-        (X.contents fault_out.old) (X.contents fault_out.new) (fault_out.new ≡ fault_out.old) }
+        (W.contents out.old) (W.contents out.new) (X.contents fault_out.old) (X.contents fault_out.new)
+        (fault_out.new ≡ fault_out.old) }
     // With status 1 a fault was found: one of the machine, or that of the words, the trace or the journal. Its line
     // was written to the fault output, whole unless a write or the flush of that output failed. What is found before
     // anything is written, as a faulty line of a trace, leaves the output as it was, and so does every fault of
     // `run`, `sweep`, `intervals`, `part`, `compare` and `footprint` but a failed write. `sample` has written a beginning of its
     // text. A run of workers that was stopped has its journal written. A call of the input or the output failed just
-    // where that fault says so.
+    // where that fault says so. Or no fault was found, and `sample` wrote all of its text, but not its line: a call of
+    // the fault output failed, which has a beginning of it.
     ensures faulted { result ≡ FAULT → EndsInFault (map (λ s. s.now) words.now) (F.known files.now)
         (X.tally fault_out.old) (X.tally fault_out.new) (R.remaining input.old) (W.contents out.old) (W.contents out.new)
         (X.contents fault_out.old) (X.contents fault_out.new) (out.new ≡ out.old) (λ fault. BlamesCalls fault
-        (R.tally input.old) (R.tally input.new) (W.tally out.old) (W.tally out.new)) }
-    // With status 0 no call of the input or the output failed, and the output is flushed.
+        (R.tally input.old) (R.tally input.new) (W.tally out.old) (W.tally out.new))
+        ⊎ DoneUnsaid (map (λ s. s.now) words.now) (X.tally fault_out.old) (X.tally fault_out.new)
+        (R.remaining input.old) (W.contents out.old) (W.contents out.new) (X.contents fault_out.old)
+        (X.contents fault_out.new) (AreServed (R.tally input.old) (R.tally input.new) (W.tally out.old)
+        (W.tally out.new) × (W.is_flushed out.new ≡ true)) }
+    // With status 0 no call of the input or of an output failed, and the output is flushed.
     ensures served { result ≡ DONE → AreServed (R.tally input.old) (R.tally input.new) (W.tally out.old)
-        (W.tally out.new) × (W.is_flushed out.new ≡ true) }
+        (W.tally out.new) × (W.is_flushed out.new ≡ true)
+        × IsServed (X.tally fault_out.old) (X.tally fault_out.new) }
     // A usage error comes only where it is due, before anything is read or written. Its line is written likewise.
     ensures refused { result ≡ REFUSED → RefusedBy (map (λ s. s.now) words.now) (X.tally fault_out.old)
         (X.tally fault_out.new) (X.contents fault_out.old) (X.contents fault_out.new)
@@ -100,10 +106,11 @@ pub fn command<
         Err(ParseFault::LongIntervals) => return report_usage_error(LONG_INTERVALS, fault_out),
         Err(ParseFault::Incomplete) => return report_usage_error(INCOMPLETE, fault_out),
     };
-    let done = perform(rt, alloc, &arguments, input, out, fault_out, files, watch);
+    let done = perform(rt, alloc, &arguments, input, out, files, watch);
     drop(arguments);
     match done {
-        Ok(()) => DONE,
+        Ok(None) => DONE,
+        Ok(Some(line)) => report_done(line.as_bytes(), fault_out),
         Err(fault) => report_fault(alloc, fault, fault_out),
     }
 }

@@ -1,36 +1,31 @@
 //! The subcommand `sample`: a trace to the accesses to some of its blocks.
-ghost use Rattle.std.specs.Prelude.{◌≡◌, ◌≤◌, IfErr, IfOk, None, OnOk, string_bytes, true};
+ghost use Rattle.std.specs.Prelude.{◌≡◌, ◌≤◌, IfOk, IfSome, None, string_bytes, true};
 ghost use Rattle.command_line.specs.declared.arguments.Arguments.TheVariants.{Sample};
-ghost use Rattle.cachesim.specs.Outcome.{IsSaid};
-ghost use Rattle.cachesim.specs.SampleOutput.{counts_line};
+ghost use Rattle.trace_read.specs.TraceText.{keys_in};
+ghost use Rattle.cachesim.specs.SampleOutput.{counts_line, sample_line};
 ghost use Rattle.cachesim.specs.Subcommand.{IsPerformed};
 
 use crate::fault::Fault;
-use crate::fault_report::report_line;
 use command_line::SampleArguments;
 use progress::Watch;
 use std::alloc::{AllocError, Global};
 use streams::{CountedRead, CountedWrite};
 use trace_sample::{SampleCounts, SampleRule, write_sample};
 
-/// Writes the sample of the trace, and then the line that says what it is to the fault output. Where that output fails
-/// the sample alone is the answer.
-pub fn sample<R: CountedRead, W: CountedWrite, X: CountedWrite, P: Watch>(
+/// Writes the sample of the trace, and returns the line that says what it is.
+pub fn sample<R: CountedRead, W: CountedWrite, P: Watch>(
     alloc: Global,
     arguments: &SampleArguments,
     input: &mut R,
     out: &mut W,
-    fault_out: &mut X,
     watch: &P,
-) -> Result<(), Fault>
+) -> Result<String, Fault>
     requires { 2 ≤ arguments.now.inverse }
     ensures performed { IsPerformed (Sample arguments.now) (λ path. None) (R.remaining input.old) (W.contents out.old)
         (W.contents out.new) (R.tally input.old) (R.tally input.new) (W.tally out.old) (W.tally out.new)
         (out.new ≡ out.old) (W.is_flushed out.new ≡ true) result }
-    ensures said { OnOk result (IsSaid (Sample arguments.now) (R.remaining input.old) (X.tally fault_out.old)
-        (X.tally fault_out.new) (X.contents fault_out.old) (X.contents fault_out.new)
-        (fault_out.new ≡ fault_out.old)) }
-    ensures silent { IfErr result (λ fault. fault_out.new ≡ fault_out.old) }
+    ensures line { IfOk result (λ line. IfSome (R.remaining input.old)
+        (λ bytes. string_bytes line ≡ sample_line arguments.now (keys_in arguments.now.format bytes))) }
 {
     let SampleArguments {
         inverse,
@@ -47,9 +42,7 @@ pub fn sample<R: CountedRead, W: CountedWrite, X: CountedWrite, P: Watch>(
         watch,
     );
     watch.end();
-    let line = sample_line(alloc, inverse, counts?)?;
-    report_line(line.as_bytes(), fault_out);
-    Ok(())
+    Ok(sample_line(alloc, inverse, counts?)?)
 }
 
 // The line that says what a sample is, as `tools/survey --sampled` reads it.
