@@ -1,5 +1,6 @@
 """Reports: of each policy at each capacity, of each interval of a trace, and of two policies access by access."""
 from collections import Counter
+from itertools import islice
 
 from .frequency import mix
 from .options import DEFAULTS, opened
@@ -7,6 +8,7 @@ from .traces import ALL_BITS
 
 HEADER = "policy,capacity,accesses,hits,misses,evictions,rejections,rate\n"
 INTERVALS_HEADER = "policy,capacity,first,last,hits,misses,evictions,rejections,rate\n"
+INSIDE_HEADER = INTERVALS_HEADER.replace("\n", ",queue,held,marked\n")
 COMPARE_HEADER = "first,second,capacity,accesses,both,first_only,second_only,neither\n"
 COMPARE_INTERVALS_HEADER = "first,second,capacity,from,to,both,first_only,second_only,neither\n"
 
@@ -69,6 +71,24 @@ def intervals(keys, policies, every, capacity, options=DEFAULTS):
     return INTERVALS_HEADER + "".join(rows)
 
 
+def cells_of(queue, keys):
+    """A queue's name, how many keys it holds, or the size that is a target, and how many have a number above 0 beside them."""
+    numbers = [int(number) for _, colon, number in (str(it).partition(":") for it in keys) if colon]
+    return f"{queue},{keys[0] if queue == 'target' else len(keys)},{sum(it > 0 for it in numbers) if numbers else ''}"
+
+
+def inside(keys, policies, every, capacity, options=DEFAULTS):
+    """The rows of `intervals`, each once a queue, with what the queue holds at the end of the interval."""
+    rows = []
+    for policy in policies:
+        cache, rest = opened(policy, capacity, options, keys), iter(keys)
+        for counted in intervals(keys, [policy], every, capacity, options).splitlines()[1:]:
+            for key in islice(rest, every):
+                cache.access(key)
+            rows += [f"{counted},{cells_of(*queue)}\n" for queue in cache.shown().items()]
+    return INSIDE_HEADER + "".join(rows)
+
+
 def hits_of(keys, first, second, capacity, options):
     return [*zip(*([it == "hit" for it in outcomes_of(policy, capacity, options, keys)] for policy in (first, second)))]
 
@@ -114,7 +134,8 @@ def answer(command, keys, options):
     if command == "sweep":
         return sweep(keys, policies, options["capacities"], options), ""
     if command == "intervals":
-        return intervals(keys, policies, options["every"], capacity, options), ""
+        cut = inside if options.get("inside") else intervals
+        return cut(keys, policies, options["every"], capacity, options), ""
     if command == "part":
         return part(keys, *pair, capacity, options), ""
     return compare(keys, *pair, capacity, options, options.get("every")), ""

@@ -7,14 +7,16 @@ from .options import as_called
 from .policies import OPTIMAL
 from .reports import INTERVALS, SWEEP
 
+INSIDE = f"{INTERVALS},queue,held,marked"
 COMPARISONS = "first,second,capacity,from,to,both,first_only,second_only,neither"
-HEADERS = (SWEEP, INTERVALS, COMPARISONS)
+HEADERS = (SWEEP, INTERVALS, INSIDE, COMPARISONS)
 TOOL = as_called("tools/plot")
 
 # A report of a file: the line that it is in, the place of the horizontal axis where it begins and that where it ends,
-# and its counts.
-Row = namedtuple("Row", "line policy capacity begin end accesses hits")
-# The points of a curve are a beginning, an end and a height. Its variant is the file, and of intervals the capacity.
+# and its counts: of a queue in place of accesses and hits the keys that it holds and those that are marked.
+Row = namedtuple("Row", "line policy capacity begin end accesses hits queue", defaults=[""])
+# The points of a curve are a beginning, an end and a height. Its variant is the file, and of intervals the capacity and the
+# number of the queue.
 Curve = namedtuple("Curve", "name policy variant points")
 
 
@@ -33,10 +35,11 @@ def rows_of_line(where, number, line, header):
     """The rows of a line: of a comparison one for each of both policies, with the hits that it has alone."""
     heads, words, named = header.split(","), line.split(","), 2 if header == COMPARISONS else 1
     try:
-        of = {head: number_of(word) for head, word in zip(heads[named:], words[named:], strict=True) if head != "rate"}
+        of = {head: number_of(word) for head, word in zip(heads[named:], words[named:], strict=True)
+              if head not in ("rate", "queue") and (head, word) != ("marked", "")}
     except ValueError:
         refuse(f"{where}line {number} is no row of a report: {line}")
-    begin, end = {SWEEP: ("capacity", "capacity"), INTERVALS: ("first", "last"), COMPARISONS: ("from", "to")}[header]
+    begin, end = {SWEEP: ("capacity", "capacity"), COMPARISONS: ("from", "to")}.get(header, ("first", "last"))
     begin, end = of[begin] - (header != SWEEP), of[end]
     alone = [of[it] for it in (("first_only", "second_only") if header == COMPARISONS else ("hits",))]
     counted = sum(alone) + (of["both"] + of["neither"] if header == COMPARISONS else of["misses"])
@@ -45,7 +48,19 @@ def rows_of_line(where, number, line, header):
         refuse(f"{where}line {number} has hits and misses that are not its accesses: {line}")
     if accesses == 0:
         refuse(f"{where}line {number} has no hit ratio, since it has no accesses: {line}")
+    if header == INSIDE:
+        return queue_rows(where, number, line, of, begin)
     return [Row(number, policy, of["capacity"], begin, end, accesses, hits) for policy, hits in zip(words, alone)]
+
+
+def queue_rows(where, number, line, of, begin):
+    """The row of a queue, where numbers stand beside its keys."""
+    policy, *_, queue, _, marked = line.split(",")
+    if not marked:
+        return []
+    if not of["marked"] <= of["held"] > 0:
+        refuse(f"{where}line {number} has more keys that are marked than the queue holds, or none: {line}")
+    return [Row(number, policy, of["capacity"], begin, of["last"], of["held"], of["marked"], queue)]
 
 
 def rows_of(text, where):
@@ -66,10 +81,11 @@ def rows_of(text, where):
 
 def refuse_hidden(rows, where, is_intervals):
     """Refuses two rows of one policy and capacity at the same place."""
-    ordered = sorted(rows, key=lambda row: (row.policy, row.capacity, row.begin, row.line))
+    ordered = sorted(rows, key=lambda row: (row.policy, row.queue, row.capacity, row.begin, row.line))
     for row, other in zip(ordered, ordered[1:]):
         is_hidden = other.begin < row.end if is_intervals else True
-        if (row.policy, row.capacity) == (other.policy, other.capacity) and is_hidden:
+        is_same = (row.policy, row.queue, row.capacity) == (other.policy, other.queue, other.capacity)
+        if is_same and is_hidden:
             upper, lower = sorted((row.line, other.line))
             refuse(f"{where}line {lower} is of {row.policy} at {row.capacity} entries, as line {upper} is, and one "
                    "would hide the other: give each call a file of its own")
@@ -83,7 +99,7 @@ def estimated(row, inverse, accesses):
 
 
 def curves_of(rows, where, is_intervals, suffix, is_below):
-    """A curve for each policy, for intervals also for each capacity.
+    """A curve for each policy, for intervals also for each capacity and each queue.
 
     Points below Belady's policy are, of intervals, those of all accesses up to the end of each: in an interval of its
     own Belady's policy is no upper bound.
@@ -104,8 +120,9 @@ def curves_of(rows, where, is_intervals, suffix, is_below):
             sums[row.policy, row.capacity] = seen, lost
             height = 100 * lost / seen
         is_several = is_intervals and len(capacities) > 1
-        name = row.policy + (f" {row.capacity}" if is_several else "") + suffix
-        variant = (suffix, row.capacity if is_several else None)
+        name = row.policy + f" {row.queue}" * bool(row.queue) + f" {row.capacity}" * is_several + suffix
+        queues = list(dict.fromkeys(it.queue for it in rows if it.policy == row.policy))
+        variant = (suffix, row.capacity if is_several else None, queues.index(row.queue))
         curves.setdefault((row.policy, name, variant), []).append((row.begin, row.end, height))
     order = list(dict.fromkeys(row.policy for row in rows))
     return [Curve(name, policy, variant, points) for (policy, name, variant), points

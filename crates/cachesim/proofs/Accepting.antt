@@ -63,6 +63,10 @@ pub can_count : (asked : JobArguments) (jobs : List Job) → AreAcceptedJobs ask
     → intervals_fault jobs ≡ None
 can_count asked jobs accepted is few = rw (le-leb (length jobs) MAX_ACTORS few, is) (no_fault 0 asked.list accepted.list)
 
+-- and each configuration of theirs is accepted
+pub each_checked : (jobs : List Job) → All IsAcceptedJob jobs → All (λ job. config_fault job.config ≡ Ok tt) jobs
+each_checked jobs accepted = λ i d lt. (accepted i d lt).config
+
 -- and those of an accepted `run` can be run, if they are not too many
 pub can_run : (run : RunArguments) (jobs : List Job) → IsAcceptedRun run → jobs ≡ run.jobs.list → length jobs ≤ MAX_ACTORS
     → actor_fault run.batch jobs ≡ None

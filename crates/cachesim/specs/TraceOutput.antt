@@ -1,6 +1,6 @@
 -- What the subcommands write that read a trace and write a text: `run` and `sweep`, `intervals`, `part`,
 -- `compare` and `footprint`.
-use Rattle.std.specs.Prelude.{◌≡◌, ◌≤◌, ℕ, List, Option, None, Some, IfSome, flat_map, map, codes, length, ◌++◌}
+use Rattle.std.specs.Prelude.{◌≡◌, ◌≤◌, ℕ, Bool, if◌then◌else◌, List, Option, None, Some, IfSome, flat_map, map, codes, length, ◌++◌}
 use Rattle.std.specs.Fmt.{decimal}
 pub use Rattle.step_record.specs.declared.job.Job.{Job}
 use Rattle.command_line.specs.declared.arguments.Arguments.{Arguments}
@@ -19,6 +19,7 @@ use Rattle.sweeps.specs.Intervals.{Interval, intervals_on}
 use Rattle.trace_footprint.specs.Footprint.{footprint_of}
 use Rattle.trace_footprint.specs.declared.footprint.Footprint.{Footprint}
 use Rattle.report.specs.IntervalText.{intervals_text}
+use Rattle.policy_queues.specs.QueueRows.{queues_text}
 use Rattle.report.specs.Text.{Report, reports_text}
 use Rattle.policy_comparison.specs.ComparedIntervals.{compared_intervals_on, compared_intervals_text}
 use Rattle.policy_comparison.specs.Comparison.{compared_on, comparison_text}
@@ -31,6 +32,11 @@ reports_on jobs keys = map (λ job. report_on job keys) jobs
 -- all rows of the first job over the accesses, then those of the second, and so on
 abbrev pub rows_on : ℕ → List Job → List ℕ → List Interval
 rows_on every jobs keys = flat_map (λ job. intervals_on job every keys) jobs
+
+-- the header and the rows of each policy, for each interval of this length, or also for each of its queues
+abbrev pub intervals_shown : Bool → ℕ → List Job → List ℕ → List ℕ
+intervals_shown inside every jobs keys =
+    if inside then queues_text every jobs keys else intervals_text (rows_on every jobs keys)
 
 -- the header and the row of what is counted of both policies, or the rows of the intervals of this length
 abbrev pub compared_text : PartArguments → Option ℕ → List ℕ → List ℕ
@@ -58,16 +64,16 @@ footprint_text f = codes "accesses,blocks,once\n"
     ++ (decimal f.accesses ++ (codes "," ++ (decimal f.blocks ++ (codes "," ++ (decimal f.once ++ codes "\n")))))
 
 -- The text that these arguments ask for, over the accesses: of `run` and `sweep` the report of each policy, at each
--- capacity; of `intervals` the rows of each policy; of `part` the line of the access at which the two policies part; of
--- `compare` the header and the row of what is counted of both, or a row for each interval; of `footprint` how large the
--- trace is.
+-- capacity; of `intervals` the rows of each policy, and with `--inside` of each of its queues; of `part` the line of the
+-- access at which the two policies part; of `compare` the header and the row of what is counted of both, or a row for
+-- each interval; of `footprint` how large the trace is.
 abbrev pub IsText : Arguments → List ℕ → List ℕ → Type 0
 IsText (asked.Run run) keys text =
     text ≡ reports_text (reports_on run.jobs.list keys)
 IsText (asked.Sweep sweep) keys text =
     text ≡ reports_text (reports_on (jobs_over sweep.jobs.list sweep.capacities) keys)
 IsText (asked.Intervals intervals) keys text =
-    text ≡ intervals_text (rows_on intervals.every intervals.jobs.list keys)
+    text ≡ intervals_shown intervals.inside intervals.every intervals.jobs.list keys
 IsText (asked.Part part) keys text = (found : Option ℕ)
     × IsPart (outcomes_on part.first keys) (outcomes_on part.second keys) found × (text ≡ part_line found)
 IsText (asked.Compare compare) keys text = text ≡ compared_text compare.policies compare.every keys

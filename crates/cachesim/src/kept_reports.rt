@@ -1,9 +1,11 @@
 //! What `sweep`, `intervals`, `part` and `compare` make of a trace that is kept.
 ghost use Rattle.std.specs.Prelude.{◌≡◌, ◌≤◌, ◌⊎◌, IfErr, IfOk, None, OnOk, Some, length};
 ghost use Rattle.command_line.specs.Accepted.{AreAcceptedIntervals, IsAcceptedComparison, IsAcceptedPart};
-ghost use Rattle.command_line.specs.Accepted.{IsAcceptedSweep};
+ghost use Rattle.command_line.specs.Accepted.{IsAcceptedJob, IsAcceptedSweep};
 ghost use Rattle.command_line.specs.declared.arguments.Arguments.TheVariants.{Compare, Intervals, Part, Sweep};
 ghost use Rattle.policies.specs.declared.job_checks.TheConstants.{MAX_ACTORS};
+ghost use Rattle.policy_queues.specs.QueueRows.{queues_text};
+ghost use Rattle.std.specs.List.{All};
 ghost use Rattle.cachesim.specs.FaultCauses.{IsTooMany};
 ghost use Rattle.cachesim.specs.TraceOutput.{AreFew, IsText, compared_text};
 
@@ -60,11 +62,33 @@ pub fn intervals<T: Threads + Sync, P: Watch>(
 {
     let jobs = few_jobs(&arguments.jobs)?;
     let every = arguments.every as usize;
+    if arguments.inside {
+        return queues(alloc, jobs, every, trace, watch);
+    }
     let batches = interval_batches(trace, jobs, every);
     watch.begin("intervals", Some(batches));
     let rows = sweeps::intervals(rt, alloc, trace, jobs, every, watch);
     watch.end();
     Ok(intervals_text(alloc, only_memory(rows)?.as_slice())?)
+}
+
+// The same with a row for each queue. The one fault is out of memory.
+fn queues<P: Watch>(
+    alloc: Global,
+    jobs: &[Job],
+    every: usize,
+    trace: &Trace,
+    watch: &P,
+) -> Result<Vec<u8>, Fault>
+    requires accepted { All IsAcceptedJob jobs.now }
+    requires some { 1 ≤ every }
+    ensures text { IfOk result (λ text. text.items ≡ queues_text every jobs.now trace.now) }
+    ensures fault { IfErr result (λ fault. fault ≡ Fault.OutOfMemory) }
+{
+    watch.begin("intervals", None);
+    let text = policy_queues::queues_text(alloc, trace, jobs, every, watch);
+    watch.end();
+    Ok(text?)
 }
 
 /// One line: the first access at which just one of the two policies hits, counted from 1, or `none`.

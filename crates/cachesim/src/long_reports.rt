@@ -69,6 +69,11 @@ pub fn intervals<T: Threads + Wait + Sync, R: CountedRead, P: Watch>(
     }
     let every = arguments.every as usize;
     watch.begin("intervals", None);
+    if arguments.inside {
+        let text = long_traces::queues_text(alloc, input, format, limits, jobs, every, watch);
+        watch.end();
+        return Ok(text?);
+    }
     let rows = long_traces::intervals(alloc, input, format, limits, jobs, every, watch);
     watch.end();
     Ok(intervals_text(alloc, rows?.as_slice())?)

@@ -1,5 +1,5 @@
 -- The words by which policies, formats, spreads and rates are named on the command line.
-use Rattle.std.specs.Prelude.{◌≡◌, ℕ, false, List, [], ◌∷◌, Option, Some, None, map, find, option_map}
+use Rattle.std.specs.Prelude.{◌≡◌, ℕ, Bool, false, List, [], ◌∷◌, Option, Some, None, map, find, option_map}
 use Rattle.std.specs.Prelude.{codes, if◌then◌else◌}
 use Rattle.std.specs.Borrow.{Bor}
 use Rattle.std.specs.Option.{option_map_or}
@@ -67,9 +67,13 @@ format_named word =
 abbrev pub spread_named : Option Text → Spread
 spread_named word = if option_map_or (λ w. bytes_eq w (codes "plain")) word false then Plain else Mixed
 
--- the limits of a trace, by what clap has as the value of an option that has none: `true` where it is given
+-- whether an option that has no value is given, by what clap has as its value: `true` where it is
+abbrev pub is_given : Option Text → Bool
+is_given word = option_map_or (λ w. bytes_eq w (codes "true")) word false
+
+-- the limits of a trace, by whether they are to be those of a long one
 abbrev pub limits_named : Option Text → Limits
-limits_named word = if option_map_or (λ w. bytes_eq w (codes "true")) word false then LONG else DEFAULT
+limits_named word = if is_given word then LONG else DEFAULT
 
 -- of how many blocks a sample has one at the rate that a word names
 unfoldable pub rate_named : Text → Option ℕ

@@ -6,7 +6,7 @@ use Rattle.engine_base.specs.declared.limits.TheConstants.{MAX_GHOST_PERCENT, MA
 use Rattle.engine_base.specs.declared.worker.TheConstants.{MAX_WORKERS}
 pub use Rattle.command_line.specs.declared.options.OptionName.{OptionName}
 use Rattle.command_line.specs.declared.options.OptionName.TheVariants.{Batch, Capacities, Capacity, ComparedEvery}
-use Rattle.command_line.specs.declared.options.OptionName.TheVariants.{Every, First, In, Out, Period, Small}
+use Rattle.command_line.specs.declared.options.OptionName.TheVariants.{Every, First, In, Inside, Out, Period, Small}
 use Rattle.command_line.specs.declared.options.OptionName.TheVariants.{Format, Journal, Limit, Long, Main, Policies, Second}
 use Rattle.command_line.specs.declared.options.OptionName.TheVariants.{Rate, Seed, Spread, Stripes, SweptPolicies, Trace}
 use Rattle.command_line.specs.declared.options.OptionName.TheVariants.{Workers}
@@ -47,6 +47,7 @@ row_of Long = row (codes "long") kind.Flag Switch None
 row_of Batch = row (codes "batch") (kind.Number 1 MAX_BATCH) Named (Some (codes "1024"))
 row_of Every = row (codes "every") (kind.Number 1 4294967295) Named None
 row_of ComparedEvery = row (codes "every") (kind.Number 1 4294967295) Optional None
+row_of Inside = row (codes "inside") kind.Flag Switch None
 row_of Policies = row (codes "policy") kind.Policy Positional None
 row_of SweptPolicies = row (codes "policy") kind.Policy NamedOften None
 row_of First = row (codes "first") kind.Policy Named None
@@ -75,7 +76,7 @@ subcommands =
     named (codes "run") (Capacity ∷ Main ∷ Small ∷ In ∷ Out ∷ Period ∷ Spread ∷ Format ∷ Long ∷ Batch ∷ Policies ∷ [])
     ∷ named (codes "sweep") (Main ∷ Small ∷ In ∷ Out ∷ Period ∷ Spread ∷ Format ∷ Long ∷ SweptPolicies ∷ Capacities ∷ [])
     ∷ named (codes "intervals")
-    (Capacity ∷ Every ∷ Main ∷ Small ∷ In ∷ Out ∷ Period ∷ Spread ∷ Format ∷ Long ∷ Policies ∷ [])
+    (Capacity ∷ Every ∷ Inside ∷ Main ∷ Small ∷ In ∷ Out ∷ Period ∷ Spread ∷ Format ∷ Long ∷ Policies ∷ [])
     ∷ named (codes "part") (Capacity ∷ Main ∷ Small ∷ In ∷ Out ∷ Period ∷ Spread ∷ Format ∷ Long ∷ First ∷ Second ∷ [])
     ∷ named (codes "compare")
     (Capacity ∷ ComparedEvery ∷ Main ∷ Small ∷ In ∷ Out ∷ Period ∷ Spread ∷ Format ∷ Long ∷ First ∷ Second ∷ [])

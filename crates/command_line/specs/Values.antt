@@ -15,7 +15,7 @@ use Rattle.command_line.specs.Options.{OptionName, row_of}
 pub use Rattle.command_line.specs.Numbers.{IsIn, in_range, value_named}
 unfoldable pub use Rattle.command_line.specs.Numbers.{number_named}
 use Rattle.command_line.specs.PolicyWords.{job_named}
-use Rattle.command_line.specs.Choices.{all_named, format_named, limits_named, rate_named, spread_named}
+use Rattle.command_line.specs.Choices.{all_named, format_named, is_given, limits_named, rate_named, spread_named}
 use Rattle.command_line.specs.declared.arguments.Arguments.{Arguments}
 use Rattle.command_line.specs.declared.arguments.Arguments.TheVariants as asked
 use Rattle.command_line.specs.declared.arguments.JobArguments.{JobArguments}
@@ -52,6 +52,10 @@ format_in rows = format_named (first_of (row_of option.Format).id rows)
 
 abbrev pub limits_in : List Row → Limits
 limits_in rows = limits_named (first_of (row_of option.Long).id rows)
+
+-- whether an option that has no value is given
+abbrev pub is_given_in : OptionName → List Row → Bool
+is_given_in name rows = is_given (first_of (row_of name).id rows)
 
 -- of how many blocks a sample has one
 abbrev pub rate_in : List Row → Option ℕ
@@ -133,7 +137,7 @@ sweep_in rows = option_and_then (λ config. option_and_then (λ jobs. option_map
 
 unfoldable pub intervals_in : List Row → Option Arguments
 intervals_in rows = option_and_then (λ config. option_and_then (λ every. option_map (λ jobs.
-    asked.Intervals (record { jobs = jobs; every = every }))
+    asked.Intervals (record { jobs = jobs; every = every; inside = is_given_in option.Inside rows }))
     (jobs_in option.Policies config rows)) (number_in option.Every rows)) (config_in rows)
 
 -- two policies on one configuration with one tuning, where they have no sizes of their own

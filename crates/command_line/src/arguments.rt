@@ -73,6 +73,8 @@ pub struct IntervalsArguments {
     pub jobs: JobArguments,
     /// How many accesses an interval has: from 1 to as many as the trace may have.
     pub every: u32,
+    /// Whether each queue of a policy has a row.
+    pub inside: bool,
 }
 
 /// The arguments of `part`, and of each call about two policies.
@@ -176,7 +178,12 @@ pub(crate) fn intervals(alloc: Global, asked: &Matches<'_, '_>) -> ValueResult<A
     let config = policy_config(asked)?;
     let every = asked.number(OptionName::Every)?;
     let jobs = jobs(alloc, asked, config, OptionName::Policies)?;
-    Ok(Arguments::Intervals(IntervalsArguments { jobs, every }))
+    let inside = asked.is_given(OptionName::Inside);
+    Ok(Arguments::Intervals(IntervalsArguments {
+        jobs,
+        every,
+        inside,
+    }))
 }
 
 /// What `part` is asked for by its matches.

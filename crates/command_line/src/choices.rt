@@ -3,7 +3,7 @@ ghost use Rattle.std.specs.Prelude.{◌≡◌, ◌≤◌, IfSome, find, option_m
 ghost use Rattle.std.specs.Str.{bytes_eq};
 ghost use Rattle.step_record.specs.Job.{word_of};
 ghost use Rattle.command_line.specs.Choices.{AreWords, format_named as format_by, format_words};
-ghost use Rattle.command_line.specs.Choices.{limits_named as limits_by};
+ghost use Rattle.command_line.specs.Choices.{is_given as is_given_by, limits_named as limits_by};
 ghost use Rattle.command_line.specs.Choices.{policy_named as policy_by, spread_named as spread_by};
 ghost use Rattle.command_line.specs.Choices.{rate_named as rate_by, rate_words};
 ghost use Rattle.command_line.specs.Choices.{spread_words};
@@ -141,14 +141,25 @@ pub(crate) fn rate_named(word: &str) -> Option<u32>
     }
 }
 
-/// The limits of a trace, by what `clap` has as the value of an option that has none: `true` where it is given.
+/// Whether an option that has no value is given, by what `clap` has as its value: `true` where it is.
+pub(crate) fn is_given(word: Option<&str>) -> bool
+    ensures { result ≡ is_given_by (option_map (λ s. s.now) word.entry) }
+{
+    match word {
+        Some(word) => word == GIVEN,
+        None => false,
+    }
+}
+
+/// The limits of a trace, by whether they are to be those of a long one.
 pub(crate) fn limits_named(word: Option<&str>) -> Limits
     ensures value { result ≡ limits_by (option_map (λ s. s.now) word.entry) }
     ensures accesses { result.accesses ≤ MAX_LONG_ACCESSES }
     ensures bytes { result.bytes ≤ MAX_LONG_TRACE_BYTES }
 {
-    match word {
-        Some(word) if word == GIVEN => Limits::LONG,
-        _ => Limits::DEFAULT,
+    if is_given(word) {
+        Limits::LONG
+    } else {
+        Limits::DEFAULT
     }
 }

@@ -5,9 +5,9 @@ ghost use Rattle.std.specs.Prelude.{◌≡◌};
 ghost use Rattle.command_line.specs.Options.{defined, row_of};
 
 use OptionName::{
-    Batch, Capacities, Capacity, ComparedEvery, Every, First, Format, In, Journal, Limit, Long,
-    Main, Out, Period, Policies, Rate, Second, Seed, Small, Spread, Stripes, SweptPolicies, Trace,
-    Workers,
+    Batch, Capacities, Capacity, ComparedEvery, Every, First, Format, In, Inside, Journal, Limit,
+    Long, Main, Out, Period, Policies, Rate, Second, Seed, Small, Spread, Stripes, SweptPolicies,
+    Trace, Workers,
 };
 use step_record::{
     MAX_BATCH, MAX_CAPACITY, MAX_GHOST_PERCENT, MAX_JOURNAL_LIMIT, MAX_MAIN_PERCENT,
@@ -61,6 +61,7 @@ pub enum OptionName {
     Batch,
     Every,
     ComparedEvery,
+    Inside,
     Policies,
     SweptPolicies,
     First,
@@ -157,13 +158,13 @@ each capacity. The trace comes by a redirection (< FILE) or a pipe.",
         name: "intervals",
         about: "Runs policies and prints what each makes of each interval",
         whole: "Runs policies over the trace on standard input and prints what each makes of
-each interval of it: a row for each --every accesses. The caches stay as they
-are from one interval to the next. The trace comes by a redirection (< FILE) or
-a pipe.",
+each interval of it: a row for each --every accesses, or with --inside for each
+queue of the policy. The caches stay as they are from one interval to the next.
+The trace comes by a redirection (< FILE) or a pipe.",
         usage: None,
         example: "Example: cachesim intervals --capacity 100 --every 1000 lru arc < trace.lirs",
         options: &[
-            Capacity, Every, Main, Small, In, Out, Period, Spread, Format, Long, Policies,
+            Capacity, Every, Inside, Main, Small, In, Out, Period, Spread, Format, Long, Policies,
         ],
     },
     Subcommand {
@@ -271,7 +272,7 @@ evict K, break halve, break drop, clear, show, save, quit. Give --capacity,
 ];
 
 // The options, in the order of their names.
-static OPTIONS: [OptionRow; 24] = [
+static OPTIONS: [OptionRow; 25] = [
     OptionRow {
         id: "capacity",
         value_name: "N",
@@ -387,6 +388,15 @@ report depends on it",
 4294967295 with --long; the last one may have fewer",
         value: ValueKind::Number(1, u32::MAX),
         place: Place::Optional,
+        default: None,
+    },
+    OptionRow {
+        id: "inside",
+        value_name: "",
+        help: "A row for each queue of the policy: how many keys it holds at the
+end of the interval, and how many have their bit or count set",
+        value: ValueKind::Flag,
+        place: Place::Switch,
         default: None,
     },
     OptionRow {

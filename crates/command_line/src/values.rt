@@ -9,13 +9,13 @@ ghost use Rattle.command_line.specs.Choices.{all_named};
 ghost use Rattle.command_line.specs.Options.{row_of};
 ghost use Rattle.command_line.specs.PolicyWords.{job_named as job_by};
 ghost use Rattle.command_line.specs.Values.{Answers, AnswersWith, IsIn, capacities_in, format_in, in_range as within};
-ghost use Rattle.command_line.specs.Values.{limits_in, number_in};
+ghost use Rattle.command_line.specs.Values.{is_given_in, limits_in, number_in};
 ghost use Rattle.command_line.specs.Values.{number_named as number_by, job_in, job_list_in, rate_in, spread_in};
 ghost use Rattle.command_line.specs.Values.{stripes_from as stripes_by, value_named as value_by, wide_number_in};
 ghost use Rattle.command_line.specs.declared.options.OptionName.TheVariants.{Capacities};
 ghost use Rattle.trace_read.specs.declared.limits.TheConstants.{MAX_LONG_ACCESSES, MAX_LONG_TRACE_BYTES};
 
-use crate::choices::{format_named, limits_named, rate_named, spread_named};
+use crate::choices::{format_named, is_given, limits_named, rate_named, spread_named};
 use crate::fault::{ValueFault, ValueResult};
 use crate::lists::{CapacityList, FilePath, JobList, NamedList};
 use crate::options::{OptionName, ValueKind};
@@ -95,6 +95,13 @@ impl<'m, 'a> Matches<'m, 'a> {
         ensures bytes { result.bytes ≤ MAX_LONG_TRACE_BYTES }
     {
         limits_named(self.word(OptionName::Long))
+    }
+
+    /// Whether an option that has no value is given.
+    pub(crate) fn is_given(&self, option: OptionName) -> bool
+        ensures { result ≡ is_given_in option self.now }
+    {
+        is_given(self.word(option))
     }
 
     /// The job of the policy that is given to an option, on this configuration and with this tuning where the policy's

@@ -4,22 +4,19 @@ use Rattle.std.proofs.lemmas.List.{length-take-le}
 use Rattle.adaptive_window.specs.AdaptiveCache.{AdaptiveCacheState}
 use Rattle.adaptive_window.specs.Residents.{cache_residents}
 use Rattle.clairvoyant.specs.Belady.{belady_residents}
-use Rattle.clairvoyant.specs.Clairvoyant.{ClairvoyantState, clairvoyant_at}
-use Rattle.clairvoyant.specs.NextAccesses.{clairvoyant_queues}
+use Rattle.clairvoyant.specs.Clairvoyant.{ClairvoyantState}
 use Rattle.demand_cache.specs.DemandCache.{DemandState}
-use Rattle.demand_cache.specs.DemandQueues.{queues_named, queues_residents}
+use Rattle.demand_cache.specs.DemandQueues.{queues_residents}
 use Rattle.admission.specs.Frequency.{estimate}
-use Rattle.named_queues.specs.SegmentQueues.{three_queues}
 use Rattle.segments.specs.Queues.{residents_in}
 use Rattle.sketch.specs.Sketch.{least_counter}
 use Rattle.policies.specs.declared.any_policy.AnyPolicy.TheVariants.{Queues, Optimal, Demand, Adaptive}
 use Rattle.policies.specs.Design.{Job, design_of, queue_setup}
-use Rattle.policies.specs.AnyPolicy.{frequency_in, any_queues, any_residents, estimate_in, HasAccessed}
-use Rattle.queue_cache.specs.Design.{named_in}
+use Rattle.policies.specs.AnyPolicy.{frequency_in, any_residents, estimate_in, HasAccessed}
 use Rattle.queue_cache.specs.QueueCache.{QueueState}
 use Rattle.queue_cache.proofs.Reached.{after-frequency, has-room}
 use Rattle.debug_policies.specs.OnePolicy.{AnyPolicy, age_in, age_by, residents_at, residents_by}
-use Rattle.debug_policies.specs.Inside.{estimate_by, queues_at, queues_by}
+use Rattle.debug_policies.specs.Inside.{estimate_by}
 use Rattle.debug_policies.specs.Window.{fixed_window, moving_window, window_by, window_in}
 
 pub shown_age : (j : Job) (trace keys : List ℕ) (d : AnyPolicy) → HasAccessed j trace keys d
@@ -49,18 +46,6 @@ shown_window j trace keys (Optimal d) s = subst (λ x. fixed_window x j.config �
 shown_window j trace keys (Demand d) s = subst (λ x. fixed_window x j.config ≡ window_by x j keys) (sym s.design) refl
 shown_window j trace keys (Adaptive d) s =
     ap (λ (x : AdaptiveCacheState). moving_window x.window) s.is ∙ ap (λ x. window_by x j keys) (sym s.design)
-
-pub shown_queues : (j : Job) (trace : List ℕ) (n : ℕ) (d : AnyPolicy) → n ≤ length trace → HasAccessed j trace (take n trace) d → any_queues d ≡ queues_at j trace n
-shown_queues j trace n (Queues d) le s =
-    ap (λ (x : QueueState). named_in d.setup.design.layout x.queues) s.is ∙ ap (λ x. queues_by x j trace n) (sym s.design)
-shown_queues j trace n (Optimal d) le s =
-    ap clairvoyant_queues s.gives
-    ∙ ap (λ i. clairvoyant_queues (clairvoyant_at j.config.capacity trace i)) (length-take-le n trace le)
-    ∙ ap (λ x. queues_by x j trace n) (sym s.design)
-shown_queues j trace n (Demand d) le s =
-    ap (λ (x : DemandState). queues_named x.queues) s.is ∙ ap (λ x. queues_by x j trace n) (sym s.design)
-shown_queues j trace n (Adaptive d) le s =
-    ap (λ (x : AdaptiveCacheState). three_queues x.window.queues) s.is ∙ ap (λ x. queues_by x j trace n) (sym s.design)
 
 pub shown_estimate : (j : Job) (trace keys : List ℕ) (d : AnyPolicy) (key : ℕ) → HasAccessed j trace keys d
     → estimate_in key d ≡ estimate_by (design_of j) j keys key

@@ -1,37 +1,23 @@
--- The queues of a policy over a trace once the first accesses are made, the outcome of the last of these, and what the
--- policy's admission filter takes as a key's frequency: by the policy's definition.
+-- What is printed of the queues of a policy over a trace once the first accesses are made, of the outcome of the last of
+-- these, and of what the policy's admission filter takes as a key's frequency: by the policy's definition.
 use Rattle.std.specs.Prelude.{ℕ, Option, Some, None, option_map, List, [], ◌++◌, codes, take}
 use Rattle.std.specs.List.{flat_map}
 use Rattle.admission.specs.Frequency.{estimate}
 use Rattle.sketch.specs.Sketch.{least_counter}
 use Rattle.engine_base.specs.declared.outcome.Outcome.TheVariants.{Hit, Kept, Evicted, Rejected}
 use Rattle.engine_base.specs.Machine.{after}
-use Rattle.clairvoyant.specs.Clairvoyant.{clairvoyant_at}
-use Rattle.clairvoyant.specs.NextAccesses.{clairvoyant_queues}
 use Rattle.streams.specs.Texts.{count_text}
-use Rattle.demand_cache.specs.DemandQueues.{queues_named}
 use Rattle.named_queues.specs.NamedQueue.{NamedQueueData}
 use Rattle.named_queues.specs.declared.named_queue.QueueKey.{QueueKey}
-use Rattle.named_queues.specs.SegmentQueues.{three_queues}
-use Rattle.policies.specs.AnyPolicy.{adaptive_engine, demand_engine, queues_engine}
+use Rattle.policies.specs.AnyPolicy.{adaptive_engine}
 use Rattle.policies.specs.Design.{design_of, queue_setup}
+use Rattle.policy_queues.specs.QueuesAt.{queues_at}
 use Rattle.policies.specs.declared.design.Design.{Design}
 use Rattle.policies.specs.declared.design.Design.TheVariants.{KnowsTrace, Queues, Demand, Adaptive}
-use Rattle.queue_cache.specs.Design.{named_in}
 use Rattle.queue_cache.specs.QueueCache.{frequency_after}
 use Rattle.debug_policies.specs.OnePolicy.{Job, Outcome, outcome_at, policy_line}
 
 -- ---- by the definitions
-
-abbrev pub queues_by : Design → Job → List ℕ → ℕ → List NamedQueueData
-queues_by (Queues q) j trace n = named_in q.layout (after (queues_engine q j) (take n trace)).queues
-queues_by KnowsTrace j trace n = clairvoyant_queues (clairvoyant_at j.config.capacity trace n)
-queues_by (Demand p) j trace n = queues_named (after (demand_engine p j) (take n trace)).queues
-queues_by Adaptive j trace n = three_queues (after (adaptive_engine j) (take n trace)).window.queues
-
--- the queues under their names, after the first n accesses
-abbrev pub queues_at : Job → List ℕ → ℕ → List NamedQueueData
-queues_at j trace n = queues_by (design_of j) j trace n
 
 abbrev pub estimate_by : Design → Job → List ℕ → ℕ → Option ℕ
 estimate_by (Queues q) j keys key = option_map (estimate key) (frequency_after (queue_setup q j) keys)
@@ -39,8 +25,8 @@ estimate_by KnowsTrace j keys key = None
 estimate_by (Demand p) j keys key = None
 estimate_by Adaptive j keys key = Some (least_counter key (after (adaptive_engine j) keys).frequency.table)
 
--- the estimate of a key after them, where the policy has an admission filter: by Caffeine's of its counters alone, as it
--- has no doorkeeper
+-- the estimate of a key after the first n accesses, where the policy has an admission filter: by Caffeine's of its
+-- counters alone, as it has no doorkeeper
 abbrev pub estimate_at : Job → List ℕ → ℕ → ℕ → Option ℕ
 estimate_at j trace n key = estimate_by (design_of j) j (take n trace) key
 

@@ -1,4 +1,5 @@
-//! Tests of jobs over a trace that is read and not kept: each public call of `long_traces`, within small limits.
+//! Tests of jobs over a trace that is read and not kept: each public call of `long_traces` and of
+//! `policy_queues`, within small limits.
 #![tactic(auto)]
 
 #[cfg(test)]
@@ -7,3 +8,5 @@ mod assertions;
 mod long_traces_tests;
 #[cfg(test)]
 mod pieces;
+#[cfg(test)]
+mod queue_tests;

@@ -7,7 +7,6 @@ use Rattle.std.proofs.lemmas.List.{length-set, map-append, take_more}
 use Rattle.step_record.specs.declared.job.Job.{Job}
 use Rattle.trace_read.specs.TraceText.{keys_in, keys_of_file}
 use Rattle.trace_read.specs.declared.format.Format.{Format}
-use Rattle.long_traces.specs.JobRuns.{JobRun, HasRun}
 
 -- what holds of all accesses that are known gives what holds of those of the bytes
 pub from-known : (H Q : List ℕ → Type 0) (format : Format) (bytes : Option (List ℕ)) → IfSome (keys_of_file format bytes) H
@@ -42,49 +41,50 @@ flat-map f g [] = refl
 flat-map f g (x ∷ xs) = ap (λ (l : List _). g (f x) ++ l) (flat-map f g xs)
 
 -- one of the runs
-pub run-at : (every : ℕ) (trace : List ℕ) (n i : ℕ) (runs : List JobRun) (run : JobRun) → All (HasRun every trace n) runs → i < length runs
-    → run ≡ get_or runs i run → HasRun every trace n run
-run-at every trace n i runs run each lt is = subst (HasRun every trace n) (sym is) (each i run lt)
+pub run-at : {R : Type 0} (P : R → Type 0) (i : ℕ) (runs : List R) (run : R) → All P runs → i < length runs → run ≡ get_or runs i run → P run
+run-at P i runs run each lt is = subst P (sym is) (each i run lt)
 
 -- ---- some of the runs took the accesses
 
-pub record AreTaken (jobs : List Job) (every : ℕ) (trace : List ℕ) (n size i : ℕ) (runs : List JobRun) : Type 0 where
-  pub same : map (λ run. run.job) runs ≡ jobs
-  pub done : (j : ℕ) (d : JobRun) → j < length runs → j < i → HasRun every trace (n + size) (get_or runs j d)
-  pub ahead : (j : ℕ) (d : JobRun) → j < length runs → i ≤ j → HasRun every trace n (get_or runs j d)
+-- Has n holds of a run that took the first n
+pub record AreTaken {R : Type 0} (job_of : R → Job) (Has : ℕ → R → Type 0) (jobs : List Job) (n size i : ℕ) (runs : List R) : Type 0 where
+  pub same : map job_of runs ≡ jobs
+  pub done : (j : ℕ) (d : R) → j < length runs → j < i → Has (n + size) (get_or runs j d)
+  pub ahead : (j : ℕ) (d : R) → j < length runs → i ≤ j → Has n (get_or runs j d)
 
-map-set : (runs : List JobRun) (i : ℕ) (d run : JobRun) → i < length runs → run.job ≡ (get_or runs i d).job
-    → map (λ r. r.job) (set runs i run) ≡ map (λ r. r.job) runs
-map-set [] i d run lt is = absurd (omega (arith, lt))
-map-set (r ∷ runs) zero d run lt is = ap (λ (j : Job). j ∷ map (λ r. r.job) runs) is
-map-set (r ∷ runs) (suc i) d run lt is = ap (λ (l : List Job). r.job ∷ l) (map-set runs i d run (omega (arith, lt)) is)
+module _ {R : Type 0} (job_of : R → Job) (Has : ℕ → R → Type 0) where
+  map-set : (runs : List R) (i : ℕ) (d run : R) → i < length runs → job_of run ≡ job_of (get_or runs i d)
+      → map job_of (set runs i run) ≡ map job_of runs
+  map-set [] i d run lt is = absurd (omega (arith, lt))
+  map-set (r ∷ runs) zero d run lt is = ap (λ (j : Job). j ∷ map job_of runs) is
+  map-set (r ∷ runs) (suc i) d run lt is = ap (λ (l : List Job). job_of r ∷ l) (map-set runs i d run (omega (arith, lt)) is)
 
-pub taken-none : (jobs : List Job) (every : ℕ) (trace : List ℕ) (n size : ℕ) (runs : List JobRun) → map (λ run. run.job) runs ≡ jobs
-    → All (HasRun every trace n) runs → AreTaken jobs every trace n size 0 runs
-taken-none jobs every trace n size runs same each = record {
-  same = same;
-  done = λ j d lt below. absurd (omega (arith, below));
-  ahead = λ j d lt past. each j d lt;
-}
+  pub taken-none : (jobs : List Job) (n size : ℕ) (runs : List R) → map job_of runs ≡ jobs → All (Has n) runs
+      → AreTaken job_of Has jobs n size 0 runs
+  taken-none jobs n size runs same each = record {
+    same = same;
+    done = λ j d lt below. absurd (omega (arith, below));
+    ahead = λ j d lt past. each j d lt;
+  }
 
-pub taken-more : (jobs : List Job) (every : ℕ) (trace : List ℕ) (n size i : ℕ) (runs : List JobRun) (old run : JobRun) → i < length runs
-    → old ≡ get_or runs i old → run.job ≡ old.job → (HasRun every trace n old → HasRun every trace (n + size) run)
-    → AreTaken jobs every trace n size i runs → AreTaken jobs every trace n size (i + 1) (set runs i run)
-taken-more jobs every trace n size i runs old run lt is job moves up =
-    let long = length-set runs i run in
-    let here = moves (subst (HasRun every trace n) (sym is) (up.ahead i old lt (omega arith))) in
-    record {
-      same = map-set runs i old run lt (job ∙ ap (λ (r : JobRun). r.job) is) ∙ up.same;
-      done = λ j d inside below. elim (cases_lt j i) [
-        | inl less ↦ subst (HasRun every trace (n + size)) (sym (get_or-set_other runs i j run d (λ same. omega (arith, same, less)))) (up.done j d (omega (arith, inside, long)) less)
-        | inr more ↦ (let same : i ≡ j = omega (arith, more, below) in
-            subst (λ (k : ℕ). HasRun every trace (n + size) (get_or (set runs i run) k d)) same
-            (subst (HasRun every trace (n + size)) (sym (get_or-set_same runs i run d lt)) here))
-      ];
-      ahead = λ j d inside past.
-          subst (HasRun every trace n) (sym (get_or-set_other runs i j run d (λ same. omega (arith, same, past)))) (up.ahead j d (omega (arith, inside, long)) (omega (arith, past)));
-    }
+  pub taken-more : (jobs : List Job) (n size i : ℕ) (runs : List R) (old run : R) → i < length runs → old ≡ get_or runs i old
+      → job_of run ≡ job_of old → (Has n old → Has (n + size) run) → AreTaken job_of Has jobs n size i runs
+      → AreTaken job_of Has jobs n size (i + 1) (set runs i run)
+  taken-more jobs n size i runs old run lt is job moves up =
+      let long = length-set runs i run in
+      let here = moves (subst (Has n) (sym is) (up.ahead i old lt (omega arith))) in
+      record {
+        same = map-set runs i old run lt (job ∙ ap job_of is) ∙ up.same;
+        done = λ j d inside below. elim (cases_lt j i) [
+          | inl less ↦ subst (Has (n + size)) (sym (get_or-set_other runs i j run d (λ same. omega (arith, same, less)))) (up.done j d (omega (arith, inside, long)) less)
+          | inr more ↦ (let same : i ≡ j = omega (arith, more, below) in
+              subst (λ (k : ℕ). Has (n + size) (get_or (set runs i run) k d)) same
+              (subst (Has (n + size)) (sym (get_or-set_same runs i run d lt)) here))
+        ];
+        ahead = λ j d inside past.
+            subst (Has n) (sym (get_or-set_other runs i j run d (λ same. omega (arith, same, past)))) (up.ahead j d (omega (arith, inside, long)) (omega (arith, past)));
+      }
 
-pub taken-all : (jobs : List Job) (every : ℕ) (trace : List ℕ) (n size i : ℕ) (runs : List JobRun) → length runs ≤ i
-    → AreTaken jobs every trace n size i runs → All (HasRun every trace (n + size)) runs
-taken-all jobs every trace n size i runs all up = λ j d lt. up.done j d lt (omega (arith, lt, all))
+  pub taken-all : (jobs : List Job) (n size i : ℕ) (runs : List R) → length runs ≤ i → AreTaken job_of Has jobs n size i runs
+      → All (Has (n + size)) runs
+  taken-all jobs n size i runs all up = λ j d lt. up.done j d lt (omega (arith, lt, all))

@@ -2,3 +2,4 @@ pub mod Taking
 pub mod Footprint
 pub mod JobRuns
 pub mod Pairs
+pub mod QueueRuns

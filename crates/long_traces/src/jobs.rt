@@ -2,6 +2,7 @@
 ghost use Rattle.std.specs.Prelude.{◌≡◌, ◌≤◌, Err, IfOk, IfSome, flat_map, map};
 ghost use Rattle.std.specs.List.{All};
 ghost use Rattle.policies.specs.Reports.{report_on};
+ghost use Rattle.policy_queues.specs.QueueRows.{queues_text as text_of};
 ghost use Rattle.streams.specs.Tally.{FailsWhere};
 ghost use Rattle.sweeps.specs.Intervals.{intervals_on};
 ghost use Rattle.trace_read.specs.ReadTrace.{IsReadWithin};
@@ -11,6 +12,7 @@ ghost use Rattle.long_traces.specs.Taking.{FollowsTrace};
 
 use crate::feed::read_taken;
 use crate::job_runs::JobRuns;
+use crate::queue_runs::QueueRuns;
 use policies::{Interval, MAX_ACTORS, Report};
 use policy_actors::run_reading_within;
 use std::alloc::Global;
@@ -88,4 +90,35 @@ pub fn intervals<R: CountedRead, G: Gate>(
     let rows = runs.rows(alloc);
     drop(runs);
     Ok(rows?)
+}
+
+/// The text of the rows of each job and of its queues over the trace that the reader gives, cut into intervals of `every`
+/// accesses, of which the last may be shorter: the header, all rows of the first job, in order, then those of the second,
+/// and so on. The jobs are as for `reports`.
+///
+/// Errors: those of `reports`.
+pub fn queues_text<R: CountedRead, G: Gate>(
+    alloc: Global,
+    reader: &mut R,
+    format: Format,
+    limits: Limits,
+    jobs: &[Job],
+    every: usize,
+    gate: &G,
+) -> Result<Vec<u8>, TraceFault>
+    requires follow { All FollowsTrace jobs.now }
+    requires some { 1 ≤ every }
+    requires accesses { limits.accesses ≤ MAX_LONG_ACCESSES }
+    requires bytes { limits.bytes ≤ MAX_LONG_TRACE_BYTES }
+    ensures text { IfOk result (λ v. IfSome (R.remaining reader.old)
+        (λ bytes. v.items ≡ text_of every jobs.now (keys_in format bytes))) }
+    ensures read { IsReadWithin limits format (R.remaining reader.old) (R.remaining reader.new) result }
+    ensures tally { FailsWhere (result ≡ Err TraceFault.Read) (R.tally reader.old) (R.tally reader.new) }
+{
+    let runs = read_taken::<Brand, R, QueueRuns, G>(
+        alloc, reader, format, limits, jobs, every, gate,
+    )?;
+    let text = runs.text(alloc);
+    drop(runs);
+    Ok(text?)
 }

@@ -8,9 +8,12 @@ abbrev pub interval_header : List ℕ
 interval_header = codes "policy,capacity,first,last,hits,misses,evictions,rejections,rate\n"
 
 -- the rate is of the interval
+abbrev pub interval_fields : Interval → List (List ℕ)
+interval_fields i = row_fields i.report (i.report.capacity ∷ i.first ∷ i.last
+    ∷ i.report.hits ∷ i.report.misses ∷ i.report.evictions ∷ i.report.rejections ∷ [])
+
 abbrev pub interval_line : Interval → List ℕ
-interval_line i = line_text (row_fields i.report (i.report.capacity ∷ i.first ∷ i.last
-    ∷ i.report.hits ∷ i.report.misses ∷ i.report.evictions ∷ i.report.rejections ∷ []))
+interval_line i = line_text (interval_fields i)
 
 unfoldable pub intervals_text : List Interval → List ℕ
 intervals_text intervals = interval_header ++ flat_map interval_line intervals

@@ -10,5 +10,5 @@ mod rows;
 
 pub use interval_rows::intervals_text;
 pub use policies::{Interval, Report};
-pub use rows::{reports_text, write_reports};
+pub use rows::{rate_text, reports_text, write_reports};
 pub use streams::WriteFault;

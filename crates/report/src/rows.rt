@@ -118,8 +118,8 @@ fn policy_name(alloc: Global, policy: Policy, sizes: Sizes) -> Result<Vec<u8>, A
     Ok(name)
 }
 
-// The rate in percent, with two decimals.
-fn rate_text(alloc: Global, rate: u128) -> Result<String, AllocError>
+/// The rate in percent, with two decimals. The one error is out of memory.
+pub fn rate_text(alloc: Global, rate: u128) -> Result<String, AllocError>
     ensures { IfOk result (λ s. string_bytes s ≡ rate_text_of rate) }
 {
     let whole = rate / 100;

@@ -1,7 +1,7 @@
 use Rattle.std.proofs.Common.{◌∙◌, ◌<◌, ◌≤◌, ap, arith, length, map}
 use Rattle.std.proofs.lemmas.List.{take_all}
 use Rattle.policies.specs.Reports.{report_on}
-use Rattle.long_traces.specs.declared.job_run.JobRun.{JobRun}
+use Rattle.long_traces.specs.JobRuns.{JobRun, HasRun}
 use Rattle.long_traces.proofs.Runs.{map-map, map-more, run-at}
 use Rattle.long_traces.proofs.job_runs.JobRuns.reports.Goals as goal
 
@@ -13,7 +13,7 @@ loop-i-preserved c = λ every trace each.
     let runs = c.args.self.now.runs.items in
     let lt : c.loop-i.i < length runs = omega (arith, c.loop-i-test.true, c.args.self.now.runs.ok.0) in
     map-more (λ (run : JobRun). report_on run.job trace) runs c.index.result.now c.loop-i.i c.loop-i.reports.items _ (report_on c.index.result.now.job trace) lt
-    (c.loop-i.invariant every trace each) (c.in_ok-add_report.ensures every trace (run-at every trace (length trace) c.loop-i.i runs c.index.result.now each lt c.index.ensures))
+    (c.loop-i.invariant every trace each) (c.in_ok-add_report.ensures every trace (run-at (HasRun every trace (length trace)) c.loop-i.i runs c.index.result.now each lt c.index.ensures))
     (ap (λ (run : JobRun). report_on run.job trace) c.index.ensures)
 
 pub returns : goal.returns

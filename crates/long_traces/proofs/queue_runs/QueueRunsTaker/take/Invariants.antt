@@ -1,0 +1,10 @@
+use Rattle.std.proofs.Common.{◌≡◌, ℕ, List, length}
+use Rattle.long_traces.specs.QueueRuns.{QueueRun, HasQueueRows, HaveQueueRows}
+use Rattle.long_traces.specs.Taking.{AreNext, Task}
+use Rattle.long_traces.proofs.Runs.{AreTaken}
+use Rattle.long_traces.proofs.queue_runs.QueueRunsTaker.take.Given as goal
+
+abbrev pub invariant-loop-i : goal.invariant-loop-i
+invariant-loop-i l = (length l.self.runs.items ≡ length l.initial.self.runs.items)
+    × ((task : Task) (trace : List ℕ) (n : ℕ) → AreNext trace n l.keys → HaveQueueRows task trace n l.initial.self
+    → AreTaken (λ (run : QueueRun). run.job) (HasQueueRows task.every trace) task.jobs n (length l.keys) l.i l.self.runs.items)

@@ -1,0 +1,146 @@
+-- The rows of an interval that is over.
+use Rattle.std.proofs.Common.{◌≡◌, ◌∙◌, ℕ, suc, ◌+◌, ◌*◌, ◌<◌, ◌≤◌, inl, inr, List, [], ◌∷◌, ◌++◌, length, take, Result, Ok, Err, OnOk, sym, ap, subst, arith, append-nil}
+use Rattle.std.specs.List.{flat_map}
+use Rattle.std.proofs.lemmas.Bool.{cases_lt}
+use Rattle.std.proofs.lemmas.Grind.{flat_map-append}
+use Rattle.std.proofs.lemmas.List.{length-take-le, take_all}
+use Rattle.engine_base.specs.Stats.{stats_of}
+use Rattle.policies.specs.declared.any_policy.AnyPolicy.{AnyPolicy}
+use Rattle.policies.specs.AnyPolicy.{Stats, Outcome, Job, HasAccessed, any_queues, outcomes_on, stats_in}
+use Rattle.policies.proofs.FirstAccesses.{first-counts}
+use Rattle.policies.proofs.StepLaws.{any_covers_trace}
+use Rattle.sweeps.specs.Intervals.{Interval, between, first_intervals, interval_at, intervals_on, IsLater}
+use Rattle.sweeps.proofs.Pieces.{next-interval, next-later}
+use Rattle.policy_comparison.proofs.CutHits.{covers-part, covers-whole}
+use Rattle.policy_queues.specs.QueuesAt.{NamedQueueData, queues_at}
+use Rattle.policy_queues.specs.QueueRows.{queue_row, queue_rows, queue_rows_on}
+use Rattle.policy_queues.specs.QueueRun.{QueueRun, AreQueueRows, EndsInterval, HasQueueRows}
+use Rattle.policy_queues.proofs.QueuesAt.{shown_queues}
+
+-- the queues of a cache that made the first accesses, of which there may be fewer
+queues-of-first : (job : Job) (trace : List ℕ) (m : ℕ) (cache : AnyPolicy) → HasAccessed job trace (take m trace) cache
+    → any_queues cache ≡ queues_at job trace (length (take m (outcomes_on job trace)))
+queues-of-first job trace m cache stands =
+    let os : List Outcome = outcomes_on job trace in
+    let long = any_covers_trace job trace in
+    elim (cases_lt (length trace) m) [
+      | inl over ↦
+          let size : ℕ = length trace in
+          let all : take m os ≡ os = take_all m os (omega (arith, long, over)) in
+          let whole : take m trace ≡ take size trace = take_all m trace (omega (arith, over)) ∙ sym (take_all size trace (omega arith)) in
+          shown_queues job trace size cache (omega arith) (subst (λ (l : List ℕ). HasAccessed job trace l cache) whole stands)
+          ∙ ap (queues_at job trace) (sym (ap (λ (l : List Outcome). length l) all ∙ long))
+      | inr within ↦
+          let size : length (take m os) ≡ m = length-take-le m os (omega (arith, long, within)) in
+          shown_queues job trace m cache within stands ∙ ap (queues_at job trace) (sym size)
+    ]
+
+-- what the cache of an interval that is over shows
+module _ (job : Job) (trace : List ℕ) (every done : ℕ) (cut : Stats) (cache : AnyPolicy) (ends : EndsInterval job trace every done cut cache) (after : Stats)
+    (is : after ≡ stats_in cache) where
+  abbrev last : ℕ
+  last = (done + 1) * every
+
+  counted : after ≡ stats_of (take last (outcomes_on job trace))
+  counted = is ∙ first-counts job trace last cache ends.stands
+
+  begun : done * every < length (outcomes_on job trace)
+  begun = omega (arith, ends.begun, any_covers_trace job trace)
+
+  pub ended-is : between job cut after ≡ interval_at job every (outcomes_on job trace) done
+  ended-is = next-interval job every done (outcomes_on job trace) cut after ends.some begun ends.counted counted
+
+  pub ended-later : IsLater cut after
+  ended-later = next-later job every done (outcomes_on job trace) cut after ends.some begun ends.counted counted
+
+  shown : any_queues cache ≡ queues_at job trace (interval_at job every (outcomes_on job trace) done).last
+  shown =
+      queues-of-first job trace last cache ends.stands
+      ∙ ap (queues_at job trace) (sym (ap (λ (s : Stats). s.accesses) counted) ∙ ap (λ (i : Interval). i.last) ended-is)
+
+  pub ended-rows : (interval : Interval) (queues : List NamedQueueData) → interval ≡ between job cut after → queues ≡ any_queues cache
+      → flat_map (queue_row interval) queues ≡ queue_rows job trace (interval_at job every (outcomes_on job trace) done)
+  unfolding queue_rows
+  ended-rows interval queues same all =
+      ap (λ (i : Interval). flat_map (queue_row i) queues) (same ∙ ended-is)
+      ∙ ap (flat_map (queue_row (interval_at job every (outcomes_on job trace) done))) (all ∙ shown)
+
+-- ---- the rows of one interval more
+
+pub rows-more : (job : Job) (trace : List ℕ) (every done : ℕ) → flat_map (queue_rows job trace) (first_intervals job every (outcomes_on job trace) done)
+    ++ queue_rows job trace (interval_at job every (outcomes_on job trace) done)
+    ≡ flat_map (queue_rows job trace) (first_intervals job every (outcomes_on job trace) (done + 1))
+rows-more job trace every done =
+    let os : List Outcome = outcomes_on job trace in
+    let next : suc done ≡ done + 1 = omega arith in
+    let rows = queue_rows job trace in
+    ap (λ (l : List ℕ). flat_map rows (first_intervals job every os done) ++ l) (sym (append-nil (rows (interval_at job every os done))))
+    ∙ sym (flat_map-append rows (first_intervals job every os done) (interval_at job every os done ∷ []))
+    ∙ ap (λ (n : ℕ). flat_map rows (first_intervals job every os n)) next
+
+-- ---- all rows, once all accesses were made
+
+pub rows-whole : (job : Job) (trace : List ℕ) (every done : ℕ) → 1 ≤ every → length trace ≡ done * every + 0
+    → flat_map (queue_rows job trace) (first_intervals job every (outcomes_on job trace) done) ≡ queue_rows_on every job trace
+unfolding queue_rows_on intervals_on
+rows-whole job trace every done some is =
+    ap (λ (n : ℕ). flat_map (queue_rows job trace) (first_intervals job every (outcomes_on job trace) n)) (sym (covers-whole done every (length trace) some is))
+
+pub rows-with-last : (job : Job) (trace : List ℕ) (every done used : ℕ) → 1 ≤ every → 0 < used → used < every → length trace ≡ done * every + used
+    → flat_map (queue_rows job trace) (first_intervals job every (outcomes_on job trace) (done + 1)) ≡ queue_rows_on every job trace
+unfolding queue_rows_on intervals_on
+rows-with-last job trace every done used some part few is =
+    ap (λ (n : ℕ). flat_map (queue_rows job trace) (first_intervals job every (outcomes_on job trace) n))
+    (sym (covers-part done every used (length trace) some part (omega (arith, few)) is))
+
+-- the last interval, where it is shorter than the others
+pub last-ends : (every : ℕ) (trace : List ℕ) (run : QueueRun) (has : HasQueueRows every trace (length trace) run) → 0 < run.used
+    → EndsInterval run.job trace run.every has.done run.cut run.cache
+last-ends every trace run has part =
+    let one : (has.done + 1) * run.every ≡ has.done * run.every + run.every = omega arith in
+    let past : length trace ≤ (has.done + 1) * run.every = omega (arith, has.place, has.used, one) in
+    let same : take (length trace) trace ≡ take ((has.done + 1) * run.every) trace =
+    take_all (length trace) trace (omega arith) ∙ sym (take_all ((has.done + 1) * run.every) trace past) in
+    record {
+      some = has.rows.some;
+      begun = omega (arith, has.place, part);
+      counted = has.rows.cut;
+      stands = subst (λ (l : List ℕ). HasAccessed run.job trace l run.cache) same has.stands;
+    }
+
+-- ---- an access that may be the last of an interval
+
+module _ (every : ℕ) (trace : List ℕ) (n : ℕ) (run : QueueRun) (has : HasQueueRows every trace n run) (within : n < length trace) (full : run.every ≤ run.used + 1)
+    (cache : AnyPolicy) (stands : HasAccessed run.job trace (take (n + 1) trace) cache) where
+  one : (has.done + 1) * run.every ≡ has.done * run.every + run.every
+  one = omega arith
+
+  all : n + 1 ≡ (has.done + 1) * run.every
+  all = omega (arith, has.place, has.used, full, one)
+
+  pub full-ends : EndsInterval run.job trace run.every has.done run.cut cache
+  full-ends = record {
+    some = has.rows.some;
+    begun = omega (arith, has.place, within);
+    counted = has.rows.cut;
+    stands = subst (λ (m : ℕ). HasAccessed run.job trace (take m trace) cache) all stands;
+  }
+
+  pub full-has : (new : QueueRun) → (new.job ≡ run.job) × (new.every ≡ run.every) × (new.cache ≡ cache) → AreQueueRows trace (has.done + 1) new → new.used ≡ 0
+      → HasQueueRows every trace (n + 1) new
+  full-has new kept rows none =
+      let same : (has.done + 1) * new.every ≡ (has.done + 1) * run.every = ap (λ (m : ℕ). (has.done + 1) * m) kept.1 in
+      record {
+        size = kept.1 ∙ has.size;
+        done = has.done + 1;
+        rows = rows;
+        stands = subst (λ (j : Job). HasAccessed j trace (take (n + 1) trace) new.cache) (sym kept.0)
+            (subst (HasAccessed run.job trace (take (n + 1) trace)) (sym kept.2) stands);
+        within = omega (arith, within);
+        place = omega (arith, all, same, none);
+        used = omega (arith, none, rows.some);
+      }
+
+pub both-on : {T E A B C : Type 0} (r : Result T E) → OnOk r A → OnOk r B → (A → B → C) → OnOk r C
+both-on (Ok v) a b f = f a b
+both-on (Err e) a b f = tt

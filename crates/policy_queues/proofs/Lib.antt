@@ -1,0 +1,3 @@
+pub mod QueuesAt
+pub mod Rows
+pub mod Ended

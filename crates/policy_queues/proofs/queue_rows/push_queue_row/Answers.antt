@@ -1,0 +1,23 @@
+use Rattle.std.proofs.Common.{◌≡◌, ◌∙◌, [], ◌∷◌, ◌++◌, ap, List, ℕ}
+use Rattle.std.specs.Prelude.{codes}
+use Rattle.std.specs.Fmt.{decimal}
+use Rattle.named_queues.specs.NamedQueue.{NamedQueueData}
+use Rattle.named_queues.specs.declared.named_queue.QueueKey.{QueueKey}
+use Rattle.streams.proofs.Results.{at_success}
+use Rattle.policy_queues.specs.QueueRows.{cell, held_in, marked_in}
+use Rattle.policy_queues.proofs.Rows.{row-added}
+use Rattle.policy_queues.proofs.queue_rows.push_queue_row.Goals as goal
+
+pub returns : goal.returns
+returns c =
+    let queue : NamedQueueData = c.args.queue.now in
+    let front : List ℕ = c.push_interval.new.text.items in
+    let named : List ℕ = c.push_pieces.new.text.items in
+    let counted : List ℕ = c.push_count.new.text.items in
+    let second : named ≡ front ++ (44 ∷ (queue.name ++ [])) =
+    c.in_ok-push_pieces.ensures ∙ ap (λ (n : List ℕ). front ++ (44 ∷ (n ++ []))) (c.as_bytes.ensures.value ∙ c.name.ensures) in
+    let third : counted ≡ named ++ (44 ∷ decimal (held_in queue)) =
+    c.in_ok-push_count.ensures ∙ ap (λ (n : ℕ). named ++ (44 ∷ decimal n)) c.held_in.ensures in
+    at_success c.push_marked.result _ _
+    (λ k. row-added c.args.text.now.items front named counted c.push_marked.new.text.items c.args.interval.now queue c.in_ok-push_interval.ensures second third
+    (k ∙ ap (λ (keys : List QueueKey). counted ++ (44 ∷ (cell (marked_in keys) ++ codes "\n"))) c.keys.ensures)) c.push_marked.ensures

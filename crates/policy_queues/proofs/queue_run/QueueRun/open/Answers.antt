@@ -1,0 +1,24 @@
+use Rattle.std.proofs.Common.{◌≡◌, ◌∙◌, ◌*◌, ℕ, ap, sym, refl, arith, take}
+use Rattle.engine_base.specs.Stats.{stats_of}
+use Rattle.policies.specs.AnyPolicy.{outcomes_on}
+use Rattle.policies.proofs.FirstAccesses.{first-counts}
+use Rattle.policy_queues.proofs.queue_run.QueueRun.open.Goals as goal
+
+pub returns-clause-rows : goal.returns-clause-rows
+returns-clause-rows c = λ other stands.
+    let job = c.args.job.now in
+    let cache = c.in_ok-cache.cache in
+    let zero : 0 * c.args.every ≡ 0 = omega arith in
+    record {
+      size = refl;
+      done = 0;
+      rows = record {
+        some = c.requires.some;
+        cut = c.stats-cut.ensures ∙ first-counts job other 0 cache stands ∙ ap (λ (n : ℕ). stats_of (take n (outcomes_on job other))) (sym zero);
+        rows = c.new-rows.ensures.items;
+      };
+      stands = stands;
+      within = omega arith;
+      place = omega (arith, zero);
+      used = omega (arith, c.requires.some);
+    }

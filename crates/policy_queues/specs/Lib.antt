@@ -1,0 +1,3 @@
+pub mod QueuesAt
+pub mod QueueRows
+pub mod QueueRun

@@ -1,0 +1,56 @@
+-- What a run of a job has of a trace whose accesses it makes in turn.
+use Rattle.std.specs.Prelude.{◌≡◌, ◌≤◌, ◌<◌, ℕ, ◌+◌, ◌*◌, List, length, take}
+use Rattle.std.specs.List.{flat_map}
+use Rattle.engine_base.specs.declared.limits.TheConstants.{MAX_STEPS}
+use Rattle.engine_base.specs.Stats.{stats_of}
+use Rattle.policies.specs.declared.any_policy.AnyPolicy.{AnyPolicy}
+use Rattle.policies.specs.AnyPolicy.{Job, Stats, HasAccessed, outcomes_on}
+use Rattle.sweeps.specs.Intervals.{first_intervals}
+pub use Rattle.policy_comparison.specs.CacheAccess.{StandsAt}
+use Rattle.policy_queues.specs.QueueRows.{queue_rows}
+pub use Rattle.policy_queues.specs.declared.queue_run.QueueRun.{QueueRun}
+
+-- so many intervals are over: it has their rows, and noted what was counted before the next one
+pub record AreQueueRows (trace : List ℕ) (done : ℕ) (run : QueueRun) : Type 0 where
+  pub some : 1 ≤ run.every
+  pub cut : run.cut ≡ stats_of (take (done * run.every) (outcomes_on run.job trace))
+  pub rows : run.rows.items
+      ≡ flat_map (queue_rows run.job trace) (first_intervals run.job run.every (outcomes_on run.job trace) done)
+
+-- its cache made the first n accesses of the trace, in intervals of this length, some of them in one that is not over
+pub record HasQueueRows (every : ℕ) (trace : List ℕ) (n : ℕ) (run : QueueRun) : Type 0 where
+  pub size : run.every ≡ every
+  pub done : ℕ
+  pub rows : AreQueueRows trace done run
+  pub stands : HasAccessed run.job trace (take n trace) run.cache
+  pub within : n ≤ length trace
+  pub place : n ≡ done * run.every + run.used
+  pub used : run.used < run.every
+
+-- so of some trace in which the key comes next
+pub record CanAccess (key : ℕ) (run : QueueRun) : Type 0 where
+  pub every : ℕ
+  pub trace : List ℕ
+  pub place : ℕ
+  pub next : StandsAt trace place key
+  pub few : length trace ≤ MAX_STEPS
+  pub has : HasQueueRows every trace place run
+
+-- The cache of the job made the accesses of one interval more than so many, of which the trace may have fewer than of
+-- another; this was counted before them.
+pub record EndsInterval (job : Job) (trace : List ℕ) (every done : ℕ) (cut : Stats) (cache : AnyPolicy) : Type 0 where
+  pub some : 1 ≤ every
+  pub begun : done * every < length trace
+  pub counted : cut ≡ stats_of (take (done * every) (outcomes_on job trace))
+  pub stands : HasAccessed job trace (take ((done + 1) * every) trace) cache
+
+-- so did the run, which has the rows of the intervals before
+pub record EndsQueueRows (trace : List ℕ) (done : ℕ) (run : QueueRun) : Type 0 where
+  pub rows : AreQueueRows trace done run
+  pub ends : EndsInterval run.job trace run.every done run.cut run.cache
+
+-- it made all accesses of some trace
+pub record HasAllQueueRows (run : QueueRun) : Type 0 where
+  pub every : ℕ
+  pub trace : List ℕ
+  pub has : HasQueueRows every trace (length trace) run

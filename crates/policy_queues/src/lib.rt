@@ -1,0 +1,15 @@
+//! The queues of a policy over a trace, as its definition has them once the first accesses are made (`QueuesAt`), and the
+//! rows of intervals with these queues.
+//!
+//! `queues_text` is the text of several jobs over a trace that is kept; a `QueueRun` makes the accesses of one job in
+//! turn, also while a trace is read. Each row is that of the interval, once a queue, with how many keys the queue holds
+//! once the interval's last access is made, and how many of these have their bit or count set.
+#![tactic(auto)]
+
+mod kept_rows;
+mod queue_rows;
+mod queue_run;
+
+pub use kept_rows::queues_text;
+pub use queue_rows::queues_header;
+pub use queue_run::QueueRun;

@@ -1,0 +1,163 @@
+//! The text of rows of intervals with a policy's queues. The one error of each call is that an allocation failed.
+ghost use Rattle.std.specs.Prelude.{◌≡◌, ◌++◌, IfOk, OnOk, codes};
+ghost use Rattle.std.specs.List.{count_by, flat_map, join_with_byte, list_any};
+ghost use Rattle.streams.specs.Texts.{count_text};
+ghost use Rattle.report.specs.IntervalText.{interval_fields};
+ghost use Rattle.policy_queues.specs.QueueRows.{cell, first_key, held_in, is_marked, is_numbered, marked_in};
+ghost use Rattle.policy_queues.specs.QueueRows.{queue_row};
+ghost use Rattle.policy_queues.specs.QueueRows.{queues_header as header_text};
+
+use named_queues::{NamedQueue, QueueKey};
+use policies::Interval;
+use report::rate_text;
+use std::alloc::{AllocError, Global};
+use step_record::push_name;
+use streams::{push_count, push_counts_line, push_pieces};
+
+/// The header.
+pub fn queues_header(alloc: Global) -> Result<Vec<u8>, AllocError>
+    ensures { IfOk result (λ text. text.items ≡ header_text) }
+{
+    Vec::from_slice(
+        alloc,
+        b"policy,capacity,first,last,hits,misses,evictions,rejections,rate,queue,held,marked\n",
+    )
+}
+
+/// Adds the row of an interval once a queue.
+pub(crate) fn push_queue_rows(
+    alloc: Global,
+    text: &mut Vec<u8>,
+    interval: &Interval,
+    queues: &[NamedQueue],
+) -> Result<(), AllocError>
+    ensures { OnOk result (text.new.items ≡ text.old.items ++ flat_map (queue_row interval.now) queues.now) }
+{
+    for queue in queues {
+        push_queue_row(alloc, text, interval, queue)?;
+    }
+    Ok(())
+}
+
+// Adds the row of an interval and of a queue.
+fn push_queue_row(
+    alloc: Global,
+    text: &mut Vec<u8>,
+    interval: &Interval,
+    queue: &NamedQueue,
+) -> Result<(), AllocError>
+    ensures { OnOk result (text.new.items ≡ text.old.items ++ queue_row interval.now queue.now) }
+{
+    push_interval(alloc, text, interval)?;
+    push_pieces(text, &[b",", queue.name().as_bytes()])?;
+    push_count(text, b",", held_in(queue))?;
+    push_marked(text, queue.keys())
+}
+
+// Adds the fields of an interval.
+fn push_interval(alloc: Global, text: &mut Vec<u8>, interval: &Interval) -> Result<(), AllocError>
+    ensures { OnOk result (text.new.items
+        ≡ text.old.items ++ join_with_byte 44 (interval_fields interval.now)) }
+{
+    let report = &interval.report;
+    push_name(text, report.policy, &report.sizes)?;
+    push_numbers(
+        text,
+        &[
+            u64::from(report.capacity),
+            interval.first,
+            interval.last,
+            report.hits,
+            report.misses,
+            report.evictions,
+            report.rejections,
+        ],
+    )?;
+    let rate = rate_text(alloc, report.rate())?;
+    push_pieces(text, &[b",", rate.as_bytes()])
+}
+
+// Adds numbers, each behind a comma.
+fn push_numbers(text: &mut Vec<u8>, numbers: &[u64]) -> Result<(), AllocError>
+    ensures { OnOk result (text.new.items
+        ≡ text.old.items ++ flat_map (count_text (codes ",")) numbers.now) }
+{
+    for number in numbers {
+        push_count(text, b",", *number)?;
+    }
+    Ok(())
+}
+
+// How many keys the queue holds, or the size that is a target.
+fn held_in(queue: &NamedQueue) -> u64
+    ensures { result ≡ held_in queue.now }
+{
+    let keys = queue.keys();
+    if queue.name() == "target" {
+        first_key(keys)
+    } else {
+        keys.len() as u64
+    }
+}
+
+// The first of the keys.
+fn first_key(keys: &[QueueKey]) -> u64
+    ensures { result ≡ first_key keys.now }
+{
+    match keys.first() {
+        Some(key) => key.key,
+        None => 0,
+    }
+}
+
+// Adds how many of the keys are marked, behind a comma, and a line feed.
+fn push_marked(text: &mut Vec<u8>, keys: &[QueueKey]) -> Result<(), AllocError>
+    ensures { OnOk result (text.new.items
+        ≡ text.old.items ++ (codes "," ++ (cell (marked_in keys.now) ++ codes "\n"))) }
+{
+    match marked_in(keys) {
+        Some(marked) => push_counts_line(text, &[(b",", marked)]),
+        None => text.extend_from_slice(b",\n"),
+    }
+}
+
+// How many of the keys are marked, where there are numbers beside them.
+fn marked_in(keys: &[QueueKey]) -> Option<u64>
+    ensures { result ≡ marked_in keys.now }
+{
+    if has_numbers(keys) {
+        Some(count_marked(keys))
+    } else {
+        None
+    }
+}
+
+// Whether there is a number beside one of the keys.
+fn has_numbers(keys: &[QueueKey]) -> bool
+    ensures { result ≡ list_any is_numbered keys.now }
+{
+    keys.iter().any(|key| key.number.is_some())
+}
+
+// How many of the keys are marked.
+fn count_marked(keys: &[QueueKey]) -> u64
+    ensures { result ≡ count_by is_marked keys.now }
+{
+    let mut marked = 0;
+    for key in keys {
+        if is_marked(key) {
+            marked += 1;
+        }
+    }
+    marked
+}
+
+// Whether a number above 0 stands beside the key.
+fn is_marked(key: &QueueKey) -> bool
+    ensures { result ≡ is_marked key.now }
+{
+    match key.number {
+        Some(number) => number > 0,
+        None => false,
+    }
+}

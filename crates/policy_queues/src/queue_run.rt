@@ -1,0 +1,132 @@
+//! A job over a trace whose accesses are made in turn, with a row for each interval and each queue.
+ghost use Rattle.std.specs.Prelude.{◌≡◌, ◌≤◌, ◌<◌, ◌+◌, ◌++◌, [], ℕ, List, Ok, IfOk, OnOk, length};
+ghost use Rattle.std.specs.Prelude.{slice_index};
+ghost use Rattle.engine_base.specs.Config.{config_fault};
+ghost use Rattle.policies.specs.AnyPolicy.{HasAccessed, outcomes_on};
+ghost use Rattle.sweeps.specs.Intervals.{interval_at};
+ghost use Rattle.policy_queues.specs.QueueRows.{queue_rows, queue_rows_on};
+ghost use Rattle.policy_queues.specs.QueueRun.{AreQueueRows, CanAccess, EndsInterval, EndsQueueRows};
+ghost use Rattle.policy_queues.specs.QueueRun.{HasAllQueueRows, HasQueueRows, StandsAt};
+
+use crate::queue_rows::push_queue_rows;
+use policies::AnyPolicy;
+use policy_comparison::hit_at;
+use std::alloc::{AllocError, Global};
+use step_record::{Job, Key, Stats, Trace};
+use sweeps::between;
+
+/// A cache of a job, with the rows of each interval that is over.
+#[derive(Drop)]
+pub struct QueueRun {
+    /// What it runs.
+    pub job: Job,
+    alloc: Global,
+    cache: AnyPolicy,
+    // How many accesses an interval has, and how many were made of the one that is not over.
+    every: usize,
+    used: usize,
+    // What was counted before that one.
+    cut: Stats,
+    rows: Vec<u8>,
+}
+
+impl QueueRun {
+    /// A run of the job over the trace before the first access, with intervals of `every` accesses. The trace is that
+    /// of the accesses only where the policy has to know it. It requires a configuration that `Config::check` accepts.
+    /// The one error is out of memory.
+    pub fn open(
+        alloc: Global,
+        job: &Job,
+        trace: &Trace,
+        every: usize,
+    ) -> Result<QueueRun, AllocError>
+        requires checked { config_fault job.now.config ≡ Ok tt }
+        requires some { 1 ≤ every }
+        ensures job { IfOk result (λ run. run.job ≡ job.now) }
+        ensures stands { IfOk result (λ run. HasAccessed job.now trace.now [] run.cache) }
+        ensures rows { IfOk result (λ run. (other : List ℕ) → HasAccessed job.now other [] run.cache
+            → HasQueueRows every other 0 run) }
+    {
+        let cache = AnyPolicy::open(alloc, job, trace)?;
+        let cut = cache.stats();
+        let rows = Vec::new(alloc);
+        Ok(QueueRun {
+            job: *job,
+            alloc,
+            cache,
+            every,
+            used: 0,
+            cut,
+            rows,
+        })
+    }
+
+    /// Makes the access to one of the keys, which come next in a trace. The one error is out of memory.
+    pub fn access(&mut self, keys: &[Key], i: usize) -> Result<(), AllocError>
+        requires below { i < length keys.now }
+        requires ready { CanAccess (slice_index keys.now i) self.old }
+        ensures job { self.new.job ≡ self.old.job }
+        ensures rows { (every : ℕ) (trace : List ℕ) (n : ℕ) → StandsAt trace n (slice_index keys.now i)
+            → HasQueueRows every trace n self.old → OnOk result (HasQueueRows every trace (n + 1) self.new) }
+    {
+        hit_at::<QueueRun>(&mut self.cache, keys, i)?;
+        self.used += 1;
+        if self.used < self.every {
+            return Ok(());
+        }
+        self.end_interval()
+    }
+
+    /// Adds all rows once all accesses were made. The one error is out of memory.
+    pub fn push_rows(&self, text: &mut Vec<u8>) -> Result<(), AllocError>
+        requires { HasAllQueueRows self.now }
+        ensures { (every : ℕ) (trace : List ℕ) → HasQueueRows every trace (length trace) self.now
+            → OnOk result (text.new.items ≡ text.old.items ++ queue_rows_on every self.now.job trace) }
+    {
+        text.extend_from_slice(self.rows.as_slice())?;
+        if self.used == 0 {
+            return Ok(());
+        }
+        push_interval_rows(self.alloc, &self.job, &self.cut, &self.cache, text)
+    }
+
+    // Ends the interval whose accesses were made. The one error is out of memory.
+    fn end_interval(&mut self) -> Result<(), AllocError>
+        requires { (trace : List ℕ) × (done : ℕ) × EndsQueueRows trace done self.old }
+        ensures kept { (self.new.job ≡ self.old.job) × (self.new.every ≡ self.old.every)
+            × (self.new.cache ≡ self.old.cache) }
+        ensures used { OnOk result (self.new.used ≡ 0) }
+        ensures rows { (trace : List ℕ) (done : ℕ) → EndsQueueRows trace done self.old
+            → OnOk result (AreQueueRows trace (done + 1) self.new) }
+    {
+        push_interval_rows(
+            self.alloc,
+            &self.job,
+            &self.cut,
+            &self.cache,
+            &mut self.rows,
+        )?;
+        self.cut = self.cache.stats();
+        self.used = 0;
+        Ok(())
+    }
+}
+
+// Adds the rows of the interval whose accesses the cache of the job made last, by what was counted before it. The one
+// error is out of memory.
+fn push_interval_rows(
+    alloc: Global,
+    job: &Job,
+    cut: &Stats,
+    cache: &AnyPolicy,
+    text: &mut Vec<u8>,
+) -> Result<(), AllocError>
+    requires { (trace : List ℕ) × (every done : ℕ) × EndsInterval job.now trace every done cut.now cache.now }
+    ensures { (trace : List ℕ) (every done : ℕ) → EndsInterval job.now trace every done cut.now cache.now
+        → OnOk result (text.new.items ≡ text.old.items
+        ++ queue_rows job.now trace (interval_at job.now every (outcomes_on job.now trace) done)) }
+{
+    let interval = between(job, cut, &cache.stats());
+    let queues = cache.named_queues(alloc)?;
+    push_queue_rows(alloc, text, &interval, queues.as_slice())
+}
