@@ -1,5 +1,6 @@
 //! Tests of what makes threads: reports of actors, sweeps, and workers over the concurrent cache, with gates that hold
-//! their calls and see the order of them. Each call is made once with ample memory.
+//! their calls and see the order of them; and of jobs over a trace that is read and not kept, within small limits. Each
+//! call is made once with ample memory.
 #![tactic(auto)]
 
 #[cfg(test)]
@@ -10,6 +11,12 @@ mod assertions;
 mod gates;
 #[cfg(test)]
 mod jobs;
+#[cfg(test)]
+mod long_traces_tests;
+#[cfg(test)]
+mod pieces;
+#[cfg(test)]
+mod queue_tests;
 #[cfg(test)]
 mod quiet_run_tests;
 #[cfg(test)]
