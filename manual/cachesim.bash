@@ -33,7 +33,7 @@ _cachesim_words() {
     'cachesim intervals:--period') echo '' ;;
     'cachesim intervals:--spread') echo 'mixed plain' ;;
     'cachesim intervals:--format') echo 'lirs arc' ;;
-    'cachesim intervals:'*) echo 'lru slru tinylfu-lru tinylfu-slru wtinylfu clairvoyant fifo clock sieve s3-fifo 2q arc caffeine car --capacity --every --main --small --in --out --period --spread --format --long -h --help' ;;
+    'cachesim intervals:'*) echo 'lru slru tinylfu-lru tinylfu-slru wtinylfu clairvoyant fifo clock sieve s3-fifo 2q arc caffeine car --capacity --every --inside --main --small --in --out --period --spread --format --long -h --help' ;;
     'cachesim part:--capacity') echo '' ;;
     'cachesim part:--main') echo '' ;;
     'cachesim part:--small') echo '' ;;
@@ -125,7 +125,7 @@ _cachesim_words() {
     'cachesim-watch:--stripes') echo '' ;;
     'cachesim-watch:--limit') echo '' ;;
     'cachesim-watch:--program') echo '<FILE>' ;;
-    'cachesim-watch:'*) echo '<FILE> -h --help --capacity --first --second --journal --format --main --spread --stripes --limit --program' ;;
+    'cachesim-watch:'*) echo '<FILE> -h --help --capacity --first --second --journal --format --main --spread --stripes --limit --open --program' ;;
     'cachesim-plot:--after') echo '' ;;
     'cachesim-plot:--sampled') echo '' ;;
     'cachesim-plot:--accesses') echo '' ;;

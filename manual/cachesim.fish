@@ -45,6 +45,7 @@ complete -c cachesim -n '__cachesim_is sweep' -s h -l help -d 'Print help (see a
 complete -c cachesim -n '__cachesim_is intervals' -a 'lru slru tinylfu-lru tinylfu-slru wtinylfu clairvoyant fifo clock sieve s3-fifo 2q arc caffeine car' -d POLICY
 complete -c cachesim -n '__cachesim_is intervals' -l capacity -x -d 'How many entries the cache holds, from 1 to 1048576'
 complete -c cachesim -n '__cachesim_is intervals' -l every -x -d 'How many accesses an interval has, from 1 to 16777216, or to 4294967295 with --long; the last one may have fewer'
+complete -c cachesim -n '__cachesim_is intervals' -l inside -d 'A row for each queue of the policy: how many keys it holds at the end of the interval, and how many have their bit or count set'
 complete -c cachesim -n '__cachesim_is intervals' -l main -x -d 'How much of the capacity of wtinylfu, and of caffeine at first, is the main part, in percent, from 0 to 99; the rest is the window'
 complete -c cachesim -n '__cachesim_is intervals' -l small -x -d 'How much of the capacity of s3-fifo is its small queue, in percent, from 1 to 99'
 complete -c cachesim -n '__cachesim_is intervals' -l in -x -d 'How much of the capacity of 2q is its queue of new keys, in percent, from 1 to 99'
@@ -136,7 +137,6 @@ complete -c cachesim-survey -l after -x -d 'leave the first N accesses out of al
 complete -c cachesim-survey -l sampled -x -d 'TRACE is from a sample by cachesim-sample, of this rate: estimate the whole trace. In place of 1/N and --accesses also a file with what cachesim-sample said of it, which has to fit exactly'
 complete -c cachesim-survey -l accesses -x -d 'with --sampled 1/N: the accesses of the whole trace. Refused where those of the sample times N are over twice as many or under half, or where it has no fewer'
 complete -c cachesim-survey -l own -r -F -d 'a Python file with policies of your own, which is run; their words are own:NAME; also more than once'
-complete -c cachesim-survey -l jump -x -d 'by how many points the hit ratio changes at least in a jump (2)'
 complete -c cachesim-survey -l format -x -a 'lirs arc' -d 'the format of the traces (lirs)'
 complete -c cachesim-survey -l long -d 'as in cachesim sweep: traces of up to 2^32 - 1 accesses, without clairvoyant'
 complete -c cachesim-survey -l halves -d 'only `best` of each half of the trace, and what the first half'\''s choice costs in the second'
@@ -171,7 +171,6 @@ complete -c cachesim-plot -l sampled -x -d 'the rows are from a sample by caches
 complete -c cachesim-plot -l accesses -x -d 'with --sampled 1/N: the accesses of the whole trace. Refused where those of the sample times N are over twice as many or under half, or where it has no fewer'
 complete -c cachesim-plot -l steps -d 'steps over however few capacities (from 30 on)'
 complete -c cachesim-plot -l y -x -d 'the vertical axis, in percent (by the data)'
-complete -c cachesim-plot -l title -x -d 'what stands above the picture'
 complete -c cachesim-plot -l trace -x -d 'the name of the trace, for the line below the title'
 complete -c cachesim-plot -l options -x -d 'the options of the call, for the same line'
 complete -c cachesim-plot -l commands -d 'print what gnuplot would be given, and draw nothing'
