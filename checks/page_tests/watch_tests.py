@@ -371,14 +371,16 @@ def check_faults(tools, program, folder):
         expect(f"{words}: {error}", (found, out, says in error, "Traceback" in error), (status, "", True, False))
 
 
-# It answers each command of `debug` by a line. The first `compare` waits behind its first access until a pipe is opened;
-# each says how many accesses it read.
+# It takes each word, and answers each command of `debug` by a line. The first `compare` waits behind its first access
+# until a pipe is opened; each says how many accesses it read.
 TWICE = """#!{python} -SE
 import os, sys
 from pathlib import Path
 if sys.argv[1] == "debug":
     for line in sys.stdin:
         print("fault: Command" if line == ".\\n" else "a", flush=True)
+    sys.exit()
+if sys.argv[1] == "run":
     sys.exit()
 text, begun = os.read(0, 2), Path({folder!r}) / "begun"
 if not begun.exists():
