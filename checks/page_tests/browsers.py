@@ -113,13 +113,18 @@ class Browser:
 KEYS = {"left": Keys.ARROW_LEFT, "right": Keys.ARROW_RIGHT}
 
 
+def hears_signals():
+    for number in (signal.SIGINT, signal.SIGHUP):
+        signal.signal(number, signal.SIG_DFL)
+
+
 @contextmanager
 def watched(tools, program, *words):
     """The address of a page of tools/watch, and its server."""
     command = [sys.executable, "-SE", tools / "watch", "--program", program, *words]
-    # What is begun in the background ignores an interrupt, and so would the server.
+    # What is begun in the background ignores an interrupt, or the end of a terminal, and so would the server.
     with subprocess.Popen([str(it) for it in command], stdin=subprocess.DEVNULL, stdout=subprocess.PIPE, text=True,
-                          preexec_fn=lambda: signal.signal(signal.SIGINT, signal.SIG_DFL)) as server:
+                          preexec_fn=hears_signals) as server:
         try:
             address = server.stdout.readline().strip()
             if not re.fullmatch(r"http://127\.0\.0\.1:\d+/\?token=[\w-]{32}", address):
