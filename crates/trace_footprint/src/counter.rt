@@ -13,7 +13,7 @@ use trace_index::KeyPlaces;
 // The numbers that are kept for blocks are below this, and so below `MAX_ACCESSES`.
 const MAX_NUMBER: u64 = 1 << 23;
 
-/// How large a trace is so far, with a number for each block that was accessed: 4 to 24 bytes a block, the fewest where
+/// How large a trace is so far, with a number for each block that was accessed: 4 to 16 bytes a block, the fewest where
 /// the blocks' own numbers are low.
 #[derive(Drop)]
 pub struct FootprintCounter {

@@ -49,7 +49,7 @@ taken-zeros (suc n) = taken-zeros n
 
 -- empty cells
 pub cells-empty : (homes len : ℕ) (keys numbers : List ℕ) → keys ≡ replicate len 0 → numbers ≡ replicate len 0 → len ≡ homes + WINDOW
-    → homes ≤ MAX_HOMES / 2 * 3 → AreCells homes 0 keys numbers
+    → homes ≤ MAX_HOMES / 9 * 10 → AreCells homes 0 keys numbers
 cells-empty homes len keys numbers k n l few =
     let none : (p : ℕ) → get_or numbers p 0 ≡ 0 = λ p. ap (λ xs. get_or xs p 0) n ∙ zeros len p in
     record {

@@ -34,14 +34,14 @@ taken (suc n ∷ numbers) = suc (taken numbers)
 abbrev pub homes_among : ℕ → ℕ
 homes_among cells = cells - WINDOW
 
--- how many cells the next table has: half as many homes again
+-- how many cells the next table has: a ninth more homes
 abbrev pub len_of_larger : ℕ → ℕ
-len_of_larger cells = max MIN_HOMES (min (homes_among cells) MAX_HOMES / 2 * 3) + WINDOW
+len_of_larger cells = max MIN_HOMES (min (homes_among cells) MAX_HOMES / 9 * 10) + WINDOW
 
--- as many cells are taken as three homes in four, and a table of so many homes grows
+-- as many cells are taken as five homes in six, and a table of so many homes grows
 abbrev pub has_few_free : List ℕ → Bool
 has_few_free numbers =
-    nat_le (homes_among (length numbers) - homes_among (length numbers) / 4) (taken numbers)
+    nat_le (homes_among (length numbers) - homes_among (length numbers) / 6) (taken numbers)
     && nat_le (homes_among (length numbers)) MAX_HOMES
 
 -- each key stands once, at its home or behind it within the window, with no empty cell between
@@ -58,7 +58,7 @@ pub record IsTable (homes : ℕ) (keys numbers : List ℕ) : Type 0 where
 pub record AreCells (homes count : ℕ) (keys numbers : List ℕ) : Type 0 where
   pub table : IsTable homes keys numbers
   pub long : homes ≡ homes_among (length numbers)
-  pub few : homes ≤ MAX_HOMES / 2 * 3
+  pub few : homes ≤ MAX_HOMES / 9 * 10
   pub counted : count ≡ taken numbers
 
 -- the first place from one to another that has the key or is empty, or the end

@@ -11,16 +11,17 @@ use std::mem;
 const MULTIPLIER: u64 = 11400714819323198485;
 
 /// A key stands among so many cells from its home on, or not in the table. So no list of keys makes a search long.
-const WINDOW: usize = 256;
+const WINDOW: usize = 1024;
 
 /// The first cells.
 const MIN_HOMES: u32 = 256;
 
-/// A table of at most so many homes grows, by half.
+/// A table of at most so many homes grows, by a ninth.
 const MAX_HOMES: u32 = 1 << 31;
 
-/// A number for each of some keys, 12 bytes a cell. A key stands in the first cell from its home on that was empty when
-/// it came: the cell of another key is mostly in the same line of the processor's cache.
+/// A number for each of some keys, 12 bytes a cell, and so 14.4 to 16 bytes a key once there are many. A key stands in the
+/// first cell from its home on that was empty when it came: the cells between are mostly in the same line of the processor's
+/// cache. A larger table takes the cells in their order, so that it may grow by little.
 #[derive(Drop)]
 pub(crate) struct KeyCells {
     // The key in each cell, and its number, 0 where the cell is empty.
@@ -57,12 +58,12 @@ impl KeyCells {
         }
     }
 
-    /// Empty cells, with half as many homes again as these have, as far as there may be more.
+    /// Empty cells, with a ninth more homes than these have, as far as there may be more.
     pub(crate) fn larger(&self) -> Result<KeyCells, AllocError>
         ensures empty { IfOk result (λ c. (k : ℕ) → number_among c k ≡ 0) }
         ensures len { IfOk result (λ c. length c.0 ≡ len_of_larger (length self.now.0)) }
     {
-        let homes = MIN_HOMES.max(self.homes.min(MAX_HOMES) / 2 * 3);
+        let homes = MIN_HOMES.max(self.homes.min(MAX_HOMES) / 9 * 10);
         let len = homes as usize + WINDOW;
         let alloc = *self.keys.allocator();
         Ok(KeyCells {
@@ -73,12 +74,12 @@ impl KeyCells {
         })
     }
 
-    /// Whether as many cells are taken as three homes in four, and there may be more.
+    /// Whether as many cells are taken as five homes in six, and there may be more.
     #[inline(always)]
     pub(crate) fn is_crowded(&self) -> bool
         ensures { result ≡ has_few_free self.now.1 }
     {
-        self.count >= self.homes - self.homes / 4 && self.homes <= MAX_HOMES
+        self.count >= self.homes - self.homes / 6 && self.homes <= MAX_HOMES
     }
 
     /// How many cells there are.
