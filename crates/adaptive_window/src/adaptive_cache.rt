@@ -5,6 +5,8 @@ ghost use Rattle.engine_base.specs.declared.limits.TheConstants.{MAX_STEPS};
 ghost use Rattle.engine_base.specs.Config.{config_fault};
 ghost use Rattle.named_queues.specs.SegmentQueues.{three_queues as three_queues_of};
 ghost use Rattle.segments.specs.Queues.{queue_holding, residents_in};
+ghost use Rattle.key_rows.specs.KeyRow.{row_of};
+ghost use Rattle.key_rows.specs.SegmentKeys.{AreKeys};
 ghost use Rattle.adaptive_window.specs.AdaptiveCache.{empty_cache, cache_act, cache_may_ask};
 
 use crate::adaptive_window::AdaptiveWindow;
@@ -154,6 +156,13 @@ impl AdaptiveCache {
         ensures { IfOk result (λ named. named.items ≡ three_queues_of self.now.window.queues) }
     {
         self.window.named_queues(alloc)
+    }
+
+    /// The number of its queue, in the order of `named_queues`, in which the key stands.
+    pub fn row_of(&self, key: Key) -> Option<usize>
+        ensures { AreKeys self.now.window.queues → result ≡ row_of key (three_queues_of self.now.window.queues) }
+    {
+        self.window.row_of(key)
     }
 }
 

@@ -4,6 +4,8 @@ ghost use Rattle.engine_base.specs.Config.{config_fault};
 ghost use Rattle.engine_base.specs.Stats.{is_hit as is_hit_of};
 ghost use Rattle.named_queues.specs.SegmentQueues.{three_queues as three_queues_of};
 ghost use Rattle.segments.specs.Queues.{queue_holding, residents_in};
+ghost use Rattle.key_rows.specs.KeyRow.{row_of};
+ghost use Rattle.key_rows.specs.SegmentKeys.{AreKeys};
 ghost use Rattle.replacement.specs.Admission.{admits_in};
 ghost use Rattle.replacement.specs.PlanMoves.{needed_by};
 ghost use Rattle.adaptive_window.specs.Climber.{AreSmallRules, caffeine_rules, first_window};
@@ -15,6 +17,7 @@ use crate::resizing::{resize, size_before, undo_runs};
 use crate::window_record::WindowRecord;
 use admission::Frequency;
 use engine_base::{Config, Item, Key, Outcome};
+use key_rows::three_queues_row;
 use named_queues::{NamedQueue, three_queues};
 use replacement::{KeptMoves, access, make_room, undo};
 use segments::{Queue, Segments};
@@ -133,6 +136,13 @@ impl AdaptiveWindow {
         ensures { IfOk result (λ named. named.items ≡ three_queues_of self.now.state.queues) }
     {
         three_queues(alloc, &self.segments)
+    }
+
+    /// The number of its queue, in the order of `named_queues`, in which the key stands.
+    pub fn row_of(&self, key: Key) -> Option<usize>
+        ensures { AreKeys self.now.state.queues → result ≡ row_of key (three_queues_of self.now.state.queues) }
+    {
+        three_queues_row(&self.segments, key)
     }
 
     /// Accesses an item, whose key the frequency already has: by the table of moves, with a window of the size in force.

@@ -15,6 +15,7 @@ use crate::fixed_design::FixedDesign;
 use crate::record::AccessRecord;
 use admission::{FreqRecord, Frequency};
 use engine_base::{Config, Engine, Item, Key, MAX_STEPS, Outcome, Stats, StepFault};
+use key_rows::{one_queue_row, three_queues_row, two_queues_row};
 use named_queues::{NamedQueue, one_queue, three_queues, two_queues};
 use queue_table::AHEAD;
 use replacement::{KeptMoves, Rules, access, make_room, open_frequency, undo};
@@ -61,6 +62,8 @@ impl<P> Model for QueueCache<P> {
 
 impl<P: Drop> QueueCache<P> {
     ghost use Rattle.segments.specs.Queues.{residents_in};
+    ghost use Rattle.key_rows.specs.KeyRow.{row_of};
+    ghost use Rattle.key_rows.specs.SegmentKeys.{AreKeys};
     ghost use Rattle.queue_cache.specs.Design.{named_in};
     ghost use Rattle.queue_cache.specs.QueueCache.{StandsFor};
     ghost use Rattle.queue_cache.specs.QueueStep.{queue_act, queue_record_of, queue_undone, queue_asks, QueueFits};
@@ -204,6 +207,18 @@ impl<P: Drop> QueueCache<P> {
             Layout::OneQueue => one_queue(alloc, &self.segments),
             Layout::TwoQueues => two_queues(alloc, &self.segments),
             Layout::ThreeQueues => three_queues(alloc, &self.segments),
+        }
+    }
+
+    /// The number of its queue, in the order of `named_queues`, in which the key stands.
+    pub fn row_of(&self, key: Key) -> Option<usize>
+        ensures { AreKeys self.now.queues
+            → result ≡ row_of key (named_in self.now.setup.design.layout self.now.queues) }
+    {
+        match self.setup.design.layout {
+            Layout::OneQueue => one_queue_row(&self.segments, key),
+            Layout::TwoQueues => two_queues_row(&self.segments, key),
+            Layout::ThreeQueues => three_queues_row(&self.segments, key),
         }
     }
 }

@@ -1,0 +1,2 @@
+pub mod KeyRow
+pub mod SegmentKeys
