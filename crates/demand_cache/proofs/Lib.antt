@@ -1,3 +1,4 @@
 pub mod Keeping
 pub mod Engine
 mod Accesses
+mod KeyRows

@@ -1,5 +1,7 @@
 -- What a policy shows under a name, from its queues by number and its own number.
-use Rattle.std.specs.Prelude.{ℕ, ◌<◌, List, [], ◌∷◌, map}
+use Rattle.std.specs.Prelude.{◌≡◌, ℕ, ◌<◌, Option, List, [], ◌∷◌, map}
+use Rattle.engine_base.specs.Keys.{has_key}
+use Rattle.key_rows.specs.KeyRow.{is_number}
 use Rattle.named_queues.specs.NamedQueue.{NamedQueueData, numbered_key, plain_queue}
 use Rattle.named_queues.specs.declared.named_queue.QueueKey.{QueueKey}
 use Rattle.policy_page.specs.Counted.{counted_keys}
@@ -24,3 +26,7 @@ abbrev pub IsLowRow : QueueRow → Type 0
 IsLowRow (Keys name q) = q < QUEUES
 IsLowRow (Counts name q) = q < QUEUES
 IsLowRow (Scalar name) = Unit {0}
+
+-- the key stands in this one of the queues by number and in no other, or in none
+abbrev pub IsQueueOf : ℕ → Queues → Option ℕ → Type 0
+IsQueueOf k s o = (q : ℕ) → has_key k (keys_of (s q)) ≡ is_number q o

@@ -5,9 +5,11 @@ ghost use Rattle.engine_base.specs.Stats.{stats_of};
 ghost use Rattle.queue_table.specs.QueueTable.{queues as queues_at};
 ghost use Rattle.engine_base.specs.Machine.{state_after_all};
 ghost use Rattle.demand_cache.specs.DemandQueues.{empty_cache, queues_residents, queues_named};
-ghost use Rattle.demand_cache.specs.QueueRow.{named_row, numbered_keys, IsLowRow};
+ghost use Rattle.demand_cache.specs.QueueRow.{named_row, numbered_keys, IsLowRow, IsQueueOf};
 ghost use Rattle.named_queues.specs.NamedQueue.{plain_key};
+ghost use Rattle.key_rows.specs.KeyRow.{has_named, is_number, row_of};
 ghost use Rattle.queue_moves.specs.Tabled.{keys_of};
+ghost use Rattle.queue_table.specs.Queues.{Queues};
 
 use crate::demand_policy::{DemandPolicy, QueueRow};
 use engine_base::{Engine, Key, MAX_STEPS, Outcome, Stats, StepFault};
@@ -175,12 +177,21 @@ impl DemandCache {
         ensures { IfOk result (λ named. named.items ≡ queues_named self.now.queues) }
     {
         self.queues.tabled();
-        let rows = self.policy.queue_rows(alloc, self.scalar)?;
         let mut named = Vec::new(alloc);
-        for row in &rows {
+        for row in self.policy.queue_rows(self.scalar) {
             push_row(alloc, &mut named, &self.queues, self.scalar, *row)?;
         }
         Ok(named)
+    }
+
+    /// The number of the first of the queues, in the order of `named_queues`, that has the key. A target has the key that
+    /// is its size.
+    pub fn row_of(&self, key: Key) -> Option<usize>
+        ensures { result ≡ row_of key (queues_named self.now.queues) }
+    {
+        self.queues.tabled();
+        let rows = self.policy.queue_rows(self.scalar);
+        first_row(rows, self.scalar, queue_of(&self.queues, key), key)
     }
 
     // Appends the resident keys.
@@ -254,6 +265,50 @@ fn push_counted(keys: &mut Vec<QueueKey>, entries: &[Entry]) -> Result<(), Alloc
         })?;
     }
     Ok(())
+}
+
+// The queue in which the key stands.
+fn queue_of(queues: &KeyQueues, key: Key) -> Option<u8>
+    ensures { IsQueueOf key (queues_at queues.now) result }
+{
+    queues.tabled();
+    match queues.find(key) {
+        Some(found) => Some(found.queue),
+        None => None,
+    }
+}
+
+// The number of the first of the rows that has the key, where this is the queue in which it stands.
+fn first_row(rows: &[QueueRow], scalar: u32, queue: Option<u8>, key: Key) -> Option<usize>
+    ensures { (s : Queues) → IsQueueOf key s queue → result ≡ row_of key (map (named_row scalar s) rows.now) }
+{
+    for i in 0..rows.len() {
+        if has_key(rows[i], scalar, queue, key) {
+            return Some(i);
+        }
+    }
+    None
+}
+
+// Whether the row has the key, where this is the queue in which it stands.
+fn has_key(row: QueueRow, scalar: u32, queue: Option<u8>, key: Key) -> bool
+    ensures { (s : Queues) → IsQueueOf key s queue → result ≡ has_named key (named_row scalar s row) }
+{
+    match row {
+        QueueRow::Keys(_, number) => is_queue(queue, number),
+        QueueRow::Counts(_, number) => is_queue(queue, number),
+        QueueRow::Scalar(_) => key == u64::from(scalar),
+    }
+}
+
+// Whether there is a queue, and it has this number.
+fn is_queue(queue: Option<u8>, number: u8) -> bool
+    ensures { result ≡ is_number number queue }
+{
+    match queue {
+        Some(queue) => queue == number,
+        None => false,
+    }
 }
 
 impl Engine for DemandCache {

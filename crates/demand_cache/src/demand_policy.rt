@@ -114,48 +114,40 @@ impl DemandPolicy {
     }
 
     /// Under which names the policy shows which queues, where this is its own number, with which some queues show a state.
-    /// The one error is that an allocation failed.
-    pub(crate) fn queue_rows(self, alloc: Global, scalar: u32) -> Result<Vec<QueueRow>, AllocError>
+    pub(crate) fn queue_rows(self, scalar: u32) -> &'static [QueueRow]
         requires { (s : Queues) × (page_of self).IsShown scalar s }
-        ensures rows { IfOk result (λ rows. (s : Queues) → map (named_row scalar s) rows.items
-            ≡ (page_of self).named_queues ((page_of self).view scalar s)) }
-        ensures low { IfOk result (λ rows. All IsLowRow rows.items) }
+        ensures rows { (s : Queues) → map (named_row scalar s) result.now
+            ≡ (page_of self).named_queues ((page_of self).view scalar s) }
+        ensures low { All IsLowRow result.now }
     {
         match self {
-            DemandPolicy::Fifo => Ok(vec![in alloc; QueueRow::Keys("queue", 0)]?),
-            DemandPolicy::Clock => Ok(vec![in alloc; QueueRow::Counts("queue", 0)]?),
-            DemandPolicy::Sieve => {
-                let ahead = queue_ahead(scalar);
-                let passed = 1 - ahead;
-                Ok(vec![in alloc;
-                    QueueRow::Counts("passed", passed),
-                    QueueRow::Counts("ahead", ahead),
-                ]?)
-            }
-            DemandPolicy::S3Fifo(_) => Ok(vec![in alloc;
+            DemandPolicy::Fifo => &[QueueRow::Keys("queue", 0)],
+            DemandPolicy::Clock => &[QueueRow::Counts("queue", 0)],
+            DemandPolicy::Sieve => sieve_rows(scalar),
+            DemandPolicy::S3Fifo(_) => &[
                 QueueRow::Counts("small", 0),
                 QueueRow::Counts("main", 1),
                 QueueRow::Keys("ghost", 2),
-            ]?),
-            DemandPolicy::TwoQ(_) => Ok(vec![in alloc;
+            ],
+            DemandPolicy::TwoQ(_) => &[
                 QueueRow::Keys("a1in", 0),
                 QueueRow::Keys("am", 2),
                 QueueRow::Keys("a1out", 1),
-            ]?),
-            DemandPolicy::Arc => Ok(vec![in alloc;
+            ],
+            DemandPolicy::Arc => &[
                 QueueRow::Keys("t1", 0),
                 QueueRow::Keys("t2", 1),
                 QueueRow::Keys("b1", 2),
                 QueueRow::Keys("b2", 3),
                 QueueRow::Scalar("target"),
-            ]?),
-            DemandPolicy::Car => Ok(vec![in alloc;
+            ],
+            DemandPolicy::Car => &[
                 QueueRow::Counts("t1", 0),
                 QueueRow::Counts("t2", 1),
                 QueueRow::Keys("b1", 2),
                 QueueRow::Keys("b2", 3),
                 QueueRow::Scalar("target"),
-            ]?),
+            ],
         }
     }
 
@@ -250,6 +242,20 @@ fn queue_ahead(scalar: u32) -> u8
     ensures { result ≡ scalar }
 {
     scalar as u8
+}
+
+// The rows of SIEVE, by the policy's own number.
+fn sieve_rows(scalar: u32) -> &'static [QueueRow]
+    requires { scalar ≤ 1 }
+    ensures rows { (s : Queues) → map (named_row scalar s) result.now
+        ≡ (page_of DemandPolicy.Sieve).named_queues ((page_of DemandPolicy.Sieve).view scalar s) }
+    ensures low { All IsLowRow result.now }
+{
+    if scalar == 0 {
+        &[QueueRow::Counts("passed", 1), QueueRow::Counts("ahead", 0)]
+    } else {
+        &[QueueRow::Counts("passed", 0), QueueRow::Counts("ahead", 1)]
+    }
 }
 
 // What is read of a step.

@@ -10,5 +10,5 @@ use Rattle.demand_cache.proofs.Keeping.{pages-sound}
 use Rattle.demand_cache.proofs.Engine.{state-shown}
 use Rattle.demand_cache.proofs.demand_cache.DemandCache.named_queues.Goals as goal
 
-pub queue_rows-requires : goal.queue_rows-requires
-queue_rows-requires c = (queues c.self.inside.queues, (state-shown pages-sound c.self.inside.policy c.self.inside.capacity c.self.inside.scalar (queues c.self.inside.queues) c.tabled.ensures c.self.invariant.least c.self.invariant.queues).0)
+pub queue_rows-row-items-requires : goal.queue_rows-row-items-requires
+queue_rows-row-items-requires c = (queues c.self.inside.queues, (state-shown pages-sound c.self.inside.policy c.self.inside.capacity c.self.inside.scalar (queues c.self.inside.queues) c.tabled.ensures c.self.invariant.least c.self.invariant.queues).0)
