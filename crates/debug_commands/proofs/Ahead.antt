@@ -1,11 +1,11 @@
 -- What is ahead in a dialogue: the text so far, and the dialogue over the bytes that still follow, whatever they are.
 use Rattle.std.proofs.Common.{◌≡◌, ◌∙◌, ◌≤◌, ◌<◌, ◌+◌, ◌-◌, ◌==◌, ℕ, Bool, true, false, inl, inr, Option, Some, None, List, [], ◌∷◌, ◌++◌, length, refl, ap, sym, subst, arith, append_assoc, length-append, true≢false}
-use Rattle.std.proofs.KnownBytes.{Appends-trans, Consumes-trans}
+use Rattle.std.proofs.KnownBytes.{Appends-nil, Appends-trans, Consumes-nil, Consumes-trans}
 use Rattle.std.proofs.lemmas.Bool.{cond-true, cond-false, eqb-true, lt-ltb, le-ltb}
 use Rattle.std.proofs.lemmas.List.{append-nil}
 use Rattle.std.proofs.lemmas.List.Elements.{All-head, All-tail, All-push}
 use Rattle.std.proofs.lemmas.List.Splits.{slice_split-cons_no}
-use Rattle.std.specs.Io.KnownBytes.{Appends, Consumes, IsAtEnd, Keeps}
+use Rattle.std.specs.Io.KnownBytes.{Appends, Consumes, IsAtEnd}
 use Rattle.std.specs.List.{onto_first}
 use Rattle.std.specs.Prelude.{◌||◌, ◌⊎◌, not, IfSome}
 use Rattle.debug_commands.specs.AnswerText.{Breakpoint, IsAnswer}
@@ -93,21 +93,13 @@ pub record IsAhead (t : TimelineData) (first : ℕ) (p : TimelinePlace) (room : 
   pub appended : Appends had has written
   pub follows : (bytes : List ℕ) → dialogue_of t first (read ++ bytes) ≡ behind written (dialogue_from t room (lines_of bytes) p)
 
-pub Consumes-none : (known : Option (List ℕ)) → Consumes known known []
-Consumes-none None = tt
-Consumes-none (Some xs) = refl
-
-pub Appends-none : (known : Option (List ℕ)) → Appends known known []
-Appends-none None = tt
-Appends-none (Some xs) = sym (append-nil xs)
-
 pub begins : (t : TimelineData) (first room : ℕ) (breaks : List Breakpoint) (given had : Option (List ℕ)) → breaks ≡ [] → room ≡ MAX_COMMAND_BYTES
     → IsAhead t first (record { at = first; breaks = breaks }) room given given had had
 begins t first room breaks given had none all = record {
   read = [];
   written = [];
-  consumed = Consumes-none given;
-  appended = Appends-none had;
+  consumed = Consumes-nil given;
+  appended = Appends-nil had;
   follows = λ bytes. sym (ap (λ r. dialogue_from t r (lines_of bytes) (record { at = first; breaks = breaks })) all
       ∙ ap (λ b. dialogue_from t MAX_COMMAND_BYTES (lines_of bytes) (record { at = first; breaks = b })) none);
 }
@@ -283,7 +275,7 @@ pub ends_at_large : {t : TimelineData} {first : ℕ} {p : TimelinePlace} {room :
     → IsAhead t first p room given left had has → IsTooLarge room left rest
     → IfSome given (λ bytes. WritesDialogue (dialogue_of t first bytes) false had has p.at)
 ends_at_large {t} {first} {p} {room} {given} {left} {rest} {had} {has} a large =
-    over t first p room given left rest had has has (large.front ++ large.byte ∷ []) (ends p false) a large.consumed (Appends-none has)
+    over t first p room given left rest had has has (large.front ++ large.byte ∷ []) (ends p false) a large.consumed (Appends-nil has)
     (always rest (λ bytes. dialogue_from t room (lines_of ((large.front ++ large.byte ∷ []) ++ bytes)) p ≡ ends p false)
     (λ bytes. large_by t p room large.byte large.front bytes (large.byte == 10) refl large.feeds large.full))
 
@@ -293,13 +285,6 @@ pub said_is : {u t : TimelineData} {d : Dialect} {slice l : List ℕ} {line : In
     → line ≡ command_line_of t.dialect l
 said_is {u} {t} {d} {slice} {l} same dialect is said =
     said ∙ ap (λ x. command_line_of x slice) (dialect ∙ ap (λ (x : TimelineData). x.dialect) same) ∙ ap (command_line_of t.dialect) is
-
--- What was written before a flush is what the output got.
-pub flushed : (old mid new : Option (List ℕ)) (bytes : List ℕ) → Appends old mid bytes → Keeps mid new → Appends old new bytes
-flushed None mid new bytes a k = tt
-flushed (Some xs) None new bytes a k = absurd a
-flushed (Some xs) (Some ys) None bytes a k = absurd k
-flushed (Some xs) (Some ys) (Some zs) bytes a k = k ∙ a
 
 -- the line as it was read from the buffer, and its answer, are those of the timeline at the start
 pub a_round : {t u : TimelineData} {first : ℕ} {p : TimelinePlace} {room less : ℕ} {given left had has : Option (List ℕ)} {fed : Bool} {l slice before text shown : List ℕ}

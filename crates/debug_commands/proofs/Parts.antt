@@ -1,40 +1,22 @@
 -- What was written of a dialogue where a call failed: a beginning of its text.
-use Rattle.std.proofs.Common.{◌≡◌, ◌∙◌, ◌≤◌, ◌+◌, ◌-◌, ℕ, Bool, true, false, Option, Some, None, List, [], ◌∷◌, ◌++◌, length, take, refl, ap, sym, subst, arith, append_assoc, true≢false}
-use Rattle.std.proofs.Math.Seq.{take-append-add}
-use Rattle.std.proofs.KnownBytes.{Appends-trans}
-use Rattle.std.proofs.lemmas.List.{append-nil, length-append, take-append-le}
+use Rattle.std.proofs.Common.{◌≡◌, ◌∙◌, ◌+◌, ◌-◌, ℕ, Bool, true, false, Option, Some, None, List, [], ◌∷◌, ◌++◌, length, refl, ap, sym, subst, arith, append_assoc}
+use Rattle.std.proofs.KnownBytes.{Consumes-nil}
+use Rattle.std.proofs.lemmas.List.{append-nil}
 use Rattle.std.specs.Io.KnownBytes.{Appends, Consumes, IsAtEnd, append_known}
-use Rattle.std.specs.Prelude.{IfSome, OnErr, Result, Ok, Err}
+use Rattle.std.specs.Prelude.{IfSome}
 use Rattle.streams.specs.Part.{AppendsPart}
 use Rattle.streams.specs.Feeds.{lines_of}
 use Rattle.streams.proofs.Feeds.{has_lines, lines_fed, one_unfed}
+use Rattle.streams.proofs.Parts.{none_sent, part_behind, part_of_more}
 use Rattle.debug_commands.specs.Answers.{Breakpoint, TimelinePlace, CommandResponse, answer_to}
 use Rattle.debug_commands.specs.Commands.{command_line_of}
 use Rattle.debug_commands.specs.Dialogue.{Dialogue, dialogue_from, dialogue_of, is_quit}
 use Rattle.debug_commands.specs.Timeline.{TimelineData}
-use Rattle.debug_commands.proofs.Ahead.{IsAhead, Round, always, at_the_end, behind, fed_read, fed_room, fed_step, last_step, quit_answer, quit_step, unfed_read, unfed_room, Appends-none, Consumes-none}
-
-pub on_err : {X Y : Type 0} {P : Type 0} (r : Result X Y) → P → OnErr r P
-on_err (Ok x) p = tt
-on_err (Err e) p = p
+use Rattle.debug_commands.proofs.Ahead.{IsAhead, Round, always, at_the_end, behind, fed_read, fed_room, fed_step, last_step, quit_answer, quit_step, unfed_read, unfed_room}
 
 pub appends_known : (known : Option (List ℕ)) (bytes : List ℕ) → Appends known (append_known known bytes) bytes
 appends_known None bytes = tt
 appends_known (Some xs) bytes = refl
-
-none_sent : (known : Option (List ℕ)) → AppendsPart known known []
-none_sent known = (0, omega arith, Appends-none known)
-
--- a beginning of what comes after a text that was written
-part_behind : (had has more : Option (List ℕ)) (w text : List ℕ) → Appends had has w → AppendsPart has more text → AppendsPart had more (w ++ text)
-part_behind had has more w text wrote (n, within, part) =
-    let few : length w + n ≤ length (w ++ text) = omega (within, length-append w text, arith) in
-    (length w + n, few, subst (Appends had more) (sym (take-append-add w text n)) (Appends-trans had has more w (take n text) wrote part))
-
-part_of_more : (old new : Option (List ℕ)) (bytes more : List ℕ) → AppendsPart old new bytes → AppendsPart old new (bytes ++ more)
-part_of_more old new bytes more (n, within, part) =
-    let few : n ≤ length (bytes ++ more) = omega (within, length-append bytes more, arith) in
-    (n, few, subst (Appends old new) (sym (take-append-le n bytes more within)) part)
 
 -- the dialogue ahead begins with this text
 abbrev IsNext : TimelineData → TimelinePlace → ℕ → List ℕ → List ℕ → List ℕ → Type 0
@@ -57,7 +39,7 @@ part_over t first p room (Some xs) (Some ys) (Some zs) had has more used text a 
 pub stops_here : {t : TimelineData} {first : ℕ} {p : TimelinePlace} {room : ℕ} {given left had has : Option (List ℕ)}
     → IsAhead t first p room given left had has → IfSome given (λ bytes. AppendsPart had has (dialogue_of t first bytes).text)
 stops_here {t} {first} {p} {room} {given} {left} {had} {has} a =
-    part_over t first p room given left left had has has [] [] a (Consumes-none left) (none_sent has)
+    part_over t first p room given left left had has has [] [] a (Consumes-nil left) (none_sent has [])
     (always left (IsNext t p room [] []) (λ bytes. ((dialogue_from t room (lines_of bytes) p).text, refl)))
 
 module _ {t : TimelineData} {first : ℕ} {p : TimelinePlace} {room less : ℕ} {given left rest had has more : Option (List ℕ)} {l text : List ℕ}

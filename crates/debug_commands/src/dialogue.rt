@@ -1,7 +1,7 @@
 //! The reading and answering of commands, a line at a time.
 ghost use Rattle.std.specs.Prelude.{◌≡◌, ◌≢◌, ◌≤◌, ◌+◌, ◌-◌, ◌++◌, ℕ, List, [], length, true, false};
 ghost use Rattle.std.specs.Prelude.{Ok, Err, IfOk, IfSome, OnOk, OnErr};
-ghost use Rattle.std.specs.Io.KnownBytes.{Appends, Consumes, IsAtEnd};
+ghost use Rattle.std.specs.Io.KnownBytes.{Consumes, IsAtEnd};
 ghost use Rattle.debug_commands.specs.Answers.{answer_to, position_line, response_to, stop_after, stop_line};
 ghost use Rattle.debug_commands.specs.AnswerText.{IsAnswer};
 ghost use Rattle.debug_commands.specs.Dialogue.{dialogue_of, is_last, WritesDialogue};
@@ -20,8 +20,8 @@ use crate::grammar;
 use crate::timeline::Timeline;
 use std::alloc::{AllocError, Global};
 use streams::{
-    CountedRead, CountedWrite, RetryBudget, WriteAllFault, flush, push_counts_line, push_pieces,
-    read_some, write_some,
+    CountedRead, CountedWrite, RetryBudget, push_counts_line, push_pieces, read_some,
+    write_all_within,
 };
 
 /// The most bytes of commands that are read, line feeds included: 2^20.
@@ -77,7 +77,7 @@ pub fn answer_commands<T: Timeline, R: CountedRead, W: CountedWrite>(
         let ended = read_line(input, &mut line, &mut room, &mut reads)?;
         let input_line = grammar::line(timeline.dialect(), line.as_slice());
         answer(alloc, timeline, &mut breaks, input_line, &mut text)?;
-        send(out, text.as_slice(), &mut writes)?;
+        write_all_within(out, text.as_slice(), &mut writes)?;
         if is_last(ended, input_line) {
             return Ok(());
         }
@@ -130,22 +130,6 @@ fn read_line<R: CountedRead>(
         }
         text.extend_from_slice(&byte)?;
     }
-}
-
-// Writes an answer and flushes. Both share the budget.
-fn send<W: CountedWrite>(
-    out: &mut W,
-    text: &[u8],
-    budget: &mut RetryBudget,
-) -> Result<(), WriteAllFault>
-    ensures bytes { OnOk result (Appends (W.contents out.old) (W.contents out.new) text.now) }
-    ensures part { OnErr result (AppendsPart (W.contents out.old) (W.contents out.new) text.now) }
-    ensures flushed { OnOk result (W.is_flushed out.new ≡ true) }
-    ensures spent { OnOk result (Spends budget.old budget.new (W.tally out.old) (W.tally out.new)) }
-    ensures exhausted { OnErr result (Exhausts budget.old (W.tally out.old) (W.tally out.new)) }
-{
-    write_some(out, text, budget)?;
-    flush(out, budget)
 }
 
 // Adds the answer to a line.

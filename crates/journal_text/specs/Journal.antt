@@ -2,7 +2,7 @@
 -- the entries.
 use Rattle.std.specs.Prelude.{◌≡◌, ◌≤◌, ℕ, Option, List, [], ◌++◌, length, codes}
 use Rattle.std.specs.List.{All, flat_map}
-use Rattle.journal_text.specs.Table.{text_of, IsLine}
+use Rattle.journal_text.specs.Table.{entry_words, text_of, FitWords, IsLine}
 use Rattle.journal_text.specs.declared.line.JournalLine.TheVariants.{Made, Steps}
 use Rattle.journal_text.specs.declared.reader.TheConstants.{MAX_JOURNAL_BYTES}
 pub use Rattle.journal_text.specs.declared.version.Version.{Version}
@@ -39,6 +39,10 @@ journal_of v es = begun v es ++ closing_line v (length es)
 -- each entry is a line of the table
 abbrev pub AreLines : Version → Entries → Type 0
 AreLines v es = All (λ e. IsLine v (Made e)) es
+
+-- the numbers of each entry are in their ranges
+abbrev pub AreFit : Entries → Type 0
+AreFit es = All (λ e. FitWords (entry_words e)) es
 
 -- the bytes are the text of these entries, in either version
 pub record IsTextOf (bytes : List ℕ) (es : Entries) : Type 0 where

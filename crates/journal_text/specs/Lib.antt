@@ -3,5 +3,4 @@ pub mod LineGrammar
 pub mod Journal
 pub mod Faults
 pub mod ReadFaults
-pub mod TextBuffer
 pub mod FaultText

@@ -2,10 +2,10 @@
 ghost use Rattle.std.specs.Prelude.{◌≡◌, ◌≤◌, ◌+◌, Err, OnOk, OnErr, [], true, vec_len, vec_capacity};
 ghost use Rattle.std.specs.Io.KnownBytes.{Appends};
 ghost use Rattle.engine_base.specs.Answers.{AnswersItsActs};
-ghost use Rattle.journal_text.specs.Journal.{begun, journal_of, AreLines};
-ghost use Rattle.journal_text.specs.TextBuffer.{AreFit, IsTextWritten};
+ghost use Rattle.journal_text.specs.Journal.{begun, journal_of, AreFit, AreLines};
 ghost use Rattle.streams.specs.Part.{AppendsPart};
 ghost use Rattle.streams.specs.Tally.{Exhausts, FailsWhere, Spends};
+ghost use Rattle.streams.specs.Waiting.{IsTextWritten};
 ghost use Rattle.journal_text.specs.declared.line_text.TheConstants.{MAX_LINE};
 ghost use Rattle.journal_text.specs.declared.writer.TheConstants.{BUFFER};
 ghost use Rattle.journal_text.specs.declared.version.Version.TheVariants.{Two};
@@ -15,7 +15,7 @@ use super::line_text::{MAX_LINE, push_bytes, push_count_line, push_entry_line};
 use engine_base::{Engine, Reply, Step};
 use journal::Session;
 use std::alloc::Global;
-use streams::{CountedWrite, RetryBudget, WriteAllFault, flush, write_some};
+use streams::{CountedWrite, RetryBudget, WriteAllFault, write_all_within, write_some};
 
 // How many bytes are gathered before they are written.
 const BUFFER: usize = 65_536;
@@ -45,8 +45,7 @@ pub fn write_journal<E: Engine<Step = Step, Reply = Reply>, W: CountedWrite>(
     write_entries(session, writer, &mut text, &mut budget)?;
     make_room_for_line(writer, &mut text, &mut budget)?;
     push_count_line(&mut text, session.len() as u64);
-    write_some(writer, text.as_slice(), &mut budget)?;
-    flush(writer, &mut budget)?;
+    write_all_within(writer, text.as_slice(), &mut budget)?;
     Ok(())
 }
 

@@ -7,3 +7,4 @@ pub mod Part
 pub mod Reads
 pub mod Tally
 pub mod Texts
+pub mod Waiting

@@ -8,7 +8,8 @@ use Rattle.debug_commands.specs.Timeline.{TimelineData}
 use Rattle.debug_commands.specs.declared.fault.DebugFault.{DebugFault}
 use Rattle.debug_commands.specs.declared.fault.DebugFault.TheVariants.{TooLarge}
 use Rattle.debug_commands.proofs.Ahead.{a_round, begins, ends_at_large, ends_here, goes_on, said_is}
-use Rattle.debug_commands.proofs.Parts.{appends_known, cut_off, on_err, stops_here}
+use Rattle.debug_commands.proofs.Parts.{appends_known, cut_off, stops_here}
+use Rattle.streams.proofs.Results.{on_err}
 use Rattle.std.specs.Io.KnownBytes.{append_known}
 use Rattle.streams.specs.Part.{AppendsPart}
 use Rattle.debug_commands.proofs.dialogue.answer_commands.Goals as goal
@@ -36,9 +37,9 @@ returns-then-is_last-clause-done g c =
     let said : c.line-input_line.result ≡ command_line_of t.dialect c.read_line.new.text.items =
     said_is c.lines.invariant.same c.dialect.ensures c.as_slice.ensures.value c.line-input_line.ensures in
     ends_here
-    (a_round (g.R.CountedRead.remaining c.read_line.new.input) (g.W.CountedWrite.contents c.send.new.out) c.lines.invariant.ahead c.lines.invariant.same
+    (a_round (g.R.CountedRead.remaining c.read_line.new.input) (g.W.CountedWrite.contents c.write_all_within.new.writer) c.lines.invariant.ahead c.lines.invariant.same
     c.dialect.ensures c.as_slice.ensures.value c.line-input_line.ensures c.clear-in-lines.ensures.items c.in_ok-answer.ensures.answer
-    c.in_ok-ended.ensures.read c.in_ok-ended.ensures.feeds c.in_ok-ended.ensures.room c.as_slice-in-lines.ensures.value c.in_ok-send.ensures.bytes)
+    c.in_ok-ended.ensures.read c.in_ok-ended.ensures.feeds c.in_ok-ended.ensures.room c.as_slice-in-lines.ensures.value c.in_ok-write_all_within.ensures.bytes)
     (sym (c.is_last.ensures ∙ ap (is_last c.in_ok-ended.ended) said) ∙ c.if-is_last.true) (λ none. c.in_ok-ended.ensures.end (ap Ok none))
 
 pub lines-preserved : goal.lines-preserved
@@ -51,12 +52,12 @@ lines-preserved g c =
       usable = c.in_ok-answer.ensures.kept.0;
       same = c.in_ok-answer.ensures.kept.1 ∙ c.lines.invariant.same;
       ahead = goes_on
-          (a_round (g.R.CountedRead.remaining c.read_line.new.input) (g.W.CountedWrite.contents c.send.new.out) c.lines.invariant.ahead c.lines.invariant.same
+          (a_round (g.R.CountedRead.remaining c.read_line.new.input) (g.W.CountedWrite.contents c.write_all_within.new.writer) c.lines.invariant.ahead c.lines.invariant.same
           c.dialect.ensures c.as_slice.ensures.value c.line-input_line.ensures c.clear-in-lines.ensures.items c.in_ok-answer.ensures.answer
-          c.in_ok-ended.ensures.read c.in_ok-ended.ensures.feeds c.in_ok-ended.ensures.room c.as_slice-in-lines.ensures.value c.in_ok-send.ensures.bytes)
+          c.in_ok-ended.ensures.read c.in_ok-ended.ensures.feeds c.in_ok-ended.ensures.room c.as_slice-in-lines.ensures.value c.in_ok-write_all_within.ensures.bytes)
           (sym (c.is_last.ensures ∙ ap (is_last c.in_ok-ended.ended) said) ∙ c.if-is_last.false);
       reads = further _ _ _ _ _ _ c.lines.invariant.reads (c.in_ok-ended.ensures.spent (λ same. absurd (cc same)));
-      writes = further _ _ _ _ _ _ c.lines.invariant.writes c.in_ok-send.ensures.spent;
+      writes = further _ _ _ _ _ _ c.lines.invariant.writes c.in_ok-write_all_within.ensures.spent;
     }
 
 pub returns-in_err-answer-clause-reads : goal.returns-in_err-answer-clause-reads
@@ -65,14 +66,14 @@ returns-in_err-answer-clause-reads g c = grind (arith, common_steps)
 pub returns-in_err-answer-clause-writes : goal.returns-in_err-answer-clause-writes
 returns-in_err-answer-clause-writes g c = grind (arith, common_steps)
 
-pub returns-in_err-send-clause-source : goal.returns-in_err-send-clause-source
-returns-in_err-send-clause-source g c = grind (arith, common_steps)
+pub returns-in_err-write_all_within-clause-source : goal.returns-in_err-write_all_within-clause-source
+returns-in_err-write_all_within-clause-source g c = grind (arith, common_steps)
 
-pub returns-in_err-send-clause-usable : goal.returns-in_err-send-clause-usable
-returns-in_err-send-clause-usable g c = grind (arith, common_steps)
+pub returns-in_err-write_all_within-clause-usable : goal.returns-in_err-write_all_within-clause-usable
+returns-in_err-write_all_within-clause-usable g c = grind (arith, common_steps)
 
-pub returns-in_err-send-clause-writes : goal.returns-in_err-send-clause-writes
-returns-in_err-send-clause-writes g c = grind (arith, common_steps)
+pub returns-in_err-write_all_within-clause-writes : goal.returns-in_err-write_all_within-clause-writes
+returns-in_err-write_all_within-clause-writes g c = grind (arith, common_steps)
 
 pub returns-then-is_last-clause-reads : goal.returns-then-is_last-clause-reads
 returns-then-is_last-clause-reads g c = grind (arith, common_steps)
@@ -86,12 +87,12 @@ returns-in_err-ended-clause-part g c = on_err c.from_residual.result (stops_here
 pub returns-in_err-answer-clause-part : goal.returns-in_err-answer-clause-part
 returns-in_err-answer-clause-part g c = on_err c.from_residual-in_err-answer.result (stops_here c.lines.invariant.ahead)
 
-pub returns-in_err-send-clause-part : goal.returns-in_err-send-clause-part
-returns-in_err-send-clause-part g c =
+pub returns-in_err-write_all_within-clause-part : goal.returns-in_err-write_all_within-clause-part
+returns-in_err-write_all_within-clause-part g c =
     let has = g.W.CountedWrite.contents c.lines.out in
     let shown = c.as_slice-in-lines.result.now in
-    on_err c.from_residual-in_err-send.result (cut_off (g.W.CountedWrite.contents c.send.new.out) c.in_ok-ended.ended
+    on_err c.from_residual-in_err-write_all_within.result (cut_off (g.W.CountedWrite.contents c.write_all_within.new.writer) c.in_ok-ended.ended
     (a_round (g.R.CountedRead.remaining c.read_line.new.input) (append_known has shown) c.lines.invariant.ahead c.lines.invariant.same
     c.dialect.ensures c.as_slice.ensures.value c.line-input_line.ensures c.clear-in-lines.ensures.items c.in_ok-answer.ensures.answer
     c.in_ok-ended.ensures.read c.in_ok-ended.ensures.feeds c.in_ok-ended.ensures.room c.as_slice-in-lines.ensures.value (appends_known has shown))
-    (λ none. c.in_ok-ended.ensures.end (ap Ok none)) (subst (AppendsPart has (g.W.CountedWrite.contents c.send.new.out)) c.as_slice-in-lines.ensures.value c.in_err-send.ensures.part))
+    (λ none. c.in_ok-ended.ensures.end (ap Ok none)) (subst (AppendsPart has (g.W.CountedWrite.contents c.write_all_within.new.writer)) c.as_slice-in-lines.ensures.value c.in_err-write_all_within.ensures.part))

@@ -1,20 +1,17 @@
 use Rattle.std.proofs.lemmas.Grind.{common_steps}
 use Rattle.std.proofs.Common.{◌≡◌, ◌∙◌, ◌+◌, ◌-◌, ◌++◌, ◌∷◌, [], List, ℕ, zero, suc, Some, ap, sym, subst, arith, take}
 use Rattle.std.proofs.lemmas.List.Elements.{All-nil, All-push}
-use Rattle.std.specs.Prelude.{slice_get, OnErr, Result, Ok, Err}
-use Rattle.journal_text.specs.Journal.{begun, ended_line, entry_line, header}
+use Rattle.std.specs.Prelude.{slice_get}
+use Rattle.journal_text.specs.Journal.{begun, ended_line, entry_line, header, AreFit}
 use Rattle.journal_text.specs.Table.{entry_words, FitWords}
-use Rattle.journal_text.specs.TextBuffer.{AreFit}
 use Rattle.journal_text.specs.declared.version.Version.TheVariants.{Two}
+use Rattle.streams.proofs.Parts.{part_of_more}
+use Rattle.streams.proofs.Results.{on_err}
 use Rattle.streams.proofs.Tallies.{further, unspent}
+use Rattle.streams.proofs.Waiting.{broken, gathered, passed, started}
 use Rattle.streams.specs.Part.{AppendsPart}
 use Rattle.journal_text.proofs.Fronts.{begun_front, begun_more, begun_none}
-use Rattle.journal_text.proofs.Written.{broken, gathered, part_of_more, passed, started}
 use Rattle.journal_text.proofs.writer.write_entries.Goals as goal
-
-on_err : {X Y : Type 0} {P : Type 0} (r : Result X Y) → P → OnErr r P
-on_err (Ok x) p = tt
-on_err (Err e) p = p
 
 taken : {A : Type 0} (xs : List A) (n : ℕ) (x : A) → slice_get xs n ≡ Some x → take (suc n) xs ≡ take n xs ++ x ∷ []
 taken [] n x h = absurd (cc)

@@ -1,9 +1,9 @@
 use Rattle.std.proofs.Common.{◌≤◌, take, vec_capacity}
-use Rattle.journal_text.specs.Journal.{begun}
-use Rattle.journal_text.specs.TextBuffer.{AreFit, IsTextWritten}
+use Rattle.journal_text.specs.Journal.{begun, AreFit}
 use Rattle.journal_text.specs.declared.version.Version.TheVariants.{Two}
 use Rattle.journal_text.specs.declared.writer.TheConstants.{BUFFER}
 use Rattle.streams.specs.Tally.{Spends}
+use Rattle.streams.specs.Waiting.{IsTextWritten}
 use Rattle.journal_text.proofs.writer.write_entries.Given as goal
 
 abbrev pub invariant-loop-n : goal.invariant-loop-n

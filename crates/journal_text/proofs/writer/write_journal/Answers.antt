@@ -1,13 +1,14 @@
-use Rattle.std.proofs.Common.{◌≡◌, ◌≤◌, ◌∙◌, ◌++◌, length, ap, arith, refl, subst, sym}
-use Rattle.std.proofs.lemmas.List.{take_all}
+use Rattle.std.proofs.Common.{◌≡◌, ◌∙◌, ◌++◌, length, ap, refl, subst}
 use Rattle.std.specs.Io.KnownBytes.{Appends}
 use Rattle.journal_text.specs.Journal.{begun, ended_line, journal_of}
-use Rattle.journal_text.specs.TextBuffer.{IsTextWritten}
 use Rattle.journal_text.specs.Table.{text_of}
 use Rattle.journal_text.specs.declared.line.JournalLine.TheVariants.{Steps}
 use Rattle.journal_text.specs.declared.version.Version.TheVariants.{Two}
-use Rattle.journal_text.proofs.Written.{broken, finished, gathered, lines_of_two, part_of_more, passed}
+use Rattle.journal_text.proofs.Written.{lines_of_two}
 use Rattle.streams.specs.Part.{AppendsPart}
+use Rattle.streams.specs.Waiting.{IsTextWritten}
+use Rattle.streams.proofs.Parts.{part_of_more}
+use Rattle.streams.proofs.Waiting.{broken, finished, gathered, passed}
 use Rattle.journal_text.proofs.writer.write_journal.Goals as goal
 use Rattle.journal_text.proofs.writer.write_journal.Goals.{After-push_count_line}
 
@@ -27,14 +28,8 @@ made g c =
 
 pub returns-clause-text : goal.returns-clause-text
 returns-clause-text g c =
-    let kept = c.args.session.now.kept in
-    let old = g.W.CountedWrite.contents c.args.writer.now in
-    let mid = g.W.CountedWrite.contents c.make_room_for_line.new.writer in
-    let new = g.W.CountedWrite.contents c.write_some.new.writer in
-    let last = g.W.CountedWrite.contents c.flush.new.writer in
-    let all = made g (goal.at.returns-clause-text g c).After-push_count_line in
-    finished old mid new last c.push_count_line.new.text.items (journal_of Two kept) all
-    (subst (Appends mid new) c.as_slice.ensures.value c.in_ok-write_some.ensures.bytes) c.in_ok-flush.ensures.bytes
+    finished _ _ _ c.push_count_line.new.text.items _ (made g (goal.at.returns-clause-text g c).After-push_count_line)
+    (subst (Appends _ _) c.as_slice.ensures.value c.in_ok-write_all_within.ensures.bytes)
 
 pub returns-clause-lines : goal.returns-clause-lines
 returns-clause-lines g c = λ answers.
@@ -42,34 +37,10 @@ returns-clause-lines g c = λ answers.
 
 pub returns-in_err-make_room_for_line-clause-part : goal.returns-in_err-make_room_for_line-clause-part
 returns-in_err-make_room_for_line-clause-part g c = λ failed.
-    let kept = c.args.session.now.kept in
-    let old = g.W.CountedWrite.contents c.args.writer.now in
-    let first = g.W.CountedWrite.contents c.write_entries.new.writer in
-    let mid = g.W.CountedWrite.contents c.make_room_for_line.new.writer in
-    part_of_more old mid (begun Two kept) _
-    (broken old first mid c.write_entries.new.text.items (begun Two kept) c.in_ok-write_entries.ensures.written c.in_err-make_room_for_line.ensures.part)
+    part_of_more _ _ (begun Two c.args.session.now.kept) _
+    (broken _ _ _ c.write_entries.new.text.items _ c.in_ok-write_entries.ensures.written c.in_err-make_room_for_line.ensures.part)
 
-pub returns-in_err-write_some-clause-part : goal.returns-in_err-write_some-clause-part
-returns-in_err-write_some-clause-part g c = λ failed.
-    let kept = c.args.session.now.kept in
-    let old = g.W.CountedWrite.contents c.args.writer.now in
-    let mid = g.W.CountedWrite.contents c.make_room_for_line.new.writer in
-    let new = g.W.CountedWrite.contents c.write_some.new.writer in
-    let all = made g (goal.at.returns-in_err-write_some-clause-part g c).After-push_count_line in
-    broken old mid new c.push_count_line.new.text.items (journal_of Two kept) all (subst (AppendsPart mid new) c.as_slice.ensures.value c.in_err-write_some.ensures.part)
-
-pub returns-in_err-flush-clause-part : goal.returns-in_err-flush-clause-part
-returns-in_err-flush-clause-part g c = λ failed.
-    let kept = c.args.session.now.kept in
-    let old = g.W.CountedWrite.contents c.args.writer.now in
-    let mid = g.W.CountedWrite.contents c.make_room_for_line.new.writer in
-    let new = g.W.CountedWrite.contents c.write_some.new.writer in
-    let last = g.W.CountedWrite.contents c.flush.new.writer in
-    let all = made g (goal.at.returns-in_err-flush-clause-part g c).After-push_count_line in
-    let text = journal_of Two kept in
-    let n : length text ≤ length text = omega arith in (
-      length text,
-      n,
-      subst (Appends old last) (sym (take_all (length text) text n))
-          (finished old mid new last c.push_count_line.new.text.items text all (subst (Appends mid new) c.as_slice.ensures.value c.in_ok-write_some.ensures.bytes) c.in_err-flush.ensures.err),
-    )
+pub returns-in_err-write_all_within-clause-part : goal.returns-in_err-write_all_within-clause-part
+returns-in_err-write_all_within-clause-part g c = λ failed.
+    broken _ _ _ c.push_count_line.new.text.items _ (made g (goal.at.returns-in_err-write_all_within-clause-part g c).After-push_count_line)
+    (subst (AppendsPart _ _) c.as_slice.ensures.value c.in_err-write_all_within.ensures.part)
