@@ -1,9 +1,8 @@
 -- How the writing of a sample ends.
-use Rattle.std.proofs.Common.{◌≡◌, ◌+◌, ℕ, Bool, List, length, Option, Result, Ok, Err, subst}
+use Rattle.std.proofs.Common.{◌≡◌, ◌+◌, ℕ, Bool, List, length, Option, Ok, Err, subst}
 use Rattle.trace_read.proofs.Readings.{read_as, read_at_end}
 use Rattle.std.specs.Prelude.{IfSome}
 use Rattle.std.specs.Io.KnownBytes.{IsAtEnd}
-use Rattle.streams.specs.Part.{AppendsPart}
 use Rattle.streams.specs.Tally.{FailsWhere}
 use Rattle.streams.specs.declared.tally.Tally.{Tally}
 use Rattle.trace_read.specs.Reading.{GivesNext}
@@ -12,12 +11,12 @@ use Rattle.trace_read.specs.TraceText.{keys_in}
 use Rattle.trace_read.specs.declared.fault.TraceFault.{TraceFault}
 use Rattle.trace_read.specs.declared.limits.Limits.{Limits}
 use Rattle.trace_read.specs.declared.limits.TheConstants.Limits.{LONG}
-use Rattle.trace_read.specs.declared.fault.TraceFault.TheVariants.{OutOfMemory, Read}
+use Rattle.trace_read.specs.declared.fault.TraceFault.TheVariants.{OutOfMemory}
 use Rattle.trace_sample.specs.Kept.{Kept, Keeps}
-use Rattle.trace_sample.specs.Numbers.{numbers_text}
 use Rattle.trace_sample.specs.Sample.{sample_of}
-use Rattle.trace_sample.specs.Written.{Format, SampleCounts, SampleFault, SampleRule, IsFaultless, IsSampleFault, IsSampleWritten}
-use Rattle.trace_sample.specs.declared.fault.SampleFault.TheVariants.{Trace, Write}
+use Rattle.trace_sample.specs.Written.{Format, IsFaultless, IsSampleFault}
+use Rattle.trace_sample.specs.declared.rule.SampleRule.{SampleRule}
+use Rattle.trace_sample.specs.declared.fault.SampleFault.TheVariants.{Trace}
 use Rattle.trace_sample.proofs.Sampled.{IsSampled, both, sampled_more}
 
 -- a fault of the reading at the limits of a long trace is one of the sample
@@ -30,14 +29,6 @@ pub read_all : (limits : Limits) (format own : Format) (old new : Option (List �
     → IsReadWithin {T = Bool} limits format old new (Ok more) → IsFaultless own old × IsAtEnd new
 read_all limits format own old new more long same is =
     let here = read_at_end {A = Bool} limits LONG format own old new more more long same is in (here.ok, here.end)
-
--- an error, where the text that was written is a beginning
-pub ended_early : (rule : SampleRule) (format : Format) (old new : Option (List ℕ)) (first last : Tally) (start finish : Option (List ℕ)) (unwritten written : Tally) (is_flushed : Bool) (e : SampleFault)
-    → IfSome old (λ bytes. AppendsPart start finish (numbers_text (sample_of rule.inverse rule.seed (keys_in format bytes)))) → IsSampleFault format old new e
-    → FailsWhere (◌≡◌ {A = Result SampleCounts SampleFault} (Err e) (Err (Trace Read))) first last → FailsWhere (◌≡◌ {A = Result SampleCounts SampleFault} (Err e) (Err Write)) unwritten written
-    → IsSampleWritten rule format old new first last start finish unwritten written is_flushed (Err e)
-ended_early rule format old new first last start finish unwritten written is_flushed e part fault reads writes =
-    record { sound = tt; text = tt; counts = tt; end = tt; flushed = tt; part = part; fault = fault; reads = reads; writes = writes }
 
 -- ---- a piece more
 

@@ -1,54 +1,25 @@
 -- What a sample has written and kept of the first accesses of a trace.
-use Rattle.std.proofs.Common.{◌≡◌, ◌∙◌, ◌≤◌, ◌+◌, ◌++◌, ◌==◌, ◌||◌, ℕ, List, [], length, take, drop, Option, Some, None, IfSome, ap, sym, subst, append_assoc, append-nil, refl, arith}
+use Rattle.std.proofs.Common.{◌≡◌, ◌∙◌, ◌+◌, ◌++◌, ◌==◌, ◌||◌, ℕ, List, [], length, take, drop, Option, Some, None, IfSome, ap, sym, subst, append-nil, refl, arith}
 use Rattle.std.specs.HashSet.{contains}
 use Rattle.std.specs.List.{IsDistinct, list_any}
 use Rattle.std.specs.Set.{is_member}
 use Rattle.std.specs.Io.KnownBytes.{Appends}
-use Rattle.std.proofs.KnownBytes.{Appends-nil, Appends-trans}
-use Rattle.std.proofs.Math.Seq.{take-add, take-append-add}
+use Rattle.std.proofs.Math.Seq.{take-add}
 use Rattle.std.proofs.lemmas.Cmp.{nat_eq_equiv}
 use Rattle.std.proofs.lemmas.Map.Made.{length-from_keys}
-use Rattle.std.proofs.lemmas.List.{length-append, take-append-drop, take-append-le, take_all}
+use Rattle.std.proofs.lemmas.List.{length-append, take-append-drop, take_all}
 use Rattle.std.proofs.lemmas.List.Elements.{filter-append}
 use Rattle.std.proofs.lemmas.List.Folds.{list_any-append}
+use Rattle.streams.proofs.Parts.{none_sent, part_of_more}
+use Rattle.streams.proofs.Waiting.{broken, gathered, passed, started}
 use Rattle.streams.specs.Part.{AppendsPart}
+use Rattle.streams.specs.Waiting.{IsTextWritten}
 use Rattle.trace_sample.specs.Hash.{is_sampled}
 use Rattle.trace_sample.specs.Kept.{Kept, HasNothing, Keeps}
 use Rattle.trace_sample.specs.Numbers.{numbers_text}
 use Rattle.trace_sample.specs.Sample.{block_count, sample_of, sample_up_to}
-use Rattle.trace_sample.specs.Waiting.{IsTextWritten}
 use Rattle.trace_sample.specs.Written.{Counts, SampleCounts}
 use Rattle.trace_sample.proofs.Sampling.{numbers-append}
-
--- ---- a text that waits in a buffer (as in journal_text)
-
--- more was gathered
-gathered : (old new : Option (List ℕ)) (waiting now more bytes all : List ℕ) → now ≡ waiting ++ more → all ≡ bytes ++ more
-    → IsTextWritten old new waiting bytes → IsTextWritten old new now all
-gathered old new waiting now more bytes all n a (sent, is, wrote) =
-    (sent, a ∙ ap (λ b. b ++ more) is ∙ append_assoc sent waiting more ∙ ap (λ w. sent ++ w) (sym n), wrote)
-
--- of what waits some was written, or nothing
-passed : (old mid new : Option (List ℕ)) (waiting now bytes : List ℕ) → IsTextWritten old mid waiting bytes
-    → IsTextWritten mid new now waiting → IsTextWritten old new now bytes
-passed old mid new waiting now bytes (first, is, wrote) (more, rest, then) =
-    (first ++ more, is ∙ ap (λ w. first ++ w) rest ∙ sym (append_assoc first more now), Appends-trans old mid new first more wrote then)
-
-none_of : (now : Option (List ℕ)) (bytes : List ℕ) → AppendsPart now now bytes
-none_of now bytes = (0, omega arith, Appends-nil now)
-
--- a beginning of what waits is written
-broken : (old mid new : Option (List ℕ)) (waiting bytes : List ℕ) → IsTextWritten old mid waiting bytes → AppendsPart mid new waiting → AppendsPart old new bytes
-broken old mid new waiting bytes (sent, is, wrote) (n, within, part) =
-    let few : length sent + n ≤ length bytes = omega (within, ap (λ (b : List ℕ). length b) is ∙ length-append sent waiting, arith) in
-    let taken : take (length sent + n) bytes ≡ sent ++ take n waiting = ap (take (length sent + n)) is ∙ take-append-add sent waiting n in
-    (length sent + n, few, subst (Appends old new) (sym taken) (Appends-trans old mid new sent (take n waiting) wrote part))
-
--- a beginning of these bytes is one of more
-part_of_more : (old new : Option (List ℕ)) (bytes more : List ℕ) → AppendsPart old new bytes → AppendsPart old new (bytes ++ more)
-part_of_more old new bytes more (n, within, part) =
-    let few : n ≤ length (bytes ++ more) = omega (within, length-append bytes more, arith) in
-    (n, few, subst (Appends old new) (sym (take-append-le n bytes more within)) part)
 
 -- ---- the sample of the first accesses
 
@@ -75,7 +46,7 @@ module _ (inverse seed : ℕ) where
   nothing_sampled kept start all none = record {
     counted = none.accesses;
     blocks = λ q. ap (λ k. list_any (λ x. q == x) k) none.blocks;
-    text = ([], no_text ∙ sym none.text, Appends-nil start);
+    text = started start kept.text.items _ (none.text ∙ sym no_text);
   }
 
   -- those of the first accesses, and those of the next
@@ -117,7 +88,7 @@ module _ (inverse seed : ℕ) where
 
   pub sampled_so_far : (taken : ℕ) (all : List ℕ) (kept : Kept) (start now : Option (List ℕ)) → IsSampled inverse seed taken kept start now all
       → AppendsPart start now (numbers_text (sample_of inverse seed all))
-  sampled_so_far taken all kept start now is = sampled_part taken all kept start now now (none_of now kept.text.items) is
+  sampled_so_far taken all kept start now is = sampled_part taken all kept start now now (none_sent now kept.text.items) is
 
   -- of all accesses, where nothing waits
   pub sampled_all : (taken : ℕ) (all : List ℕ) (kept : Kept) (start now : Option (List ℕ)) → taken ≡ length all → kept.text.items ≡ [] → IsSampled inverse seed taken kept start now all

@@ -3,4 +3,3 @@ pub mod Kept
 pub mod Numbers
 pub mod Sample
 pub mod Written
-pub mod Waiting

@@ -3,20 +3,17 @@ ghost use Rattle.std.specs.Prelude.{◌≡◌, ◌≤◌, [], Err, IfErr, IfOk, 
 ghost use Rattle.std.specs.Io.KnownBytes.{Appends, IsAtEnd};
 ghost use Rattle.streams.specs.Part.{AppendsPart};
 ghost use Rattle.streams.specs.Tally.{Exhausts, FailsWhere, Spends};
-ghost use Rattle.trace_read.specs.Reading.{IsReading, given_by};
+ghost use Rattle.streams.specs.Waiting.{IsTextWritten};
 ghost use Rattle.trace_read.specs.TraceText.{keys_in};
-ghost use Rattle.trace_read.specs.declared.limits.TheConstants.Limits.{LONG};
-ghost use Rattle.trace_sample.specs.Kept.{HasNothing};
 ghost use Rattle.trace_sample.specs.Numbers.{numbers_text};
 ghost use Rattle.trace_sample.specs.Sample.{sample_of};
-ghost use Rattle.trace_sample.specs.Waiting.{IsTextWritten};
-ghost use Rattle.trace_sample.specs.Written.{Counts, IsFaultless, IsSampleFault, IsSampleWritten};
+ghost use Rattle.trace_sample.specs.Written.{Counts, IsFaultless, IsSampleFault};
 
 use crate::counts::SampleCounts;
 use crate::fault::SampleFault;
 use crate::kept::Kept;
 use crate::rule::SampleRule;
-use engine_base::{Gate, Key};
+use engine_base::Gate;
 use std::alloc::Global;
 use streams::{CountedRead, CountedWrite, RetryBudget, WriteAllFault, flush, write_some};
 use trace_read::{Format, Limits, Reading, TraceFault};
@@ -56,30 +53,10 @@ pub fn write_sample<R: CountedRead, W: CountedWrite, G: Gate>(
     let mut reading = Reading::new(alloc, format, Limits::LONG);
     let mut kept = Kept::new(alloc, rule);
     let mut keys = Vec::new(alloc);
-    write_pieces(reader, &mut reading, &mut keys, &mut kept, writer, gate)
-}
-
-// The same by a reading that is before the first byte, where nothing is kept yet.
-fn write_pieces<R: CountedRead, W: CountedWrite, G: Gate>(
-    reader: &mut R,
-    reading: &mut Reading,
-    keys: &mut Vec<Key>,
-    kept: &mut Kept,
-    writer: &mut W,
-    gate: &G,
-) -> Result<SampleCounts, SampleFault>
-    requires reading { IsReading (R.remaining reader.old) (R.remaining reader.old) (R.tally reader.old) (R.tally reader.old) reading.old }
-    requires long { reading.old.limits ≡ LONG }
-    requires first { given_by reading.old ≡ 0 }
-    requires none { HasNothing kept.old }
-    ensures { IsSampleWritten kept.old.test.rule reading.old.format (R.remaining reader.old) (R.remaining reader.new)
-        (R.tally reader.old) (R.tally reader.new) (W.contents writer.old) (W.contents writer.new) (W.tally writer.old)
-        (W.tally writer.new) (W.is_flushed writer.new) result }
-{
     let mut budget = RetryBudget::new();
     let mut accesses = 0;
     'pieces: loop {
-        let more = match reading.next(reader, keys) {
+        let more = match reading.next(reader, &mut keys) {
             Ok(more) => more,
             Err(fault) => return Err(SampleFault::Trace(fault)),
         };
@@ -88,7 +65,7 @@ fn write_pieces<R: CountedRead, W: CountedWrite, G: Gate>(
         }
         accesses += keys.len() as u64;
         gate.after(0, accesses);
-        if let Err(_) = pass_on(kept, more, writer, &mut budget) {
+        if let Err(_) = pass_on(&mut kept, more, writer, &mut budget) {
             return Err(SampleFault::Write);
         }
         if !more {

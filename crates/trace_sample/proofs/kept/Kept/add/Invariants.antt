@@ -3,12 +3,9 @@ use Rattle.trace_sample.specs.Kept.{Keeps}
 use Rattle.trace_sample.specs.Sample.{sample_of}
 use Rattle.trace_sample.proofs.kept.Kept.add.Given as goal
 
-pub record Added (A B C : Type 0) : Type 0 where
-  pub rule : A
-  pub kept : B
-  pub few : C
-
 abbrev pub invariant-loop-key : goal.invariant-loop-key
-invariant-loop-key l = Added (l.self.test.rule ≡ l.initial.self.test.rule)
-    (Keeps l.initial.self l.self (sample_of l.initial.self.test.rule.inverse l.initial.self.test.rule.seed (take l.key-index l.keys)))
-    (l.self.accesses ≤ l.initial.self.accesses + l.key-index)
+invariant-loop-key l = record {
+  rule : l.self.test.rule ≡ l.initial.self.test.rule;
+  kept : Keeps l.initial.self l.self (sample_of l.initial.self.test.rule.inverse l.initial.self.test.rule.seed (take l.key-index l.keys));
+  few : l.self.accesses ≤ l.initial.self.accesses + l.key-index;
+}
