@@ -4,7 +4,9 @@ use Rattle.std.specs.Io.KnownBytes.{IsAtEnd}
 use Rattle.streams.specs.GivenBytes.{ReadAtMost}
 use Rattle.trace_read.specs.declared.limits.Limits.{Limits}
 use Rattle.trace_read.specs.declared.limits.TheConstants.Limits.{DEFAULT}
-use Rattle.trace_read.specs.declared.fault.TraceFault.TheVariants.{TooLarge}
+use Rattle.streams.specs.Tally.{FailsWhere}
+use Rattle.streams.specs.declared.tally.Tally.{Tally}
+use Rattle.trace_read.specs.declared.fault.TraceFault.TheVariants.{Read, TooLarge}
 use Rattle.trace_read.specs.TraceText.{TraceFault, Format, fault_within, IsOfLine}
 
 -- the bytes of a reader were read to their end and have no fault, or this is the fault: of a line that of the first
@@ -24,3 +26,9 @@ pub record IsReadWithin {T : Type 0} (limits : Limits) (format : Format) (old ne
 -- the same within the limits of a trace that is kept
 abbrev pub IsReadTo : {T : Type 0} → Format → Option (List ℕ) → Option (List ℕ) → Result T TraceFault → Type 0
 IsReadTo = IsReadWithin DEFAULT
+
+-- and `Read` comes just where a read failed, or the millionth was interrupted
+pub record IsWhollyRead {T : Type 0} (limits : Limits) (format : Format) (old new : Option (List ℕ)) (before after : Tally)
+    (result : Result T TraceFault) : Type 0 where
+  pub read : IsReadWithin limits format old new result
+  pub tally : FailsWhere (result ≡ Err Read) before after

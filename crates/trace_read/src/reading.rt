@@ -1,10 +1,12 @@
 //! A trace whose caller takes its accesses, some at a time.
-ghost use Rattle.std.specs.Prelude.{◌≡◌, ◌≢◌, ◌≤◌, ◌<◌, ◌+◌, ℕ, List, [], Option, Ok, Err, OnOk, OnErr, IfOk, length, true, false};
+ghost use Rattle.std.specs.Prelude.{◌≡◌, ◌≤◌, ◌<◌, ℕ, List, Option, Ok, Err, OnOk, OnErr, length, true, false};
 ghost use Rattle.std.specs.Io.KnownBytes.{IsAtEnd};
 ghost use Rattle.streams.specs.Tally.{FailsWhere};
 ghost use Rattle.streams.specs.declared.tally.Tally.{Tally};
 ghost use Rattle.trace_read.specs.ReadTrace.{IsReadWithin};
-ghost use Rattle.trace_read.specs.Reading.{GivesNext, IsFilled, IsReading, IsSomeReading, given_by, left_of};
+ghost use Rattle.trace_read.specs.Reading.{HasGiven, IsFilled, IsNextGiven, IsReading, IsSomeReading, left_of};
+ghost use Rattle.trace_read.specs.declared.limits.Limits.{Limits};
+ghost use Rattle.trace_read.specs.declared.format.Format.{Format};
 ghost use Rattle.trace_read.specs.declared.limits.TheConstants.{MAX_LONG_TRACE_BYTES};
 
 use super::TraceFault;
@@ -42,8 +44,8 @@ impl Reading {
     /// Before the first byte of a trace of this format, within these limits.
     pub fn new(alloc: Global, format: Format, limits: Limits) -> Reading
         requires { limits.bytes ≤ MAX_LONG_TRACE_BYTES }
-        ensures reading { (bytes : Option (List ℕ)) (tally : Tally) → IsReading bytes bytes tally tally result }
-        ensures same { (result.format ≡ format) × (result.limits ≡ limits) × (given_by result ≡ 0) }
+        ensures new { (bytes : Option (List ℕ)) (tally : Tally) → HasGiven limits format bytes bytes tally tally 0 result }
+        ensures same { (result.format ≡ format) × (result.limits ≡ limits) }
     {
         Reading {
             format,
@@ -69,25 +71,11 @@ impl Reading {
         keys: &mut Vec<Key>,
     ) -> Result<bool, TraceFault>
         requires { IsSomeReading (R.remaining reader.old) (R.tally reader.old) self.old }
-        // Of a reading that began at the bytes `old`, where the reader had counted `before`: it goes on there,
-        ensures more { (old : Option (List ℕ)) (before : Tally)
-            → IsReading old (R.remaining reader.old) before (R.tally reader.old) self.old
-            → OnOk result (IsReading old (R.remaining reader.new) before (R.tally reader.new) self.new) }
-        // the accesses are the next of those bytes,
-        ensures keys { (old : Option (List ℕ)) (before : Tally)
-            → IsReading old (R.remaining reader.old) before (R.tally reader.old) self.old
-            → IfOk result (λ more. GivesNext self.old.format old (given_by self.old) more keys.new.items) }
-        // and the end or the fault is that of those bytes.
-        ensures read { (old : Option (List ℕ)) (before : Tally)
-            → IsReading old (R.remaining reader.old) before (R.tally reader.old) self.old
-            → result ≢ Ok true → IsReadWithin self.old.limits self.old.format old (R.remaining reader.new) result }
-        ensures tally { (old : Option (List ℕ)) (before : Tally)
-            → IsReading old (R.remaining reader.old) before (R.tally reader.old) self.old
-            → FailsWhere (result ≡ Err TraceFault.Read) before (R.tally reader.new) }
-        ensures same { OnOk result ((self.new.format ≡ self.old.format) × (self.new.limits ≡ self.old.limits)) }
-        ensures place { OnOk result (given_by self.new ≡ given_by self.old + length keys.new.items) }
-        ensures few { OnOk result (given_by self.old + length keys.new.items ≤ self.old.limits.accesses) }
-        ensures none { result ≡ Ok false → keys.new.items ≡ [] }
+        // Of a reading that began at the bytes `old`, where the reader had counted `before`, and that has given the first n
+        // accesses, they are the next, and the end or the fault is that of those bytes.
+        ensures next { (limits : Limits) (format : Format) (old : Option (List ℕ)) (before : Tally) (n : ℕ)
+            → HasGiven limits format old (R.remaining reader.old) before (R.tally reader.old) n self.old
+            → IsNextGiven limits format old (R.remaining reader.new) before (R.tally reader.new) n keys.new.items self.new result }
         ensures further { result ≡ Ok true → left_of self.new < left_of self.old }
     {
         keys.clear();

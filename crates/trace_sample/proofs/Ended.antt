@@ -1,41 +1,28 @@
 -- How the writing of a sample ends.
-use Rattle.std.proofs.Common.{◌≡◌, ◌+◌, ℕ, Bool, List, length, Option, Ok, Err, subst}
-use Rattle.trace_read.proofs.Readings.{read_as, read_at_end}
+use Rattle.std.proofs.Common.{◌≡◌, ◌+◌, ℕ, Bool, List, length, Option, Err, refl}
+use Rattle.trace_read.proofs.Readings.{read_as}
 use Rattle.std.specs.Prelude.{IfSome}
-use Rattle.std.specs.Io.KnownBytes.{IsAtEnd}
 use Rattle.streams.specs.Tally.{FailsWhere}
 use Rattle.streams.specs.declared.tally.Tally.{Tally}
 use Rattle.trace_read.specs.Reading.{GivesNext}
 use Rattle.trace_read.specs.ReadTrace.{IsReadWithin}
 use Rattle.trace_read.specs.TraceText.{keys_in}
 use Rattle.trace_read.specs.declared.fault.TraceFault.{TraceFault}
-use Rattle.trace_read.specs.declared.limits.Limits.{Limits}
 use Rattle.trace_read.specs.declared.limits.TheConstants.Limits.{LONG}
 use Rattle.trace_read.specs.declared.fault.TraceFault.TheVariants.{OutOfMemory}
 use Rattle.trace_sample.specs.Kept.{Kept, Keeps}
 use Rattle.trace_sample.specs.Sample.{sample_of}
-use Rattle.trace_sample.specs.Written.{Format, IsFaultless, IsSampleFault}
+use Rattle.trace_sample.specs.Written.{Format, IsSampleFault}
 use Rattle.trace_sample.specs.declared.rule.SampleRule.{SampleRule}
 use Rattle.trace_sample.specs.declared.fault.SampleFault.TheVariants.{Trace}
 use Rattle.trace_sample.proofs.Sampled.{IsSampled, both, sampled_more}
 
--- a fault of the reading at the limits of a long trace is one of the sample
-pub fault_at : (limits : Limits) (format own : Format) (old new : Option (List ℕ)) (fault : TraceFault) → limits ≡ LONG → format ≡ own
-    → IsReadWithin {T = Bool} limits format old new (Err fault) → IsSampleFault own old new (Trace fault)
-fault_at limits format own old new OutOfMemory long same is = tt
-fault_at limits format own old new fault long same is = read_as limits LONG format own old new fault long same is
-
-pub read_all : (limits : Limits) (format own : Format) (old new : Option (List ℕ)) (more : Bool) → limits ≡ LONG → format ≡ own
-    → IsReadWithin {T = Bool} limits format old new (Ok more) → IsFaultless own old × IsAtEnd new
-read_all limits format own old new more long same is =
-    let here = read_at_end {A = Bool} limits LONG format own old new more more long same is in (here.ok, here.end)
+-- a fault of the reading is one of the sample
+pub fault_at : (format : Format) (old new : Option (List ℕ)) (fault : TraceFault) → IsReadWithin {T = Bool} LONG format old new (Err fault) → IsSampleFault format old new (Trace fault)
+fault_at format old new OutOfMemory is = tt
+fault_at format old new fault is = read_as LONG LONG format format old new fault refl refl is
 
 -- ---- a piece more
-
-pub next_of : (format own : Format) (old : Option (List ℕ)) (given taken : ℕ) (more : Bool) (keys : List ℕ) → format ≡ own → given ≡ taken
-    → GivesNext format old given more keys → GivesNext own old taken more keys
-next_of format own old given taken more keys same place is =
-    subst (λ f. GivesNext f old taken more keys) same (subst (λ n. GivesNext format old n more keys) place is)
 
 -- its accesses were kept
 pub kept_more : (rule : SampleRule) (format : Format) (old : Option (List ℕ)) (taken : ℕ) (more : Bool) (keys slice : List ℕ) (was new : Kept) (start now : Option (List ℕ))

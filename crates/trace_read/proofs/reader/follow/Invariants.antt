@@ -1,22 +1,19 @@
 use Rattle.std.proofs.Common.{◌≡◌, ◌+◌, length, take, drop}
 use Rattle.std.specs.Prelude.{IfSome}
-use Rattle.trace_read.specs.Reading.{IsReading, given_by, left_of}
+use Rattle.trace_read.specs.Reading.{HasGiven, left_of}
 use Rattle.trace_read.specs.TraceText.{keys_in}
 use Rattle.trace_read.proofs.reader.follow.Given as goal
 
-pub record Following (A B C D E F : Type 0) : Type 0 where
+pub record Following (A B C D : Type 0) : Type 0 where
   pub reading : A
-  pub same : B
-  pub place : C
-  pub left : D
-  pub file : E
-  pub most : F
+  pub left : B
+  pub file : C
+  pub most : D
 
 abbrev pub invariant-pieces : goal.invariant-pieces
 invariant-pieces g l = Following
-    (IsReading (g.R.CountedRead.remaining l.initial.reader) (g.R.CountedRead.remaining l.reader) (g.R.CountedRead.tally l.initial.reader) (g.R.CountedRead.tally l.reader) l.reading)
-    ((l.reading.format ≡ l.initial.reading.format) × (l.reading.limits ≡ l.initial.reading.limits))
-    (g.F.Follower.taken l.follower + length l.left.items ≡ given_by l.reading)
+    (HasGiven l.initial.reading.limits l.initial.reading.format (g.R.CountedRead.remaining l.initial.reader) (g.R.CountedRead.remaining l.reader)
+    (g.R.CountedRead.tally l.initial.reader) (g.R.CountedRead.tally l.reader) (g.F.Follower.taken l.follower + length l.left.items) l.reading)
     (IfSome (g.R.CountedRead.remaining l.initial.reader) (λ bytes. l.left.items ≡ take (length l.left.items) (drop (g.F.Follower.taken l.follower) (keys_in l.initial.reading.format bytes))))
     (g.F.Follower.file l.follower ≡ g.F.Follower.file l.initial.follower) (g.F.Follower.most l.follower ≡ g.F.Follower.most l.initial.follower)
 

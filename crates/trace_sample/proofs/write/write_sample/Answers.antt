@@ -10,10 +10,7 @@ use Rattle.trace_sample.proofs.write.write_sample.Goals as goal
 
 pub pieces-init : goal.pieces-init
 pieces-init g c = record {
-  reading = c.new-reading.ensures.reading (g.R.CountedRead.remaining c.args.reader.now) (g.R.CountedRead.tally c.args.reader.now);
-  format = c.new-reading.ensures.same.0;
-  limits = c.new-reading.ensures.same.1;
-  place = c.new-reading.ensures.same.2;
+  reading = c.new-reading.ensures.new (g.R.CountedRead.remaining c.args.reader.now) (g.R.CountedRead.tally c.args.reader.now);
   rule = c.new-kept.ensures.rule;
   few = omega (arith, c.new-kept.ensures.none.accesses);
   sampled = always _ (λ b. nothing_sampled _ _ c.new-kept.result _ _ c.new-kept.ensures.none);
@@ -24,7 +21,7 @@ pub returns-in-Err : goal.returns-in-Err
 returns-in-Err g c =
     let i = c.pieces.invariant in
     let first = g.R.CountedRead.remaining c.args.reader.now in
-    let tally = g.R.CountedRead.tally c.args.reader.now in
+    let next = c.in-Err.ensures.next _ _ _ _ _ i.reading in
     record {
       sound = tt;
       text = tt;
@@ -32,8 +29,8 @@ returns-in-Err g c =
       end = tt;
       flushed = tt;
       part = IfSome_then first i.sampled (λ b s. sampled_so_far _ _ c.pieces.accesses _ c.pieces.kept _ _ s);
-      fault = fault_at c.pieces.reading.limits c.pieces.reading.format _ first _ c.in-Err.fault i.limits i.format (c.in-Err.ensures.read first tally i.reading (λ q. absurd (cc q)));
-      reads = fails_as _ _ (λ q. cc q) (λ q. cc q) (c.in-Err.ensures.tally first tally i.reading);
+      fault = fault_at _ first _ c.in-Err.fault (next.end (λ q. absurd (cc q)));
+      reads = fails_as _ _ (λ q. cc q) (λ q. cc q) next.tally;
       writes = spent_only c.pieces.budget _ _ (λ q. absurd (cc q)) i.spent;
     }
 
@@ -41,7 +38,7 @@ pub returns-in-Err-add : goal.returns-in-Err-add
 returns-in-Err-add g c =
     let i = c.pieces.invariant in
     let first = g.R.CountedRead.remaining c.args.reader.now in
-    let tally = g.R.CountedRead.tally c.args.reader.now in
+    let next = c.in-Ok.ensures.next _ _ _ _ _ i.reading in
     record {
       sound = tt;
       text = tt;
@@ -50,7 +47,7 @@ returns-in-Err-add g c =
       flushed = tt;
       part = IfSome_then first i.sampled (λ b s. sampled_so_far _ _ c.pieces.accesses _ c.pieces.kept _ _ s);
       fault = tt;
-      reads = fails_not _ _ (λ q. absurd (cc q)) (λ q. absurd (cc q)) (c.in-Ok.ensures.tally first tally i.reading);
+      reads = fails_not _ _ (λ q. absurd (cc q)) (λ q. absurd (cc q)) next.tally;
       writes = spent_only c.pieces.budget _ _ (λ q. absurd (cc q)) i.spent;
     }
 
@@ -58,10 +55,9 @@ pub returns-in-Err-pass_on : goal.returns-in-Err-pass_on
 returns-in-Err-pass_on g c =
     let i = c.pieces.invariant in
     let first = g.R.CountedRead.remaining c.args.reader.now in
-    let tally = g.R.CountedRead.tally c.args.reader.now in
-    let next = next_of c.pieces.reading.format c.args.format first _ c.pieces.accesses c.in-Ok.more c.next.new.keys.items i.format i.place (c.in-Ok.ensures.keys first tally i.reading) in
+    let next = c.in-Ok.ensures.next _ _ _ _ _ i.reading in
     let kept = kept_more c.args.rule c.args.format first c.pieces.accesses c.in-Ok.more c.next.new.keys.items c.as_slice.result.now c.pieces.kept c.add.new.self
-    (g.W.CountedWrite.contents c.args.writer.now) (g.W.CountedWrite.contents c.pieces.writer) next i.rule c.as_slice.ensures.value c.in_default.ensures.kept i.sampled in
+    (g.W.CountedWrite.contents c.args.writer.now) (g.W.CountedWrite.contents c.pieces.writer) next.gives i.rule c.as_slice.ensures.value c.in_default.ensures.kept i.sampled in
     record {
       sound = tt;
       text = tt;
@@ -70,7 +66,7 @@ returns-in-Err-pass_on g c =
       flushed = tt;
       part = IfSome_then first kept (λ b s. sampled_part _ _ (c.pieces.accesses + length c.next.new.keys.items) _ c.add.new.self _ _ _ c.in-Err-pass_on.ensures.part s);
       fault = tt;
-      reads = fails_not _ _ (λ q. absurd (cc q)) (λ q. absurd (cc q)) (c.in-Ok.ensures.tally first tally i.reading);
+      reads = fails_not _ _ (λ q. absurd (cc q)) (λ q. absurd (cc q)) next.tally;
       writes = exhausted _ _ refl (later INTERRUPTIONS c.pieces.budget _ _ _ i.spent c.in-Err-pass_on.ensures.exhausted);
     }
 
@@ -78,33 +74,31 @@ pub returns-then-not-more : goal.returns-then-not-more
 returns-then-not-more g c =
     let i = c.pieces.invariant in
     let first = g.R.CountedRead.remaining c.args.reader.now in
-    let tally = g.R.CountedRead.tally c.args.reader.now in
     let rule = c.args.rule in
     let format = c.args.format in
     let keys = c.next.new.keys.items in
     let start = g.W.CountedWrite.contents c.args.writer.now in
     let mid = g.W.CountedWrite.contents c.pieces.writer in
     let now = g.W.CountedWrite.contents c.pass_on.new.writer in
-    let next = next_of c.pieces.reading.format format first _ c.pieces.accesses c.in-Ok.more keys i.format i.place (c.in-Ok.ensures.keys first tally i.reading) in
-    let kept = kept_more rule format first c.pieces.accesses c.in-Ok.more keys c.as_slice.result.now c.pieces.kept c.add.new.self start mid next i.rule c.as_slice.ensures.value c.in_default.ensures.kept i.sampled in
+    let next = c.in-Ok.ensures.next _ _ _ _ _ i.reading in
+    let kept = kept_more rule format first c.pieces.accesses c.in-Ok.more keys c.as_slice.result.now c.pieces.kept c.add.new.self start mid next.gives i.rule c.as_slice.ensures.value c.in_default.ensures.kept i.sampled in
     let same = c.pass_on.ensures.same in
     let on = IfSome_then first kept (λ b s.
     sampled_on rule.inverse rule.seed (c.pieces.accesses + length keys) (keys_in format b) c.add.new.self c.pass_on.new.kept start mid now same.1 same.2 c.in_default-pass_on.ensures.written s) in
-    let last = next.last c.if-not-more.true in
-    let read = read_all c.pieces.reading.limits c.pieces.reading.format format first _ c.in-Ok.more i.limits i.format
-    (c.in-Ok.ensures.read first tally i.reading (λ q. absurd (cc (q, c.if-not-more.true)))) in
+    let last = next.gives.last c.if-not-more.true in
+    let read = next.end (λ q. absurd (cc (q, c.if-not-more.true))) in
     let len : c.len.result ≡ length keys = search rules in
     record {
-      sound = read.0;
+      sound = read.ok;
       text = both first on last (λ b s l. sampled_all rule.inverse rule.seed (c.pieces.accesses + length keys) (keys_in format b) c.pass_on.new.kept start now l
           (c.in_default-pass_on.ensures.none c.if-not-more.true) s);
       counts = both first on last (λ b s l. sampled_counts rule.inverse rule.seed (c.pieces.accesses + length keys) (keys_in format b) c.pass_on.new.kept start now c.counts.result l
           (c.counts.ensures.accesses.0 ∙ ap (λ n. c.pieces.accesses + n) len, c.counts.ensures.accesses.1) c.counts.ensures.blocks s);
-      end = read.1;
+      end = read.end;
       flushed = c.in_default-pass_on.ensures.flushed c.if-not-more.true;
       part = tt;
       fault = tt;
-      reads = fails_not _ _ (λ q. absurd (cc q)) (λ q. absurd (cc q)) (c.in-Ok.ensures.tally first tally i.reading);
+      reads = fails_not _ _ (λ q. absurd (cc q)) (λ q. absurd (cc q)) next.tally;
       writes = spent_only c.pass_on.new.budget _ _ (λ q. absurd (cc q)) (further _ _ _ _ _ _ i.spent c.in_default-pass_on.ensures.spent);
     }
 
@@ -112,24 +106,20 @@ pub pieces-preserved : goal.pieces-preserved
 pieces-preserved g c =
     let i = c.pieces.invariant in
     let first = g.R.CountedRead.remaining c.args.reader.now in
-    let tally = g.R.CountedRead.tally c.args.reader.now in
     let rule = c.args.rule in
     let format = c.args.format in
     let keys = c.next.new.keys.items in
     let start = g.W.CountedWrite.contents c.args.writer.now in
     let mid = g.W.CountedWrite.contents c.pieces.writer in
     let now = g.W.CountedWrite.contents c.pass_on.new.writer in
-    let next = next_of c.pieces.reading.format format first _ c.pieces.accesses c.in-Ok.more keys i.format i.place (c.in-Ok.ensures.keys first tally i.reading) in
-    let kept = kept_more rule format first c.pieces.accesses c.in-Ok.more keys c.as_slice.result.now c.pieces.kept c.add.new.self start mid next i.rule c.as_slice.ensures.value c.in_default.ensures.kept i.sampled in
+    let next = c.in-Ok.ensures.next _ _ _ _ _ i.reading in
+    let kept = kept_more rule format first c.pieces.accesses c.in-Ok.more keys c.as_slice.result.now c.pieces.kept c.add.new.self start mid next.gives i.rule c.as_slice.ensures.value c.in_default.ensures.kept i.sampled in
     let same = c.pass_on.ensures.same in
     let len : c.len.result ≡ length keys = search rules in
-    let place = c.in-Ok.ensures.place in
+    let on = next.goes_on in
     let count : c.pieces.accesses + length keys ≡ c.pieces.accesses + c.len.result = omega (arith, len) in
     record {
-      reading = c.in-Ok.ensures.more first tally i.reading;
-      format = c.in-Ok.ensures.same.0 ∙ i.format;
-      limits = c.in-Ok.ensures.same.1 ∙ i.limits;
-      place = omega (arith, place, i.place, len);
+      reading = record { same_limits = on.same_limits; same_format = on.same_format; count = on.count ∙ count; reading = on.reading };
       rule = ap (λ t. t.rule) same.0 ∙ c.add.ensures.rule ∙ i.rule;
       few = omega (arith, same.2, c.add.ensures.few, i.few, len, ap length c.as_slice.ensures.value);
       sampled = IfSome_then first kept (λ b s. subst (λ n. IsSampled rule.inverse rule.seed n c.pass_on.new.kept start now (keys_in format b)) count

@@ -2,7 +2,7 @@ use Rattle.std.proofs.Common.{◌≡◌, ◌≤◌}
 use Rattle.std.specs.Prelude.{IfSome}
 use Rattle.streams.specs.Tally.{Spends}
 use Rattle.streams.specs.declared.retry_budget.TheConstants.{INTERRUPTIONS}
-use Rattle.trace_read.specs.Reading.{IsReading, given_by, left_of}
+use Rattle.trace_read.specs.Reading.{HasGiven, left_of}
 use Rattle.trace_read.specs.TraceText.{keys_in}
 use Rattle.trace_read.specs.declared.limits.TheConstants.Limits.{LONG}
 use Rattle.trace_sample.proofs.Sampled.{IsSampled}
@@ -10,10 +10,7 @@ use Rattle.trace_sample.proofs.write.write_sample.Given as goal
 
 abbrev pub invariant-pieces : goal.invariant-pieces
 invariant-pieces g l = record {
-  reading : IsReading (g.R.CountedRead.remaining l.initial.reader) (g.R.CountedRead.remaining l.reader) (g.R.CountedRead.tally l.initial.reader) (g.R.CountedRead.tally l.reader) l.reading;
-  format : l.reading.format ≡ l.fn.format;
-  limits : l.reading.limits ≡ LONG;
-  place : given_by l.reading ≡ l.accesses;
+  reading : HasGiven LONG l.fn.format (g.R.CountedRead.remaining l.initial.reader) (g.R.CountedRead.remaining l.reader) (g.R.CountedRead.tally l.initial.reader) (g.R.CountedRead.tally l.reader) l.accesses l.reading;
   rule : l.kept.test.rule ≡ l.fn.rule;
   few : l.kept.accesses ≤ l.accesses;
   sampled : IfSome (g.R.CountedRead.remaining l.initial.reader) (λ bytes. IsSampled l.fn.rule.inverse l.fn.rule.seed l.accesses l.kept (g.W.CountedWrite.contents l.initial.writer) (g.W.CountedWrite.contents l.writer) (keys_in l.fn.format bytes));
