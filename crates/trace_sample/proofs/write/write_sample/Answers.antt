@@ -4,7 +4,7 @@ use Rattle.streams.proofs.Tallies.{further, later, unspent}
 use Rattle.streams.specs.declared.retry_budget.TheConstants.{INTERRUPTIONS}
 use Rattle.trace_read.specs.TraceText.{keys_in}
 use Rattle.trace_read.proofs.Readings.{exhausted, spent_only}
-use Rattle.trace_sample.proofs.Ended.{fails_as, fails_not, fault_at, kept_more, next_of, read_all}
+use Rattle.trace_sample.proofs.Ended.{fails_as, fails_not, fault_at, kept_more}
 use Rattle.trace_sample.proofs.Sampled.{IsSampled, always, both, nothing_sampled, sampled_all, sampled_counts, sampled_on, sampled_part, sampled_so_far}
 use Rattle.trace_sample.proofs.write.write_sample.Goals as goal
 
