@@ -5,14 +5,6 @@ use Rattle.std.specs.Prelude.{flat_map, slice_index_or}
 use Rattle.std.proofs.lemmas.Bool.{cases_lt}
 use Rattle.std.proofs.lemmas.List.{length-set, map-append, take_more}
 use Rattle.step_record.specs.declared.job.Job.{Job}
-use Rattle.trace_read.specs.TraceText.{keys_in, keys_of_file}
-use Rattle.trace_read.specs.declared.format.Format.{Format}
-
--- what holds of all accesses that are known gives what holds of those of the bytes
-pub from-known : (H Q : List ℕ → Type 0) (format : Format) (bytes : Option (List ℕ)) → IfSome (keys_of_file format bytes) H
-    → ((all : List ℕ) → H all → Q all) → IfSome bytes (λ b. Q (keys_in format b))
-from-known H Q format None h f = tt
-from-known H Q format (Some b) h f = f (keys_in format b) h
 
 module _ {X Y : Type 0} where
   pub map-more : (f : X → Y) (xs : List X) (d : X) (i : ℕ) (ys new : List Y) (y : Y) → i < length xs → ys ≡ map f (take i xs) → new ≡ ys ++ y ∷ []

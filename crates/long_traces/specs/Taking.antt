@@ -4,6 +4,8 @@ use Rattle.engine_base.specs.Config.{config_fault}
 pub use Rattle.step_record.specs.declared.job.Job.{Job}
 use Rattle.engine_base.specs.declared.limits.TheConstants.{MAX_STEPS}
 use Rattle.policies.specs.Design.{knows_trace}
+pub use Rattle.trace_read.specs.declared.format.Format.{Format}
+pub use Rattle.trace_read.specs.TraceText.{keys_in}
 
 -- what accesses are taken for: jobs, and how many accesses an interval has
 pub record Task : Type 0 where
@@ -33,15 +35,19 @@ pub record CanTakeFor {K : Type 0} (HasTaken : Task → List ℕ → ℕ → K �
   pub task : Task
   pub can : CanTake (HasTaken task) keys taker
 
+-- none was taken yet, of whatever trace
+abbrev pub HasBegun : {K : Type 0} → (List ℕ → ℕ → K → Type 0) → K → Type 0
+HasBegun HasTaken taker = (trace : List ℕ) → HasTaken trace 0 taker
+
 -- all accesses of some trace were taken
 pub record HasTakenAll {K : Type 0} (HasTaken : List ℕ → ℕ → K → Type 0) (taker : K) : Type 0 where
   pub trace : List ℕ
   pub taken : HasTaken trace (length trace) taker
 
--- the first accesses of what is fed were taken: of what is known, or of any trace that begins with them
-pub record IsFed {K : Type 0} (HasTaken : List ℕ → ℕ → K → Type 0) (known : Option (List ℕ)) (place : ℕ) (taker : K)
-    : Type 0 where
+-- the first accesses of these bytes were taken, where the bytes are known, and of any trace that begins with them
+pub record IsFed {K : Type 0} (HasTaken : List ℕ → ℕ → K → Type 0) (format : Format) (bytes : Option (List ℕ)) (place : ℕ)
+    (taker : K) : Type 0 where
   pub done : List ℕ
   pub long : length done ≡ place
   pub taken : (trace : List ℕ) → place ≤ length trace → done ≡ take place trace → HasTaken trace place taker
-  pub first : IfSome known (λ all. done ≡ take place all)
+  pub first : IfSome bytes (λ bytes. done ≡ take place (keys_in format bytes))

@@ -2,7 +2,7 @@
 ghost use Rattle.std.specs.Prelude.{◌≡◌, ◌≤◌, ◌+◌, ℕ, List, Ok, IfOk, OnOk, length};
 ghost use Rattle.policy_comparison.specs.Comparison.{Job, compared_on};
 ghost use Rattle.policy_comparison.specs.ComparedIntervals.{compared_intervals_on};
-ghost use Rattle.long_traces.specs.Taking.{AreNext, CanTake, FollowsTrace, HasTakenAll};
+ghost use Rattle.long_traces.specs.Taking.{AreNext, CanTake, FollowsTrace, HasBegun, HasTakenAll};
 ghost use Rattle.long_traces.specs.Pairs.{HasCompared, HasComparedTask};
 
 use crate::feed::Taker;
@@ -19,8 +19,8 @@ pub(crate) struct ComparedRun {
 }
 
 impl ComparedRun {
-    // A run of both jobs before the first access, with intervals of `every` accesses. The one error is out of memory.
-    fn of_two(
+    /// A run of both jobs before the first access, with intervals of `every` accesses. The one error is out of memory.
+    pub(crate) fn open(
         alloc: Global,
         first: &Job,
         second: &Job,
@@ -28,7 +28,7 @@ impl ComparedRun {
     ) -> Result<ComparedRun, AllocError>
         requires follows { FollowsTrace first.now × FollowsTrace second.now }
         requires some { 1 ≤ every }
-        ensures { IfOk result (λ run. (trace : List ℕ) → HasCompared every first.now second.now trace 0 run) }
+        ensures { IfOk result (HasBegun (HasCompared every first.now second.now)) }
     {
         let pair = Pair::open(alloc, first, second)?;
         let counted = ComparedRows::none(alloc, every);
@@ -69,16 +69,9 @@ impl ComparedRun {
 }
 
 impl Taker for ComparedRun {
-    ghost use Rattle.std.specs.Prelude.{◌≡◌, length};
     ghost use Rattle.long_traces.specs.Pairs.{HasComparedTask};
 
-    ghost fits = { λ jobs. length jobs ≡ 2 };
-
     ghost has_taken = { HasComparedTask };
-
-    fn open(alloc: Global, jobs: &[Job], every: usize) -> Result<ComparedRun, AllocError> {
-        ComparedRun::of_two(alloc, &jobs[0], &jobs[1], every)
-    }
 
     fn take(&mut self, keys: &[Key]) -> Result<(), AllocError> {
         self.take_all(keys)

@@ -8,8 +8,7 @@ ghost use Rattle.trace_read.specs.declared.limits.TheConstants.{MAX_LONG_ACCESSE
 
 use crate::feed::{Taker, read_taken};
 use std::alloc::{AllocError, Global};
-use std::marker::Brand;
-use step_record::{Gate, Job, Key};
+use step_record::{Gate, Key};
 use streams::CountedRead;
 use trace_footprint::{Footprint, FootprintCounter};
 use trace_read::{Format, Limits, TraceFault};
@@ -31,10 +30,8 @@ pub fn footprint<R: CountedRead, G: Gate>(
     ensures read { IsReadWithin limits format (R.remaining reader.old) (R.remaining reader.new) result }
     ensures tally { FailsWhere (result ≡ Err TraceFault.Read) (R.tally reader.old) (R.tally reader.new) }
 {
-    let (jobs, every) = ([], 1);
-    let counter = read_taken::<Brand, R, FootprintCounter, G>(
-        alloc, reader, format, limits, &jobs, every, gate,
-    )?;
+    let mut counter = FootprintCounter::new(alloc);
+    read_taken(alloc, reader, format, limits, &mut counter, gate)?;
     let footprint = counter.footprint();
     drop(counter);
     Ok(footprint)
@@ -43,13 +40,7 @@ pub fn footprint<R: CountedRead, G: Gate>(
 impl Taker for FootprintCounter {
     ghost use Rattle.long_traces.specs.Footprint.{HasCountedFirst};
 
-    ghost fits = { λ _. Unit {0} };
-
     ghost has_taken = { HasCountedFirst };
-
-    fn open(alloc: Global, _jobs: &[Job], _every: usize) -> Result<FootprintCounter, AllocError> {
-        Ok(FootprintCounter::new(alloc))
-    }
 
     fn take(&mut self, keys: &[Key]) -> Result<(), AllocError> {
         FootprintCounter::take(self, keys)

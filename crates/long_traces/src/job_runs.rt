@@ -1,9 +1,10 @@
 //! Several jobs over a trace whose accesses come in pieces.
 ghost use Rattle.std.specs.Prelude.{◌≡◌, ◌≤◌, ◌++◌, ℕ, List, IfOk, OnOk, length, map};
+ghost use Rattle.std.specs.List.{All};
 ghost use Rattle.std.specs.Prelude.{flat_map};
 ghost use Rattle.policies.specs.Reports.{report_on};
 ghost use Rattle.sweeps.specs.Intervals.{intervals_on};
-ghost use Rattle.long_traces.specs.Taking.{HasTakenAll, Task};
+ghost use Rattle.long_traces.specs.Taking.{FollowsTrace, HasBegun, HasTakenAll, Task};
 ghost use Rattle.long_traces.specs.JobRuns.{HaveRun};
 
 use crate::feed::Taker;
@@ -19,6 +20,19 @@ pub(crate) struct JobRuns {
 }
 
 impl JobRuns {
+    /// A run of each job before the first access, with intervals of `every` accesses. The one error is out of memory.
+    pub(crate) fn open(alloc: Global, jobs: &[Job], every: usize) -> Result<JobRuns, AllocError>
+        requires follow { All FollowsTrace jobs.now }
+        requires some { 1 ≤ every }
+        ensures { IfOk result (HasBegun (HaveRun (record { jobs = jobs.now; every = every }))) }
+    {
+        let mut runs = Vec::new(alloc);
+        for job in jobs {
+            runs.push(JobRun::open(alloc, job, every)?)?;
+        }
+        Ok(JobRuns { runs })
+    }
+
     /// The reports of the jobs once all accesses were taken. The one error is out of memory.
     pub(crate) fn reports(&self, alloc: Global) -> Result<Vec<Report>, AllocError>
         ensures { (task : Task) (trace : List ℕ) → HaveRun task trace (length trace) self.now
@@ -47,20 +61,9 @@ impl JobRuns {
 }
 
 impl Taker for JobRuns {
-    ghost use Rattle.std.specs.Prelude.{⊤};
     ghost use Rattle.long_traces.specs.JobRuns.{HaveRun};
 
-    ghost fits = { λ jobs. ⊤ };
-
     ghost has_taken = { HaveRun };
-
-    fn open(alloc: Global, jobs: &[Job], every: usize) -> Result<JobRuns, AllocError> {
-        let mut runs = Vec::new(alloc);
-        for job in jobs {
-            runs.push(JobRun::open(alloc, job, every)?)?;
-        }
-        Ok(JobRuns { runs })
-    }
 
     fn take(&mut self, keys: &[Key]) -> Result<(), AllocError> {
         for i in 0..self.runs.len() {

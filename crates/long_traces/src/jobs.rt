@@ -16,7 +16,6 @@ use crate::queue_runs::QueueRuns;
 use policies::{Interval, MAX_ACTORS, Report};
 use policy_actors::run_reading_within;
 use std::alloc::Global;
-use std::marker::Brand;
 use std::sync::Wait;
 use std::thread::Threads;
 use step_record::{Gate, Job};
@@ -29,9 +28,9 @@ const BATCH: u32 = 1024;
 /// The reports of the jobs over the trace that the reader gives, in the order of the jobs, which may be any number: up to
 /// `MAX_ACTORS` each on a thread of its own, and more in turn on this one, while the trace is read. The configurations
 /// are such as `Config::check` accepts, and no policy has to know the whole trace. The gate is called around each batch
-/// of an actor, as by `run_reading`.
+/// of an actor, as by `run_actors`.
 ///
-/// Errors: those of `read_followed`, and `OutOfMemory` also where a cache is out of memory.
+/// Errors: those of `read_trace`, and `OutOfMemory` also where a cache is out of memory.
 pub fn reports<T: Threads + Wait + Sync, R: CountedRead, G: Gate>(
     rt: &T,
     alloc: Global,
@@ -50,10 +49,8 @@ pub fn reports<T: Threads + Wait + Sync, R: CountedRead, G: Gate>(
     ensures tally { FailsWhere (result ≡ Err TraceFault.Read) (R.tally reader.old) (R.tally reader.new) }
 {
     if jobs.len() > MAX_ACTORS {
-        let every = usize::MAX;
-        let runs = read_taken::<Brand, R, JobRuns, G>(
-            alloc, reader, format, limits, jobs, every, gate,
-        )?;
+        let mut runs = JobRuns::open(alloc, jobs, usize::MAX)?;
+        read_taken(alloc, reader, format, limits, &mut runs, gate)?;
         let reports = runs.reports(alloc);
         drop(runs);
         return Ok(reports?);
@@ -84,9 +81,8 @@ pub fn intervals<R: CountedRead, G: Gate>(
     ensures read { IsReadWithin limits format (R.remaining reader.old) (R.remaining reader.new) result }
     ensures tally { FailsWhere (result ≡ Err TraceFault.Read) (R.tally reader.old) (R.tally reader.new) }
 {
-    let runs = read_taken::<Brand, R, JobRuns, G>(
-        alloc, reader, format, limits, jobs, every, gate,
-    )?;
+    let mut runs = JobRuns::open(alloc, jobs, every)?;
+    read_taken(alloc, reader, format, limits, &mut runs, gate)?;
     let rows = runs.rows(alloc);
     drop(runs);
     Ok(rows?)
@@ -115,9 +111,8 @@ pub fn queues_text<R: CountedRead, G: Gate>(
     ensures read { IsReadWithin limits format (R.remaining reader.old) (R.remaining reader.new) result }
     ensures tally { FailsWhere (result ≡ Err TraceFault.Read) (R.tally reader.old) (R.tally reader.new) }
 {
-    let runs = read_taken::<Brand, R, QueueRuns, G>(
-        alloc, reader, format, limits, jobs, every, gate,
-    )?;
+    let mut runs = QueueRuns::open(alloc, jobs, every)?;
+    read_taken(alloc, reader, format, limits, &mut runs, gate)?;
     let text = runs.text(alloc);
     drop(runs);
     Ok(text?)

@@ -15,7 +15,6 @@ use crate::feed::read_taken;
 use crate::part_run::PartRun;
 use policy_comparison::{ComparedInterval, Comparison};
 use std::alloc::Global;
-use std::marker::Brand;
 use step_record::{Gate, Job};
 use streams::CountedRead;
 use trace_read::{Format, Limits, TraceFault};
@@ -42,10 +41,8 @@ pub fn compare<R: CountedRead, G: Gate>(
     ensures read { IsReadWithin limits format (R.remaining reader.old) (R.remaining reader.new) result }
     ensures tally { FailsWhere (result ≡ Err TraceFault.Read) (R.tally reader.old) (R.tally reader.new) }
 {
-    let (jobs, every) = ([*first, *second], usize::MAX);
-    let run = read_taken::<Brand, R, ComparedRun, G>(
-        alloc, reader, format, limits, &jobs, every, gate,
-    )?;
+    let mut run = ComparedRun::open(alloc, first, second, usize::MAX)?;
+    read_taken(alloc, reader, format, limits, &mut run, gate)?;
     let counts = run.counts();
     drop(run);
     Ok(counts)
@@ -74,10 +71,8 @@ pub fn compare_intervals<R: CountedRead, G: Gate>(
     ensures read { IsReadWithin limits format (R.remaining reader.old) (R.remaining reader.new) result }
     ensures tally { FailsWhere (result ≡ Err TraceFault.Read) (R.tally reader.old) (R.tally reader.new) }
 {
-    let jobs = [*first, *second];
-    let run = read_taken::<Brand, R, ComparedRun, G>(
-        alloc, reader, format, limits, &jobs, every, gate,
-    )?;
+    let mut run = ComparedRun::open(alloc, first, second, every)?;
+    read_taken(alloc, reader, format, limits, &mut run, gate)?;
     Ok(run.into_rows()?)
 }
 
@@ -102,10 +97,8 @@ pub fn part<R: CountedRead, G: Gate>(
     ensures read { IsReadWithin limits format (R.remaining reader.old) (R.remaining reader.new) result }
     ensures tally { FailsWhere (result ≡ Err TraceFault.Read) (R.tally reader.old) (R.tally reader.new) }
 {
-    let (jobs, every) = ([*first, *second], usize::MAX);
-    let run = read_taken::<Brand, R, PartRun, G>(
-        alloc, reader, format, limits, &jobs, every, gate,
-    )?;
+    let mut run = PartRun::open(alloc, first, second)?;
+    read_taken(alloc, reader, format, limits, &mut run, gate)?;
     let found = run.found();
     drop(run);
     Ok(found)

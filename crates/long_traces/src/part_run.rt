@@ -2,7 +2,7 @@
 ghost use Rattle.std.specs.Prelude.{◌≡◌, ◌≤◌, ◌<◌, ◌+◌, ℕ, List, Ok, Some, IfOk, IfSome, IfNone, OnOk, length};
 ghost use Rattle.policies.specs.AnyPolicy.{Job, outcomes_on};
 ghost use Rattle.policy_comparison.specs.Part.{AgreeBelow, IsPart};
-ghost use Rattle.long_traces.specs.Taking.{AreNext, CanTake, FollowsTrace};
+ghost use Rattle.long_traces.specs.Taking.{AreNext, CanTake, FollowsTrace, HasBegun};
 ghost use Rattle.long_traces.specs.Pairs.{HavePaired, HasParted, HasPartedTask};
 
 use crate::feed::Taker;
@@ -22,10 +22,10 @@ pub(crate) struct PartRun {
 }
 
 impl PartRun {
-    // A run of both jobs before the first access. The one error is out of memory.
-    fn of_two(alloc: Global, first: &Job, second: &Job) -> Result<PartRun, AllocError>
+    /// A run of both jobs before the first access. The one error is out of memory.
+    pub(crate) fn open(alloc: Global, first: &Job, second: &Job) -> Result<PartRun, AllocError>
         requires { FollowsTrace first.now × FollowsTrace second.now }
-        ensures { IfOk result (λ run. (trace : List ℕ) → HasParted first.now second.now trace 0 run) }
+        ensures { IfOk result (HasBegun (HasParted first.now second.now)) }
     {
         let pair = Pair::open(alloc, first, second)?;
         Ok(PartRun {
@@ -89,16 +89,9 @@ fn parting_in(pair: &mut Pair, keys: &[Key]) -> Result<Option<usize>, AllocError
 }
 
 impl Taker for PartRun {
-    ghost use Rattle.std.specs.Prelude.{◌≡◌, length};
     ghost use Rattle.long_traces.specs.Pairs.{HasPartedTask};
 
-    ghost fits = { λ jobs. length jobs ≡ 2 };
-
     ghost has_taken = { HasPartedTask };
-
-    fn open(alloc: Global, jobs: &[Job], _every: usize) -> Result<PartRun, AllocError> {
-        PartRun::of_two(alloc, &jobs[0], &jobs[1])
-    }
 
     fn take(&mut self, keys: &[Key]) -> Result<(), AllocError> {
         self.take_all(keys)

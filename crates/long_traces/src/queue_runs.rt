@@ -3,7 +3,8 @@ ghost use Rattle.std.specs.Prelude.{◌≡◌, ◌≤◌, ◌+◌, ℕ, List, If
 ghost use Rattle.policy_queues.specs.QueueRows.{queues_text};
 ghost use Rattle.policy_queues.specs.QueueRun.{HasQueueRows};
 ghost use Rattle.long_traces.specs.QueueRuns.{HaveQueueRows};
-ghost use Rattle.long_traces.specs.Taking.{AreNext, CanTake, HasTakenAll, Task};
+ghost use Rattle.long_traces.specs.Taking.{AreNext, CanTake, FollowsTrace, HasBegun, HasTakenAll, Task};
+ghost use Rattle.std.specs.List.{All};
 
 use crate::feed::Taker;
 use policy_queues::{QueueRun, queues_header};
@@ -17,6 +18,20 @@ pub(crate) struct QueueRuns {
 }
 
 impl QueueRuns {
+    /// A run of each job before the first access, with intervals of `every` accesses. The one error is out of memory.
+    pub(crate) fn open(alloc: Global, jobs: &[Job], every: usize) -> Result<QueueRuns, AllocError>
+        requires follow { All FollowsTrace jobs.now }
+        requires some { 1 ≤ every }
+        ensures { IfOk result (HasBegun (HaveQueueRows (record { jobs = jobs.now; every = every }))) }
+    {
+        let none = Trace::new(Vec::new(alloc));
+        let mut runs = Vec::new(alloc);
+        for job in jobs {
+            runs.push(QueueRun::open(alloc, job, &none, every)?)?;
+        }
+        Ok(QueueRuns { runs })
+    }
+
     /// The header, all rows of the first job once all accesses were taken, then those of the second, and so on. The one
     /// error is out of memory.
     pub(crate) fn text(&self, alloc: Global) -> Result<Vec<u8>, AllocError>
@@ -33,21 +48,9 @@ impl QueueRuns {
 }
 
 impl Taker for QueueRuns {
-    ghost use Rattle.std.specs.Prelude.{⊤};
     ghost use Rattle.long_traces.specs.QueueRuns.{HaveQueueRows};
 
-    ghost fits = { λ jobs. ⊤ };
-
     ghost has_taken = { HaveQueueRows };
-
-    fn open(alloc: Global, jobs: &[Job], every: usize) -> Result<QueueRuns, AllocError> {
-        let none = Trace::new(Vec::new(alloc));
-        let mut runs = Vec::new(alloc);
-        for job in jobs {
-            runs.push(QueueRun::open(alloc, job, &none, every)?)?;
-        }
-        Ok(QueueRuns { runs })
-    }
 
     fn take(&mut self, keys: &[Key]) -> Result<(), AllocError> {
         for i in 0..self.runs.len() {

@@ -1,14 +1,19 @@
-use Rattle.std.proofs.Common.{◌≡◌, List, [], arith, length, subst, take_all, ℕ}
+use Rattle.std.proofs.Common.{[], arith, length, subst, take_all, List, ℕ}
+use Rattle.std.proofs.lemmas.Option.{IfSome_then}
 use Rattle.trace_footprint.specs.Counter.{HasCounted}
-use Rattle.trace_footprint.specs.Footprint.{footprint_of}
-use Rattle.long_traces.proofs.Runs.{from-known}
-use Rattle.long_traces.specs.Footprint.{HasCountedFirst}
+use Rattle.trace_read.specs.TraceText.{keys_in}
+use Rattle.long_traces.specs.Taking.{Task}
 use Rattle.long_traces.proofs.footprints.footprint.Goals as goal
 
+-- no jobs
+none : Task
+none = record { jobs = []; every = 1 }
+
+pub read_taken-requires-clause-begun : goal.read_taken-requires-clause-begun
+read_taken-requires-clause-begun g c κs within = (none, λ trace. c.new-counter.ensures)
+
 pub returns-clause-footprint : goal.returns-clause-footprint
-returns-clause-footprint g c =
-    from-known (λ all. HasCountedFirst (record { jobs = []; every = 1 }) all (length all) c.in_ok-counter.counter)
-    (λ all. c.footprint-footprint.result ≡ footprint_of all) c.args.format (g.R.CountedRead.remaining c.args.reader.now)
-    c.in_ok-counter.ensures.taken
-    (λ all has. c.footprint-footprint.ensures all
-    (subst (λ (keys : List ℕ). HasCounted keys c.in_ok-counter.counter) (take_all (length all) all (omega arith)) has))
+returns-clause-footprint g c = IfSome_then (g.R.CountedRead.remaining c.args.reader.now) c.in_ok-read_taken.ensures.taken (λ b has.
+    let all = keys_in c.args.format b in
+    c.footprint-footprint.ensures all
+    (subst (λ (keys : List ℕ). HasCounted keys c.read_taken.new.taker) (take_all (length all) all (omega arith)) (has none (λ trace. c.new-counter.ensures))))

@@ -1,14 +1,15 @@
-use Rattle.std.proofs.Common.{◌≡◌, length}
-use Rattle.std.specs.Prelude.{flat_map}
-use Rattle.sweeps.specs.Intervals.{intervals_on}
-use Rattle.long_traces.specs.JobRuns.{HaveRun}
-use Rattle.long_traces.proofs.Runs.{from-known}
+use Rattle.std.proofs.lemmas.Option.{IfSome_then}
+use Rattle.trace_read.specs.TraceText.{keys_in}
 use Rattle.long_traces.proofs.jobs.intervals.Goals as goal
 
+pub read_taken-requires-clause-begun : goal.read_taken-requires-clause-begun
+read_taken-requires-clause-begun g c κs within = (record { jobs = c.args.jobs.now; every = c.args.every }, c.in_ok-open.ensures)
+
+pub rows-requires : goal.rows-requires
+rows-requires g c =
+    let task = record { jobs = c.args.jobs.now; every = c.args.every } in (task, c.in_ok-read_taken.ensures.some task c.in_ok-open.ensures)
+
 pub returns-clause-rows : goal.returns-clause-rows
-returns-clause-rows g c =
-    let jobs = c.args.jobs.now in
-    let every = c.args.every in
-    from-known (λ all. HaveRun (record { jobs = jobs; every = every }) all (length all) c.in_ok-runs.runs)
-    (λ all. c.in_ok-rows.field-0.items ≡ flat_map (λ j. intervals_on j every all) jobs) c.args.format (g.R.CountedRead.remaining c.args.reader.now) c.in_ok-runs.ensures.taken
-    (λ all have. c.in_ok-rows.ensures (record { jobs = jobs; every = every }) all have)
+returns-clause-rows g c = IfSome_then (g.R.CountedRead.remaining c.args.reader.now) c.in_ok-read_taken.ensures.taken (λ b has.
+    let task = record { jobs = c.args.jobs.now; every = c.args.every } in
+    c.in_ok-rows.ensures task (keys_in c.args.format b) (has task c.in_ok-open.ensures))

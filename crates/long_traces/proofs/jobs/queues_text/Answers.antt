@@ -1,13 +1,15 @@
-use Rattle.std.proofs.Common.{◌≡◌, length}
-use Rattle.policy_queues.specs.QueueRows.{queues_text}
-use Rattle.long_traces.specs.QueueRuns.{HaveQueueRows}
-use Rattle.long_traces.proofs.Runs.{from-known}
+use Rattle.std.proofs.lemmas.Option.{IfSome_then}
+use Rattle.trace_read.specs.TraceText.{keys_in}
 use Rattle.long_traces.proofs.jobs.queues_text.Goals as goal
 
+pub read_taken-requires-clause-begun : goal.read_taken-requires-clause-begun
+read_taken-requires-clause-begun g c κs within = (record { jobs = c.args.jobs.now; every = c.args.every }, c.in_ok-open.ensures)
+
+pub text-requires : goal.text-requires
+text-requires g c =
+    let task = record { jobs = c.args.jobs.now; every = c.args.every } in (task, c.in_ok-read_taken.ensures.some task c.in_ok-open.ensures)
+
 pub returns-clause-text : goal.returns-clause-text
-returns-clause-text g c =
-    let jobs = c.args.jobs.now in
-    let every = c.args.every in
-    from-known (λ all. HaveQueueRows (record { jobs = jobs; every = every }) all (length all) c.in_ok-runs.runs)
-    (λ all. c.in_ok-text.field-0.items ≡ queues_text every jobs all) c.args.format (g.R.CountedRead.remaining c.args.reader.now) c.in_ok-runs.ensures.taken
-    (λ all have. c.in_ok-text.ensures (record { jobs = jobs; every = every }) all have)
+returns-clause-text g c = IfSome_then (g.R.CountedRead.remaining c.args.reader.now) c.in_ok-read_taken.ensures.taken (λ b has.
+    let task = record { jobs = c.args.jobs.now; every = c.args.every } in
+    c.in_ok-text.ensures task (keys_in c.args.format b) (has task c.in_ok-open.ensures))

@@ -1,18 +1,18 @@
-use Rattle.std.proofs.Common.{◌≡◌, ◌≤◌, arith, length, map}
+use Rattle.std.proofs.Common.{◌≡◌, ◌≤◌, arith, length}
 use Rattle.std.proofs.lemmas.Bool.{le-leb}
-use Rattle.policies.specs.Reports.{report_on}
+use Rattle.std.proofs.lemmas.Option.{IfSome_then}
 use Rattle.policies.specs.declared.job_checks.TheConstants.{MAX_ACTORS}
-use Rattle.long_traces.specs.JobRuns.{HaveRun}
+use Rattle.trace_read.specs.TraceText.{keys_in}
 use Rattle.long_traces.proofs.Following.{all-follow, none-faulty}
-use Rattle.long_traces.proofs.Runs.{from-known}
 use Rattle.long_traces.proofs.jobs.reports.Goals as goal
 
+pub read_taken-requires-clause-begun : goal.read_taken-requires-clause-begun
+read_taken-requires-clause-begun g c κs within = (record { jobs = c.args.jobs.now; every = 18446744073709551615 }, c.in_ok-open.ensures)
+
 pub returns-then-jobs-gt-MAX_ACTORS-clause-reports : goal.returns-then-jobs-gt-MAX_ACTORS-clause-reports
-returns-then-jobs-gt-MAX_ACTORS-clause-reports g c =
-    let jobs = c.args.jobs.now in
-    from-known (λ all. HaveRun (record { jobs = jobs; every = 18446744073709551615 }) all (length all) c.in_ok-runs.runs)
-    (λ all. c.in_ok-reports.field-0.items ≡ map (λ j. report_on j all) jobs) c.args.format (g.R.CountedRead.remaining c.args.reader.now) c.in_ok-runs.ensures.taken
-    (λ all have. c.in_ok-reports.ensures (record { jobs = jobs; every = 18446744073709551615 }) all have)
+returns-then-jobs-gt-MAX_ACTORS-clause-reports g c = IfSome_then (g.R.CountedRead.remaining c.args.reader.now) c.in_ok-read_taken.ensures.taken (λ b has.
+    let task = record { jobs = c.args.jobs.now; every = 18446744073709551615 } in
+    c.in_ok-reports.ensures task (keys_in c.args.format b) (has task c.in_ok-open.ensures))
 
 pub run_reading_within-requires-clause-due : goal.run_reading_within-requires-clause-due
 run_reading_within-requires-clause-due g c κs within =

@@ -1,13 +1,15 @@
-use Rattle.std.proofs.Common.{◌≡◌, length}
-use Rattle.policy_comparison.specs.Comparison.{compared_on}
-use Rattle.long_traces.specs.Pairs.{HasCompared}
-use Rattle.long_traces.proofs.Runs.{from-known}
+use Rattle.std.proofs.Common.{[], ◌∷◌}
+use Rattle.std.proofs.lemmas.Option.{IfSome_then}
+use Rattle.trace_read.specs.TraceText.{keys_in}
+use Rattle.long_traces.specs.Taking.{Job, Task}
 use Rattle.long_traces.proofs.pairs.compare.Goals as goal
 
+both : Job → Job → Task
+both first second = record { jobs = first ∷ second ∷ []; every = 18446744073709551615 }
+
+pub read_taken-requires-clause-begun : goal.read_taken-requires-clause-begun
+read_taken-requires-clause-begun g c κs within = (both c.args.first.now c.args.second.now, c.in_ok-open.ensures)
+
 pub returns-clause-counts : goal.returns-clause-counts
-returns-clause-counts g c =
-    let first = c.args.first.now in
-    let second = c.args.second.now in
-    from-known (λ all. HasCompared 18446744073709551615 first second all (length all) c.in_ok-run.run')
-    (λ all. c.counts-counts.result ≡ compared_on first second all) c.args.format (g.R.CountedRead.remaining c.args.reader.now)
-    c.in_ok-run.ensures.taken (λ all has. c.counts-counts.ensures 18446744073709551615 first second all has)
+returns-clause-counts g c = IfSome_then (g.R.CountedRead.remaining c.args.reader.now) c.in_ok-read_taken.ensures.taken (λ b has.
+    c.counts-counts.ensures 18446744073709551615 c.args.first.now c.args.second.now (keys_in c.args.format b) (has (both c.args.first.now c.args.second.now) c.in_ok-open.ensures))

@@ -1,14 +1,16 @@
-use Rattle.std.proofs.Common.{length}
-use Rattle.policies.specs.AnyPolicy.{outcomes_on}
-use Rattle.policy_comparison.specs.Part.{IsPart}
-use Rattle.long_traces.specs.Pairs.{HasParted}
-use Rattle.long_traces.proofs.Runs.{from-known}
+use Rattle.std.proofs.Common.{[], ◌∷◌}
+use Rattle.std.proofs.lemmas.Option.{IfSome_then}
+use Rattle.trace_read.specs.TraceText.{keys_in}
+use Rattle.long_traces.specs.Taking.{Job, Task}
 use Rattle.long_traces.proofs.pairs.part.Goals as goal
 
+-- of any length of an interval
+both : Job → Job → Task
+both first second = record { jobs = first ∷ second ∷ []; every = 1 }
+
+pub read_taken-requires-clause-begun : goal.read_taken-requires-clause-begun
+read_taken-requires-clause-begun g c κs within = (both c.args.first.now c.args.second.now, c.in_ok-open.ensures)
+
 pub returns-clause-part : goal.returns-clause-part
-returns-clause-part g c =
-    let first = c.args.first.now in
-    let second = c.args.second.now in
-    from-known (λ all. HasParted first second all (length all) c.in_ok-run.run')
-    (λ all. IsPart (outcomes_on first all) (outcomes_on second all) c.found-found.result) c.args.format (g.R.CountedRead.remaining c.args.reader.now)
-    c.in_ok-run.ensures.taken (λ all has. c.found-found.ensures first second all has)
+returns-clause-part g c = IfSome_then (g.R.CountedRead.remaining c.args.reader.now) c.in_ok-read_taken.ensures.taken (λ b has.
+    c.found-found.ensures c.args.first.now c.args.second.now (keys_in c.args.format b) (has (both c.args.first.now c.args.second.now) c.in_ok-open.ensures))

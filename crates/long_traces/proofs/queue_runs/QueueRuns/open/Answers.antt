@@ -5,7 +5,7 @@ use Rattle.std.proofs.lemmas.List.Elements.{All-nil, All-push}
 use Rattle.step_record.specs.declared.job.Job.{Job}
 use Rattle.long_traces.specs.QueueRuns.{QueueRun, HasQueueRows}
 use Rattle.long_traces.proofs.Next.{free}
-use Rattle.long_traces.proofs.queue_runs.QueueRunsTaker.open.Goals as goal
+use Rattle.long_traces.proofs.queue_runs.QueueRuns.open.Goals as goal
 
 pub loop-job-init : goal.loop-job-init
 loop-job-init c = (

@@ -4,7 +4,7 @@ use Rattle.std.proofs.lemmas.List.{map-append, take_all, take_more}
 use Rattle.std.proofs.lemmas.List.Elements.{All-nil, All-push}
 use Rattle.step_record.specs.declared.job.Job.{Job}
 use Rattle.long_traces.specs.JobRuns.{JobRun, HasRun}
-use Rattle.long_traces.proofs.job_runs.JobRunsTaker.open.Goals as goal
+use Rattle.long_traces.proofs.job_runs.JobRuns.open.Goals as goal
 
 pub loop-job-init : goal.loop-job-init
 loop-job-init c = (

@@ -1,6 +1,6 @@
 use Rattle.policies.specs.AnyPolicy.{outcomes_on}
 use Rattle.policy_comparison.specs.Comparison.{hits_beside}
-use Rattle.long_traces.proofs.compared_run.ComparedRun.of_two.Goals as goal
+use Rattle.long_traces.proofs.compared_run.ComparedRun.open.Goals as goal
 
 pub returns : goal.returns
 returns c = λ trace. record {

@@ -1,7 +1,7 @@
 use Rattle.std.proofs.Common.{refl, arith}
 use Rattle.policies.specs.AnyPolicy.{outcomes_on}
 use Rattle.long_traces.proofs.Two.{agree-none}
-use Rattle.long_traces.proofs.part_run.PartRun.of_two.Goals as goal
+use Rattle.long_traces.proofs.part_run.PartRun.open.Goals as goal
 
 pub returns : goal.returns
 returns c = λ trace. record {

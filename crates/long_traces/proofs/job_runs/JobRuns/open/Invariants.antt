@@ -1,7 +1,7 @@
 use Rattle.std.proofs.Common.{◌≡◌, ℕ, List, map, take}
 use Rattle.std.specs.List.{All}
 use Rattle.long_traces.specs.JobRuns.{HasRun}
-use Rattle.long_traces.proofs.job_runs.JobRunsTaker.open.Given as goal
+use Rattle.long_traces.proofs.job_runs.JobRuns.open.Given as goal
 
 abbrev pub invariant-loop-job : goal.invariant-loop-job
 invariant-loop-job l = (map (λ run. run.job) l.runs.items ≡ take l.job-index l.jobs)
