@@ -10,7 +10,6 @@ use std::sync::Wait;
 use std::sync::atomic::AtomicU64;
 use std::sync::atomic::Ordering::Relaxed;
 use step_record::Key;
-use trace_read::Follower;
 
 // Fewer accesses than this are not handed over before the end: it bounds how often an actor that is faster than the
 // feeder sleeps and is woken.
@@ -38,36 +37,6 @@ pub struct Feeder<'b, S: FedTrace, W: Wait> {
     is_open: bool,
 }
 
-impl<'b, S: FedTrace, W: Wait> Follower for Feeder<'b, S, W> {
-    ghost file = { λ f. S.known };
-
-    ghost taken = { λ f. f.place };
-
-    ghost most = { λ f. S.most };
-
-    // Where an actor is gone the accesses are only counted, so that none of them stay in memory.
-    fn follow(&mut self, keys: &mut Vec<Key>) {
-        if !self.is_open {
-            self.place += keys.len();
-            keys.clear();
-            return;
-        }
-        let batches = self.batches_due(keys.len());
-        if batches == 0 {
-            return;
-        }
-        match take_front(self.alloc, keys, batches * self.size.accesses) {
-            Ok(front) => self.give(front, false),
-            Err(_) => self.is_open = false,
-        }
-    }
-
-    // It is fed to the end also where an actor is gone, so that a fault of the trace is found.
-    fn has_stopped(&self) -> bool {
-        false
-    }
-}
-
 impl<'b, S: FedTrace, W: Wait> Feeder<'b, S, W> {
     /// A feeder that has given nothing yet.
     pub fn new(
@@ -87,6 +56,32 @@ impl<'b, S: FedTrace, W: Wait> Feeder<'b, S, W> {
             finished,
             place: 0,
             is_open: true,
+        }
+    }
+
+    /// Takes as many as are due of the accesses that were read and not taken yet, from the first on, and leaves the others.
+    /// Where an actor is gone they are only counted, so that none of them stay in memory: it is fed to the end also then,
+    /// so that a fault of the trace is found.
+    pub fn take(&mut self, keys: &mut Vec<Key>)
+        requires few { self.old.place + length keys.old.items ≤ S.most }
+        requires next { IfSome S.known (λ all.
+            keys.old.items ≡ take (length keys.old.items) (drop self.old.place all)) }
+        ensures order { self.old.place ≤ self.new.place }
+        ensures taken { self.new.place + length keys.new.items ≡ self.old.place + length keys.old.items }
+        ensures left { keys.new.items ≡ drop (self.new.place - self.old.place) keys.old.items }
+    {
+        if !self.is_open {
+            self.place += keys.len();
+            keys.clear();
+            return;
+        }
+        let batches = self.batches_due(keys.len());
+        if batches == 0 {
+            return;
+        }
+        match take_front(self.alloc, keys, batches * self.size.accesses) {
+            Ok(front) => self.give(front, false),
+            Err(_) => self.is_open = false,
         }
     }
 

@@ -7,7 +7,7 @@ ghost use Rattle.policies.specs.declared.job_checks.TheConstants.{MAX_ACTORS};
 ghost use Rattle.policy_actors.specs.Actors.{jobs_of};
 ghost use Rattle.policy_actors.specs.Faults.{actor_fault};
 ghost use Rattle.policy_actors.specs.Following.{CanFollow};
-ghost use Rattle.trace_read.specs.ReadTrace.{IsReadTo, IsReadWithin};
+ghost use Rattle.trace_read.specs.ReadTrace.{IsReadWithin};
 ghost use Rattle.trace_read.specs.declared.limits.TheConstants.{MAX_LONG_ACCESSES, MAX_LONG_TRACE_BYTES};
 ghost use Rattle.policies.specs.FaultyJobs.{faulty_in, ReturnsFault};
 ghost use Rattle.policies.specs.Reports.{report_on};
@@ -61,42 +61,14 @@ pub fn run_actors<R: Threads + Wait + Sync, G: Gate>(
     Ok(reports)
 }
 
-/// The reports of the jobs over the trace that the reader gives, in the order of the jobs: those of `read_trace` and
+/// The reports of the jobs over the trace that the reader gives, in the order of the jobs: those of `read_trace_within` and
 /// then `run_actors`, but the actors take the first accesses while later ones are still read, and nobody keeps the
-/// trace. The jobs and the size of a batch are such as `check_run` accepts. The gate is called as there.
+/// trace. The limits may be those of a long trace: no policy among the jobs has to know the whole trace then. At most
+/// four million accesses wait for an actor, so the memory does not grow with the trace. The jobs and the size of a batch
+/// are such as `check_run` accepts. The gate is called as there.
 ///
 /// Errors: those of `read_trace`, and `OutOfMemory` also where the actors are out of memory. An actor that is fed no
 /// last batch has no report.
-pub fn run_reading<T: Threads + Wait + Sync, R: CountedRead, G: Gate>(
-    rt: &T,
-    alloc: Global,
-    reader: &mut R,
-    format: Format,
-    jobs: &[Job],
-    batch: u32,
-    gate: &G,
-) -> Result<Vec<Report>, TraceFault>
-    requires { actor_fault batch jobs.now ≡ None }
-    ensures reports { IfOk result (λ v. IfSome (R.remaining reader.old)
-        (λ bytes. v.items ≡ map (λ j. report_on j (keys_in format bytes)) jobs.now)) }
-    ensures read { IsReadTo format (R.remaining reader.old) (R.remaining reader.new) result }
-    // `Read` comes just where a read failed, or the millionth was interrupted.
-    ensures tally { FailsWhere (result ≡ Err TraceFault.Read) (R.tally reader.old) (R.tally reader.new) }
-{
-    run_reading_within(
-        rt,
-        alloc,
-        reader,
-        format,
-        Limits::DEFAULT,
-        jobs,
-        batch,
-        gate,
-    )
-}
-
-/// The same within these limits, which may be those of a long trace: no policy among the jobs has to know the whole
-/// trace then. At most four million accesses wait for an actor, so the memory does not grow with the trace.
 pub fn run_reading_within<T: Threads + Wait + Sync, R: CountedRead, G: Gate>(
     rt: &T,
     alloc: Global,
@@ -114,6 +86,7 @@ pub fn run_reading_within<T: Threads + Wait + Sync, R: CountedRead, G: Gate>(
     ensures reports { IfOk result (λ v. IfSome (R.remaining reader.old)
         (λ bytes. v.items ≡ map (λ j. report_on j (keys_in format bytes)) jobs.now)) }
     ensures read { IsReadWithin limits format (R.remaining reader.old) (R.remaining reader.new) result }
+    // `Read` comes just where a read failed, or the millionth was interrupted.
     ensures tally { FailsWhere (result ≡ Err TraceFault.Read) (R.tally reader.old) (R.tally reader.new) }
 {
     let finished = AtomicU64::new(0);

@@ -1,6 +1,9 @@
 //! Where the accesses of a run come from.
-ghost use Rattle.std.specs.Prelude.{◌≡◌, ◌≤◌, ℕ, List, OnOk, Option, length};
-ghost use Rattle.trace_read.specs.TraceText.{AreOfFile};
+ghost use Rattle.std.specs.Prelude.{◌≡◌, ◌≤◌, ℕ, List, Err, OnOk, Option, Some, length};
+ghost use Rattle.streams.specs.Tally.{FailsWhere};
+ghost use Rattle.trace_read.specs.ReadTrace.{IsReadWithin};
+ghost use Rattle.trace_read.specs.TraceText.{keys_of_file};
+ghost use Rattle.trace_read.specs.declared.limits.TheConstants.{MAX_LONG_TRACE_BYTES};
 
 use crate::feeder::Feeder;
 use crate::lump::FedTrace;
@@ -8,7 +11,7 @@ use std::alloc::AllocError;
 use std::sync::Wait;
 use step_record::Trace;
 use streams::CountedRead;
-use trace_read::{Follower, Format, Limits, TraceFault, read_followed};
+use trace_read::{Format, Limits, Reading, TraceFault};
 
 // How many accesses of a trace that is there the feeder gets at a time.
 const PIECE: usize = 65_536;
@@ -80,10 +83,10 @@ impl<'r, R: CountedRead> AccessSource for ReaderSource<'r, R> {
     ghost use Rattle.streams.specs.Tally.{FailsWhere};
     ghost use Rattle.trace_read.specs.declared.fault.TraceFault.TheVariants.{Read};
     ghost use Rattle.trace_read.specs.ReadTrace.{IsReadWithin};
-    ghost use Rattle.trace_read.specs.TraceText.{AreOfFile};
+    ghost use Rattle.trace_read.specs.TraceText.{keys_of_file};
     ghost use Rattle.trace_read.specs.declared.limits.TheConstants.{MAX_LONG_TRACE_BYTES};
 
-    ghost gives = { λ s known most. AreOfFile s.format (R.remaining s.reader.now) known
+    ghost gives = { λ s known most. (known ≡ keys_of_file s.format (R.remaining s.reader.now))
         × (s.limits.accesses ≤ most) × (s.limits.bytes ≤ MAX_LONG_TRACE_BYTES) };
 
     ghost becomes = { λ s o. (o.0.ghost_name ≡ s.reader.ghost_name)
@@ -103,10 +106,7 @@ impl<'r, R: CountedRead> AccessSource for ReaderSource<'r, R> {
             format,
             limits,
         } = self;
-        let read = match read_followed(feeder.alloc, reader, format, limits, &mut feeder) {
-            Ok(rest) => Ok(feeder.give(rest, true)),
-            Err(fault) => Err(fault),
-        };
+        let read = feed_read(&mut feeder, reader, format, limits);
         (reader, read)
     }
 
@@ -131,10 +131,35 @@ fn feed_trace<S: FedTrace, W: Wait>(
     while rest.len() > PIECE {
         let (piece, later) = rest.split_at(PIECE);
         read.extend_from_slice(piece)?;
-        feeder.follow(&mut read);
+        feeder.take(&mut read);
         rest = later;
     }
     read.extend_from_slice(rest)?;
     feeder.give(read, true);
+    Ok(())
+}
+
+// Gives the feeder the trace that the reader gives, while it is read.
+fn feed_read<S: FedTrace, R: CountedRead, W: Wait>(
+    feeder: &mut Feeder<'_, S, W>,
+    reader: &mut R,
+    format: Format,
+    limits: Limits,
+) -> Result<(), TraceFault>
+    requires known { S.known ≡ keys_of_file format (R.remaining reader.old) }
+    requires few { limits.accesses ≤ S.most }
+    requires bytes { limits.bytes ≤ MAX_LONG_TRACE_BYTES }
+    requires none { feeder.old.place ≡ 0 }
+    ensures read { IsReadWithin limits format (R.remaining reader.old) (R.remaining reader.new) result }
+    ensures tally { FailsWhere (result ≡ Err TraceFault.Read) (R.tally reader.old) (R.tally reader.new) }
+{
+    let mut reading = Reading::new(feeder.alloc, format, limits);
+    let mut keys = Vec::new(feeder.alloc);
+    let mut waiting = Vec::new(feeder.alloc);
+    'pieces: while reading.next(reader, &mut keys)? {
+        waiting.extend_from_slice(keys.as_slice())?;
+        feeder.take(&mut waiting);
+    }
+    feeder.give(waiting, true);
     Ok(())
 }

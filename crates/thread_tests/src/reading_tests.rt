@@ -3,7 +3,7 @@ use super::assertions::assert_equal;
 use super::gates::{Hold, Turns};
 use super::jobs::{counted, failed, four_jobs, four_reports, job, one_key};
 use policies::Report;
-use policy_actors::{check_run, run_reading, run_reading_within};
+use policy_actors::{check_run, run_reading_within};
 use std::alloc::Global;
 use std::io;
 use std::io::{Error, ErrorKind, Read};
@@ -70,13 +70,24 @@ fn assert_reading<G: Gate, R: Threads + Wait + Sync + Abort>(
     rt: &R,
     alloc: Global,
     text: Pieces<'_>,
-    (jobs, batch): (&[Job], u32),
+    jobs: &[Job],
+    batch: u32,
     gate: &G,
     wanted: Result<&[Report], TraceFault>,
 ) -> Result<(), Fail> {
     check_run(batch, jobs).map_err(failed)?;
     let mut reader = CountedReader::new(text);
-    match run_reading(rt, alloc, &mut reader, Format::Lirs, jobs, batch, gate) {
+    let limits = Limits::DEFAULT;
+    match run_reading_within(
+        rt,
+        alloc,
+        &mut reader,
+        Format::Lirs,
+        limits,
+        jobs,
+        batch,
+        gate,
+    ) {
         Ok(reports) => assert_equal(rt, Ok(reports.as_slice()), wanted),
         Err(fault) => assert_equal(rt, Err(fault), wanted),
     }
@@ -96,7 +107,7 @@ fn reports_are_made_while_a_text_is_read(rt: HostRuntime) -> Result<(), Fail> {
         } else {
             Ok(wanted.as_slice())
         };
-        assert_reading(&rt, rt.alloc(), text, (&jobs, batch), &OpenGate, wanted)?;
+        assert_reading(&rt, rt.alloc(), text, &jobs, batch, &OpenGate, wanted)?;
     }
     Ok(())
 }
@@ -168,7 +179,7 @@ fn read_tens<G: Gate, R: Threads + Wait + Sync + Abort>(
     let text = Pieces::of(TEN, 20, tens);
     let wanted = [one_key(u64::from(tens) * 10); 2];
     let jobs = [job(Policy::Lru, 2); 2];
-    assert_reading(rt, alloc, text, (&jobs, batch), gate, Ok(&wanted))
+    assert_reading(rt, alloc, text, &jobs, batch, gate, Ok(&wanted))
 }
 
 // How many times ten accesses there are, how many accesses a batch has, and how many batches that makes.
@@ -209,7 +220,7 @@ fn actors_begin_while_the_trace_is_read(rt: HostRuntime) -> Result<(), Fail> {
     text.gate = Some(&gate);
     let jobs = [job(Policy::Lru, 2); 2];
     let wanted = [one_key(40_000); 2];
-    assert_reading(&rt, rt.alloc(), text, (&jobs, 1_024), &gate, Ok(&wanted))?;
+    assert_reading(&rt, rt.alloc(), text, &jobs, 1_024, &gate, Ok(&wanted))?;
     assert!(rt; !gate.is_late());
     Ok(())
 }

@@ -6,8 +6,8 @@ use Rattle.policy_actors.proofs.source.feed_trace.Goals as goal
 pub loop-rest-init : goal.loop-rest-init
 loop-rest-init g c = begun c.args.trace.now c.new-read.result.items c.keys-rest.result.now c.args.feeder.now.place c.requires.none c.new-read.ensures.items c.keys-rest.ensures.keys
 
-pub follow-requires-clause-few : goal.follow-requires-clause-few
-follow-requires-clause-few g c = let l = c.loop-rest in let all = c.args.trace.now in let s = c.split_at in let read = c.extend_from_slice.new.self.items in
+pub take-requires-clause-few : goal.take-requires-clause-few
+take-requires-clause-few g c = let l = c.loop-rest in let all = c.args.trace.now in let s = c.split_at in let read = c.extend_from_slice.new.self.items in
     omega (
       arith,
       c.requires.few,
@@ -15,8 +15,8 @@ follow-requires-clause-few g c = let l = c.loop-rest in let all = c.args.trace.n
           (grown all l.read.items l.rest.now s.result.0.now read s.result.1.now l.feeder.place 65536 l.invariant.1 c.in_ok-extend_from_slice.ensures.items s.ensures.front s.ensures.back),
     )
 
-pub follow-requires-clause-next : goal.follow-requires-clause-next
-follow-requires-clause-next g c = let l = c.loop-rest in let all = c.args.trace.now in let s = c.split_at in let read = c.extend_from_slice.new.self.items in
+pub take-requires-clause-next : goal.take-requires-clause-next
+take-requires-clause-next g c = let l = c.loop-rest in let all = c.args.trace.now in let s = c.split_at in let read = c.extend_from_slice.new.self.items in
     next all read s.result.1.now l.feeder.place l.invariant.0
     (grown all l.read.items l.rest.now s.result.0.now read s.result.1.now l.feeder.place 65536 l.invariant.1 c.in_ok-extend_from_slice.ensures.items s.ensures.front s.ensures.back)
     g.S.FedTrace.known c.requires.known
@@ -25,10 +25,10 @@ pub loop-rest-smaller : goal.loop-rest-smaller
 loop-rest-smaller g c = let e = ap (λ (l : List ℕ). length l) c.split_at.ensures.back in omega (arith, e, length-drop 65536 c.loop-rest.rest.now, c.loop-rest-test.true)
 
 pub loop-rest-preserved : goal.loop-rest-preserved
-loop-rest-preserved g c = let l = c.loop-rest in let all = c.args.trace.now in let s = c.split_at in let read = c.extend_from_slice.new.self.items in let f = c.follow.ensures in
+loop-rest-preserved g c = let l = c.loop-rest in let all = c.args.trace.now in let s = c.split_at in let read = c.extend_from_slice.new.self.items in let f = c.take.ensures in
     followed all read s.result.1.now l.feeder.place l.invariant.0
     (grown all l.read.items l.rest.now s.result.0.now read s.result.1.now l.feeder.place 65536 l.invariant.1 c.in_ok-extend_from_slice.ensures.items s.ensures.front s.ensures.back)
-    c.follow.new.keys.items c.follow.new.self.place f.order f.taken f.left
+    c.take.new.keys.items c.take.new.self.place f.order f.taken f.left
 
 pub give-requires-clause-few : goal.give-requires-clause-few
 give-requires-clause-few g c = let l = c.loop-rest in let all = c.args.trace.now in

@@ -1,6 +1,6 @@
 use Rattle.std.proofs.Common.{arith}
 use Rattle.std.proofs.lemmas.Grind.{common_steps}
-use Rattle.policy_actors.proofs.feeder.FeederFollower.follow.Goals as goal
+use Rattle.policy_actors.proofs.feeder.Feeder.take.Goals as goal
 
 pub give-requires-clause-next : goal.give-requires-clause-next
 give-requires-clause-next g c = grind (arith, common_steps)
