@@ -1,5 +1,6 @@
 -- What a reading answers to a call for its next accesses.
-use Rattle.std.proofs.Common.{true, false, ◌≡◌, ◌∙◌, ◌+◌, ◌<◌, ◌≤◌, ◌⊎◌, ℕ, Bool, List, [], length, take, drop, Option, Some, Result, Ok, Err, inl, inr, arith, ap, subst, sym, refl}
+use Rattle.std.proofs.Common.{true, false, ◌≡◌, ◌∙◌, ◌+◌, ◌<◌, ◌≤◌, ◌++◌, ◌⊎◌, ℕ, Bool, List, [], length, length-append, take, take_all, drop, Option, Some, None, Result, Ok, Err, inl, inr, arith, ap, subst, sym, refl}
+use Rattle.std.proofs.Math.Seq.{take-add}
 use Rattle.std.specs.Prelude.{IfSome}
 use Rattle.std.specs.Io.KnownBytes.{IsAtEnd}
 use Rattle.streams.proofs.Tallies.{further, later}
@@ -123,3 +124,18 @@ module _ (limits : Limits) (format : Format) (old : Option (List ℕ)) (before :
       read = refused limits format old now OutOfMemory (inl refl) within;
       tally = spent_only r.pieces.budget before after (λ q. absurd (cc q)) has.reading.spent;
     }
+
+-- accesses are kept behind those before them
+pub kept_on : (old : Option (List ℕ)) (format : Format) (was keys all : List ℕ) → all ≡ was ++ keys → IfSome old (λ b. was ≡ take (length was) (keys_in format b))
+    → IfSome old (λ b. keys ≡ take (length keys) (drop (length was) (keys_in format b))) → IfSome old (λ b. all ≡ take (length all) (keys_in format b))
+kept_on None format was keys all is first next = tt
+kept_on (Some b) format was keys all is first next =
+    let whole = keys_in format b in
+    is ∙ ap (λ l. l ++ keys) first ∙ ap (λ l. take (length was) whole ++ l) next ∙ sym (take-add (length was) (length keys) whole)
+    ∙ ap (λ n. take n whole) (sym (ap length is ∙ length-append was keys))
+
+-- they are all, where no more come
+pub kept_all : (old : Option (List ℕ)) (format : Format) (all keys : List ℕ) → keys ≡ [] → IfSome old (λ b. length all + length keys ≡ length (keys_in format b)) → IfSome old (λ b. all ≡ take (length all) (keys_in format b))
+    → IfSome old (λ b. all ≡ keys_in format b)
+kept_all None format all keys none last first = tt
+kept_all (Some b) format all keys none last first = first ∙ take_all (length all) (keys_in format b) (omega (arith, last, ap length none))

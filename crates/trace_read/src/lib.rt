@@ -6,8 +6,7 @@
 //! faulty line, with its number. The rules of both formats are defined by this project.
 //!
 //! A `Reading` gives the accesses to its caller, some at a time, within `Limits` on accesses and bytes. `read_trace` and
-//! `read_trace_within` keep them all; `read_followed` lets a `Follower` take them, from the first on, and gives the ones
-//! that it left.
+//! `read_trace_within` keep them all.
 //!
 //! A file is read in one pass, piece by piece, and no bytes are kept but those of the last piece and of a line that a
 //! piece cut in two. The accesses of a line of many are made and given some hundreds at a time. `Read` and `TooLarge`
@@ -18,7 +17,6 @@ mod arc;
 mod digit_runs;
 mod digits;
 mod fault;
-mod follower;
 mod format;
 mod limits;
 mod lirs;
@@ -30,8 +28,7 @@ mod scan;
 
 pub use engine_base::Trace;
 pub use fault::TraceFault;
-pub use follower::Follower;
 pub use format::Format;
 pub use limits::{Limits, MAX_LONG_ACCESSES, MAX_LONG_TRACE_BYTES};
-pub use reader::{read_followed, read_trace, read_trace_within};
+pub use reader::{read_trace, read_trace_within};
 pub use reading::Reading;
