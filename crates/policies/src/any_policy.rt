@@ -2,6 +2,7 @@
 ghost use Rattle.std.specs.Prelude.{◌≡◌, ◌≤◌, ◌↔◌, ℕ, List, MatchOption, IfOk, OnErr};
 ghost use Rattle.std.specs.Prelude.{Ok, Err, Some, None, [], option_map, length, true};
 ghost use Rattle.demand_cache.specs.DemandCache.{demand_act, demand_may_ask};
+ghost use Rattle.key_rows.specs.KeyRow.{left_key, row_left};
 
 use crate::design::{Design, design_of};
 use adaptive_window::{AdaptiveCache, AdaptiveRecord};
@@ -44,6 +45,7 @@ impl AnyPolicy {
     ghost use Rattle.policies.specs.AnyPolicy.{HasAccessed, stats_in, any_residents, any_queues, estimate_in, frequency_in};
     ghost use Rattle.policies.specs.Design.{design_of};
     ghost use Rattle.policies.specs.AnyStep.{any_act, MayAllocate};
+    ghost use Rattle.policies.specs.Accesses.{CanAnswer};
 
     /// An empty cache for a job over a trace. It requires a configuration that `Config::check` accepts. The one error
     /// is that an allocation failed.
@@ -202,6 +204,41 @@ impl AnyPolicy {
             AnyPolicy::Demand(cache) => cache.named_queues(alloc),
             AnyPolicy::Adaptive(cache) => cache.named_queues(alloc),
         }
+    }
+
+    /// The number of the queue, in the order of `named_queues`, from which a key leaves by an access of this outcome, where
+    /// the next access may have it. A rejected key leaves none where it did not stand in a queue before.
+    pub fn row_left(&self, outcome: Outcome) -> Option<usize>
+        ensures { CanAnswer outcome self.now → result ≡ row_left outcome (any_queues self.now) }
+    {
+        let key = left_key(outcome)?;
+        match self {
+            AnyPolicy::Queues(cache) => cache.row_of(key),
+            AnyPolicy::Optimal(_) => optimal_row(outcome),
+            AnyPolicy::Demand(cache) => cache.row_of(key),
+            AnyPolicy::Adaptive(cache) => cache.row_of(key),
+        }
+    }
+}
+
+// The key that leaves.
+fn left_key(outcome: Outcome) -> Option<Key>
+    ensures { result ≡ left_key outcome }
+{
+    match outcome {
+        Outcome::Evicted(key) | Outcome::Rejected(key) => Some(key),
+        Outcome::Hit | Outcome::Kept => None,
+    }
+}
+
+// Of the optimal policy, whose one queue has each resident key: it rejects the accessed key alone.
+fn optimal_row(outcome: Outcome) -> Option<usize>
+    ensures evicted { (key : ℕ) → outcome ≡ Outcome.Evicted key → result ≡ Some 0 }
+    ensures rejected { (key : ℕ) → outcome ≡ Outcome.Rejected key → result ≡ None }
+{
+    match outcome {
+        Outcome::Evicted(_) => Some(0),
+        Outcome::Rejected(_) | Outcome::Hit | Outcome::Kept => None,
     }
 }
 
