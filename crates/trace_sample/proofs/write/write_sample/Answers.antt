@@ -1,5 +1,6 @@
 use Rattle.std.proofs.Common.{◌≡◌, ◌∙◌, ◌+◌, length, ap, subst, refl, rules, arith}
 use Rattle.std.proofs.lemmas.Option.{IfSome_then}
+use Rattle.std.specs.Prelude.{IfSome}
 use Rattle.streams.proofs.Tallies.{further, later, unspent}
 use Rattle.streams.specs.declared.retry_budget.TheConstants.{INTERRUPTIONS}
 use Rattle.trace_read.specs.TraceText.{keys_in}
@@ -7,6 +8,7 @@ use Rattle.trace_read.proofs.Readings.{exhausted, spent_only}
 use Rattle.trace_sample.proofs.Ended.{fails_as, fails_not, fault_at, kept_more}
 use Rattle.trace_sample.proofs.Sampled.{IsSampled, always, both, nothing_sampled, sampled_all, sampled_counts, sampled_on, sampled_part, sampled_so_far}
 use Rattle.trace_sample.proofs.write.write_sample.Goals as goal
+use Rattle.trace_sample.proofs.write.write_sample.Goals.{After-pass_on}
 
 pub pieces-init : goal.pieces-init
 pieces-init g c = record {
@@ -20,7 +22,6 @@ pieces-init g c = record {
 pub returns-in-Err : goal.returns-in-Err
 returns-in-Err g c =
     let i = c.pieces.invariant in
-    let first = g.R.CountedRead.remaining c.args.reader.now in
     let next = c.in-Err.ensures.next _ _ _ _ _ i.reading in
     record {
       sound = tt;
@@ -28,8 +29,8 @@ returns-in-Err g c =
       counts = tt;
       end = tt;
       flushed = tt;
-      part = IfSome_then first i.sampled (λ b s. sampled_so_far _ _ c.pieces.accesses _ c.pieces.kept _ _ s);
-      fault = fault_at _ first _ c.in-Err.fault (next.end (λ q. absurd (cc q)));
+      part = IfSome_then _ i.sampled (λ b s. sampled_so_far _ _ c.pieces.accesses _ c.pieces.kept _ _ s);
+      fault = fault_at _ _ _ c.in-Err.fault (next.end (λ q. absurd (cc q)));
       reads = fails_as _ _ (λ q. cc q) (λ q. cc q) next.tally;
       writes = spent_only c.pieces.budget _ _ (λ q. absurd (cc q)) i.spent;
     }
@@ -37,7 +38,6 @@ returns-in-Err g c =
 pub returns-in-Err-add : goal.returns-in-Err-add
 returns-in-Err-add g c =
     let i = c.pieces.invariant in
-    let first = g.R.CountedRead.remaining c.args.reader.now in
     let next = c.in-Ok.ensures.next _ _ _ _ _ i.reading in
     record {
       sound = tt;
@@ -45,26 +45,28 @@ returns-in-Err-add g c =
       counts = tt;
       end = tt;
       flushed = tt;
-      part = IfSome_then first i.sampled (λ b s. sampled_so_far _ _ c.pieces.accesses _ c.pieces.kept _ _ s);
+      part = IfSome_then _ i.sampled (λ b s. sampled_so_far _ _ c.pieces.accesses _ c.pieces.kept _ _ s);
       fault = tt;
       reads = fails_not _ _ (λ q. absurd (cc q)) (λ q. absurd (cc q)) next.tally;
       writes = spent_only c.pieces.budget _ _ (λ q. absurd (cc q)) i.spent;
     }
 
+-- the accesses of the piece were kept
+kept : (g : _) (c : goal.After-pass_on g) → IfSome (g.R.CountedRead.remaining c.args.reader.now) (λ bytes. IsSampled c.args.rule.inverse c.args.rule.seed
+    (c.pieces.accesses + length c.next.new.keys.items) c.add.new.self (g.W.CountedWrite.contents c.args.writer.now) (g.W.CountedWrite.contents c.pieces.writer) (keys_in c.args.format bytes))
+kept g c = kept_more c.args.rule _ _ _ _ _ _ _ _ _ _ (c.in-Ok.ensures.next _ _ _ _ _ c.pieces.invariant.reading).gives c.pieces.invariant.rule c.as_slice.ensures.value c.in_default.ensures.kept c.pieces.invariant.sampled
+
 pub returns-in-Err-pass_on : goal.returns-in-Err-pass_on
 returns-in-Err-pass_on g c =
     let i = c.pieces.invariant in
-    let first = g.R.CountedRead.remaining c.args.reader.now in
     let next = c.in-Ok.ensures.next _ _ _ _ _ i.reading in
-    let kept = kept_more c.args.rule c.args.format first c.pieces.accesses c.in-Ok.more c.next.new.keys.items c.as_slice.result.now c.pieces.kept c.add.new.self
-    (g.W.CountedWrite.contents c.args.writer.now) (g.W.CountedWrite.contents c.pieces.writer) next.gives i.rule c.as_slice.ensures.value c.in_default.ensures.kept i.sampled in
     record {
       sound = tt;
       text = tt;
       counts = tt;
       end = tt;
       flushed = tt;
-      part = IfSome_then first kept (λ b s. sampled_part _ _ (c.pieces.accesses + length c.next.new.keys.items) _ c.add.new.self _ _ _ c.in-Err-pass_on.ensures.part s);
+      part = IfSome_then _ (kept g (goal.at.returns-in-Err-pass_on g c).After-pass_on) (λ b s. sampled_part _ _ _ _ c.add.new.self _ _ _ c.in-Err-pass_on.ensures.part s);
       fault = tt;
       reads = fails_not _ _ (λ q. absurd (cc q)) (λ q. absurd (cc q)) next.tally;
       writes = exhausted _ _ refl (later INTERRUPTIONS c.pieces.budget _ _ _ i.spent c.in-Err-pass_on.ensures.exhausted);
@@ -73,26 +75,16 @@ returns-in-Err-pass_on g c =
 pub returns-then-not-more : goal.returns-then-not-more
 returns-then-not-more g c =
     let i = c.pieces.invariant in
-    let first = g.R.CountedRead.remaining c.args.reader.now in
-    let rule = c.args.rule in
-    let format = c.args.format in
-    let keys = c.next.new.keys.items in
-    let start = g.W.CountedWrite.contents c.args.writer.now in
-    let mid = g.W.CountedWrite.contents c.pieces.writer in
-    let now = g.W.CountedWrite.contents c.pass_on.new.writer in
     let next = c.in-Ok.ensures.next _ _ _ _ _ i.reading in
-    let kept = kept_more rule format first c.pieces.accesses c.in-Ok.more keys c.as_slice.result.now c.pieces.kept c.add.new.self start mid next.gives i.rule c.as_slice.ensures.value c.in_default.ensures.kept i.sampled in
-    let same = c.pass_on.ensures.same in
-    let on = IfSome_then first kept (λ b s.
-    sampled_on rule.inverse rule.seed (c.pieces.accesses + length keys) (keys_in format b) c.add.new.self c.pass_on.new.kept start mid now same.1 same.2 c.in_default-pass_on.ensures.written s) in
+    let at = (goal.at.returns-then-not-more g c).After-pass_on in
     let last = next.gives.last c.if-not-more.true in
     let read = next.end (λ q. absurd (cc (q, c.if-not-more.true))) in
-    let len : c.len.result ≡ length keys = search rules in
+    let len : c.len.result ≡ length c.next.new.keys.items = search rules in
+    let on = IfSome_then _ (kept g at) (λ b s. sampled_on _ _ _ _ c.add.new.self c.pass_on.new.kept _ _ _ c.pass_on.ensures.same.1 c.pass_on.ensures.same.2 c.in_default-pass_on.ensures.written s) in
     record {
       sound = read.ok;
-      text = both first on last (λ b s l. sampled_all rule.inverse rule.seed (c.pieces.accesses + length keys) (keys_in format b) c.pass_on.new.kept start now l
-          (c.in_default-pass_on.ensures.none c.if-not-more.true) s);
-      counts = both first on last (λ b s l. sampled_counts rule.inverse rule.seed (c.pieces.accesses + length keys) (keys_in format b) c.pass_on.new.kept start now c.counts.result l
+      text = both _ on last (λ b s l. sampled_all _ _ _ _ c.pass_on.new.kept _ _ l (c.in_default-pass_on.ensures.none c.if-not-more.true) s);
+      counts = both _ on last (λ b s l. sampled_counts _ _ _ _ c.pass_on.new.kept _ _ c.counts.result l
           (c.counts.ensures.accesses.0 ∙ ap (λ n. c.pieces.accesses + n) len, c.counts.ensures.accesses.1) c.counts.ensures.blocks s);
       end = read.end;
       flushed = c.in_default-pass_on.ensures.flushed c.if-not-more.true;
@@ -105,24 +97,17 @@ returns-then-not-more g c =
 pub pieces-preserved : goal.pieces-preserved
 pieces-preserved g c =
     let i = c.pieces.invariant in
-    let first = g.R.CountedRead.remaining c.args.reader.now in
-    let rule = c.args.rule in
-    let format = c.args.format in
-    let keys = c.next.new.keys.items in
-    let start = g.W.CountedWrite.contents c.args.writer.now in
-    let mid = g.W.CountedWrite.contents c.pieces.writer in
-    let now = g.W.CountedWrite.contents c.pass_on.new.writer in
     let next = c.in-Ok.ensures.next _ _ _ _ _ i.reading in
-    let kept = kept_more rule format first c.pieces.accesses c.in-Ok.more keys c.as_slice.result.now c.pieces.kept c.add.new.self start mid next.gives i.rule c.as_slice.ensures.value c.in_default.ensures.kept i.sampled in
     let same = c.pass_on.ensures.same in
-    let len : c.len.result ≡ length keys = search rules in
+    let len : c.len.result ≡ length c.next.new.keys.items = search rules in
     let on = next.goes_on in
-    let count : c.pieces.accesses + length keys ≡ c.pieces.accesses + c.len.result = omega (arith, len) in
+    let count : c.pieces.accesses + length c.next.new.keys.items ≡ c.pieces.accesses + c.len.result = omega (arith, len) in
     record {
       reading = record { same_limits = on.same_limits; same_format = on.same_format; count = on.count ∙ count; reading = on.reading };
       rule = ap (λ t. t.rule) same.0 ∙ c.add.ensures.rule ∙ i.rule;
       few = omega (arith, same.2, c.add.ensures.few, i.few, len, ap length c.as_slice.ensures.value);
-      sampled = IfSome_then first kept (λ b s. subst (λ n. IsSampled rule.inverse rule.seed n c.pass_on.new.kept start now (keys_in format b)) count
-          (sampled_on rule.inverse rule.seed (c.pieces.accesses + length keys) (keys_in format b) c.add.new.self c.pass_on.new.kept start mid now same.1 same.2 c.in_default-pass_on.ensures.written s));
+      sampled = IfSome_then _ (kept g (goal.at.pieces-preserved g c).After-pass_on) (λ b s. subst (λ n. IsSampled c.args.rule.inverse c.args.rule.seed n c.pass_on.new.kept
+          (g.W.CountedWrite.contents c.args.writer.now) (g.W.CountedWrite.contents c.pass_on.new.writer) (keys_in c.args.format b)) count
+          (sampled_on _ _ _ _ c.add.new.self c.pass_on.new.kept _ _ _ same.1 same.2 c.in_default-pass_on.ensures.written s));
       spent = further _ _ _ _ _ _ i.spent c.in_default-pass_on.ensures.spent;
     }
