@@ -1,3 +1,4 @@
 pub mod QueuesAt
 pub mod Rows
 pub mod Ended
+pub mod LeftKeys

@@ -1,3 +1,4 @@
 pub mod QueuesAt
 pub mod QueueRows
+pub mod LeftKeys
 pub mod QueueRun

@@ -1,5 +1,5 @@
 -- What a run of a job has of a trace whose accesses it makes in turn.
-use Rattle.std.specs.Prelude.{◌≡◌, ◌≤◌, ◌<◌, ℕ, ◌+◌, ◌*◌, List, length, take}
+use Rattle.std.specs.Prelude.{◌≡◌, ◌≤◌, ◌<◌, ℕ, ◌+◌, ◌*◌, ◌-◌, min, List, length, take}
 use Rattle.std.specs.List.{flat_map}
 use Rattle.engine_base.specs.declared.limits.TheConstants.{MAX_STEPS}
 use Rattle.engine_base.specs.Stats.{stats_of}
@@ -8,6 +8,7 @@ use Rattle.policies.specs.AnyPolicy.{Job, Stats, HasAccessed, outcomes_on}
 use Rattle.sweeps.specs.Intervals.{first_intervals}
 pub use Rattle.policy_comparison.specs.CacheAccess.{StandsAt}
 use Rattle.policy_queues.specs.QueueRows.{queue_rows}
+pub use Rattle.policy_queues.specs.LeftKeys.{AreLeft}
 pub use Rattle.policy_queues.specs.declared.queue_run.QueueRun.{QueueRun}
 
 -- so many intervals are over: it has their rows, and noted what was counted before the next one
@@ -26,6 +27,7 @@ pub record HasQueueRows (every : ℕ) (trace : List ℕ) (n : ℕ) (run : QueueR
   pub within : n ≤ length trace
   pub place : n ≡ done * run.every + run.used
   pub used : run.used < run.every
+  pub left : AreLeft run.job trace (done * run.every) run.used run.left.items
 
 -- so of some trace in which the key comes next
 pub record CanAccess (key : ℕ) (run : QueueRun) : Type 0 where
@@ -37,17 +39,19 @@ pub record CanAccess (key : ℕ) (run : QueueRun) : Type 0 where
   pub has : HasQueueRows every trace place run
 
 -- The cache of the job made the accesses of one interval more than so many, of which the trace may have fewer than of
--- another; this was counted before them.
-pub record EndsInterval (job : Job) (trace : List ℕ) (every done : ℕ) (cut : Stats) (cache : AnyPolicy) : Type 0 where
+-- another; this was counted before them, and so many keys left each queue by them.
+pub record EndsInterval (job : Job) (trace : List ℕ) (every done : ℕ) (cut : Stats) (left : List ℕ) (cache : AnyPolicy)
+    : Type 0 where
   pub some : 1 ≤ every
   pub begun : done * every < length trace
   pub counted : cut ≡ stats_of (take (done * every) (outcomes_on job trace))
   pub stands : HasAccessed job trace (take ((done + 1) * every) trace) cache
+  pub departed : AreLeft job trace (done * every) (min every (length trace - done * every)) left
 
 -- so did the run, which has the rows of the intervals before
 pub record EndsQueueRows (trace : List ℕ) (done : ℕ) (run : QueueRun) : Type 0 where
   pub rows : AreQueueRows trace done run
-  pub ends : EndsInterval run.job trace run.every done run.cut run.cache
+  pub ends : EndsInterval run.job trace run.every done run.cut run.left.items run.cache
 
 -- it made all accesses of some trace
 pub record HasAllQueueRows (run : QueueRun) : Type 0 where

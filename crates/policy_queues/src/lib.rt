@@ -3,10 +3,12 @@
 //!
 //! `queues_text` is the text of several jobs over a trace that is kept; a `QueueRun` makes the accesses of one job in
 //! turn, also while a trace is read. Each row is that of the interval, once a queue, with how many keys the queue holds
-//! once the interval's last access is made, and how many of these have their bit or count set.
+//! once the interval's last access is made, how many of these have their bit or count set, and how many keys left the
+//! queue over the interval.
 #![tactic(auto)]
 
 mod kept_rows;
+mod left_keys;
 mod queue_rows;
 mod queue_run;
 

@@ -1,10 +1,10 @@
 //! The text of rows of intervals with a policy's queues. The one error of each call is that an allocation failed.
-ghost use Rattle.std.specs.Prelude.{◌≡◌, ◌++◌, IfOk, OnOk, codes};
+ghost use Rattle.std.specs.Prelude.{◌≡◌, ◌++◌, IfOk, OnOk, codes, get_or};
 ghost use Rattle.std.specs.List.{count_by, flat_map, join_with_byte, list_any};
 ghost use Rattle.streams.specs.Texts.{count_text};
 ghost use Rattle.report.specs.IntervalText.{interval_fields};
 ghost use Rattle.policy_queues.specs.QueueRows.{cell, first_key, held_in, is_marked, is_numbered, marked_in};
-ghost use Rattle.policy_queues.specs.QueueRows.{queue_row};
+ghost use Rattle.policy_queues.specs.QueueRows.{queue_row, rows_from};
 ghost use Rattle.policy_queues.specs.QueueRows.{queues_header as header_text};
 
 use named_queues::{NamedQueue, QueueKey};
@@ -20,38 +20,49 @@ pub fn queues_header(alloc: Global) -> Result<Vec<u8>, AllocError>
 {
     Vec::from_slice(
         alloc,
-        b"policy,capacity,first,last,hits,misses,evictions,rejections,rate,queue,held,marked\n",
+        b"policy,capacity,first,last,hits,misses,evictions,rejections,rate,queue,held,marked,left\n",
     )
 }
 
-/// Adds the row of an interval once a queue.
+/// Adds the row of an interval once a queue, where so many keys left each queue: of those without a number none.
 pub(crate) fn push_queue_rows(
     alloc: Global,
     text: &mut Vec<u8>,
     interval: &Interval,
     queues: &[NamedQueue],
+    left: &[u64],
 ) -> Result<(), AllocError>
-    ensures { OnOk result (text.new.items ≡ text.old.items ++ flat_map (queue_row interval.now) queues.now) }
+    ensures { OnOk result (text.new.items
+        ≡ text.old.items ++ rows_from interval.now (λ row. get_or left.now row 0) 0 queues.now) }
 {
-    for queue in queues {
-        push_queue_row(alloc, text, interval, queue)?;
+    for i in 0..queues.len() {
+        push_queue_row(alloc, text, interval, &queues[i], number_at(left, i))?;
     }
     Ok(())
 }
 
-// Adds the row of an interval and of a queue.
+// The number at a place, 0 behind the last.
+fn number_at(numbers: &[u64], i: usize) -> u64
+    ensures { result ≡ get_or numbers.now i 0 }
+{
+    if i < numbers.len() { numbers[i] } else { 0 }
+}
+
+// Adds the row of an interval and of a queue, which so many keys left.
 fn push_queue_row(
     alloc: Global,
     text: &mut Vec<u8>,
     interval: &Interval,
     queue: &NamedQueue,
+    left: u64,
 ) -> Result<(), AllocError>
-    ensures { OnOk result (text.new.items ≡ text.old.items ++ queue_row interval.now queue.now) }
+    ensures { OnOk result (text.new.items ≡ text.old.items ++ queue_row interval.now queue.now left) }
 {
     push_interval(alloc, text, interval)?;
     push_pieces(text, &[b",", queue.name().as_bytes()])?;
     push_count(text, b",", held_in(queue))?;
-    push_marked(text, queue.keys())
+    push_marked(text, queue.keys())?;
+    push_counts_line(text, &[(b",", left)])
 }
 
 // Adds the fields of an interval.
@@ -110,14 +121,13 @@ fn first_key(keys: &[QueueKey]) -> u64
     }
 }
 
-// Adds how many of the keys are marked, behind a comma, and a line feed.
+// Adds how many of the keys are marked, behind a comma.
 fn push_marked(text: &mut Vec<u8>, keys: &[QueueKey]) -> Result<(), AllocError>
-    ensures { OnOk result (text.new.items
-        ≡ text.old.items ++ (codes "," ++ (cell (marked_in keys.now) ++ codes "\n"))) }
+    ensures { OnOk result (text.new.items ≡ text.old.items ++ (codes "," ++ cell (marked_in keys.now))) }
 {
     match marked_in(keys) {
-        Some(marked) => push_counts_line(text, &[(b",", marked)]),
-        None => text.extend_from_slice(b",\n"),
+        Some(marked) => push_count(text, b",", marked),
+        None => text.extend_from_slice(b","),
     }
 }
 

@@ -8,9 +8,9 @@ ghost use Rattle.policy_queues.specs.QueueRows.{queue_rows, queue_rows_on};
 ghost use Rattle.policy_queues.specs.QueueRun.{AreQueueRows, CanAccess, EndsInterval, EndsQueueRows};
 ghost use Rattle.policy_queues.specs.QueueRun.{HasAllQueueRows, HasQueueRows, StandsAt};
 
+use crate::left_keys::access_counted;
 use crate::queue_rows::push_queue_rows;
 use policies::AnyPolicy;
-use policy_comparison::hit_at;
 use std::alloc::{AllocError, Global};
 use step_record::{Job, Key, Stats, Trace};
 use sweeps::between;
@@ -25,8 +25,9 @@ pub struct QueueRun {
     // How many accesses an interval has, and how many were made of the one that is not over.
     every: usize,
     used: usize,
-    // What was counted before that one.
+    // What was counted before that one, and how many keys left each queue by those that were made of it.
     cut: Stats,
+    left: Vec<u64>,
     rows: Vec<u8>,
 }
 
@@ -49,6 +50,7 @@ impl QueueRun {
     {
         let cache = AnyPolicy::open(alloc, job, trace)?;
         let cut = cache.stats();
+        let left = Vec::new(alloc);
         let rows = Vec::new(alloc);
         Ok(QueueRun {
             job: *job,
@@ -57,6 +59,7 @@ impl QueueRun {
             every,
             used: 0,
             cut,
+            left,
             rows,
         })
     }
@@ -69,7 +72,7 @@ impl QueueRun {
         ensures rows { (every : ℕ) (trace : List ℕ) (n : ℕ) → StandsAt trace n (slice_index keys.now i)
             → HasQueueRows every trace n self.old → OnOk result (HasQueueRows every trace (n + 1) self.new) }
     {
-        hit_at::<QueueRun>(&mut self.cache, keys, i)?;
+        access_counted(&mut self.cache, &mut self.left, keys, i)?;
         self.used += 1;
         if self.used < self.every {
             return Ok(());
@@ -87,7 +90,14 @@ impl QueueRun {
         if self.used == 0 {
             return Ok(());
         }
-        push_interval_rows(self.alloc, &self.job, &self.cut, &self.cache, text)
+        push_interval_rows(
+            self.alloc,
+            &self.job,
+            &self.cut,
+            &self.left,
+            &self.cache,
+            text,
+        )
     }
 
     // Ends the interval whose accesses were made. The one error is out of memory.
@@ -96,6 +106,7 @@ impl QueueRun {
         ensures kept { (self.new.job ≡ self.old.job) × (self.new.every ≡ self.old.every)
             × (self.new.cache ≡ self.old.cache) }
         ensures used { OnOk result (self.new.used ≡ 0) }
+        ensures left { OnOk result (self.new.left.items ≡ []) }
         ensures rows { (trace : List ℕ) (done : ℕ) → EndsQueueRows trace done self.old
             → OnOk result (AreQueueRows trace (done + 1) self.new) }
     {
@@ -103,30 +114,33 @@ impl QueueRun {
             self.alloc,
             &self.job,
             &self.cut,
+            &self.left,
             &self.cache,
             &mut self.rows,
         )?;
         self.cut = self.cache.stats();
+        self.left.clear();
         self.used = 0;
         Ok(())
     }
 }
 
-// Adds the rows of the interval whose accesses the cache of the job made last, by what was counted before it. The one
-// error is out of memory.
+// Adds the rows of the interval whose accesses the cache of the job made last, by what was counted before it and how many
+// keys left each queue by them. The one error is out of memory.
 fn push_interval_rows(
     alloc: Global,
     job: &Job,
     cut: &Stats,
+    left: &[u64],
     cache: &AnyPolicy,
     text: &mut Vec<u8>,
 ) -> Result<(), AllocError>
-    requires { (trace : List ℕ) × (every done : ℕ) × EndsInterval job.now trace every done cut.now cache.now }
-    ensures { (trace : List ℕ) (every done : ℕ) → EndsInterval job.now trace every done cut.now cache.now
+    requires { (trace : List ℕ) × (every done : ℕ) × EndsInterval job.now trace every done cut.now left.now cache.now }
+    ensures { (trace : List ℕ) (every done : ℕ) → EndsInterval job.now trace every done cut.now left.now cache.now
         → OnOk result (text.new.items ≡ text.old.items
         ++ queue_rows job.now trace (interval_at job.now every (outcomes_on job.now trace) done)) }
 {
     let interval = between(job, cut, &cache.stats());
     let queues = cache.named_queues(alloc)?;
-    push_queue_rows(alloc, text, &interval, queues.as_slice())
+    push_queue_rows(alloc, text, &interval, queues.as_slice(), left)
 }

@@ -36,13 +36,13 @@ fn job(policy: Policy) -> Result<Job, Fail>
 }
 
 // After 1, 2, 3, 1 the hand of SIEVE is at the oldest key, 1, whose bit is set. At 4 it clears that bit, passes 1 and
-// evicts 2.
+// evicts 2, which stood ahead of it.
 const ROWS: &[u8] =
-    b"policy,capacity,first,last,hits,misses,evictions,rejections,rate,queue,held,marked
-sieve,3,1,4,1,3,0,0,25.00,passed,0,
-sieve,3,1,4,1,3,0,0,25.00,ahead,3,1
-sieve,3,5,5,0,1,1,0,0.00,passed,1,0
-sieve,3,5,5,0,1,1,0,0.00,ahead,2,0
+    b"policy,capacity,first,last,hits,misses,evictions,rejections,rate,queue,held,marked,left
+sieve,3,1,4,1,3,0,0,25.00,passed,0,,0
+sieve,3,1,4,1,3,0,0,25.00,ahead,3,1,0
+sieve,3,5,5,0,1,1,0,0.00,passed,1,0,0
+sieve,3,5,5,0,1,1,0,0.00,ahead,2,0,1
 ";
 
 #[test]

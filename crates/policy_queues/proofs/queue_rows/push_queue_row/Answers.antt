@@ -1,5 +1,4 @@
 use Rattle.std.proofs.Common.{◌≡◌, ◌∙◌, [], ◌∷◌, ◌++◌, ap, List, ℕ}
-use Rattle.std.specs.Prelude.{codes}
 use Rattle.std.specs.Fmt.{decimal}
 use Rattle.named_queues.specs.NamedQueue.{NamedQueueData}
 use Rattle.named_queues.specs.declared.named_queue.QueueKey.{QueueKey}
@@ -18,6 +17,9 @@ returns c =
     c.in_ok-push_pieces.ensures ∙ ap (λ (n : List ℕ). front ++ (44 ∷ (n ++ []))) (c.as_bytes.ensures.value ∙ c.name.ensures) in
     let third : counted ≡ named ++ (44 ∷ decimal (held_in queue)) =
     c.in_ok-push_count.ensures ∙ ap (λ (n : ℕ). named ++ (44 ∷ decimal n)) c.held_in.ensures in
-    at_success c.push_marked.result _ _
-    (λ k. row-added c.args.text.now.items front named counted c.push_marked.new.text.items c.args.interval.now queue c.in_ok-push_interval.ensures second third
-    (k ∙ ap (λ (keys : List QueueKey). counted ++ (44 ∷ (cell (marked_in keys) ++ codes "\n"))) c.keys.ensures)) c.push_marked.ensures
+    let marked : List ℕ = c.push_marked.new.text.items in
+    let fourth : marked ≡ counted ++ (44 ∷ cell (marked_in queue.keys)) =
+    c.in_ok-push_marked.ensures ∙ ap (λ (keys : List QueueKey). counted ++ (44 ∷ cell (marked_in keys))) c.keys.ensures in
+    at_success c.push_counts_line.result _ _
+    (row-added c.args.text.now.items front named counted marked c.push_counts_line.new.text.items c.args.interval.now queue c.args.left
+    c.in_ok-push_interval.ensures second third fourth) c.push_counts_line.ensures

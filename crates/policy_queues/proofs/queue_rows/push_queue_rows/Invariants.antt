@@ -1,8 +1,8 @@
-use Rattle.std.proofs.Common.{◌≡◌, ◌++◌, take}
-use Rattle.std.specs.List.{flat_map}
-use Rattle.policy_queues.specs.QueueRows.{queue_row}
+use Rattle.std.proofs.Common.{◌≡◌, ◌++◌, drop, get_or}
+use Rattle.policy_queues.specs.QueueRows.{rows_from}
 use Rattle.policy_queues.proofs.queue_rows.push_queue_rows.Given as goal
 
-abbrev pub invariant-loop-queue : goal.invariant-loop-queue
-invariant-loop-queue l =
-    l.text.items ≡ l.initial.text.items ++ flat_map (queue_row l.interval) (take l.queue-index l.queues)
+abbrev pub invariant-loop-i : goal.invariant-loop-i
+invariant-loop-i l =
+    l.text.items ++ rows_from l.interval (λ row. get_or l.left row 0) l.i (drop l.i l.queues)
+    ≡ l.initial.text.items ++ rows_from l.interval (λ row. get_or l.left row 0) 0 l.queues

@@ -1,4 +1,4 @@
-use Rattle.std.proofs.Common.{◌≡◌, ◌∙◌, ◌*◌, ℕ, ap, sym, refl, arith, take}
+use Rattle.std.proofs.Common.{◌≡◌, ◌∙◌, ◌*◌, ℕ, ap, sym, refl, arith, get_or, List, take}
 use Rattle.engine_base.specs.Stats.{stats_of}
 use Rattle.policies.specs.AnyPolicy.{outcomes_on}
 use Rattle.policies.proofs.FirstAccesses.{first-counts}
@@ -21,4 +21,5 @@ returns-clause-rows c = λ other stands.
       within = omega arith;
       place = omega (arith, zero);
       used = omega (arith, c.requires.some);
+      left = λ row. ap (λ (l : List ℕ). get_or l row 0) c.new-left.ensures.items;
     }

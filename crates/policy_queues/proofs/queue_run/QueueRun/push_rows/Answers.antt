@@ -3,7 +3,7 @@ use Rattle.streams.proofs.Results.{at_success}
 use Rattle.policies.specs.AnyPolicy.{outcomes_on}
 use Rattle.sweeps.specs.Intervals.{interval_at}
 use Rattle.policy_queues.specs.QueueRows.{queue_rows, queue_rows_on}
-use Rattle.policy_queues.proofs.Ended.{last-ends, rows-more, rows-whole, rows-with-last}
+use Rattle.policy_queues.proofs.Ended.{last-ends, rows-more, rows-whole, rows-with-last, slice-ends}
 use Rattle.policy_queues.proofs.queue_run.QueueRun.push_rows.Goals as goal
 
 pub returns-then-self-eq0 : goal.returns-then-self-eq0
@@ -20,8 +20,13 @@ pub push_interval_rows-requires : goal.push_interval_rows-requires
 push_interval_rows-requires c =
     let run = c.args.self.now in
     let all = c.requires in
-    let part : 0 < run.used = omega (arith, c.if-self-eq0.false) in
-    (all.trace, run.every, all.has.done, last-ends all.every all.trace run all.has part)
+    let part : 0 < run.used = omega (arith, c.if-self-eq0.false) in (
+      all.trace,
+      run.every,
+      all.has.done,
+      slice-ends run.job all.trace run.every all.has.done run.cut run.left.items c.deref.result.now run.cache c.deref.ensures.value
+          (last-ends all.every all.trace run all.has part),
+    )
 
 pub returns : goal.returns
 returns c = λ every trace has.
@@ -35,4 +40,5 @@ returns c = λ every trace has.
     ∙ append_assoc text _ last
     ∙ ap (λ (l : List ℕ). text ++ l) (rows-more run.job trace run.every has.done
     ∙ rows-with-last run.job trace run.every has.done run.used has.rows.some part has.used has.place)))
-    (c.push_interval_rows.ensures trace run.every has.done (last-ends every trace run has part))
+    (c.push_interval_rows.ensures trace run.every has.done
+    (slice-ends run.job trace run.every has.done run.cut run.left.items c.deref.result.now run.cache c.deref.ensures.value (last-ends every trace run has part)))

@@ -1,0 +1,86 @@
+-- From which queue a key leaves by an access, and how many keys left each.
+use Rattle.std.proofs.Common.{◌≡◌, ◌∙◌, ℕ, zero, suc, ◌+◌, ◌<◌, ◌≤◌, ◌==◌, true, false, Option, None, Some, List, [], ◌∷◌, ◌++◌, length, set, take, get_or, Result, Ok, Err, OnOk, ap, sym, refl, arith}
+use Rattle.std.proofs.lemmas.Bool.Decides.{nat_tests}
+use Rattle.engine_base.specs.Stats.{is_eviction, one_if}
+use Rattle.engine_base.specs.declared.outcome.Outcome.TheVariants.{Hit, Kept, Evicted, Rejected}
+use Rattle.engine_base.proofs.Counting.{one-few}
+use Rattle.engine_base.proofs.Limited.{accepted-where}
+use Rattle.key_rows.specs.KeyRow.{is_number, row_left}
+use Rattle.policies.specs.declared.any_policy.AnyPolicy.{AnyPolicy}
+use Rattle.policies.specs.AnyPolicy.{Job, Outcome, HasAccessed, any_queues, outcomes_on}
+use Rattle.policies.specs.AnyStep.{any_act}
+use Rattle.policies.specs.Theorems.{AnyAnswers}
+use Rattle.policy_comparison.specs.CacheAccess.{StandsAt}
+use Rattle.policy_comparison.proofs.Walked.{outcome-is}
+use Rattle.policy_queues.specs.QueuesAt.{NamedQueueData, queues_at}
+use Rattle.policy_queues.specs.QueueRows.{is_left_by, left_from}
+use Rattle.policy_queues.specs.LeftKeys.{AreLeft, IsAccessFrom}
+use Rattle.policy_queues.proofs.QueuesAt.{shown_queues}
+
+-- no more keys leave than accesses are made
+pub left-few : (job : Job) (trace : List ℕ) (row from n : ℕ) → left_from job trace row from n ≤ n
+left-few job trace row from zero = omega arith
+left-few job trace row from (suc n) =
+    let before = left-few job trace row from n in
+    let one = one-few (is_left_by job trace row (from + n)) in
+    omega (arith, before, one)
+
+-- one access more
+pub left-more : (job : Job) (trace : List ℕ) (from made : ℕ) (o : Option ℕ) (old new : List ℕ)
+    → o ≡ row_left (get_or (outcomes_on job trace) (from + made) Kept) (queues_at job trace (from + made)) → AreLeft job trace from made old
+    → ((row : ℕ) → get_or new row 0 ≡ get_or old row 0 + one_if (is_number row o)) → AreLeft job trace from (made + 1) new
+left-more job trace from made o old new is are one row =
+    let next : made + 1 ≡ suc made = omega arith in
+    one row ∙ ap (λ (n : ℕ). n + one_if (is_number row o)) (are row)
+    ∙ ap (λ (r : Option ℕ). left_from job trace row from made + one_if (is_number row r)) is
+    ∙ ap (left_from job trace row from) (sym next)
+
+-- the row by the definition
+pub row-is : (j : Job) (trace : List ℕ) (n key : ℕ) (next : StandsAt trace n key) → AnyAnswers → (d e : AnyPolicy) (row : Option ℕ)
+    → HasAccessed j trace (take n trace) d → IsAccessFrom key d row e → row ≡ row_left (get_or (outcomes_on j trace) n Kept) (queues_at j trace n)
+row-is j trace n key next law d e row stands a =
+    a.left ∙ ap (λ (o : Outcome). row_left o (any_queues d)) (outcome-is trace n key next law j d a.outcome e stands a.acts)
+    ∙ ap (row_left (get_or (outcomes_on j trace) n Kept)) (shown_queues j trace n d (omega (arith, next.within)) stands)
+
+-- ---- an access that is made again
+
+-- without an eviction no key leaves
+pub none-left : (o : Outcome) (queues : List NamedQueueData) → is_eviction o ≡ false → None ≡ row_left o queues
+none-left Hit queues h = refl
+none-left Kept queues h = refl
+none-left (Evicted v) queues h = absurd (cc h)
+none-left (Rejected v) queues h = absurd (cc h)
+
+-- it comes to the same
+pub made-again : (key : ℕ) (before back old new : AnyPolicy) (o again : Outcome) → back ≡ before → any_act before key ≡ Some (o, old)
+    → any_act back key ≡ Some (again, new) → any_act before key ≡ Some (o, new)
+made-again key before back old new o again same first second =
+    let whole : any_act before key ≡ Some (again, new) = ap (λ (d : AnyPolicy). any_act d key) (sym same) ∙ second in
+    whole ∙ ap (λ (x : Outcome). Some (x, new)) (sym (accepted-where true (again, new) o old (sym whole ∙ first)).outcome)
+
+-- ---- counts
+
+-- a count more, of none yet
+pub zero-behind : (l : List ℕ) (row : ℕ) → get_or (l ++ 0 ∷ []) row 0 ≡ get_or l row 0
+zero-behind [] zero = refl
+zero-behind [] (suc row) = refl
+zero-behind (x ∷ l) zero = refl
+zero-behind (x ∷ l) (suc row) = zero-behind l row
+
+pub one-behind : (l : List ℕ) (row : ℕ) → get_or (l ++ 1 ∷ []) row 0 ≡ get_or l row 0 + one_if (length l == row)
+one-behind [] zero = refl
+one-behind [] (suc row) = grind (arith, nat_tests)
+one-behind (x ∷ l) zero = grind (arith, nat_tests)
+one-behind (x ∷ l) (suc row) = let rest = one-behind l row in grind (arith, nat_tests)
+
+pub one-more : (l : List ℕ) (at row : ℕ) → at < length l → get_or (set l at (get_or l at 0 + 1)) row 0 ≡ get_or l row 0 + one_if (at == row)
+one-more [] at row lt = absurd (omega (arith, lt))
+one-more (x ∷ l) zero zero lt = refl
+one-more (x ∷ l) zero (suc row) lt = grind (arith, nat_tests)
+one-more (x ∷ l) (suc at) zero lt = grind (arith, nat_tests)
+one-more (x ∷ l) (suc at) (suc row) lt = let rest = one-more l at row (omega (arith, lt)) in grind (arith, nat_tests)
+
+-- what holds of every result
+pub on-success : {T E A : Type 0} (r : Result T E) → A → OnOk r A
+on-success (Ok v) a = a
+on-success (Err e) a = tt
