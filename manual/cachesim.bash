@@ -132,7 +132,7 @@ _cachesim_words() {
     'cachesim-plot:--y') echo '' ;;
     'cachesim-plot:--trace') echo '' ;;
     'cachesim-plot:--options') echo '' ;;
-    'cachesim-plot:'*) echo '<FILE> -h --help --png --below-optimal --after --sampled --accesses --steps --y --trace --options --commands' ;;
+    'cachesim-plot:'*) echo '<FILE> -h --help --png --below-optimal --left --after --sampled --accesses --steps --y --trace --options --commands' ;;
     'cachesim-corpus:'*) echo 'run report -h --help' ;;
     'cachesim-corpus run:--policy') echo 'lru slru tinylfu-lru tinylfu-slru wtinylfu clairvoyant fifo clock sieve s3-fifo 2q arc caffeine car' ;;
     'cachesim-corpus run:--percent') echo '' ;;

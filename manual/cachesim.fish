@@ -166,6 +166,7 @@ complete -c cachesim-plot -s h -l help -d 'show this help message and exit'
 complete -c cachesim-plot -F
 complete -c cachesim-plot -l png -d 'a PNG in place of an SVG'
 complete -c cachesim-plot -l below-optimal -d 'how many points each policy is below clairvoyant, which has to be in the rows; of intervals up to the end of each, since in one interval it is no bound'
+complete -c cachesim-plot -l left -d 'of queues the keys that left each, of those that were evicted, in place of the marked ones'
 complete -c cachesim-plot -l after -x -d 'leave out the intervals that begin in the first N accesses'
 complete -c cachesim-plot -l sampled -x -d 'the rows are from a sample by cachesim-sample, of this rate: estimate the whole trace. In place of 1/N and --accesses also a file with what cachesim-sample said of it, which has to fit exactly'
 complete -c cachesim-plot -l accesses -x -d 'with --sampled 1/N: the accesses of the whole trace. Refused where those of the sample times N are over twice as many or under half, or where it has no fewer'

@@ -8,7 +8,7 @@ from .traces import ALL_BITS
 
 HEADER = "policy,capacity,accesses,hits,misses,evictions,rejections,rate\n"
 INTERVALS_HEADER = "policy,capacity,first,last,hits,misses,evictions,rejections,rate\n"
-INSIDE_HEADER = INTERVALS_HEADER.replace("\n", ",queue,held,marked\n")
+INSIDE_HEADER = INTERVALS_HEADER.replace("\n", ",queue,held,marked,left\n")
 COMPARE_HEADER = "first,second,capacity,accesses,both,first_only,second_only,neither\n"
 COMPARE_INTERVALS_HEADER = "first,second,capacity,from,to,both,first_only,second_only,neither\n"
 
@@ -77,15 +77,22 @@ def cells_of(queue, keys):
     return f"{queue},{keys[0] if queue == 'target' else len(keys)},{sum(it > 0 for it in numbers) if numbers else ''}"
 
 
+def access_from(cache, key):
+    """Makes an access, and gives the queue in which the key stood that left by it, if one did."""
+    queues = {queue: [str(it).partition(":")[0] for it in keys] for queue, keys in cache.shown().items() if queue != "target"}
+    gone = str(cache.access(key)[1])
+    return next((queue for queue, keys in queues.items() if gone in keys), None)
+
+
 def inside(keys, policies, every, capacity, options=DEFAULTS):
-    """The rows of `intervals`, each once a queue, with what the queue holds at the end of the interval."""
+    """The rows of `intervals`, each once a queue, with what the queue holds at the end of the interval, and how many keys left
+    it by the interval's accesses."""
     rows = []
     for policy in policies:
         cache, rest = opened(policy, capacity, options, keys), iter(keys)
         for counted in intervals(keys, [policy], every, capacity, options).splitlines()[1:]:
-            for key in islice(rest, every):
-                cache.access(key)
-            rows += [f"{counted},{cells_of(*queue)}\n" for queue in cache.shown().items()]
+            left = Counter(access_from(cache, key) for key in islice(rest, every))
+            rows += [f"{counted},{cells_of(*queue)},{left[queue[0]]}\n" for queue in cache.shown().items()]
     return INSIDE_HEADER + "".join(rows)
 
 

@@ -99,11 +99,11 @@ error: an interval has at most 16777216 accesses without --long
 @part()
 def queues(check):
     """The rows of intervals once a queue, of a trace that is kept and of one that is not. After 1, 2, 3, 1 the hand of SIEVE is at
-    1, whose bit is set; at 4 it clears that bit, passes 1 and evicts 2."""
+    1, whose bit is set; at 4 it clears that bit, passes 1 and evicts 2, which stood ahead of it."""
     call = "intervals", "--inside", "--capacity", 3, "--every", 4
-    header = INTERVALS_HEADER.replace("\n", ",queue,held,marked\n")
-    rows = lines("sieve,3,1,4,1,3,0,0,25.00,passed,0,", "sieve,3,1,4,1,3,0,0,25.00,ahead,3,1",
-                 "sieve,3,5,5,0,1,1,0,0.00,passed,1,0", "sieve,3,5,5,0,1,1,0,0.00,ahead,2,0")
+    header = INTERVALS_HEADER.replace("\n", ",queue,held,marked,left\n")
+    rows = lines("sieve,3,1,4,1,3,0,0,25.00,passed,0,,0", "sieve,3,1,4,1,3,0,0,25.00,ahead,3,1,0",
+                 "sieve,3,5,5,0,1,1,0,0.00,passed,1,0,0", "sieve,3,5,5,0,1,1,0,0.00,ahead,2,0,1")
     for long in ((), ("--long",)):
         name = " ".join(("the queues of sieve", *long))
         check.expect(name, *call, *long, "sieve", typed=lines(1, 2, 3, 1, 4), out=header + rows)

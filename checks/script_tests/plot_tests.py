@@ -11,7 +11,7 @@ from frame import (EVERY, NOTING, POLICIES, UNSAFE, Mistake, expect, expect_full
 SWEEP = "policy,capacity,accesses,hits,misses,evictions,rejections,rate\n"
 COMPARISONS = "first,second,capacity,from,to,both,first_only,second_only,neither\n"
 INTERVALS = "policy,capacity,first,last,hits,misses,evictions,rejections,rate\n"
-INSIDE = INTERVALS.replace("\n", ",queue,held,marked\n")
+INSIDE = INTERVALS.replace("\n", ",queue,held,marked,left\n")
 
 
 def sweep_rows(policy, *places, accesses=100):
@@ -163,7 +163,9 @@ def check_refusals(plot, folder):
              ["line 2 is of accesses from 11 on, and those from 1 on are missing"]),
             ("two kinds", SWEEP + sweep_rows("lru", (10, 20)), [file_of(folder, "other.csv", INTERVALS + interval_rows("lru", 10, 5))],
              ["rows of several kinds"]),
-            ("more keys than there are", INSIDE + "sieve,4,1,10,5,5,0,0,50.00,ahead,4,5\n", [], ["line 2 has more keys that are marked"]),
+            ("more keys than there are", INSIDE + "sieve,4,1,10,5,5,0,0,50.00,ahead,4,5,0\n", [], ["line 2 has more keys that are marked"]),
+            ("more keys that left than were evicted", INSIDE + "sieve,4,1,10,5,5,2,0,50.00,ahead,4,1,3\n", ["--left"], ["line 2 has more keys that left"]),
+            ("keys that left of no queue", INTERVALS + interval_rows("lru", 10, 5), ["--left"], ["--left is of queues"]),
             ("a sample", INTERVALS + interval_rows("lru", 10, 5), ["--sampled", "1/8", "--accesses", "9"], ["intervals of a sample"])):
         path = file_of(folder, f"{name}.csv", text)
         expect_parts(name, run(plot, "--commands", *words, path, status=1)[1], *parts)
@@ -206,14 +208,19 @@ def check_intervals(plot, folder):
 
 
 def check_queues(plot, folder):
-    """Of queues the marked keys are drawn, where numbers stand beside them."""
-    row = "sieve,4,{},5,5,0,0,50.00,{}\n"
-    rows = file_of(folder, "queues.csv", INSIDE + row.format("1,10", "passed,0,") + row.format("1,10", "ahead,4,1") +
-                   row.format("11,20", "passed,3,3") + row.format("11,20", "ahead,1,0") + "lru,4,1,10,5,5,0,0,50.00,queue,4,\n")
+    """Of queues the marked keys are drawn, where numbers stand beside them, and by --left those that left, where some did."""
+    row = "sieve,4,{},5,5,{},0,50.00,{}\n"
+    rows = file_of(folder, "queues.csv", INSIDE + row.format("1,10", 0, "passed,0,,0") + row.format("1,10", 0, "ahead,4,1,0") +
+                   row.format("11,20", 5, "passed,3,3,1") + row.format("11,20", 5, "ahead,1,0,4") +
+                   "lru,4,1,10,5,5,1,0,50.00,queue,4,,1\n")
     curves, rest = drawn(plot, rows)
     expect("the curves", (curves, named_curves(rest)), ([[(0, 25), (10, 25), (10, 0), (20, 0)], [(10, 100), (20, 100)]],
                                                         [("0", "sieve ahead"), ("1", "sieve passed")]))
     expect_parts("around them", rest, "Marked keys of each queue", "bit or count is set (%)", "20 accesses, capacity 4, intervals of 10'")
+    curves, rest = drawn(plot, "--left", rows)
+    expect("those that left", (curves, named_curves(rest)), ([[(10, 20), (20, 20)], [(10, 80), (20, 80)], [(0, 100), (10, 100)]],
+                                                             [("0", "sieve passed"), ("1", "sieve ahead"), ("2", "lru queue")]))
+    expect_parts("around those", rest, "Evicted keys by queue over accesses", "evicted keys that left it (%)")
 
 
 def check_comparisons(plot, folder):
@@ -338,6 +345,7 @@ MISTAKES = {
         "best.get((0, rows[0].end, row.capacity))"),
     "points below the optimum of one interval": Mistake(check_below_optimal_intervals, "lib/curves.py", "lost + optimal.hits", "optimal.hits"),
     "all keys of a queue marked": Mistake(check_queues, "lib/curves.py", 'of["held"], of["marked"], queue', 'of["held"], of["held"], queue'),
+    "keys that left of all misses": Mistake(check_queues, "lib/curves.py", 'of["evictions"], of["left"], queue', 'of["misses"], of["left"], queue'),
     "the hits of both": Mistake(check_comparisons, "lib/curves.py", "of[it] for it in", "of[it] + of['both'] * (it[0] == 's') for it in"),
     "a picture without its capacity": Mistake(check_intervals, "plot", 'yield f"capacity {', 'f"capacity {'),
     "texts in double quotes": Mistake(check_unsafe_texts, "lib/pictures.py", """return "'" + shown.replace(""", """return '"' + shown.replace('"', '\\\\"').replace("""),

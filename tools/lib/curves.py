@@ -7,13 +7,14 @@ from .options import as_called
 from .policies import OPTIMAL
 from .reports import INTERVALS, SWEEP
 
-INSIDE = f"{INTERVALS},queue,held,marked"
+INSIDE = f"{INTERVALS},queue,held,marked,left"
 COMPARISONS = "first,second,capacity,from,to,both,first_only,second_only,neither"
 HEADERS = (SWEEP, INTERVALS, INSIDE, COMPARISONS)
 TOOL = as_called("tools/plot")
 
 # A report of a file: the line that it is in, the place of the horizontal axis where it begins and that where it ends,
-# and its counts: of a queue in place of accesses and hits the keys that it holds and those that are marked.
+# and its counts: of a queue in place of accesses and hits the keys that it holds and those that are marked, or the keys that
+# were evicted and those that left the queue.
 Row = namedtuple("Row", "line policy capacity begin end accesses hits queue", defaults=[""])
 # The points of a curve are a beginning, an end and a height. Its variant is the file, and of intervals the capacity and the
 # number of the queue.
@@ -31,7 +32,7 @@ def number_of(text):
     return int(text)
 
 
-def rows_of_line(where, number, line, header):
+def rows_of_line(where, number, line, header, is_left):
     """The rows of a line: of a comparison one for each of both policies, with the hits that it has alone."""
     heads, words, named = header.split(","), line.split(","), 2 if header == COMPARISONS else 1
     try:
@@ -49,13 +50,13 @@ def rows_of_line(where, number, line, header):
     if accesses == 0:
         refuse(f"{where}line {number} has no hit ratio, since it has no accesses: {line}")
     if header == INSIDE:
-        return queue_rows(where, number, line, of, begin)
+        return (left_rows if is_left else queue_rows)(where, number, line, of, begin)
     return [Row(number, policy, of["capacity"], begin, end, accesses, hits) for policy, hits in zip(words, alone)]
 
 
 def queue_rows(where, number, line, of, begin):
     """The row of a queue, where numbers stand beside its keys."""
-    policy, *_, queue, _, marked = line.split(",")
+    policy, *_, queue, _, marked, _ = line.split(",")
     if not marked:
         return []
     if not of["marked"] <= of["held"] > 0:
@@ -63,12 +64,22 @@ def queue_rows(where, number, line, of, begin):
     return [Row(number, policy, of["capacity"], begin, of["last"], of["held"], of["marked"], queue)]
 
 
-def rows_of(text, where):
+def left_rows(where, number, line, of, begin):
+    """The row of a queue, where keys were evicted."""
+    policy, *_, queue, _, _, _ = line.split(",")
+    if of["left"] > of["evictions"]:
+        refuse(f"{where}line {number} has more keys that left the queue than were evicted: {line}")
+    if queue == "target" or not of["evictions"]:
+        return []
+    return [Row(number, policy, of["capacity"], begin, of["last"], of["evictions"], of["left"], queue)]
+
+
+def rows_of(text, where, is_left=False):
     header, *_ = text.splitlines() or [""]
     if header not in HEADERS:
         refuse(f"{where}line 1 is not the header of a sweep: {SWEEP}")
     lines = [(number, line) for number, line in enumerate(text.splitlines(), 1) if line != header]
-    rows = [row for number, line in lines for row in rows_of_line(where, number, line, header)]
+    rows = [row for number, line in lines for row in rows_of_line(where, number, line, header, is_left)]
     if not rows:
         refuse(f"{where}there are no reports in it")
     for row in rows:
