@@ -1,5 +1,5 @@
 -- How the writing of a sample ends.
-use Rattle.std.proofs.Common.{◌≡◌, ◌+◌, ℕ, Bool, List, length, Option, Err, refl}
+use Rattle.std.proofs.Common.{◌≡◌, ◌+◌, ℕ, Bool, List, length, Option, Err, refl, subst}
 use Rattle.trace_read.proofs.Readings.{read_as}
 use Rattle.std.specs.Prelude.{IfSome}
 use Rattle.streams.specs.Tally.{FailsWhere}
