@@ -60,7 +60,7 @@ module _ (old : Scan) (text given : List ℕ) (new : Scan) (xs : List ℕ) (is :
             ∙ sym next.1,
       )
 
-  given_more : (ys : List ℕ) → lines_of (old.partial_line.items ++ xs) ≡ text ∷ lines_of ys
+  pub given_more : (ys : List ℕ) → lines_of (old.partial_line.items ++ xs) ≡ text ∷ lines_of ys
       → (fault_ahead new ys ≡ fault_ahead old xs) × (given ++ keys_ahead new ys ≡ keys_ahead old xs)
   given_more ys lines =
       let next = given_ahead (lines_of ys) lines in

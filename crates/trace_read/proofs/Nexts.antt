@@ -1,14 +1,14 @@
 -- What a reading answers to a call for its next accesses.
 use Rattle.std.proofs.Common.{true, false, ◌≡◌, ◌∙◌, ◌+◌, ◌<◌, ◌≤◌, ◌++◌, ◌⊎◌, ℕ, Bool, List, [], length, length-append, take, take_all, drop, Option, Some, None, Result, Ok, Err, inl, inr, arith, ap, subst, sym, refl}
 use Rattle.std.proofs.Math.Seq.{take-add}
-use Rattle.std.specs.Prelude.{IfSome}
+use Rattle.std.specs.Prelude.{IfSome, IsErrAnd}
 use Rattle.std.specs.Io.KnownBytes.{IsAtEnd}
 use Rattle.streams.proofs.Tallies.{further, later}
 use Rattle.streams.specs.GivenBytes.{ReadAtMost}
 use Rattle.streams.specs.Tally.{Exhausts, FailsWhere, Spends}
 use Rattle.streams.specs.declared.tally.Tally.{Tally}
 use Rattle.streams.specs.declared.retry_budget.TheConstants.{INTERRUPTIONS}
-use Rattle.trace_read.proofs.Readings.{HasRoom, all_given, exhausted, gives_next, gives_none, has_room, none_in, not_read, read_as, read_at_end, refused, spent_only, unread, within_room}
+use Rattle.trace_read.proofs.Readings.{HasRoom, all_given, exhausted, gives_next, gives_none, handed_fault, has_room, none_in, not_read, read_as, read_at_end, refused, spent_only, unread, within_room}
 use Rattle.trace_read.specs.Pending.{pending_count}
 use Rattle.trace_read.specs.Reading.{HasGiven, IsFilled, IsNextGiven, IsReading, Reading, given_by, rest_of}
 use Rattle.trace_read.specs.ReadTrace.{IsReadWithin, IsWhollyRead}
@@ -38,12 +38,12 @@ module _ (limits : Limits) (format : Format) (old : Option (List ℕ)) (before :
       record { goes_on = tt; gives = tt; few = tt; none = λ q. absurd (cc q); end = λ q. read_as {A = Bool} own limits mine format old now e same like read; tally = tally }
 
   -- what `next` comes to is what the whole reading does
-  pub failed : {T : Type 0} (now : Option (List ℕ)) (after : Tally) (n : ℕ) (keys : List ℕ) (r : Reading) (e : TraceFault) → IsNextGiven limits format old now before after n keys r (Err e)
-      → IsWhollyRead {T = T} limits format old now before after (Err e)
-  failed now after n keys r e is = record {
+  pub failed : {T : Type 0} (now : Option (List ℕ)) (after : Tally) (n : ℕ) (keys : List ℕ) (r : Reading) (e : TraceFault) (result : Result T TraceFault) → IsErrAnd result (λ y. y ≡ e)
+      → IsNextGiven limits format old now before after n keys r (Err e) → IsWhollyRead limits format old now before after result
+  failed now after n keys r e result same is = handed_fault result e (IsWhollyRead limits format old now before after) same (record {
     read = read_as {A = Bool} limits limits format format old now e refl refl (is.end (λ q. absurd (cc q)));
     tally = record { failing = λ q. is.tally.failing (cc q); served = λ q. is.tally.served (λ p. q (cc p)) };
-  }
+  })
 
   pub ended : {T : Type 0} (now : Option (List ℕ)) (after : Tally) (n : ℕ) (keys : List ℕ) (r : Reading) (more : Bool) (v : T) → more ≡ false
       → IsNextGiven limits format old now before after n keys r (Ok more) → IsWhollyRead {T = T} limits format old now before after (Ok v)
@@ -119,11 +119,11 @@ module _ (limits : Limits) (format : Format) (old : Option (List ℕ)) (before :
         ]
 
     -- the caller gives up
-    pub gave_up : {T : Type 0} → IsWhollyRead {T = T} limits format old now before after (Err OutOfMemory)
-    gave_up = record {
+    pub gave_up : {T : Type 0} (result : Result T TraceFault) → IsErrAnd result (λ y. y ≡ OutOfMemory) → IsWhollyRead limits format old now before after result
+    gave_up result same = handed_fault result OutOfMemory (IsWhollyRead limits format old now before after) same (record {
       read = refused limits format old now OutOfMemory (inl refl) within;
       tally = spent_only r.pieces.budget before after (λ q. absurd (cc q)) has.reading.spent;
-    }
+    })
 
 -- accesses are kept behind those before them
 pub kept_on : (old : Option (List ℕ)) (format : Format) (was keys all : List ℕ) → all ≡ was ++ keys → IfSome old (λ b. was ≡ take (length was) (keys_in format b))

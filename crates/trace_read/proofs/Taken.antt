@@ -6,13 +6,14 @@ use Rattle.streams.proofs.Feeds.{cut_line}
 use Rattle.trace_read.proofs.LineFeeds.{feed_at}
 use Rattle.trace_read.specs.DigitRuns.{NoFeedBetween}
 use Rattle.streams.specs.Feeds.{feed_in}
-use Rattle.trace_read.proofs.Steps.{ended_ahead, of_line, refused_here, IsEnded}
+use Rattle.trace_read.proofs.Given.{given_more}
+use Rattle.trace_read.proofs.Steps.{of_line, refused_here, IsEnded}
 use Rattle.trace_read.specs.Lines.{Format, is_feed, line_of, run_of}
 use Rattle.trace_read.specs.UsualLine.{AreFourStars, IsStarLine}
 use Rattle.streams.specs.Blanks.{trimmed_text}
 use Rattle.trace_read.specs.declared.format.Format.TheVariants.{Lirs}
 use Rattle.trace_read.specs.TraceText.{TraceFault, fault_after, keys_or_none, IsRead, IsStopped, IsTraceRefused}
-use Rattle.trace_read.specs.ScanState.{Scan, fault_ahead, keys_ahead, IsRefusedFrom, IsScan, IsTakenUpTo}
+use Rattle.trace_read.specs.ScanState.{Scan, fault_ahead, keys_ahead, IsLineGiven, IsRefusedFrom, IsScan, IsTakenUpTo}
 
 pub taken_then : (first mid last : Scan) (bytes : List ℕ) (start middle end : ℕ) → IsTakenUpTo first bytes start middle mid → IsTakenUpTo mid bytes middle end last → IsTakenUpTo first bytes start end last
 taken_then first mid last bytes start middle end one two = record {
@@ -50,7 +51,17 @@ module _ (now : Scan) (bytes : List ℕ) (start end : ℕ) (scan : IsScan now) (
 
   pub line_taken : (next : Scan) → IsScan next → IsEnded now (take (end - start) rest) next → IsTakenUpTo now bytes start (end + 1) next
   line_taken next kept ended =
-      let step = λ (more : List ℕ). ended_ahead now _ _ (rest ++ more) (drop (end - start + 1) rest ++ more) ended
+      let text = now.partial_line.items ++ take (end - start) rest in
+      let given : IsLineGiven now text [] next = record {
+        sound = ended.read.sound;
+        keys = ended.read.added;
+        count = omega (arith, ended.handed_on);
+        partial_line = ended.partial_line;
+        line = ended.line;
+        format = ended.format;
+        limit = ended.limit;
+      } in
+      let step = λ (more : List ℕ). given_more now text [] next (rest ++ more) given (drop (end - start + 1) rest ++ more)
       (cut_line now.partial_line.items rest more (end - start) scan.partial_line feed lt) in
       record {
         scan = kept;

@@ -1,8 +1,5 @@
 use Rattle.std.proofs.Common.{◌+◌, Ok, ap, arith, length, subst, List, ℕ}
 use Rattle.trace_read.proofs.Nexts.{ended, failed, gave_up}
-use Rattle.trace_read.proofs.Readings.{handed_fault}
-use Rattle.trace_read.specs.ReadTrace.{IsWhollyRead}
-use Rattle.trace_read.specs.declared.fault.TraceFault.TheVariants.{OutOfMemory}
 use Rattle.long_traces.proofs.Fed.{begun, more, ready, taken_some, taken_to_end}
 use Rattle.long_traces.specs.Taking.{AreNext}
 use Rattle.long_traces.proofs.feed.read_taken.Goals as goal
@@ -15,18 +12,10 @@ pieces-init g c = record {
 }
 
 pub returns-in_err-next-clause-read : goal.returns-in_err-next-clause-read
-returns-in_err-next-clause-read g c =
-    let first = g.R.CountedRead.remaining c.args.reader.now in
-    let tally = g.R.CountedRead.tally c.args.reader.now in
-    (handed_fault c.from_residual.result _ (IsWhollyRead c.args.limits c.args.format first (g.R.CountedRead.remaining c.next.new.reader) tally (g.R.CountedRead.tally c.next.new.reader)) c.from_residual.ensures.1
-    (failed _ _ first tally _ _ _ _ _ _ (c.in_err-next.ensures.next _ _ _ _ _ c.pieces.invariant.reading))).read
+returns-in_err-next-clause-read g c = (failed _ _ _ _ _ _ _ _ _ _ c.from_residual.result c.from_residual.ensures.1 (c.in_err-next.ensures.next _ _ _ _ _ c.pieces.invariant.reading)).read
 
 pub returns-in_err-next-clause-tally : goal.returns-in_err-next-clause-tally
-returns-in_err-next-clause-tally g c =
-    let first = g.R.CountedRead.remaining c.args.reader.now in
-    let tally = g.R.CountedRead.tally c.args.reader.now in
-    (handed_fault c.from_residual.result _ (IsWhollyRead c.args.limits c.args.format first (g.R.CountedRead.remaining c.next.new.reader) tally (g.R.CountedRead.tally c.next.new.reader)) c.from_residual.ensures.1
-    (failed _ _ first tally _ _ _ _ _ _ (c.in_err-next.ensures.next _ _ _ _ _ c.pieces.invariant.reading))).tally
+returns-in_err-next-clause-tally g c = (failed _ _ _ _ _ _ _ _ _ _ c.from_residual.result c.from_residual.ensures.1 (c.in_err-next.ensures.next _ _ _ _ _ c.pieces.invariant.reading)).tally
 
 pub take-requires : goal.take-requires
 take-requires g c =
@@ -41,17 +30,11 @@ take-requires g c =
 
 pub returns-in_err-take-clause-read : goal.returns-in_err-take-clause-read
 returns-in_err-take-clause-read g c =
-    let first = g.R.CountedRead.remaining c.args.reader.now in
-    let tally = g.R.CountedRead.tally c.args.reader.now in
-    (handed_fault c.from_residual-in_err-take.result OutOfMemory (IsWhollyRead c.args.limits c.args.format first (g.R.CountedRead.remaining c.next.new.reader) tally (g.R.CountedRead.tally c.next.new.reader))
-    c.from_residual-in_err-take.ensures.1 (gave_up _ _ first tally _ _ _ _ (c.in_ok-next.ensures.next _ _ _ _ _ c.pieces.invariant.reading).goes_on)).read
+    (gave_up _ _ _ _ _ _ _ _ (c.in_ok-next.ensures.next _ _ _ _ _ c.pieces.invariant.reading).goes_on c.from_residual-in_err-take.result c.from_residual-in_err-take.ensures.1).read
 
 pub returns-in_err-take-clause-tally : goal.returns-in_err-take-clause-tally
 returns-in_err-take-clause-tally g c =
-    let first = g.R.CountedRead.remaining c.args.reader.now in
-    let tally = g.R.CountedRead.tally c.args.reader.now in
-    (handed_fault c.from_residual-in_err-take.result OutOfMemory (IsWhollyRead c.args.limits c.args.format first (g.R.CountedRead.remaining c.next.new.reader) tally (g.R.CountedRead.tally c.next.new.reader))
-    c.from_residual-in_err-take.ensures.1 (gave_up _ _ first tally _ _ _ _ (c.in_ok-next.ensures.next _ _ _ _ _ c.pieces.invariant.reading).goes_on)).tally
+    (gave_up _ _ _ _ _ _ _ _ (c.in_ok-next.ensures.next _ _ _ _ _ c.pieces.invariant.reading).goes_on c.from_residual-in_err-take.result c.from_residual-in_err-take.ensures.1).tally
 
 pub pieces-preserved : goal.pieces-preserved
 pieces-preserved g c =

@@ -1,9 +1,6 @@
 use Rattle.std.proofs.Common.{◌≡◌, ◌∙◌, ◌+◌, ◌++◌, Ok, ap, arith, length, length-append, subst, take, drop}
 use Rattle.std.specs.Prelude.{IfSome}
 use Rattle.trace_read.proofs.Nexts.{ended, failed, gave_up}
-use Rattle.trace_read.proofs.Readings.{handed_fault}
-use Rattle.trace_read.specs.ReadTrace.{IsWhollyRead}
-use Rattle.trace_read.specs.declared.fault.TraceFault.TheVariants.{OutOfMemory}
 use Rattle.policy_actors.proofs.Pieces.{AreWaiting, fewer_wait, last_wait, more_wait, none_wait, of_known, wait_next}
 use Rattle.policy_actors.proofs.source.feed_read.Goals as goal
 
@@ -17,32 +14,18 @@ pieces-init g c =
     }
 
 pub returns-in_err-next-clause-read : goal.returns-in_err-next-clause-read
-returns-in_err-next-clause-read g c =
-    let first = g.R.CountedRead.remaining c.args.reader.now in
-    let tally = g.R.CountedRead.tally c.args.reader.now in
-    (handed_fault c.from_residual.result _ (IsWhollyRead c.args.limits c.args.format first (g.R.CountedRead.remaining c.next.new.reader) tally (g.R.CountedRead.tally c.next.new.reader)) c.from_residual.ensures.1
-    (failed _ _ first tally _ _ _ _ _ _ (c.in_err-next.ensures.next _ _ _ _ _ c.pieces.invariant.reading))).read
+returns-in_err-next-clause-read g c = (failed _ _ _ _ _ _ _ _ _ _ c.from_residual.result c.from_residual.ensures.1 (c.in_err-next.ensures.next _ _ _ _ _ c.pieces.invariant.reading)).read
 
 pub returns-in_err-next-clause-tally : goal.returns-in_err-next-clause-tally
-returns-in_err-next-clause-tally g c =
-    let first = g.R.CountedRead.remaining c.args.reader.now in
-    let tally = g.R.CountedRead.tally c.args.reader.now in
-    (handed_fault c.from_residual.result _ (IsWhollyRead c.args.limits c.args.format first (g.R.CountedRead.remaining c.next.new.reader) tally (g.R.CountedRead.tally c.next.new.reader)) c.from_residual.ensures.1
-    (failed _ _ first tally _ _ _ _ _ _ (c.in_err-next.ensures.next _ _ _ _ _ c.pieces.invariant.reading))).tally
+returns-in_err-next-clause-tally g c = (failed _ _ _ _ _ _ _ _ _ _ c.from_residual.result c.from_residual.ensures.1 (c.in_err-next.ensures.next _ _ _ _ _ c.pieces.invariant.reading)).tally
 
 pub returns-in_err-extend_from_slice-clause-read : goal.returns-in_err-extend_from_slice-clause-read
 returns-in_err-extend_from_slice-clause-read g c =
-    let first = g.R.CountedRead.remaining c.args.reader.now in
-    let tally = g.R.CountedRead.tally c.args.reader.now in
-    (handed_fault c.from_residual-in_err-extend_from_slice.result OutOfMemory (IsWhollyRead c.args.limits c.args.format first (g.R.CountedRead.remaining c.next.new.reader) tally (g.R.CountedRead.tally c.next.new.reader))
-    c.from_residual-in_err-extend_from_slice.ensures.1 (gave_up _ _ first tally _ _ _ _ (c.in_ok-next.ensures.next _ _ _ _ _ c.pieces.invariant.reading).goes_on)).read
+    (gave_up _ _ _ _ _ _ _ _ (c.in_ok-next.ensures.next _ _ _ _ _ c.pieces.invariant.reading).goes_on c.from_residual-in_err-extend_from_slice.result c.from_residual-in_err-extend_from_slice.ensures.1).read
 
 pub returns-in_err-extend_from_slice-clause-tally : goal.returns-in_err-extend_from_slice-clause-tally
 returns-in_err-extend_from_slice-clause-tally g c =
-    let first = g.R.CountedRead.remaining c.args.reader.now in
-    let tally = g.R.CountedRead.tally c.args.reader.now in
-    (handed_fault c.from_residual-in_err-extend_from_slice.result OutOfMemory (IsWhollyRead c.args.limits c.args.format first (g.R.CountedRead.remaining c.next.new.reader) tally (g.R.CountedRead.tally c.next.new.reader))
-    c.from_residual-in_err-extend_from_slice.ensures.1 (gave_up _ _ first tally _ _ _ _ (c.in_ok-next.ensures.next _ _ _ _ _ c.pieces.invariant.reading).goes_on)).tally
+    (gave_up _ _ _ _ _ _ _ _ (c.in_ok-next.ensures.next _ _ _ _ _ c.pieces.invariant.reading).goes_on c.from_residual-in_err-extend_from_slice.result c.from_residual-in_err-extend_from_slice.ensures.1).tally
 
 pub take-requires-clause-few : goal.take-requires-clause-few
 take-requires-clause-few g c =

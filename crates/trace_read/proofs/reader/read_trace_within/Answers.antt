@@ -1,11 +1,8 @@
 use Rattle.std.proofs.Common.{◌≡◌, ◌∙◌, ◌≤◌, ◌+◌, ◌++◌, Ok, Option, Some, None, List, ℕ, ap, arith, length, length-append, take, [], sym}
 use Rattle.std.specs.Prelude.{IfSome}
 use Rattle.trace_read.proofs.Nexts.{ended, failed, gave_up, kept_all, kept_on}
-use Rattle.trace_read.proofs.Readings.{handed_fault}
-use Rattle.trace_read.specs.ReadTrace.{IsWhollyRead}
 use Rattle.trace_read.specs.TraceText.{Format, fault_within, keys_in}
 use Rattle.trace_read.specs.declared.limits.Limits.{Limits}
-use Rattle.trace_read.specs.declared.fault.TraceFault.TheVariants.{OutOfMemory}
 use Rattle.trace_read.proofs.reader.read_trace_within.Goals as goal
 
 always_none : (old : Option (List ℕ)) (all : List ℕ) → all ≡ [] → (P : List ℕ → List ℕ) → IfSome old (λ b. all ≡ take (length all) (P b))
@@ -26,32 +23,18 @@ pieces-init g c =
     }
 
 pub returns-in_err-next-clause-read : goal.returns-in_err-next-clause-read
-returns-in_err-next-clause-read g c =
-    let first = g.R.CountedRead.remaining c.args.reader.now in
-    let tally = g.R.CountedRead.tally c.args.reader.now in
-    (handed_fault c.from_residual.result _ (IsWhollyRead c.args.limits c.args.format first (g.R.CountedRead.remaining c.next.new.reader) tally (g.R.CountedRead.tally c.next.new.reader)) c.from_residual.ensures.1
-    (failed _ _ first tally _ _ _ _ _ _ (c.in_err-next.ensures.next _ _ _ _ _ c.pieces.invariant.reading))).read
+returns-in_err-next-clause-read g c = (failed _ _ _ _ _ _ _ _ _ _ c.from_residual.result c.from_residual.ensures.1 (c.in_err-next.ensures.next _ _ _ _ _ c.pieces.invariant.reading)).read
 
 pub returns-in_err-next-clause-tally : goal.returns-in_err-next-clause-tally
-returns-in_err-next-clause-tally g c =
-    let first = g.R.CountedRead.remaining c.args.reader.now in
-    let tally = g.R.CountedRead.tally c.args.reader.now in
-    (handed_fault c.from_residual.result _ (IsWhollyRead c.args.limits c.args.format first (g.R.CountedRead.remaining c.next.new.reader) tally (g.R.CountedRead.tally c.next.new.reader)) c.from_residual.ensures.1
-    (failed _ _ first tally _ _ _ _ _ _ (c.in_err-next.ensures.next _ _ _ _ _ c.pieces.invariant.reading))).tally
+returns-in_err-next-clause-tally g c = (failed _ _ _ _ _ _ _ _ _ _ c.from_residual.result c.from_residual.ensures.1 (c.in_err-next.ensures.next _ _ _ _ _ c.pieces.invariant.reading)).tally
 
 pub returns-in_err-extend_from_slice-clause-read : goal.returns-in_err-extend_from_slice-clause-read
 returns-in_err-extend_from_slice-clause-read g c =
-    let first = g.R.CountedRead.remaining c.args.reader.now in
-    let tally = g.R.CountedRead.tally c.args.reader.now in
-    (handed_fault c.from_residual-in_err-extend_from_slice.result OutOfMemory (IsWhollyRead c.args.limits c.args.format first (g.R.CountedRead.remaining c.next.new.reader) tally (g.R.CountedRead.tally c.next.new.reader))
-    c.from_residual-in_err-extend_from_slice.ensures.1 (gave_up _ _ first tally _ _ _ _ (c.in_ok-next.ensures.next _ _ _ _ _ c.pieces.invariant.reading).goes_on)).read
+    (gave_up _ _ _ _ _ _ _ _ (c.in_ok-next.ensures.next _ _ _ _ _ c.pieces.invariant.reading).goes_on c.from_residual-in_err-extend_from_slice.result c.from_residual-in_err-extend_from_slice.ensures.1).read
 
 pub returns-in_err-extend_from_slice-clause-tally : goal.returns-in_err-extend_from_slice-clause-tally
 returns-in_err-extend_from_slice-clause-tally g c =
-    let first = g.R.CountedRead.remaining c.args.reader.now in
-    let tally = g.R.CountedRead.tally c.args.reader.now in
-    (handed_fault c.from_residual-in_err-extend_from_slice.result OutOfMemory (IsWhollyRead c.args.limits c.args.format first (g.R.CountedRead.remaining c.next.new.reader) tally (g.R.CountedRead.tally c.next.new.reader))
-    c.from_residual-in_err-extend_from_slice.ensures.1 (gave_up _ _ first tally _ _ _ _ (c.in_ok-next.ensures.next _ _ _ _ _ c.pieces.invariant.reading).goes_on)).tally
+    (gave_up _ _ _ _ _ _ _ _ (c.in_ok-next.ensures.next _ _ _ _ _ c.pieces.invariant.reading).goes_on c.from_residual-in_err-extend_from_slice.result c.from_residual-in_err-extend_from_slice.ensures.1).tally
 
 pub pieces-preserved : goal.pieces-preserved
 pieces-preserved g c =
