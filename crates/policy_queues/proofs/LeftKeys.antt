@@ -1,8 +1,7 @@
 -- From which queue a key leaves by an access, and how many keys left each.
-use Rattle.std.proofs.Common.{◌≡◌, ◌∙◌, ℕ, zero, suc, ◌+◌, ◌<◌, ◌≤◌, ◌==◌, true, false, Option, None, Some, List, [], ◌∷◌, ◌++◌, length, set, take, get_or, Result, Ok, Err, OnOk, ap, sym, refl, arith}
-use Rattle.std.proofs.lemmas.Bool.Decides.{nat_tests}
-use Rattle.engine_base.specs.Stats.{is_eviction, one_if}
-use Rattle.engine_base.specs.declared.outcome.Outcome.TheVariants.{Hit, Kept, Evicted, Rejected}
+use Rattle.std.proofs.Common.{◌≡◌, ◌∙◌, ℕ, zero, suc, ◌+◌, ◌≤◌, true, Option, Some, List, [], ◌∷◌, ◌++◌, take, get_or, Result, Ok, Err, OnOk, ap, sym, refl, arith}
+use Rattle.engine_base.specs.Stats.{one_if}
+use Rattle.engine_base.specs.declared.outcome.Outcome.TheVariants.{Kept}
 use Rattle.engine_base.proofs.Counting.{one-few}
 use Rattle.engine_base.proofs.Limited.{accepted-where}
 use Rattle.key_rows.specs.KeyRow.{is_number, row_left}
@@ -12,7 +11,7 @@ use Rattle.policies.specs.AnyStep.{any_act}
 use Rattle.policies.specs.Theorems.{AnyAnswers}
 use Rattle.policy_comparison.specs.CacheAccess.{StandsAt}
 use Rattle.policy_comparison.proofs.Walked.{outcome-is}
-use Rattle.policy_queues.specs.QueuesAt.{NamedQueueData, queues_at}
+use Rattle.policy_queues.specs.QueuesAt.{queues_at}
 use Rattle.policy_queues.specs.QueueRows.{is_left_by, left_from}
 use Rattle.policy_queues.specs.LeftKeys.{AreLeft, IsAccessFrom}
 use Rattle.policy_queues.proofs.QueuesAt.{shown_queues}
@@ -44,13 +43,6 @@ row-is j trace n key next law d e row stands a =
 
 -- ---- an access that is made again
 
--- without an eviction no key leaves
-pub none-left : (o : Outcome) (queues : List NamedQueueData) → is_eviction o ≡ false → None ≡ row_left o queues
-none-left Hit queues h = refl
-none-left Kept queues h = refl
-none-left (Evicted v) queues h = absurd (cc h)
-none-left (Rejected v) queues h = absurd (cc h)
-
 -- it comes to the same
 pub made-again : (key : ℕ) (before back old new : AnyPolicy) (o again : Outcome) → back ≡ before → any_act before key ≡ Some (o, old)
     → any_act back key ≡ Some (again, new) → any_act before key ≡ Some (o, new)
@@ -66,19 +58,6 @@ zero-behind [] zero = refl
 zero-behind [] (suc row) = refl
 zero-behind (x ∷ l) zero = refl
 zero-behind (x ∷ l) (suc row) = zero-behind l row
-
-pub one-behind : (l : List ℕ) (row : ℕ) → get_or (l ++ 1 ∷ []) row 0 ≡ get_or l row 0 + one_if (length l == row)
-one-behind [] zero = refl
-one-behind [] (suc row) = grind (arith, nat_tests)
-one-behind (x ∷ l) zero = grind (arith, nat_tests)
-one-behind (x ∷ l) (suc row) = let rest = one-behind l row in grind (arith, nat_tests)
-
-pub one-more : (l : List ℕ) (at row : ℕ) → at < length l → get_or (set l at (get_or l at 0 + 1)) row 0 ≡ get_or l row 0 + one_if (at == row)
-one-more [] at row lt = absurd (omega (arith, lt))
-one-more (x ∷ l) zero zero lt = refl
-one-more (x ∷ l) zero (suc row) lt = grind (arith, nat_tests)
-one-more (x ∷ l) (suc at) zero lt = grind (arith, nat_tests)
-one-more (x ∷ l) (suc at) (suc row) lt = let rest = one-more l at row (omega (arith, lt)) in grind (arith, nat_tests)
 
 -- what holds of every result
 pub on-success : {T E A : Type 0} (r : Result T E) → A → OnOk r A
