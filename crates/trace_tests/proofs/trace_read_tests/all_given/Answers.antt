@@ -1,6 +1,6 @@
 use Rattle.std.proofs.Common.{refl}
 use Rattle.trace_read.specs.Reading.{HasGiven, given_by}
-use Rattle.trace_tests.proofs.trace_read_tests.given.Goals as goal
+use Rattle.trace_tests.proofs.trace_read_tests.all_given.Goals as goal
 
 pub pieces-init : goal.pieces-init
 pieces-init g c =
