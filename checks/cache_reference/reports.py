@@ -1,6 +1,7 @@
 """Reports: of each policy at each capacity, of each interval of a trace, and of two policies access by access."""
 from collections import Counter
 from itertools import islice
+from operator import itemgetter
 
 from .frequency import mix
 from .options import DEFAULTS, opened
@@ -14,8 +15,7 @@ COMPARE_INTERVALS_HEADER = "first,second,capacity,from,to,both,first_only,second
 
 
 def outcomes_of(policy, capacity, options, keys):
-    cache = opened(policy, capacity, options, keys)
-    return [cache.access(key)[0] for key in keys]
+    return [*map(itemgetter(0), map(opened(policy, capacity, options, keys).access, keys))]
 
 
 def counts_of(outcomes):

@@ -7,6 +7,7 @@ import re
 import sys
 import traceback
 from collections import Counter
+from itertools import count
 from operator import itemgetter
 from pathlib import Path
 
@@ -14,8 +15,8 @@ from .runs import side_by_side
 
 PREFIX = "own:"
 HIT, KEPT = ("hit", None), ("kept", None)
-# The other outcomes, each with the type of what stands beside it.
-MISSES = ("kept", type(None)), ("evicted", int), ("rejected", int)
+# The type of what stands beside each outcome.
+BESIDE = {"hit": type(None), "kept": type(None), "evicted": int, "rejected": int}
 # What ends a program of one's own, which ends no script in silence.
 RAISED = Exception, SystemExit
 ANSWERS = '("hit", None), ("kept", None), ("evicted", K), ("rejected", key)'
@@ -124,27 +125,45 @@ def outcomes_of(word, policy, capacity, keys):
 
 def first_wrong(piece, answers, held, capacity):
     """The place of the first answer that cannot be right, and why; those before it change what is held."""
-    for at, (key, answer) in enumerate(zip(piece, answers)):
-        if answer == HIT:
-            if key not in held:
-                return at, "a hit of a block that it does not hold"
+    hit = HIT
+    for at, key, answer in zip(count(), piece, answers):
+        # Most policies answer each hit by one tuple, which is looked into once.
+        if answer is hit and key in held:
             continue
-        if key in held:
-            return at, f"the answer {ascii(answer)} to a block that it holds"
+        if type(answer) is not tuple or len(answer) != 2:
+            break
+        word, left = answer
         # A word of another type may be equal to what it likes.
-        if type(answer) is not tuple or len(answer) != 2 or type(answer[0]) is not str or (
-                answer[0], type(answer[1])) not in MISSES:
-            return at, f"the answer {ascii(answer)} is none of {ANSWERS}"
-        _, left = answer
-        if left in held:
+        if type(word) is not str or type(left) is not BESIDE.get(word):
+            break
+        if key in held:
+            if word != "hit":
+                break
+            hit = answer
+        elif left in held:
             held.remove(left)
-        elif answer != KEPT and answer != ("rejected", key):
-            return at, f"block {left} leaves, which it does not hold"
-        if left != key:
             held.add(key)
-            if len(held) > capacity:
-                return at, f"it holds {len(held)} blocks"
-    return None
+        elif word == "kept" and len(held) < capacity:
+            held.add(key)
+        elif word != "rejected" or left != key:
+            break
+    else:
+        return None
+    return at, what_is_wrong(key, answer, held, capacity)
+
+
+def what_is_wrong(key, answer, held, capacity):
+    """Why an answer cannot be right to an access before which these keys are held."""
+    if key in held:
+        return f"the answer {ascii(answer)} to a block that it holds"
+    if answer == HIT:
+        return "a hit of a block that it does not hold"
+    if type(answer) is not tuple or len(answer) != 2 or type(answer[0]) is not str or (
+            type(answer[1]) is not BESIDE.get(answer[0])):
+        return f"the answer {ascii(answer)} is none of {ANSWERS}"
+    if answer == KEPT:
+        return f"it holds {capacity + 1} blocks"
+    return f"block {answer[1]} leaves, which it does not hold"
 
 
 def counts_of(policies, words, capacities, keys, processes=None):
