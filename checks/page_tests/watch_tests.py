@@ -372,7 +372,7 @@ def check_faults(tools, program, folder):
 
 
 # It takes each word, and answers each command of `debug` by a line. The first `compare` waits behind its first access
-# until a pipe is opened; each says how many accesses it read.
+# until a pipe is opened; each says how many accesses it read, and leaves a line in `begun`.
 TWICE = """#!{python} -SE
 import os, sys
 from pathlib import Path
@@ -383,8 +383,10 @@ if sys.argv[1] == "debug":
 if sys.argv[1] == "run":
     sys.exit()
 text, begun = os.read(0, 2), Path({folder!r}) / "begun"
-if not begun.exists():
-    begun.touch()
+is_first = not begun.exists()
+with begun.open("a") as lines:
+    print("compare", file=lines)
+if is_first:
     open(begun.parent / "pipe").read()
 count = (text + sys.stdin.buffer.read()).count(b"\\n")
 print(f"head\\na,b,2,1,{{count}},0,0,0,{{count}}")
@@ -392,7 +394,7 @@ print(f"head\\na,b,2,1,{{count}},0,0,0,{{count}}")
 
 
 def check_opened_twice(tools, folder):
-    """Where a page is opened twice, each has the ground of the whole trace."""
+    """Where a page is opened twice, or again, each has the ground of the whole trace by one `compare`."""
     program, trace = folder / "program", folder / "trace"
     program.write_text(TWICE.format(python=sys.executable, folder=str(folder)))
     program.chmod(0o755)
@@ -401,9 +403,11 @@ def check_opened_twice(tools, folder):
     with watched(tools, program, trace, "--capacity", "2", *PAIR) as (address, _), ThreadPoolExecutor() as pool:
         first = pool.submit(asked, address, body='{"ask":"ground"}')
         expect("the first begins", becomes((folder / "begun").exists, 60), True)
-        second = asked(address, body='{"ask":"ground"}')
+        second = pool.submit(asked, address, body='{"ask":"ground"}')
         (folder / "pipe").write_text("")
-        expect("both", [first.result(), second], [(200, '{"every":1,"rows":[[3,0,0,0,3]]}')] * 2)
+        found = [first.result(), second.result(), asked(address, body='{"ask":"ground"}')]
+        expect("each ground", found, [(200, '{"every":1,"rows":[[3,0,0,0,3]]}')] * 3)
+    expect("the calls", (folder / "begun").read_text(), "compare\n")
 
 
 def check_packed(browser, tools, program, folder):
@@ -476,7 +480,7 @@ MISTAKES = {
     "both ends alike": Mistake(check_large, "lib/views.py", "cells(slice(-ENDS, None))", "cells(slice(ENDS))"),
     "curves of another interval": Mistake(check_ground, "lib/views.py", "both + first, both + second",
                                           "both + second, both + first"),
-    "one place in a file for two": Mistake(check_opened_twice, "watch", "stdin=own,", "stdin=file.begun(),"),
+    "a ground for each page": Mistake(check_opened_twice, "lib/views.py", "if not self.compared:", "if True:"),
     "an estimate of another block": Mistake(check_estimates, "lib/views.py", '"left": other', '"left": block'),
     "a window without its target": Mistake(check_estimates, "lib/watch.html", "${size.target ?", "${size.goal ?"),
     "a step of another place": Mistake(check_journal, "lib/views.py", 'ask(f"goto {at}", "show")',

@@ -4,6 +4,7 @@ import re
 from array import array
 from bisect import bisect_left, bisect_right
 from collections import defaultdict
+from threading import Lock
 
 from .pictures import shade_of
 from .policies import OTHERS, POLICIES
@@ -41,6 +42,7 @@ class TraceView:
 
     def __init__(self, session, keys, facts, compare):
         self.session, self.keys, self.queues, self.compare = session, keys, {}, compare
+        self.comparing, self.compared = Lock(), []
         self.facts = {**facts, "kind": "trace", "end": len(keys), "finds": ["parting", "halving"]}
         self.breakpoints = {"parting": "part", "halving": "halve"}
 
@@ -53,9 +55,13 @@ class TraceView:
             return {"found": look(ask, self.at(asked), self.breakpoints[asked["what"]])}
 
     def ground(self, _):
-        """The hits of both policies in each interval, and at how many accesses they part, by `compare`."""
+        """The hits of both policies in each interval, and at how many accesses they part, by `compare`, which is called
+        once, also where the page is open twice."""
         every = every_of(len(self.keys))
-        rows = [list(map(int, line.split(",")[3:])) for line in self.compare(every)]
+        with self.comparing:
+            if not self.compared:
+                self.compared = self.compare(every)
+        rows = [list(map(int, line.split(",")[3:])) for line in self.compared]
         return {"every": every, "rows": [[end, both + first, both + second, first + second, end - begin + 1]
                                          for begin, end, both, first, second, _ in rows]}
 
