@@ -6,6 +6,7 @@ import pytest
 import report_tests
 import watch_tests
 from checks import replaced
+from selenium.common.exceptions import TimeoutException
 
 MODULES = {"watch": watch_tests, "report": report_tests}
 MISTAKES = [pytest.param(mistake, id=f"{name}: {words}") for name, module in MODULES.items()
@@ -20,6 +21,6 @@ def check_mistake(mistake, tools, folder, request):
     (folder / "files").mkdir()
     given = {"tools": copy, "folder": folder / "files", "pictures": folder / "files"}
     names = inspect.signature(mistake.test).parameters
-    # By the test, or by what it waits for.
-    with pytest.raises(Exception):
+    # By what the test says, or by what it waits for; else the mistake broke the page or the test itself.
+    with pytest.raises((AssertionError, TimeoutException)):
         mistake.test(**{it: given.get(it) or request.getfixturevalue(it) for it in names})
