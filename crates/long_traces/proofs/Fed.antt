@@ -1,9 +1,17 @@
 -- A trace that is fed piece by piece.
-use Rattle.std.proofs.Common.{Bool, false, ◌≡◌, ℕ, ◌+◌, ◌≤◌, List, [], ◌++◌, length, take, drop, Option, Some, None, IfSome, sym, ap, subst, refl, ◌∙◌, arith, length-append}
+use Rattle.std.proofs.Common.{Bool, false, ◌≡◌, ℕ, ◌+◌, ◌≤◌, List, [], ◌++◌, length, take, drop, Option, Some, None, IfSome, Result, Err, sym, ap, subst, refl, ◌∙◌, arith, length-append}
 use Rattle.std.proofs.Math.Seq.{drop-append_seam, take-add}
 use Rattle.std.proofs.lemmas.List.{drop-take, append_cancel_right, take_all}
 use Rattle.engine_base.specs.declared.limits.TheConstants.{MAX_STEPS}
+use Rattle.std.specs.Prelude.{IsErrAnd}
+use Rattle.streams.specs.Tally.{FailsWhere}
+use Rattle.streams.specs.declared.tally.Tally.{Tally}
+use Rattle.trace_read.proofs.Readings.{handed_fault, read_as}
 use Rattle.trace_read.specs.Reading.{GivesNext}
+use Rattle.trace_read.specs.ReadTrace.{IsReadWithin, IsWhollyRead}
+use Rattle.trace_read.specs.declared.fault.TraceFault.{TraceFault}
+use Rattle.trace_read.specs.declared.fault.TraceFault.TheVariants.{Read}
+use Rattle.trace_read.specs.declared.limits.Limits.{Limits}
 use Rattle.long_traces.specs.Taking.{Format, AreNext, CanTake, HasBegun, HasTakenAll, IsFed, keys_in}
 
 -- keys behind the beginning of a trace, with which it goes on
@@ -77,3 +85,11 @@ taken_to_end H format (Some b) place was taker keys more end none gives fed = λ
     let is = fed task start in
     let long : place ≡ length all = omega (arith, gives.last end, ap length none) in
     subst (λ (n : ℕ). H task all n taker) long (is.taken all (omega (arith, long)) is.first)
+
+-- a fault of the reading that is handed on
+pub handed_on : {A B : Type 0} (limits : Limits) (format : Format) (old new : Option (List ℕ)) (before after : Tally) (e : TraceFault) (result : Result B TraceFault) → IsErrAnd result (λ y. y ≡ e)
+    → IsReadWithin {T = A} limits format old new (Err e) → FailsWhere (◌≡◌ {A = Result A TraceFault} (Err e) (Err Read)) before after → IsWhollyRead {T = B} limits format old new before after result
+handed_on {A} {B} limits format old new before after e result same read tally = handed_fault result e (IsWhollyRead limits format old new before after) same (record {
+  read = read_as {A = A} limits limits format format old new e refl refl read;
+  tally = record { failing = λ q. tally.failing (cc q); served = λ q. tally.served (λ p. q (cc p)) };
+})
