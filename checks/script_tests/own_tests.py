@@ -282,7 +282,8 @@ def check_survey(survey, folder):
 
 
 def check_corpus(corpus, folder):
-    """A policy of one's own beside those of the program, in each job; another file of the same name is refused."""
+    """A policy of one's own beside those of the program, in each job, which draws nothing on a terminal; another file of
+    the same name is refused."""
     traces = [file_of(folder, f"trace{it}", TRACE * it) for it in (2, 5)]
     program = fake(folder, "10", top="1 << 21")
     call = "run", "--program", program, "--out", folder / "out", "--percent", 100, "--policy", "lru"
@@ -295,6 +296,8 @@ def check_corpus(corpus, folder):
                  "(own:lru: not proved, a program of one's own; each of its answers was checked)\n")
     error = run(corpus, *call, *own_of(folder, LRU + "\n"), *traces, status=1)[1]
     expect_parts("another file", error, "has results of other own: name another folder")
+    words = "--program", program, "--format", "lirs", "--policy", "own:lru", "--percent", 100
+    expect("what a job draws", on_terminal(corpus, "job", *words, *own_of(folder), "--", *traces), "")
     wrong = own_of(folder, ANSWERING.format("'hit', None"))
     error = run(corpus, *call[:3], "--out", folder / "wrong", "--policy", "lru", *wrong, *traces, status=1)[1]
     expect_parts("a wrong one", error, "2 of 2 traces have no result",
@@ -385,8 +388,9 @@ MISTAKES = {
     "the warm-up as the trace": Mistake(check_survey, "lib/reports.py", "(own, capacities, is_warm_up)",
                                         "(own, capacities, False)"),
     "blocks by how they are written": Mistake(check_survey, "lib/traces.py", "(int(line) for line", "(line for line"),
-    "no progress": Mistake(check_survey, "lib/runs.py", "        show_part(what, sum(made)",
-                           "        (what, sum(made)"),
+    "no progress": Mistake(check_survey, "lib/runs.py", "            show_part(what, sum(made)",
+                           "            (what, sum(made)"),
+    "a line of each job": Mistake(check_corpus, "lib/runs.py", "        if not processes:\n", "        if True:\n"),
     "no note": Mistake(check_survey, "lib/tables.py", "if note := ", 'if note := "" and '),
     "own ones that nobody asked for": Mistake(check_survey, OWN, "return policies if any(map(is_own, policies)) else ",
                                               "return "),

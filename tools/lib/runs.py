@@ -66,7 +66,8 @@ class Accesses(list):
 
 def side_by_side(call, jobs, what, accesses, processes=None):
     """What a call makes of each job, each in a process, as many at once as there are processors. All end before a fault
-    of the first job that has one is raised. `accesses` is how many all of them make."""
+    of the first job that has one is raised. `accesses` is how many all of them make. A caller that says how many
+    processes runs several of these at once, whose lines would stand in one another's place, so they have none."""
     # Here, since most calls of most scripts need none of it.
     from multiprocessing import connection, get_context
 
@@ -86,8 +87,10 @@ def side_by_side(call, jobs, what, accesses, processes=None):
             with contextlib.closing(reader):
                 found[at] = received(reader, what)
             process.join()
-        show_part(what, sum(made), accesses, time.monotonic() - begun)
-    show_part(what)
+        if not processes:
+            show_part(what, sum(made), accesses, time.monotonic() - begun)
+    if not processes:
+        show_part(what)
     answers = [found[at] for at in range(len(jobs))]
     if fault := next((it for it in answers if isinstance(it, Exception)), None):
         raise fault
