@@ -188,7 +188,8 @@ def check_life(browser, tools, program):
 
 
 def asked(address, method="POST", path=None, body='{"ask":"facts"}', **headers):
-    """The status of a request, which is that of the page but for what is named; None leaves a header out."""
+    """The status of a request, which is that of the page but for what is named, and the text; None leaves a header out, and is
+    the status where no answer comes."""
     parts = urlsplit(address)
     given = {"Host": parts.netloc, "Origin": f"http://{parts.netloc}", "X-Token": parse_qs(parts.query)["token"][0],
              "Content-Length": str(len(body)),
@@ -199,10 +200,13 @@ def asked(address, method="POST", path=None, body='{"ask":"facts"}', **headers):
         if value is not None and (method == "POST" or name in ("Host", *headers)):
             link.putheader(name, value)
     link.endheaders(body.encode() if method == "POST" else None)
-    answer = link.getresponse()
-    text = answer.read().decode()
-    link.close()
-    return answer.status, text
+    try:
+        answer = link.getresponse()
+        return answer.status, answer.read().decode()
+    except http.client.RemoteDisconnected as fault:
+        return None, str(fault)
+    finally:
+        link.close()
 
 
 def check_refused(browser, tools, program):
