@@ -115,11 +115,7 @@ impl<'a, R: Clock + Eprint> ProgressLine<'a, R> {
     // Whether a line is due, which this thread draws then.
     fn is_due(&self, now: u64) -> bool {
         let due = self.due.load(SeqCst);
-        now >= due
-            && self
-                .due
-                .compare_exchange(due, BUSY, SeqCst, SeqCst)
-                .is_ok()
+        now >= due && self.due.compare_exchange(due, BUSY, SeqCst, SeqCst).is_ok()
     }
 }
 
