@@ -1,2 +1,4 @@
 pub mod Next
 pub mod Halves
+pub mod Covers
+pub mod Each
