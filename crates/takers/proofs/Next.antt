@@ -1,9 +1,10 @@
 -- Keys that come next in a trace.
-use Rattle.std.proofs.Common.{◌≡◌, ℕ, ◌+◌, ◌-◌, ◌<◌, ◌≤◌, false, true≢false, List, ◌++◌, inl, inr, length, take, drop, sym, ap, subst, ◌∙◌, arith, length-take, length-drop, take-append-drop}
+use Rattle.std.proofs.Common.{◌≡◌, ℕ, ◌+◌, ◌-◌, ◌≤◌, false, true≢false, List, ◌++◌, inl, inr, length, take, drop, sym, ap, subst, ◌∙◌, arith, length-take, length-drop, take-append-drop}
 use Rattle.std.proofs.Math.Seq.{take-add}
 use Rattle.std.proofs.lemmas.List.{drop-take, drop-drop, take-take}
 use Rattle.engine_base.specs.declared.limits.TheConstants.{MAX_STEPS}
-use Rattle.policies.specs.Accesses.{AnyPolicy, Job, IsNext}
+use Rattle.policies.specs.Accesses.{Job, IsNext}
+use Rattle.policies.specs.declared.any_policy.AnyPolicy.{AnyPolicy}
 use Rattle.policies.specs.AnyPolicy.{HasAccessed}
 use Rattle.policies.specs.Design.{knows_trace}
 use Rattle.policies.proofs.Designs.{optimal-knows}

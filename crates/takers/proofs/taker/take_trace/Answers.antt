@@ -1,4 +1,4 @@
-use Rattle.std.proofs.Common.{◌≡◌, ◌∙◌, ◌+◌, ℕ, length, ap, subst, arith}
+use Rattle.std.proofs.Common.{◌≡◌, ◌+◌, ℕ, length, subst, arith}
 use Rattle.std.specs.Int.{div_ceil}
 use Rattle.takers.specs.declared.taker.TheConstants.{AT_A_TIME}
 use Rattle.takers.proofs.Cut.{next, more, whole}
@@ -11,8 +11,8 @@ loop-number-init g c = record {
   taken = λ task taken. taken;
 }
 
-pub take-requires : goal.take-requires
-take-requires g c =
+pub take-requires-clause-next : goal.take-requires-clause-next
+take-requires-clause-next g c =
     let i = c.loop-number.invariant in
     let (task, taken) = c.requires in
     record {
