@@ -1,11 +1,9 @@
 -- What was counted of the first accesses of two policies, with a row for each interval that is over.
-use Rattle.std.specs.Prelude.{◌≡◌, ◌≤◌, ◌<◌, ℕ, ◌+◌, ◌*◌, Bool, List, length, take}
+use Rattle.std.specs.Prelude.{◌≡◌, ◌≤◌, ◌<◌, ℕ, ◌+◌, ◌*◌, Bool, false, List, length, slice_index_or, take}
 use Rattle.engine_base.specs.declared.limits.TheConstants.{MAX_STEPS}
-use Rattle.policies.specs.AnyPolicy.{Outcome, outcomes_on}
 use Rattle.policy_comparison.specs.CacheAccess.{StandsAt}
-use Rattle.policy_comparison.specs.Comparison.{counts_of, hits_beside}
+use Rattle.policy_comparison.specs.Comparison.{counts_of}
 use Rattle.policy_comparison.specs.ComparedIntervals.{first_compared}
-use Rattle.policy_comparison.specs.TwoCaches.{TwoCaches, AreAbreastOfSome}
 pub use Rattle.policy_comparison.specs.declared.compared_rows.ComparedRows.{ComparedRows}
 
 -- how many intervals are over
@@ -49,20 +47,22 @@ pub record CanCount (hit : Bool × Bool) (c : ComparedRows) : Type 0 where
   pub few : length hits ≤ MAX_STEPS
   pub counted : HasCounted every hits place c
 
+-- what both policies did at so many accesses behind the first n
+abbrev pub AreBeside : List (Bool × Bool) → ℕ → List Bool → List Bool → Type 0
+AreBeside hits n first second =
+    (i : ℕ) → i < length first → StandsAt hits (n + i) (slice_index_or first i false, slice_index_or second i false)
+
+-- they can be counted
+pub record CanCountEach (first second : List Bool) (c : ComparedRows) : Type 0 where
+  pub every : ℕ
+  pub hits : List (Bool × Bool)
+  pub place : ℕ
+  pub next : AreBeside hits place first second
+  pub few : length hits ≤ MAX_STEPS
+  pub counted : HasCounted every hits place c
+
 -- all of some accesses are counted
 pub record HasCountedAll (c : ComparedRows) : Type 0 where
   pub every : ℕ
   pub hits : List (Bool × Bool)
   pub counted : HasCounted every hits (length hits) c
-
--- ---- of two caches over one trace
-
--- what is counted of the hits of two jobs, once all are
-abbrev pub HasCompared : ℕ → List Outcome → List Outcome → ComparedRows → Type 0
-HasCompared every first second c = HasCounted every (hits_beside first second) (length (hits_beside first second)) c
-
--- the hits of the two caches before a place are counted
-pub record CanCountFrom (place : ℕ) (both : TwoCaches) (c : ComparedRows) : Type 0 where
-  pub every : ℕ
-  pub caches : AreAbreastOfSome both
-  pub counted : HasCounted every (hits_beside (outcomes_on caches.first caches.trace) (outcomes_on caches.second caches.trace)) place c

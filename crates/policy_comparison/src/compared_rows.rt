@@ -3,7 +3,7 @@ ghost use Rattle.std.specs.Int.{div_ceil};
 ghost use Rattle.std.specs.Prelude.{◌≡◌, ◌≤◌, ◌+◌, Bool, List, ℕ, length, IfOk, OnOk};
 ghost use Rattle.policy_comparison.specs.CacheAccess.{StandsAt};
 ghost use Rattle.policy_comparison.specs.ComparedIntervals.{between, compared_at, first_compared, IsLater};
-ghost use Rattle.policy_comparison.specs.ComparedRows.{CanCount, EndsRow, EndsSomeRow, HasCounted, HasCountedAll, rows_in};
+ghost use Rattle.policy_comparison.specs.ComparedRows.{AreBeside, CanCount, CanCountEach, EndsRow, EndsSomeRow, HasCounted, HasCountedAll, rows_in};
 ghost use Rattle.policy_comparison.specs.Comparison.{counts_of};
 
 use crate::comparison::Comparison;
@@ -20,7 +20,7 @@ pub struct ComparedInterval {
 
 /// What was counted of the first accesses of two policies, with a row for each interval that is over.
 #[derive(Drop)]
-pub struct ComparedRows {
+pub(crate) struct ComparedRows {
     // How many accesses an interval has, and how many were counted of the one that is not over.
     every: usize,
     used: usize,
@@ -32,7 +32,7 @@ pub struct ComparedRows {
 
 impl ComparedRows {
     /// Before any access, with intervals of `every` accesses.
-    pub fn none(alloc: Global, every: usize) -> ComparedRows
+    pub(crate) fn none(alloc: Global, every: usize) -> ComparedRows
         requires { 1 ≤ every }
         ensures { (hits : List (Bool × Bool)) → HasCounted every hits 0 result }
     {
@@ -47,23 +47,21 @@ impl ComparedRows {
         }
     }
 
-    /// Counts one access more, at which the policies hit or not. The one error is out of memory.
-    #[inline(always)]
-    pub fn count(&mut self, first: bool, second: bool) -> Result<(), AllocError>
-        requires { CanCount (first, second) self.old }
-        ensures { (every : ℕ) (hits : List (Bool × Bool)) (n : ℕ) → StandsAt hits n (first, second)
-            → HasCounted every hits n self.old → OnOk result (HasCounted every hits (n + 1) self.new) }
+    /// Counts the accesses at which the policies hit or not, in turn. The one error is out of memory.
+    pub(crate) fn count_each(&mut self, first: &[bool], second: &[bool]) -> Result<(), AllocError>
+        requires together { length second.now ≡ length first.now }
+        requires can { CanCountEach first.now second.now self.old }
+        ensures { (every : ℕ) (hits : List (Bool × Bool)) (n : ℕ) → AreBeside hits n first.now second.now
+            → HasCounted every hits n self.old → OnOk result (HasCounted every hits (n + length first.now) self.new) }
     {
-        self.counts.count(first, second);
-        self.used += 1;
-        if self.used < self.every {
-            return Ok(());
+        for i in 0..first.len() {
+            self.count(first[i], second[i])?;
         }
-        self.end_row()
+        Ok(())
     }
 
     /// What was counted once all accesses were.
-    pub fn counts(&self) -> Comparison
+    pub(crate) fn counts(&self) -> Comparison
         ensures { (every : ℕ) (hits : List (Bool × Bool)) → HasCounted every hits (length hits) self.now
             → result ≡ counts_of hits }
     {
@@ -72,7 +70,7 @@ impl ComparedRows {
 
     /// The rows once all accesses were counted; the last interval may be shorter than the others. The one error is out
     /// of memory.
-    pub fn into_rows(self) -> Result<Vec<ComparedInterval>, AllocError>
+    pub(crate) fn into_rows(self) -> Result<Vec<ComparedInterval>, AllocError>
         requires { HasCountedAll self }
         ensures { (every : ℕ) (hits : List (Bool × Bool)) → HasCounted every hits (length hits) self
             → IfOk result (λ rows. rows.items ≡ first_compared every hits (div_ceil (length hits) every)) }
@@ -84,6 +82,21 @@ impl ComparedRows {
         let mut rows = self.rows;
         rows.push(row)?;
         Ok(rows)
+    }
+
+    // Counts one access more, at which the policies hit or not. The one error is out of memory.
+    #[inline(always)]
+    fn count(&mut self, first: bool, second: bool) -> Result<(), AllocError>
+        requires { CanCount (first, second) self.old }
+        ensures { (every : ℕ) (hits : List (Bool × Bool)) (n : ℕ) → StandsAt hits n (first, second)
+            → HasCounted every hits n self.old → OnOk result (HasCounted every hits (n + 1) self.new) }
+    {
+        self.counts.count(first, second);
+        self.used += 1;
+        if self.used < self.every {
+            return Ok(());
+        }
+        self.end_row()
     }
 
     // Ends the interval whose accesses were counted. The one error is out of memory.
