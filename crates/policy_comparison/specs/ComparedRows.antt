@@ -1,5 +1,5 @@
 -- What was counted of the first accesses of two policies, with a row for each interval that is over.
-use Rattle.std.specs.Prelude.{◌≡◌, ◌≤◌, ◌<◌, ℕ, ◌+◌, ◌*◌, Bool, false, List, length, slice_index_or, take}
+use Rattle.std.specs.Prelude.{◌≡◌, ◌≤◌, ◌<◌, ℕ, ◌+◌, ◌*◌, Bool, List, length, take}
 use Rattle.engine_base.specs.declared.limits.TheConstants.{MAX_STEPS}
 use Rattle.policy_comparison.specs.CacheAccess.{StandsAt}
 use Rattle.policy_comparison.specs.Comparison.{counts_of}
@@ -44,20 +44,6 @@ pub record CanCount (hit : Bool × Bool) (c : ComparedRows) : Type 0 where
   pub hits : List (Bool × Bool)
   pub place : ℕ
   pub next : StandsAt hits place hit
-  pub few : length hits ≤ MAX_STEPS
-  pub counted : HasCounted every hits place c
-
--- what both policies did at so many accesses behind the first n
-abbrev pub AreBeside : List (Bool × Bool) → ℕ → List Bool → List Bool → Type 0
-AreBeside hits n first second =
-    (i : ℕ) → i < length first → StandsAt hits (n + i) (slice_index_or first i false, slice_index_or second i false)
-
--- they can be counted
-pub record CanCountEach (first second : List Bool) (c : ComparedRows) : Type 0 where
-  pub every : ℕ
-  pub hits : List (Bool × Bool)
-  pub place : ℕ
-  pub next : AreBeside hits place first second
   pub few : length hits ≤ MAX_STEPS
   pub counted : HasCounted every hits place c
 

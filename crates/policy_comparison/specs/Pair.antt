@@ -4,7 +4,7 @@ use Rattle.policies.specs.declared.any_policy.AnyPolicy.{AnyPolicy}
 use Rattle.policies.specs.AnyPolicy.{Outcome, Job, HasAccessed, outcomes_on}
 use Rattle.takers.specs.Taking.{AreNext, CanTake}
 use Rattle.policy_comparison.specs.declared.pair.NotedCache.{NotedCache}
-use Rattle.policy_comparison.specs.declared.pair.Pair.{Pair}
+pub use Rattle.policy_comparison.specs.declared.pair.Pair.{Pair}
 use Rattle.policy_comparison.specs.Part.{is_hit_at}
 
 -- the jobs are two, of which P holds
@@ -44,3 +44,8 @@ pub record HasMade (keys : List ℕ) (old new : NotedCache) : Type 0 where
 pub record HavePaired (first second : Job) (trace : List ℕ) (n : ℕ) (pair : Pair) : Type 0 where
   pub one : HasRun first trace n pair.first.cache
   pub other : HasRun second trace n pair.second.cache
+
+-- their flags say which of the accesses behind the first n hit
+pub record HaveNoted (os ps : List Outcome) (n : ℕ) (pair : Pair) : Type 0 where
+  pub one : IsNoted pair.first.hits.items os n (length pair.first.hits.items)
+  pub other : IsNoted pair.second.hits.items ps n (length pair.second.hits.items)

@@ -3,7 +3,7 @@ ghost use Rattle.std.specs.Int.{div_ceil};
 ghost use Rattle.std.specs.Prelude.{◌≡◌, ◌≤◌, ◌+◌, Bool, List, ℕ, length, IfOk, OnOk};
 ghost use Rattle.policy_comparison.specs.CacheAccess.{StandsAt};
 ghost use Rattle.policy_comparison.specs.ComparedIntervals.{between, compared_at, first_compared, IsLater};
-ghost use Rattle.policy_comparison.specs.ComparedRows.{AreBeside, CanCount, CanCountEach, EndsRow, EndsSomeRow, HasCounted, HasCountedAll, rows_in};
+ghost use Rattle.policy_comparison.specs.ComparedRows.{CanCount, EndsRow, EndsSomeRow, HasCounted, HasCountedAll, rows_in};
 ghost use Rattle.policy_comparison.specs.Comparison.{counts_of};
 
 use crate::comparison::Comparison;
@@ -47,17 +47,19 @@ impl ComparedRows {
         }
     }
 
-    /// Counts the accesses at which the policies hit or not, in turn. The one error is out of memory.
-    pub(crate) fn count_each(&mut self, first: &[bool], second: &[bool]) -> Result<(), AllocError>
-        requires together { length second.now ≡ length first.now }
-        requires can { CanCountEach first.now second.now self.old }
-        ensures { (every : ℕ) (hits : List (Bool × Bool)) (n : ℕ) → AreBeside hits n first.now second.now
-            → HasCounted every hits n self.old → OnOk result (HasCounted every hits (n + length first.now) self.new) }
+    /// Counts one access more, at which the policies hit or not. The one error is out of memory.
+    #[inline(always)]
+    pub(crate) fn count(&mut self, first: bool, second: bool) -> Result<(), AllocError>
+        requires { CanCount (first, second) self.old }
+        ensures { (every : ℕ) (hits : List (Bool × Bool)) (n : ℕ) → StandsAt hits n (first, second)
+            → HasCounted every hits n self.old → OnOk result (HasCounted every hits (n + 1) self.new) }
     {
-        for i in 0..first.len() {
-            self.count(first[i], second[i])?;
+        self.counts.count(first, second);
+        self.used += 1;
+        if self.used < self.every {
+            return Ok(());
         }
-        Ok(())
+        self.end_row()
     }
 
     /// What was counted once all accesses were.
@@ -82,21 +84,6 @@ impl ComparedRows {
         let mut rows = self.rows;
         rows.push(row)?;
         Ok(rows)
-    }
-
-    // Counts one access more, at which the policies hit or not. The one error is out of memory.
-    #[inline(always)]
-    fn count(&mut self, first: bool, second: bool) -> Result<(), AllocError>
-        requires { CanCount (first, second) self.old }
-        ensures { (every : ℕ) (hits : List (Bool × Bool)) (n : ℕ) → StandsAt hits n (first, second)
-            → HasCounted every hits n self.old → OnOk result (HasCounted every hits (n + 1) self.new) }
-    {
-        self.counts.count(first, second);
-        self.used += 1;
-        if self.used < self.every {
-            return Ok(());
-        }
-        self.end_row()
     }
 
     // Ends the interval whose accesses were counted. The one error is out of memory.

@@ -1,9 +1,10 @@
 //! How often two policies hit at the same accesses of a trace that comes in pieces.
-ghost use Rattle.std.specs.Prelude.{◌≡◌, ◌≤◌, ◌+◌, ℕ, List, Ok, IfOk, OnOk, length};
+ghost use Rattle.std.specs.Prelude.{◌≡◌, ◌≤◌, ◌+◌, ℕ, Bool, List, Ok, IfOk, OnOk, length};
 ghost use Rattle.engine_base.specs.Config.{config_fault};
 ghost use Rattle.policy_comparison.specs.Comparison.{Job, compared_on};
 ghost use Rattle.policy_comparison.specs.ComparedIntervals.{compared_intervals_on};
-ghost use Rattle.policy_comparison.specs.ComparedRun.{HasCompared};
+ghost use Rattle.policy_comparison.specs.ComparedRun.{AreBeside, CanCountEach, HasCompared};
+ghost use Rattle.policy_comparison.specs.ComparedRows.{HasCounted};
 ghost use Rattle.takers.specs.Taking.{AreNext, CanTake, HasTakenAll, RunsOver};
 
 use crate::compared_rows::{ComparedInterval, ComparedRows};
@@ -68,10 +69,22 @@ impl ComparedRun {
             → OnOk result (HasCompared every first second trace (n + length keys.now) self.new) }
     {
         self.pair.advance(rt, keys)?;
-        let both = &self.pair;
-        self.counted
-            .count_each(both.first.hits.as_slice(), both.second.hits.as_slice())
+        count_hits(&self.pair, &mut self.counted)
     }
+}
+
+// Counts the accesses of the last piece. The one error is out of memory.
+fn count_hits(pair: &Pair, counted: &mut ComparedRows) -> Result<(), AllocError>
+    requires together { length pair.now.second.hits.items ≡ length pair.now.first.hits.items }
+    requires can { CanCountEach pair.now counted.old }
+    ensures { (every : ℕ) (hits : List (Bool × Bool)) (n : ℕ) → AreBeside hits n pair.now
+        → HasCounted every hits n counted.old
+        → OnOk result (HasCounted every hits (n + length pair.now.first.hits.items) counted.new) }
+{
+    for i in 0..pair.first.hits.len() {
+        counted.count(pair.first.hits[i], pair.second.hits[i])?;
+    }
+    Ok(())
 }
 
 impl Taker for ComparedRun {
