@@ -9,18 +9,18 @@ use Rattle.policy_comparison.specs.Pair.{AreTwo, HavePaired, Pair}
 use Rattle.takers.specs.Taking.{Task}
 pub use Rattle.policy_comparison.specs.declared.compared_run.ComparedRun.{ComparedRun}
 
--- the flags of the caches are what stands behind the first n of the hits
-abbrev pub AreBeside : List (Bool × Bool) → ℕ → Pair → Type 0
-AreBeside hits n pair =
-    (i : ℕ) → i < length pair.first.hits.items
+-- so many flags of the caches are what stands behind the first n of the hits
+abbrev pub AreBeside : List (Bool × Bool) → ℕ → ℕ → Pair → Type 0
+AreBeside hits n size pair =
+    (i : ℕ) → i < size
     → StandsAt hits (n + i) (slice_index_or pair.first.hits.items i false, slice_index_or pair.second.hits.items i false)
 
 -- they can be counted
-pub record CanCountEach (pair : Pair) (c : ComparedRows) : Type 0 where
+pub record CanCountEach (size : ℕ) (pair : Pair) (c : ComparedRows) : Type 0 where
   pub every : ℕ
   pub hits : List (Bool × Bool)
   pub place : ℕ
-  pub next : AreBeside hits place pair
+  pub next : AreBeside hits place size pair
   pub few : length hits ≤ MAX_STEPS
   pub counted : HasCounted every hits place c
 

@@ -1,5 +1,5 @@
 -- Two caches that made the same accesses, and which accesses of the last piece hit.
-use Rattle.std.specs.Prelude.{◌≡◌, ℕ, ◌+◌, ◌<◌, Bool, false, List, [], ◌∷◌, length, slice_index_or, take}
+use Rattle.std.specs.Prelude.{◌≡◌, ℕ, ◌+◌, ◌<◌, ◌≤◌, Bool, false, List, [], ◌∷◌, length, slice_index_or, take}
 use Rattle.policies.specs.declared.any_policy.AnyPolicy.{AnyPolicy}
 use Rattle.policies.specs.AnyPolicy.{Outcome, Job, HasAccessed, outcomes_on}
 use Rattle.takers.specs.Taking.{AreNext, CanTake}
@@ -45,7 +45,11 @@ pub record HavePaired (first second : Job) (trace : List ℕ) (n : ℕ) (pair : 
   pub one : HasRun first trace n pair.first.cache
   pub other : HasRun second trace n pair.second.cache
 
--- their flags say which of the accesses behind the first n hit
-pub record HaveNoted (os ps : List Outcome) (n : ℕ) (pair : Pair) : Type 0 where
-  pub one : IsNoted pair.first.hits.items os n (length pair.first.hits.items)
-  pub other : IsNoted pair.second.hits.items ps n (length pair.second.hits.items)
+-- they have flags of so many accesses
+abbrev pub AreNoted : ℕ → Pair → Type 0
+AreNoted size pair = (size ≤ length pair.first.hits.items) × (size ≤ length pair.second.hits.items)
+
+-- which say which of those behind the first n hit
+pub record HaveNoted (os ps : List Outcome) (n size : ℕ) (pair : Pair) : Type 0 where
+  pub one : IsNoted pair.first.hits.items os n size
+  pub other : IsNoted pair.second.hits.items ps n size

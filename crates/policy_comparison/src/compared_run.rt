@@ -5,6 +5,7 @@ ghost use Rattle.policy_comparison.specs.Comparison.{Job, compared_on};
 ghost use Rattle.policy_comparison.specs.ComparedIntervals.{compared_intervals_on};
 ghost use Rattle.policy_comparison.specs.ComparedRun.{AreBeside, CanCountEach, HasCompared};
 ghost use Rattle.policy_comparison.specs.ComparedRows.{HasCounted};
+ghost use Rattle.policy_comparison.specs.Pair.{AreNoted};
 ghost use Rattle.takers.specs.Taking.{AreNext, CanTake, HasTakenAll, RunsOver};
 
 use crate::compared_rows::{ComparedInterval, ComparedRows};
@@ -69,20 +70,20 @@ impl ComparedRun {
             → OnOk result (HasCompared every first second trace (n + length keys.now) self.new) }
     {
         self.pair.advance(rt, keys)?;
-        count_hits(&self.pair, &mut self.counted)
+        count_hits(&self.pair, keys.len(), &mut self.counted)
     }
 }
 
-// Counts the accesses of the last piece. The one error is out of memory.
-fn count_hits(pair: &Pair, counted: &mut ComparedRows) -> Result<(), AllocError>
-    requires together { length pair.now.second.hits.items ≡ length pair.now.first.hits.items }
-    requires can { CanCountEach pair.now counted.old }
-    ensures { (every : ℕ) (hits : List (Bool × Bool)) (n : ℕ) → AreBeside hits n pair.now
-        → HasCounted every hits n counted.old
-        → OnOk result (HasCounted every hits (n + length pair.now.first.hits.items) counted.new) }
+// Counts so many accesses of the last piece. The one error is out of memory.
+fn count_hits(pair: &Pair, size: usize, counted: &mut ComparedRows) -> Result<(), AllocError>
+    requires noted { AreNoted size pair.now }
+    requires can { CanCountEach size pair.now counted.old }
+    ensures { (every : ℕ) (hits : List (Bool × Bool)) (n : ℕ) → AreBeside hits n size pair.now
+        → HasCounted every hits n counted.old → OnOk result (HasCounted every hits (n + size) counted.new) }
 {
-    for i in 0..pair.first.hits.len() {
-        counted.count(pair.first.hits[i], pair.second.hits[i])?;
+    for i in 0..size {
+        let (first, second) = pair.hits_at(i);
+        counted.count(first, second)?;
     }
     Ok(())
 }

@@ -1,8 +1,8 @@
 //! Two caches that make the same accesses, side by side.
-ghost use Rattle.std.specs.Prelude.{◌≡◌, Ok, List, ℕ, length, IfOk, OnOk};
+ghost use Rattle.std.specs.Prelude.{◌≡◌, ◌+◌, Ok, false, List, ℕ, length, slice_index_or, IfOk, OnOk};
 ghost use Rattle.engine_base.specs.Config.{config_fault};
 ghost use Rattle.policies.specs.AnyPolicy.{Job};
-ghost use Rattle.policy_comparison.specs.Pair.{CanMake, HasMade, HasNoted, HasRun, HavePaired};
+ghost use Rattle.policy_comparison.specs.Pair.{AreNoted, CanMake, HasMade, HasNoted, HasRun, HavePaired};
 ghost use Rattle.takers.specs.Taking.{AreNext, RunsOver};
 
 use crate::cache_access::hit_at;
@@ -15,14 +15,14 @@ use step_record::{Job, Key, Trace};
 #[derive(Drop)]
 pub(crate) struct NotedCache {
     cache: AnyPolicy,
-    pub(crate) hits: Vec<bool>,
+    hits: Vec<bool>,
 }
 
 /// The caches of two jobs, which made the same accesses.
 #[derive(Drop)]
 pub(crate) struct Pair {
-    pub(crate) first: NotedCache,
-    pub(crate) second: NotedCache,
+    first: NotedCache,
+    second: NotedCache,
 }
 
 impl Pair {
@@ -60,6 +60,16 @@ impl Pair {
         ensures second { OnOk result (HasMade keys.now self.old.second self.new.second) }
     {
         make_both(rt, keys, &mut self.first, &mut self.second)
+    }
+
+    /// Whether an access of the last piece, counted from 0, hit in the first cache, and in the second.
+    #[inline(always)]
+    pub(crate) fn hits_at(&self, i: usize) -> (bool, bool)
+        requires { AreNoted (i + 1) self.now }
+        ensures { (result.0 ≡ slice_index_or self.now.first.hits.items i false)
+            × (result.1 ≡ slice_index_or self.now.second.hits.items i false) }
+    {
+        (self.first.hits[i], self.second.hits[i])
     }
 }
 

@@ -1,0 +1,16 @@
+use Rattle.std.proofs.Common.{inl, refl, [], ◌∷◌}
+use Rattle.takers.specs.Taking.{Job, Task}
+use Rattle.policy_comparison.proofs.divergence.find_parting.Goals as goal
+
+-- of any length of an interval
+abbrev both : Job → Job → Task
+both first second = record { jobs = first ∷ second ∷ []; every = 1 }
+
+pub take_trace-taken-requires-after_bounds : goal.take_trace-taken-requires-after_bounds
+take_trace-taken-requires-after_bounds g c κs within =
+    (both c.args.first.now c.args.second.now, c.in_ok-run.ensures c.args.trace.now (inl refl) (inl refl))
+
+pub returns : goal.returns
+returns g c =
+    c.found-found.ensures c.args.first.now c.args.second.now c.args.trace.now
+    (c.in_ok-taken.ensures (both c.args.first.now c.args.second.now) (c.in_ok-run.ensures c.args.trace.now (inl refl) (inl refl)))
