@@ -93,7 +93,8 @@ impl NotedCache {
         ensures { OnOk result (HasMade keys.now self.old self.new) }
     {
         self.hits.resize(keys.len(), false)?;
-        note_hits::<C>(&mut self.cache, keys, self.hits.as_mut_slice())
+        note_hits::<C>(&mut self.cache, keys, self.hits.as_mut_slice())?;
+        Ok(())
     }
 }
 
