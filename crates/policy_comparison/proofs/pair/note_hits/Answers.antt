@@ -1,4 +1,4 @@
-use Rattle.std.proofs.Common.{◌≡◌, ℕ, ◌∙◌, ◌+◌, length, set, subst, refl, arith}
+use Rattle.std.proofs.Common.{◌≡◌, ℕ, ◌∙◌, ◌+◌, length, subst, refl, arith}
 use Rattle.std.proofs.Math.ListN.{length-set}
 use Rattle.policies.specs.AnyPolicy.{outcomes_on}
 use Rattle.policy_comparison.specs.Pair.{HasNoted, HasRun}

@@ -1,8 +1,6 @@
-use Rattle.std.proofs.Common.{◌≡◌, ◌+◌, ℕ, length, IfNone, IfSome, Some, subst, sym, ap, false, rules}
-use Rattle.std.specs.Option.{is_some}
+use Rattle.std.proofs.Common.{◌+◌, ℕ, length, Some, subst, sym, ap, rules}
 use Rattle.policies.specs.AnyPolicy.{outcomes_on}
-use Rattle.policy_comparison.specs.Part.{AgreeBelow, IsPart}
-use Rattle.policy_comparison.specs.Pair.{HavePaired}
+use Rattle.policy_comparison.specs.Part.{IsPart}
 use Rattle.policy_comparison.proofs.Pairs.{flags, from-none, into-none, noted, paired}
 use Rattle.policy_comparison.proofs.part_run.PartRun.take_all.Goals as goal
 
