@@ -1,8 +1,8 @@
 -- Two caches side by side, access by access.
-use Rattle.std.proofs.Common.{◌≡◌, ◌≢◌, ℕ, zero, suc, ◌+◌, ◌<◌, ◌≤◌, Bool, true, false, true≢false, inl, inr, Some, None, List, [], ◌∷◌, ◌++◌, length, take, drop, get_or, set, get_or-set_same, get_or-set_other, ◌-◌, ap, ◌∙◌, sym, refl, arith, subst, append-nil}
+use Rattle.std.proofs.Common.{◌≡◌, ◌≢◌, ℕ, zero, suc, ◌+◌, ◌<◌, ◌≤◌, Bool, true, false, true≢false, inl, inr, Some, None, List, [], ◌∷◌, ◌++◌, length, take, drop, get_or, set, get_or-set_same, get_or-set_other, ap, ◌∙◌, sym, refl, arith, subst, append-nil}
 use Rattle.std.specs.Prelude.{slice_index, slice_index_or}
 use Rattle.std.proofs.lemmas.Bool.{cases_lt}
-use Rattle.std.proofs.lemmas.List.{length-take-le, get_or_default, get_or_past}
+use Rattle.std.proofs.lemmas.List.{get_or-drop, get_or-take, get_or_default, get_or_past, length-take-le}
 use mathlib.Core.Bool.{not, beq}
 use Rattle.engine_base.specs.declared.limits.TheConstants.{MAX_STEPS}
 use Rattle.engine_base.specs.declared.outcome.Outcome.TheVariants.{Kept}
@@ -13,7 +13,8 @@ use Rattle.policies.specs.Theorems.{AnyStepLaw, AnyAccepts, AnyAnswers}
 use Rattle.policies.proofs.Stretches.{next-ahead, added-next}
 use Rattle.policy_comparison.specs.CacheAccess.{AnyPolicy, StandsAt}
 use Rattle.policy_comparison.specs.Part.{is_hit_at, AgreeBelow}
-use Rattle.policy_comparison.specs.TwoCaches.{IsNoted}
+use Rattle.policy_comparison.specs.Pair.{IsNoted}
+use Rattle.takers.specs.Taking.{AreNext}
 
 -- ---- one access of one cache
 
@@ -27,6 +28,14 @@ stands-in trace n key lt is = record { within = lt; same = λ d. get_or_default 
 
 pub next-key : (trace keys : List ℕ) (i : ℕ) → keys ≡ trace → i < length trace → StandsAt trace i (slice_index keys i)
 next-key trace keys i same lt = stands-in trace i (slice_index keys i) lt (ap (λ (l : List ℕ). slice_index l i) same)
+
+-- one of the keys that come next in a trace stands in it
+pub key-at : (trace keys : List ℕ) (n i : ℕ) → AreNext trace n keys → i < length keys → StandsAt trace (n + i) (slice_index keys i)
+key-at trace keys n i next below = record {
+  within = omega (arith, next.within, below);
+  same = λ d. sym (ap (λ (l : List ℕ). slice_index l i) next.piece ∙ get_or-take (length keys) (drop n trace) i 0 below ∙ get_or-drop n trace i 0
+      ∙ get_or_default trace (n + i) 0 d (omega (arith, next.within, below)));
+}
 
 -- a cache that has read ahead stands where it stood
 pub warmed : (j : Job) (trace keys : List ℕ) (d e : AnyPolicy) → e ≡ d → HasAccessed j trace keys d → HasAccessed j trace keys e
@@ -65,19 +74,24 @@ agrees true false h = absurd (true≢false h)
 agrees false true h = absurd (true≢false h)
 agrees false false h = refl
 
-pub noted-on : (noted : List Bool) (os : List Outcome) (start i : ℕ) → slice_index_or noted (i - start) false ≡ is_hit_at os (i + 1)
-    → IsNoted noted os start i → IsNoted noted os start (i + 1)
-noted-on noted os start i here before j from below =
+pub differs : (a b : Bool) → not (beq a b) ≡ true → a ≡ b → ⊥
+differs true true h same = absurd (true≢false (sym h))
+differs false false h same = absurd (true≢false (sym h))
+differs true false h same = absurd (true≢false same)
+differs false true h same = absurd (true≢false (sym same))
+
+pub noted-more : (noted : List Bool) (os : List Outcome) (n i : ℕ) (b : Bool) → i < length noted → b ≡ is_hit_at os (n + i + 1)
+    → IsNoted noted os n i → IsNoted (set noted i b) os n (i + 1)
+noted-more noted os n i b room here before j below =
     elim (cases_lt j i) [
-      | inl less ↦ before j from less
-      | inr more ↦ (let same : i ≡ j = omega arith in subst (λ (n : ℕ). slice_index_or noted (n - start) false ≡ is_hit_at os (n + 1)) same here)
+      | inl less ↦ get_or-set_other noted i j b false (λ same. omega (arith, same, less)) ∙ before j less
+      | inr more ↦ (let same : i ≡ j = omega (arith, more, below) in
+          subst (λ (k : ℕ). slice_index_or (set noted i b) k false ≡ is_hit_at os (n + k + 1)) same (get_or-set_same noted i b false room ∙ here))
     ]
 
-pub noted-more : (noted : List Bool) (os : List Outcome) (start i : ℕ) (b : Bool) → start ≤ i → i - start < length noted
-    → b ≡ is_hit_at os (i + 1) → IsNoted noted os start i → IsNoted (set noted (i - start) b) os start (i + 1)
-noted-more noted os start i b order room e before =
-    noted-on (set noted (i - start) b) os start i (get_or-set_same noted (i - start) b false room ∙ e)
-    (λ j from below. get_or-set_other noted (i - start) (j - start) b false (λ same. omega (arith, same, from, below, order)) ∙ before j from below)
+pub agree-none : (os ps : List Outcome) → AgreeBelow 1 os ps
+agree-none os ps zero lt = refl
+agree-none os ps (suc m) lt = absurd (omega (arith, lt))
 
 pub agree-next : (os ps : List Outcome) (i : ℕ) → is_hit_at os (i + 1) ≡ is_hit_at ps (i + 1) → AgreeBelow (i + 1) os ps → AgreeBelow (i + 1 + 1) os ps
 agree-next os ps i here below m lt =

@@ -1,11 +1,9 @@
 -- What was counted of the first accesses of two policies, with a row for each interval that is over.
 use Rattle.std.specs.Prelude.{◌≡◌, ◌≤◌, ◌<◌, ℕ, ◌+◌, ◌*◌, Bool, List, length, take}
 use Rattle.engine_base.specs.declared.limits.TheConstants.{MAX_STEPS}
-use Rattle.policies.specs.AnyPolicy.{Outcome, outcomes_on}
 use Rattle.policy_comparison.specs.CacheAccess.{StandsAt}
-use Rattle.policy_comparison.specs.Comparison.{counts_of, hits_beside}
+use Rattle.policy_comparison.specs.Comparison.{counts_of}
 use Rattle.policy_comparison.specs.ComparedIntervals.{first_compared}
-use Rattle.policy_comparison.specs.TwoCaches.{TwoCaches, AreAbreastOfSome}
 pub use Rattle.policy_comparison.specs.declared.compared_rows.ComparedRows.{ComparedRows}
 
 -- how many intervals are over
@@ -54,15 +52,3 @@ pub record HasCountedAll (c : ComparedRows) : Type 0 where
   pub every : ℕ
   pub hits : List (Bool × Bool)
   pub counted : HasCounted every hits (length hits) c
-
--- ---- of two caches over one trace
-
--- what is counted of the hits of two jobs, once all are
-abbrev pub HasCompared : ℕ → List Outcome → List Outcome → ComparedRows → Type 0
-HasCompared every first second c = HasCounted every (hits_beside first second) (length (hits_beside first second)) c
-
--- the hits of the two caches before a place are counted
-pub record CanCountFrom (place : ℕ) (both : TwoCaches) (c : ComparedRows) : Type 0 where
-  pub every : ℕ
-  pub caches : AreAbreastOfSome both
-  pub counted : HasCounted every (hits_beside (outcomes_on caches.first caches.trace) (outcomes_on caches.second caches.trace)) place c

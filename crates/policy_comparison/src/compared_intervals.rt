@@ -1,19 +1,18 @@
 //! How often two policies hit at the same accesses of a trace, or of each interval of it.
-ghost use Rattle.std.specs.Prelude.{◌≡◌, ◌≤◌, ◌++◌, ℕ, [], ◌∷◌, IfOk, OnOk};
-ghost use Rattle.policies.specs.AnyPolicy.{outcomes_on};
+ghost use Rattle.std.specs.Prelude.{◌≡◌, ◌≤◌, ◌++◌, [], ◌∷◌, IfOk, OnOk, length};
 ghost use Rattle.policies.specs.FaultyJobs.{faulty_in, ReturnsFault};
 ghost use Rattle.policy_comparison.specs.ComparedIntervals.{compared_intervals_on, compared_intervals_text, compared_row};
-ghost use Rattle.policy_comparison.specs.ComparedRows.{CanCountFrom, HasCompared, HasCounted};
-ghost use Rattle.policy_comparison.specs.Comparison.{compared_on, hits_beside};
-ghost use Rattle.policy_comparison.specs.TwoCaches.{OnOutcomes};
+ghost use Rattle.policy_comparison.specs.ComparedRun.{HasCompared};
+ghost use Rattle.policy_comparison.specs.Comparison.{compared_on};
 
-use crate::compared_rows::{ComparedInterval, ComparedRows};
+use crate::compared_rows::ComparedInterval;
+use crate::compared_run::ComparedRun;
 use crate::comparison::{Comparison, push_row};
-use crate::two_caches::TwoCaches;
-use policies::ActorFault;
+use policies::{ActorFault, check_jobs};
 use std::alloc::{AllocError, Global};
 use std::thread::Threads;
 use step_record::{Gate, Job, Trace};
+use takers::take_trace;
 
 /// At how many accesses of the trace the policies of both jobs hit, only that of the first, only that of the second,
 /// and neither. The two caches make the accesses side by side where a thread can be made. The gate is called as by
@@ -21,7 +20,7 @@ use step_record::{Gate, Job, Trace};
 ///
 /// Errors: `Config` with index 0 exactly where `Config::check` refuses the first job's configuration, with index 1
 /// exactly where it refuses the second's and accepts the first's; then `OutOfMemory`.
-pub fn compare<R: Threads, G: Gate>(
+pub fn compare<R: Threads + Sync, G: Gate>(
     rt: &R,
     alloc: Global,
     trace: &Trace,
@@ -32,9 +31,9 @@ pub fn compare<R: Threads, G: Gate>(
     ensures counts { IfOk result (λ counts. counts ≡ compared_on first.now second.now trace.now) }
     ensures fault { ReturnsFault (faulty_in (first.now ∷ second.now ∷ [])) result }
 {
-    let counted = count_trace(rt, alloc, trace, first, second, usize::MAX, gate)?;
-    let counts = counted.counts();
-    drop(counted);
+    let run = run_over(rt, alloc, trace, first, second, usize::MAX, gate)?;
+    let counts = run.counts();
+    drop(run);
     Ok(counts)
 }
 
@@ -44,7 +43,7 @@ pub fn compare<R: Threads, G: Gate>(
 /// `compare` returns. The gate is called as by `part_watched`.
 ///
 /// Errors: those of `compare`.
-pub fn compare_intervals<R: Threads, G: Gate>(
+pub fn compare_intervals<R: Threads + Sync, G: Gate>(
     rt: &R,
     alloc: Global,
     trace: &Trace,
@@ -57,8 +56,8 @@ pub fn compare_intervals<R: Threads, G: Gate>(
     ensures rows { IfOk result (λ rows. rows.items ≡ compared_intervals_on every first.now second.now trace.now) }
     ensures fault { ReturnsFault (faulty_in (first.now ∷ second.now ∷ [])) result }
 {
-    let counted = count_trace(rt, alloc, trace, first, second, every, gate)?;
-    let rows = counted.into_rows()?;
+    let run = run_over(rt, alloc, trace, first, second, every, gate)?;
+    let rows = run.into_rows()?;
     Ok(rows)
 }
 
@@ -105,8 +104,8 @@ fn push_interval(
     )
 }
 
-// What is counted over the trace, in intervals of `every` accesses.
-fn count_trace<R: Threads, G: Gate>(
+// The run of both jobs once it took the accesses of the trace, in intervals of `every` accesses.
+fn run_over<R: Threads + Sync, G: Gate>(
     rt: &R,
     alloc: Global,
     trace: &Trace,
@@ -114,49 +113,18 @@ fn count_trace<R: Threads, G: Gate>(
     second: &Job,
     every: usize,
     gate: &G,
-) -> Result<ComparedRows, ActorFault>
+) -> Result<ComparedRun, ActorFault>
     requires { 1 ≤ every }
-    ensures counted { IfOk result (HasCompared every (outcomes_on first.now trace.now) (outcomes_on second.now trace.now)) }
+    ensures run { IfOk result (HasCompared every first.now second.now trace.now (length trace.now)) }
     ensures fault { ReturnsFault (faulty_in (first.now ∷ second.now ∷ [])) result }
 {
-    let mut both = TwoCaches::open(alloc, trace, first, second)?;
-    let mut counted = ComparedRows::none(alloc, every);
-    let made = count_all(rt, &mut both, &mut counted, gate);
-    drop(both);
-    made?;
-    Ok(counted)
-}
-
-// Makes the accesses of the trace in both caches, and counts at which of them they hit. The one error is out of memory.
-fn count_all<R: Threads, G: Gate>(
-    rt: &R,
-    both: &mut TwoCaches<'_>,
-    counted: &mut ComparedRows,
-    gate: &G,
-) -> Result<(), AllocError>
-    requires can { CanCountFrom 0 both.old counted.old }
-    requires start { both.old.end ≡ 0 }
-    ensures { (every : ℕ) → OnOutcomes both.old (λ os ps. HasCounted every (hits_beside os ps) 0 counted.old
-        → OnOk result (HasCompared every os ps counted.new)) }
-{
-    let len = both.trace.len();
-    'stretches: while both.end < len {
-        both.advance(rt, gate)?;
-        count_stretch(both, counted)?;
+    check_jobs(&[*first, *second])?;
+    let mut run = ComparedRun::open(alloc, trace, first, second, every)?;
+    match take_trace(rt, trace, &mut run, gate) {
+        Ok(()) => Ok(run),
+        Err(fault) => {
+            drop(run);
+            Err(ActorFault::from(fault))
+        }
     }
-    Ok(())
-}
-
-// Counts the accesses of the last stretch. The one error is out of memory.
-fn count_stretch(both: &TwoCaches<'_>, counted: &mut ComparedRows) -> Result<(), AllocError>
-    requires { CanCountFrom both.now.start both.now counted.old }
-    ensures { (every : ℕ) → OnOutcomes both.now (λ os ps.
-        HasCounted every (hits_beside os ps) both.now.start counted.old
-        → OnOk result (HasCounted every (hits_beside os ps) both.now.end counted.new)) }
-{
-    for i in both.start..both.end {
-        let (first, second) = both.hits_at(i);
-        counted.count(first, second)?;
-    }
-    Ok(())
 }

@@ -20,7 +20,7 @@ pub struct ComparedInterval {
 
 /// What was counted of the first accesses of two policies, with a row for each interval that is over.
 #[derive(Drop)]
-pub struct ComparedRows {
+pub(crate) struct ComparedRows {
     // How many accesses an interval has, and how many were counted of the one that is not over.
     every: usize,
     used: usize,
@@ -32,7 +32,7 @@ pub struct ComparedRows {
 
 impl ComparedRows {
     /// Before any access, with intervals of `every` accesses.
-    pub fn none(alloc: Global, every: usize) -> ComparedRows
+    pub(crate) fn none(alloc: Global, every: usize) -> ComparedRows
         requires { 1 ≤ every }
         ensures { (hits : List (Bool × Bool)) → HasCounted every hits 0 result }
     {
@@ -49,7 +49,7 @@ impl ComparedRows {
 
     /// Counts one access more, at which the policies hit or not. The one error is out of memory.
     #[inline(always)]
-    pub fn count(&mut self, first: bool, second: bool) -> Result<(), AllocError>
+    pub(crate) fn count(&mut self, first: bool, second: bool) -> Result<(), AllocError>
         requires { CanCount (first, second) self.old }
         ensures { (every : ℕ) (hits : List (Bool × Bool)) (n : ℕ) → StandsAt hits n (first, second)
             → HasCounted every hits n self.old → OnOk result (HasCounted every hits (n + 1) self.new) }
@@ -63,7 +63,7 @@ impl ComparedRows {
     }
 
     /// What was counted once all accesses were.
-    pub fn counts(&self) -> Comparison
+    pub(crate) fn counts(&self) -> Comparison
         ensures { (every : ℕ) (hits : List (Bool × Bool)) → HasCounted every hits (length hits) self.now
             → result ≡ counts_of hits }
     {
@@ -72,7 +72,7 @@ impl ComparedRows {
 
     /// The rows once all accesses were counted; the last interval may be shorter than the others. The one error is out
     /// of memory.
-    pub fn into_rows(self) -> Result<Vec<ComparedInterval>, AllocError>
+    pub(crate) fn into_rows(self) -> Result<Vec<ComparedInterval>, AllocError>
         requires { HasCountedAll self }
         ensures { (every : ℕ) (hits : List (Bool × Bool)) → HasCounted every hits (length hits) self
             → IfOk result (λ rows. rows.items ≡ first_compared every hits (div_ceil (length hits) every)) }

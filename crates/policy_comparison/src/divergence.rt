@@ -1,23 +1,24 @@
 //! The first access at which one policy hits and the other does not.
-ghost use Rattle.std.specs.Prelude.{◌≡◌, ◌+◌, ◌++◌, [], ◌∷◌, Some, IfOk, OnOk, IfSome, IfNone};
+ghost use Rattle.std.specs.Prelude.{◌≡◌, ◌++◌, Ok, [], ◌∷◌, IfOk, OnOk};
+ghost use Rattle.engine_base.specs.Config.{config_fault};
 ghost use Rattle.policies.specs.AnyPolicy.{outcomes_on};
 ghost use Rattle.policies.specs.FaultyJobs.{faulty_in, ReturnsFault};
-ghost use Rattle.policy_comparison.specs.Part.{AgreeBelow, part_line, IsPart};
-ghost use Rattle.policy_comparison.specs.TwoCaches.{AreAbreastOfSome, OnOutcomes};
+ghost use Rattle.policy_comparison.specs.Part.{part_line, IsPart};
 
-use crate::two_caches::{STRETCH, TwoCaches};
-use policies::{ActorFault, theorems};
+use crate::part_run::PartRun;
+use policies::{ActorFault, check_jobs};
 use std::alloc::{AllocError, Global};
 use std::thread::Threads;
 use step_record::{Gate, Job, OpenGate, Trace};
 use streams::push_counts_line;
+use takers::take_trace;
 
 /// The first access of the trace, counted from 1, at which the policy of one job hits and that of the other does not;
 /// `None` where there is no such access. The two caches make the accesses side by side where a thread can be made.
 ///
 /// Errors: `Config` with index 0 exactly where `Config::check` refuses the first job's configuration, with index 1
 /// exactly where it refuses the second's and accepts the first's; then `OutOfMemory`.
-pub fn part<R: Threads>(
+pub fn part<R: Threads + Sync>(
     rt: &R,
     alloc: Global,
     trace: &Trace,
@@ -30,11 +31,11 @@ pub fn part<R: Threads>(
     part_watched(rt, alloc, trace, first, second, &OpenGate)
 }
 
-/// The same, where the gate is called around each `STRETCH` accesses of the trace, as number 0, 1 and so on of worker
-/// 0.
+/// The same, where the gate is called around each `takers::AT_A_TIME` accesses of the trace, as number 0, 1 and so on
+/// of worker 0, also behind the access that was found.
 ///
 /// Errors: those of `part`.
-pub fn part_watched<R: Threads, G: Gate>(
+pub fn part_watched<R: Threads + Sync, G: Gate>(
     rt: &R,
     alloc: Global,
     trace: &Trace,
@@ -45,10 +46,8 @@ pub fn part_watched<R: Threads, G: Gate>(
     ensures part { IfOk result (IsPart (outcomes_on first.now trace.now) (outcomes_on second.now trace.now)) }
     ensures fault { ReturnsFault (faulty_in (first.now ∷ second.now ∷ [])) result }
 {
-    let mut both = TwoCaches::open(alloc, trace, first, second)?;
-    let found = find_parting(rt, &mut both, gate);
-    drop(both);
-    Ok(found?)
+    check_jobs(&[*first, *second])?;
+    Ok(find_parting(rt, alloc, trace, first, second, gate)?)
 }
 
 /// Adds the line of the access that `part` found, or of none. The one error is that an allocation failed.
@@ -61,41 +60,23 @@ pub fn push_part(text: &mut Vec<u8>, found: Option<u64>) -> Result<(), AllocErro
     }
 }
 
-// Makes the accesses of the trace in both caches, up to the stretch with the first at which just one of them hits.
-fn find_parting<R: Threads, G: Gate>(
+// The same, of jobs that were checked before. The one error is out of memory.
+fn find_parting<R: Threads + Sync, G: Gate>(
     rt: &R,
-    both: &mut TwoCaches<'_>,
+    alloc: Global,
+    trace: &Trace,
+    first: &Job,
+    second: &Job,
     gate: &G,
 ) -> Result<Option<u64>, AllocError>
-    requires some { AreAbreastOfSome both.old }
-    requires start { both.old.end ≡ 0 }
-    ensures { OnOutcomes both.old (λ os ps. IfOk result (IsPart os ps)) }
+    requires first { config_fault first.now.config ≡ Ok tt }
+    requires second { config_fault second.now.config ≡ Ok tt }
+    ensures { IfOk result (IsPart (outcomes_on first.now trace.now) (outcomes_on second.now trace.now)) }
 {
-    theorems::any_covers_trace();
-    let len = both.trace.len();
-    'stretches: while both.end < len {
-        both.advance(rt, gate)?;
-        match parting_in(both) {
-            Some(access) => return Ok(Some(access)),
-            None => {}
-        }
-    }
-    Ok(None)
-}
-
-// The first access of the last stretch, counted from the first of the trace as 1, at which just one of the caches hit.
-fn parting_in(both: &TwoCaches<'_>) -> Option<u64>
-    requires { AreAbreastOfSome both.now }
-    ensures found { OnOutcomes both.now (λ os ps. AgreeBelow (both.now.start + 1) os ps
-        → IfSome result (λ n. IsPart os ps (Some n))) }
-    ensures none { OnOutcomes both.now (λ os ps. AgreeBelow (both.now.start + 1) os ps
-        → IfNone result (AgreeBelow (both.now.end + 1) os ps)) }
-{
-    for i in both.start..both.end {
-        let (first, second) = both.hits_at(i);
-        if first != second {
-            return Some(i as u64 + 1);
-        }
-    }
-    None
+    let mut run = PartRun::open(alloc, trace, first, second)?;
+    let taken = take_trace(rt, trace, &mut run, gate);
+    let found = run.found();
+    drop(run);
+    taken?;
+    Ok(found)
 }

@@ -9,14 +9,17 @@
 mod cache_access;
 mod compared_intervals;
 mod compared_rows;
+mod compared_run;
 mod comparison;
 mod divergence;
+mod pair;
+mod part_run;
 pub mod theorems;
-mod two_caches;
 
 pub use cache_access::{hit_at, hits};
 pub use compared_intervals::{compare, compare_intervals, push_compared_intervals};
-pub use compared_rows::{ComparedInterval, ComparedRows};
+pub use compared_rows::ComparedInterval;
+pub use compared_run::ComparedRun;
 pub use comparison::{Comparison, push_comparison};
 pub use divergence::{part, part_watched, push_part};
-pub use two_caches::{STRETCH, stretches};
+pub use part_run::PartRun;

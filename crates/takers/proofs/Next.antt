@@ -4,10 +4,10 @@ use Rattle.std.proofs.Math.Seq.{take-add}
 use Rattle.std.proofs.lemmas.List.{drop-take, drop-drop, take-take}
 use Rattle.engine_base.specs.declared.limits.TheConstants.{MAX_STEPS}
 use Rattle.policies.specs.Accesses.{Job, IsNext}
-use Rattle.policies.specs.declared.any_policy.AnyPolicy.{AnyPolicy}
 use Rattle.policies.specs.AnyPolicy.{HasAccessed}
 use Rattle.policies.specs.Design.{knows_trace}
 use Rattle.policies.proofs.Designs.{optimal-knows}
+use Rattle.policies.specs.declared.any_policy.AnyPolicy.{AnyPolicy}
 use Rattle.policies.specs.declared.any_policy.AnyPolicy.TheVariants.{Adaptive, Demand, Optimal, Queues}
 use Rattle.takers.specs.Taking.{AreNext, RunsOver}
 

@@ -1,4 +1,4 @@
-use Rattle.std.proofs.Common.{◌++◌, List, ℕ, [], ◌∷◌}
+use Rattle.std.proofs.Common.{List, ℕ, [], ◌∷◌}
 use Rattle.policy_comparison.specs.Comparison.{Comparison, comparison_header, pair_row}
 use Rattle.streams.proofs.Results.{at_success}
 use Rattle.policy_comparison.proofs.Texts.{piece}

@@ -1,4 +1,4 @@
-use Rattle.std.proofs.Common.{◌≡◌, ◌∙◌, ◌+◌, ◌*◌, ◌≤◌, Bool, ℕ, List, length, take, ap, sym, arith}
+use Rattle.std.proofs.Common.{◌≡◌, ◌∙◌, ◌+◌, ◌*◌, ◌≤◌, Bool, ℕ, List, length, ap, sym, arith}
 use Rattle.std.proofs.lemmas.List.{take_all}
 use Rattle.policy_comparison.specs.ComparedIntervals.{first_compared}
 use Rattle.policy_comparison.specs.ComparedRows.{ComparedRows, EndsRow, HasCounted, rows_in}

@@ -1,0 +1,150 @@
+//! Two caches that make the same accesses, side by side.
+ghost use Rattle.std.specs.Prelude.{◌≡◌, ◌+◌, Ok, false, List, ℕ, length, slice_index_or, IfOk, OnOk};
+ghost use Rattle.engine_base.specs.Config.{config_fault};
+ghost use Rattle.policies.specs.AnyPolicy.{Job};
+ghost use Rattle.policy_comparison.specs.Pair.{AreNoted, CanMake, HasMade, HasNoted, HasRun, HavePaired};
+ghost use Rattle.takers.specs.Taking.{AreNext, RunsOver};
+
+use crate::cache_access::hit_at;
+use policies::AnyPolicy;
+use std::alloc::{AllocError, Global};
+use std::thread::{Threads, join_mut};
+use step_record::{Job, Key, Trace};
+
+/// A cache, and which accesses of the last piece hit.
+#[derive(Drop)]
+pub(crate) struct NotedCache {
+    cache: AnyPolicy,
+    hits: Vec<bool>,
+}
+
+/// The caches of two jobs, which made the same accesses.
+#[derive(Drop)]
+pub(crate) struct Pair {
+    first: NotedCache,
+    second: NotedCache,
+}
+
+impl Pair {
+    /// Empty caches of both jobs over the trace. The one error is out of memory.
+    pub(crate) fn open(
+        alloc: Global,
+        trace: &Trace,
+        first: &Job,
+        second: &Job,
+    ) -> Result<Pair, AllocError>
+        requires first { config_fault first.now.config ≡ Ok tt }
+        requires second { config_fault second.now.config ≡ Ok tt }
+        ensures { IfOk result (λ pair. (other : List ℕ) → RunsOver trace.now other first.now
+            → RunsOver trace.now other second.now → HavePaired first.now second.now other 0 pair) }
+    {
+        let one = NotedCache::open(alloc, trace, first)?;
+        match NotedCache::open(alloc, trace, second) {
+            Ok(other) => Ok(Pair {
+                first: one,
+                second: other,
+            }),
+            Err(fault) => {
+                drop(one);
+                Err(fault)
+            }
+        }
+    }
+
+    /// Makes the accesses to the keys in both caches, side by side where a thread can be made, and notes which of them
+    /// hit. The one error is out of memory.
+    pub(crate) fn advance<T: Threads>(&mut self, rt: &T, keys: &[Key]) -> Result<(), AllocError>
+        requires first { CanMake keys.now self.old.first.cache }
+        requires second { CanMake keys.now self.old.second.cache }
+        ensures first { OnOk result (HasMade keys.now self.old.first self.new.first) }
+        ensures second { OnOk result (HasMade keys.now self.old.second self.new.second) }
+    {
+        make_both(rt, keys, &mut self.first, &mut self.second)
+    }
+
+    /// Whether an access of the last piece, counted from 0, hit in the first cache, and in the second.
+    #[inline(always)]
+    pub(crate) fn hits_at(&self, i: usize) -> (bool, bool)
+        requires { AreNoted (i + 1) self.now }
+        ensures { (result.0 ≡ slice_index_or self.now.first.hits.items i false)
+            × (result.1 ≡ slice_index_or self.now.second.hits.items i false) }
+    {
+        (self.first.hits[i], self.second.hits[i])
+    }
+}
+
+impl NotedCache {
+    // An empty cache of the job over the trace. The one error is out of memory.
+    fn open(alloc: Global, trace: &Trace, job: &Job) -> Result<NotedCache, AllocError>
+        requires { config_fault job.now.config ≡ Ok tt }
+        ensures { IfOk result (λ noted. (other : List ℕ) → RunsOver trace.now other job.now
+            → HasRun job.now other 0 noted.cache) }
+    {
+        let cache = AnyPolicy::open(alloc, job, trace)?;
+        Ok(NotedCache {
+            cache,
+            hits: Vec::new(alloc),
+        })
+    }
+
+    // Makes the accesses to the keys, and notes which of them hit. The one error is out of memory.
+    fn make<C>(&mut self, keys: &[Key]) -> Result<(), AllocError>
+        requires { CanMake keys.now self.old.cache }
+        ensures { OnOk result (HasMade keys.now self.old self.new) }
+    {
+        self.hits.resize(keys.len(), false)?;
+        note_hits::<C>(&mut self.cache, keys, self.hits.as_mut_slice())?;
+        Ok(())
+    }
+}
+
+// The caller in the first cache's loop, and that in the second's: each loop has code of its own.
+struct First;
+
+struct Second;
+
+// Makes the accesses to the keys in both caches, side by side where a thread can be made. The one error is out of memory.
+fn make_both<T: Threads>(
+    rt: &T,
+    keys: &[Key],
+    first: &mut NotedCache,
+    second: &mut NotedCache,
+) -> Result<(), AllocError>
+    requires first { CanMake keys.now first.old.cache }
+    requires second { CanMake keys.now second.old.cache }
+    ensures first { OnOk result (HasMade keys.now first.old first.new) }
+    ensures second { OnOk result (HasMade keys.now second.old second.new) }
+{
+    let (one, other) = join_mut(
+        rt,
+        &mut || -> Result<(), AllocError>
+            requires { CanMake keys.now first.now.cache }
+            ensures { OnOk result (HasMade keys.entry.now first.entry.now first.exit.now) }
+        { first.make::<First>(keys) },
+        &mut || -> Result<(), AllocError>
+            requires { CanMake keys.now second.now.cache }
+            ensures { OnOk result (HasMade keys.entry.now second.entry.now second.exit.now) }
+        { second.make::<Second>(keys) },
+    );
+    one?;
+    other
+}
+
+// Makes the accesses to the keys, and notes which of them hit. The one error is out of memory.
+fn note_hits<C>(
+    cache: &mut AnyPolicy,
+    keys: &[Key],
+    noted: &mut [bool],
+) -> Result<(), AllocError>
+    requires can { CanMake keys.now cache.old }
+    requires room { length noted.old ≡ length keys.now }
+    ensures noted { (job : Job) (trace : List ℕ) (n : ℕ) → AreNext trace n keys.now → HasRun job trace n cache.old
+        → OnOk result (HasNoted job trace n (length keys.now) cache.new noted.new) }
+    ensures room { length noted.new ≡ length noted.old }
+{
+    for i in 0..keys.len() {
+        let hit = hit_at::<C>(cache, keys, i)?;
+        noted[i] = hit;
+    }
+    Ok(())
+}

@@ -1,0 +1,103 @@
+//! The first access of a trace that comes in pieces at which one policy hits and the other does not.
+ghost use Rattle.std.specs.Prelude.{◌≡◌, ◌<◌, ◌+◌, ℕ, List, Ok, Some, IfOk, IfSome, IfNone, OnOk, length};
+ghost use Rattle.engine_base.specs.Config.{config_fault};
+ghost use Rattle.policies.specs.AnyPolicy.{Job, Outcome, outcomes_on};
+ghost use Rattle.policy_comparison.specs.Pair.{AreNoted, HaveNoted};
+ghost use Rattle.policy_comparison.specs.Part.{AgreeBelow, IsPart};
+ghost use Rattle.policy_comparison.specs.PartRun.{HasParted};
+ghost use Rattle.takers.specs.Taking.{AreNext, CanTake, RunsOver};
+
+use crate::pair::Pair;
+use policies::theorems;
+use std::alloc::{AllocError, Global};
+use std::thread::Threads;
+use step_record::{Job, Key, Trace};
+use takers::Taker;
+
+/// Two caches, with the first access at which just one of them hit.
+#[derive(Drop)]
+pub struct PartRun {
+    pair: Pair,
+    // How many accesses they made.
+    place: u64,
+    // Once it is found they make no more.
+    found: Option<u64>,
+}
+
+impl PartRun {
+    /// A run of both jobs over the trace, before the first access. It requires configurations that `Config::check`
+    /// accepts. The one error is out of memory.
+    pub fn open(
+        alloc: Global,
+        trace: &Trace,
+        first: &Job,
+        second: &Job,
+    ) -> Result<PartRun, AllocError>
+        requires first { config_fault first.now.config ≡ Ok tt }
+        requires second { config_fault second.now.config ≡ Ok tt }
+        ensures { IfOk result (λ run. (other : List ℕ) → RunsOver trace.now other first.now
+            → RunsOver trace.now other second.now → HasParted first.now second.now other 0 run) }
+    {
+        let pair = Pair::open(alloc, trace, first, second)?;
+        Ok(PartRun {
+            pair,
+            place: 0,
+            found: None,
+        })
+    }
+
+    /// What was found once all accesses were taken: the access, counted from 1, or `None`.
+    pub fn found(&self) -> Option<u64>
+        ensures { (first second : Job) (trace : List ℕ) → HasParted first second trace (length trace) self.now
+            → IsPart (outcomes_on first trace) (outcomes_on second trace) result }
+    {
+        theorems::any_covers_trace();
+        self.found
+    }
+
+    // Takes the accesses, unless the one looked for was found. The one error is out of memory.
+    fn take_all<T: Threads>(&mut self, rt: &T, keys: &[Key]) -> Result<(), AllocError>
+        requires { (first second : Job) × CanTake (HasParted first second) keys.now self.old }
+        ensures { (first second : Job) (trace : List ℕ) (n : ℕ) → AreNext trace n keys.now
+            → HasParted first second trace n self.old
+            → OnOk result (HasParted first second trace (n + length keys.now) self.new) }
+    {
+        if self.found.is_some() {
+            return Ok(());
+        }
+        self.pair.advance(rt, keys)?;
+        match parting_in(&self.pair, keys.len()) {
+            Some(i) => self.found = Some(self.place + i as u64 + 1),
+            None => self.place += keys.len() as u64,
+        }
+        Ok(())
+    }
+}
+
+// The first of so many accesses of the last piece, counted from 0, at which just one of the caches hit.
+fn parting_in(pair: &Pair, size: usize) -> Option<usize>
+    requires { AreNoted size pair.now }
+    ensures below { IfSome result (λ i. i < size) }
+    ensures found { (os ps : List Outcome) (n : ℕ) → HaveNoted os ps n size pair.now → AgreeBelow (n + 1) os ps
+        → IfSome result (λ i. IsPart os ps (Some (n + i + 1))) }
+    ensures none { (os ps : List Outcome) (n : ℕ) → HaveNoted os ps n size pair.now → AgreeBelow (n + 1) os ps
+        → IfNone result (AgreeBelow (n + size + 1) os ps) }
+{
+    for i in 0..size {
+        let (first, second) = pair.hits_at(i);
+        if first != second {
+            return Some(i);
+        }
+    }
+    None
+}
+
+impl Taker for PartRun {
+    ghost use Rattle.policy_comparison.specs.PartRun.{HasPartedTask};
+
+    ghost has_taken = { HasPartedTask };
+
+    fn take<T: Threads + Sync>(&mut self, rt: &T, keys: &[Key]) -> Result<(), AllocError> {
+        self.take_all(rt, keys)
+    }
+}
