@@ -1,19 +1,16 @@
-use Rattle.std.proofs.Common.{[], arith, length, subst, take_all, List, ℕ}
-use Rattle.std.proofs.lemmas.Option.{IfSome_then}
+use Rattle.std.proofs.Common.{rules, ◌≡◌, ◌≤◌, [], Err, IfOk, IfSome, ℕ, ◌+◌, ◌-◌, ◌*◌, ◌<◌, length, ◌/◌, ◌%◌, Bool, true, false, nat_eq, nat_lt, List, ◌∷◌, ◌++◌, slice_index_or, slice_set, bit_and, bit_or, Fits, w8, w32, w64, Bor, MutBor}
+use Rattle.streams.specs.Tally.{FailsWhere}
 use Rattle.trace_footprint.specs.Counter.{HasCounted}
+use Rattle.trace_footprint.specs.Footprint.{footprint_of}
+use Rattle.trace_read.specs.ReadTrace.{IsReadWithin}
 use Rattle.trace_read.specs.TraceText.{keys_in}
-use Rattle.takers.specs.Taking.{Task}
+use Rattle.trace_read.specs.declared.limits.TheConstants.{MAX_LONG_ACCESSES, MAX_LONG_TRACE_BYTES}
 use Rattle.long_traces.proofs.footprints.footprint.Goals as goal
 
--- no jobs
-none : Task
-none = record { jobs = []; every = 1 }
+-- src/footprints.rt:36:19
+pub taken_by-requires-clause-begins : goal.taken_by-requires-clause-begins
+taken_by-requires-clause-begins g c κs within = ?
 
-pub read_taken-requires-clause-begun : goal.read_taken-requires-clause-begun
-read_taken-requires-clause-begun g c κs within = (none, λ trace. c.new-counter.ensures)
-
+-- src/footprints.rt:22:1
 pub returns-clause-footprint : goal.returns-clause-footprint
-returns-clause-footprint g c = IfSome_then (g.R.CountedRead.remaining c.args.reader.now) c.in_ok-read_taken.ensures.taken (λ b has.
-    let all = keys_in c.args.format b in
-    c.footprint-footprint.ensures all
-    (subst (λ (keys : List ℕ). HasCounted keys c.read_taken.new.taker.counter) (take_all (length all) all (omega arith)) (has none (λ trace. c.new-counter.ensures))))
+returns-clause-footprint g c = ?
