@@ -1,7 +1,7 @@
 use Rattle.policy_queues.proofs.queue_runs.text_by.Goals as goal
 
-pub text-text-requires : goal.text-text-requires
-text-text-requires g c =
+pub text-requires : goal.text-requires
+text-requires g c =
     let (task, begun) = c.requires in (task, record { trace = c.args.trace.now; taken = c.in_ok-take_trace.ensures task begun })
 
 pub returns : goal.returns

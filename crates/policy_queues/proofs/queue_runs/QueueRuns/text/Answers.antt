@@ -1,7 +1,7 @@
 use Rattle.std.proofs.Common.{◌∙◌, ◌++◌, ◌<◌, ℕ, List, ap, append_assoc, append-nil, arith, length, refl, sym, take}
 use Rattle.std.specs.List.{flat_map}
 use Rattle.std.proofs.lemmas.List.{take_all}
-use Rattle.policy_queues.specs.QueueRows.{queue_rows_on, queues_header}
+use Rattle.policy_queues.specs.QueueRows.{Job, queue_rows_on, queues_header}
 use Rattle.policy_queues.specs.QueueRun.{QueueRun, HasQueueRows}
 use Rattle.takers.proofs.Each.{flat-more, has-at, same-length}
 use Rattle.policy_queues.proofs.queue_runs.QueueRuns.text.Goals as goal
@@ -24,7 +24,7 @@ pub loop-i-preserved : goal.loop-i-preserved
 loop-i-preserved c = λ task trace have.
     let runs = c.args.self.now.runs.items in
     let job_of = λ (run : QueueRun). run.job in
-    let rows = λ j. queue_rows_on task.every j trace in
+    let rows = λ (j : Job). queue_rows_on task.every j trace in
     let done : List ℕ = flat_map rows (take c.loop-i.i task.jobs) in
     let row : List ℕ = rows c.index.result.now.job in
     let lt : c.loop-i.i < length runs = omega (arith, c.loop-i-test.true, c.args.self.now.runs.ok.0) in
