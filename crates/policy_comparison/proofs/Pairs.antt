@@ -1,12 +1,8 @@
--- What two caches made and noted together.
-use Rattle.std.proofs.Common.{◌≡◌, ℕ, ◌+◌, List, [], ◌∷◌, false, true≢false, Option, Some, None, IfNone, Result, Ok, Err, OnOk, length, arith}
+-- Two jobs, and the cases of what was found of them.
+use Rattle.std.proofs.Common.{◌≡◌, ℕ, List, [], ◌∷◌, false, true≢false, Option, Some, None, IfNone, Result, Ok, Err, OnOk}
 use Rattle.std.specs.Option.{is_some}
-use Rattle.policies.specs.AnyPolicy.{Job, outcomes_on}
-use Rattle.takers.specs.Taking.{AreNext}
-use Rattle.policy_comparison.specs.Comparison.{hits_beside}
-use Rattle.policy_comparison.specs.ComparedRun.{AreBeside}
-use Rattle.policy_comparison.specs.Pair.{AreTwo, HasMade, AreNoted, HaveNoted, HavePaired, Pair}
-use Rattle.policy_comparison.proofs.Compared.{beside-at}
+use Rattle.policies.specs.AnyPolicy.{Job}
+use Rattle.policy_comparison.specs.Pair.{AreTwo}
 
 -- ---- two jobs
 
@@ -38,19 +34,3 @@ from-none (Some n) none h = absurd (true≢false none)
 pub into-none : {X : Type 0} (o : Option ℕ) → X → IfNone o X
 into-none None x = x
 into-none (Some n) x = tt
-
--- ---- their caches made the accesses to the keys
-
-module _ (keys : List ℕ) (old new : Pair) (one : HasMade keys old.first new.first) (other : HasMade keys old.second new.second) where
-  pub flags : AreNoted (length keys) new
-  flags = (omega (arith, one.long), omega (arith, other.long))
-
-  module _ (first second : Job) (trace : List ℕ) (n : ℕ) (next : AreNext trace n keys) (has : HavePaired first second trace n old) where
-    pub paired : HavePaired first second trace (n + length keys) new
-    paired = record { one = (one.noted first trace n next has.one).run; other = (other.noted second trace n next has.other).run }
-
-    pub noted : HaveNoted (outcomes_on first trace) (outcomes_on second trace) n (length keys) new
-    noted = record { one = (one.noted first trace n next has.one).hits; other = (other.noted second trace n next has.other).hits }
-
-    pub beside : AreBeside (hits_beside (outcomes_on first trace) (outcomes_on second trace)) n (length keys) new
-    beside i lt = beside-at first second trace (n + i) _ _ (omega (arith, lt, next.within)) (noted.one i lt) (noted.other i lt)
