@@ -1,7 +1,7 @@
 -- Two caches that made the same accesses, and which accesses of the last piece hit.
-use Rattle.std.specs.Prelude.{◌≡◌, ℕ, ◌+◌, ◌<◌, ◌≤◌, Bool, false, List, [], ◌∷◌, length, slice_index_or, take}
+use Rattle.std.specs.Prelude.{◌≡◌, ℕ, ◌+◌, ◌<◌, ◌≤◌, false, List, [], ◌∷◌, length, slice_index_or, take}
 use Rattle.policies.specs.declared.any_policy.AnyPolicy.{AnyPolicy}
-use Rattle.policies.specs.AnyPolicy.{Outcome, Job, HasAccessed, outcomes_on}
+use Rattle.policies.specs.AnyPolicy.{Job, HasAccessed, outcomes_on}
 use Rattle.takers.specs.Taking.{AreNext, CanTake}
 use Rattle.policy_comparison.specs.declared.pair.NotedCache.{NotedCache}
 pub use Rattle.policy_comparison.specs.declared.pair.Pair.{Pair}

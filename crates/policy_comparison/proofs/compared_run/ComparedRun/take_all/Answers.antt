@@ -57,7 +57,7 @@ loop-i-preserved g c = λ every first second trace n next has.
     let before = c.loop-i.invariant every first second trace n next has in (
       before.0,
       subst (λ (m : ℕ). HasCounted every hits m c.count.new.self) step
-      (c.in_ok-count.ensures every hits (n + c.loop-i.i) (stands g ((goal.at.loop-i-preserved g c).After-hits_at-first) every first second trace n next has) before.1),
+          (c.in_ok-count.ensures every hits (n + c.loop-i.i) (stands g ((goal.at.loop-i-preserved g c).After-hits_at-first) every first second trace n next has) before.1),
     )
 
 pub returns : goal.returns

@@ -1,5 +1,5 @@
 use Rattle.policy_comparison.specs.ComparedRun.{HasCompared}
-use Rattle.policy_comparison.proofs.Pairs.{two-after, two-held}
+use Rattle.policy_comparison.proofs.Two.{two-after, two-held}
 use Rattle.policy_comparison.proofs.compared_run.ComparedRunTaker.take.Goals as goal
 
 pub returns : goal.returns

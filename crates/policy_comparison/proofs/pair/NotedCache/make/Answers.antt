@@ -1,4 +1,4 @@
-use Rattle.std.proofs.Common.{◌≡◌, ◌∙◌, ◌+◌, ℕ, List, Bool, length, set, ap, subst, sym, arith}
+use Rattle.std.proofs.Common.{◌≡◌, ◌∙◌, ◌+◌, ℕ, List, Bool, length, ap, subst, sym, arith}
 use Rattle.std.specs.Vec.{with_items}
 use Rattle.std.proofs.Math.ListN.{length-set}
 use Rattle.std.proofs.lemmas.List.{with_items_is}
@@ -30,7 +30,7 @@ loop-i-preserved g c =
           let step : n + i + 1 ≡ n + (i + 1) = omega arith in (
             subst (λ (m : ℕ). HasRun job trace m c.hit_at.new.cache) step (c.in_ok-hit.ensures.stands job trace (n + i) stands before.0),
             noted-more c.loop-i.noted (outcomes_on job trace) n i c.in_ok-hit.hit (omega (arith, c.loop-i.invariant.0, c.loop-i-test.true))
-            (c.in_ok-hit.ensures.hit job trace (n + i) stands before.0) before.1,
+                (c.in_ok-hit.ensures.hit job trace (n + i) stands before.0) before.1,
           )),
     )
 

@@ -1,5 +1,5 @@
 use Rattle.policy_comparison.specs.PartRun.{HasParted}
-use Rattle.policy_comparison.proofs.Pairs.{two-after, two-held}
+use Rattle.policy_comparison.proofs.Two.{two-after, two-held}
 use Rattle.policy_comparison.proofs.part_run.PartRunTaker.take.Goals as goal
 
 pub returns : goal.returns

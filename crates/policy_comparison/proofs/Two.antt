@@ -1,10 +1,7 @@
--- Two jobs, and the cases of what was found of them.
-use Rattle.std.proofs.Common.{◌≡◌, ℕ, List, [], ◌∷◌, false, true≢false, Option, Some, None, IfNone, Result, Ok, Err, OnOk}
-use Rattle.std.specs.Option.{is_some}
+-- What holds of two jobs.
+use Rattle.std.proofs.Common.{List, [], ◌∷◌, Result, Ok, Err, OnOk}
 use Rattle.policies.specs.AnyPolicy.{Job}
 use Rattle.policy_comparison.specs.Pair.{AreTwo}
-
--- ---- two jobs
 
 two-then : (jobs : List Job) (P Q : Job → Job → Type 0) → ((first second : Job) → P first second → Q first second) → AreTwo jobs P → AreTwo jobs Q
 two-then [] P Q f h = h
@@ -24,13 +21,3 @@ two-held [] P h = absurd h
 two-held (a ∷ []) P h = absurd h
 two-held (a ∷ b ∷ []) P h = (a, b, h)
 two-held (a ∷ b ∷ c ∷ rest) P h = absurd h
-
--- ---- what one case of an option holds
-
-pub from-none : {X : Type 0} (o : Option ℕ) → is_some o ≡ false → IfNone o X → X
-from-none None none h = h
-from-none (Some n) none h = absurd (true≢false none)
-
-pub into-none : {X : Type 0} (o : Option ℕ) → X → IfNone o X
-into-none None x = x
-into-none (Some n) x = tt
