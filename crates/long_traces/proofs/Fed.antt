@@ -1,7 +1,7 @@
 -- A trace that is fed piece by piece.
 use Rattle.std.proofs.Common.{Bool, false, ◌≡◌, ℕ, ◌+◌, ◌≤◌, List, [], ◌++◌, length, take, drop, Option, Some, None, IfSome, Result, Err, sym, ap, subst, refl, ◌∙◌, arith, length-append}
 use Rattle.std.proofs.Math.Seq.{drop-append_seam, take-add}
-use Rattle.std.proofs.lemmas.List.{drop-take, append_cancel_right, take_all}
+use Rattle.std.proofs.lemmas.List.{drop-take, drop-drop, append_cancel_right, take_all}
 use Rattle.engine_base.specs.declared.limits.TheConstants.{MAX_STEPS}
 use Rattle.std.specs.Prelude.{IsErrAnd}
 use Rattle.streams.specs.Tally.{FailsWhere}
@@ -12,7 +12,8 @@ use Rattle.trace_read.specs.ReadTrace.{IsReadWithin, IsWhollyRead}
 use Rattle.trace_read.specs.declared.fault.TraceFault.{TraceFault}
 use Rattle.trace_read.specs.declared.fault.TraceFault.TheVariants.{Read}
 use Rattle.trace_read.specs.declared.limits.Limits.{Limits}
-use Rattle.long_traces.specs.Taking.{Format, AreNext, CanTake, HasBegun, HasTakenAll, IsFed, keys_in}
+use Rattle.takers.specs.Taking.{AreNext, CanTake, HasTakenAll}
+use Rattle.long_traces.specs.Feed.{Format, HasBegun, IsFed, keys_in}
 
 -- keys behind the beginning of a trace, with which it goes on
 module _ (place : ℕ) (keys done trace : List ℕ) (long : length done ≡ place) (is : done ++ keys ≡ take (place + length keys) trace) where
@@ -33,6 +34,26 @@ module _ (format : Format) where
   more_known (Some b) place done keys first next =
       let all = keys_in format b in
       ap (λ (l : List ℕ). l ++ keys) first ∙ ap (λ (l : List ℕ). take place all ++ l) next ∙ sym (take-add place (length keys) all)
+
+-- ---- accesses that wait until they are taken
+
+-- they are those behind the first ones, where the bytes are known
+abbrev pub AreWaiting : Format → Option (List ℕ) → ℕ → List ℕ → Type 0
+AreWaiting format bytes place waiting = IfSome bytes (λ b. waiting ≡ take (length waiting) (drop place (keys_in format b)))
+
+pub none_wait : (format : Format) (bytes : Option (List ℕ)) (place : ℕ) (waiting : List ℕ) → waiting ≡ [] → AreWaiting format bytes place waiting
+none_wait format None place waiting none = tt
+none_wait format (Some b) place waiting none = none ∙ ap (λ (l : List ℕ). take (length l) (drop place (keys_in format b))) (sym none)
+
+-- more come behind them
+pub more_wait : (format : Format) (bytes : Option (List ℕ)) (place : ℕ) (waiting keys both : List ℕ) → both ≡ waiting ++ keys
+    → IfSome bytes (λ b. keys ≡ take (length keys) (drop (place + length waiting) (keys_in format b))) → AreWaiting format bytes place waiting → AreWaiting format bytes place both
+more_wait format None place waiting keys both is next wait = tt
+more_wait format (Some b) place waiting keys both is next wait =
+    let all = keys_in format b in
+    let a = length waiting in
+    is ∙ ap (λ (l : List ℕ). l ++ keys) wait ∙ ap (λ (l : List ℕ). take a (drop place all) ++ l) (next ∙ ap (take (length keys)) (sym (drop-drop a place all)))
+    ∙ sym (take-add a (length keys) (drop place all)) ∙ ap (λ (n : ℕ). take n (drop place all)) (sym (ap length is ∙ length-append waiting keys))
 
 module _ {K : Type 0} (H : List ℕ → ℕ → K → Type 0) (format : Format) (bytes : Option (List ℕ)) where
   -- nothing was fed
@@ -76,15 +97,20 @@ module _ {K : Type 0} (H : List ℕ → ℕ → K → Type 0) (format : Format) 
       record { trace = fed.done; taken = subst (λ (n : ℕ). H fed.done n taker) (sym long) (fed.taken fed.done (omega (arith, long)) all) }
 
 -- where no more come, it is all accesses of the bytes
-pub taken_to_end : {K Task : Type 0} (H : Task → List ℕ → ℕ → K → Type 0) (format : Format) (bytes : Option (List ℕ)) (place : ℕ) (was taker : K) (keys : List ℕ) (more : Bool) → more ≡ false → keys ≡ []
-    → GivesNext format bytes place more keys → ((task : Task) → HasBegun (H task) was → IsFed (H task) format bytes place taker)
+pub taken_to_end : {K Task : Type 0} (H : Task → List ℕ → ℕ → K → Type 0) (format : Format) (bytes : Option (List ℕ)) (place : ℕ) (was taker : K)
+    → IfSome bytes (λ b. place ≡ length (keys_in format b)) → ((task : Task) → HasBegun (H task) was → IsFed (H task) format bytes place taker)
     → IfSome bytes (λ b. (task : Task) → HasBegun (H task) was → H task (keys_in format b) (length (keys_in format b)) taker)
-taken_to_end H format None place was taker keys more end none gives fed = tt
-taken_to_end H format (Some b) place was taker keys more end none gives fed = λ task start.
+taken_to_end H format None place was taker long fed = tt
+taken_to_end H format (Some b) place was taker long fed = λ task start.
     let all = keys_in format b in
     let is = fed task start in
-    let long : place ≡ length all = omega (arith, gives.last end, ap length none) in
     subst (λ (n : ℕ). H task all n taker) long (is.taken all (omega (arith, long)) is.first)
+
+-- no more come behind so many
+pub at_end : (format : Format) (bytes : Option (List ℕ)) (place n : ℕ) (keys : List ℕ) (more : Bool) → more ≡ false → keys ≡ [] → place ≡ n
+    → GivesNext format bytes n more keys → IfSome bytes (λ b. place ≡ length (keys_in format b))
+at_end format None place n keys more end none is gives = tt
+at_end format (Some b) place n keys more end none is gives = omega (arith, gives.last end, ap length none, is)
 
 -- a fault of the reading that is handed on
 pub handed_on : {A B : Type 0} (limits : Limits) (format : Format) (old new : Option (List ℕ)) (before after : Tally) (e : TraceFault) (result : Result B TraceFault) → IsErrAnd result (λ y. y ≡ e)

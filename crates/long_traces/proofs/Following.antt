@@ -4,7 +4,7 @@ use Rattle.std.specs.List.{All}
 use Rattle.std.proofs.lemmas.List.Elements.{All-head, All-tail}
 use Rattle.policies.specs.FaultyJobs.{Job, faulty_from}
 use Rattle.policy_actors.specs.Following.{CanFollow}
-use Rattle.long_traces.specs.Taking.{FollowsTrace}
+use Rattle.long_traces.specs.Feed.{FollowsTrace}
 
 pub none-faulty : (i : ℕ) (jobs : List Job) → All FollowsTrace jobs → faulty_from i jobs ≡ None
 none-faulty i [] all = refl

@@ -1,5 +1,2 @@
-pub mod Taking
+pub mod Feed
 pub mod Footprint
-pub mod JobRuns
-pub mod Pairs
-pub mod QueueRuns

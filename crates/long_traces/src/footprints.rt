@@ -6,22 +6,24 @@ ghost use Rattle.trace_read.specs.ReadTrace.{IsReadWithin};
 ghost use Rattle.trace_read.specs.TraceText.{keys_in};
 ghost use Rattle.trace_read.specs.declared.limits.TheConstants.{MAX_LONG_ACCESSES, MAX_LONG_TRACE_BYTES};
 
-use crate::feed::{Taker, read_taken};
+use crate::feed::read_taken;
 use std::alloc::{AllocError, Global};
-use step_record::{Gate, Key};
+use std::thread::Threads;
+use step_record::Key;
 use streams::CountedRead;
+use takers::Taker;
 use trace_footprint::{Footprint, FootprintCounter};
 use trace_read::{Format, Limits, TraceFault};
 
 /// How large the trace is that the reader gives. Beside a piece of it, memory has a number for each block.
 ///
 /// Errors: those of `reports`.
-pub fn footprint<R: CountedRead, G: Gate>(
+pub fn footprint<T: Threads + Sync, R: CountedRead>(
+    rt: &T,
     alloc: Global,
     reader: &mut R,
     format: Format,
     limits: Limits,
-    gate: &G,
 ) -> Result<Footprint, TraceFault>
     requires accesses { limits.accesses ≤ MAX_LONG_ACCESSES }
     requires bytes { limits.bytes ≤ MAX_LONG_TRACE_BYTES }
@@ -30,19 +32,26 @@ pub fn footprint<R: CountedRead, G: Gate>(
     ensures read { IsReadWithin limits format (R.remaining reader.old) (R.remaining reader.new) result }
     ensures tally { FailsWhere (result ≡ Err TraceFault.Read) (R.tally reader.old) (R.tally reader.new) }
 {
-    let mut counter = FootprintCounter::new(alloc);
-    read_taken(alloc, reader, format, limits, &mut counter, gate)?;
-    let footprint = counter.footprint();
-    drop(counter);
+    let counter = FootprintCounter::new(alloc);
+    let mut counted = CountedTrace { counter };
+    read_taken(rt, alloc, reader, format, limits, &mut counted)?;
+    let footprint = counted.counter.footprint();
+    drop(counted);
     Ok(footprint)
 }
 
-impl Taker for FootprintCounter {
+// What is counted of a trace while it is read.
+#[derive(Drop)]
+struct CountedTrace {
+    counter: FootprintCounter,
+}
+
+impl Taker for CountedTrace {
     ghost use Rattle.long_traces.specs.Footprint.{HasCountedFirst};
 
     ghost has_taken = { HasCountedFirst };
 
-    fn take(&mut self, keys: &[Key]) -> Result<(), AllocError> {
-        FootprintCounter::take(self, keys)
+    fn take<T: Threads + Sync>(&mut self, _rt: &T, keys: &[Key]) -> Result<(), AllocError> {
+        self.counter.take(keys)
     }
 }

@@ -8,17 +8,7 @@
 //! with its length but the rows. The gate is called after each piece, or by `reports` around each batch of an actor.
 #![tactic(auto)]
 
-mod compared_run;
 mod feed;
 mod footprints;
-mod job_run;
-mod job_runs;
-mod jobs;
-mod pair;
-mod pairs;
-mod part_run;
-mod queue_runs;
 
 pub use footprints::footprint;
-pub use jobs::{intervals, queues_text, reports};
-pub use pairs::{compare, compare_intervals, part};

@@ -5,4 +5,4 @@
 
 mod progress_line;
 
-pub use progress_line::{ProgressLine, ProgressText, Watch, Work};
+pub use progress_line::{Progress, ProgressLine, ProgressText, Watch, WatchedInput};

@@ -30,21 +30,3 @@ each_shown f shown [] [] h = refl
 each_shown f shown [] (y ∷ ys) h = absurd h
 each_shown f shown (x ∷ xs) [] h = absurd h
 each_shown f shown (x ∷ xs) (y ∷ ys) h = ap (λ t. shown y ∷ t) (each_shown f shown xs ys h.1) ∙ ap (λ t. t ∷ map f xs) (h.0.2 ∙ ap f h.0.1)
-
--- lists that are the same one by one are the same behind one another
-joined_lists : {Z : Type 0} → List (List Z) → List Z
-joined_lists [] = []
-joined_lists (l ∷ ls) = l ++ joined_lists ls
-
-flat-map : {X Z : Type 0} (f : X → List Z) (xs : List X) → flat_map f xs ≡ joined_lists (map f xs)
-unfolding joined_lists
-flat-map f [] = refl
-flat-map f (x ∷ xs) = ap (λ t. f x ++ t) (flat-map f xs)
-
-pub flat-same : {X Y Z : Type 0} (f : X → List Z) (g : Y → List Z) (xs : List X) (ys : List Y) → map f xs ≡ map g ys → flat_map f xs ≡ flat_map g ys
-flat-same f g xs ys same = flat-map f xs ∙ ap joined_lists same ∙ sym (flat-map g ys)
-
--- a fact of the value of a result, with the other side of an equation of it
-pub then : {V E X : Type 0} (shown : V → X) {a b : X} (r : Result V E) → IfOk r (λ v. shown v ≡ a) → a ≡ b → IfOk r (λ v. shown v ≡ b)
-then shown (Ok v) is same = is ∙ same
-then shown (Err e) is same = tt

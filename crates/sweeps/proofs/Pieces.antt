@@ -9,49 +9,11 @@ use Rattle.engine_base.specs.Stats.{stats_of}
 use Rattle.sweeps.specs.Intervals.{Stats, Outcome, Job, between, interval_at, IsLater}
 use Rattle.sweeps.proofs.Counts.{between-counts, later-counts}
 
--- of a list that is shorter than asked for all is taken
-take-least : {X : Type 0} (n k : ℕ) (xs : List X) → k ≡ min n (length xs) → take k xs ≡ take n xs
-take-least n k xs is =
-    elim (cases_lt n (length xs)) [
-      | inl below ↦ (let same : k ≡ n = omega (arith, is, below) in ap (λ m. take m xs) same)
-      | inr past ↦ (
-          let all : k ≡ length xs = omega (arith, is, past) in
-          take_all k xs (omega (arith, all)) ∙ sym (take_all n xs past))
-    ]
-
-drop-least : {X : Type 0} (n k : ℕ) (xs : List X) → k ≡ min n (length xs) → drop k xs ≡ drop n xs
-drop-least n k xs is =
-    elim (cases_lt n (length xs)) [
-      | inl below ↦ (let same : k ≡ n = omega (arith, is, below) in ap (λ m. drop m xs) same)
-      | inr past ↦ (
-          let all : k ≡ length xs = omega (arith, is, past) in
-          drop_all k xs (omega (arith, all)) ∙ sym (drop_all n xs past))
-    ]
-
--- the piece that is cut off next, and what is left behind it
-pub cut-piece : {X : Type 0} (every n k : ℕ) (xs rest piece : List X) → k ≡ min every (length rest) → rest ≡ drop (n * every) xs → piece ≡ take k rest
-    → piece ≡ take every (drop (n * every) xs)
-cut-piece every n k xs rest piece least is front = front ∙ take-least every k rest least ∙ ap (take every) is
-
-pub cut-rest : {X : Type 0} (every n k : ℕ) (xs rest later : List X) → k ≡ min every (length rest) → rest ≡ drop (n * every) xs → later ≡ drop k rest
-    → later ≡ drop ((n + 1) * every) xs
-cut-rest every n k xs rest later least is back =
-    let e : (n + 1) * every ≡ n * every + every = omega arith in
-    back ∙ drop-least every k rest least ∙ ap (drop every) is ∙ drop-drop every (n * every) xs ∙ ap (λ m. drop m xs) (sym e)
-
 -- one piece more
 pub piece-more : {X : Type 0} (every n : ℕ) (xs : List X) → take ((n + 1) * every) xs ≡ take (n * every) xs ++ take every (drop (n * every) xs)
 piece-more every n xs =
     let e : (n + 1) * every ≡ n * every + every = omega arith in
     ap (λ m. take m xs) e ∙ take-add (n * every) every xs
-
--- before each piece that is needed to cover a list something is left
-pub piece-begins : (every n long : ℕ) → 1 ≤ every → n < div_ceil long every → n * every < long
-piece-begins every n long some below =
-    let cover = (div_ceil_times long every some).1 in
-    let next : (n + 1) * every ≤ div_ceil long every * every = mul-le (n + 1) every (div_ceil long every) every (omega (arith, below)) (omega arith) in
-    let e : (n + 1) * every ≡ n * every + every = omega arith in
-    omega (arith, cover, next, e)
 
 -- the last piece ends the list
 pub pieces-cover : (every long : ℕ) → 1 ≤ every → long ≤ div_ceil long every * every

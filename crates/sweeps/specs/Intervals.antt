@@ -1,9 +1,8 @@
 -- A trace cut into intervals, and what a job makes of each.
 use Rattle.std.specs.Int.{div_ceil}
-use Rattle.std.specs.Prelude.{ℕ, zero, suc, ◌+◌, ◌-◌, ◌*◌, ◌/◌, ◌%◌, ◌<◌, ◌≤◌, cond, nat_le, Option, Some}
+use Rattle.std.specs.Prelude.{ℕ, zero, suc, ◌+◌, ◌-◌, ◌*◌, ◌<◌, ◌≤◌, cond, nat_le, Option, Some}
 use Rattle.std.specs.Prelude.{List, [], ◌∷◌, ◌++◌, length, take, drop}
 pub use Rattle.step_record.specs.declared.job.Job.{Job}
-use Rattle.engine_base.specs.declared.limits.TheConstants.{MAX_BATCH}
 pub use Rattle.engine_base.specs.declared.outcome.Outcome.{Outcome}
 pub use Rattle.engine_base.specs.declared.stats.Stats.{Stats}
 use Rattle.engine_base.specs.Stats.{stats_of}
@@ -42,10 +41,6 @@ intervals_on job every trace = first_intervals job every (outcomes_on job trace)
 -- the number of jobs is looked at first, and then their configurations
 abbrev pub intervals_fault : List Job → Option ActorFault
 intervals_fault jobs = cond (nat_le (length jobs) MAX_ACTORS) (faulty_in jobs) (Some Actors)
-
--- for how many batches the gate is called for each job: each interval begins with a new one
-abbrev pub interval_batches : ℕ → ℕ → ℕ
-interval_batches every accesses = accesses / every * div_ceil every MAX_BATCH + div_ceil (accesses % every) MAX_BATCH
 
 -- ---- between two counts of all accesses
 

@@ -1,3 +1,4 @@
 pub mod Sweep
 pub mod Intervals
 pub mod Theorems
+pub mod JobRuns

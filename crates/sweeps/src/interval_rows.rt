@@ -1,20 +1,21 @@
 //! What jobs make of each interval of a trace, side by side.
-ghost use Rattle.std.specs.Prelude.{◌≡◌, ◌≤◌, ◌*◌, ◌-◌, ◌^◌, None, Ok, IfOk, flat_map, length, min};
-ghost use Rattle.engine_base.specs.Config.{config_fault};
+ghost use Rattle.std.specs.Prelude.{◌≡◌, ◌≤◌, None, IfOk, flat_map};
 ghost use Rattle.policies.specs.FaultyJobs.{faulty_in, ReturnsFault};
-ghost use Rattle.sweeps.specs.Intervals.{interval_batches, intervals_fault, intervals_on};
+ghost use Rattle.sweeps.specs.Intervals.{intervals_fault, intervals_on};
+ghost use Rattle.sweeps.specs.JobRuns.{HaveRunJobs};
+ghost use Rattle.takers.specs.Taking.{Task};
 
-use crate::interval_run::{CutTrace, intervals_of};
-use crate::side_by_side::made_by_each;
+use crate::job_runs::JobRuns;
 use policies::{ActorFault, Interval, MAX_ACTORS, check_jobs};
 use std::alloc::{AllocError, Global};
 use std::thread::Threads;
-use step_record::{Gate, Job, MAX_BATCH, Trace};
+use step_record::{Gate, Job, Trace};
+use takers::take_trace;
 
 /// The rows of each job over the trace, cut into intervals of `every` accesses, of which the last may be shorter: all
-/// rows of the first job, in order, then those of the second, and so on. `rayon` runs the jobs side by side where
-/// there are threads. The gate is called before and after each batch of an interval, of `MAX_BATCH` accesses where
-/// there are so many, on the thread that makes them, as worker 0, with the batch's number in the interval.
+/// rows of the first job, in order, then those of the second, and so on. The jobs run side by side where there are
+/// threads. The gate is called before and after each `takers::AT_A_TIME` accesses, of which the last may be fewer, as
+/// worker 0, with their number.
 ///
 /// Errors: `Actors` for more than `MAX_ACTORS` jobs, `Config` with the index of the first job whose configuration
 /// `Config::check` refuses, and `OutOfMemory`.
@@ -34,53 +35,39 @@ pub fn intervals<R: Threads + Sync, G: Gate>(
         return Err(ActorFault::Actors);
     }
     check_jobs(jobs)?;
-    let rows = rows(rt, alloc, &CutTrace { trace, every }, jobs, gate)?;
+    let rows = rows(rt, alloc, trace, jobs, every, gate)?;
     Ok(rows)
-}
-
-/// For how many batches in all `intervals` calls its gate, over the same trace and jobs; 2^64 - 1 for more.
-pub fn interval_batches(trace: &Trace, jobs: &[Job], every: usize) -> u64
-    requires { 1 ≤ every }
-    ensures { result ≡ min (interval_batches every (length trace.now) * length jobs.now) (2 ^ 64 - 1) }
-{
-    let size = MAX_BATCH as usize;
-    let whole = (trace.len() / every).saturating_mul(every.div_ceil(size));
-    let each = whole.saturating_add((trace.len() % every).div_ceil(size));
-    each.saturating_mul(jobs.len()) as u64
 }
 
 // The rows of jobs none of which is faulty. The one error is out of memory.
 fn rows<R: Threads + Sync, G: Gate>(
     rt: &R,
     alloc: Global,
-    cut: &CutTrace<'_>,
+    trace: &Trace,
     jobs: &[Job],
+    every: usize,
     gate: &G,
 ) -> Result<Vec<Interval>, AllocError>
-    requires { faulty_in jobs.now ≡ None }
-    ensures { IfOk result (λ rows.
-        rows.items ≡ flat_map (λ j. intervals_on j cut.now.every cut.now.trace.now) jobs.now) }
+    requires checked { faulty_in jobs.now ≡ None }
+    requires some { 1 ≤ every }
+    ensures { IfOk result (λ rows. rows.items ≡ flat_map (λ j. intervals_on j every trace.now) jobs.now) }
 {
-    let lists = made_by_each(
-        rt,
-        alloc,
-        jobs,
-        |job: &Job| -> Result<Vec<Interval>, AllocError>
-            requires { config_fault job.now.config ≡ Ok tt }
-            ensures { IfOk result (λ rows. rows.items
-                ≡ intervals_on job.now cut.entry.now.every cut.entry.now.trace.now) }
-        { intervals_of(alloc, cut, job, gate) },
-    )?;
-    joined(alloc, lists.as_slice())
+    let mut runs = JobRuns::open(alloc, trace, jobs, every)?;
+    rows_by(rt, alloc, trace, &mut runs, gate)
 }
 
-// All rows of the lists, one list after the other.
-fn joined(alloc: Global, lists: &[Vec<Interval>]) -> Result<Vec<Interval>, AllocError>
-    ensures { IfOk result (λ all. all.items ≡ flat_map (λ rows. rows.items) lists.now) }
+// The same by runs that made no access yet.
+fn rows_by<R: Threads + Sync, G: Gate>(
+    rt: &R,
+    alloc: Global,
+    trace: &Trace,
+    runs: &mut JobRuns,
+    gate: &G,
+) -> Result<Vec<Interval>, AllocError>
+    requires { (task : Task) × HaveRunJobs task trace.now 0 runs.old }
+    ensures { (task : Task) → HaveRunJobs task trace.now 0 runs.old
+        → IfOk result (λ rows. rows.items ≡ flat_map (λ j. intervals_on j task.every trace.now) task.jobs) }
 {
-    let mut all = Vec::new(alloc);
-    for rows in lists {
-        all.extend_from_slice(rows.as_slice())?;
-    }
-    Ok(all)
+    take_trace(rt, trace, runs, gate)?;
+    runs.rows(alloc)
 }

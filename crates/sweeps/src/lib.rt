@@ -10,13 +10,15 @@
 
 mod capacities;
 mod interval_rows;
-mod interval_run;
+mod job_run;
+mod job_runs;
 mod prepared_trace;
 mod side_by_side;
 mod single_run;
 pub mod theorems;
 
 pub use capacities::{jobs_over, sweep, sweep_batches, sweep_each};
-pub use interval_rows::{interval_batches, intervals};
-pub use interval_run::between;
+pub use interval_rows::intervals;
+pub use job_run::between;
+pub use job_runs::JobRuns;
 pub use single_run::run_one;

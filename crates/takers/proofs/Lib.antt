@@ -1,2 +1,5 @@
 pub mod Next
 pub mod Cut
+pub mod Halves
+pub mod Covers
+pub mod Each

@@ -1,5 +1,5 @@
 -- Keys that come next in a trace.
-use Rattle.std.proofs.Common.{◌≡◌, ℕ, ◌+◌, ◌-◌, ◌<◌, ◌≤◌, false, true≢false, List, ◌++◌, inl, inr, length, take, drop, sym, ap, subst, ◌∙◌, arith, length-take, length-drop, take-append-drop}
+use Rattle.std.proofs.Common.{◌≡◌, ℕ, ◌+◌, ◌-◌, ◌≤◌, false, true≢false, List, ◌++◌, inl, inr, length, take, drop, sym, ap, subst, ◌∙◌, arith, length-take, length-drop, take-append-drop}
 use Rattle.std.proofs.Math.Seq.{take-add}
 use Rattle.std.proofs.lemmas.List.{drop-take, drop-drop, take-take}
 use Rattle.engine_base.specs.declared.limits.TheConstants.{MAX_STEPS}

@@ -5,6 +5,8 @@
 //! and of how many of its first accesses were taken.
 #![tactic(auto)]
 
+mod runs;
 mod taker;
 
+pub use runs::{Run, make_next, open_runs};
 pub use taker::{AT_A_TIME, Taker, pieces_of, take_trace};

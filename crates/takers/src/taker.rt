@@ -1,6 +1,7 @@
 //! What takes the accesses of a trace, and how those of a trace that is kept are taken.
 ghost use Rattle.std.specs.Int.{div_ceil};
 ghost use Rattle.std.specs.Prelude.{◌≡◌, ◌+◌, ℕ, List, OnOk, length};
+ghost use Rattle.std.specs.Thread.{IsSync};
 ghost use Rattle.takers.specs.declared.taker.TheConstants.{AT_A_TIME};
 ghost use Rattle.takers.specs.Taking.{AreNext, CanTakeFor, Task};
 
@@ -19,7 +20,8 @@ pub trait Taker: Drop {
     /// Takes the next accesses, side by side on threads of `rt` where that pays. The one error is out of memory; it is of
     /// no more use then.
     fn take<T: Threads + Sync>(&mut self, rt: &T, keys: &[Key]) -> Result<(), AllocError>
-        requires { CanTakeFor has_taken keys.now self.old }
+        requires sync { IsSync T.row }
+        requires next { CanTakeFor has_taken keys.now self.old }
         ensures { (task : Task) (trace : List ℕ) (n : ℕ) → AreNext trace n keys.now → has_taken task trace n self.old
             → OnOk result (has_taken task trace (n + length keys.now) self.new) };
 }

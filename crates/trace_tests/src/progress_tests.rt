@@ -1,7 +1,8 @@
 //! The line of progress: its text, and when it is drawn and cleared.
 use engine_base::Gate;
-use progress::{ProgressLine, ProgressText, Watch, Work};
+use progress::{Progress, ProgressLine, ProgressText, Watch, WatchedInput};
 use std::fmt::{Display, Write};
+use std::io::Read;
 use std::rt::Clock;
 use std::sync::atomic::AtomicU64;
 use std::sync::atomic::Ordering::SeqCst;
@@ -57,25 +58,25 @@ impl Eprint for Terminal {
     }
 }
 
-const RUN: Work = Work {
-    name: "run",
-    batches: Some(10),
-};
-
-const READING: Work = Work {
-    name: "run",
-    batches: None,
-};
-
-// How often a line is drawn and cleared over so many batches, each of which takes a tenth of a second.
-fn shown(is_terminal: bool, batches: u64) -> (u64, u64) {
+// How often a line is drawn and cleared over so many reads, and then so many batches: each takes a tenth of a second.
+fn shown(is_terminal: bool, reads: u64, batches: u64) -> (u64, u64) {
     let terminal = Terminal {
         reads: AtomicU64::new(0),
         drawn: AtomicU64::new(0),
         cleared: AtomicU64::new(0),
     };
-    let line = ProgressLine::new(&terminal, is_terminal);
-    line.begin(RUN.name, RUN.batches);
+    let line = ProgressLine::new(&terminal, is_terminal, None);
+    line.begin("run");
+    let mut input = WatchedInput {
+        input: b"1\n2\n3\n4\n5\n".as_slice(),
+        line: &line,
+    };
+    for _ in 0..reads {
+        let _ = input.read(&mut [0]);
+    }
+    if batches > 0 {
+        line.count(batches);
+    }
     for n in 0..batches {
         line.after(0, n);
     }
@@ -85,28 +86,43 @@ fn shown(is_terminal: bool, batches: u64) -> (u64, u64) {
 
 #[test]
 fn a_line_is_drawn_from_half_a_second_on_and_cleared(rt: HostRuntime) {
-    for (is_terminal, batches, wanted) in [
-        (true, 10, (3, 1)),
-        (true, 5, (1, 1)),
-        (true, 4, (0, 0)),
-        (false, 10, (0, 0)),
+    for (is_terminal, reads, batches, wanted) in [
+        (true, 0, 10, (3, 1)),
+        (true, 0, 5, (1, 1)),
+        (true, 0, 4, (0, 0)),
+        (true, 10, 0, (3, 1)),
+        (true, 4, 1, (1, 1)),
+        (false, 10, 10, (0, 0)),
     ] {
-        assert_eq!(rt; shown(is_terminal, batches), wanted);
+        assert_eq!(rt; shown(is_terminal, reads, batches), wanted);
     }
 }
 
+// What is read after half a second of a file of ten bytes, and of what is no file.
+const HALF: Progress = Progress::Read {
+    bytes: 5,
+    size: Some(10),
+};
+
+const PIPE: Progress = Progress::Read {
+    bytes: 12_345_678,
+    size: None,
+};
+
 #[test]
 fn the_text_of_a_line(rt: HostRuntime) -> Result<(), Fail> {
-    for (work, done, seconds, wanted) in [
-        (RUN, 0, 0, "\rrun: 0 % of accesses, 0:00\x1b[K"),
-        (RUN, 9, 9, "\rrun: 90 % of accesses, 0:09\x1b[K"),
-        (RUN, 10, 60, "\rrun: 100 % of accesses, 1:00\x1b[K"),
-        (RUN, 11, 4271, "\rrun: 100 % of accesses, 71:11\x1b[K"),
-        (READING, 11, 61, "\rrun: 11 batches, 1:01\x1b[K"),
+    let made = |done: u64| Progress::Made { done, batches: 10 };
+    for (progress, seconds, wanted) in [
+        (made(0), 0, "\rrun: 0 % of accesses, 0:00\x1b[K"),
+        (made(9), 9, "\rrun: 90 % of accesses, 0:09\x1b[K"),
+        (made(10), 60, "\rrun: 100 % of accesses, 1:00\x1b[K"),
+        (made(11), 4271, "\rrun: 100 % of accesses, 71:11\x1b[K"),
+        (HALF, 61, "\rrun: 50 % of the file, 1:01\x1b[K"),
+        (PIPE, 61, "\rrun: 12 MB, 1:01\x1b[K"),
     ] {
         let line = ProgressText {
-            work,
-            done,
+            name: "run",
+            progress,
             seconds,
         };
         let text = format!(in rt.alloc(); "{line}")?;

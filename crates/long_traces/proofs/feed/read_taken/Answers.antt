@@ -1,15 +1,20 @@
-use Rattle.std.proofs.Common.{◌+◌, Ok, ap, arith, length, subst, List, ℕ}
+use Rattle.std.proofs.Common.{◌≡◌, ◌∙◌, ◌+◌, ◌++◌, Ok, ap, arith, length, length-append, refl, subst, List, ℕ}
+use Rattle.takers.specs.Taking.{AreNext, Task}
 use Rattle.trace_read.proofs.Nexts.{ended, failed, gave_up}
-use Rattle.long_traces.proofs.Fed.{begun, more, ready, taken_some, taken_to_end}
-use Rattle.long_traces.specs.Taking.{AreNext}
+use Rattle.long_traces.specs.Feed.{HasBegun, IsFed}
+use Rattle.long_traces.proofs.Fed.{AreWaiting, at_end, begun, more, more_wait, none_wait, ready, taken_some, taken_to_end}
+use Rattle.long_traces.proofs.feed.read_taken.Goals.{After-drop-reading-3, After-len}
 use Rattle.long_traces.proofs.feed.read_taken.Goals as goal
 
 pub pieces-init : goal.pieces-init
-pieces-init g c = record {
-  place = 0;
-  reading = c.new-reading.ensures.new _ _;
-  fed = λ task start. begun _ c.args.format _ c.args.taker.now start;
-}
+pieces-init g c =
+    let has = c.new-reading.ensures.new (g.R.CountedRead.remaining c.args.reader.now) (g.R.CountedRead.tally c.args.reader.now) in
+    record {
+      place = 0;
+      reading = record { same_limits = has.same_limits; same_format = has.same_format; count = omega (arith, has.count, ap length c.new-waiting.ensures.items); reading = has.reading };
+      fed = λ task start. begun _ c.args.format _ c.args.taker.now start;
+      wait = none_wait c.args.format _ 0 _ c.new-waiting.ensures.items;
+    }
 
 pub returns-in_err-next-clause-read : goal.returns-in_err-next-clause-read
 returns-in_err-next-clause-read g c = (failed _ _ _ _ _ _ _ _ _ _ c.from_residual.result c.from_residual.ensures.1 (c.in_err-next.ensures.next _ _ _ _ _ c.pieces.invariant.reading)).read
@@ -17,15 +22,37 @@ returns-in_err-next-clause-read g c = (failed _ _ _ _ _ _ _ _ _ _ c.from_residua
 pub returns-in_err-next-clause-tally : goal.returns-in_err-next-clause-tally
 returns-in_err-next-clause-tally g c = (failed _ _ _ _ _ _ _ _ _ _ c.from_residual.result c.from_residual.ensures.1 (c.in_err-next.ensures.next _ _ _ _ _ c.pieces.invariant.reading)).tally
 
+pub returns-in_err-extend_from_slice-clause-read : goal.returns-in_err-extend_from_slice-clause-read
+returns-in_err-extend_from_slice-clause-read g c =
+    (gave_up _ _ _ _ _ _ _ _ (c.in_ok-next.ensures.next _ _ _ _ _ c.pieces.invariant.reading).goes_on c.from_residual-in_err-extend_from_slice.result c.from_residual-in_err-extend_from_slice.ensures.1).read
+
+pub returns-in_err-extend_from_slice-clause-tally : goal.returns-in_err-extend_from_slice-clause-tally
+returns-in_err-extend_from_slice-clause-tally g c =
+    (gave_up _ _ _ _ _ _ _ _ (c.in_ok-next.ensures.next _ _ _ _ _ c.pieces.invariant.reading).goes_on c.from_residual-in_err-extend_from_slice.result c.from_residual-in_err-extend_from_slice.ensures.1).tally
+
+-- what waits, with what came
+joined : (g : _) (c : After-len g) → c.extend_from_slice.new.self.items ≡ c.pieces.waiting.items ++ c.next.new.keys.items
+joined g c = c.in_ok-extend_from_slice.ensures.items ∙ ap (λ l. c.pieces.waiting.items ++ l) c.as_slice.ensures.value
+
+longer : (g : _) (c : After-len g) → length c.extend_from_slice.new.self.items ≡ length c.pieces.waiting.items + length c.next.new.keys.items
+longer g c = ap length (joined g c) ∙ length-append c.pieces.waiting.items c.next.new.keys.items
+
+all_wait : (g : _) (c : After-len g) → AreWaiting c.args.format (g.R.CountedRead.remaining c.args.reader.now) c.pieces.invariant.place c.extend_from_slice.new.self.items
+all_wait g c =
+    let i = c.pieces.invariant in
+    let next = c.in_ok-next.ensures.next _ _ _ _ _ i.reading in
+    more_wait c.args.format _ i.place c.pieces.waiting.items c.next.new.keys.items _ (joined g c) next.gives.next i.wait
+
 pub take-requires : goal.take-requires
 take-requires g c =
+    let here = (goal.at.take-requires g c).After-len in
     let i = c.pieces.invariant in
     let next = c.in_ok-next.ensures.next _ _ _ _ _ i.reading in
     let some = c.requires.begun in
     record {
       task = some.0;
-      can = ready (g.K.Taker.has_taken some.0) c.args.format _ i.place c.as_slice.result.now c.pieces.taker (i.fed some.0 some.1)
-          (omega (arith, next.few, ap length c.as_slice.ensures.value, c.requires.accesses));
+      can = ready (g.K.Taker.has_taken some.0) c.args.format (g.R.CountedRead.remaining c.args.reader.now) i.place c.as_slice-then-len-ge-AT_A_TIME.result.now c.pieces.taker (i.fed some.0 some.1)
+          (omega (arith, next.few, longer g here, ap length c.as_slice-then-len-ge-AT_A_TIME.ensures.value, c.requires.accesses));
     }
 
 pub returns-in_err-take-clause-read : goal.returns-in_err-take-clause-read
@@ -36,28 +63,74 @@ pub returns-in_err-take-clause-tally : goal.returns-in_err-take-clause-tally
 returns-in_err-take-clause-tally g c =
     (gave_up _ _ _ _ _ _ _ _ (c.in_ok-next.ensures.next _ _ _ _ _ c.pieces.invariant.reading).goes_on c.from_residual-in_err-take.result c.from_residual-in_err-take.ensures.1).tally
 
-pub pieces-preserved : goal.pieces-preserved
-pieces-preserved g c =
+pub pieces-preserved-then-len-ge-AT_A_TIME : goal.pieces-preserved-then-len-ge-AT_A_TIME
+pieces-preserved-then-len-ge-AT_A_TIME g c =
+    let here = (goal.at.pieces-preserved-then-len-ge-AT_A_TIME g c).After-len in
     let i = c.pieces.invariant in
     let first = g.R.CountedRead.remaining c.args.reader.now in
     let next = c.in_ok-next.ensures.next _ _ _ _ _ i.reading in
-    let keys = c.next.new.keys.items in
+    let on = next.goes_on in
+    let both = c.extend_from_slice.new.self.items in
     record {
-      place = i.place + length keys;
-      reading = next.goes_on;
-      fed = λ task start. more (g.K.Taker.has_taken task) c.args.format first i.place keys c.pieces.taker c.take.new.self (i.fed task start) next.gives.next
+      place = i.place + length both;
+      reading = record { same_limits = on.same_limits; same_format = on.same_format; count = omega (arith, on.count, longer g here, ap length c.clear.ensures.items); reading = on.reading };
+      fed = λ task start. more (g.K.Taker.has_taken task) c.args.format first i.place both c.pieces.taker c.take.new.self (i.fed task start) (all_wait g here)
           (subst (λ (l : List ℕ). (trace : List ℕ) (n : ℕ) → AreNext trace n l → g.K.Taker.has_taken task trace n c.pieces.taker → g.K.Taker.has_taken task trace (n + length l) c.take.new.self)
-          c.as_slice.ensures.value (c.in_ok-take.ensures task));
+          c.as_slice-then-len-ge-AT_A_TIME.ensures.value (c.in_ok-take.ensures task));
+      wait = none_wait c.args.format first _ _ c.clear.ensures.items;
     }
 
+pub pieces-preserved : goal.pieces-preserved
+pieces-preserved g c =
+    let here = (goal.at.pieces-preserved g c).After-len in
+    let i = c.pieces.invariant in
+    let on = (c.in_ok-next.ensures.next _ _ _ _ _ i.reading).goes_on in
+    record {
+      place = i.place;
+      reading = record { same_limits = on.same_limits; same_format = on.same_format; count = omega (arith, on.count, longer g here); reading = on.reading };
+      fed = i.fed;
+      wait = all_wait g here;
+    }
+
+pub take-requires-2 : goal.take-requires-2
+take-requires-2 g c =
+    let i = c.pieces.invariant in
+    let next = c.in_ok-next.ensures.next _ _ _ _ _ i.reading in
+    let some = c.requires.begun in
+    record {
+      task = some.0;
+      can = ready (g.K.Taker.has_taken some.0) c.args.format (g.R.CountedRead.remaining c.args.reader.now) i.place c.as_slice-2.result.now c.pieces.taker (i.fed some.0 some.1)
+          (omega (arith, next.few, ap length c.as_slice-2.ensures.value, c.requires.accesses));
+    }
+
+pub returns-in_err-take-2-clause-read : goal.returns-in_err-take-2-clause-read
+returns-in_err-take-2-clause-read g c =
+    (gave_up _ _ _ _ _ _ _ _ (c.in_ok-next.ensures.next _ _ _ _ _ c.pieces.invariant.reading).goes_on c.from_residual-in_err-take-2.result c.from_residual-in_err-take-2.ensures.1).read
+
+pub returns-in_err-take-2-clause-tally : goal.returns-in_err-take-2-clause-tally
+returns-in_err-take-2-clause-tally g c =
+    (gave_up _ _ _ _ _ _ _ _ (c.in_ok-next.ensures.next _ _ _ _ _ c.pieces.invariant.reading).goes_on c.from_residual-in_err-take-2.result c.from_residual-in_err-take-2.ensures.1).tally
+
+-- all that came is taken
+fed_all : (g : _) (c : After-drop-reading-3 g) (task : Task) → HasBegun (g.K.Taker.has_taken task) c.args.taker.now
+    → IsFed (g.K.Taker.has_taken task) c.args.format (g.R.CountedRead.remaining c.args.reader.now) (c.pieces.invariant.place + length c.pieces.waiting.items) c.take-2.new.self
+fed_all g c task start =
+    let i = c.pieces.invariant in
+    more (g.K.Taker.has_taken task) c.args.format (g.R.CountedRead.remaining c.args.reader.now) i.place c.pieces.waiting.items c.pieces.taker c.take-2.new.self (i.fed task start) i.wait
+    (subst (λ (l : List ℕ). (trace : List ℕ) (n : ℕ) → AreNext trace n l → g.K.Taker.has_taken task trace n c.pieces.taker → g.K.Taker.has_taken task trace (n + length l) c.take-2.new.self)
+    c.as_slice-2.ensures.value (c.in_ok-take-2.ensures task))
+
 pub returns-clause-some : goal.returns-clause-some
-returns-clause-some g c = λ task start. taken_some (g.K.Taker.has_taken task) c.args.format _ c.pieces.invariant.place c.pieces.taker (c.pieces.invariant.fed task start)
+returns-clause-some g c = λ task start. taken_some (g.K.Taker.has_taken task) c.args.format _ _ c.take-2.new.self (fed_all g c task start)
 
 pub returns-clause-taken : goal.returns-clause-taken
 returns-clause-taken g c =
     let i = c.pieces.invariant in
+    let first = g.R.CountedRead.remaining c.args.reader.now in
     let next = c.in_ok-next.ensures.next _ _ _ _ _ i.reading in
-    taken_to_end g.K.Taker.has_taken c.args.format _ i.place c.args.taker.now c.pieces.taker c.next.new.keys.items _ c.if-branch.false (next.none (ap Ok c.if-branch.false)) next.gives i.fed
+    let n = i.place + length c.pieces.waiting.items in
+    taken_to_end g.K.Taker.has_taken c.args.format first n c.args.taker.now c.take-2.new.self
+    (at_end c.args.format first n n c.next.new.keys.items _ c.if-branch.false (next.none (ap Ok c.if-branch.false)) refl next.gives) (fed_all g c)
 
 pub returns-clause-read : goal.returns-clause-read
 returns-clause-read g c = (ended _ _ _ _ _ _ _ _ _ _ _ c.if-branch.false (c.in_ok-next.ensures.next _ _ _ _ _ c.pieces.invariant.reading)).read

@@ -1,4 +1,4 @@
-use Rattle.std.proofs.Common.{◌≡◌, ◌∙◌, ◌+◌, ℕ, length, ap, subst, arith}
+use Rattle.std.proofs.Common.{◌≡◌, ◌+◌, ℕ, length, subst, arith}
 use Rattle.std.specs.Int.{div_ceil}
 use Rattle.takers.specs.declared.taker.TheConstants.{AT_A_TIME}
 use Rattle.takers.proofs.Cut.{next, more, whole}
@@ -11,8 +11,8 @@ loop-number-init g c = record {
   taken = λ task taken. taken;
 }
 
-pub take-requires : goal.take-requires
-take-requires g c =
+pub take-requires-clause-next : goal.take-requires-clause-next
+take-requires-clause-next g c =
     let i = c.loop-number.invariant in
     let (task, taken) = c.requires in
     record {
@@ -43,6 +43,6 @@ returns g c =
     let i = c.loop-number.invariant in
     let trace = c.args.trace.now in
     let all : div_ceil (length trace) AT_A_TIME ≡ c.loop-number.number =
-        omega (arith, c.pieces_of-number-end.ensures, c.loop-number-test.false, c.loop-number.auto.number-end) in
+    omega (arith, c.pieces_of-number-end.ensures, c.loop-number-test.false, c.loop-number.auto.number-end) in
     let done = whole AT_A_TIME trace c.loop-number.number c.loop-number.rest.now i.done i.cut (omega arith) (omega (arith, all)) in
     λ task taken. subst (λ (n : ℕ). g.K.Taker.has_taken task trace n c.loop-number.taker) done (i.taken task taken)

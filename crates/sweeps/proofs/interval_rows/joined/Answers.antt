@@ -1,9 +1,0 @@
-use Rattle.std.proofs.Common.{arith}
-use Rattle.std.proofs.lemmas.Grind.{common_steps}
-use Rattle.sweeps.proofs.interval_rows.joined.Goals as goal
-
-pub loop-rows-preserved : goal.loop-rows-preserved
-loop-rows-preserved c = grind (arith, common_steps)
-
-pub returns : goal.returns
-returns c = grind (arith, common_steps)
