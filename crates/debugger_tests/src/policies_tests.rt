@@ -180,7 +180,7 @@ fn the_gate_is_called_around_each_piece(rt: HostRuntime) -> Result<(), Fail> {
 
 // The answer to commands about the trace 1 1 2 3 1 at capacity 2, with lru as `a` and slru as `b`, through these ends.
 pub fn answer_through(
-    rt: &impl Threads,
+    rt: &(impl Threads + Sync),
     alloc: Global,
     input: Pipe<'_>,
     output: &mut CountedWriter<Pipe<'_>>,
@@ -282,7 +282,7 @@ fn there_and_back(alloc: Global, capacity: u32) -> Result<Trace, Fail> {
 }
 
 // Sees what the debugger answers to the commands of a row.
-fn assert_windows<R: Abort + Threads>(
+fn assert_windows<R: Abort + Threads + Sync>(
     rt: &R,
     alloc: Global,
     (capacity, other, commands, wanted): (u32, Policy, &str, &str),
@@ -294,7 +294,7 @@ fn assert_windows<R: Abort + Threads>(
 }
 
 // Sees what the debugger answers to commands about two policies over a trace.
-fn assert_answers<R: Abort + Threads>(
+fn assert_answers<R: Abort + Threads + Sync>(
     rt: &R,
     alloc: Global,
     trace: &Trace,
