@@ -26,7 +26,7 @@ use streams::{CountedRead, CountedWrite};
 /// read; `TooLarge` where a line goes past 2^20 bytes of input, with the lines before it answered; `OutOfMemory`,
 /// `Read` and `Write` where an allocation, the input or the output failed: the answers that were written are then a
 /// beginning of those to all lines.
-pub fn run_debug<T: Threads, R: CountedRead, W: CountedWrite>(
+pub fn run_debug<T: Threads + Sync, R: CountedRead, W: CountedWrite>(
     rt: &T,
     alloc: Global,
     trace: &Trace,
@@ -75,7 +75,7 @@ struct TwoPolicies<'a, T> {
     second: OnePolicy<'a>,
 }
 
-impl<'a, T: Threads> TwoPolicies<'a, T> {
+impl<'a, T: Threads + Sync> TwoPolicies<'a, T> {
     // Both before the first access. The one error is that an allocation failed.
     fn open(
         rt: &'a T,
@@ -106,7 +106,7 @@ impl<'a, T: Threads> TwoPolicies<'a, T> {
     }
 }
 
-impl<'a, T: Threads> Timeline for TwoPolicies<'a, T> {
+impl<'a, T: Threads + Sync> Timeline for TwoPolicies<'a, T> {
     ghost use Rattle.std.specs.Prelude.{ℕ, List};
     ghost use Rattle.step_record.specs.declared.job.Job.{Job};
     ghost use Rattle.debug_policies.specs.TwoPolicies.{policies_timeline, IsPartWalk};

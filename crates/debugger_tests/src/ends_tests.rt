@@ -78,7 +78,7 @@ fn assert_answered(
 }
 
 // Sees what both debuggers answer through such ends.
-fn assert_through<R: Abort + Threads>(
+fn assert_through<R: Abort + Threads + Sync>(
     rt: &R,
     alloc: Global,
     ends: Ends,

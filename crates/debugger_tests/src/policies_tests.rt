@@ -4,7 +4,7 @@ use super::pipe::{Pipe, ROOM};
 use debug_policies::{DebugFault, run_debug};
 use policies::ActorFault;
 use policy_comparison::{
-    ComparedInterval, Comparison, STRETCH, compare, compare_intervals, part, part_watched,
+    ComparedInterval, Comparison, compare, compare_intervals, part, part_watched,
 };
 use std::alloc::Global;
 use std::process::Abort;
@@ -14,6 +14,7 @@ use std::test::Fail;
 use std::thread::Threads;
 use step_record::{Config, Gate, Job, Key, OpenGate, Policy, Sizes, Spread, Trace, Tuning};
 use streams::{CountedReader, CountedWriter};
+use takers::AT_A_TIME;
 
 const fn at_two(policy: Policy) -> Job {
     of_capacity(2, policy)
@@ -153,11 +154,11 @@ impl Gate for InTurn {
     }
 }
 
-// Over three stretches, of which the last has one access; and where the policies part in the first.
+// Over three pieces, of which the last has one access; also where the policies part in the first.
 #[test]
-fn the_gate_is_called_around_each_stretch(rt: HostRuntime) -> Result<(), Fail> {
+fn the_gate_is_called_around_each_piece(rt: HostRuntime) -> Result<(), Fail> {
     let (lru, segmented) = (at_two(Policy::Lru), at_two(Policy::SegmentedLru));
-    let trace = Trace::new(vec![in rt.alloc(); 7; 2 * STRETCH + 1]?);
+    let trace = Trace::new(vec![in rt.alloc(); 7; 2 * AT_A_TIME + 1]?);
     let gate = InTurn::new();
     let found = part_watched(&rt, rt.alloc(), &trace, &lru, &segmented, &gate).map_err(failed)?;
     assert_equal(&rt, (found, gate.seen()), (None, Some((3, 0 + 1 + 2))));
@@ -168,16 +169,18 @@ fn the_gate_is_called_around_each_stretch(rt: HostRuntime) -> Result<(), Fail> {
     let rows = compare_intervals(&rt, rt.alloc(), &trace, &lru, &segmented, 50_000, &gate);
     drop(rows.map_err(failed)?);
     assert_equal(&rt, gate.seen(), Some((3, 0 + 1 + 2)));
-    let trace = trace_of(rt.alloc(), &[1, 1, 2, 3, 1])?;
+    let mut keys = vec![in rt.alloc(); 7; 2 * AT_A_TIME + 1]?;
+    keys.as_mut_slice()[..5].copy_from_slice(&[1, 1, 2, 3, 1]);
     let gate = InTurn::new();
+    let trace = Trace::new(keys);
     let found = part_watched(&rt, rt.alloc(), &trace, &lru, &segmented, &gate).map_err(failed)?;
-    assert_equal(&rt, (found, gate.seen()), (Some(5), Some((1, 0))));
+    assert_equal(&rt, (found, gate.seen()), (Some(5), Some((3, 0 + 1 + 2))));
     Ok(())
 }
 
 // The answer to commands about the trace 1 1 2 3 1 at capacity 2, with lru as `a` and slru as `b`, through these ends.
 pub fn answer_through(
-    rt: &impl Threads,
+    rt: &(impl Threads + Sync),
     alloc: Global,
     input: Pipe<'_>,
     output: &mut CountedWriter<Pipe<'_>>,
@@ -279,7 +282,7 @@ fn there_and_back(alloc: Global, capacity: u32) -> Result<Trace, Fail> {
 }
 
 // Sees what the debugger answers to the commands of a row.
-fn assert_windows<R: Abort + Threads>(
+fn assert_windows<R: Abort + Threads + Sync>(
     rt: &R,
     alloc: Global,
     (capacity, other, commands, wanted): (u32, Policy, &str, &str),
@@ -291,7 +294,7 @@ fn assert_windows<R: Abort + Threads>(
 }
 
 // Sees what the debugger answers to commands about two policies over a trace.
-fn assert_answers<R: Abort + Threads>(
+fn assert_answers<R: Abort + Threads + Sync>(
     rt: &R,
     alloc: Global,
     trace: &Trace,

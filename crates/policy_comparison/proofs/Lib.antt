@@ -2,4 +2,4 @@ pub mod Walked
 pub mod Texts
 pub mod Compared
 pub mod CutHits
-pub mod Pairs
+pub mod Two

@@ -13,7 +13,6 @@ use Rattle.policies.specs.Theorems.{AnyStepLaw, AnyAccepts, AnyAnswers}
 use Rattle.policies.proofs.Stretches.{next-ahead, added-next}
 use Rattle.policy_comparison.specs.CacheAccess.{AnyPolicy, StandsAt}
 use Rattle.policy_comparison.specs.Part.{is_hit_at, AgreeBelow}
-use Rattle.policy_comparison.specs.Pair.{IsNoted}
 use Rattle.takers.specs.Taking.{AreNext}
 
 -- ---- one access of one cache
@@ -79,6 +78,10 @@ differs true true h same = absurd (true≢false (sym h))
 differs false false h same = absurd (true≢false (sym h))
 differs true false h same = absurd (true≢false same)
 differs false true h same = absurd (true≢false (sym same))
+
+-- flags say which of so many accesses behind the first n hit
+abbrev pub IsNoted : List Bool → List Outcome → ℕ → ℕ → Type 0
+IsNoted noted os n size = (i : ℕ) → i < size → slice_index_or noted i false ≡ is_hit_at os (n + i + 1)
 
 pub noted-more : (noted : List Bool) (os : List Outcome) (n i : ℕ) (b : Bool) → i < length noted → b ≡ is_hit_at os (n + i + 1)
     → IsNoted noted os n i → IsNoted (set noted i b) os n (i + 1)

@@ -1,7 +1,7 @@
 -- Two caches that made the same accesses, and which accesses of the last piece hit.
-use Rattle.std.specs.Prelude.{◌≡◌, ℕ, ◌+◌, ◌<◌, ◌≤◌, Bool, false, List, [], ◌∷◌, length, slice_index_or, take}
+use Rattle.std.specs.Prelude.{◌≡◌, ℕ, ◌+◌, ◌<◌, ◌≤◌, false, List, [], ◌∷◌, length, slice_index_or, take}
 use Rattle.policies.specs.declared.any_policy.AnyPolicy.{AnyPolicy}
-use Rattle.policies.specs.AnyPolicy.{Outcome, Job, HasAccessed, outcomes_on}
+use Rattle.policies.specs.AnyPolicy.{Job, HasAccessed, outcomes_on}
 use Rattle.takers.specs.Taking.{AreNext, CanTake}
 use Rattle.policy_comparison.specs.declared.pair.NotedCache.{NotedCache}
 pub use Rattle.policy_comparison.specs.declared.pair.Pair.{Pair}
@@ -23,20 +23,16 @@ pub record CanMake (keys : List ℕ) (cache : AnyPolicy) : Type 0 where
   pub job : Job
   pub can : CanTake (HasRun job) keys cache
 
--- the flags say which of so many accesses behind the first n hit
-abbrev pub IsNoted : List Bool → List Outcome → ℕ → ℕ → Type 0
-IsNoted noted outcomes n size = (i : ℕ) → i < size → slice_index_or noted i false ≡ is_hit_at outcomes (n + i + 1)
+-- the cache of a job made so many accesses behind the first n, and the flags say which of them hit
+pub record HasNoted (job : Job) (trace : List ℕ) (n size : ℕ) (noted : NotedCache) : Type 0 where
+  pub run : HasRun job trace (n + size) noted.cache
+  pub long : size ≤ length noted.hits.items
+  pub hits : (i : ℕ) → i < size → slice_index_or noted.hits.items i false ≡ is_hit_at (outcomes_on job trace) (n + i + 1)
 
--- the cache of a job made so many accesses behind the first n, of which the flags say which hit
-pub record HasNoted (job : Job) (trace : List ℕ) (n size : ℕ) (cache : AnyPolicy) (noted : List Bool) : Type 0 where
-  pub run : HasRun job trace (n + size) cache
-  pub hits : IsNoted noted (outcomes_on job trace) n size
-
--- whichever job the cache is of, it made the accesses to the keys, and its flags are of them
+-- whichever job the cache is of, it made the accesses to the keys
 pub record HasMade (keys : List ℕ) (old new : NotedCache) : Type 0 where
-  pub long : length new.hits.items ≡ length keys
   pub noted : (job : Job) (trace : List ℕ) (n : ℕ) → AreNext trace n keys → HasRun job trace n old.cache
-      → HasNoted job trace n (length keys) new.cache new.hits.items
+      → HasNoted job trace n (length keys) new
 
 -- ---- both caches
 
@@ -45,11 +41,13 @@ pub record HavePaired (first second : Job) (trace : List ℕ) (n : ℕ) (pair : 
   pub one : HasRun first trace n pair.first.cache
   pub other : HasRun second trace n pair.second.cache
 
--- they have flags of so many accesses
-abbrev pub AreNoted : ℕ → Pair → Type 0
-AreNoted size pair = (size ≤ length pair.first.hits.items) × (size ≤ length pair.second.hits.items)
+-- those of some jobs made the accesses before those to the keys
+pub record CanAdvance (keys : List ℕ) (pair : Pair) : Type 0 where
+  pub first : Job
+  pub second : Job
+  pub can : CanTake (HavePaired first second) keys pair
 
--- which say which of those behind the first n hit
-pub record HaveNoted (os ps : List Outcome) (n size : ℕ) (pair : Pair) : Type 0 where
-  pub one : IsNoted pair.first.hits.items os n size
-  pub other : IsNoted pair.second.hits.items ps n size
+-- those of two jobs made so many accesses behind the first n, and their flags say which of them hit
+pub record HaveNoted (first second : Job) (trace : List ℕ) (n size : ℕ) (pair : Pair) : Type 0 where
+  pub one : HasNoted first trace n size pair.first
+  pub other : HasNoted second trace n size pair.second

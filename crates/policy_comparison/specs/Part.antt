@@ -1,13 +1,11 @@
 -- Where two policies part: the first access of a trace at which just one of them hits.
 use Rattle.std.specs.Prelude.{◌≡◌, ◌≢◌, ℕ, zero, suc, ◌<◌, Bool, false, Option, Some, None, List, ◌++◌}
-use Rattle.std.specs.Prelude.{codes, slice_index_or, take}
+use Rattle.std.specs.Prelude.{codes, slice_index_or}
 use Rattle.std.specs.Fmt.{decimal}
 pub use Rattle.step_record.specs.declared.job.Job.{Job}
 pub use Rattle.engine_base.specs.declared.outcome.Outcome.{Outcome}
 use Rattle.engine_base.specs.declared.outcome.Outcome.TheVariants.{Kept}
 use Rattle.engine_base.specs.Stats.{is_hit}
-use Rattle.policies.specs.declared.any_policy.AnyPolicy.{AnyPolicy}
-use Rattle.policies.specs.AnyPolicy.{HasAccessed}
 
 -- whether access n, counted from 1, is a hit; there is none at 0 and none past the last
 abbrev pub is_hit_at : List Outcome → ℕ → Bool
@@ -22,11 +20,6 @@ AgreeBelow n first second = (m : ℕ) → m < n → is_hit_at first m ≡ is_hit
 abbrev pub IsPart : List Outcome → List Outcome → Option ℕ → Type 0
 IsPart first second (Some n) = (is_hit_at first n ≢ is_hit_at second n) × AgreeBelow n first second
 IsPart first second None = (n : ℕ) → is_hit_at first n ≡ is_hit_at second n
-
--- the cache runs some job over the trace, and made the accesses before a place
-pub record IsPrepared (trace : List ℕ) (place : ℕ) (d : AnyPolicy) : Type 0 where
-  pub job : Job
-  pub stands : HasAccessed job trace (take place trace) d
 
 -- what is printed of it. (Format of this project.)
 abbrev pub part_line : Option ℕ → List ℕ

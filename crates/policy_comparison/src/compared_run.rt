@@ -1,11 +1,9 @@
 //! How often two policies hit at the same accesses of a trace that comes in pieces.
-ghost use Rattle.std.specs.Prelude.{◌≡◌, ◌≤◌, ◌+◌, ℕ, Bool, List, Ok, IfOk, OnOk, length};
+ghost use Rattle.std.specs.Prelude.{◌≡◌, ◌≤◌, ◌+◌, ℕ, List, Ok, IfOk, OnOk, length};
 ghost use Rattle.engine_base.specs.Config.{config_fault};
 ghost use Rattle.policy_comparison.specs.Comparison.{Job, compared_on};
 ghost use Rattle.policy_comparison.specs.ComparedIntervals.{compared_intervals_on};
-ghost use Rattle.policy_comparison.specs.ComparedRun.{AreBeside, CanCountEach, HasCompared};
-ghost use Rattle.policy_comparison.specs.ComparedRows.{HasCounted};
-ghost use Rattle.policy_comparison.specs.Pair.{AreNoted};
+ghost use Rattle.policy_comparison.specs.ComparedRun.{HasCompared};
 ghost use Rattle.takers.specs.Taking.{AreNext, CanTake, HasTakenAll, RunsOver};
 
 use crate::compared_rows::{ComparedInterval, ComparedRows};
@@ -70,22 +68,12 @@ impl ComparedRun {
             → OnOk result (HasCompared every first second trace (n + length keys.now) self.new) }
     {
         self.pair.advance(rt, keys)?;
-        count_hits(&self.pair, keys.len(), &mut self.counted)
+        for i in 0..keys.len() {
+            let (first, second) = self.pair.hits_at(i);
+            self.counted.count(first, second)?;
+        }
+        Ok(())
     }
-}
-
-// Counts so many accesses of the last piece. The one error is out of memory.
-fn count_hits(pair: &Pair, size: usize, counted: &mut ComparedRows) -> Result<(), AllocError>
-    requires noted { AreNoted size pair.now }
-    requires can { CanCountEach size pair.now counted.old }
-    ensures { (every : ℕ) (hits : List (Bool × Bool)) (n : ℕ) → AreBeside hits n size pair.now
-        → HasCounted every hits n counted.old → OnOk result (HasCounted every hits (n + size) counted.new) }
-{
-    for i in 0..size {
-        let (first, second) = pair.hits_at(i);
-        counted.count(first, second)?;
-    }
-    Ok(())
 }
 
 impl Taker for ComparedRun {

@@ -1,6 +1,5 @@
 //! The first access at which one policy hits and the other does not.
-ghost use Rattle.std.specs.Prelude.{◌≡◌, ◌++◌, Ok, [], ◌∷◌, IfOk, OnOk};
-ghost use Rattle.engine_base.specs.Config.{config_fault};
+ghost use Rattle.std.specs.Prelude.{◌≡◌, ◌++◌, [], ◌∷◌, IfOk, OnOk};
 ghost use Rattle.policies.specs.AnyPolicy.{outcomes_on};
 ghost use Rattle.policies.specs.FaultyJobs.{faulty_in, ReturnsFault};
 ghost use Rattle.policy_comparison.specs.Part.{part_line, IsPart};
@@ -47,7 +46,12 @@ pub fn part_watched<R: Threads + Sync, G: Gate>(
     ensures fault { ReturnsFault (faulty_in (first.now ∷ second.now ∷ [])) result }
 {
     check_jobs(&[*first, *second])?;
-    Ok(find_parting(rt, alloc, trace, first, second, gate)?)
+    let mut run = PartRun::open(alloc, trace, first, second)?;
+    let taken = take_trace(rt, trace, &mut run, gate);
+    let found = run.found();
+    drop(run);
+    taken?;
+    Ok(found)
 }
 
 /// Adds the line of the access that `part` found, or of none. The one error is that an allocation failed.
@@ -58,25 +62,4 @@ pub fn push_part(text: &mut Vec<u8>, found: Option<u64>) -> Result<(), AllocErro
         Some(access) => push_counts_line(text, &[(b"part ", access)]),
         None => text.extend_from_slice(b"part none\n"),
     }
-}
-
-// The same, of jobs that were checked before. The one error is out of memory.
-fn find_parting<R: Threads + Sync, G: Gate>(
-    rt: &R,
-    alloc: Global,
-    trace: &Trace,
-    first: &Job,
-    second: &Job,
-    gate: &G,
-) -> Result<Option<u64>, AllocError>
-    requires first { config_fault first.now.config ≡ Ok tt }
-    requires second { config_fault second.now.config ≡ Ok tt }
-    ensures { IfOk result (IsPart (outcomes_on first.now trace.now) (outcomes_on second.now trace.now)) }
-{
-    let mut run = PartRun::open(alloc, trace, first, second)?;
-    let taken = take_trace(rt, trace, &mut run, gate);
-    let found = run.found();
-    drop(run);
-    taken?;
-    Ok(found)
 }

@@ -1,8 +1,8 @@
 //! Two caches that make the same accesses, side by side.
-ghost use Rattle.std.specs.Prelude.{◌≡◌, ◌+◌, Ok, false, List, ℕ, length, slice_index_or, IfOk, OnOk};
+ghost use Rattle.std.specs.Prelude.{◌≡◌, ◌<◌, Ok, false, List, ℕ, length, slice_index_or, IfOk, OnOk};
 ghost use Rattle.engine_base.specs.Config.{config_fault};
 ghost use Rattle.policies.specs.AnyPolicy.{Job};
-ghost use Rattle.policy_comparison.specs.Pair.{AreNoted, CanMake, HasMade, HasNoted, HasRun, HavePaired};
+ghost use Rattle.policy_comparison.specs.Pair.{CanAdvance, CanMake, HasMade, HasRun, HaveNoted, HavePaired};
 ghost use Rattle.takers.specs.Taking.{AreNext, RunsOver};
 
 use crate::cache_access::hit_at;
@@ -54,18 +54,31 @@ impl Pair {
     /// Makes the accesses to the keys in both caches, side by side where a thread can be made, and notes which of them
     /// hit. The one error is out of memory.
     pub(crate) fn advance<T: Threads>(&mut self, rt: &T, keys: &[Key]) -> Result<(), AllocError>
-        requires first { CanMake keys.now self.old.first.cache }
-        requires second { CanMake keys.now self.old.second.cache }
-        ensures first { OnOk result (HasMade keys.now self.old.first self.new.first) }
-        ensures second { OnOk result (HasMade keys.now self.old.second self.new.second) }
+        requires { CanAdvance keys.now self.old }
+        ensures { (first second : Job) (trace : List ℕ) (n : ℕ) → AreNext trace n keys.now
+            → HavePaired first second trace n self.old
+            → OnOk result (HaveNoted first second trace n (length keys.now) self.new) }
     {
-        make_both(rt, keys, &mut self.first, &mut self.second)
+        let Pair { first, second } = self;
+        let (one, other) = join_mut(
+            rt,
+            &mut || -> Result<(), AllocError>
+                requires { CanMake keys.now first.now.cache }
+                ensures { OnOk result (HasMade keys.entry.now first.entry.now first.exit.now) }
+            { first.make::<First>(keys) },
+            &mut || -> Result<(), AllocError>
+                requires { CanMake keys.now second.now.cache }
+                ensures { OnOk result (HasMade keys.entry.now second.entry.now second.exit.now) }
+            { second.make::<Second>(keys) },
+        );
+        one?;
+        other
     }
 
     /// Whether an access of the last piece, counted from 0, hit in the first cache, and in the second.
     #[inline(always)]
     pub(crate) fn hits_at(&self, i: usize) -> (bool, bool)
-        requires { AreNoted (i + 1) self.now }
+        requires { (i < length self.now.first.hits.items) × (i < length self.now.second.hits.items) }
         ensures { (result.0 ≡ slice_index_or self.now.first.hits.items i false)
             × (result.1 ≡ slice_index_or self.now.second.hits.items i false) }
     {
@@ -93,7 +106,12 @@ impl NotedCache {
         ensures { OnOk result (HasMade keys.now self.old self.new) }
     {
         self.hits.resize(keys.len(), false)?;
-        note_hits::<C>(&mut self.cache, keys, self.hits.as_mut_slice())?;
+        let cache = &mut self.cache;
+        let noted = self.hits.as_mut_slice();
+        for i in 0..keys.len() {
+            let hit = hit_at::<C>(cache, keys, i)?;
+            noted[i] = hit;
+        }
         Ok(())
     }
 }
@@ -102,49 +120,3 @@ impl NotedCache {
 struct First;
 
 struct Second;
-
-// Makes the accesses to the keys in both caches, side by side where a thread can be made. The one error is out of memory.
-fn make_both<T: Threads>(
-    rt: &T,
-    keys: &[Key],
-    first: &mut NotedCache,
-    second: &mut NotedCache,
-) -> Result<(), AllocError>
-    requires first { CanMake keys.now first.old.cache }
-    requires second { CanMake keys.now second.old.cache }
-    ensures first { OnOk result (HasMade keys.now first.old first.new) }
-    ensures second { OnOk result (HasMade keys.now second.old second.new) }
-{
-    let (one, other) = join_mut(
-        rt,
-        &mut || -> Result<(), AllocError>
-            requires { CanMake keys.now first.now.cache }
-            ensures { OnOk result (HasMade keys.entry.now first.entry.now first.exit.now) }
-        { first.make::<First>(keys) },
-        &mut || -> Result<(), AllocError>
-            requires { CanMake keys.now second.now.cache }
-            ensures { OnOk result (HasMade keys.entry.now second.entry.now second.exit.now) }
-        { second.make::<Second>(keys) },
-    );
-    one?;
-    other
-}
-
-// Makes the accesses to the keys, and notes which of them hit. The one error is out of memory.
-fn note_hits<C>(
-    cache: &mut AnyPolicy,
-    keys: &[Key],
-    noted: &mut [bool],
-) -> Result<(), AllocError>
-    requires can { CanMake keys.now cache.old }
-    requires room { length noted.old ≡ length keys.now }
-    ensures noted { (job : Job) (trace : List ℕ) (n : ℕ) → AreNext trace n keys.now → HasRun job trace n cache.old
-        → OnOk result (HasNoted job trace n (length keys.now) cache.new noted.new) }
-    ensures room { length noted.new ≡ length noted.old }
-{
-    for i in 0..keys.len() {
-        let hit = hit_at::<C>(cache, keys, i)?;
-        noted[i] = hit;
-    }
-    Ok(())
-}

@@ -1,9 +1,8 @@
 //! The first access of a trace that comes in pieces at which one policy hits and the other does not.
-ghost use Rattle.std.specs.Prelude.{◌≡◌, ◌<◌, ◌+◌, ℕ, List, Ok, Some, IfOk, IfSome, IfNone, OnOk, length};
+ghost use Rattle.std.specs.Prelude.{◌≡◌, ◌+◌, ℕ, List, Ok, IfOk, OnOk, length};
 ghost use Rattle.engine_base.specs.Config.{config_fault};
-ghost use Rattle.policies.specs.AnyPolicy.{Job, Outcome, outcomes_on};
-ghost use Rattle.policy_comparison.specs.Pair.{AreNoted, HaveNoted};
-ghost use Rattle.policy_comparison.specs.Part.{AgreeBelow, IsPart};
+ghost use Rattle.policies.specs.AnyPolicy.{Job, outcomes_on};
+ghost use Rattle.policy_comparison.specs.Part.{IsPart};
 ghost use Rattle.policy_comparison.specs.PartRun.{HasParted};
 ghost use Rattle.takers.specs.Taking.{AreNext, CanTake, RunsOver};
 
@@ -66,30 +65,16 @@ impl PartRun {
             return Ok(());
         }
         self.pair.advance(rt, keys)?;
-        match parting_in(&self.pair, keys.len()) {
-            Some(i) => self.found = Some(self.place + i as u64 + 1),
-            None => self.place += keys.len() as u64,
+        for i in 0..keys.len() {
+            let (first, second) = self.pair.hits_at(i);
+            if first != second {
+                self.found = Some(self.place + i as u64 + 1);
+                return Ok(());
+            }
         }
+        self.place += keys.len() as u64;
         Ok(())
     }
-}
-
-// The first of so many accesses of the last piece, counted from 0, at which just one of the caches hit.
-fn parting_in(pair: &Pair, size: usize) -> Option<usize>
-    requires { AreNoted size pair.now }
-    ensures below { IfSome result (λ i. i < size) }
-    ensures found { (os ps : List Outcome) (n : ℕ) → HaveNoted os ps n size pair.now → AgreeBelow (n + 1) os ps
-        → IfSome result (λ i. IsPart os ps (Some (n + i + 1))) }
-    ensures none { (os ps : List Outcome) (n : ℕ) → HaveNoted os ps n size pair.now → AgreeBelow (n + 1) os ps
-        → IfNone result (AgreeBelow (n + size + 1) os ps) }
-{
-    for i in 0..size {
-        let (first, second) = pair.hits_at(i);
-        if first != second {
-            return Some(i);
-        }
-    }
-    None
 }
 
 impl Taker for PartRun {

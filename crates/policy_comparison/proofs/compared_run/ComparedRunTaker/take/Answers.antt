@@ -1,5 +1,5 @@
 use Rattle.policy_comparison.specs.ComparedRun.{HasCompared}
-use Rattle.policy_comparison.proofs.Pairs.{two-after, two-held}
+use Rattle.policy_comparison.proofs.Two.{two-after, two-held}
 use Rattle.policy_comparison.proofs.compared_run.ComparedRunTaker.take.Goals as goal
 
 pub returns : goal.returns
@@ -7,6 +7,6 @@ returns g c = λ task trace n next has. two-after task.jobs c.take_all.result _ 
 
 pub take_all-requires : goal.take_all-requires
 take_all-requires g c =
-    let can = c.requires.can in
-    let both = two-held c.requires.task.jobs (λ first second. HasCompared c.requires.task.every first second can.trace can.place c.args.self.now) can.taken in
-    (c.requires.task.every, both.0, both.1, record { trace = can.trace; place = can.place; next = can.next; few = can.few; taken = both.2 })
+    let can = c.requires.next.can in
+    let both = two-held c.requires.next.task.jobs (λ first second. HasCompared c.requires.next.task.every first second can.trace can.place c.args.self.now) can.taken in
+    (c.requires.next.task.every, both.0, both.1, record { trace = can.trace; place = can.place; next = can.next; few = can.few; taken = both.2 })

@@ -1,6 +1,6 @@
 use Rattle.std.proofs.Common.{inl, refl, [], ◌∷◌}
 use Rattle.takers.specs.Taking.{Job, Task}
-use Rattle.policy_comparison.proofs.divergence.find_parting.Goals as goal
+use Rattle.policy_comparison.proofs.divergence.part_watched.Goals as goal
 
 -- of any length of an interval
 abbrev both : Job → Job → Task
@@ -10,7 +10,7 @@ pub take_trace-taken-requires-after_bounds : goal.take_trace-taken-requires-afte
 take_trace-taken-requires-after_bounds g c κs within =
     (both c.args.first.now c.args.second.now, c.in_ok-run.ensures c.args.trace.now (inl refl) (inl refl))
 
-pub returns : goal.returns
-returns g c =
+pub returns-clause-part : goal.returns-clause-part
+returns-clause-part g c =
     c.found-found.ensures c.args.first.now c.args.second.now c.args.trace.now
     (c.in_ok-taken.ensures (both c.args.first.now c.args.second.now) (c.in_ok-run.ensures c.args.trace.now (inl refl) (inl refl)))
