@@ -1,16 +1,19 @@
-use Rattle.std.proofs.Common.{rules, ◌≡◌, ◌≤◌, [], Err, IfOk, IfSome, ℕ, ◌+◌, ◌-◌, ◌*◌, ◌<◌, length, ◌/◌, ◌%◌, Bool, true, false, nat_eq, nat_lt, List, ◌∷◌, ◌++◌, slice_index_or, slice_set, bit_and, bit_or, Fits, w8, w32, w64, Bor, MutBor}
-use Rattle.streams.specs.Tally.{FailsWhere}
+use Rattle.std.proofs.Common.{◌≡◌, [], List, ℕ, arith, length, subst, take_all}
+use Rattle.std.proofs.lemmas.Option.{IfSome_then}
+use Rattle.takers.specs.Taking.{Task}
 use Rattle.trace_footprint.specs.Counter.{HasCounted}
-use Rattle.trace_footprint.specs.Footprint.{footprint_of}
-use Rattle.trace_read.specs.ReadTrace.{IsReadWithin}
 use Rattle.trace_read.specs.TraceText.{keys_in}
-use Rattle.trace_read.specs.declared.limits.TheConstants.{MAX_LONG_ACCESSES, MAX_LONG_TRACE_BYTES}
 use Rattle.long_traces.proofs.footprints.footprint.Goals as goal
 
--- src/footprints.rt:36:19
-pub taken_by-requires-clause-begins : goal.taken_by-requires-clause-begins
-taken_by-requires-clause-begins g c κs within = ?
+-- no jobs
+none : Task
+none = record { jobs = []; every = 1 }
 
--- src/footprints.rt:22:1
+pub taken_by-requires-clause-begins : goal.taken_by-requires-clause-begins
+taken_by-requires-clause-begins g c κs within = (none, λ opened taker made trace over. made)
+
 pub returns-clause-footprint : goal.returns-clause-footprint
-returns-clause-footprint g c = ?
+returns-clause-footprint g c = IfSome_then (g.R.CountedRead.remaining c.args.reader.now) c.in_ok-counted.ensures.taken (λ b has.
+    let all = keys_in c.args.format b in
+    c.footprint-footprint.ensures all
+    (subst (λ (keys : List ℕ). HasCounted keys c.in_ok-counted.counted.counter) (take_all (length all) all (omega arith)) (has none (λ opened taker made trace over. made))))
