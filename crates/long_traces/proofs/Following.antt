@@ -49,3 +49,14 @@ pub over-each : (opened trace : List ℕ) (jobs : List Job) (is_kept : Bool) →
     → All (RunsOver opened trace) jobs
 over-each opened trace jobs is_kept is (inl same) = λ i d lt. inl same
 over-each opened trace jobs is_kept is (inr none) = over-any opened trace jobs (sym is ∙ none)
+
+-- ---- of two jobs
+
+pub both-run : (most : ℕ) (first second : Job) → CanRun most first → CanRun most second → All (CanRun most) (first ∷ second ∷ [])
+both-run most first second one other = All-cons (CanRun most) first (second ∷ []) one (All-cons (CanRun most) second [] other (All-nil (CanRun most)))
+
+pub over-both : (opened trace : List ℕ) (first second : Job) (is_kept : Bool) → is_kept ≡ list_any has_to_know (first ∷ second ∷ []) → (trace ≡ opened) ⊎ (is_kept ≡ false)
+    → RunsOver opened trace first × RunsOver opened trace second
+over-both opened trace first second is_kept is over =
+    let all = over-each opened trace (first ∷ second ∷ []) is_kept is over in
+    (All-head (RunsOver opened trace) first (second ∷ []) all, All-head (RunsOver opened trace) second [] (All-tail (RunsOver opened trace) first (second ∷ []) all))
