@@ -1,15 +1,16 @@
 //! How large a trace is that is read.
-ghost use Rattle.std.specs.Prelude.{◌≡◌, ◌≤◌, Err, IfOk, IfSome};
+ghost use Rattle.std.specs.Prelude.{◌≡◌, ◌≤◌, [], Err, IfOk, IfSome};
 ghost use Rattle.streams.specs.Tally.{FailsWhere};
+ghost use Rattle.trace_footprint.specs.Counter.{HasCounted};
 ghost use Rattle.trace_footprint.specs.Footprint.{footprint_of};
 ghost use Rattle.trace_read.specs.ReadTrace.{IsReadWithin};
 ghost use Rattle.trace_read.specs.TraceText.{keys_in};
 ghost use Rattle.trace_read.specs.declared.limits.TheConstants.{MAX_LONG_ACCESSES, MAX_LONG_TRACE_BYTES};
 
-use crate::feed::read_taken;
+use crate::feed::taken_by;
 use std::alloc::{AllocError, Global};
 use std::thread::Threads;
-use step_record::Key;
+use step_record::{Key, Trace};
 use streams::CountedRead;
 use takers::Taker;
 use trace_footprint::{Footprint, FootprintCounter};
@@ -32,9 +33,21 @@ pub fn footprint<T: Threads + Sync, R: CountedRead>(
     ensures read { IsReadWithin limits format (R.remaining reader.old) (R.remaining reader.new) result }
     ensures tally { FailsWhere (result ≡ Err TraceFault.Read) (R.tally reader.old) (R.tally reader.new) }
 {
-    let counter = FootprintCounter::new(alloc);
-    let mut counted = CountedTrace { counter };
-    read_taken(rt, alloc, reader, format, limits, &mut counted)?;
+    let counted = taken_by(
+        rt,
+        alloc,
+        reader,
+        format,
+        limits,
+        false,
+        |_none: &Trace| -> Result<CountedTrace, AllocError>
+            ensures { IfOk result (λ counted. HasCounted [] counted.counter) }
+        {
+            Ok(CountedTrace {
+                counter: FootprintCounter::new(alloc),
+            })
+        },
+    )?;
     let footprint = counted.counter.footprint();
     drop(counted);
     Ok(footprint)

@@ -10,5 +10,9 @@
 
 mod feed;
 mod footprints;
+mod jobs;
+mod pairs;
 
 pub use footprints::footprint;
+pub use jobs::{intervals, queues_text, reports};
+pub use pairs::{compare, compare_intervals, part};

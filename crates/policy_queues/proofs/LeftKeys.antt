@@ -1,5 +1,7 @@
 -- From which queue a key leaves by an access, and how many keys left each.
-use Rattle.std.proofs.Common.{◌≡◌, ◌∙◌, ℕ, zero, suc, ◌+◌, ◌≤◌, true, Option, Some, List, [], ◌∷◌, ◌++◌, take, get_or, Result, Ok, Err, OnOk, ap, sym, refl, arith}
+use Rattle.std.proofs.Common.{◌≡◌, ◌∙◌, ℕ, zero, suc, ◌+◌, ◌<◌, ◌≤◌, true, Option, Some, List, [], ◌∷◌, ◌++◌, length, take, drop, get_or, Result, Ok, Err, OnOk, ap, sym, refl, arith}
+use Rattle.std.specs.Prelude.{slice_index}
+use Rattle.std.proofs.lemmas.List.{get_or-drop, get_or-take, get_or_default}
 use Rattle.engine_base.specs.Stats.{one_if}
 use Rattle.engine_base.specs.declared.outcome.Outcome.TheVariants.{Kept}
 use Rattle.engine_base.proofs.Counting.{one-few}
@@ -11,6 +13,7 @@ use Rattle.policies.specs.AnyStep.{any_act}
 use Rattle.policies.specs.Theorems.{AnyAnswers}
 use Rattle.policy_comparison.specs.CacheAccess.{StandsAt}
 use Rattle.policy_comparison.proofs.Walked.{outcome-is}
+use Rattle.takers.specs.Taking.{AreNext}
 use Rattle.policy_queues.specs.QueuesAt.{queues_at}
 use Rattle.policy_queues.specs.QueueRows.{is_left_by, left_from}
 use Rattle.policy_queues.specs.LeftKeys.{AreLeft, IsAccessFrom}
@@ -63,3 +66,13 @@ zero-behind (x ∷ l) (suc row) = zero-behind l row
 pub on-success : {T E A : Type 0} (r : Result T E) → A → OnOk r A
 on-success (Ok v) a = a
 on-success (Err e) a = tt
+
+-- ---- the next keys of a trace
+
+-- one of them stands in it
+pub next-key : (trace keys : List ℕ) (n i : ℕ) → AreNext trace n keys → i < length keys → StandsAt trace (n + i) (slice_index keys i)
+next-key trace keys n i next below = record {
+  within = omega (arith, next.within, below);
+  same = λ d. sym (ap (λ (l : List ℕ). slice_index l i) next.piece ∙ get_or-take (length keys) (drop n trace) i 0 below ∙ get_or-drop n trace i 0
+      ∙ get_or_default trace (n + i) 0 d (omega (arith, next.within, below)));
+}

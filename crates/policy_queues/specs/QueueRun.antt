@@ -9,7 +9,10 @@ use Rattle.sweeps.specs.Intervals.{first_intervals}
 pub use Rattle.policy_comparison.specs.CacheAccess.{StandsAt}
 use Rattle.policy_queues.specs.QueueRows.{queue_rows}
 pub use Rattle.policy_queues.specs.LeftKeys.{AreLeft}
+use Rattle.takers.specs.Runs.{HaveRun}
+pub use Rattle.takers.specs.Taking.{Task}
 pub use Rattle.policy_queues.specs.declared.queue_run.QueueRun.{QueueRun}
+pub use Rattle.policy_queues.specs.declared.queue_runs.QueueRuns.{QueueRuns}
 
 -- so many intervals are over: it has their rows, and noted what was counted before the next one
 pub record AreQueueRows (trace : List ℕ) (done : ℕ) (run : QueueRun) : Type 0 where
@@ -53,8 +56,6 @@ pub record EndsQueueRows (trace : List ℕ) (done : ℕ) (run : QueueRun) : Type
   pub rows : AreQueueRows trace done run
   pub ends : EndsInterval run.job trace run.every done run.cut run.left.items run.cache
 
--- it made all accesses of some trace
-pub record HasAllQueueRows (run : QueueRun) : Type 0 where
-  pub every : ℕ
-  pub trace : List ℕ
-  pub has : HasQueueRows every trace (length trace) run
+-- a run of each job made the first n accesses
+abbrev pub HaveQueueRows : Task → List ℕ → ℕ → QueueRuns → Type 0
+HaveQueueRows task trace n all = HaveRun (λ run. run.job) HasQueueRows task trace n all.runs.items

@@ -15,7 +15,7 @@ use step_record::push_name;
 use streams::{push_count, push_counts_line, push_pieces};
 
 /// The header.
-pub fn queues_header(alloc: Global) -> Result<Vec<u8>, AllocError>
+pub(crate) fn queues_header(alloc: Global) -> Result<Vec<u8>, AllocError>
     ensures { IfOk result (λ text. text.items ≡ header_text) }
 {
     Vec::from_slice(

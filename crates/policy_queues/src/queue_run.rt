@@ -6,7 +6,8 @@ ghost use Rattle.policies.specs.AnyPolicy.{HasAccessed, outcomes_on};
 ghost use Rattle.sweeps.specs.Intervals.{interval_at};
 ghost use Rattle.policy_queues.specs.QueueRows.{queue_rows, queue_rows_on};
 ghost use Rattle.policy_queues.specs.QueueRun.{AreQueueRows, CanAccess, EndsInterval, EndsQueueRows};
-ghost use Rattle.policy_queues.specs.QueueRun.{HasAllQueueRows, HasQueueRows, StandsAt};
+ghost use Rattle.policy_queues.specs.QueueRun.{HasQueueRows, StandsAt};
+ghost use Rattle.takers.specs.Taking.{AreNext, CanTake, HasTakenAll, RunsOver};
 
 use crate::left_keys::access_counted;
 use crate::queue_rows::push_queue_rows;
@@ -14,12 +15,12 @@ use policies::AnyPolicy;
 use std::alloc::{AllocError, Global};
 use step_record::{Job, Key, Stats, Trace};
 use sweeps::between;
+use takers::Run;
 
 /// A cache of a job, with the rows of each interval that is over.
 #[derive(Drop)]
-pub struct QueueRun {
-    /// What it runs.
-    pub job: Job,
+pub(crate) struct QueueRun {
+    pub(crate) job: Job,
     alloc: Global,
     cache: AnyPolicy,
     // How many accesses an interval has, and how many were made of the one that is not over.
@@ -31,23 +32,14 @@ pub struct QueueRun {
     rows: Vec<u8>,
 }
 
-impl QueueRun {
-    /// A run of the job over the trace before the first access, with intervals of `every` accesses. The trace is that
-    /// of the accesses only where the policy has to know it. It requires a configuration that `Config::check` accepts.
-    /// The one error is out of memory.
-    pub fn open(
-        alloc: Global,
-        job: &Job,
-        trace: &Trace,
-        every: usize,
-    ) -> Result<QueueRun, AllocError>
-        requires checked { config_fault job.now.config ≡ Ok tt }
-        requires some { 1 ≤ every }
-        ensures job { IfOk result (λ run. run.job ≡ job.now) }
-        ensures stands { IfOk result (λ run. HasAccessed job.now trace.now [] run.cache) }
-        ensures rows { IfOk result (λ run. (other : List ℕ) → HasAccessed job.now other [] run.cache
-            → HasQueueRows every other 0 run) }
-    {
+impl Run for QueueRun {
+    ghost use Rattle.policy_queues.specs.QueueRun.{HasQueueRows};
+
+    ghost job_of = { λ run. run.job };
+
+    ghost has_run = { HasQueueRows };
+
+    fn open(alloc: Global, job: &Job, trace: &Trace, every: usize) -> Result<QueueRun, AllocError> {
         let cache = AnyPolicy::open(alloc, job, trace)?;
         let cut = cache.stats();
         let left = Vec::new(alloc);
@@ -64,25 +56,18 @@ impl QueueRun {
         })
     }
 
-    /// Makes the access to one of the keys, which come next in a trace. The one error is out of memory.
-    pub fn access(&mut self, keys: &[Key], i: usize) -> Result<(), AllocError>
-        requires below { i < length keys.now }
-        requires ready { CanAccess (slice_index keys.now i) self.old }
-        ensures job { self.new.job ≡ self.old.job }
-        ensures rows { (every : ℕ) (trace : List ℕ) (n : ℕ) → StandsAt trace n (slice_index keys.now i)
-            → HasQueueRows every trace n self.old → OnOk result (HasQueueRows every trace (n + 1) self.new) }
-    {
-        access_counted(&mut self.cache, &mut self.left, keys, i)?;
-        self.used += 1;
-        if self.used < self.every {
-            return Ok(());
+    fn make(&mut self, keys: &[Key]) -> Result<(), AllocError> {
+        for i in 0..keys.len() {
+            self.access(keys, i)?;
         }
-        self.end_interval()
+        Ok(())
     }
+}
 
+impl QueueRun {
     /// Adds all rows once all accesses were made. The one error is out of memory.
-    pub fn push_rows(&self, text: &mut Vec<u8>) -> Result<(), AllocError>
-        requires { HasAllQueueRows self.now }
+    pub(crate) fn push_rows(&self, text: &mut Vec<u8>) -> Result<(), AllocError>
+        requires { (every : ℕ) × HasTakenAll (HasQueueRows every) self.now }
         ensures { (every : ℕ) (trace : List ℕ) → HasQueueRows every trace (length trace) self.now
             → OnOk result (text.new.items ≡ text.old.items ++ queue_rows_on every self.now.job trace) }
     {
@@ -98,6 +83,22 @@ impl QueueRun {
             &self.cache,
             text,
         )
+    }
+
+    // Makes the access to one of the keys, which come next in a trace. The one error is out of memory.
+    fn access(&mut self, keys: &[Key], i: usize) -> Result<(), AllocError>
+        requires below { i < length keys.now }
+        requires ready { CanAccess (slice_index keys.now i) self.old }
+        ensures job { self.new.job ≡ self.old.job }
+        ensures rows { (every : ℕ) (trace : List ℕ) (n : ℕ) → StandsAt trace n (slice_index keys.now i)
+            → HasQueueRows every trace n self.old → OnOk result (HasQueueRows every trace (n + 1) self.new) }
+    {
+        access_counted(&mut self.cache, &mut self.left, keys, i)?;
+        self.used += 1;
+        if self.used < self.every {
+            return Ok(());
+        }
+        self.end_interval()
     }
 
     // Ends the interval whose accesses were made. The one error is out of memory.

@@ -1,4 +1,4 @@
-use Rattle.std.proofs.Common.{◌∙◌, ◌++◌, ℕ, List, ap, get_or, arith, refl, sym}
+use Rattle.std.proofs.Common.{◌∙◌, ◌++◌, ℕ, List, ap, get_or, arith, refl}
 use Rattle.policy_queues.specs.QueueRows.{Interval, queue_row}
 use Rattle.policy_queues.specs.QueuesAt.{NamedQueueData}
 use Rattle.policy_queues.proofs.Rows.{rows-next, rows-last}

@@ -19,13 +19,13 @@ returns-then-self-eq0 c = λ every trace has.
 pub push_interval_rows-requires : goal.push_interval_rows-requires
 push_interval_rows-requires c =
     let run = c.args.self.now in
-    let all = c.requires in
+    let (every, all) = c.requires in
     let part : 0 < run.used = omega (arith, c.if-self-eq0.false) in (
       all.trace,
       run.every,
-      all.has.done,
-      slice-ends run.job all.trace run.every all.has.done run.cut run.left.items c.deref.result.now run.cache c.deref.ensures.value
-          (last-ends all.every all.trace run all.has part),
+      all.taken.done,
+      slice-ends run.job all.trace run.every all.taken.done run.cut run.left.items c.deref.result.now run.cache c.deref.ensures.value
+          (last-ends every all.trace run all.taken part),
     )
 
 pub returns : goal.returns

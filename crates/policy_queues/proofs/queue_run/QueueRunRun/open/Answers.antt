@@ -1,13 +1,15 @@
-use Rattle.std.proofs.Common.{◌≡◌, ◌∙◌, ◌*◌, ℕ, ap, sym, refl, arith, get_or, List, take}
+use Rattle.std.proofs.Common.{◌≡◌, ◌∙◌, ◌*◌, ℕ, ap, sym, refl, arith, get_or, List, [], take}
 use Rattle.engine_base.specs.Stats.{stats_of}
 use Rattle.policies.specs.AnyPolicy.{outcomes_on}
 use Rattle.policies.proofs.FirstAccesses.{first-counts}
-use Rattle.policy_queues.proofs.queue_run.QueueRun.open.Goals as goal
+use Rattle.takers.proofs.Next.{over}
+use Rattle.policy_queues.proofs.queue_run.QueueRunRun.open.Goals as goal
 
-pub returns-clause-rows : goal.returns-clause-rows
-returns-clause-rows c = λ other stands.
+pub returns-clause-begun : goal.returns-clause-begun
+returns-clause-begun c = λ other runs.
     let job = c.args.job.now in
     let cache = c.in_ok-cache.cache in
+    let stands = over job c.args.trace.now other [] cache runs c.in_ok-cache.ensures.stands in
     let zero : 0 * c.args.every ≡ 0 = omega arith in
     record {
       size = refl;
