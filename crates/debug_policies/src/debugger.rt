@@ -108,6 +108,7 @@ impl<'a, T: Threads + Sync> TwoPolicies<'a, T> {
 
 impl<'a, T: Threads + Sync> Timeline for TwoPolicies<'a, T> {
     ghost use Rattle.std.specs.Prelude.{ℕ, List};
+    ghost use Rattle.std.specs.Thread.{IsSync};
     ghost use Rattle.step_record.specs.declared.job.Job.{Job};
     ghost use Rattle.debug_policies.specs.TwoPolicies.{policies_timeline, IsPartWalk};
 
@@ -119,7 +120,7 @@ impl<'a, T: Threads + Sync> Timeline for TwoPolicies<'a, T> {
 
     ghost position = { λ w. w.first.at };
 
-    ghost IsUsable = { λ w. IsPartWalk w.first w.second };
+    ghost IsUsable = { λ w. IsPartWalk w.first w.second × IsSync T.row };
 
     fn dialect(&self) -> Dialect {
         Dialect::Policies
