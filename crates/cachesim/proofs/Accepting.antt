@@ -14,15 +14,12 @@ use Rattle.policies.specs.FaultyJobs.{ConfigFault, at_capacity, faulty_from, fau
 use Rattle.policies.specs.declared.actor_fault.ActorFault.TheVariants.{OutOfMemory}
 use Rattle.sweeps.specs.Sweep.{ActorFault, first_config_fault, jobs_over, sweep_fault}
 use Rattle.policy_actors.specs.Following.{CanFollow}
-use Rattle.policy_actors.proofs.Following.{all_follow}
-use Rattle.long_traces.specs.Taking.{FollowsTrace}
-use Rattle.long_traces.proofs.Following.{all-follow}
+use Rattle.long_traces.specs.Feed.{CanRun}
 use Rattle.policy_actors.specs.Faults.{actor_fault}
 use Rattle.sweeps.specs.Intervals.{intervals_fault}
 use Rattle.policies.specs.declared.job_checks.TheConstants.{MAX_ACTORS}
-use Rattle.command_line.specs.Accepted.{AreAcceptedIntervals, AreAcceptedJobs, IsAcceptedJob, IsAcceptedPart, IsAcceptedRun, IsAcceptedSweep, is_clairvoyant, is_clairvoyant_job, is_long, needs_whole_trace}
-use Rattle.command_line.specs.declared.arguments.Arguments.TheVariants.{Intervals, Run, Sweep}
-use Rattle.command_line.specs.declared.arguments.IntervalsArguments.{IntervalsArguments}
+use Rattle.command_line.specs.Accepted.{AreAcceptedJobs, IsAcceptedJob, IsAcceptedPart, IsAcceptedRun, IsAcceptedSweep, is_clairvoyant, is_clairvoyant_job, is_long, jobs_need_whole_trace, needs_whole_trace, pair_needs_whole_trace}
+use Rattle.command_line.specs.declared.arguments.Arguments.TheVariants.{Run, Sweep}
 use Rattle.command_line.specs.declared.arguments.RunArguments.{RunArguments}
 use Rattle.command_line.specs.declared.arguments.SweepArguments.{SweepArguments}
 use Rattle.cachesim.specs.TraceOutput.{PartArguments, JobArguments}
@@ -63,55 +60,64 @@ pub can_count : (asked : JobArguments) (jobs : List Job) → AreAcceptedJobs ask
     → intervals_fault jobs ≡ None
 can_count asked jobs accepted is few = rw (le-leb (length jobs) MAX_ACTORS few, is) (no_fault 0 asked.list accepted.list)
 
--- and each configuration of theirs is accepted
-pub each_checked : (jobs : List Job) → All IsAcceptedJob jobs → All (λ job. config_fault job.config ≡ Ok tt) jobs
-each_checked jobs accepted = λ i d lt. (accepted i d lt).config
-
 -- and those of an accepted `run` can be run, if they are not too many
 pub can_run : (run : RunArguments) (jobs : List Job) → IsAcceptedRun run → jobs ≡ run.jobs.list → length jobs ≤ MAX_ACTORS
     → actor_fault run.batch jobs ≡ None
 can_run run jobs accepted is few =
     rw (in_batch run.batch accepted.some accepted.few) (can_count run.jobs jobs accepted.jobs is few)
 
--- and the two of an accepted `part` have no fault
-pub pair_accepted : (part : PartArguments) → IsAcceptedPart part → faulty_in (part.first ∷ part.second ∷ []) ≡ None
-pair_accepted part accepted = rw (accepted.first.config, accepted.second.config) refl
-
 -- where no fault is due, the one that came is out of memory
 pub memory_alone : {A : Type 0} (due : Option ActorFault) (r : Result A ActorFault) → due ≡ None → ReturnsFault due r → IfErr r (λ f. f ≡ OutOfMemory)
 memory_alone due r none h = subst (λ (d : Option ActorFault). ReturnsFault d r) none h
 
--- where no policy is named that has to know the whole trace, each can be run over a trace that is not kept
+-- a policy that has to know the whole trace is named only where the trace can be kept, so each can be run
 
 neither : (a b : Bool) → (a || b) ≡ false → (a ≡ false) × (b ≡ false)
 neither true b e = absurd (cc e)
 neither false b e = (refl, e)
 
-forgets : (policy : Policy) → is_clairvoyant policy ≡ false → knows_trace policy ≡ false
-forgets Clairvoyant other = absurd (cc other)
-forgets _ other = refl
+forgets : (most : ℕ) (policy : Policy) → is_clairvoyant policy ≡ false → knows_trace policy ≡ true → most ≤ MAX_ACCESSES
+forgets most Clairvoyant other knows = absurd (cc other)
+forgets most _ other knows = absurd (cc knows)
 
-each_follows : (jobs : List Job) → All IsAcceptedJob jobs → list_any is_clairvoyant_job jobs ≡ false → All FollowsTrace jobs
-each_follows [] ok none = All-nil FollowsTrace
-each_follows (job ∷ jobs) ok none =
+each_runs : (most : ℕ) (jobs : List Job) → All IsAcceptedJob jobs → list_any is_clairvoyant_job jobs ≡ false → All (CanRun most) jobs
+each_runs most [] ok none = All-nil (CanRun most)
+each_runs most (job ∷ jobs) ok none =
     let both = neither (is_clairvoyant job.policy) (list_any is_clairvoyant_job jobs) none in
-    All-cons FollowsTrace job jobs ((All-head IsAcceptedJob job jobs ok).config, forgets job.policy both.0) (each_follows jobs (All-tail IsAcceptedJob job jobs ok) both.1)
+    All-cons (CanRun most) job jobs ((All-head IsAcceptedJob job jobs ok).config, forgets most job.policy both.0) (each_runs most jobs (All-tail IsAcceptedJob job jobs ok) both.1)
 
--- the jobs of a `run` that is accepted can be run within its limits
+-- the jobs that are accepted can be run within their limits
+pub can_run_each : (asked : JobArguments) (jobs : List Job) → AreAcceptedJobs asked → jobs_need_whole_trace asked ≡ false → jobs ≡ asked.list
+    → All (CanRun asked.limits.accesses) jobs
+can_run_each asked jobs accepted kept is = subst (All (CanRun asked.limits.accesses)) (sym is) (elim (cases_Bool (is_long asked.limits)) [
+  | inl long ↦
+      let none : list_any is_clairvoyant_job asked.list ≡ false = rw long at kept in
+      each_runs asked.limits.accesses asked.list accepted.list none
+  | inr short ↦ λ i d lt. ((accepted.list i d lt).config, λ knows. ltb-false MAX_ACCESSES asked.limits.accesses short)
+])
+
+-- so those of a `run`
 pub can_follow : (run : RunArguments) (jobs : List Job) → IsAcceptedRun run → needs_whole_trace (Run run) ≡ false
     → jobs ≡ run.jobs.list → All (CanFollow run.jobs.limits.accesses) jobs
-can_follow run jobs accepted kept is = elim (cases_Bool (nat_lt MAX_ACCESSES run.jobs.limits.accesses)) [
+can_follow run jobs accepted kept is = λ i d lt. (can_run_each run.jobs jobs accepted.jobs kept is i d lt).1
+
+-- and the two of a `part` or `compare`
+pub can_run_both : (part : PartArguments) → IsAcceptedPart part → pair_needs_whole_trace part ≡ false
+    → CanRun part.limits.accesses part.first × CanRun part.limits.accesses part.second
+can_run_both part accepted kept = elim (cases_Bool (is_long part.limits)) [
   | inl long ↦
-      let none : list_any is_clairvoyant_job run.jobs.list ≡ false = rw long at kept in
-      subst (All (CanFollow run.jobs.limits.accesses)) (sym is) (all-follow run.jobs.limits.accesses _ (each_follows run.jobs.list accepted.jobs.list none))
-  | inr short ↦ all_follow run.jobs.limits.accesses jobs (ltb-false MAX_ACCESSES run.jobs.limits.accesses short)
+      let none : (is_clairvoyant part.first.policy || is_clairvoyant part.second.policy) ≡ false = rw long at kept in
+      let both = neither (is_clairvoyant part.first.policy) (is_clairvoyant part.second.policy) none in
+      ((accepted.first.config, forgets part.limits.accesses part.first.policy both.0), (accepted.second.config, forgets part.limits.accesses part.second.policy both.1))
+  | inr short ↦
+      let few = ltb-false MAX_ACCESSES part.limits.accesses short in ((accepted.first.config, λ knows. few), (accepted.second.config, λ knows. few))
 ]
 
 -- and no job at all can be run
 pub can_pass : (run : RunArguments) → IsAcceptedRun run → actor_fault run.batch [] ≡ None
 can_pass run accepted = rw (in_batch run.batch accepted.some accepted.few) refl
 
--- ---- over a long trace
+-- ---- at several capacities
 
 -- what holds of a policy at each capacity of a sweep holds of its jobs
 at_capacities : (P : Job → Type 0) (job : Job) (cs : List ℕ) → ((c : ℕ) → is_from_one MAX_CAPACITY c ≡ true → P (at_capacity job c)) → AllPass (is_from_one MAX_CAPACITY) cs
@@ -126,22 +132,15 @@ over_capacities P [] cs each all has = All-nil P
 over_capacities P (job ∷ jobs) cs each all has =
     All-append P _ _ (at_capacities P job cs (λ c fits. each job c fits (All-head P job jobs has)) all) (over_capacities P jobs cs each all (All-tail P job jobs has))
 
--- the jobs of a `sweep` over a long trace can be run while it is read
-pub sweeps_long : (sweep : SweepArguments) (rows : List Job) → IsAcceptedSweep sweep → needs_whole_trace (Sweep sweep) ≡ false → is_long sweep.jobs.limits ≡ true
-    → rows ≡ jobs_over sweep.jobs.list sweep.capacities → All FollowsTrace rows
-sweeps_long sweep rows accepted kept long is =
-    let none : list_any is_clairvoyant_job sweep.jobs.list ≡ false = rw long at kept in
-    subst (All FollowsTrace) (sym is) (over_capacities FollowsTrace _ sweep.capacities (λ job c fits follows. (at_other job.config c follows.0 fits, follows.1)) accepted.capacities
-    (each_follows sweep.jobs.list accepted.jobs.list none))
+-- the jobs of a `sweep` can be run
+pub sweeps_run : (sweep : SweepArguments) (rows : List Job) → IsAcceptedSweep sweep → needs_whole_trace (Sweep sweep) ≡ false
+    → rows ≡ jobs_over sweep.jobs.list sweep.capacities → All (CanRun sweep.jobs.limits.accesses) rows
+sweeps_run sweep rows accepted kept is =
+    let most = sweep.jobs.limits.accesses in
+    subst (All (CanRun most)) (sym is) (over_capacities (CanRun most) _ sweep.capacities (λ job c fits runs. (at_other job.config c runs.0 fits, runs.1)) accepted.capacities
+    (can_run_each sweep.jobs sweep.jobs.list accepted.jobs kept refl))
 
 pub swept_rows : (sweep : SweepArguments) (jobs rows : List Job) (cs : List ℕ) → jobs ≡ sweep.jobs.list → cs ≡ sweep.capacities
     → rows ≡ jobs_over jobs cs → rows ≡ jobs_over sweep.jobs.list sweep.capacities
 swept_rows sweep jobs rows cs are is made =
     made ∙ (ap (λ (js : List Job). jobs_over js cs) are ∙ ap (jobs_over sweep.jobs.list) is)
-
--- so are those of an `intervals`
-pub counts_long : (intervals : IntervalsArguments) (jobs : List Job) → AreAcceptedIntervals intervals → needs_whole_trace (Intervals intervals) ≡ false
-    → is_long intervals.jobs.limits ≡ true → jobs ≡ intervals.jobs.list → All FollowsTrace jobs
-counts_long intervals jobs accepted kept long is =
-    let none : list_any is_clairvoyant_job intervals.jobs.list ≡ false = rw long at kept in
-    subst (All FollowsTrace) (sym is) (each_follows intervals.jobs.list accepted.jobs.list none)

@@ -107,6 +107,7 @@ pub fn command<
         Err(ParseFault::Incomplete) => return report_usage_error(INCOMPLETE, fault_out),
     };
     let done = perform(rt, alloc, &arguments, input, out, files, watch);
+    watch.end();
     drop(arguments);
     match done {
         Ok(None) => DONE,

@@ -22,7 +22,7 @@ use trace_read::read_trace;
 
 /// Reads the trace of the file, and answers the commands of the input about the two policies over
 /// it, each at once.
-pub fn debug<T: Threads, R: CountedRead, W: CountedWrite, F: Files>(
+pub fn debug<T: Threads + Sync, R: CountedRead, W: CountedWrite, F: Files>(
     rt: &T,
     alloc: Global,
     arguments: &DebugArguments,

@@ -52,11 +52,12 @@ pub fn drive<T: Threads + Wait + Sync, R: CountedRead, W: CountedWrite, P: Watch
         (W.contents out.new) (R.tally input.old) (R.tally input.new) (W.tally out.old) (W.tally out.new)
         (out.new ≡ out.old) (W.is_flushed out.new ≡ true) result }
 {
+    watch.begin("drive");
     let trace = read_trace(alloc, input, arguments.format)?;
     let accesses = trace.len() as u64;
     let pieces = deal(alloc, trace, arguments.workers)?;
     let session = open_session(alloc, &arguments.config)?;
-    watch.begin("drive", Some(accesses));
+    watch.count(accesses);
     let run = workers::drive(rt, alloc, session, pieces, watch);
     watch.end();
     let written = write_run(alloc, &run, out);

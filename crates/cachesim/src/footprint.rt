@@ -9,11 +9,13 @@ use crate::fault::Fault;
 use command_line::FootprintArguments;
 use progress::Watch;
 use std::alloc::{AllocError, Global};
+use std::thread::Threads;
 use streams::CountedRead;
 use trace_footprint::Footprint;
 
 /// A header and a row: how many accesses, how many distinct blocks, and how many of these are accessed once.
-pub fn footprint<R: CountedRead, P: Watch>(
+pub fn footprint<T: Threads + Sync, R: CountedRead, P: Watch>(
+    rt: &T,
     alloc: Global,
     arguments: &FootprintArguments,
     input: &mut R,
@@ -22,10 +24,9 @@ pub fn footprint<R: CountedRead, P: Watch>(
     requires { AreLimits arguments.now.limits }
     ensures { IsMade (OfFootprint arguments.now) (R.remaining input.old) (R.tally input.old) (R.tally input.new) result }
 {
-    watch.begin("footprint", None);
-    let found = long_traces::footprint(alloc, input, arguments.format, arguments.limits, watch);
-    watch.end();
-    let text = footprint_text(alloc, found?)?;
+    watch.begin("footprint");
+    let found = long_traces::footprint(rt, alloc, input, arguments.format, arguments.limits)?;
+    let text = footprint_text(alloc, found)?;
     Ok(text.into_bytes())
 }
 

@@ -6,7 +6,7 @@ use crate::call::command;
 use crate::fault::Fault;
 use crate::fault_report::{REFUSED, report_fault, report_usage_error};
 use crate::files::{FileFault, Files, MAX_FILE_BYTES};
-use progress::{ProgressLine, Watch};
+use progress::{ProgressLine, Watch, WatchedInput};
 use std::alloc::{AllocError, Global};
 use std::env::Env;
 use std::io::{ErrorKind, IsTerminal, Read, Write};
@@ -28,7 +28,10 @@ pub fn run_process<
 >(rt: &T, input: R, out: W, fault_out: X) -> u8
     ensures { result ≤ REFUSED }
 {
-    let line = ProgressLine::new(rt, fault_out.is_terminal());
+    let is_shown = fault_out.is_terminal();
+    let size = if is_shown { input_size(rt) } else { None };
+    let line = ProgressLine::new(rt, is_shown, size);
+    let input = WatchedInput { input, line: &line };
     let mut fault_out = CountedWriter::new(fault_out);
     match words(rt) {
         Ok(words) => run_words(
@@ -41,6 +44,16 @@ pub fn run_process<
         ),
         Err(ErrorKind::InvalidData) => report_usage_error(NOT_TEXT, &mut fault_out),
         Err(_) => report_fault(rt.alloc(), Fault::OutOfMemory, &mut fault_out),
+    }
+}
+
+// How many bytes standard input has, where it is a file.
+fn input_size<T: fs::Files>(rt: &T) -> Option<u64> {
+    let found = fs::metadata(rt, "/dev/stdin").ok()?;
+    if found.is_file() {
+        Some(found.len())
+    } else {
+        None
     }
 }
 

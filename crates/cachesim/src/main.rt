@@ -14,12 +14,11 @@ mod fault_report;
 mod files;
 mod footprint;
 mod host;
-mod kept_reports;
 mod limits;
-mod long_reports;
 mod perform;
 mod reports;
 mod sample;
+mod sweep;
 #[cfg(test)]
 mod tests;
 

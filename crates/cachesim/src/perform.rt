@@ -12,8 +12,9 @@ use crate::drive::drive;
 use crate::fault::Fault;
 use crate::files::Files;
 use crate::footprint::footprint;
-use crate::reports::{compare, intervals, part, run, sweep};
+use crate::reports::{compare, intervals, part, run};
 use crate::sample::sample;
+use crate::sweep::sweep;
 use command_line::Arguments;
 use progress::Watch;
 use std::alloc::Global;
@@ -40,17 +41,17 @@ pub fn perform<T: Threads + Wait + Sync, R: CountedRead, W: CountedWrite, F: Fil
     ensures line { IfOk result (λ line. IsToSay arguments.now (R.remaining input.old) (option_map string_bytes line)) }
 {
     match arguments {
-        Arguments::Run(arguments) => write_text(run(rt, alloc, arguments, input, watch), out),
-        Arguments::Sweep(arguments) => write_text(sweep(rt, alloc, arguments, input, watch), out),
+        Arguments::Run(arguments) => write_text(run(rt, alloc, arguments, input, watch), out, watch),
+        Arguments::Sweep(arguments) => write_text(sweep(rt, alloc, arguments, input, watch), out, watch),
         Arguments::Intervals(arguments) => {
-            write_text(intervals(rt, alloc, arguments, input, watch), out)
+            write_text(intervals(rt, alloc, arguments, input, watch), out, watch)
         }
-        Arguments::Part(arguments) => write_text(part(rt, alloc, arguments, input, watch), out),
+        Arguments::Part(arguments) => write_text(part(rt, alloc, arguments, input, watch), out, watch),
         Arguments::Compare(arguments) => {
-            write_text(compare(rt, alloc, arguments, input, watch), out)
+            write_text(compare(rt, alloc, arguments, input, watch), out, watch)
         }
         Arguments::Footprint(arguments) => {
-            write_text(footprint(alloc, arguments, input, watch), out)
+            write_text(footprint(rt, alloc, arguments, input, watch), out, watch)
         }
         Arguments::Sample(arguments) => with_line(sample(alloc, arguments, input, out, watch)),
         Arguments::Drive(arguments) => without_line(drive(rt, alloc, arguments, input, out, watch)),
@@ -81,10 +82,11 @@ fn without_line(done: Result<(), Fault>) -> Result<Option<String>, Fault>
     }
 }
 
-// Writes the text that was made, of which no line is said, or hands on why none was made.
-fn write_text<W: CountedWrite>(
+// Writes the text that was made, of which no line is said, or hands on why none was made. Nothing more is watched.
+fn write_text<W: CountedWrite, P: Watch>(
     text: Result<Vec<u8>, Fault>,
     out: &mut W,
+    watch: &P,
 ) -> Result<Option<String>, Fault>
     requires { ¬ IsOfWrite text }
     ensures text { OnOk result (IsOkAnd text (λ text. Appends (W.contents out.old) (W.contents out.new) text.items)) }
@@ -96,6 +98,7 @@ fn write_text<W: CountedWrite>(
     ensures writes { FailsWhere (IsOfWrite result) (W.tally out.old) (W.tally out.new) }
     ensures flushed { OnOk result (W.is_flushed out.new ≡ true) }
 {
+    watch.end();
     let text = text?;
     match streams::write_all(out, text.as_slice()) {
         Ok(()) => Ok(None),

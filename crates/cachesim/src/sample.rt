@@ -32,7 +32,7 @@ pub fn sample<R: CountedRead, W: CountedWrite, P: Watch>(
         seed,
         format,
     } = *arguments;
-    watch.begin("sample", None);
+    watch.begin("sample");
     let counts = write_sample(
         alloc,
         input,
@@ -41,7 +41,6 @@ pub fn sample<R: CountedRead, W: CountedWrite, P: Watch>(
         out,
         watch,
     );
-    watch.end();
     Ok(sample_line(alloc, inverse, counts?)?)
 }
 

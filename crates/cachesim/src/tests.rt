@@ -26,7 +26,7 @@ const TRACE: FileInMemory<'static> = FileInMemory {
 
 #[test]
 fn debug_of_a_file_in_memory(rt: HostRuntime) -> Result<(), Fail> {
-    let line = ProgressLine::new(&rt, false);
+    let line = ProgressLine::new(&rt, false, None);
     for (path, commands, status, answers, fault) in CALLS {
         let words = [
             "debug",

@@ -17,7 +17,7 @@ pub trait Watch: Gate {
     /// From here on its batches are counted, of which there are so many. It is called once at most.
     fn count(&self, batches: u64);
 
-    /// They are over, or were given up. Nothing of what was shown is left.
+    /// They are over, or were given up. Nothing of what was shown is left. A second call does nothing.
     fn end(&self);
 }
 
@@ -152,7 +152,7 @@ impl<'a, R: Clock + Eprint + Sync> Watch for ProgressLine<'a, R> {
     }
 
     fn end(&self) {
-        if self.due.load(SeqCst) != FIRST {
+        if self.due.swap(FIRST, SeqCst) != FIRST {
             let _ = eprint!(self.rt; "\r{ERASED}");
         }
     }

@@ -1,5 +1,5 @@
 use Rattle.cachesim.proofs.Accepting.{can_sweep, memory_alone}
-use Rattle.cachesim.proofs.kept_reports.sweep.Goals as goal
+use Rattle.cachesim.proofs.sweep.sweep_kept.Goals as goal
 
 pub only_memory-requires : goal.only_memory-requires
 only_memory-requires g c =

@@ -3,13 +3,13 @@ use Rattle.std.proofs.lemmas.Option.{IfSome_then}
 use Rattle.trace_read.specs.TraceText.{keys_in}
 use Rattle.report.specs.Text.{reports_text}
 use Rattle.cachesim.specs.TraceOutput.{Job, AreFew, reports_on}
-use Rattle.cachesim.proofs.Accepting.{swept_rows, sweeps_long}
-use Rattle.cachesim.proofs.long_reports.sweep.Goals as goal
+use Rattle.cachesim.proofs.Accepting.{swept_rows, sweeps_run}
+use Rattle.cachesim.proofs.sweep.sweep_read.Goals as goal
 
-pub reports-reports-requires-clause-follow : goal.reports-reports-requires-clause-follow
-reports-reports-requires-clause-follow g c κs within =
+pub reports-reports-requires-clause-jobs : goal.reports-reports-requires-clause-jobs
+reports-reports-requires-clause-jobs g c κs within =
     let rows = swept_rows c.args.arguments.now _ _ _ c.as_slice-2.ensures c.as_slice-3.ensures (c.as_slice-4.ensures.value ∙ c.in_ok-each.ensures) in
-    sweeps_long c.args.arguments.now c.as_slice-4.result.now c.requires.accepted c.requires.kept c.requires.long rows
+    sweeps_run c.args.arguments.now c.as_slice-4.result.now c.requires.accepted c.requires.kept rows
 
 pub returns : goal.returns
 returns g c =
