@@ -1,8 +1,9 @@
 -- Jobs that can be run while the trace is read.
-use Rattle.std.proofs.Common.{◌≡◌, ◌∙◌, ◌+◌, ℕ, List, [], ◌∷◌, None, sym, refl, false, true≢false}
+use Rattle.std.proofs.Common.{◌≡◌, ◌∙◌, ◌+◌, ℕ, List, [], ◌∷◌, None, inr, sym, refl, false, true≢false}
 use Rattle.std.specs.List.{All}
 use Rattle.std.proofs.lemmas.List.Elements.{All-head, All-tail}
 use Rattle.policies.specs.FaultyJobs.{Job, faulty_from}
+use Rattle.takers.specs.Taking.{RunsOver}
 use Rattle.policy_actors.specs.Following.{CanFollow}
 use Rattle.long_traces.specs.Feed.{FollowsTrace}
 
@@ -12,3 +13,7 @@ none-faulty i (job ∷ jobs) all = rw (All-head FollowsTrace job jobs all).0 (no
 
 pub all-follow : (most : ℕ) (jobs : List Job) → All FollowsTrace jobs → All (CanFollow most) jobs
 all-follow most jobs all = λ i d lt knows. absurd (true≢false (sym knows ∙ (all i d lt).1))
+
+-- caches that were opened over one trace run them over any
+pub run-over : (opened trace : List ℕ) (jobs : List Job) → All FollowsTrace jobs → All (RunsOver opened trace) jobs
+run-over opened trace jobs all = λ i d lt. inr (all i d lt).1

@@ -10,5 +10,7 @@
 
 mod feed;
 mod footprints;
+mod jobs;
 
 pub use footprints::footprint;
+pub use jobs::{intervals, queues_text, reports};

@@ -43,9 +43,9 @@ all_wait g c =
     let next = c.in_ok-next.ensures.next _ _ _ _ _ i.reading in
     more_wait c.args.format _ i.place c.pieces.waiting.items c.next.new.keys.items _ (joined g c) next.gives.next i.wait
 
-pub take-requires : goal.take-requires
-take-requires g c =
-    let here = (goal.at.take-requires g c).After-len in
+pub take-requires-clause-next : goal.take-requires-clause-next
+take-requires-clause-next g c =
+    let here = (goal.at.take-requires-clause-next g c).After-len in
     let i = c.pieces.invariant in
     let next = c.in_ok-next.ensures.next _ _ _ _ _ i.reading in
     let some = c.requires.begun in
@@ -92,8 +92,8 @@ pieces-preserved g c =
       wait = all_wait g here;
     }
 
-pub take-requires-2 : goal.take-requires-2
-take-requires-2 g c =
+pub take-requires-2-clause-next : goal.take-requires-2-clause-next
+take-requires-2-clause-next g c =
     let i = c.pieces.invariant in
     let next = c.in_ok-next.ensures.next _ _ _ _ _ i.reading in
     let some = c.requires.begun in

@@ -5,7 +5,7 @@ use Rattle.long_traces.proofs.footprints.CountedTraceTaker.take.Goals as goal
 
 pub take-requires : goal.take-requires
 take-requires g c =
-    let can = c.requires.can in
+    let can = c.requires.next.can in
     let long : length (take can.place can.trace) ≡ can.place = length-take can.place can.trace ∙ omega (arith, can.next.within) in
     (take can.place can.trace, can.taken, omega (arith, long, can.next.within, can.few))
 
