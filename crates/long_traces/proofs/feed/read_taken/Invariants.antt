@@ -14,7 +14,7 @@ pub record Taking (Given Fed Wait : ℕ → Type 0) : Type 0 where
 abbrev pub invariant-pieces : goal.invariant-pieces
 invariant-pieces g l = Taking
     (λ n. HasGiven l.fn.limits l.fn.format (g.R.CountedRead.remaining l.fn.reader) (g.R.CountedRead.remaining l.reader) (g.R.CountedRead.tally l.fn.reader) (g.R.CountedRead.tally l.reader)
-        (n + length l.waiting.items) l.reading)
+    (n + length l.waiting.items) l.reading)
     (λ n. (task : Task) → HasBegun (g.K.Taker.has_taken task) l.fn.taker → IsFed (g.K.Taker.has_taken task) l.fn.format (g.R.CountedRead.remaining l.fn.reader) n l.taker)
     (λ n. AreWaiting l.fn.format (g.R.CountedRead.remaining l.fn.reader) n l.waiting.items)
 

@@ -43,6 +43,6 @@ returns g c =
     let i = c.loop-number.invariant in
     let trace = c.args.trace.now in
     let all : div_ceil (length trace) AT_A_TIME ≡ c.loop-number.number =
-        omega (arith, c.pieces_of-number-end.ensures, c.loop-number-test.false, c.loop-number.auto.number-end) in
+    omega (arith, c.pieces_of-number-end.ensures, c.loop-number-test.false, c.loop-number.auto.number-end) in
     let done = whole AT_A_TIME trace c.loop-number.number c.loop-number.rest.now i.done i.cut (omega arith) (omega (arith, all)) in
     λ task taken. subst (λ (n : ℕ). g.K.Taker.has_taken task trace n c.loop-number.taker) done (i.taken task taken)
