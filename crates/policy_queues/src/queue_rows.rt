@@ -9,7 +9,7 @@ ghost use Rattle.policy_queues.specs.QueueRows.{queues_header as header_text};
 
 use named_queues::{NamedQueue, QueueKey};
 use policies::Interval;
-use report::rate_text;
+use report::{interval_numbers, rate_text};
 use std::alloc::{AllocError, Global};
 use step_record::push_name;
 use streams::{push_count, push_counts_line, push_pieces};
@@ -72,18 +72,7 @@ fn push_interval(alloc: Global, text: &mut Vec<u8>, interval: &Interval) -> Resu
 {
     let report = &interval.report;
     push_name(text, report.policy, &report.sizes)?;
-    push_numbers(
-        text,
-        &[
-            u64::from(report.capacity),
-            interval.first,
-            interval.last,
-            report.hits,
-            report.misses,
-            report.evictions,
-            report.rejections,
-        ],
-    )?;
+    push_numbers(text, &interval_numbers(interval))?;
     let rate = rate_text(alloc, report.rate())?;
     push_pieces(text, &[b",", rate.as_bytes()])
 }

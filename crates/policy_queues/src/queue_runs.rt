@@ -30,23 +30,10 @@ pub fn queues_text<T: Threads + Sync, G: Gate>(
     ensures { IfOk result (λ text. text.items ≡ text_of every jobs.now trace.now) }
 {
     let mut runs = QueueRuns::open(alloc, trace, jobs, every)?;
-    text_by(rt, alloc, trace, &mut runs, gate)
-}
-
-// The same by runs that made no access yet.
-fn text_by<T: Threads + Sync, G: Gate>(
-    rt: &T,
-    alloc: Global,
-    trace: &Trace,
-    runs: &mut QueueRuns,
-    gate: &G,
-) -> Result<Vec<u8>, AllocError>
-    requires { (task : Task) × HaveQueueRows task trace.now 0 runs.old }
-    ensures { (task : Task) → HaveQueueRows task trace.now 0 runs.old
-        → IfOk result (λ text. text.items ≡ text_of task.every task.jobs trace.now) }
-{
-    take_trace(rt, trace, runs, gate)?;
-    runs.text(alloc)
+    take_trace(rt, trace, &mut runs, gate)?;
+    let text = runs.text(alloc);
+    drop(runs);
+    text
 }
 
 /// A run of each of several jobs, with the rows of each interval and each queue.

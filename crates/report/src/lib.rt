@@ -8,7 +8,7 @@
 mod interval_rows;
 mod rows;
 
-pub use interval_rows::intervals_text;
+pub use interval_rows::{interval_numbers, intervals_text};
 pub use policies::{Interval, Report};
 pub use rows::{rate_text, reports_text, write_reports};
 pub use streams::WriteFault;

@@ -1,7 +1,6 @@
 -- The rows of several jobs, made side by side and then joined.
-use Rattle.std.proofs.Common.{◌≡◌, ◌∙◌, IfOk, MatchResult, Result, Ok, Err, List, [], ◌∷◌, ◌++◌, map, refl, ap, sym, subst}
+use Rattle.std.proofs.Common.{◌≡◌, ◌∙◌, IfOk, MatchResult, Result, Ok, Err, List, [], ◌∷◌, map, refl, ap, sym, subst}
 use Rattle.std.specs.List.{AllZip}
-use Rattle.std.specs.Prelude.{flat_map}
 use denote.Ref.{Bor}
 
 -- what a parallel map of calls that may fail gives, where none failed

@@ -1,10 +1,7 @@
 -- Pieces of a list, cut off one after another.
-use Rattle.std.proofs.Common.{◌≡◌, ◌∙◌, ◌+◌, ◌*◌, ◌<◌, ◌≤◌, ℕ, zero, suc, min, List, [], ◌∷◌, ◌++◌, inl, inr, length, take, drop, refl, ap, sym, arith, take-add, length-drop, length-take-le}
-use Rattle.std.proofs.lemmas.Nat.{mul-le}
+use Rattle.std.proofs.Common.{◌≡◌, ◌∙◌, ◌+◌, ◌*◌, ◌<◌, ◌≤◌, ℕ, zero, suc, List, [], ◌∷◌, ◌++◌, length, take, drop, refl, ap, arith, take-add, length-drop, length-take-le}
 use Rattle.std.specs.Int.{div_ceil}
-use Rattle.std.proofs.lemmas.Bool.{cases_lt}
 use Rattle.std.proofs.lemmas.Grind.{div_ceil_times}
-use Rattle.std.proofs.lemmas.List.{take_all, drop_all, drop-drop}
 use Rattle.engine_base.specs.Stats.{stats_of}
 use Rattle.sweeps.specs.Intervals.{Stats, Outcome, Job, between, interval_at, IsLater}
 use Rattle.sweeps.proofs.Counts.{between-counts, later-counts}

@@ -33,11 +33,6 @@ pub record EndsRow (trace : List ℕ) (run : JobRun) : Type 0 where
   pub begun : rows_in run * run.every < length trace
   pub stands : HasAccessed run.job trace (take ((rows_in run + 1) * run.every) trace) run.cache
 
--- so of some trace
-pub record EndsSomeRow (run : JobRun) : Type 0 where
-  pub trace : List ℕ
-  pub ends : EndsRow trace run
-
 -- a run of each job made the first n accesses
 abbrev pub HaveRunJobs : Task → List ℕ → ℕ → JobRuns → Type 0
 HaveRunJobs task trace n all = HaveRun (λ run. run.job) HasRun task trace n all.runs.items

@@ -2,8 +2,6 @@
 ghost use Rattle.std.specs.Prelude.{◌≡◌, ◌≤◌, None, IfOk, flat_map};
 ghost use Rattle.policies.specs.FaultyJobs.{faulty_in, ReturnsFault};
 ghost use Rattle.sweeps.specs.Intervals.{intervals_fault, intervals_on};
-ghost use Rattle.sweeps.specs.JobRuns.{HaveRunJobs};
-ghost use Rattle.takers.specs.Taking.{Task};
 
 use crate::job_runs::JobRuns;
 use policies::{ActorFault, Interval, MAX_ACTORS, check_jobs};
@@ -53,21 +51,8 @@ fn rows<R: Threads + Sync, G: Gate>(
     ensures { IfOk result (λ rows. rows.items ≡ flat_map (λ j. intervals_on j every trace.now) jobs.now) }
 {
     let mut runs = JobRuns::open(alloc, trace, jobs, every)?;
-    rows_by(rt, alloc, trace, &mut runs, gate)
-}
-
-// The same by runs that made no access yet.
-fn rows_by<R: Threads + Sync, G: Gate>(
-    rt: &R,
-    alloc: Global,
-    trace: &Trace,
-    runs: &mut JobRuns,
-    gate: &G,
-) -> Result<Vec<Interval>, AllocError>
-    requires { (task : Task) × HaveRunJobs task trace.now 0 runs.old }
-    ensures { (task : Task) → HaveRunJobs task trace.now 0 runs.old
-        → IfOk result (λ rows. rows.items ≡ flat_map (λ j. intervals_on j task.every trace.now) task.jobs) }
-{
-    take_trace(rt, trace, runs, gate)?;
-    runs.rows(alloc)
+    take_trace(rt, trace, &mut runs, gate)?;
+    let rows = runs.rows(alloc);
+    drop(runs);
+    rows
 }

@@ -4,7 +4,7 @@ ghost use Rattle.engine_base.specs.Config.{config_fault};
 ghost use Rattle.policies.specs.AnyPolicy.{outcomes_on};
 ghost use Rattle.policies.specs.Reports.{report_on};
 ghost use Rattle.sweeps.specs.Intervals.{between, interval_at, intervals_on, IsLater};
-ghost use Rattle.sweeps.specs.JobRuns.{EndsRow, EndsSomeRow, HasRun, rows_in};
+ghost use Rattle.sweeps.specs.JobRuns.{EndsRow, HasRun, rows_in};
 ghost use Rattle.takers.specs.Taking.{AreNext, CanTake, HasTakenAll, RunsOver};
 
 use policies::{AnyPolicy, Interval, Report, access_all};
@@ -120,7 +120,7 @@ impl JobRun {
 
     // Ends the interval whose accesses were made. The one error is out of memory.
     fn end_row(&mut self) -> Result<(), AllocError>
-        requires { EndsSomeRow self.old }
+        requires { (trace : List ℕ) × EndsRow trace self.old }
         ensures job { self.new.job ≡ self.old.job }
         ensures made { (trace : List ℕ) → EndsRow trace self.old → (rows_in self.old + 1) * self.old.every ≤ length trace
             → OnOk result (HasRun self.old.every trace ((rows_in self.old + 1) * self.old.every) self.new) }
@@ -134,7 +134,7 @@ impl JobRun {
 
     // The row of the interval whose accesses were made: the difference of the counts before and after.
     fn row(&self) -> Interval
-        requires { EndsSomeRow self.now }
+        requires { (trace : List ℕ) × EndsRow trace self.now }
         ensures { (trace : List ℕ) → EndsRow trace self.now
             → result ≡ interval_at self.now.job self.now.every (outcomes_on self.now.job trace) (rows_in self.now) }
     {

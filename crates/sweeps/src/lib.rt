@@ -1,7 +1,8 @@
 //! Jobs over a whole trace, side by side: at several capacities, or by interval. They are made on this thread or by
 //! `rayon`. Reports: `run_one` of one job, `sweep` of a job at several capacities, `sweep_each` of several jobs at the
 //! same capacities. And what jobs make of a trace over time: `intervals` cuts the accesses into intervals of the same
-//! length, of which the last may be shorter, and each job has a row for each of them.
+//! length, of which the last may be shorter, and each job has a row for each of them. `JobRuns` makes these rows and the
+//! reports of a trace whose accesses come in pieces.
 //!
 //! The first three promise the same: with `Ok`, each report is `report_on` of its job and the trace, in the order
 //! asked for. `intervals` promises that each row counts the outcomes that the policy's definition gives at the row's

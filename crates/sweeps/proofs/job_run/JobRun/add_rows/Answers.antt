@@ -15,8 +15,7 @@ pub row-requires : goal.row-requires
 row-requires c =
     let run = c.args.self.now in
     let part : 0 < run.used = omega (arith, c.if-self-eq0.false) in
-    let all = c.requires.1 in
-    record { trace = all.trace; ends = last-ends c.requires.0 all.trace run all.taken part }
+    let (every, all) = c.requires in (all.trace, last-ends every all.trace run all.taken part)
 
 pub returns : goal.returns
 returns c = λ every trace has.

@@ -29,16 +29,15 @@ end_row-requires c =
     let cache = c.access_all.new.cache in
     let k = rows_in run in
     let one : (k + 1) * run.every ≡ k * run.every + run.every = omega arith in
-    let full : n.place + length c.args.piece.now ≡ (k + 1) * run.every = omega (arith, n.taken.place, c.if-self.false, c.requires.within, one) in
-    record {
-      trace = n.trace;
-      ends = record {
+    let full : n.place + length c.args.piece.now ≡ (k + 1) * run.every = omega (arith, n.taken.place, c.if-self.false, c.requires.within, one) in (
+      n.trace,
+      record {
         rows = record { some = n.taken.rows.some; cut = n.taken.rows.cut; rows = n.taken.rows.rows };
         begun = omega (arith, n.next.within, n.taken.place, c.requires.some);
         stands = subst (λ (m : ℕ). HasAccessed run.job n.trace (take m n.trace) cache) full
             (made run.job n.trace c.args.piece.now n.place cache n.next (c.in_ok-access_all.ensures.all run.job n.trace (take n.place n.trace) n.taken.stands));
-      };
-    }
+      },
+    )
 
 pub returns-clause-made : goal.returns-clause-made
 returns-clause-made c = λ every trace n next has.

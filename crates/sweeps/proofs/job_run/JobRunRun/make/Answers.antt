@@ -16,37 +16,27 @@ overflow_sub-room c =
     let has = c.pieces.invariant.2 c.requires.0 n.trace n.place n.next n.taken in
     omega (arith, has.used)
 
-pub make_piece-requires-clause-next : goal.make_piece-requires-clause-next
-make_piece-requires-clause-next c =
-    let n = c.requires.1 in
-    let at = c.pieces.at in (
-      c.requires.0,
-      record {
-        trace = n.trace;
-        place = n.place + at;
-        next = piece-next n.trace c.args.keys.now _ n.place at (at + c.min.result - at) n.next refl (omega (arith, c.min.ensures, c.pieces-test.true));
-        few = n.few;
-        taken = c.pieces.invariant.2 c.requires.0 n.trace n.place n.next n.taken;
-      },
-    )
-
-pub make_piece-requires-clause-some : goal.make_piece-requires-clause-some
-make_piece-requires-clause-some c =
+pub make_piece-requires : goal.make_piece-requires
+make_piece-requires c =
     let n = c.requires.1 in
     let at = c.pieces.at in
     let has = c.pieces.invariant.2 c.requires.0 n.trace n.place n.next n.taken in
     let rest = length-drop at c.args.keys.now in
     let size = length-take (at + c.min.result - at) (drop at c.args.keys.now) in
-    omega (arith, c.min.ensures, c.pieces-test.true, has.used, rest, size)
-
-pub make_piece-requires-clause-within : goal.make_piece-requires-clause-within
-make_piece-requires-clause-within c =
-    let n = c.requires.1 in
-    let at = c.pieces.at in
-    let has = c.pieces.invariant.2 c.requires.0 n.trace n.place n.next n.taken in
-    let rest = length-drop at c.args.keys.now in
-    let size = length-take (at + c.min.result - at) (drop at c.args.keys.now) in
-    omega (arith, c.min.ensures, c.pieces-test.true, has.used, rest, size)
+    record {
+      next = (
+        c.requires.0,
+        record {
+          trace = n.trace;
+          place = n.place + at;
+          next = piece-next n.trace c.args.keys.now _ n.place at (at + c.min.result - at) n.next refl (omega (arith, c.min.ensures, c.pieces-test.true));
+          few = n.few;
+          taken = has;
+        },
+      );
+      some = omega (arith, c.min.ensures, c.pieces-test.true, has.used, rest, size);
+      within = omega (arith, c.min.ensures, c.pieces-test.true, has.used, rest, size);
+    }
 
 pub pieces-smaller : goal.pieces-smaller
 pieces-smaller c =
