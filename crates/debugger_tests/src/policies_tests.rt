@@ -154,6 +154,22 @@ impl Gate for InTurn {
     }
 }
 
+// Three pieces of accesses to key 7 but for the third and the fourth, so the policies part at the fifth.
+fn parting_early(alloc: Global) -> Result<Trace, Fail> {
+    let mut keys = Vec::new(alloc);
+    for i in 0..2 * AT_A_TIME + 1 {
+        keys.push(match i {
+            2 => 2,
+            3 => 3,
+            _ => 7,
+        })?;
+    }
+    match keys.len() <= 200_000 {
+        true => Ok(Trace::new(keys)),
+        false => Err(Fail::from("a longer trace than these tests have")),
+    }
+}
+
 // Over three pieces, of which the last has one access; also where the policies part in the first.
 #[test]
 fn the_gate_is_called_around_each_piece(rt: HostRuntime) -> Result<(), Fail> {
@@ -169,10 +185,8 @@ fn the_gate_is_called_around_each_piece(rt: HostRuntime) -> Result<(), Fail> {
     let rows = compare_intervals(&rt, rt.alloc(), &trace, &lru, &segmented, 50_000, &gate);
     drop(rows.map_err(failed)?);
     assert_equal(&rt, gate.seen(), Some((3, 0 + 1 + 2)));
-    let mut keys = vec![in rt.alloc(); 7; 2 * AT_A_TIME + 1]?;
-    keys.as_mut_slice()[..5].copy_from_slice(&[1, 1, 2, 3, 1]);
+    let trace = parting_early(rt.alloc())?;
     let gate = InTurn::new();
-    let trace = Trace::new(keys);
     let found = part_watched(&rt, rt.alloc(), &trace, &lru, &segmented, &gate).map_err(failed)?;
     assert_equal(&rt, (found, gate.seen()), (Some(5), Some((3, 0 + 1 + 2))));
     Ok(())

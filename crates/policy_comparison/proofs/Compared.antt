@@ -1,8 +1,9 @@
 -- Two policies' hits, access by access.
-use Rattle.std.proofs.Common.{◌≡◌, ◌∙◌, ℕ, zero, suc, ◌+◌, ◌-◌, ◌<◌, ◌≤◌, Bool, true, false, cond, List, [], ◌∷◌, ◌++◌, length, take, get_or, count_by, ap, sym, refl, arith, length-append}
+use Rattle.std.proofs.Common.{◌≡◌, ◌∙◌, ℕ, suc, ◌+◌, ◌<◌, ◌≤◌, Bool, false, cond, List, [], ◌∷◌, ◌++◌, length, take, get_or, map, count_by, ap, ap₂, sym, refl, arith, length-append}
 use Rattle.std.specs.Prelude.{not, ◌&&◌, slice_index_or}
-use Rattle.std.proofs.lemmas.List.{get_or_default, take_more}
-use Rattle.std.proofs.lemmas.List.Sums.{sum_by-append}
+use Rattle.std.proofs.lemmas.List.{get_or-map, get_or_default, length-map, take_more}
+use Rattle.std.proofs.lemmas.Slice.Zip.{get_or-zip, length-zip}
+use Rattle.std.proofs.lemmas.List.Sums.{count_by-le-length, sum_by-append}
 use Rattle.engine_base.specs.declared.outcome.Outcome.TheVariants.{Kept}
 use Rattle.engine_base.specs.Stats.{is_hit, one_if}
 use Rattle.policies.specs.AnyPolicy.{Outcome, Job, outcomes_on}
@@ -15,20 +16,16 @@ use Rattle.policy_comparison.specs.Part.{is_hit_at}
 
 hits-at : (os ps : List Outcome) (i : ℕ) → i < length os → i < length ps
     → get_or (hits_beside os ps) i (false, false) ≡ (is_hit (slice_index_or os i Kept), is_hit (slice_index_or ps i Kept))
-hits-at [] ps i lt below = absurd (omega (arith, lt))
-hits-at (o ∷ os) [] i lt below = absurd (omega (arith, below))
-hits-at (o ∷ os) (p ∷ ps) zero lt below = refl
-hits-at (o ∷ os) (p ∷ ps) (suc i) lt below = hits-at os ps i (omega (arith, lt)) (omega (arith, below))
+hits-at os ps i lt below =
+    get_or-zip (map is_hit os) (map is_hit ps) i (false, false) (omega (arith, lt, length-map os is_hit)) (omega (arith, below, length-map ps is_hit))
+    ∙ ap₂ (λ (a b : Bool). (a, b)) (get_or-map is_hit os i Kept false lt) (get_or-map is_hit ps i Kept false below)
 
 -- two jobs have as many hits side by side as there are accesses
-hits-long : (os ps : List Outcome) (n : ℕ) → length os ≡ n → length ps ≡ n → length (hits_beside os ps) ≡ n
-hits-long [] ps n long wide = long
-hits-long (o ∷ os) [] n long wide = absurd (omega (arith, long, wide))
-hits-long (o ∷ os) (p ∷ ps) n long wide =
-    let rest = hits-long os ps (n - 1) (omega (arith, long)) (omega (arith, wide)) in omega (arith, long, rest)
-
 pub beside-long : (j k : Job) (trace : List ℕ) → length (hits_beside (outcomes_on j trace) (outcomes_on k trace)) ≡ length trace
-beside-long j k trace = hits-long (outcomes_on j trace) (outcomes_on k trace) (length trace) (any_covers_trace j trace) (any_covers_trace k trace)
+beside-long j k trace =
+    let os = outcomes_on j trace in
+    let ps = outcomes_on k trace in
+    omega (arith, length-zip (map is_hit os) (map is_hit ps), length-map os is_hit, length-map ps is_hit, any_covers_trace j trace, any_covers_trace k trace)
 
 -- whether two caches hit at an access is what stands at its place
 pub beside-at : (j k : Job) (trace : List ℕ) (i : ℕ) (a b : Bool) → i < length trace
@@ -71,21 +68,11 @@ counts-more hits n hit c next is =
 
 -- ---- how large the counts are
 
-few : (b : Bool) → cond b 1 0 ≤ 1
-few true = omega arith
-few false = omega arith
-
-count-few : (p : Bool × Bool → Bool) (hits : List (Bool × Bool)) → count_by p hits ≤ length hits
-count-few p [] = omega arith
-count-few p (h ∷ hits) =
-    let next : count_by p (h ∷ hits) ≡ 0 + cond (p h) 1 0 + count_by p hits = sum_by-append (λ x. cond (p x) 1 0) (h ∷ []) hits in
-    omega (arith, next, few (p h), count-few p hits)
-
 pub counts-few : (hits : List (Bool × Bool)) (most : ℕ) → length hits ≤ most → IsUpTo most (counts_of hits)
 counts-few hits most long = record {
   accesses = long;
-  both = omega (arith, long, count-few (λ h. h.0 && h.1) hits);
-  first_only = omega (arith, long, count-few (λ h. h.0 && not h.1) hits);
-  second_only = omega (arith, long, count-few (λ h. not h.0 && h.1) hits);
-  neither = omega (arith, long, count-few (λ h. not h.0 && not h.1) hits);
+  both = omega (arith, long, count_by-le-length (λ h. h.0 && h.1) hits);
+  first_only = omega (arith, long, count_by-le-length (λ h. h.0 && not h.1) hits);
+  second_only = omega (arith, long, count_by-le-length (λ h. not h.0 && h.1) hits);
+  neither = omega (arith, long, count_by-le-length (λ h. not h.0 && not h.1) hits);
 }

@@ -1,12 +1,10 @@
 -- Hits cut into intervals, and what two counts say of the piece between them.
-use Rattle.std.proofs.Common.{◌≡◌, ◌∙◌, ◌+◌, ◌-◌, ◌*◌, ◌<◌, ◌≤◌, ℕ, zero, suc, Bool, cond, List, [], ◌∷◌, ◌++◌, inl, inr, length, take, drop, count_by, refl, ap, sym, arith, take-add, length-append, length-drop, length-take-le}
+use Rattle.std.proofs.Common.{◌≡◌, ◌∙◌, ◌+◌, ◌-◌, ◌*◌, ◌<◌, ◌≤◌, ℕ, zero, suc, Bool, cond, List, [], ◌∷◌, ◌++◌, length, take, drop, count_by, refl, ap, sym, arith, take-add, length-append, length-drop, length-take, length-take-le}
 use Rattle.std.specs.Int.{div_ceil}
 use Rattle.std.specs.Prelude.{not, ◌&&◌}
-use Rattle.std.proofs.lemmas.Bool.{cases_lt}
 use Rattle.std.proofs.lemmas.Grind.{div_ceil_times}
 use Rattle.std.proofs.lemmas.List.{take_all}
 use Rattle.std.proofs.lemmas.List.Sums.{sum_by-append, sum_by_push}
-use Rattle.std.proofs.lemmas.Nat.{mul-le}
 use Rattle.policies.specs.AnyPolicy.{Job, outcomes_on}
 use Rattle.policy_comparison.specs.Comparison.{Comparison, compared_on, counts_of, hits_beside}
 use Rattle.policy_comparison.specs.ComparedRows.{ComparedRows, EndsRow, rows_in}
@@ -22,44 +20,6 @@ piece-more : (every n : ℕ) (hits : List Hit) → take ((n + 1) * every) hits �
 piece-more every n hits =
     let e : (n + 1) * every ≡ n * every + every = omega arith in
     ap (λ m. take m hits) e ∙ take-add (n * every) every hits
-
--- ---- how many pieces cover a list
-
-next-times : (k every : ℕ) → (k + 1) * every ≡ k * every + every
-next-times k every = omega arith
-
--- n intervals cover more than k of them do
-more-than : (k n every : ℕ) → k * every < n * every → k < n
-more-than k n every less =
-    elim (cases_lt k n) [
-      | inl below ↦ below
-      | inr past ↦ (let back = mul-le n every k every (omega (arith, past)) (omega arith) in absurd (omega (arith, back, less)))
-    ]
-
--- whole intervals and a piece of the next one
-pub covers-part : (k every used long : ℕ) → 1 ≤ every → 0 < used → used ≤ every → long ≡ k * every + used → div_ceil long every ≡ k + 1
-covers-part k every used long some part few is =
-    let cover = div_ceil_times long every some in
-    let low = cover.0 in
-    let high = cover.1 in
-    let one = next-times k every in
-    let two = next-times (k + 1) every in
-    let above : k < div_ceil long every = more-than k (div_ceil long every) every (omega (arith, is, low, part)) in
-    let below : div_ceil long every < k + 1 + 1 = more-than (div_ceil long every) (k + 1 + 1) every (omega (arith, is, high, few, one, two)) in
-    omega (arith, above, below)
-
--- whole intervals alone
-pub covers-whole : (k every long : ℕ) → 1 ≤ every → long ≡ k * every + 0 → div_ceil long every ≡ k
-covers-whole zero every long some is =
-    let high = (div_ceil_times long every some).1 in
-    let none : 0 * every ≡ 0 = omega arith in
-    let one : 1 * every ≡ every = omega arith in
-    let below : div_ceil long every < 1 = more-than (div_ceil long every) 1 every (omega (arith, is, high, none, one)) in
-    omega (arith, below)
-covers-whole (suc k) every long some is =
-    let next : suc k * every ≡ k * every + every = omega arith in
-    let same : k + 1 ≡ suc k = omega arith in
-    covers-part k every every long some some (omega arith) (omega (arith, is, next)) ∙ same
 
 -- ---- counts of a list and of a longer one
 
@@ -92,11 +52,6 @@ later-counts xs ys some = record {
   neither = omega (arith, counted (λ h. not h.0 && not h.1) xs ys);
 }
 
-some-taken : (n : ℕ) (hits : List Hit) → 1 ≤ n → 0 < length hits → 0 < length (take n hits)
-some-taken zero hits some full = absurd (omega (arith, some))
-some-taken (suc n) [] some full = absurd (omega (arith, full))
-some-taken (suc n) (h ∷ hits) some full = omega arith
-
 -- what two counts say of the piece between them
 module _ (every : ℕ) (hits : List Hit) (n : ℕ) (c : ComparedRows) (ends : EndsRow every hits n c) where
   begun : rows_in c * every < length hits
@@ -121,7 +76,7 @@ module _ (every : ℕ) (hits : List Hit) (n : ℕ) (c : ComparedRows) (ends : En
   pub row-later : IsLater c.cut c.counts
   row-later =
       rw (ends.cut.cut, next) (later-counts (take (rows_in c * every) hits) (take every (drop (rows_in c * every) hits))
-      (some-taken every (drop (rows_in c * every) hits) ends.cut.some (omega (arith, begun, length-drop (rows_in c * every) hits))))
+      (omega (arith, begun, ends.cut.some, length-take every (drop (rows_in c * every) hits), length-drop (rows_in c * every) hits)))
 
 -- one row more
 pub rows-more : (every : ℕ) (hits : List Hit) (rows new : List ComparedInterval) (row : ComparedInterval)

@@ -1,7 +1,8 @@
 -- Two caches side by side, access by access.
-use Rattle.std.proofs.Common.{◌≡◌, ◌≢◌, ℕ, zero, suc, ◌+◌, ◌<◌, ◌≤◌, Bool, true, false, true≢false, inl, inr, Some, None, List, [], ◌∷◌, ◌++◌, length, take, drop, get_or, set, get_or-set_same, get_or-set_other, ap, ◌∙◌, sym, refl, arith, subst, append-nil}
+use Rattle.std.proofs.Common.{◌≡◌, ◌≢◌, ℕ, zero, suc, ◌+◌, ◌<◌, ◌≤◌, Bool, false, inl, inr, Some, None, List, [], ◌∷◌, ◌++◌, length, take, drop, get_or, set, get_or-set_same, get_or-set_other, ap, ◌∙◌, sym, refl, arith, subst, append-nil}
 use Rattle.std.specs.Prelude.{slice_index, slice_index_or}
-use Rattle.std.proofs.lemmas.Bool.{cases_lt}
+use Rattle.std.specs.Cmp.{booleans_Decides}
+use Rattle.std.proofs.lemmas.Bool.{cases_lt, not-false}
 use Rattle.std.proofs.lemmas.List.{get_or-drop, get_or-take, get_or_default, get_or_past, length-take-le}
 use mathlib.Core.Bool.{not, beq}
 use Rattle.engine_base.specs.declared.limits.TheConstants.{MAX_STEPS}
@@ -24,9 +25,6 @@ next-of trace i lt = next-ahead trace [] trace [] i lt (sym (append-nil trace))
 
 pub stands-in : (trace : List ℕ) (n key : ℕ) → n < length trace → key ≡ slice_index trace n → StandsAt trace n key
 stands-in trace n key lt is = record { within = lt; same = λ d. get_or_default trace n d 0 lt ∙ sym is }
-
-pub next-key : (trace keys : List ℕ) (i : ℕ) → keys ≡ trace → i < length trace → StandsAt trace i (slice_index keys i)
-next-key trace keys i same lt = stands-in trace i (slice_index keys i) lt (ap (λ (l : List ℕ). slice_index l i) same)
 
 -- one of the keys that come next in a trace stands in it
 pub key-at : (trace keys : List ℕ) (n i : ℕ) → AreNext trace n keys → i < length keys → StandsAt trace (n + i) (slice_index keys i)
@@ -68,16 +66,7 @@ module _ (trace : List ℕ) (n key : ℕ) (next : StandsAt trace n key) where
 -- ---- the accesses at which both hit or neither does
 
 pub agrees : (a b : Bool) → not (beq a b) ≡ false → a ≡ b
-agrees true true h = refl
-agrees true false h = absurd (true≢false h)
-agrees false true h = absurd (true≢false h)
-agrees false false h = refl
-
-pub differs : (a b : Bool) → not (beq a b) ≡ true → a ≡ b → ⊥
-differs true true h same = absurd (true≢false (sym h))
-differs false false h same = absurd (true≢false (sym h))
-differs true false h same = absurd (true≢false same)
-differs false true h same = absurd (true≢false (sym same))
+agrees a b h = (booleans_Decides a b).0 (not-false (beq a b) h)
 
 -- flags say which of so many accesses behind the first n hit
 abbrev pub IsNoted : List Bool → List Outcome → ℕ → ℕ → Type 0

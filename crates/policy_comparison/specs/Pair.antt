@@ -2,7 +2,7 @@
 use Rattle.std.specs.Prelude.{◌≡◌, ℕ, ◌+◌, ◌<◌, ◌≤◌, false, List, [], ◌∷◌, length, slice_index_or, take}
 use Rattle.policies.specs.declared.any_policy.AnyPolicy.{AnyPolicy}
 use Rattle.policies.specs.AnyPolicy.{Job, HasAccessed, outcomes_on}
-use Rattle.takers.specs.Taking.{AreNext, CanTake}
+use Rattle.takers.specs.Taking.{AreNext}
 use Rattle.policy_comparison.specs.declared.pair.NotedCache.{NotedCache}
 pub use Rattle.policy_comparison.specs.declared.pair.Pair.{Pair}
 use Rattle.policy_comparison.specs.Part.{is_hit_at}
@@ -17,11 +17,6 @@ AreTwo jobs P = ⊥
 -- the cache of a job made the first n accesses
 abbrev pub HasRun : Job → List ℕ → ℕ → AnyPolicy → Type 0
 HasRun job trace n cache = HasAccessed job trace (take n trace) cache
-
--- that of some job made the accesses before those to the keys
-pub record CanMake (keys : List ℕ) (cache : AnyPolicy) : Type 0 where
-  pub job : Job
-  pub can : CanTake (HasRun job) keys cache
 
 -- the cache of a job made so many accesses behind the first n, and the flags say which of them hit
 pub record HasNoted (job : Job) (trace : List ℕ) (n size : ℕ) (noted : NotedCache) : Type 0 where
@@ -40,12 +35,6 @@ pub record HasMade (keys : List ℕ) (old new : NotedCache) : Type 0 where
 pub record HavePaired (first second : Job) (trace : List ℕ) (n : ℕ) (pair : Pair) : Type 0 where
   pub one : HasRun first trace n pair.first.cache
   pub other : HasRun second trace n pair.second.cache
-
--- those of some jobs made the accesses before those to the keys
-pub record CanAdvance (keys : List ℕ) (pair : Pair) : Type 0 where
-  pub first : Job
-  pub second : Job
-  pub can : CanTake (HavePaired first second) keys pair
 
 -- those of two jobs made so many accesses behind the first n, and their flags say which of them hit
 pub record HaveNoted (first second : Job) (trace : List ℕ) (n size : ℕ) (pair : Pair) : Type 0 where

@@ -2,8 +2,8 @@
 ghost use Rattle.std.specs.Prelude.{◌≡◌, ◌<◌, Ok, false, List, ℕ, length, slice_index_or, IfOk, OnOk};
 ghost use Rattle.engine_base.specs.Config.{config_fault};
 ghost use Rattle.policies.specs.AnyPolicy.{Job};
-ghost use Rattle.policy_comparison.specs.Pair.{CanAdvance, CanMake, HasMade, HasRun, HaveNoted, HavePaired};
-ghost use Rattle.takers.specs.Taking.{AreNext, RunsOver};
+ghost use Rattle.policy_comparison.specs.Pair.{HasMade, HasRun, HaveNoted, HavePaired};
+ghost use Rattle.takers.specs.Taking.{AreNext, CanTake, RunsOver};
 
 use crate::cache_access::hit_at;
 use policies::AnyPolicy;
@@ -54,7 +54,7 @@ impl Pair {
     /// Makes the accesses to the keys in both caches, side by side where a thread can be made, and notes which of them
     /// hit. The one error is out of memory.
     pub(crate) fn advance<T: Threads>(&mut self, rt: &T, keys: &[Key]) -> Result<(), AllocError>
-        requires { CanAdvance keys.now self.old }
+        requires { (first second : Job) × CanTake (HavePaired first second) keys.now self.old }
         ensures { (first second : Job) (trace : List ℕ) (n : ℕ) → AreNext trace n keys.now
             → HavePaired first second trace n self.old
             → OnOk result (HaveNoted first second trace n (length keys.now) self.new) }
@@ -63,11 +63,11 @@ impl Pair {
         let (one, other) = join_mut(
             rt,
             &mut || -> Result<(), AllocError>
-                requires { CanMake keys.now first.now.cache }
+                requires { (job : Job) × CanTake (HasRun job) keys.now first.now.cache }
                 ensures { OnOk result (HasMade keys.entry.now first.entry.now first.exit.now) }
             { first.make::<First>(keys) },
             &mut || -> Result<(), AllocError>
-                requires { CanMake keys.now second.now.cache }
+                requires { (job : Job) × CanTake (HasRun job) keys.now second.now.cache }
                 ensures { OnOk result (HasMade keys.entry.now second.entry.now second.exit.now) }
             { second.make::<Second>(keys) },
         );
@@ -102,7 +102,7 @@ impl NotedCache {
 
     // Makes the accesses to the keys, and notes which of them hit. The one error is out of memory.
     fn make<C>(&mut self, keys: &[Key]) -> Result<(), AllocError>
-        requires { CanMake keys.now self.old.cache }
+        requires { (job : Job) × CanTake (HasRun job) keys.now self.old.cache }
         ensures { OnOk result (HasMade keys.now self.old self.new) }
     {
         self.hits.resize(keys.len(), false)?;

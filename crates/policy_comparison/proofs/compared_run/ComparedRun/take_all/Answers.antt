@@ -13,7 +13,7 @@ use Rattle.policy_comparison.proofs.compared_run.ComparedRun.take_all.Goals as g
 pub advance-requires : goal.advance-requires
 advance-requires g c =
     let n = c.requires in
-    record { first = n.1; second = n.2; can = record { trace = n.3.trace; place = n.3.place; next = n.3.next; few = n.3.few; taken = n.3.taken.pair } }
+    (n.1, n.2, record { trace = n.3.trace; place = n.3.place; next = n.3.next; few = n.3.few; taken = n.3.taken.pair })
 
 pub loop-i-init : goal.loop-i-init
 loop-i-init g c = λ every first second trace n next has.

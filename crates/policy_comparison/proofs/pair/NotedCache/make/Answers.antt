@@ -9,15 +9,14 @@ use Rattle.policy_comparison.proofs.pair.NotedCache.make.Goals as goal
 
 pub hit_at-requires-clause-ready : goal.hit_at-requires-clause-ready
 hit_at-requires-clause-ready g c =
-    let some = c.requires in
-    let can = some.can in
+    let can = c.requires.1 in
     record {
-      job = some.job;
+      job = c.requires.0;
       trace = can.trace;
       place = can.place + c.loop-i.i;
       next = key-at can.trace c.args.keys.now can.place c.loop-i.i can.next c.loop-i-test.true;
       few = can.few;
-      stands = (c.loop-i.invariant.1 some.job can.trace can.place can.next can.taken).0;
+      stands = (c.loop-i.invariant.1 c.requires.0 can.trace can.place can.next can.taken).0;
     }
 
 pub loop-i-preserved : goal.loop-i-preserved

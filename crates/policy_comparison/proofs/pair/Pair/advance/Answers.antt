@@ -6,10 +6,9 @@ use Rattle.policy_comparison.proofs.pair.Pair.advance.Goals as goal
 
 pub join_mut-one-requires-after_bounds : goal.join_mut-one-requires-after_bounds
 join_mut-one-requires-after_bounds g c κs within =
-    let some = c.requires in
-    let can = some.can in (
-      record { job = some.first; can = record { trace = can.trace; place = can.place; next = can.next; few = can.few; taken = can.taken.one } },
-      record { job = some.second; can = record { trace = can.trace; place = can.place; next = can.next; few = can.few; taken = can.taken.other } },
+    let n = c.requires in (
+      (n.0, record { trace = n.2.trace; place = n.2.place; next = n.2.next; few = n.2.few; taken = n.2.taken.one }),
+      (n.1, record { trace = n.2.trace; place = n.2.place; next = n.2.next; few = n.2.few; taken = n.2.taken.other }),
     )
 
 pub returns : goal.returns

@@ -16,7 +16,8 @@ pub advance-requires : goal.advance-requires
 advance-requires g c =
     let n = c.requires in
     let none : c.args.self.now.found ≡ None = search rules in
-    record { first = n.0; second = n.1; can = record { trace = n.2.trace; place = n.2.place; next = n.2.next; few = n.2.few; taken = (before n.0 n.1 n.2.trace n.2.place c.args.self.now none n.2.taken).1 } }
+    let at = before n.0 n.1 n.2.trace n.2.place c.args.self.now none n.2.taken in
+    (n.0, n.1, record { trace = n.2.trace; place = n.2.place; next = n.2.next; few = n.2.few; taken = at.1 })
 
 pub loop-i-init : goal.loop-i-init
 loop-i-init g c =
