@@ -41,12 +41,24 @@ pub fn perform<T: Threads + Wait + Sync, R: CountedRead, W: CountedWrite, F: Fil
     ensures line { IfOk result (λ line. IsToSay arguments.now (R.remaining input.old) (option_map string_bytes line)) }
 {
     match arguments {
-        Arguments::Run(arguments) => write_text(run(rt, alloc, arguments, input, watch), out, watch),
-        Arguments::Sweep(arguments) => write_text(sweep(rt, alloc, arguments, input, watch), out, watch),
+        Arguments::Run(arguments) => write_text(
+            run(rt, alloc, arguments, input, watch),
+            out,
+            watch,
+        ),
+        Arguments::Sweep(arguments) => write_text(
+            sweep(rt, alloc, arguments, input, watch),
+            out,
+            watch,
+        ),
         Arguments::Intervals(arguments) => {
             write_text(intervals(rt, alloc, arguments, input, watch), out, watch)
         }
-        Arguments::Part(arguments) => write_text(part(rt, alloc, arguments, input, watch), out, watch),
+        Arguments::Part(arguments) => write_text(
+            part(rt, alloc, arguments, input, watch),
+            out,
+            watch,
+        ),
         Arguments::Compare(arguments) => {
             write_text(compare(rt, alloc, arguments, input, watch), out, watch)
         }

@@ -17,9 +17,11 @@ taken_by-requires-clause-begins g c κs within = (
 
 pub text-text-requires : goal.text-text-requires
 text-text-requires g c =
-    let task : Task = record { jobs = c.args.jobs.now; every = c.args.every } in
-    (task, c.in_ok-runs.ensures.some task (λ opened taker made trace over.
-    made trace (over-each opened.now trace c.args.jobs.now _ c.some_know_trace-is_kept.ensures over)))
+    let task : Task = record { jobs = c.args.jobs.now; every = c.args.every } in (
+      task,
+      c.in_ok-runs.ensures.some task (λ opened taker made trace over.
+          made trace (over-each opened.now trace c.args.jobs.now _ c.some_know_trace-is_kept.ensures over)),
+    )
 
 pub returns-clause-text : goal.returns-clause-text
 returns-clause-text g c = IfSome_then (g.R.CountedRead.remaining c.args.reader.now) c.in_ok-runs.ensures.taken (λ b has.

@@ -13,8 +13,11 @@ taken_by-requires-clause-kept g c κs within = λ some.
     can-keep c.args.limits.accesses (c.args.first.now ∷ c.args.second.now ∷ []) (both-run c.args.limits.accesses c.args.first.now c.args.second.now c.requires.first c.requires.second) (sym c.some_know_trace-is_kept.ensures ∙ some)
 
 pub taken_by-requires-clause-begins : goal.taken_by-requires-clause-begins
-taken_by-requires-clause-begins g c κs within = (both c.args.first.now c.args.second.now c.args.every, λ opened taker made trace over.
-    let each = over-both opened.now trace c.args.first.now c.args.second.now _ c.some_know_trace-is_kept.ensures over in made trace each.0 each.1)
+taken_by-requires-clause-begins g c κs within = (
+  both c.args.first.now c.args.second.now c.args.every,
+  λ opened taker made trace over.
+      let each = over-both opened.now trace c.args.first.now c.args.second.now _ c.some_know_trace-is_kept.ensures over in made trace each.0 each.1,
+)
 
 pub returns-clause-some : goal.returns-clause-some
 returns-clause-some g c = IfOk-weaker c.taken_by.result _ _ (λ run all.

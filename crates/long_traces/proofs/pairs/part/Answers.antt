@@ -14,8 +14,11 @@ taken_by-requires-clause-kept g c κs within = λ some.
     can-keep c.args.limits.accesses (c.args.first.now ∷ c.args.second.now ∷ []) (both-run c.args.limits.accesses c.args.first.now c.args.second.now c.requires.first c.requires.second) (sym c.some_know_trace-is_kept.ensures ∙ some)
 
 pub taken_by-requires-clause-begins : goal.taken_by-requires-clause-begins
-taken_by-requires-clause-begins g c κs within = (both c.args.first.now c.args.second.now, λ opened taker made trace over.
-    let each = over-both opened.now trace c.args.first.now c.args.second.now _ c.some_know_trace-is_kept.ensures over in made trace each.0 each.1)
+taken_by-requires-clause-begins g c κs within = (
+  both c.args.first.now c.args.second.now,
+  λ opened taker made trace over.
+      let each = over-both opened.now trace c.args.first.now c.args.second.now _ c.some_know_trace-is_kept.ensures over in made trace each.0 each.1,
+)
 
 pub returns-clause-part : goal.returns-clause-part
 returns-clause-part g c = IfSome_then (g.R.CountedRead.remaining c.args.reader.now) c.in_ok-run.ensures.taken (λ b has.
