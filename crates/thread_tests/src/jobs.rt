@@ -1,10 +1,16 @@
 //! The jobs of the tests, and the reports that they are to give.
+ghost use Rattle.std.specs.Prelude.{◌≡◌, ℕ, IfOk, false};
+ghost use Rattle.policies.specs.Design.{knows_trace};
+ghost use Rattle.long_traces.specs.Feed.{CanRun};
+
 use super::sessions::SMALL;
 use policies::{ActorFault, Report};
 use std::test::Fail;
 use step_record::{Config, Job, Policy, Sizes, Spread, Tuning};
 
-pub(crate) fn job(policy: Policy, capacity: u32) -> Job {
+pub(crate) fn job(policy: Policy, capacity: u32) -> Job
+    ensures { result.policy ≡ policy }
+{
     let config = Config {
         capacity,
         spread: Spread::Plain,
@@ -15,6 +21,18 @@ pub(crate) fn job(policy: Policy, capacity: u32) -> Job {
         sizes: Sizes::NONE,
         config,
         tuning: Tuning::PUBLISHED,
+    }
+}
+
+// A job that can be run over any trace.
+pub(crate) fn online_job(policy: Policy, capacity: u32) -> Result<Job, Fail>
+    requires { knows_trace policy ≡ false }
+    ensures { (most : ℕ) → IfOk result (CanRun most) }
+{
+    let job = job(policy, capacity);
+    match job.config.check() {
+        Ok(()) => Ok(job),
+        Err(_) => Err(Fail::from("refused")),
     }
 }
 

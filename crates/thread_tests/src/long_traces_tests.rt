@@ -1,61 +1,19 @@
 //! Jobs over a trace that is read and not kept, whose answers were worked out by hand.
-ghost use Rattle.std.specs.Prelude.{◌≡◌, ◌≤◌, IfOk, false};
+ghost use Rattle.std.specs.Prelude.{◌≤◌};
 ghost use Rattle.trace_read.specs.declared.limits.TheConstants.{MAX_LONG_ACCESSES, MAX_LONG_TRACE_BYTES};
-ghost use Rattle.policies.specs.Design.{knows_trace};
-ghost use Rattle.long_traces.specs.Taking.{FollowsTrace};
 
 use super::assertions::assert_equal;
+use super::jobs::{counted, online_job};
 use super::pieces::Pieces;
 use long_traces::{compare, compare_intervals, intervals, part, reports};
-use policies::Report;
 use std::alloc::Global;
 use std::process::Abort;
 use std::sync::Wait;
 use std::test::Fail;
 use std::thread::Threads;
-use step_record::{Config, Job, OpenGate, Policy, Sizes, Spread, Tuning};
+use step_record::{OpenGate, Policy};
 use streams::CountedReader;
 use trace_read::{Format, Limits, TraceFault};
-
-const AT_TWO: Config = Config {
-    capacity: 2,
-    main_percent: 99,
-    spread: Spread::Plain,
-    stripes: 1,
-    journal_limit: 1,
-};
-
-// A job of the policy at two entries.
-fn job(policy: Policy) -> Result<Job, Fail>
-    requires { knows_trace policy ≡ false }
-    ensures { IfOk result FollowsTrace }
-{
-    let job = Job {
-        policy,
-        sizes: Sizes::NONE,
-        config: AT_TWO,
-        tuning: Tuning::PUBLISHED,
-    };
-    match job.config.check() {
-        Ok(()) => Ok(job),
-        Err(_) => Err(Fail::from("refused")),
-    }
-}
-
-// A report at two entries with these accesses, hits, misses, evictions and rejections.
-fn counted(policy: Policy, counts: [u64; 5]) -> Report {
-    let [accesses, hits, misses, evictions, rejections] = counts;
-    Report {
-        policy,
-        sizes: Sizes::NONE,
-        capacity: 2,
-        accesses,
-        hits,
-        misses,
-        evictions,
-        rejections,
-    }
-}
 
 // A text in pieces of a size, of which so many accesses are read at most; a read may fail after it.
 #[derive(Clone, Copy)]
@@ -102,7 +60,10 @@ fn assert_reports<R: Threads + Wait + Sync + Abort>(
     text: Text,
     wanted: Result<&Answers, TraceFault>,
 ) -> Result<(), Fail> {
-    let jobs = [job(Policy::Lru)?, job(Policy::SegmentedLru)?];
+    let jobs = [
+        online_job(Policy::Lru, 2)?,
+        online_job(Policy::SegmentedLru, 2)?,
+    ];
     let mut reader = text.reader();
     let read = reports(
         rt,
@@ -116,8 +77,8 @@ fn assert_reports<R: Threads + Wait + Sync + Abort>(
     match (read, wanted) {
         (Ok(found), Ok(answers)) => {
             let [lru, segmented] = answers.reports;
-            let lru = counted(Policy::Lru, lru);
-            let segmented = counted(Policy::SegmentedLru, segmented);
+            let lru = counted(Policy::Lru, 2, lru);
+            let segmented = counted(Policy::SegmentedLru, 2, segmented);
             assert_equal(rt, found.as_slice(), &[lru, segmented]);
         }
         (found, wanted) => assert_equal(rt, found.err(), wanted.err()),
@@ -125,51 +86,57 @@ fn assert_reports<R: Threads + Wait + Sync + Abort>(
     Ok(())
 }
 
-fn assert_part(
-    rt: &impl Abort,
+fn assert_part<R: Threads + Sync + Abort>(
+    rt: &R,
     alloc: Global,
     text: Text,
     wanted: Result<&Answers, TraceFault>,
 ) -> Result<(), Fail> {
-    let (first, second) = (job(Policy::Lru)?, job(Policy::SegmentedLru)?);
+    let (first, second) = (
+        online_job(Policy::Lru, 2)?,
+        online_job(Policy::SegmentedLru, 2)?,
+    );
     let mut reader = text.reader();
     let found = part(
+        rt,
         alloc,
         &mut reader,
         text.format,
         text.limits(),
         &first,
         &second,
-        &OpenGate,
     );
     assert_equal(rt, found, wanted.map(|answers| answers.part));
     Ok(())
 }
 
-fn assert_counts(
-    rt: &impl Abort,
+fn assert_counts<R: Threads + Sync + Abort>(
+    rt: &R,
     alloc: Global,
     text: Text,
     wanted: Result<&Answers, TraceFault>,
 ) -> Result<(), Fail> {
-    let (first, second) = (job(Policy::Lru)?, job(Policy::SegmentedLru)?);
+    let (first, second) = (
+        online_job(Policy::Lru, 2)?,
+        online_job(Policy::SegmentedLru, 2)?,
+    );
     let mut reader = text.reader();
     let found = compare(
+        rt,
         alloc,
         &mut reader,
         text.format,
         text.limits(),
         &first,
         &second,
-        &OpenGate,
     );
     let found = found.map(|c| [c.both, c.first_only, c.second_only, c.neither]);
     assert_equal(rt, found, wanted.map(|answers| answers.counts));
     Ok(())
 }
 
-fn assert_intervals(
-    rt: &impl Abort,
+fn assert_intervals<R: Threads + Sync + Abort>(
+    rt: &R,
     alloc: Global,
     text: Text,
     every: usize,
@@ -177,16 +144,19 @@ fn assert_intervals(
 ) -> Result<(), Fail>
     requires { 1 ≤ every }
 {
-    let jobs = [job(Policy::Lru)?, job(Policy::SegmentedLru)?];
+    let jobs = [
+        online_job(Policy::Lru, 2)?,
+        online_job(Policy::SegmentedLru, 2)?,
+    ];
     let mut reader = text.reader();
     let read = intervals(
+        rt,
         alloc,
         &mut reader,
         text.format,
         text.limits(),
         &jobs,
         every,
-        &OpenGate,
     );
     match (read, wanted) {
         (Ok(found), Ok(answers)) => {
@@ -200,8 +170,8 @@ fn assert_intervals(
     Ok(())
 }
 
-fn assert_rows(
-    rt: &impl Abort,
+fn assert_rows<R: Threads + Sync + Abort>(
+    rt: &R,
     alloc: Global,
     text: Text,
     every: usize,
@@ -209,9 +179,13 @@ fn assert_rows(
 ) -> Result<(), Fail>
     requires { 1 ≤ every }
 {
-    let (first, second) = (job(Policy::Lru)?, job(Policy::SegmentedLru)?);
+    let (first, second) = (
+        online_job(Policy::Lru, 2)?,
+        online_job(Policy::SegmentedLru, 2)?,
+    );
     let mut reader = text.reader();
     let read = compare_intervals(
+        rt,
         alloc,
         &mut reader,
         text.format,
@@ -219,7 +193,6 @@ fn assert_rows(
         &first,
         &second,
         every,
-        &OpenGate,
     );
     match (read, wanted) {
         (Ok(found), Ok(answers)) => {

@@ -1,39 +1,11 @@
 //! The rows of intervals with a policy's queues, over a trace that is kept and one that is read, worked out by hand.
-ghost use Rattle.std.specs.Prelude.{◌≡◌, false, IfOk};
-ghost use Rattle.long_traces.specs.Taking.{FollowsTrace};
-ghost use Rattle.policies.specs.Design.{knows_trace};
-
 use super::assertions::assert_equal;
+use super::jobs::online_job;
 use super::pieces::Pieces;
 use std::test::Fail;
-use step_record::{Config, Job, OpenGate, Policy, Sizes, Spread, Trace, Tuning};
+use step_record::{OpenGate, Policy, Trace};
 use streams::CountedReader;
 use trace_read::{Format, Limits};
-
-const AT_THREE: Config = Config {
-    capacity: 3,
-    main_percent: 99,
-    spread: Spread::Plain,
-    stripes: 1,
-    journal_limit: 1,
-};
-
-// A job of the policy at three entries.
-fn job(policy: Policy) -> Result<Job, Fail>
-    requires { knows_trace policy ≡ false }
-    ensures { IfOk result FollowsTrace }
-{
-    let job = Job {
-        policy,
-        sizes: Sizes::NONE,
-        config: AT_THREE,
-        tuning: Tuning::PUBLISHED,
-    };
-    match job.config.check() {
-        Ok(()) => Ok(job),
-        Err(_) => Err(Fail::from("refused")),
-    }
-}
 
 // After 1, 2, 3, 1 the hand of SIEVE is at the oldest key, 1, whose bit is set. At 4 it clears that bit, passes 1 and
 // evicts 2, which stood ahead of it.
@@ -49,8 +21,8 @@ sieve,3,5,5,0,1,1,0,0.00,ahead,2,0,1
 fn the_queues_over_a_trace_that_is_kept(rt: HostRuntime) -> Result<(), Fail> {
     let alloc = rt.alloc();
     let trace = Trace::new(vec![in alloc; 1, 2, 3, 1, 4]?);
-    let jobs = [job(Policy::Sieve)?];
-    let text = policy_queues::queues_text(alloc, &trace, &jobs, 4, &OpenGate)?;
+    let jobs = [online_job(Policy::Sieve, 3)?];
+    let text = policy_queues::queues_text(&rt, alloc, &trace, &jobs, 4, &OpenGate)?;
     assert_equal(&rt, text.as_slice(), ROWS);
     Ok(())
 }
@@ -59,17 +31,9 @@ fn the_queues_over_a_trace_that_is_kept(rt: HostRuntime) -> Result<(), Fail> {
 fn the_queues_over_a_trace_that_is_read(rt: HostRuntime) -> Result<(), Fail> {
     let alloc = rt.alloc();
     let mut reader = CountedReader::new(Pieces::of("1\n2\n3\n1\n4\n", 3));
-    let jobs = [job(Policy::Sieve)?];
+    let jobs = [online_job(Policy::Sieve, 3)?];
     let limits = Limits::LONG;
-    let read = long_traces::queues_text(
-        alloc,
-        &mut reader,
-        Format::Lirs,
-        limits,
-        &jobs,
-        4,
-        &OpenGate,
-    );
+    let read = long_traces::queues_text(&rt, alloc, &mut reader, Format::Lirs, limits, &jobs, 4);
     match read {
         Ok(text) => assert_equal(&rt, text.as_slice(), ROWS),
         Err(_) => return Err(Fail::from("out of memory")),

@@ -168,15 +168,15 @@ fn intervals_of_two_policies(rt: HostRuntime) -> Result<(), Fail> {
     assert_intervals(&rt, rows)
 }
 
-// Two intervals of each of two jobs, each of three batches.
+// The accesses are made in five pieces, of which the last has two.
 #[test]
-fn intervals_show_their_batches(rt: HostRuntime) -> Result<(), Fail> {
+fn intervals_show_their_pieces(rt: HostRuntime) -> Result<(), Fail> {
     let trace = Trace::new(vec![in rt.alloc(); 1; 262_146]?);
     let jobs = [job(Policy::Lru, 7), job(Policy::Clairvoyant, 7)];
-    let gate = AllAlike::new(rt.alloc(), 3)?;
+    let gate = AllAlike::new(rt.alloc(), 5)?;
     let rows = intervals(&rt, rt.alloc(), &trace, &jobs, 131_073, &gate);
     drop(rows.map_err(failed)?);
-    assert!(rt; gate.is_over(4));
+    assert!(rt; gate.is_over(1));
     Ok(())
 }
 
@@ -185,14 +185,12 @@ fn intervals_show_their_batches(rt: HostRuntime) -> Result<(), Fail> {
 fn jobs_are_held_side_by_side(rt: HostRuntime) -> Result<(), Fail> {
     let trace = Trace::new(vec![in rt.alloc(); 1, 1, 2, 3, 1]?);
     let jobs = [job(Policy::SegmentedLru, 2), job(Policy::Clairvoyant, 2)];
-    let (swept, cut) = (Hold::new(2, 1), Hold::new(2, 1));
+    let swept = Hold::new(2, 1);
     let reports = sweep_each(&rt, rt.alloc(), &trace, &jobs, &[2], &swept);
     drop(reports.map_err(failed)?);
-    let rows = intervals(&rt, rt.alloc(), &trace, &jobs, 5, &cut);
-    drop(rows.map_err(failed)?);
-    if swept.is_late() || cut.is_late() {
+    if swept.is_late() {
         return Err(Fail::from("workers one after the other, or out of memory for a thread"));
     }
-    assert_equal(&rt, (swept.over(), cut.over()), (2, 2));
+    assert_equal(&rt, swept.over(), 2);
     Ok(())
 }
