@@ -14,7 +14,7 @@ use std::test::Fail;
 use std::thread::Threads;
 use step_record::{Config, Gate, Job, Key, OpenGate, Policy, Sizes, Spread, Trace, Tuning};
 use streams::{CountedReader, CountedWriter};
-use takers::AT_A_TIME;
+use sweeps::AT_A_TIME;
 
 const fn at_two(policy: Policy) -> Job {
     of_capacity(2, policy)

@@ -12,7 +12,7 @@ use Rattle.trace_read.specs.ReadTrace.{IsReadWithin, IsWhollyRead}
 use Rattle.trace_read.specs.declared.fault.TraceFault.{TraceFault}
 use Rattle.trace_read.specs.declared.fault.TraceFault.TheVariants.{Read}
 use Rattle.trace_read.specs.declared.limits.Limits.{Limits}
-use Rattle.takers.specs.Taking.{AreNext, CanTake, HasTakenAll}
+use Rattle.sweeps.specs.Taking.{AreNext, CanTake, HasTakenAll}
 use Rattle.long_traces.specs.Feed.{Format, HasBegun, IsFed, keys_in}
 
 -- keys behind the beginning of a trace, with which it goes on

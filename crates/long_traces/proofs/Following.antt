@@ -7,7 +7,7 @@ use Rattle.engine_base.specs.declared.limits.TheConstants.{MAX_ACCESSES}
 use Rattle.policies.specs.Design.{knows_trace}
 use Rattle.policies.specs.FaultyJobs.{faulty_from}
 use Rattle.policy_actors.specs.Following.{CanFollow}
-use Rattle.takers.specs.Taking.{Job, RunsOver}
+use Rattle.sweeps.specs.Taking.{Job, RunsOver}
 use Rattle.long_traces.specs.Feed.{CanRun, has_to_know}
 
 pub none-faulty : (most i : ℕ) (jobs : List Job) → All (CanRun most) jobs → faulty_from i jobs ≡ None

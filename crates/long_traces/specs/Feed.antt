@@ -4,7 +4,7 @@ use Rattle.std.specs.Borrow.{Bor}
 use Rattle.engine_base.specs.Config.{config_fault}
 use Rattle.policies.specs.Design.{knows_trace}
 use Rattle.policy_actors.specs.Following.{CanFollow}
-use Rattle.takers.specs.Taking.{Job}
+use Rattle.sweeps.specs.Taking.{Job}
 pub use Rattle.trace_read.specs.declared.format.Format.{Format}
 pub use Rattle.trace_read.specs.TraceText.{keys_in}
 

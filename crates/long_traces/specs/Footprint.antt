@@ -1,7 +1,7 @@
 -- What a counter has of a trace whose accesses come in pieces.
 use Rattle.std.specs.Prelude.{ℕ, List, take}
 use Rattle.trace_footprint.specs.Counter.{HasCounted}
-use Rattle.takers.specs.Taking.{Task}
+use Rattle.sweeps.specs.Taking.{Task}
 use Rattle.long_traces.specs.declared.footprints.CountedTrace.{CountedTrace}
 
 -- it has counted the first n accesses, whatever for

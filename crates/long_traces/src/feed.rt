@@ -2,7 +2,7 @@
 ghost use Rattle.std.specs.Prelude.{◌≡◌, ◌≤◌, ◌⊎◌, ℕ, List, Err, Ok, IfOk, IfSome, OnOk, false, length, true};
 ghost use Rattle.engine_base.specs.declared.limits.TheConstants.{MAX_ACCESSES, MAX_STEPS};
 ghost use Rattle.streams.specs.Tally.{FailsWhere};
-ghost use Rattle.takers.specs.Taking.{HasTakenAll, Task};
+ghost use Rattle.sweeps.specs.Taking.{HasTakenAll, Task};
 ghost use Rattle.trace_read.specs.ReadTrace.{IsReadWithin};
 ghost use Rattle.trace_read.specs.TraceText.{keys_in};
 ghost use Rattle.trace_read.specs.declared.limits.TheConstants.{MAX_LONG_TRACE_BYTES};
@@ -12,7 +12,7 @@ use std::alloc::{AllocError, Global};
 use std::thread::Threads;
 use step_record::{OpenGate, Trace};
 use streams::CountedRead;
-use takers::{AT_A_TIME, Taker, take_trace};
+use sweeps::{AT_A_TIME, Taker, take_trace};
 use trace_read::{Format, Limits, Reading, TraceFault, read_trace_within};
 
 /// What has taken all accesses of the trace that the reader gives, a file of this format within these limits. It is

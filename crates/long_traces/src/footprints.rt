@@ -12,7 +12,7 @@ use std::alloc::{AllocError, Global};
 use std::thread::Threads;
 use step_record::{Key, Trace};
 use streams::CountedRead;
-use takers::Taker;
+use sweeps::Taker;
 use trace_footprint::{Footprint, FootprintCounter};
 use trace_read::{Format, Limits, TraceFault};
 

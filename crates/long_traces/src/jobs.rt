@@ -8,7 +8,7 @@ ghost use Rattle.policy_queues.specs.QueueRun.{HaveQueueRows};
 ghost use Rattle.streams.specs.Tally.{FailsWhere};
 ghost use Rattle.sweeps.specs.Intervals.{intervals_on};
 ghost use Rattle.sweeps.specs.JobRuns.{HaveRunJobs};
-ghost use Rattle.takers.specs.Taking.{HasTakenAll, RunsOver};
+ghost use Rattle.sweeps.specs.Taking.{HasTakenAll, RunsOver};
 ghost use Rattle.trace_read.specs.ReadTrace.{IsReadWithin};
 ghost use Rattle.trace_read.specs.TraceText.{keys_in};
 ghost use Rattle.trace_read.specs.declared.limits.TheConstants.{MAX_LONG_ACCESSES, MAX_LONG_TRACE_BYTES};

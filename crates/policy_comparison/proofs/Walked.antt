@@ -14,7 +14,7 @@ use Rattle.policies.specs.Theorems.{AnyStepLaw, AnyAccepts, AnyAnswers}
 use Rattle.policies.proofs.Stretches.{next-ahead, added-next}
 use Rattle.policy_comparison.specs.CacheAccess.{AnyPolicy, StandsAt}
 use Rattle.policy_comparison.specs.Part.{is_hit_at, AgreeBelow}
-use Rattle.takers.specs.Taking.{AreNext}
+use Rattle.sweeps.specs.Taking.{AreNext}
 
 -- ---- one access of one cache
 

@@ -4,7 +4,7 @@ use Rattle.policies.specs.AnyPolicy.{Job, outcomes_on}
 use Rattle.policy_comparison.specs.ComparedRows.{HasCounted}
 use Rattle.policy_comparison.specs.Comparison.{hits_beside}
 use Rattle.policy_comparison.specs.Pair.{AreTwo, HavePaired}
-use Rattle.takers.specs.Taking.{Task}
+use Rattle.sweeps.specs.Taking.{Task}
 pub use Rattle.policy_comparison.specs.declared.compared_run.ComparedRun.{ComparedRun}
 
 -- the caches made the first n accesses, of which it counted how many hit

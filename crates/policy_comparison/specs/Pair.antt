@@ -2,7 +2,7 @@
 use Rattle.std.specs.Prelude.{◌≡◌, ℕ, ◌+◌, ◌<◌, ◌≤◌, false, List, [], ◌∷◌, length, slice_index_or, take}
 use Rattle.policies.specs.declared.any_policy.AnyPolicy.{AnyPolicy}
 use Rattle.policies.specs.AnyPolicy.{Job, HasAccessed, outcomes_on}
-use Rattle.takers.specs.Taking.{AreNext}
+use Rattle.sweeps.specs.Taking.{AreNext}
 use Rattle.policy_comparison.specs.declared.pair.NotedCache.{NotedCache}
 pub use Rattle.policy_comparison.specs.declared.pair.Pair.{Pair}
 use Rattle.policy_comparison.specs.Part.{is_hit_at}

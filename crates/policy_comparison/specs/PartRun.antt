@@ -3,7 +3,7 @@ use Rattle.std.specs.Prelude.{◌≡◌, ◌≤◌, ℕ, ◌+◌, IfNone, IfSome
 use Rattle.policies.specs.AnyPolicy.{Job, outcomes_on}
 use Rattle.policy_comparison.specs.Pair.{AreTwo, HavePaired}
 use Rattle.policy_comparison.specs.Part.{AgreeBelow, IsPart}
-use Rattle.takers.specs.Taking.{Task}
+use Rattle.sweeps.specs.Taking.{Task}
 pub use Rattle.policy_comparison.specs.declared.part_run.PartRun.{PartRun}
 
 -- it is among the first n accesses, or the caches made them and agree at all of them

@@ -12,7 +12,7 @@ use policies::{ActorFault, check_jobs};
 use std::alloc::{AllocError, Global};
 use std::thread::Threads;
 use step_record::{Gate, Job, Trace};
-use takers::take_trace;
+use sweeps::take_trace;
 
 /// At how many accesses of the trace the policies of both jobs hit, only that of the first, only that of the second,
 /// and neither. The two caches make the accesses side by side where a thread can be made. The gate is called as by

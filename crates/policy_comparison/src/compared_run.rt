@@ -4,7 +4,7 @@ ghost use Rattle.engine_base.specs.Config.{config_fault};
 ghost use Rattle.policy_comparison.specs.Comparison.{Job, compared_on};
 ghost use Rattle.policy_comparison.specs.ComparedIntervals.{compared_intervals_on};
 ghost use Rattle.policy_comparison.specs.ComparedRun.{HasCompared};
-ghost use Rattle.takers.specs.Taking.{AreNext, CanTake, HasTakenAll, RunsOver};
+ghost use Rattle.sweeps.specs.Taking.{AreNext, CanTake, HasTakenAll, RunsOver};
 
 use crate::compared_rows::{ComparedInterval, ComparedRows};
 use crate::comparison::Comparison;
@@ -12,7 +12,7 @@ use crate::pair::Pair;
 use std::alloc::{AllocError, Global};
 use std::thread::Threads;
 use step_record::{Job, Key, Trace};
-use takers::Taker;
+use sweeps::Taker;
 
 /// Two caches, with what is counted of their accesses.
 #[derive(Drop)]

@@ -10,7 +10,7 @@ use std::alloc::{AllocError, Global};
 use std::thread::Threads;
 use step_record::{Gate, Job, OpenGate, Trace};
 use streams::push_counts_line;
-use takers::take_trace;
+use sweeps::take_trace;
 
 /// The first access of the trace, counted from 1, at which the policy of one job hits and that of the other does not;
 /// `None` where there is no such access. The two caches make the accesses side by side where a thread can be made.
@@ -30,7 +30,7 @@ pub fn part<R: Threads + Sync>(
     part_watched(rt, alloc, trace, first, second, &OpenGate)
 }
 
-/// The same, where the gate is called around each `takers::AT_A_TIME` accesses of the trace, as number 0, 1 and so on
+/// The same, where the gate is called around each `sweeps::AT_A_TIME` accesses of the trace, as number 0, 1 and so on
 /// of worker 0, also behind the access that was found.
 ///
 /// Errors: those of `part`.

@@ -3,7 +3,7 @@ ghost use Rattle.std.specs.Prelude.{◌≡◌, ◌<◌, Ok, false, List, ℕ, le
 ghost use Rattle.engine_base.specs.Config.{config_fault};
 ghost use Rattle.policies.specs.AnyPolicy.{Job};
 ghost use Rattle.policy_comparison.specs.Pair.{HasMade, HasRun, HaveNoted, HavePaired};
-ghost use Rattle.takers.specs.Taking.{AreNext, CanTake, RunsOver};
+ghost use Rattle.sweeps.specs.Taking.{AreNext, CanTake, RunsOver};
 
 use crate::cache_access::hit_at;
 use policies::AnyPolicy;

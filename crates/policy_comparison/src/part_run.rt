@@ -4,14 +4,14 @@ ghost use Rattle.engine_base.specs.Config.{config_fault};
 ghost use Rattle.policies.specs.AnyPolicy.{Job, outcomes_on};
 ghost use Rattle.policy_comparison.specs.Part.{IsPart};
 ghost use Rattle.policy_comparison.specs.PartRun.{HasParted};
-ghost use Rattle.takers.specs.Taking.{AreNext, CanTake, RunsOver};
+ghost use Rattle.sweeps.specs.Taking.{AreNext, CanTake, RunsOver};
 
 use crate::pair::Pair;
 use policies::theorems;
 use std::alloc::{AllocError, Global};
 use std::thread::Threads;
 use step_record::{Job, Key, Trace};
-use takers::Taker;
+use sweeps::Taker;
 
 /// Two caches, with the first access at which just one of them hit.
 #[derive(Drop)]

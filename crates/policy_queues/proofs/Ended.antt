@@ -12,7 +12,7 @@ use Rattle.policies.proofs.FirstAccesses.{first-counts}
 use Rattle.policies.proofs.StepLaws.{any_covers_trace}
 use Rattle.sweeps.specs.Intervals.{Interval, between, first_intervals, interval_at, intervals_on, IsLater}
 use Rattle.sweeps.proofs.Pieces.{next-interval, next-later}
-use Rattle.takers.proofs.Covers.{covers-part, covers-whole}
+use Rattle.sweeps.proofs.Covers.{covers-part, covers-whole}
 use Rattle.policy_queues.specs.QueuesAt.{NamedQueueData, queues_at}
 use Rattle.policy_queues.specs.QueueRows.{left_from, left_in, queue_rows, queue_rows_on, rows_from}
 use Rattle.policy_queues.specs.QueueRun.{QueueRun, StandsAt, AreQueueRows, EndsInterval, HasQueueRows}

@@ -13,7 +13,7 @@ use Rattle.policies.specs.AnyStep.{any_act}
 use Rattle.policies.specs.Theorems.{AnyAnswers}
 use Rattle.policy_comparison.specs.CacheAccess.{StandsAt}
 use Rattle.policy_comparison.proofs.Walked.{outcome-is}
-use Rattle.takers.specs.Taking.{AreNext}
+use Rattle.sweeps.specs.Taking.{AreNext}
 use Rattle.policy_queues.specs.QueuesAt.{queues_at}
 use Rattle.policy_queues.specs.QueueRows.{is_left_by, left_from}
 use Rattle.policy_queues.specs.LeftKeys.{AreLeft, IsAccessFrom}

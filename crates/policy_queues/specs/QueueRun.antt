@@ -9,8 +9,8 @@ use Rattle.sweeps.specs.Intervals.{first_intervals}
 pub use Rattle.policy_comparison.specs.CacheAccess.{StandsAt}
 use Rattle.policy_queues.specs.QueueRows.{queue_rows}
 pub use Rattle.policy_queues.specs.LeftKeys.{AreLeft}
-use Rattle.takers.specs.Runs.{HaveRun}
-pub use Rattle.takers.specs.Taking.{Task}
+use Rattle.sweeps.specs.Runs.{HaveRun}
+pub use Rattle.sweeps.specs.Taking.{Task}
 pub use Rattle.policy_queues.specs.declared.queue_run.QueueRun.{QueueRun}
 pub use Rattle.policy_queues.specs.declared.queue_runs.QueueRuns.{QueueRuns}
 

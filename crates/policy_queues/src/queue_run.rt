@@ -7,15 +7,14 @@ ghost use Rattle.sweeps.specs.Intervals.{interval_at};
 ghost use Rattle.policy_queues.specs.QueueRows.{queue_rows, queue_rows_on};
 ghost use Rattle.policy_queues.specs.QueueRun.{AreQueueRows, CanAccess, EndsInterval, EndsQueueRows};
 ghost use Rattle.policy_queues.specs.QueueRun.{HasQueueRows, StandsAt};
-ghost use Rattle.takers.specs.Taking.{AreNext, CanTake, HasTakenAll, RunsOver};
+ghost use Rattle.sweeps.specs.Taking.{AreNext, CanTake, HasTakenAll, RunsOver};
 
 use crate::left_keys::access_counted;
 use crate::queue_rows::push_queue_rows;
 use policies::AnyPolicy;
 use std::alloc::{AllocError, Global};
 use step_record::{Job, Key, Stats, Trace};
-use sweeps::between;
-use takers::Run;
+use sweeps::{Run, between};
 
 /// A cache of a job, with the rows of each interval that is over.
 #[derive(Drop)]

@@ -4,19 +4,19 @@ ghost use Rattle.std.specs.List.{All};
 ghost use Rattle.engine_base.specs.Config.{config_fault};
 ghost use Rattle.policy_queues.specs.QueueRows.{queues_text as text_of};
 ghost use Rattle.policy_queues.specs.QueueRun.{HaveQueueRows};
-ghost use Rattle.takers.specs.Taking.{HasTakenAll, RunsOver, Task};
+ghost use Rattle.sweeps.specs.Taking.{HasTakenAll, RunsOver, Task};
 
 use crate::queue_rows::queues_header;
 use crate::queue_run::QueueRun;
 use std::alloc::{AllocError, Global};
 use std::thread::Threads;
 use step_record::{Gate, Job, Key, Trace};
-use takers::{Taker, make_next, open_runs, take_trace};
+use sweeps::{Taker, make_next, open_runs, take_trace};
 
 /// The header and the rows of each job over the trace, cut into intervals of `every` accesses, of which the last may be
 /// shorter: all rows of the first job, in order, then those of the second, and so on. It requires configurations that
 /// `Config::check` accepts. The jobs run side by side where there are threads. The gate is called around each
-/// `takers::AT_A_TIME` accesses, as by `take_trace`. The one error is out of memory.
+/// `sweeps::AT_A_TIME` accesses, as by `take_trace`. The one error is out of memory.
 pub fn queues_text<T: Threads + Sync, G: Gate>(
     rt: &T,
     alloc: Global,

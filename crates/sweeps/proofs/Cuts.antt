@@ -8,7 +8,7 @@ use Rattle.policies.proofs.FirstAccesses.{first-counts}
 use Rattle.policies.proofs.StepLaws.{any_covers_trace}
 use Rattle.sweeps.specs.Intervals.{Interval, between, first_intervals, interval_at, intervals_on, IsLater}
 use Rattle.sweeps.proofs.Pieces.{next-interval, next-later}
-use Rattle.takers.proofs.Covers.{covers-part, covers-whole}
+use Rattle.sweeps.proofs.Covers.{covers-part, covers-whole}
 use Rattle.sweeps.specs.JobRuns.{JobRun, EndsRow, HasRun, rows_in}
 
 -- ---- one row more

@@ -5,3 +5,8 @@ mod Cuts
 mod Joined
 pub mod Pieces
 mod Sums
+pub mod Next
+pub mod Cut
+pub mod Halves
+pub mod Covers
+pub mod Each

@@ -3,8 +3,8 @@ use Rattle.std.specs.Prelude.{◌≡◌, ◌≤◌, ◌<◌, ℕ, ◌+◌, ◌*�
 use Rattle.engine_base.specs.Stats.{stats_of}
 use Rattle.policies.specs.AnyPolicy.{HasAccessed, outcomes_on}
 use Rattle.sweeps.specs.Intervals.{first_intervals}
-use Rattle.takers.specs.Runs.{HaveRun}
-pub use Rattle.takers.specs.Taking.{Task}
+use Rattle.sweeps.specs.Runs.{HaveRun}
+pub use Rattle.sweeps.specs.Taking.{Task}
 pub use Rattle.sweeps.specs.declared.job_run.JobRun.{JobRun}
 pub use Rattle.sweeps.specs.declared.job_runs.JobRuns.{JobRuns}
 

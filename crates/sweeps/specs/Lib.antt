@@ -2,3 +2,5 @@ pub mod Sweep
 pub mod Intervals
 pub mod Theorems
 pub mod JobRuns
+pub mod Taking
+pub mod Runs

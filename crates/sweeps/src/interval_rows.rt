@@ -4,15 +4,15 @@ ghost use Rattle.policies.specs.FaultyJobs.{faulty_in, ReturnsFault};
 ghost use Rattle.sweeps.specs.Intervals.{intervals_fault, intervals_on};
 
 use crate::job_runs::JobRuns;
+use crate::taker::take_trace;
 use policies::{ActorFault, Interval, MAX_ACTORS, check_jobs};
 use std::alloc::{AllocError, Global};
 use std::thread::Threads;
 use step_record::{Gate, Job, Trace};
-use takers::take_trace;
 
 /// The rows of each job over the trace, cut into intervals of `every` accesses, of which the last may be shorter: all
 /// rows of the first job, in order, then those of the second, and so on. The jobs run side by side where there are
-/// threads. The gate is called before and after each `takers::AT_A_TIME` accesses, of which the last may be fewer, as
+/// threads. The gate is called before and after each `sweeps::AT_A_TIME` accesses, of which the last may be fewer, as
 /// worker 0, with their number.
 ///
 /// Errors: `Actors` for more than `MAX_ACTORS` jobs, `Config` with the index of the first job whose configuration

@@ -5,12 +5,12 @@ ghost use Rattle.policies.specs.AnyPolicy.{outcomes_on};
 ghost use Rattle.policies.specs.Reports.{report_on};
 ghost use Rattle.sweeps.specs.Intervals.{between, interval_at, intervals_on, IsLater};
 ghost use Rattle.sweeps.specs.JobRuns.{EndsRow, HasRun, rows_in};
-ghost use Rattle.takers.specs.Taking.{AreNext, CanTake, HasTakenAll, RunsOver};
+ghost use Rattle.sweeps.specs.Taking.{AreNext, CanTake, HasTakenAll, RunsOver};
 
+use crate::runs::Run;
 use policies::{AnyPolicy, Interval, Report, access_all};
 use std::alloc::{AllocError, Global};
 use step_record::{Job, Key, Stats, Trace};
-use takers::Run;
 
 /// The interval of the accesses, at least one, that a job made between two counts of all its accesses.
 pub fn between(job: &Job, before: &Stats, after: &Stats) -> Interval

@@ -5,14 +5,15 @@ ghost use Rattle.engine_base.specs.Config.{config_fault};
 ghost use Rattle.policies.specs.Reports.{report_on};
 ghost use Rattle.sweeps.specs.Intervals.{intervals_on};
 ghost use Rattle.sweeps.specs.JobRuns.{HaveRunJobs};
-ghost use Rattle.takers.specs.Taking.{HasTakenAll, RunsOver, Task};
+ghost use Rattle.sweeps.specs.Taking.{HasTakenAll, RunsOver, Task};
 
 use crate::job_run::JobRun;
+use crate::runs::{make_next, open_runs};
+use crate::taker::Taker;
 use policies::{Interval, Report};
 use std::alloc::{AllocError, Global};
 use std::thread::Threads;
 use step_record::{Job, Key, Trace};
-use takers::{Taker, make_next, open_runs};
 
 /// A run of each of several jobs, with a row for each interval.
 #[derive(Drop)]

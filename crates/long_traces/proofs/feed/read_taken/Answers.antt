@@ -1,5 +1,5 @@
 use Rattle.std.proofs.Common.{◌≡◌, ◌∙◌, ◌+◌, ◌++◌, Ok, ap, arith, length, length-append, refl, subst, List, ℕ}
-use Rattle.takers.specs.Taking.{AreNext, Task}
+use Rattle.sweeps.specs.Taking.{AreNext, Task}
 use Rattle.trace_read.proofs.Nexts.{ended, failed, gave_up}
 use Rattle.long_traces.specs.Feed.{HasBegun, IsFed}
 use Rattle.long_traces.proofs.Fed.{AreWaiting, at_end, begun, more, more_wait, none_wait, ready, taken_some, taken_to_end}

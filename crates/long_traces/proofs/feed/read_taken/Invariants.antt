@@ -1,5 +1,5 @@
 use Rattle.std.proofs.Common.{◌+◌, ℕ, length}
-use Rattle.takers.specs.Taking.{Task}
+use Rattle.sweeps.specs.Taking.{Task}
 use Rattle.trace_read.specs.Reading.{HasGiven, left_of}
 use Rattle.long_traces.specs.Feed.{HasBegun, IsFed}
 use Rattle.long_traces.proofs.Fed.{AreWaiting}

@@ -1,5 +1,5 @@
 use Rattle.std.proofs.lemmas.Option.{IfSome_then}
-use Rattle.takers.specs.Taking.{Task}
+use Rattle.sweeps.specs.Taking.{Task}
 use Rattle.trace_read.specs.TraceText.{keys_in}
 use Rattle.long_traces.proofs.jobs.intervals.Goals as goal
 

@@ -1,6 +1,6 @@
 use Rattle.std.proofs.Common.{◌≡◌, ◌∙◌, sym}
 use Rattle.std.proofs.lemmas.Option.{IfSome_then}
-use Rattle.takers.specs.Taking.{Task}
+use Rattle.sweeps.specs.Taking.{Task}
 use Rattle.trace_read.specs.TraceText.{keys_in}
 use Rattle.long_traces.proofs.Following.{can-keep, over-each}
 use Rattle.long_traces.proofs.jobs.queues_text.Goals as goal

@@ -2,7 +2,7 @@ use Rattle.std.proofs.Common.{◌≤◌, arith, length}
 use Rattle.std.proofs.lemmas.Bool.{le-leb}
 use Rattle.std.proofs.lemmas.Option.{IfSome_then}
 use Rattle.policies.specs.declared.job_checks.TheConstants.{MAX_ACTORS}
-use Rattle.takers.specs.Taking.{Task}
+use Rattle.sweeps.specs.Taking.{Task}
 use Rattle.trace_read.specs.TraceText.{keys_in}
 use Rattle.long_traces.proofs.Following.{all-follow, none-faulty}
 use Rattle.long_traces.proofs.jobs.reports.Goals as goal

@@ -1,7 +1,7 @@
 use Rattle.std.proofs.Common.{◌≡◌, ◌∙◌, sym}
 use Rattle.std.proofs.lemmas.Option.{IfSome_then}
 use Rattle.std.proofs.lemmas.Result.{IfOk-weaker}
-use Rattle.takers.specs.Taking.{Task}
+use Rattle.sweeps.specs.Taking.{Task}
 use Rattle.long_traces.proofs.Following.{can-keep, over-each}
 use Rattle.long_traces.proofs.jobs.runs_over.Goals.{After-taken_by}
 use Rattle.long_traces.proofs.jobs.runs_over.Goals as goal

@@ -1,7 +1,7 @@
 use Rattle.std.proofs.Common.{◌≡◌, ◌∙◌, ℕ, [], ◌∷◌, sym}
 use Rattle.std.proofs.lemmas.Option.{IfSome_then}
 use Rattle.std.proofs.lemmas.Result.{IfOk-weaker}
-use Rattle.takers.specs.Taking.{Job, Task}
+use Rattle.sweeps.specs.Taking.{Job, Task}
 use Rattle.long_traces.proofs.Following.{both-run, can-keep, over-both}
 use Rattle.long_traces.proofs.pairs.compared_over.Goals as goal
 

@@ -1,6 +1,6 @@
 use Rattle.std.proofs.Common.{◌≡◌, ◌∙◌, [], ◌∷◌, sym}
 use Rattle.std.proofs.lemmas.Option.{IfSome_then}
-use Rattle.takers.specs.Taking.{Job, Task}
+use Rattle.sweeps.specs.Taking.{Job, Task}
 use Rattle.trace_read.specs.TraceText.{keys_in}
 use Rattle.long_traces.proofs.Following.{both-run, can-keep, over-both}
 use Rattle.long_traces.proofs.pairs.part.Goals as goal

@@ -1,5 +1,5 @@
 use Rattle.std.proofs.Common.{inl, refl, ℕ, [], ◌∷◌}
-use Rattle.takers.specs.Taking.{Job, Task}
+use Rattle.sweeps.specs.Taking.{Job, Task}
 use Rattle.policy_comparison.proofs.compared_intervals.run_over.Goals as goal
 
 abbrev both : Job → Job → ℕ → Task

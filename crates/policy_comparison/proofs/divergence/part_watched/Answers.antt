@@ -1,5 +1,5 @@
 use Rattle.std.proofs.Common.{inl, refl, [], ◌∷◌}
-use Rattle.takers.specs.Taking.{Job, Task}
+use Rattle.sweeps.specs.Taking.{Job, Task}
 use Rattle.policy_comparison.proofs.divergence.part_watched.Goals as goal
 
 -- of any length of an interval

@@ -3,7 +3,7 @@ use Rattle.std.proofs.lemmas.List.{take_all}
 use Rattle.policy_comparison.specs.ComparedIntervals.{first_compared}
 use Rattle.policy_comparison.specs.ComparedRows.{ComparedRows, EndsRow, HasCounted, rows_in}
 use Rattle.policy_comparison.proofs.CutHits.{rows-more}
-use Rattle.takers.proofs.Covers.{covers-part, covers-whole}
+use Rattle.sweeps.proofs.Covers.{covers-part, covers-whole}
 use Rattle.policy_comparison.proofs.compared_rows.ComparedRows.into_rows.Goals as goal
 
 -- the last accesses end an interval, which may be shorter than the others

@@ -1,6 +1,6 @@
 use Rattle.std.proofs.Common.{◌+◌, ℕ, List, length}
 use Rattle.policies.specs.AnyPolicy.{Job, outcomes_on}
-use Rattle.takers.specs.Taking.{AreNext}
+use Rattle.sweeps.specs.Taking.{AreNext}
 use Rattle.policy_comparison.specs.Comparison.{hits_beside}
 use Rattle.policy_comparison.specs.ComparedRows.{HasCounted}
 use Rattle.policy_comparison.specs.ComparedRun.{HasCompared}

@@ -1,6 +1,6 @@
 use Rattle.std.proofs.Common.{◌≡◌, ◌+◌, ℕ, List, None, length}
 use Rattle.policies.specs.AnyPolicy.{Job, outcomes_on}
-use Rattle.takers.specs.Taking.{AreNext}
+use Rattle.sweeps.specs.Taking.{AreNext}
 use Rattle.policy_comparison.specs.Pair.{HaveNoted}
 use Rattle.policy_comparison.specs.Part.{AgreeBelow}
 use Rattle.policy_comparison.specs.PartRun.{HasParted}

@@ -1,5 +1,5 @@
 use Rattle.std.proofs.Common.{◌≡◌, ◌+◌, ℕ, List}
-use Rattle.takers.specs.Taking.{AreNext}
+use Rattle.sweeps.specs.Taking.{AreNext}
 use Rattle.policy_queues.specs.QueueRun.{HasQueueRows}
 use Rattle.policy_queues.proofs.queue_run.QueueRunRun.make.Given as goal
 

@@ -2,7 +2,7 @@ use Rattle.std.proofs.Common.{◌≡◌, ◌∙◌, ◌*◌, ℕ, ap, sym, refl,
 use Rattle.engine_base.specs.Stats.{stats_of}
 use Rattle.policies.specs.AnyPolicy.{outcomes_on}
 use Rattle.policies.proofs.FirstAccesses.{first-counts}
-use Rattle.takers.proofs.Next.{over}
+use Rattle.sweeps.proofs.Next.{over}
 use Rattle.policy_queues.proofs.queue_run.QueueRunRun.open.Goals as goal
 
 pub returns-clause-begun : goal.returns-clause-begun

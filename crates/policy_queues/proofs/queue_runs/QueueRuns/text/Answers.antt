@@ -3,7 +3,7 @@ use Rattle.std.specs.List.{flat_map}
 use Rattle.std.proofs.lemmas.List.{take_all}
 use Rattle.policy_queues.specs.QueueRows.{Job, queue_rows_on, queues_header}
 use Rattle.policy_queues.specs.QueueRun.{QueueRun, HasQueueRows}
-use Rattle.takers.proofs.Each.{flat-more, has-at, same-length}
+use Rattle.sweeps.proofs.Each.{flat-more, has-at, same-length}
 use Rattle.policy_queues.proofs.queue_runs.QueueRuns.text.Goals as goal
 
 pub loop-i-init : goal.loop-i-init

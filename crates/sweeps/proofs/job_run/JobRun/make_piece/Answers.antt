@@ -1,7 +1,7 @@
 use Rattle.std.proofs.Common.{◌≡◌, ◌+◌, ◌*◌, ◌≤◌, ℕ, length, take, subst, sym, arith, OnOk}
 use Rattle.policies.specs.AnyPolicy.{HasAccessed}
 use Rattle.sweeps.specs.JobRuns.{HasRun, rows_in}
-use Rattle.takers.proofs.Next.{made, ready}
+use Rattle.sweeps.proofs.Next.{made, ready}
 use Rattle.sweeps.proofs.job_run.JobRun.make_piece.Goals as goal
 
 pub access_all-requires : goal.access_all-requires

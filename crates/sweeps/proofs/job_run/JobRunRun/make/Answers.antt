@@ -1,6 +1,6 @@
 use Rattle.std.proofs.Common.{◌≡◌, ◌∙◌, ◌+◌, ◌-◌, ℕ, length, take, drop, refl, subst, arith, length-drop, length-take}
 use Rattle.sweeps.specs.JobRuns.{HasRun}
-use Rattle.takers.proofs.Next.{piece-next}
+use Rattle.sweeps.proofs.Next.{piece-next}
 use Rattle.sweeps.proofs.job_run.JobRunRun.make.Goals as goal
 
 pub pieces-init : goal.pieces-init

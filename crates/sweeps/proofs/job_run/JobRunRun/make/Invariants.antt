@@ -1,5 +1,5 @@
 use Rattle.std.proofs.Common.{◌≡◌, ◌≤◌, ◌+◌, ◌-◌, ℕ, List, length}
-use Rattle.takers.specs.Taking.{AreNext}
+use Rattle.sweeps.specs.Taking.{AreNext}
 use Rattle.sweeps.specs.JobRuns.{HasRun}
 use Rattle.sweeps.proofs.job_run.JobRunRun.make.Given as goal
 

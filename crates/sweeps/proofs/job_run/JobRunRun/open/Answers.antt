@@ -3,7 +3,7 @@ use Rattle.engine_base.specs.Stats.{stats_of}
 use Rattle.policies.specs.AnyPolicy.{outcomes_on}
 use Rattle.policies.proofs.FirstAccesses.{first-counts}
 use Rattle.sweeps.specs.Intervals.{Interval, first_intervals}
-use Rattle.takers.proofs.Next.{over}
+use Rattle.sweeps.proofs.Next.{over}
 use Rattle.sweeps.proofs.job_run.JobRunRun.open.Goals as goal
 
 pub returns-clause-begun : goal.returns-clause-begun

@@ -2,7 +2,7 @@ use Rattle.std.proofs.Common.{◌∙◌, ◌<◌, ap, arith, length, map}
 use Rattle.std.proofs.lemmas.List.{take_all}
 use Rattle.policies.specs.Reports.{report_on}
 use Rattle.sweeps.specs.JobRuns.{JobRun, HasRun}
-use Rattle.takers.proofs.Each.{has-at, map-more, same-length}
+use Rattle.sweeps.proofs.Each.{has-at, map-more, same-length}
 use Rattle.sweeps.proofs.job_runs.JobRuns.reports.Goals as goal
 
 pub loop-i-init : goal.loop-i-init

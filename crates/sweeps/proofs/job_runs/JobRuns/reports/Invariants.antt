@@ -1,7 +1,7 @@
 use Rattle.std.proofs.Common.{◌≡◌, ℕ, List, length, map, take}
 use Rattle.policies.specs.Reports.{report_on}
 use Rattle.sweeps.specs.JobRuns.{HaveRunJobs}
-use Rattle.takers.specs.Taking.{Task}
+use Rattle.sweeps.specs.Taking.{Task}
 use Rattle.sweeps.proofs.job_runs.JobRuns.reports.Given as goal
 
 abbrev pub invariant-loop-i : goal.invariant-loop-i

@@ -3,7 +3,7 @@ use Rattle.std.specs.List.{flat_map}
 use Rattle.std.proofs.lemmas.List.{take_all}
 use Rattle.sweeps.specs.Intervals.{intervals_on}
 use Rattle.sweeps.specs.JobRuns.{JobRun, HasRun}
-use Rattle.takers.proofs.Each.{flat-more, has-at, same-length}
+use Rattle.sweeps.proofs.Each.{flat-more, has-at, same-length}
 use Rattle.sweeps.proofs.job_runs.JobRuns.rows.Goals as goal
 
 pub loop-i-init : goal.loop-i-init

@@ -2,7 +2,7 @@ use Rattle.std.proofs.Common.{◌≡◌, ℕ, List, length, take}
 use Rattle.std.specs.List.{flat_map}
 use Rattle.sweeps.specs.Intervals.{intervals_on}
 use Rattle.sweeps.specs.JobRuns.{HaveRunJobs}
-use Rattle.takers.specs.Taking.{Task}
+use Rattle.sweeps.specs.Taking.{Task}
 use Rattle.sweeps.proofs.job_runs.JobRuns.rows.Given as goal
 
 abbrev pub invariant-loop-i : goal.invariant-loop-i

@@ -3,8 +3,8 @@ use Rattle.std.proofs.Common.{◌≡◌, ◌∙◌, ℕ, ◌+◌, ◌<◌, List,
 use Rattle.std.specs.List.{flat_map}
 use Rattle.std.proofs.lemmas.Grind.{flat_map-append}
 use Rattle.std.proofs.lemmas.List.{get_or-map, length-map, map-append, take_more}
-use Rattle.takers.specs.Runs.{HaveRun}
-use Rattle.takers.specs.Taking.{Job, Task}
+use Rattle.sweeps.specs.Runs.{HaveRun}
+use Rattle.sweeps.specs.Taking.{Job, Task}
 
 module _ {R : Type 0} (job_of : R → Job) (Has : ℕ → List ℕ → ℕ → R → Type 0) (task : Task) (trace : List ℕ) (n : ℕ) (runs : List R)
     (have : HaveRun job_of Has task trace n runs) where

@@ -9,7 +9,7 @@ use Rattle.policies.specs.Design.{knows_trace}
 use Rattle.policies.proofs.Designs.{optimal-knows}
 use Rattle.policies.specs.declared.any_policy.AnyPolicy.{AnyPolicy}
 use Rattle.policies.specs.declared.any_policy.AnyPolicy.TheVariants.{Adaptive, Demand, Optimal, Queues}
-use Rattle.takers.specs.Taking.{AreNext, RunsOver}
+use Rattle.sweeps.specs.Taking.{AreNext, RunsOver}
 
 -- a piece of the keys comes next behind those before it
 pub piece-next : (trace keys piece : List ℕ) (n m k : ℕ) → AreNext trace n keys → piece ≡ take k (drop m keys) → m + k ≤ length keys

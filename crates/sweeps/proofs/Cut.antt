@@ -4,7 +4,7 @@ use Rattle.std.proofs.lemmas.Nat.{mul-le}
 use Rattle.std.specs.Int.{div_ceil}
 use Rattle.std.proofs.lemmas.Grind.{div_ceil_times}
 use Rattle.std.proofs.lemmas.List.{drop-drop}
-use Rattle.takers.specs.Taking.{AreNext}
+use Rattle.sweeps.specs.Taking.{AreNext}
 
 -- so many pieces are taken, and what is left of the trace
 pub record IsCut (size : ℕ) (trace : List ℕ) (number : ℕ) (rest : List ℕ) (done : ℕ) : Type 0 where

@@ -1,6 +1,6 @@
 use Rattle.std.proofs.Common.{◌∙◌, ap, map, sym}
-use Rattle.takers.proofs.Halves.{back, front, on-success, part, whole}
-use Rattle.takers.proofs.runs.+halves.Goals as goal
+use Rattle.sweeps.proofs.Halves.{back, front, on-success, part, whole}
+use Rattle.sweeps.proofs.runs.+halves.Goals as goal
 
 pub make_each-make_halves-requires-clause-front : goal.make_each-make_halves-requires-clause-front
 make_each-make_halves-requires-clause-front g t c κs within =

@@ -1,8 +1,8 @@
 use Rattle.std.proofs.Common.{◌≡◌, ◌+◌, ℕ, length, subst, arith}
 use Rattle.std.specs.Int.{div_ceil}
-use Rattle.takers.specs.declared.taker.TheConstants.{AT_A_TIME}
-use Rattle.takers.proofs.Cut.{next, more, whole}
-use Rattle.takers.proofs.taker.take_trace.Goals as goal
+use Rattle.sweeps.specs.declared.taker.TheConstants.{AT_A_TIME}
+use Rattle.sweeps.proofs.Cut.{next, more, whole}
+use Rattle.sweeps.proofs.taker.take_trace.Goals as goal
 
 pub loop-number-init : goal.loop-number-init
 loop-number-init g c = record {

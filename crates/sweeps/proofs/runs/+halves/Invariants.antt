@@ -1,5 +1,5 @@
 use Rattle.std.proofs.Common.{◌+◌, ◌-◌, ◌*◌, length}
-use Rattle.takers.proofs.runs.+halves.Given as goal
+use Rattle.sweeps.proofs.runs.+halves.Given as goal
 
 abbrev pub decreases-make_each : goal.decreases-make_each
 decreases-make_each g l = 4 * length l.runs.now

@@ -1,7 +1,7 @@
 use Rattle.std.proofs.Common.{◌≡◌, ℕ, List, map, take}
 use Rattle.std.specs.List.{All}
-use Rattle.takers.specs.Taking.{RunsOver}
-use Rattle.takers.proofs.runs.open_runs.Given as goal
+use Rattle.sweeps.specs.Taking.{RunsOver}
+use Rattle.sweeps.proofs.runs.open_runs.Given as goal
 
 abbrev pub invariant-loop-job : goal.invariant-loop-job
 invariant-loop-job g l = (map g.R.Run.job_of l.runs.items ≡ take l.job-index l.jobs)

@@ -1,8 +1,8 @@
 use Rattle.std.proofs.Common.{ℕ}
-use Rattle.takers.specs.Taking.{Task}
-use Rattle.takers.specs.declared.taker.TheConstants.{AT_A_TIME}
-use Rattle.takers.proofs.Cut.{IsCut}
-use Rattle.takers.proofs.taker.take_trace.Given as goal
+use Rattle.sweeps.specs.Taking.{Task}
+use Rattle.sweeps.specs.declared.taker.TheConstants.{AT_A_TIME}
+use Rattle.sweeps.proofs.Cut.{IsCut}
+use Rattle.sweeps.proofs.taker.take_trace.Given as goal
 
 pub record Taking (Cut : ℕ → Type 0) (Taken : ℕ → Type 0) : Type 0 where
   pub done : ℕ

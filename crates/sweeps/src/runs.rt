@@ -3,8 +3,8 @@ ghost use Rattle.std.specs.Prelude.{◌≡◌, ◌≤◌, ◌<◌, ◌+◌, Ok, 
 ghost use Rattle.std.specs.List.{All};
 ghost use Rattle.std.specs.Thread.{IsSend, IsSync};
 ghost use Rattle.engine_base.specs.Config.{config_fault};
-ghost use Rattle.takers.specs.Runs.{HaveRun, IsTaken};
-ghost use Rattle.takers.specs.Taking.{AreNext, CanTake, CanTakeFor, Job as JobOf, RunsOver};
+ghost use Rattle.sweeps.specs.Runs.{HaveRun, IsTaken};
+ghost use Rattle.sweeps.specs.Taking.{AreNext, CanTake, CanTakeFor, Job as JobOf, RunsOver};
 
 use engine_base::{Key, Trace};
 use std::alloc::{AllocError, Global};

@@ -1,7 +1,7 @@
 -- Runs of several jobs over a trace.
 use Rattle.std.specs.Prelude.{◌≡◌, ℕ, ◌+◌, List, Result, OnOk, length, map}
 use Rattle.std.specs.List.{All}
-use Rattle.takers.specs.Taking.{AreNext, Job, Task}
+use Rattle.sweeps.specs.Taking.{AreNext, Job, Task}
 
 -- a run of each job made the first n accesses, in intervals of the same length
 pub record HaveRun {R : Type 0} (job_of : R → Job) (Has : ℕ → List ℕ → ℕ → R → Type 0) (task : Task) (trace : List ℕ) (n : ℕ)

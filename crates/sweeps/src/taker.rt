@@ -2,8 +2,8 @@
 ghost use Rattle.std.specs.Int.{div_ceil};
 ghost use Rattle.std.specs.Prelude.{◌≡◌, ◌+◌, ℕ, List, OnOk, length};
 ghost use Rattle.std.specs.Thread.{IsSync};
-ghost use Rattle.takers.specs.declared.taker.TheConstants.{AT_A_TIME};
-ghost use Rattle.takers.specs.Taking.{AreNext, CanTakeFor, Task};
+ghost use Rattle.sweeps.specs.declared.taker.TheConstants.{AT_A_TIME};
+ghost use Rattle.sweeps.specs.Taking.{AreNext, CanTakeFor, Task};
 
 use engine_base::{Gate, Key, Trace};
 use std::alloc::AllocError;

@@ -4,8 +4,8 @@ use Rattle.std.specs.Prelude.{OnOk}
 use Rattle.std.specs.List.{All}
 use Rattle.std.proofs.lemmas.List.{map-append}
 use Rattle.std.proofs.lemmas.List.Elements.{All-append, All-drop, All-take}
-use Rattle.takers.specs.Runs.{HaveRun}
-use Rattle.takers.specs.Taking.{Job, Task}
+use Rattle.sweeps.specs.Runs.{HaveRun}
+use Rattle.sweeps.specs.Taking.{Job, Task}
 
 module _ {R : Type 0} (job_of : R → Job) (Has : ℕ → List ℕ → ℕ → R → Type 0) where
   -- what some of the runs have

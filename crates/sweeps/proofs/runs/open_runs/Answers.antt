@@ -2,8 +2,8 @@ use Rattle.std.proofs.Common.{◌∙◌, ◌++◌, ◌∷◌, [], List, ap, arit
 use Rattle.std.specs.List.{All}
 use Rattle.std.proofs.lemmas.List.{map-append, take_all, take_more}
 use Rattle.std.proofs.lemmas.List.Elements.{All-nil, All-push}
-use Rattle.takers.specs.Taking.{Job}
-use Rattle.takers.proofs.runs.open_runs.Goals as goal
+use Rattle.sweeps.specs.Taking.{Job}
+use Rattle.sweeps.proofs.runs.open_runs.Goals as goal
 
 pub loop-job-init : goal.loop-job-init
 loop-job-init g c = (
