@@ -66,6 +66,10 @@ pub can_run : (run : RunArguments) (jobs : List Job) → IsAcceptedRun run → j
 can_run run jobs accepted is few =
     rw (in_batch run.batch accepted.some accepted.few) (can_count run.jobs jobs accepted.jobs is few)
 
+-- and the two of an accepted `part` have no fault
+pub pair_accepted : (part : PartArguments) → IsAcceptedPart part → faulty_in (part.first ∷ part.second ∷ []) ≡ None
+pair_accepted part accepted = rw (accepted.first.config, accepted.second.config) refl
+
 -- where no fault is due, the one that came is out of memory
 pub memory_alone : {A : Type 0} (due : Option ActorFault) (r : Result A ActorFault) → due ≡ None → ReturnsFault due r → IfErr r (λ f. f ≡ OutOfMemory)
 memory_alone due r none h = subst (λ (d : Option ActorFault). ReturnsFault d r) none h
