@@ -20,9 +20,12 @@ use streams::CountedRead;
 use sweeps::{jobs_over, sweep_batches, sweep_each};
 use trace_read::read_trace_within;
 
+// As many entries as all caches of a sweep may have at once: they take less memory than a trace that is kept.
+const ENTRIES_AT_ONCE: u64 = 1 << 21;
+
 /// The reports of the policies that the arguments name at each of the capacities, as text: those of the first policy in
-/// the order of the capacities, then those of the second, and so on. The trace is kept where it may be and a policy goes
-/// by it whole. Too many policies are reported only if the trace has no fault.
+/// the order of the capacities, then those of the second, and so on. A trace that is not long is kept where a policy goes
+/// by it whole, and where it takes less memory than all caches at once. Too many policies are reported only if the trace has no fault.
 pub fn sweep<T: Threads + Wait + Sync, R: CountedRead, P: Watch>(
     rt: &T,
     alloc: Global,
@@ -36,7 +39,8 @@ pub fn sweep<T: Threads + Wait + Sync, R: CountedRead, P: Watch>(
 {
     let asked = &arguments.jobs;
     watch.begin("sweep");
-    if asked.limits.are_long() || !some_go_by_whole_trace(asked.list.as_slice()) {
+    let capacities = arguments.capacities.as_slice();
+    if asked.limits.are_long() || !wants_whole_trace(asked.list.as_slice(), capacities) {
         return sweep_read(rt, alloc, arguments, input, watch);
     }
     let trace = read_trace_within(alloc, input, asked.format, asked.limits)?;
@@ -104,7 +108,15 @@ fn few_jobs(asked: &JobArguments) -> Result<&[Job], Fault>
     Ok(jobs)
 }
 
-// Whether there is a policy whose reports go by the whole trace: Lru's by its curve, Belady's by its next uses.
-fn some_go_by_whole_trace(jobs: &[Job]) -> bool {
-    jobs.iter().any(|job| job.policy == Policy::Lru || job.policy == Policy::Clairvoyant)
+// Whether a report goes by the whole trace, as Lru's by its curve and Belady's by its next uses, or there are too many or
+// too large caches for all to be there at once.
+fn wants_whole_trace(jobs: &[Job], capacities: &[u32]) -> bool {
+    let mut entries = 0u64;
+    for capacity in capacities {
+        entries = entries.saturating_add(u64::from(*capacity));
+    }
+    let reports = jobs.len().saturating_mul(capacities.len());
+    reports > MAX_ACTORS
+        || entries.saturating_mul(jobs.len() as u64) > ENTRIES_AT_ONCE
+        || jobs.iter().any(|job| job.policy == Policy::Lru || job.policy == Policy::Clairvoyant)
 }

@@ -9,8 +9,8 @@ use engine_base::{Gate, Key, Trace};
 use std::alloc::AllocError;
 use std::thread::Threads;
 
-/// So many accesses are taken at a time: enough for threads to pay.
-pub const AT_A_TIME: usize = 65_536;
+/// So many accesses are taken at a time: enough for threads to pay, which are made anew for each piece.
+pub const AT_A_TIME: usize = 1 << 19;
 
 /// What takes the accesses of a trace, piece by piece.
 pub trait Taker: Drop {

@@ -9,7 +9,7 @@ use std::process::Abort;
 use std::test::Fail;
 use std::thread::Threads;
 use step_record::{Job, OpenGate, Policy, Trace};
-use sweeps::{intervals, run_one, sweep, sweep_batches, sweep_each};
+use sweeps::{AT_A_TIME, intervals, run_one, sweep, sweep_batches, sweep_each};
 
 // Runs a job alone, and sees its report.
 fn assert_alone(
@@ -168,12 +168,12 @@ fn intervals_of_two_policies(rt: HostRuntime) -> Result<(), Fail> {
     assert_intervals(&rt, rows)
 }
 
-// The accesses are made in five pieces, of which the last has two.
+// The accesses are made in three pieces, of which the last has two.
 #[test]
 fn intervals_show_their_pieces(rt: HostRuntime) -> Result<(), Fail> {
-    let trace = Trace::new(vec![in rt.alloc(); 1; 262_146]?);
+    let trace = Trace::new(vec![in rt.alloc(); 1; 2 * AT_A_TIME + 2]?);
     let jobs = [job(Policy::Lru, 7), job(Policy::Clairvoyant, 7)];
-    let gate = AllAlike::new(rt.alloc(), 5)?;
+    let gate = AllAlike::new(rt.alloc(), 3)?;
     let rows = intervals(&rt, rt.alloc(), &trace, &jobs, 131_073, &gate);
     drop(rows.map_err(failed)?);
     assert!(rt; gate.is_over(1));
