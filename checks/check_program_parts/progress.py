@@ -20,7 +20,8 @@ REST = 1.5
 WORKING, RESTING, PART = 0.004, 0.25, 0.08
 # A machine may still rest at any time, so of this many calls one has to be drawn to its end.
 TRIES = 3
-LINE = re.compile(rb"\r([a-z]+): (?:([0-9]{1,3}) % of accesses|([0-9]+) batches), ([0-9]+):([0-5][0-9])\x1b\[K")
+LINE = re.compile(rb"\r([a-z]+): (?P<number>[0-9]+) (?P<kind>% of the file|MB|% of accesses), ([0-9]+):([0-5][0-9])\x1b\[K")
+READ, PIPED, MADE = b"% of the file", b"MB", b"% of accesses"
 CLEARED = b"\r\x1b[K"
 
 
@@ -28,15 +29,19 @@ class Shown:
     """A call at a terminal of its own: how it ended, and what was drawn on the terminal, in pieces with the seconds after
     which they came, and by how much this process was late at most, as the machine is busy."""
 
-    def __init__(self, words, text, whole):
+    def __init__(self, words, trace, is_piped):
         terminal, error = pty.openpty()
-        self.terminal, self.whole, self.pieces, self.start, self.lag = terminal, whole, [], time.monotonic(), 0
-        self.process = subprocess.Popen(words, stdin=subprocess.PIPE, stdout=subprocess.PIPE, stderr=error)
+        self.terminal, self.pieces, self.start, self.lag = terminal, [], time.monotonic(), 0
+        self.megabytes = trace.stat().st_size // 10**6
+        with trace.open("rb") as file:
+            source = subprocess.PIPE if is_piped else file
+            self.process = subprocess.Popen(words, stdin=source, stdout=subprocess.PIPE, stderr=error)
         os.close(error)
         with ThreadPoolExecutor(2) as readers:
             readers.submit(self.read_terminal)
             out = readers.submit(self.process.stdout.read)
-            self.feed(text)
+            if is_piped:
+                self.feed(trace.read_bytes())
             self.pace()
         self.out, self.status = out.result(), self.process.returncode
         os.close(terminal)
@@ -54,15 +59,19 @@ class Shown:
     def drawn(self):
         return b"".join(piece for _, piece in self.pieces)
 
-    def numbers(self):
-        return [int(it[2] or it[3]) for it in LINE.finditer(self.drawn())]
+    def whole(self, kind):
+        return self.megabytes if kind == PIPED else 100
+
+    def numbers(self, kind=None):
+        """The numbers of the lines, of one kind or of all."""
+        return [int(it["number"]) for it in LINE.finditer(self.drawn()) if kind in (None, it["kind"])]
 
     def pace(self):
         """Has the process work and rest in turn, until the line is cleared."""
         end, working = time.monotonic() + patience(SECONDS), 0
         while self.process.poll() is None and not self.drawn().endswith(CLEARED):
             before, last = [0, 0, *self.numbers()][-2:]
-            working = max(WORKING, working / 2) if last - before > PART * self.whole else working + WORKING
+            working = max(WORKING, working / 2) if last - before > PART * 100 else working + WORKING
             time.sleep(working)
             if time.monotonic() > end:
                 self.process.kill()
@@ -81,19 +90,20 @@ class Shown:
             pass  # so a terminal ends whose other side is closed
 
 
-def fault_of_lines(shown, fault, name, is_counted):
-    """What is wrong with what was drawn: lines of the subcommand, which is known to the end or not, cleared, and a fault."""
+def fault_of_lines(shown, fault, name, kinds):
+    """What is wrong with what was drawn: lines of the subcommand, of these kinds one after the other, cleared, and a fault."""
     drawn = shown.drawn()
     end = CLEARED + octets(fault).replace(b"\n", b"\r\n")
     found = list(LINE.finditer(drawn))
     if not found or b"".join(it[0] for it in found) + end != drawn:
         return "these are not lines of progress that are cleared in the end"
-    if any(it[1] != name.encode() or (it[2] is None) == is_counted for it in found):
+    seen = [it["kind"] for it in found]
+    if any(it[1] != name.encode() for it in found) or seen != sorted(seen, key=[*kinds, *{*seen} - {*kinds}].index) or not fault and seen[-1] != kinds[-1]:
         return "a line is of another subcommand, or counts otherwise"
-    numbers, times = shown.numbers(), times_of(found)
-    if numbers != sorted(numbers) or times != sorted(times):
+    lists, times = [shown.numbers(kind) for kind in kinds], times_of(found)
+    if any(numbers != sorted(numbers) for numbers in lists) or {*seen} - {*kinds} or times != sorted(times):
         return "the lines go back"
-    if numbers[-1] > shown.whole or is_counted and numbers.count(100) > 1:
+    if any(numbers and numbers[-1] > shown.whole(kind) for kind, numbers in zip(kinds, lists)) or shown.numbers(MADE).count(100) > 1:
         return "a line is over the end"
     return None
 
@@ -102,26 +112,26 @@ def times_of(found):
     return [60 * int(it[4]) + int(it[5]) for it in found]
 
 
-def fault_of_pace(shown, first, last):
+def fault_of_pace(shown, kind, first, last):
     """What is wrong with the times and the numbers: these go from below one part of the whole to above another."""
-    seconds, numbers = max(at for at, piece in shown.pieces if LINE.search(piece)), shown.numbers()
+    seconds, numbers = max(at for at, piece in shown.pieces if LINE.search(piece)), shown.numbers(kind)
     if not max(1, seconds - 2 - shown.lag) <= times_of(LINE.finditer(shown.drawn()))[-1] <= seconds:
         return f"the last line shows another time than {seconds:.1f} seconds"
-    if len(numbers) > 4 and not (numbers[0] <= first * shown.whole and numbers[-1] >= last * shown.whole):
-        return f"the numbers do not go from the beginning to the end, which is {shown.whole}"
+    if len(numbers) > 4 and not (numbers[0] <= first * shown.whole(kind) and numbers[-1] >= last * shown.whole(kind)):
+        return f"the numbers do not go from the beginning to the end, which is {shown.whole(kind)}"
     return None
 
 
-def expect_progress(check, trace, *words, batches=None, fault=""):
+def expect_progress(check, trace, *words, kinds=(READ,), fault=""):
     """The line is drawn and cleared, and the reports are those of a call whose standard error is a file, where nothing is
-    drawn. Where the call ends in a fault, that has the line to itself. The line counts to 100, or to a number of batches."""
-    name, text = f"the line of {' '.join(map(str, words))}"[:200], trace.read_bytes()
-    ends = (1, 0) if fault else (1, 0.25) if batches else (0.5, 0.6)
+    drawn. Where the call ends in a fault, that has the line to itself. The line counts to 100, or to the megabytes of a pipe."""
+    name = f"the line of {' '.join(map(str, words))}"[:200]
+    ends = (1, 0) if fault else (1, 0.25) if kinds == (PIPED,) else (0.5, 0.6)
     plain = check.call(*words, stdin=trace)
     for _ in range(TRIES):
-        shown = Shown([check.program, *map(str, words)], text, batches or 100)
-        wrong = fault_of_lines(shown, fault, words[0], not batches)
-        slow = None if wrong else fault_of_pace(shown, *ends)
+        shown = Shown([check.program, *map(str, words)], trace, PIPED in kinds)
+        wrong = fault_of_lines(shown, fault, words[0], kinds)
+        slow = None if wrong else fault_of_pace(shown, kinds[-1], *ends)
         if wrong or not slow:
             break
     check.compare(name, Ended(shown.status, shown.out, plain.error), Ended(1 if fault else 0, plain.out, octets(fault)))
@@ -132,21 +142,24 @@ def expect_progress(check, trace, *words, batches=None, fault=""):
 @part(15)
 def progress(check):
     """The line of each subcommand that has one. The calls rest for most of their time, so they are made side by side."""
-    longer = crowd(check, "longer", check.size(3, 20))
+    longer = crowd(check, "longer", check.size(25, 800))
     rows = longer.read_bytes().splitlines(keepends=True)
-    batches = 2 * -(-len(rows) // 1024)
     driven = check.file("driven", b"".join(rows[:50000]))
     faulty = check.file("faulty", b"".join(rows) + b"x\n")
-    cache, two, alone = ("--capacity", 50), ("wtinylfu", "clairvoyant"), ("--capacity", 1000, "--workers", 1, "--limit")
+    cache, two, alone = ("--capacity", 50), ("wtinylfu", "caffeine"), ("--capacity", 1000, "--workers", 1, "--limit")
+    kept = {"kinds": (READ, MADE)}
     calls = [
-        (longer, ["run", *cache, *two], {"batches": batches}),
+        (longer, ["run", *cache, *two], {}),
+        (longer, ["run", *cache, *two], {"kinds": (PIPED,)}),
         (longer, ["sweep", "--policy", two[0], "--policy", two[1], 50, 60], {}),
+        (longer, ["sweep", "--policy", two[0], "--policy", "clairvoyant", 50, 60], kept),
         (longer, ["intervals", *cache, "--every", 100000, *two], {}),
         (longer, ["part", *cache, "--first", "wtinylfu", "--second", "wtinylfu"], {}),
         (longer, ["compare", *cache, "--first", two[0], "--second", two[1]], {}),
         (longer, ["compare", *cache, "--first", two[0], "--second", two[1], "--every", 100000], {}),
-        (driven, ["drive", *alone, 2**24], {}),
-        (driven, ["drive", *alone, 1000], {"fault": "fault: JournalFull\n"}),
-        (faulty, ["run", *cache, *two], {"batches": batches, "fault": f"fault: BadNumber line {len(rows) + 1}\n"})]
+        (longer, ["footprint"], {}),
+        (driven, ["drive", *alone, 2**24], {"kinds": (PIPED, MADE)}),
+        (driven, ["drive", *alone, 1000], {"fault": "fault: JournalFull\n", "kinds": (PIPED, MADE)}),
+        (faulty, ["run", *cache, *two], {"fault": f"fault: BadNumber line {len(rows) + 1}\n"})]
     with ThreadPoolExecutor(len(calls)) as pool:
         list(pool.map(lambda it: expect_progress(check, it[0], *it[1], **it[2]), calls))
