@@ -164,7 +164,7 @@ fn parting_early(alloc: Global) -> Result<Trace, Fail> {
             _ => 7,
         })?;
     }
-    match keys.len() <= 200_000 {
+    match keys.len() <= 2_000_000 {
         true => Ok(Trace::new(keys)),
         false => Err(Fail::from("a longer trace than these tests have")),
     }
