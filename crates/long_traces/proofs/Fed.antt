@@ -1,17 +1,11 @@
 -- A trace that is fed piece by piece.
-use Rattle.std.proofs.Common.{Bool, false, ◌≡◌, ℕ, ◌+◌, ◌≤◌, List, [], ◌++◌, length, take, drop, Option, Some, None, IfSome, Result, Err, sym, ap, subst, refl, ◌∙◌, arith, length-append}
+use Rattle.std.proofs.Common.{Bool, false, ◌≡◌, ℕ, ◌+◌, ◌≤◌, List, [], ◌++◌, length, take, drop, Option, Some, None, IfSome, sym, ap, subst, refl, ◌∙◌, arith, length-append}
 use Rattle.std.proofs.Math.Seq.{drop-append_seam, take-add}
-use Rattle.std.proofs.lemmas.List.{drop-take, drop-drop, append_cancel_right, take_all}
+use Rattle.std.proofs.lemmas.List.{drop-take, append_cancel_right, take_all}
+use Rattle.std.proofs.lemmas.Option.{IfSome_then}
 use Rattle.engine_base.specs.declared.limits.TheConstants.{MAX_STEPS}
-use Rattle.std.specs.Prelude.{IsErrAnd}
-use Rattle.streams.specs.Tally.{FailsWhere}
-use Rattle.streams.specs.declared.tally.Tally.{Tally}
-use Rattle.trace_read.proofs.Readings.{handed_fault, read_as}
+use Rattle.trace_read.proofs.Readings.{always, both}
 use Rattle.trace_read.specs.Reading.{GivesNext}
-use Rattle.trace_read.specs.ReadTrace.{IsReadWithin, IsWhollyRead}
-use Rattle.trace_read.specs.declared.fault.TraceFault.{TraceFault}
-use Rattle.trace_read.specs.declared.fault.TraceFault.TheVariants.{Read}
-use Rattle.trace_read.specs.declared.limits.Limits.{Limits}
 use Rattle.sweeps.specs.Taking.{AreNext, CanTake, HasTakenAll}
 use Rattle.long_traces.specs.Feed.{Format, HasBegun, IsFed, keys_in}
 
@@ -24,16 +18,11 @@ module _ (place : ℕ) (keys done trace : List ℕ) (long : length done ≡ plac
   front = append_cancel_right done (take place trace) keys (is ∙ take-add place (length keys) trace ∙ ap (λ (l : List ℕ). take place trace ++ l) (sym piece))
 
 module _ (format : Format) where
-  nothing_known : (bytes : Option (List ℕ)) → IfSome bytes (λ b. [] ≡ take 0 (keys_in format b))
-  nothing_known None = tt
-  nothing_known (Some b) = refl
-
   more_known : (bytes : Option (List ℕ)) (place : ℕ) (done keys : List ℕ) → IfSome bytes (λ b. done ≡ take place (keys_in format b))
       → IfSome bytes (λ b. keys ≡ take (length keys) (drop place (keys_in format b))) → IfSome bytes (λ b. done ++ keys ≡ take (place + length keys) (keys_in format b))
-  more_known None place done keys first next = tt
-  more_known (Some b) place done keys first next =
-      let all = keys_in format b in
-      ap (λ (l : List ℕ). l ++ keys) first ∙ ap (λ (l : List ℕ). take place all ++ l) next ∙ sym (take-add place (length keys) all)
+  more_known bytes place done keys first next = both bytes first next (λ b f k.
+      ap (λ (l : List ℕ). l ++ keys) f ∙ ap (λ (l : List ℕ). take place (keys_in format b) ++ l) k
+      ∙ sym (take-add place (length keys) (keys_in format b)))
 
 -- ---- accesses that wait until they are taken
 
@@ -42,23 +31,13 @@ abbrev pub AreWaiting : Format → Option (List ℕ) → ℕ → List ℕ → Ty
 AreWaiting format bytes place waiting = IfSome bytes (λ b. waiting ≡ take (length waiting) (drop place (keys_in format b)))
 
 pub none_wait : (format : Format) (bytes : Option (List ℕ)) (place : ℕ) (waiting : List ℕ) → waiting ≡ [] → AreWaiting format bytes place waiting
-none_wait format None place waiting none = tt
-none_wait format (Some b) place waiting none = none ∙ ap (λ (l : List ℕ). take (length l) (drop place (keys_in format b))) (sym none)
-
--- more come behind them
-pub more_wait : (format : Format) (bytes : Option (List ℕ)) (place : ℕ) (waiting keys both : List ℕ) → both ≡ waiting ++ keys
-    → IfSome bytes (λ b. keys ≡ take (length keys) (drop (place + length waiting) (keys_in format b))) → AreWaiting format bytes place waiting → AreWaiting format bytes place both
-more_wait format None place waiting keys both is next wait = tt
-more_wait format (Some b) place waiting keys both is next wait =
-    let all = keys_in format b in
-    let a = length waiting in
-    is ∙ ap (λ (l : List ℕ). l ++ keys) wait ∙ ap (λ (l : List ℕ). take a (drop place all) ++ l) (next ∙ ap (take (length keys)) (sym (drop-drop a place all)))
-    ∙ sym (take-add a (length keys) (drop place all)) ∙ ap (λ (n : ℕ). take n (drop place all)) (sym (ap length is ∙ length-append waiting keys))
+none_wait format bytes place waiting none =
+    always bytes (λ b. none ∙ ap (λ (l : List ℕ). take (length l) (drop place (keys_in format b))) (sym none))
 
 module _ {K : Type 0} (H : List ℕ → ℕ → K → Type 0) (format : Format) (bytes : Option (List ℕ)) where
   -- nothing was fed
   pub begun : (taker : K) → HasBegun H taker → IsFed H format bytes 0 taker
-  begun taker taken = record { done = []; long = refl; taken = λ trace within is. taken trace; first = nothing_known format bytes }
+  begun taker taken = record { done = []; long = refl; taken = λ trace within is. taken trace; first = always bytes (λ b. refl) }
 
   -- what was fed is a trace of its own, in which the keys come next
   pub ready : (place : ℕ) (keys : List ℕ) (old : K) → IsFed H format bytes place old → place + length keys ≤ MAX_STEPS → CanTake H keys old
@@ -109,13 +88,4 @@ taken_to_end H format (Some b) place was taker long fed = λ task start.
 -- no more come behind so many
 pub at_end : (format : Format) (bytes : Option (List ℕ)) (place n : ℕ) (keys : List ℕ) (more : Bool) → more ≡ false → keys ≡ [] → place ≡ n
     → GivesNext format bytes n more keys → IfSome bytes (λ b. place ≡ length (keys_in format b))
-at_end format None place n keys more end none is gives = tt
-at_end format (Some b) place n keys more end none is gives = omega (arith, gives.last end, ap length none, is)
-
--- a fault of the reading that is handed on
-pub handed_on : {A B : Type 0} (limits : Limits) (format : Format) (old new : Option (List ℕ)) (before after : Tally) (e : TraceFault) (result : Result B TraceFault) → IsErrAnd result (λ y. y ≡ e)
-    → IsReadWithin {T = A} limits format old new (Err e) → FailsWhere (◌≡◌ {A = Result A TraceFault} (Err e) (Err Read)) before after → IsWhollyRead {T = B} limits format old new before after result
-handed_on {A} {B} limits format old new before after e result same read tally = handed_fault result e (IsWhollyRead limits format old new before after) same (record {
-  read = read_as {A = A} limits limits format format old new e refl refl read;
-  tally = record { failing = λ q. tally.failing (cc q); served = λ q. tally.served (λ p. q (cc p)) };
-})
+at_end format bytes place n keys more end none is gives = IfSome_then bytes (gives.last end) (λ b l. omega (arith, l, ap length none, is))

@@ -24,8 +24,7 @@ use streams::CountedRead;
 use trace_read::{Format, Limits, TraceFault};
 
 /// At how many accesses of the trace that the reader gives the policies of both jobs hit, only that of the first, only
-/// that of the second, and neither. The jobs are as for `reports`, and run side by
-/// side.
+/// that of the second, and neither. The jobs are as for `reports`, and run side by side.
 ///
 /// Errors: those of `reports`.
 pub fn compare<T: Threads + Sync, R: CountedRead>(

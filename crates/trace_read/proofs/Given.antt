@@ -48,26 +48,13 @@ module _ (old : Scan) (text given : List ℕ) (new : Scan) (xs : List ℕ) (is :
   given_ahead ls lines =
       let next = goes_on old.format old.max_accesses old.line old.handed_on old.keys.items text whole (old.partial_line.items ++ xs) ls lines read in
       let len : length given + length new.keys.items ≡ length whole = sym (length-append given new.keys.items) ∙ ap length is.keys in
-      let count : new.handed_on + length new.keys.items ≡ old.handed_on + length whole = omega (arith, is.count, len) in (
-        ap (λ f. first_fault f new.max_accesses new.line (new.handed_on + length new.keys.items) ls) is.format
-            ∙ ap (λ m. first_fault old.format m new.line (new.handed_on + length new.keys.items) ls) is.limit
-            ∙ ap (λ n. first_fault old.format old.max_accesses n (new.handed_on + length new.keys.items) ls) is.line
-            ∙ ap (λ k. first_fault old.format old.max_accesses (old.line + 1) k ls) count
-            ∙ sym next.0,
-        ap (λ f. given ++ (new.keys.items ++ all_keys f ls)) is.format
-            ∙ sym (append_assoc given new.keys.items (all_keys old.format ls))
-            ∙ ap (λ l. l ++ all_keys old.format ls) is.keys
-            ∙ sym next.1,
-      )
+      let count : new.handed_on + length new.keys.items ≡ old.handed_on + length whole = omega (arith, is.count, len) in (cc, cc (append_assoc given new.keys.items (all_keys new.format ls)))
 
   pub given_more : (ys : List ℕ) → lines_of (old.partial_line.items ++ xs) ≡ text ∷ lines_of ys
       → (fault_ahead new ys ≡ fault_ahead old xs) × (given ++ keys_ahead new ys ≡ keys_ahead old xs)
   given_more ys lines =
       let next = given_ahead (lines_of ys) lines in
-      let rest : new.partial_line.items ++ ys ≡ ys = ap (λ l. l ++ ys) is.partial_line in (
-        ap (λ l. first_fault new.format new.max_accesses new.line (new.handed_on + length new.keys.items) (lines_of l)) rest ∙ next.0,
-        ap (λ l. given ++ (new.keys.items ++ all_keys new.format (lines_of l))) rest ∙ next.1,
-      )
+      let rest : new.partial_line.items ++ ys ≡ ys = ap (λ l. l ++ ys) is.partial_line in (cc, cc)
 
 -- the last line
 pub last_given : (old : Scan) (text given : List ℕ) (new : Scan) → IsLineGiven old text given new → lines_of (old.partial_line.items ++ []) ≡ text ∷ []
@@ -181,14 +168,4 @@ module _ (first scan : Scan) (piece : List ℕ) (at : ℕ) (is : IsTaken first p
 
       next : (more : List ℕ) → (fault_ahead new (drop (length piece) piece ++ more) ≡ fault_ahead scan (rest ++ more))
           × (given ++ keys_ahead new (drop (length piece) piece ++ more) ≡ keys_ahead scan (rest ++ more))
-      next more = (
-        ap (λ l. first_fault new.format new.max_accesses new.line (new.handed_on + length new.keys.items) (lines_of l)) (ahead more)
-            ∙ ap (λ f. first_fault f new.max_accesses new.line (new.handed_on + length new.keys.items) (lines_of (scan.partial_line.items ++ (rest ++ more)))) format
-            ∙ ap (λ m. first_fault scan.format m new.line (new.handed_on + length new.keys.items) (lines_of (scan.partial_line.items ++ (rest ++ more)))) limit
-            ∙ ap (λ n. first_fault scan.format scan.max_accesses n (new.handed_on + length new.keys.items) (lines_of (scan.partial_line.items ++ (rest ++ more)))) line
-            ∙ ap (λ k. first_fault scan.format scan.max_accesses scan.line k (lines_of (scan.partial_line.items ++ (rest ++ more)))) held,
-        ap (λ l. given ++ (new.keys.items ++ all_keys new.format (lines_of l))) (ahead more)
-            ∙ ap (λ f. given ++ (new.keys.items ++ all_keys f (lines_of (scan.partial_line.items ++ (rest ++ more))))) format
-            ∙ ap (λ k. given ++ (k ++ all_keys scan.format (lines_of (scan.partial_line.items ++ (rest ++ more))))) none
-            ∙ ap (λ g. g ++ all_keys scan.format (lines_of (scan.partial_line.items ++ (rest ++ more)))) gives,
-      )
+      next more = let at = ahead more in (cc held, cc none)

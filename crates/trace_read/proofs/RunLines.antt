@@ -1,5 +1,6 @@
 -- A line of the ARC format with one space or tab between its two numbers.
 use Rattle.std.proofs.Common.{◌≡◌, ◌∙◌, ◌<◌, ◌≤◌, ◌+◌, ◌-◌, ◌^◌, ◌&&◌, ℕ, zero, suc, Bool, true, false, cond, List, [], ◌∷◌, ◌++◌, length, take, drop, get_or, refl, ap, sym, subst, arith, inl, inr, Some, ◌⊎◌, take-add, drop-drop, length-append, length-take-le, length-drop}
+use Rattle.std.proofs.Math.Seq.{drop-append_seam, drop-cons, take-append_seam}
 use Rattle.std.proofs.lemmas.Bool.{cond-true, cond-false, and_parts, and_left, and_right, ne_eqb}
 use Rattle.std.proofs.lemmas.Bool.Decides.{nat_tests}
 use Rattle.std.proofs.lemmas.List.Sums.{position_or_len_is}
@@ -55,14 +56,6 @@ field_ends (g ∷ gs) h = by (is_blank g && is_empty (without_back gs))
 
 -- ---- fields
 
-take_front : (xs ys : List ℕ) → take (length xs) (xs ++ ys) ≡ xs
-take_front [] ys = refl
-take_front (x ∷ xs) ys = ap (λ t. x ∷ t) (take_front xs ys)
-
-drop_front : (xs ys : List ℕ) → drop (length xs) (xs ++ ys) ≡ ys
-drop_front [] ys = refl
-drop_front (x ∷ xs) ys = drop_front xs ys
-
 no_gap_before : (ds rest : List ℕ) → all_ascii_digits ds ≡ true → (k : ℕ) → k < length ds → is_gap (get_or (ds ++ rest) k 0) ≡ false
 no_gap_before [] rest h k l = absurd (omega arith)
 no_gap_before (d ∷ ds) rest h zero l = no_gap d (and_parts (is_ascii_digit d) (all_ascii_digits ds) h).0
@@ -77,7 +70,7 @@ field_place : (ds rest : List ℕ) → all_ascii_digits ds ≡ true → EndsFiel
 field_place ds rest h e = position_or_len_is is_gap (ds ++ rest) (length ds) 0 (omega (arith, length-append ds rest)) (no_gap_before ds rest h) (gap_behind ds rest e)
 
 field_is : (ds rest : List ℕ) → all_ascii_digits ds ≡ true → EndsField rest → first_field (ds ++ rest) ≡ ds
-field_is ds rest h e = ap (λ k. take k (ds ++ rest)) (field_place ds rest h e) ∙ take_front ds rest
+field_is ds rest h e = ap (λ k. take k (ds ++ rest)) (field_place ds rest h e) ∙ take-append_seam ds rest
 
 past_none : (ds rest : List ℕ) → 0 < length ds → all_ascii_digits ds ≡ true → without_gap (ds ++ rest) ≡ ds ++ rest
 past_none [] rest some h = absurd (omega arith)
@@ -99,7 +92,7 @@ module _ (first second rest : List ℕ) (gap : ℕ) (some : 0 < length first) (d
       ∙ ap (λ t. first ++ t) (kept_gap gap second rest some_ digits_)
 
   later : later_fields text ≡ tail
-  later = ap (λ k. without_gap (drop k text)) (field_place first (gap ∷ tail) digits is_one) ∙ ap without_gap (drop_front first (gap ∷ tail))
+  later = ap (λ k. without_gap (drop k text)) (field_place first (gap ∷ tail) digits is_one) ∙ ap without_gap (drop-append_seam first (gap ∷ tail))
       ∙ cond-true _ _ _ is_one ∙ past_none second (without_back rest) some_ digits_
 
   first_is : number_of (first_field text) ≡ Some (digits_value 10 first)
@@ -113,11 +106,6 @@ module _ (first second rest : List ℕ) (gap : ℕ) (some : 0 < length first) (d
       ∙ (λ i. run_of (first_is i) (second_is i))
 
 -- ---- the same of the first bytes of a text
-
-byte_first : (xs : List ℕ) (i r : ℕ) → i < length xs → take (suc r) (drop i xs) ≡ get_or xs i 0 ∷ take r (drop (suc i) xs)
-byte_first [] i r l = absurd (omega arith)
-byte_first (x ∷ xs) zero r l = refl
-byte_first (x ∷ xs) (suc i) r l = byte_first xs i r (omega arith)
 
 ends_at : (xs : List ℕ) (i r : ℕ) → (0 < r → is_gap (get_or xs i 0) ≡ true) → EndsField (take r (drop i xs))
 ends_at xs i zero h = tt
@@ -150,7 +138,7 @@ module _ (text : List ℕ) (len n m : ℕ) (some : 0 < n) (some_ : 0 < m) (withi
       let one : len - n ≡ suc (m + left) = omega arith in
       let next : suc n ≡ n + 1 = omega arith in
       ap (λ k. take k text) more ∙ take-add n (len - n) text
-      ∙ ap (λ t. take n text ++ t) (ap (λ k. take k (drop n text)) one ∙ byte_first text n (m + left) (omega arith)
+      ∙ ap (λ t. take n text ++ t) (ap (λ k. take k (drop n text)) one ∙ ap (take (suc (m + left))) (drop-cons text n 0 (omega arith))
       ∙ ap (λ t. get_or text n 0 ∷ t) (ap (λ k. take (m + left) (drop k text)) next ∙ take-add m left (drop (n + 1) text)
       ∙ ap (λ t. take m (drop (n + 1) text) ++ t) (ap (λ t. take left t) (drop-drop m (n + 1) text))))
 

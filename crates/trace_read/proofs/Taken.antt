@@ -1,5 +1,7 @@
 -- What a scan that took the lines before a place of some bytes comes to.
-use Rattle.std.proofs.Common.{◌≡◌, ◌∙◌, ◌<◌, ◌≤◌, ◌+◌, ◌-◌, ℕ, zero, suc, List, [], ◌∷◌, ◌++◌, length, drop, take, get_or, refl, sym, ap, subst, arith, inl, inr, Some, None, Ok, length-drop, drop-drop}
+use Rattle.std.proofs.Common.{◌≡◌, ◌∙◌, ◌<◌, ◌≤◌, ◌+◌, ◌-◌, ℕ, List, [], ◌∷◌, ◌++◌, length, drop, take, get_or, refl, sym, ap, subst, arith, inl, inr, Some, None, Ok, length-drop, drop-drop}
+use Rattle.std.specs.Global.{Vec}
+use Rattle.std.proofs.Math.Seq.{drop-cons}
 use Rattle.std.proofs.lemmas.Bool.{cond-false, le-ltb}
 use Rattle.std.proofs.lemmas.List.{append-nil}
 use Rattle.streams.proofs.Feeds.{cut_line}
@@ -7,12 +9,12 @@ use Rattle.trace_read.proofs.LineFeeds.{feed_at}
 use Rattle.trace_read.specs.DigitRuns.{NoFeedBetween}
 use Rattle.streams.specs.Feeds.{feed_in}
 use Rattle.trace_read.proofs.Given.{given_more}
-use Rattle.trace_read.proofs.Steps.{of_line, refused_here, IsEnded}
+use Rattle.trace_read.proofs.Steps.{of_line, refused_here}
 use Rattle.trace_read.specs.Lines.{Format, is_feed, line_of, run_of}
 use Rattle.trace_read.specs.UsualLine.{AreFourStars, IsStarLine}
 use Rattle.streams.specs.Blanks.{trimmed_text}
 use Rattle.trace_read.specs.declared.format.Format.TheVariants.{Lirs}
-use Rattle.trace_read.specs.TraceText.{TraceFault, fault_after, keys_or_none, IsRead, IsStopped, IsTraceRefused}
+use Rattle.trace_read.specs.TraceText.{TraceFault, fault_after, keys_or_none, IsRead, IsTraceRefused}
 use Rattle.trace_read.specs.ScanState.{Scan, fault_ahead, keys_ahead, IsLineGiven, IsRefusedFrom, IsScan, IsTakenUpTo}
 
 pub taken_then : (first mid last : Scan) (bytes : List ℕ) (start middle end : ℕ) → IsTakenUpTo first bytes start middle mid → IsTakenUpTo mid bytes middle end last → IsTakenUpTo first bytes start end last
@@ -49,60 +51,61 @@ module _ (now : Scan) (bytes : List ℕ) (start end : ℕ) (scan : IsScan now) (
   behind : drop (end - start + 1) rest ≡ drop (end + 1) bytes
   behind = drop-drop (end - start + 1) start bytes ∙ ap (λ k. drop k bytes) (omega arith)
 
-  pub line_taken : (next : Scan) → IsScan next → IsEnded now (take (end - start) rest) next → IsTakenUpTo now bytes start (end + 1) next
-  line_taken next kept ended =
-      let text = now.partial_line.items ++ take (end - start) rest in
-      let given : IsLineGiven now text [] next = record {
-        sound = ended.read.sound;
-        keys = ended.read.added;
-        count = omega (arith, ended.handed_on);
-        partial_line = ended.partial_line;
-        line = ended.line;
-        format = ended.format;
-        limit = ended.limit;
-      } in
-      let step = λ (more : List ℕ). given_more now text [] next (rest ++ more) given (drop (end - start + 1) rest ++ more)
+  uncut : now.partial_line.items ++ take (end - start) rest ≡ take (end - start) rest
+  uncut = ap (λ l. l ++ take (end - start) rest) none
+
+  pub line_taken : (keys : Vec ℕ) → now.handed_on + length keys.items ≤ now.max_accesses
+      → IsRead now.format now.max_accesses now.line now.handed_on now.keys.items (take (end - start) rest) keys.items
+      → IsTakenUpTo now bytes start (end + 1) (record now { keys = keys; line = now.line + 1 })
+  line_taken keys few read =
+      let next : Scan = record now { keys = keys; line = now.line + 1 } in
+      let given : IsLineGiven now (now.partial_line.items ++ take (end - start) rest) [] next =
+      rw uncut (record {
+        sound = read.sound;
+        keys = read.added;
+        count = omega arith;
+        partial_line = none;
+        line = refl;
+        format = refl;
+        limit = refl;
+      }) in
+      let step = λ (more : List ℕ). given_more now _ [] next (rest ++ more) given (drop (end - start + 1) rest ++ more)
       (cut_line now.partial_line.items rest more (end - start) scan.partial_line feed lt) in
       record {
-        scan = kept;
-        partial_line = ended.partial_line;
-        format = ended.format;
-        handed_on = ended.handed_on;
-        limit = ended.limit;
+        scan = record { few = few; partial_line = scan.partial_line };
+        partial_line = none;
+        format = refl;
+        handed_on = refl;
+        limit = refl;
         order = (omega arith, omega arith);
-        lines = omega (arith, ended.line);
+        lines = omega arith;
         fault = λ more. ap (λ l. fault_ahead next (l ++ more)) (sym behind) ∙ (step more).0;
         keys = λ more. ap (λ l. keys_ahead next (l ++ more)) (sym behind) ∙ (step more).1;
       }
 
-  pub line_refused : (e : TraceFault) → IsStopped now.format now.max_accesses now.line now.handed_on now.keys.items (now.partial_line.items ++ take (end - start) rest) e → IsRefusedFrom now bytes start e
-  line_refused e stopped = elim stopped [
-    | inl memory ↦ inl memory
+  pub line_refused : (e : TraceFault)
+      → IsTraceRefused now.format now.max_accesses now.line now.handed_on now.keys.items (take (end - start) rest) e
+      → IsRefusedFrom now bytes start e
+  line_refused e refused = elim refused [
+    | inl memory ↦ inl memory.0
     | inr fault ↦
         let refused : (more : List ℕ) → fault_ahead now (rest ++ more) ≡ Some e = λ more.
         let is = cut_line now.partial_line.items rest more (end - start) scan.partial_line feed lt in
-        refused_here now.format now.max_accesses now.line now.handed_on now.keys.items _ [] (now.partial_line.items ++ (rest ++ more)) _ _ is fault in
+        refused_here now.format now.max_accesses now.line now.handed_on now.keys.items _ []
+        (now.partial_line.items ++ (rest ++ more)) _ _ is (rw uncut fault) in
         inr (of_line now.format _ now.max_accesses now.line _ _ (refused []), refused)
   ]
 
--- what a line comes to that no piece cut
-pub whole_read : (format : Format) (most n handed_on : ℕ) (old partial_line text new : List ℕ) → partial_line ≡ [] → IsRead format most n handed_on old text new → IsRead format most n handed_on old (partial_line ++ text) new
-whole_read format most n handed_on old partial_line text new none read = subst (λ c. IsRead format most n handed_on old (c ++ text) new) (sym none) read
-
-pub whole_stopped : (format : Format) (most n handed_on : ℕ) (old partial_line text : List ℕ) (e : TraceFault) → partial_line ≡ [] → IsTraceRefused format most n handed_on old text e → IsStopped format most n handed_on old (partial_line ++ text) e
-whole_stopped format most n handed_on old partial_line text e none refused = subst (λ c. IsStopped format most n handed_on old (c ++ text) e) (sym none) (elim refused [
-  | inl memory ↦ inl memory.0
-  | inr fault ↦ inr fault
-])
-
 -- a line that stands for a run
-pub run_read : (format : Format) (most n handed_on start count : ℕ) (old partial_line text new : List ℕ) → partial_line ≡ [] → line_of format text ≡ run_of (Some start) (Some count)
-    → fault_after most n (handed_on + length old) (run_of (Some start) (Some count)) ≡ None → new ≡ old ++ keys_or_none (run_of (Some start) (Some count))
-    → IsRead format most n handed_on old (partial_line ++ text) new
-run_read format most n handed_on start count old partial_line text new none is sound added = whole_read format most n handed_on old partial_line text new none (record {
+pub run_read : (format : Format) (most n handed_on start count : ℕ) (old text new : List ℕ)
+    → line_of format text ≡ run_of (Some start) (Some count)
+    → fault_after most n (handed_on + length old) (run_of (Some start) (Some count)) ≡ None
+    → new ≡ old ++ keys_or_none (run_of (Some start) (Some count))
+    → IsRead format most n handed_on old text new
+run_read format most n handed_on start count old text new is sound added = record {
   sound = ap (fault_after most n (handed_on + length old)) is ∙ sound;
   added = added ∙ ap (λ r. old ++ keys_or_none r) (sym is);
-})
+}
 
 -- a line of a lone `*`, which gives nothing
 star_gives : line_of Lirs (42 ∷ []) ≡ Ok []
@@ -111,28 +114,22 @@ star_gives = refl
 
 -- the scan, with the number of a later line
 abbrev pub at_line : Scan → ℕ → Scan
-at_line s line = record { alloc = s.alloc; format = s.format; max_accesses = s.max_accesses; keys = s.keys; handed_on = s.handed_on; line = line; partial_line = s.partial_line }
+at_line s line = record s { line = line }
 
 pub star_taken : (now : Scan) (bytes : List ℕ) (place : ℕ) → IsScan now → now.format ≡ Lirs → now.partial_line.items ≡ [] → place + 2 ≤ length bytes → IsStarLine bytes place
     → IsTakenUpTo now bytes place (place + 2) (at_line now (now.line + 1))
 star_taken now bytes place scan lirs none room star =
-    let next = at_line now (now.line + 1) in
     let text = take (place + 1 - place) (drop place bytes) in
-    let lone : text ≡ 42 ∷ [] = ap (λ k. take k (drop place bytes)) {y = 1} (omega arith) ∙ first_of bytes place (omega arith) ∙ ap (λ b. b ∷ []) star.0 in
+    let lone : text ≡ 42 ∷ [] = ap (λ k. take k (drop place bytes)) {y = 1} (omega arith) ∙ ap (take 1) (drop-cons bytes place 0 (omega arith)) ∙ ap (λ b. b ∷ []) star.0 in
     let gives : line_of now.format text ≡ Ok [] = ap (λ f. line_of f text) lirs ∙ ap (line_of Lirs) lone ∙ star_gives in
     let few : now.handed_on + length now.keys.items + 0 ≤ now.max_accesses = omega (arith, scan.few) in
-    let read = whole_read now.format now.max_accesses now.line now.handed_on now.keys.items now.partial_line.items text now.keys.items none (record {
+    let taken = line_taken now bytes place (place + 1) scan none (omega arith) (omega arith) before star.1
+    now.keys scan.few (record {
       sound = ap (fault_after now.max_accesses now.line (now.handed_on + length now.keys.items)) gives ∙ cond-false _ _ _ (le-ltb now.max_accesses _ few);
       added = sym (append-nil now.keys.items) ∙ ap (λ r. now.keys.items ++ keys_or_none r) (sym gives);
     }) in
-    subst (λ n. IsTakenUpTo now bytes place n next) {x = place + 1 + 1} (omega arith) (line_taken now bytes place (place + 1) scan none (omega arith) (omega arith) before star.1 next (record { few = scan.few; partial_line = scan.partial_line })
-    (record { read = read; partial_line = none; line = refl; format = refl; handed_on = refl; limit = refl }))
+    subst (λ n. IsTakenUpTo now bytes place n (at_line now (now.line + 1))) {x = place + 1 + 1} (omega arith) taken
   where
-    first_of : (xs : List ℕ) (i : ℕ) → i < length xs → take 1 (drop i xs) ≡ get_or xs i 0 ∷ []
-    first_of [] i l = absurd (omega arith)
-    first_of (x ∷ xs) zero l = refl
-    first_of (x ∷ xs) (suc i) l = first_of xs i (omega arith)
-
     before : NoFeedBetween bytes place (place + 1)
     before k low high = ap (λ j. is_feed (get_or bytes j 0)) {y = place} (omega arith) ∙ ap is_feed star.0
 

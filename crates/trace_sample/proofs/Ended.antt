@@ -1,9 +1,7 @@
 -- How the writing of a sample ends.
-use Rattle.std.proofs.Common.{◌≡◌, ◌+◌, ℕ, Bool, List, length, Option, Err, refl, subst}
-use Rattle.trace_read.proofs.Readings.{read_as}
+use Rattle.std.proofs.Common.{◌≡◌, ◌+◌, ℕ, Bool, List, length, Option, Err, subst}
+use Rattle.trace_read.proofs.Readings.{both, read_as}
 use Rattle.std.specs.Prelude.{IfSome}
-use Rattle.streams.specs.Tally.{FailsWhere}
-use Rattle.streams.specs.declared.tally.Tally.{Tally}
 use Rattle.trace_read.specs.Reading.{GivesNext}
 use Rattle.trace_read.specs.ReadTrace.{IsReadWithin}
 use Rattle.trace_read.specs.TraceText.{keys_in}
@@ -15,12 +13,12 @@ use Rattle.trace_sample.specs.Sample.{sample_of}
 use Rattle.trace_sample.specs.Written.{Format, IsSampleFault}
 use Rattle.trace_sample.specs.declared.rule.SampleRule.{SampleRule}
 use Rattle.trace_sample.specs.declared.fault.SampleFault.TheVariants.{Trace}
-use Rattle.trace_sample.proofs.Sampled.{IsSampled, both, sampled_more}
+use Rattle.trace_sample.proofs.Sampled.{IsSampled, sampled_more}
 
 -- a fault of the reading is one of the sample
 pub fault_at : (format : Format) (old new : Option (List ℕ)) (fault : TraceFault) → IsReadWithin {T = Bool} LONG format old new (Err fault) → IsSampleFault format old new (Trace fault)
 fault_at format old new OutOfMemory is = tt
-fault_at format old new fault is = read_as LONG LONG format format old new fault refl refl is
+fault_at format old new fault is = read_as fault is
 
 -- ---- a piece more
 
@@ -32,10 +30,3 @@ pub kept_more : (rule : SampleRule) (format : Format) (old : Option (List ℕ)) 
 kept_more rule format old taken more keys slice was new start now gives own same keeps is = both old gives.next is (λ b n s.
     sampled_more rule.inverse rule.seed taken keys (keys_in format b) was new start now n
     (subst (λ l. Keeps was new (sample_of rule.inverse rule.seed l)) same (subst (λ (r : SampleRule). Keeps was new (sample_of r.inverse r.seed slice)) own keeps)) s)
-
--- calls that fail just where others do, and calls that did not fail
-pub fails_as : {P Q : Type 0} (old new : Tally) → (P → Q) → (Q → P) → FailsWhere Q old new → FailsWhere P old new
-fails_as old new to from fails = record { failing = λ p. fails.failing (to p); served = λ n. fails.served (λ q. n (from q)) }
-
-pub fails_not : {P Q : Type 0} (old new : Tally) → (P → ⊥) → (Q → ⊥) → FailsWhere Q old new → FailsWhere P old new
-fails_not old new p q fails = fails_as old new (λ x. absurd (p x)) (λ x. absurd (q x)) fails

@@ -1,5 +1,5 @@
 -- What a sample has written and kept of the first accesses of a trace.
-use Rattle.std.proofs.Common.{◌≡◌, ◌∙◌, ◌+◌, ◌++◌, ◌==◌, ◌||◌, ℕ, List, [], length, take, drop, Option, Some, None, IfSome, ap, sym, subst, append-nil, refl, arith}
+use Rattle.std.proofs.Common.{◌≡◌, ◌∙◌, ◌+◌, ◌++◌, ◌==◌, ◌||◌, ℕ, List, [], length, take, drop, Option, ap, sym, subst, append-nil, refl, arith}
 use Rattle.std.specs.HashSet.{contains}
 use Rattle.std.specs.List.{IsDistinct, list_any}
 use Rattle.std.specs.Set.{is_member}
@@ -26,14 +26,6 @@ use Rattle.trace_sample.proofs.Sampling.{numbers-append}
 no_text : numbers_text [] ≡ []
 unfolding numbers_text
 no_text = refl
-
-pub both : {P Q R : List ℕ → Type 0} (bytes : Option (List ℕ)) → IfSome bytes P → IfSome bytes Q → ((b : List ℕ) → P b → Q b → R b) → IfSome bytes R
-both None p q step = tt
-both (Some b) p q step = step b p q
-
-pub always : {P : List ℕ → Type 0} (bytes : Option (List ℕ)) → ((b : List ℕ) → P b) → IfSome bytes P
-always None step = tt
-always (Some b) step = step b
 
 -- so much was kept of the first accesses, and written of their text or waits
 pub record IsSampled (inverse seed taken : ℕ) (kept : Kept) (start now : Option (List ℕ)) (all : List ℕ) : Type 0 where

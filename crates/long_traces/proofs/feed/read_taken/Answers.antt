@@ -1,8 +1,8 @@
-use Rattle.std.proofs.Common.{◌≡◌, ◌∙◌, ◌+◌, ◌++◌, Ok, ap, arith, length, length-append, refl, subst, List, ℕ}
+use Rattle.std.proofs.Common.{◌≡◌, ◌∙◌, ◌+◌, ◌++◌, Ok, ap, arith, length, length-append, refl, rules, subst, List, ℕ}
 use Rattle.sweeps.specs.Taking.{AreNext, Task}
-use Rattle.trace_read.proofs.Nexts.{ended, failed, gave_up}
+use Rattle.trace_read.proofs.Nexts.{ended, failed, gave_up, kept_on}
 use Rattle.long_traces.specs.Feed.{HasBegun, IsFed}
-use Rattle.long_traces.proofs.Fed.{AreWaiting, at_end, begun, more, more_wait, none_wait, ready, taken_some, taken_to_end}
+use Rattle.long_traces.proofs.Fed.{AreWaiting, at_end, begun, more, none_wait, ready, taken_some, taken_to_end}
 use Rattle.long_traces.proofs.feed.read_taken.Goals.{After-drop-reading-3, After-len}
 use Rattle.long_traces.proofs.feed.read_taken.Goals as goal
 
@@ -16,19 +16,18 @@ pieces-init g c =
       wait = none_wait c.args.format _ 0 _ c.new-waiting.ensures.items;
     }
 
-pub returns-in_err-next-clause-read : goal.returns-in_err-next-clause-read
-returns-in_err-next-clause-read g c = (failed _ _ _ _ _ _ _ _ _ _ c.from_residual.result c.from_residual.ensures.1 (c.in_err-next.ensures.next _ _ _ _ _ c.pieces.invariant.reading)).read
+pub returns-in_err-next : goal.returns-in_err-next
+returns-in_err-next g c =
+    let handed = c.from_residual in
+    let whole = failed c.pieces.invariant.reading c.in_err-next.ensures.next handed.result handed.ensures.1 in
+    record { some = search rules; taken = search rules; read = whole.read; tally = whole.tally }
 
-pub returns-in_err-next-clause-tally : goal.returns-in_err-next-clause-tally
-returns-in_err-next-clause-tally g c = (failed _ _ _ _ _ _ _ _ _ _ c.from_residual.result c.from_residual.ensures.1 (c.in_err-next.ensures.next _ _ _ _ _ c.pieces.invariant.reading)).tally
-
-pub returns-in_err-extend_from_slice-clause-read : goal.returns-in_err-extend_from_slice-clause-read
-returns-in_err-extend_from_slice-clause-read g c =
-    (gave_up _ _ _ _ _ _ _ _ (c.in_ok-next.ensures.next _ _ _ _ _ c.pieces.invariant.reading).goes_on c.from_residual-in_err-extend_from_slice.result c.from_residual-in_err-extend_from_slice.ensures.1).read
-
-pub returns-in_err-extend_from_slice-clause-tally : goal.returns-in_err-extend_from_slice-clause-tally
-returns-in_err-extend_from_slice-clause-tally g c =
-    (gave_up _ _ _ _ _ _ _ _ (c.in_ok-next.ensures.next _ _ _ _ _ c.pieces.invariant.reading).goes_on c.from_residual-in_err-extend_from_slice.result c.from_residual-in_err-extend_from_slice.ensures.1).tally
+pub returns-in_err-extend_from_slice : goal.returns-in_err-extend_from_slice
+returns-in_err-extend_from_slice g c =
+    let next = c.in_ok-next.ensures.next _ _ _ _ _ c.pieces.invariant.reading in
+    let handed = c.from_residual-in_err-extend_from_slice in
+    let whole = gave_up next.goes_on handed.result handed.ensures.1 in
+    record { some = search rules; taken = search rules; read = whole.read; tally = whole.tally }
 
 -- what waits, with what came
 joined : (g : _) (c : After-len g) → c.extend_from_slice.new.self.items ≡ c.pieces.waiting.items ++ c.next.new.keys.items
@@ -41,7 +40,7 @@ all_wait : (g : _) (c : After-len g) → AreWaiting c.args.format (g.R.CountedRe
 all_wait g c =
     let i = c.pieces.invariant in
     let next = c.in_ok-next.ensures.next _ _ _ _ _ i.reading in
-    more_wait c.args.format _ i.place c.pieces.waiting.items c.next.new.keys.items _ (joined g c) next.gives.next i.wait
+    kept_on _ c.args.format i.place _ c.pieces.waiting.items c.next.new.keys.items _ refl (joined g c) i.wait next.gives.next
 
 pub take-requires-clause-next : goal.take-requires-clause-next
 take-requires-clause-next g c =
@@ -55,13 +54,12 @@ take-requires-clause-next g c =
           (omega (arith, next.few, longer g here, ap length c.as_slice-then-len-ge-AT_A_TIME.ensures.value, c.requires.accesses));
     }
 
-pub returns-in_err-take-clause-read : goal.returns-in_err-take-clause-read
-returns-in_err-take-clause-read g c =
-    (gave_up _ _ _ _ _ _ _ _ (c.in_ok-next.ensures.next _ _ _ _ _ c.pieces.invariant.reading).goes_on c.from_residual-in_err-take.result c.from_residual-in_err-take.ensures.1).read
-
-pub returns-in_err-take-clause-tally : goal.returns-in_err-take-clause-tally
-returns-in_err-take-clause-tally g c =
-    (gave_up _ _ _ _ _ _ _ _ (c.in_ok-next.ensures.next _ _ _ _ _ c.pieces.invariant.reading).goes_on c.from_residual-in_err-take.result c.from_residual-in_err-take.ensures.1).tally
+pub returns-in_err-take : goal.returns-in_err-take
+returns-in_err-take g c =
+    let next = c.in_ok-next.ensures.next _ _ _ _ _ c.pieces.invariant.reading in
+    let handed = c.from_residual-in_err-take in
+    let whole = gave_up next.goes_on handed.result handed.ensures.1 in
+    record { some = search rules; taken = search rules; read = whole.read; tally = whole.tally }
 
 pub pieces-preserved-then-len-ge-AT_A_TIME : goal.pieces-preserved-then-len-ge-AT_A_TIME
 pieces-preserved-then-len-ge-AT_A_TIME g c =
@@ -103,13 +101,12 @@ take-requires-2-clause-next g c =
           (omega (arith, next.few, ap length c.as_slice-2.ensures.value, c.requires.accesses));
     }
 
-pub returns-in_err-take-2-clause-read : goal.returns-in_err-take-2-clause-read
-returns-in_err-take-2-clause-read g c =
-    (gave_up _ _ _ _ _ _ _ _ (c.in_ok-next.ensures.next _ _ _ _ _ c.pieces.invariant.reading).goes_on c.from_residual-in_err-take-2.result c.from_residual-in_err-take-2.ensures.1).read
-
-pub returns-in_err-take-2-clause-tally : goal.returns-in_err-take-2-clause-tally
-returns-in_err-take-2-clause-tally g c =
-    (gave_up _ _ _ _ _ _ _ _ (c.in_ok-next.ensures.next _ _ _ _ _ c.pieces.invariant.reading).goes_on c.from_residual-in_err-take-2.result c.from_residual-in_err-take-2.ensures.1).tally
+pub returns-in_err-take-2 : goal.returns-in_err-take-2
+returns-in_err-take-2 g c =
+    let next = c.in_ok-next.ensures.next _ _ _ _ _ c.pieces.invariant.reading in
+    let handed = c.from_residual-in_err-take-2 in
+    let whole = gave_up next.goes_on handed.result handed.ensures.1 in
+    record { some = search rules; taken = search rules; read = whole.read; tally = whole.tally }
 
 -- all that came is taken
 fed_all : (g : _) (c : After-drop-reading-3 g) (task : Task) → HasBegun (g.K.Taker.has_taken task) c.args.taker.now
@@ -120,20 +117,17 @@ fed_all g c task start =
     (subst (λ (l : List ℕ). (trace : List ℕ) (n : ℕ) → AreNext trace n l → g.K.Taker.has_taken task trace n c.pieces.taker → g.K.Taker.has_taken task trace (n + length l) c.take-2.new.self)
     c.as_slice-2.ensures.value (c.in_ok-take-2.ensures task))
 
-pub returns-clause-some : goal.returns-clause-some
-returns-clause-some g c = λ task start. taken_some (g.K.Taker.has_taken task) c.args.format _ _ c.take-2.new.self (fed_all g c task start)
-
-pub returns-clause-taken : goal.returns-clause-taken
-returns-clause-taken g c =
+pub returns : goal.returns
+returns g c =
     let i = c.pieces.invariant in
     let first = g.R.CountedRead.remaining c.args.reader.now in
     let next = c.in_ok-next.ensures.next _ _ _ _ _ i.reading in
     let n = i.place + length c.pieces.waiting.items in
-    taken_to_end g.K.Taker.has_taken c.args.format first n c.args.taker.now c.take-2.new.self
-    (at_end c.args.format first n n c.next.new.keys.items _ c.if-branch.false (next.none (ap Ok c.if-branch.false)) refl next.gives) (fed_all g c)
-
-pub returns-clause-read : goal.returns-clause-read
-returns-clause-read g c = (ended _ _ _ _ _ _ _ _ _ _ _ c.if-branch.false (c.in_ok-next.ensures.next _ _ _ _ _ c.pieces.invariant.reading)).read
-
-pub returns-clause-tally : goal.returns-clause-tally
-returns-clause-tally g c = (ended _ _ _ _ _ _ _ _ _ _ _ c.if-branch.false (c.in_ok-next.ensures.next _ _ _ _ _ c.pieces.invariant.reading)).tally
+    let whole = ended tt _ c.if-branch.false next in
+    record {
+      some = λ task start. taken_some (g.K.Taker.has_taken task) c.args.format _ _ c.take-2.new.self (fed_all g c task start);
+      taken = taken_to_end g.K.Taker.has_taken c.args.format first n c.args.taker.now c.take-2.new.self
+          (at_end c.args.format first n n c.next.new.keys.items _ c.if-branch.false (next.none (ap Ok c.if-branch.false)) refl next.gives) (fed_all g c);
+      read = whole.read;
+      tally = whole.tally;
+    }

@@ -1,4 +1,4 @@
-use Rattle.std.proofs.Common.{◌≡◌, ◌∙◌, ◌+◌, ◌++◌, Ok, ap, arith, length, length-append, subst, take, drop}
+use Rattle.std.proofs.Common.{◌≡◌, ◌∙◌, ◌+◌, ◌++◌, Ok, ap, arith, length, length-append, subst}
 use Rattle.std.specs.Prelude.{IfSome}
 use Rattle.trace_read.proofs.Nexts.{ended, failed, gave_up}
 use Rattle.policy_actors.proofs.Pieces.{AreWaiting, fewer_wait, last_wait, more_wait, none_wait, of_known, wait_next}
@@ -13,19 +13,18 @@ pieces-init g c =
           (none_wait g.S.FedTrace.known _ _ c.requires.none c.new-waiting.ensures.items);
     }
 
-pub returns-in_err-next-clause-read : goal.returns-in_err-next-clause-read
-returns-in_err-next-clause-read g c = (failed _ _ _ _ _ _ _ _ _ _ c.from_residual.result c.from_residual.ensures.1 (c.in_err-next.ensures.next _ _ _ _ _ c.pieces.invariant.reading)).read
+pub returns-in_err-next : goal.returns-in_err-next
+returns-in_err-next g c =
+    let handed = c.from_residual in
+    let whole = failed c.pieces.invariant.reading c.in_err-next.ensures.next handed.result handed.ensures.1 in
+    record { read = whole.read; tally = whole.tally }
 
-pub returns-in_err-next-clause-tally : goal.returns-in_err-next-clause-tally
-returns-in_err-next-clause-tally g c = (failed _ _ _ _ _ _ _ _ _ _ c.from_residual.result c.from_residual.ensures.1 (c.in_err-next.ensures.next _ _ _ _ _ c.pieces.invariant.reading)).tally
-
-pub returns-in_err-extend_from_slice-clause-read : goal.returns-in_err-extend_from_slice-clause-read
-returns-in_err-extend_from_slice-clause-read g c =
-    (gave_up _ _ _ _ _ _ _ _ (c.in_ok-next.ensures.next _ _ _ _ _ c.pieces.invariant.reading).goes_on c.from_residual-in_err-extend_from_slice.result c.from_residual-in_err-extend_from_slice.ensures.1).read
-
-pub returns-in_err-extend_from_slice-clause-tally : goal.returns-in_err-extend_from_slice-clause-tally
-returns-in_err-extend_from_slice-clause-tally g c =
-    (gave_up _ _ _ _ _ _ _ _ (c.in_ok-next.ensures.next _ _ _ _ _ c.pieces.invariant.reading).goes_on c.from_residual-in_err-extend_from_slice.result c.from_residual-in_err-extend_from_slice.ensures.1).tally
+pub returns-in_err-extend_from_slice : goal.returns-in_err-extend_from_slice
+returns-in_err-extend_from_slice g c =
+    let next = c.in_ok-next.ensures.next _ _ _ _ _ c.pieces.invariant.reading in
+    let handed = c.from_residual-in_err-extend_from_slice in
+    let whole = gave_up next.goes_on handed.result handed.ensures.1 in
+    record { read = whole.read; tally = whole.tally }
 
 pub take-requires-clause-few : goal.take-requires-clause-few
 take-requires-clause-few g c =
@@ -86,8 +85,7 @@ give-requires-clause-next g c =
     (subst (λ m. IfSome known (λ all. m ≡ length all)) {x = n + length keys} (omega (arith, none)) (of_known c.args.format first known (λ all. n + length keys ≡ length all) c.requires.known (next.gives.last c.if-branch.false)))
     i.wait
 
-pub returns-clause-read : goal.returns-clause-read
-returns-clause-read g c = (ended _ _ _ _ _ _ _ _ _ _ _ c.if-branch.false (c.in_ok-next.ensures.next _ _ _ _ _ c.pieces.invariant.reading)).read
-
-pub returns-clause-tally : goal.returns-clause-tally
-returns-clause-tally g c = (ended _ _ _ _ _ _ _ _ _ _ _ c.if-branch.false (c.in_ok-next.ensures.next _ _ _ _ _ c.pieces.invariant.reading)).tally
+pub returns : goal.returns
+returns g c =
+    let whole = ended tt _ c.if-branch.false (c.in_ok-next.ensures.next _ _ _ _ _ c.pieces.invariant.reading) in
+    record { read = whole.read; tally = whole.tally }

@@ -4,9 +4,9 @@ use Rattle.std.specs.Prelude.{IfSome}
 use Rattle.streams.proofs.Tallies.{further, later, unspent}
 use Rattle.streams.specs.declared.retry_budget.TheConstants.{INTERRUPTIONS}
 use Rattle.trace_read.specs.TraceText.{keys_in}
-use Rattle.trace_read.proofs.Readings.{exhausted, spent_only}
-use Rattle.trace_sample.proofs.Ended.{fails_as, fails_not, fault_at, kept_more}
-use Rattle.trace_sample.proofs.Sampled.{IsSampled, always, both, nothing_sampled, sampled_all, sampled_counts, sampled_on, sampled_part, sampled_so_far}
+use Rattle.trace_read.proofs.Readings.{always, both, fails_as, spent_only}
+use Rattle.trace_sample.proofs.Ended.{fault_at, kept_more}
+use Rattle.trace_sample.proofs.Sampled.{IsSampled, nothing_sampled, sampled_all, sampled_counts, sampled_on, sampled_part, sampled_so_far}
 use Rattle.trace_sample.proofs.write.write_sample.Goals as goal
 use Rattle.trace_sample.proofs.write.write_sample.Goals.{After-pass_on}
 
@@ -19,37 +19,25 @@ pieces-init g c = record {
   spent = rw c.new-budget.ensures (unspent _ _);
 }
 
+-- the clauses of an error
+failed : {A B C D : Type 0} → A → B → C → D
+    → record { sound : Unit {0}; text : Unit {0}; counts : Unit {0}; end : Unit {0}; flushed : Unit {0}; part : A; fault : B; reads : C; writes : D }
+failed part fault reads writes = record { sound = tt; text = tt; counts = tt; end = tt; flushed = tt; part = part; fault = fault; reads = reads; writes = writes }
+
 pub returns-in-Err : goal.returns-in-Err
 returns-in-Err g c =
     let i = c.pieces.invariant in
     let next = c.in-Err.ensures.next _ _ _ _ _ i.reading in
-    record {
-      sound = tt;
-      text = tt;
-      counts = tt;
-      end = tt;
-      flushed = tt;
-      part = IfSome_then _ i.sampled (λ b s. sampled_so_far _ _ c.pieces.accesses _ c.pieces.kept _ _ s);
-      fault = fault_at _ _ _ c.in-Err.fault (next.end (λ q. absurd (cc q)));
-      reads = fails_as _ _ (λ q. cc q) (λ q. cc q) next.tally;
-      writes = spent_only c.pieces.budget _ _ (λ q. absurd (cc q)) i.spent;
-    }
+    failed (IfSome_then _ i.sampled (λ b s. sampled_so_far _ _ c.pieces.accesses _ c.pieces.kept _ _ s))
+    (fault_at _ _ _ c.in-Err.fault (next.end (λ q. absurd (cc q))))
+    (fails_as (λ q. cc q) (λ q. cc q) next.tally) (spent_only c.pieces.budget (λ q. absurd (cc q)) i.spent)
 
 pub returns-in-Err-add : goal.returns-in-Err-add
 returns-in-Err-add g c =
     let i = c.pieces.invariant in
     let next = c.in-Ok.ensures.next _ _ _ _ _ i.reading in
-    record {
-      sound = tt;
-      text = tt;
-      counts = tt;
-      end = tt;
-      flushed = tt;
-      part = IfSome_then _ i.sampled (λ b s. sampled_so_far _ _ c.pieces.accesses _ c.pieces.kept _ _ s);
-      fault = tt;
-      reads = fails_not _ _ (λ q. absurd (cc q)) (λ q. absurd (cc q)) next.tally;
-      writes = spent_only c.pieces.budget _ _ (λ q. absurd (cc q)) i.spent;
-    }
+    failed (IfSome_then _ i.sampled (λ b s. sampled_so_far _ _ c.pieces.accesses _ c.pieces.kept _ _ s)) tt
+    (fails_as (λ q. absurd (cc q)) (λ q. absurd (cc q)) next.tally) (spent_only c.pieces.budget (λ q. absurd (cc q)) i.spent)
 
 -- the accesses of the piece were kept
 kept : (g : _) (c : goal.After-pass_on g) → IfSome (g.R.CountedRead.remaining c.args.reader.now) (λ bytes. IsSampled c.args.rule.inverse c.args.rule.seed
@@ -60,17 +48,11 @@ pub returns-in-Err-pass_on : goal.returns-in-Err-pass_on
 returns-in-Err-pass_on g c =
     let i = c.pieces.invariant in
     let next = c.in-Ok.ensures.next _ _ _ _ _ i.reading in
-    record {
-      sound = tt;
-      text = tt;
-      counts = tt;
-      end = tt;
-      flushed = tt;
-      part = IfSome_then _ (kept g (goal.at.returns-in-Err-pass_on g c).After-pass_on) (λ b s. sampled_part _ _ _ _ c.add.new.self _ _ _ c.in-Err-pass_on.ensures.part s);
-      fault = tt;
-      reads = fails_not _ _ (λ q. absurd (cc q)) (λ q. absurd (cc q)) next.tally;
-      writes = exhausted _ _ refl (later INTERRUPTIONS c.pieces.budget _ _ _ i.spent c.in-Err-pass_on.ensures.exhausted);
-    }
+    let at = (goal.at.returns-in-Err-pass_on g c).After-pass_on in
+    let pass = c.in-Err-pass_on.ensures in
+    failed (IfSome_then _ (kept g at) (λ b s. sampled_part _ _ _ _ c.add.new.self _ _ _ pass.part s)) tt
+    (fails_as (λ q. absurd (cc q)) (λ q. absurd (cc q)) next.tally)
+    (record { failing = λ q. later INTERRUPTIONS c.pieces.budget _ _ _ i.spent pass.exhausted; served = λ q. absurd (q refl) })
 
 pub returns-then-not-more : goal.returns-then-not-more
 returns-then-not-more g c =
@@ -90,8 +72,8 @@ returns-then-not-more g c =
       flushed = c.in_default-pass_on.ensures.flushed c.if-not-more.true;
       part = tt;
       fault = tt;
-      reads = fails_not _ _ (λ q. absurd (cc q)) (λ q. absurd (cc q)) next.tally;
-      writes = spent_only c.pass_on.new.budget _ _ (λ q. absurd (cc q)) (further _ _ _ _ _ _ i.spent c.in_default-pass_on.ensures.spent);
+      reads = fails_as (λ q. absurd (cc q)) (λ q. absurd (cc q)) next.tally;
+      writes = spent_only c.pass_on.new.budget (λ q. absurd (cc q)) (further _ _ _ _ _ _ i.spent c.in_default-pass_on.ensures.spent);
     }
 
 pub pieces-preserved : goal.pieces-preserved

@@ -20,7 +20,7 @@ returns-clause-new c = λ bytes tally. record {
     bytes = c.requires;
     accesses = search rules;
     limit = c.new.ensures.limit;
-    since = begun c.args.limits c.args.format c.new.result c.none.result c.new-2.result.room _ bytes c.new-2.ensures.room c.new.ensures.handed_on c.none.ensures.keys refl c.new.ensures.fault c.new.ensures.keys;
+    since = begun c.args.limits c.args.format c.new.result c.none.result c.new-2.result.room bytes c.new-2.ensures.room c.new.ensures.handed_on c.none.ensures.keys c.new.ensures.fault c.new.ensures.keys;
     spent = subst (λ n. Spends INTERRUPTIONS n tally tally) (sym c.new-2.ensures.budget) (unspent INTERRUPTIONS tally);
     ended = λ e. absurd (cc e);
   };

@@ -1,8 +1,8 @@
-use Rattle.std.proofs.Common.{◌≤◌, ◌+◌, arith, length, refl, subst, sym}
+use Rattle.std.proofs.Common.{◌≤◌, ◌+◌, arith, length, subst, sym}
 use Rattle.trace_read.proofs.Steps.{errs}
-use Rattle.trace_read.proofs.Taken.{line_refused, line_taken, refused_then, taken_then, whole_read, whole_stopped}
+use Rattle.trace_read.proofs.Taken.{line_refused, line_taken, refused_then, taken_then}
 use Rattle.trace_read.specs.DigitRuns.{IsLineEnd}
-use Rattle.trace_read.specs.ScanState.{Scan, IsTakenUpTo}
+use Rattle.trace_read.specs.ScanState.{IsTakenUpTo}
 use Rattle.trace_read.proofs.scan.Scan.take_lines.Goals as goal
 
 pub lines-preserved : goal.lines-preserved
@@ -15,21 +15,12 @@ lines-preserved c =
     let read = c.in_ok-add_line.ensures in
     let l = subst (λ b. IsLineEnd b start line) c.in-Some.ensures.next.same c.in-Some-line_end.ensures.line in
     let before = taken_then c.args.self.now c.lines.self scan bytes 0 c.lines.runs.start start i.taken c.in-Some.ensures.some in
-    let whole = whole_read scan.format scan.max_accesses scan.line scan.handed_on scan.keys.items scan.partial_line.items _ _ before.partial_line read.ok in
-    let few : scan.handed_on + length c.add_line.new.keys.items ≤ scan.max_accesses = omega (arith, read.within, c.add_line.new.keys.ok.0) in
-    let last : Scan = record { alloc = scan.alloc; format = scan.format; max_accesses = scan.max_accesses; keys = c.add_line.new.keys; handed_on = scan.handed_on; line = scan.line + 1; partial_line = scan.partial_line } in
-    let next = line_taken scan bytes start line.end before.scan before.partial_line l.order (omega (arith, l.within)) l.none l.feed last
-    (record { few = few; partial_line = before.scan.partial_line })
-    (record {
-      read = whole;
-      partial_line = before.partial_line;
-      line = refl;
-      format = refl;
-      handed_on = refl;
-      limit = refl;
-    }) in
+    let keys = c.add_line.new.keys in
+    let few : scan.handed_on + length keys.items ≤ scan.max_accesses = omega (arith, read.within, keys.ok.0) in
+    let next = line_taken scan bytes start line.end before.scan before.partial_line l.order (omega (arith, l.within)) l.none l.feed keys few read.ok in
     record {
-      taken = subst (λ n. IsTakenUpTo c.args.self.now bytes 0 n last) (sym l.behind) (taken_then _ _ _ bytes 0 start (line.end + 1) before next);
+      taken = subst (λ n. IsTakenUpTo c.args.self.now bytes 0 n (record scan { keys = keys; line = scan.line + 1 })) (sym l.behind)
+          (taken_then _ _ _ bytes 0 start (line.end + 1) before next);
       runs = l.runs;
       same = l.same;
     }
@@ -44,5 +35,4 @@ returns-in_err-add_line-clause-err c =
     let l = subst (λ b. IsLineEnd b start line) c.in-Some.ensures.next.same c.in-Some-line_end.ensures.line in
     let before = taken_then c.args.self.now c.lines.self scan bytes 0 c.lines.runs.start start i.taken c.in-Some.ensures.some in
     errs c.from_residual.result _ _ c.from_residual.ensures.1 (refused_then c.args.self.now scan bytes 0 start _ before
-    (line_refused scan bytes start line.end before.scan before.partial_line l.order (omega (arith, l.within)) l.none l.feed _
-    (whole_stopped scan.format scan.max_accesses scan.line scan.handed_on scan.keys.items scan.partial_line.items _ _ before.partial_line c.in_err-add_line.ensures.err)))
+    (line_refused scan bytes start line.end before.scan before.partial_line l.order (omega (arith, l.within)) l.none l.feed _ c.in_err-add_line.ensures.err))
