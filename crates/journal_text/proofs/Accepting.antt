@@ -12,7 +12,8 @@ use Rattle.journal_text.specs.declared.fault.JournalFault.TheVariants as fault
 use Rattle.journal_text.specs.declared.line.JournalLine.TheVariants.{Made, Steps}
 use Rattle.journal_text.specs.declared.version.Version.TheVariants.{One, Two}
 use Rattle.journal_text.proofs.Fronts.{header_lacks, no_line, same_line}
-use Rattle.journal_text.proofs.Unique.{count_line, front_line, line_lacks, made_same, no_entry, nothing_ended, one_header, one_journal, one_line}
+use Rattle.journal_text.proofs.LineLaws.{line_lacks}
+use Rattle.journal_text.proofs.Unique.{count_line, front_line, made_same, no_entry, nothing_ended, one_header, one_journal, one_line}
 use Rattle.engine_base.specs.History.{data_after, next_data, IsLegal, Entries}
 use Rattle.streams.specs.Feeds.{HasNoFeed}
 

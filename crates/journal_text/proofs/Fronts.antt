@@ -1,13 +1,13 @@
 -- The bytes of a journal, line by line.
-use Rattle.std.proofs.Common.{◌≡◌, ◌≢◌, ◌∙◌, ◌==◌, ℕ, Bool, false, List, [], ◌∷◌, ◌++◌, ap, sym, refl, subst, append_assoc, take, drop}
+use Rattle.std.proofs.Common.{◌≡◌, ◌≢◌, ◌∙◌, ◌==◌, ℕ, Bool, true, false, List, [], ◌∷◌, ◌++◌, ap, sym, refl, subst, append_assoc, length, take, drop}
 use Rattle.std.specs.List.{flat_map}
 use Rattle.std.proofs.lemmas.Grind.{flat_map-append}
 use Rattle.std.proofs.lemmas.List.Elements.{All-from_recursion, All-push}
 use Rattle.std.proofs.lemmas.List.{append-nil, flat_map_more, take-append-drop}
 use Rattle.journal_text.specs.Faults.{Step, Reply, Entry, Version, TakesLine}
-use Rattle.journal_text.specs.Journal.{begun, ended_line, entry_line, header, AreLines}
-use Rattle.journal_text.specs.Table.{IsLine}
-use Rattle.journal_text.specs.declared.line.JournalLine.TheVariants.{Made}
+use Rattle.journal_text.specs.Journal.{begun, ended_line, entry_line, header, journal_of, AreLines}
+use Rattle.journal_text.specs.Table.{text_of, IsLine}
+use Rattle.journal_text.specs.declared.line.JournalLine.TheVariants.{Made, Steps}
 use Rattle.journal_text.specs.declared.version.Version.TheVariants.{One, Two}
 use Rattle.engine_base.specs.History.{Entries}
 use Rattle.streams.proofs.Feeds.{has_lines, lines_fed, one_unfed}
@@ -61,3 +61,13 @@ pub line_more : (v : Version) (old new : Entries) (text : List ℕ) (closed : Bo
 line_more v old new text closed more took lines =
     let t = subst (λ b. TakesLine b v text old new) more took in
     subst (AreLines v) (sym t.3) (All-push (λ e. IsLine v (Made e)) old t.0 lines t.1)
+
+-- the right count was taken, and its line is gone
+pub count_gone : (v : Version) (old new : Entries) (text rest behind whole : List ℕ) → TakesLine true v text old new → AreLines v old
+    → begun v old ++ rest ≡ whole → rest ≡ ended_line text ++ behind → AreLines Two new × (whole ≡ journal_of Two new ++ behind)
+count_gone v old new text rest behind whole t lines before line =
+    let count = ended_line (text_of (Steps (length old))) in (
+      subst (AreLines Two) (sym t.2) (subst (λ u. AreLines u old) t.0 lines),
+      sym before ∙ ap (λ r. begun v old ++ r) line ∙ ap (λ x. begun v old ++ (ended_line x ++ behind)) (sym t.1)
+          ∙ sym (append_assoc (begun v old) count behind) ∙ ap (λ u. (begun u old ++ count) ++ behind) t.0 ∙ ap (λ n. journal_of Two n ++ behind) (sym t.2),
+    )

@@ -1,4 +1,3 @@
-pub mod Spellings
 pub mod Parsed
 pub mod LineLaws
 pub mod Spacing

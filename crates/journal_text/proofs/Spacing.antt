@@ -2,7 +2,7 @@
 use Rattle.std.proofs.Common.{◌≡◌, ◌∙◌, ℕ, List, [], ◌∷◌, ◌++◌, codes, ap, sym, refl, append_assoc}
 use Rattle.std.proofs.lemmas.List.{append-nil}
 use Rattle.std.specs.Fmt.{decimal}
-use Rattle.journal_text.specs.Journal.{Step, Reply, Entry, ended_line}
+use Rattle.journal_text.specs.Journal.{Step, Reply, Entry}
 use Rattle.journal_text.specs.Table.{Act, word_text, spaced_words, spaced, act_word, act_words, behind, reply_word, reply_words, entry_words, Word, Named, Worker}
 use Rattle.engine_base.specs.declared.step.Act.TheVariants as act
 use Rattle.engine_base.specs.declared.step.Reply.TheVariants as reply
@@ -57,7 +57,3 @@ entry_more text a b d e entry ha hb hd he =
     name_more b d e (codes "=") (reply_words entry.reply) hd he ∙ ap (λ t. t ++ spaced equals) hb ∙ append_assoc a (spaced acts) (spaced equals)
     ∙ ap (λ t. a ++ t) (sym (spaced_append acts equals)) in
     words_more text a e (Worker entry.step.worker) (acts ++ equals) ha all
-
--- a text and a line feed
-pub line_ended : (text line all : List ℕ) (b : List ℕ) → b ≡ text ++ line → all ≡ b ++ 10 ∷ [] → all ≡ text ++ ended_line line
-line_ended text line all b h e = e ∙ ap (λ t. t ++ 10 ∷ []) h ∙ append_assoc text line (10 ∷ [])

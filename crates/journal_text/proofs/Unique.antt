@@ -1,33 +1,26 @@
 -- One text is the journal of one list of entries.
-use Rattle.std.proofs.Common.{◌≡◌, ◌≢◌, ◌∙◌, ◌<◌, ◌^◌, ℕ, List, [], ◌∷◌, ◌++◌, codes, length, get_or, ap, sym, refl, subst, arith, Some, append_assoc, length-append}
+use Rattle.std.proofs.Common.{◌≡◌, ◌≢◌, ◌∙◌, ◌<◌, ◌^◌, ℕ, List, [], ◌∷◌, ◌++◌, length, get_or, ap, sym, refl, subst, arith, Some, append_assoc, length-append}
 use Rattle.std.proofs.lemmas.List.{append-nil, append_cancel_left}
 use Rattle.std.proofs.lemmas.List.Elements.{All-head, All-tail}
 use Rattle.std.specs.List.{flat_map}
 use Rattle.journal_text.specs.Journal.{Entry, begun, closing_line, ended_line, entry_line, header, journal_of, AreLines}
-use Rattle.journal_text.specs.LineGrammar.{JournalLine, journal_line_in}
-use Rattle.journal_text.specs.Table.{text_of, IsLine, Named, Wide, Worker}
+use Rattle.journal_text.specs.LineGrammar.{JournalLine, line_in}
+use Rattle.journal_text.specs.Table.{text_of, IsLine}
 use Rattle.journal_text.specs.declared.line.JournalLine.TheVariants.{Made, Steps}
 use Rattle.journal_text.specs.declared.version.Version.{Version}
 use Rattle.journal_text.specs.declared.version.Version.TheVariants.{One, Two}
 use Rattle.journal_text.proofs.Fronts.{header_lacks, same_line}
-use Rattle.journal_text.proofs.LineLaws.{entry_printed, line_again, spelled_lacks}
+use Rattle.journal_text.proofs.LineLaws.{line_again, line_lacks}
 use Rattle.engine_base.specs.declared.step.Reply.{Reply}
 use Rattle.engine_base.specs.declared.step.Step.{Step}
 use Rattle.engine_base.specs.History.{Entries}
-use Rattle.streams.specs.Feeds.{HasNoFeed}
 
 same_some : {A : Type 0} {x y : A} → Some x ≡ Some y → x ≡ y
 same_some h = cc
 
 -- one line has one spelling, and one text is the spelling of one line
 pub one_line : (v : Version) (l m : JournalLine) → IsLine v l → IsLine v m → text_of l ≡ text_of m → l ≡ m
-one_line v l m h k e = same_some (sym (line_again v l h) ∙ ap (journal_line_in v) e ∙ line_again v m k)
-
-pub line_lacks : (v : Version) (l : JournalLine) → IsLine v l → HasNoFeed (text_of l)
-unfolding IsLine text_of
-line_lacks v (Made e) h = spelled_lacks (Worker e.step.worker) _ h.0 (entry_printed e)
-line_lacks One (Steps n) h = absurd h
-line_lacks Two (Steps n) h = spelled_lacks (Named (codes "steps")) (Wide n ∷ []) (tt, (h, tt)) refl
+one_line v l m h k e = same_some (sym (line_again v l h) ∙ ap line_in e ∙ line_again v m k)
 
 -- the first of two lines that end is one line, and what is behind it is one rest
 pub front_line : (v : Version) (l m : JournalLine) (x y : List ℕ) → IsLine v l → IsLine v m → ended_line (text_of l) ++ x ≡ ended_line (text_of m) ++ y → (l ≡ m) × (x ≡ y)
@@ -40,7 +33,7 @@ made_same h = cc
 
 pub count_line : (n : ℕ) → n < 2 ^ 64 → IsLine Two (Steps n)
 unfolding IsLine
-count_line n h = h
+count_line n h = ((tt, (h, tt)), refl)
 
 pub nothing_ended : (t x : List ℕ) → [] ≢ ended_line t ++ x
 nothing_ended t x e =

@@ -2,7 +2,7 @@
 use Rattle.std.proofs.Common.{◌≡◌, [], ◌∷◌, Option, true}
 use Rattle.std.proofs.lemmas.List.Elements.{All-cons, All-head, All-nil, All-tail}
 use Rattle.journal_text.specs.Journal.{Step, Reply, Entry, AreFit, AreLines}
-use Rattle.journal_text.specs.Table.{entry_words, is_answer_in, FitWords, IsLine}
+use Rattle.journal_text.specs.Table.{entry_words, FitWords, IsLine}
 use Rattle.journal_text.specs.declared.line.JournalLine.TheVariants.{Made}
 use Rattle.journal_text.specs.declared.version.Version.TheVariants.{Two}
 use Rattle.engine_base.specs.Answers.{is_answer, AnswersItsActs}
@@ -10,7 +10,7 @@ use Rattle.engine_base.specs.History.{next_data, IsLegal, Entries}
 
 -- The entries that an engine made are lines of version 2, where it answers its acts and their numbers fit.
 line_of_two : (e : Entry Step Reply) → FitWords (entry_words e) → is_answer e.step.act e.reply ≡ true → IsLine Two (Made e)
-unfolding IsLine is_answer_in
+unfolding IsLine
 line_of_two e fit answer = (fit, answer)
 
 module _ {D : Type 0} (act : D → Step → Option (Reply × D)) where

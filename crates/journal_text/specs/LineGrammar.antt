@@ -1,14 +1,12 @@
--- How a line is read, word by word. What callers see is the table; the laws say that this reads just its lines.
-use Rattle.std.specs.Prelude.{◌&&◌, ◌==◌, ℕ, List, [], ◌∷◌, Option, Some, None, length, codes, nat_lt, slice_index}
-use Rattle.std.specs.Prelude.{if◌then◌else◌}
+-- How a line is read, word by word. What callers see is the table; the laws say that this reads each of its lines.
+-- Leading zeros and more words are read over: the line is then printed, and compared with the text.
+use Rattle.std.specs.Prelude.{◌==◌, ℕ, List, [], ◌∷◌, Option, Some, None, codes, nat_lt, if◌then◌else◌}
 use Rattle.std.specs.List.{slice_split}
 use Rattle.std.specs.Str.{bytes_eq}
-use Rattle.journal_text.specs.Table.{act_word, is_answer_in, reply_word}
+use Rattle.journal_text.specs.Table.{act_word, reply_word}
 pub use Rattle.journal_text.specs.declared.line.JournalLine.{JournalLine}
 use Rattle.journal_text.specs.declared.line.JournalLine.TheVariants as line
 use Rattle.journal_text.specs.declared.table.TheConstants.{ACTS, REPLIES}
-pub use Rattle.journal_text.specs.declared.version.Version.{Version}
-use Rattle.journal_text.specs.declared.version.Version.TheVariants.{One, Two}
 pub use Rattle.engine_base.specs.declared.entry.Entry.{Entry}
 pub use Rattle.engine_base.specs.declared.item.Item.{Item}
 pub use Rattle.engine_base.specs.declared.step.Act.{Act}
@@ -20,11 +18,7 @@ use Rattle.engine_base.specs.declared.step.Reply.TheVariants as reply
 pub use Rattle.engine_base.specs.declared.step.Step.{Step}
 use Rattle.engine_base.specs.declared.worker.TheConstants.{MAX_WORKERS}
 use Rattle.streams.specs.Numbers.{number_of}
-use Rattle.streams.specs.Reads.{◌>>=◌, at_end, first_named, with_rest, Reads}
-
--- a number, whose first digit is 0 (48) only where it is alone
-unfoldable pub numeral_of : List ℕ → Option ℕ
-numeral_of w = if nat_lt 1 (length w) && slice_index w 0 == 48 then None else number_of w
+use Rattle.streams.specs.Reads.{◌>>=◌, first_named, with_rest, Reads}
 
 -- the words of a text, between spaces (32)
 abbrev pub words_of : List ℕ → List (List ℕ)
@@ -42,7 +36,7 @@ only_at word (w ∷ ws) = if bytes_eq w word then Some (tt, ws) else None
 
 unfoldable pub wide_at : Reads ℕ
 wide_at [] = None
-wide_at (w ∷ ws) = with_rest ws (numeral_of w)
+wide_at (w ∷ ws) = with_rest ws (number_of w)
 
 -- a number below a small limit
 unfoldable pub small_at : ℕ → Reads ℕ
@@ -93,21 +87,16 @@ reply_at ws = named_at reply_word REPLIES ws >>= λ r. reply_with_numbers r.0 r.
 
 unfoldable pub entry_in : List (List ℕ) → Option (Entry Step Reply)
 entry_in ws = small_at MAX_WORKERS ws >>= λ w. (act_at w.1 >>= λ a. (only_at (codes "=") a.1 >>= λ e.
-    (reply_at e.1 >>= λ r. at_end (record { step = record { worker = w.0; act = a.0 }; reply = r.0 }, r.1))))
+    (reply_at e.1 >>= λ r. Some (record { step = record { worker = w.0; act = a.0 }; reply = r.0 }))))
 
 unfoldable pub count_in : List (List ℕ) → Option ℕ
-count_in ws = only_at (codes "steps") ws >>= λ s. (wide_at s.1 >>= at_end)
-
-unfoldable pub made_in : Version → List ℕ → Option JournalLine
-made_in v text =
-    entry_in (words_of text) >>= λ e. if is_answer_in v e.step.act e.reply then Some (line.Made e) else None
+count_in ws = only_at (codes "steps") ws >>= λ s. (wide_at s.1 >>= λ n. Some n.0)
 
 -- an entry, or else the count of the steps
-abbrev pub or_count : Option JournalLine → Option ℕ → Option JournalLine
-or_count (Some l) other = Some l
+abbrev pub or_count : Option (Entry Step Reply) → Option ℕ → Option JournalLine
+or_count (Some e) other = Some (line.Made e)
 or_count None (Some n) = Some (line.Steps n)
 or_count None None = None
 
-unfoldable pub journal_line_in : Version → List ℕ → Option JournalLine
-journal_line_in One text = made_in One text
-journal_line_in Two text = or_count (made_in Two text) (count_in (words_of text))
+unfoldable pub line_in : List ℕ → Option JournalLine
+line_in text = or_count (entry_in (words_of text)) (count_in (words_of text))

@@ -98,10 +98,6 @@ is_in_version One (act.Remove key) r = false
 is_in_version One a (reply.Cleared item) = false
 is_in_version v a r = true
 
--- the version has the entry, and the reply belongs to the act
-unfoldable pub is_answer_in : Version → Act → Reply → Bool
-is_answer_in v a r = is_in_version v a r && is_answer a r
-
 abbrev pub entry_words : Entry Step Reply → List Word
 entry_words e = Worker e.step.worker ∷ (act_words e.step.act ++ (Named (codes "=") ∷ reply_words e.reply))
 
@@ -141,8 +137,12 @@ line_words (line.Steps n) = count_words n
 unfoldable pub text_of : JournalLine → List ℕ
 text_of line = spaced_words (line_words line)
 
--- a line of the table; version 2 alone has the count of its steps
+-- whether a version has such a line: an entry whose reply belongs to its act, and in version 2 the count of the steps
+abbrev pub is_line_in : Version → JournalLine → Bool
+is_line_in v (line.Made e) = is_in_version v e.step.act e.reply && is_answer e.step.act e.reply
+is_line_in One (line.Steps n) = false
+is_line_in Two (line.Steps n) = true
+
+-- a line of the table
 unfoldable pub IsLine : Version → JournalLine → Type 0
-IsLine v (line.Made e) = FitWords (entry_words e) × (is_answer_in v e.step.act e.reply ≡ true)
-IsLine One (line.Steps n) = ⊥
-IsLine Two (line.Steps n) = n < 2 ^ 64
+IsLine v l = FitWords (line_words l) × (is_line_in v l ≡ true)

@@ -10,7 +10,7 @@ use thiserror::Error;
 /// has one: `FalseReply step 1`.
 #[derive(Clone, Copy, Debug, Error)]
 pub enum JournalFault {
-    /// Out of memory for the bytes, or for a step.
+    /// Out of memory for the bytes, for the text of a line, or for a step.
     OutOfMemory,
     /// The first line is not a header, or has no line feed.
     Header,

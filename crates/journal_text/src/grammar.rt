@@ -1,23 +1,36 @@
-//! A line, word by word.
-ghost use Rattle.std.specs.Prelude.{◌≡◌, Some, IfSome};
+//! A line, read word by word.
+ghost use Rattle.std.specs.Prelude.{◌≡◌, ◌≤◌, Some, IfSome, vec_capacity};
 ghost use Rattle.journal_text.specs.Table.{JournalLine, text_of, IsLine};
-ghost use Rattle.journal_text.specs.LineGrammar.{act_at, count_in, entry_in, journal_line_in, made_in};
-ghost use Rattle.journal_text.specs.LineGrammar.{reply_at, words_of};
+ghost use Rattle.journal_text.specs.LineGrammar.{act_at, count_in, entry_in, line_in, reply_at, words_of};
+ghost use Rattle.journal_text.specs.declared.line_text.TheConstants.{MAX_LINE};
 ghost use Rattle.streams.specs.Reads.{with_rest};
 
-use super::table::{EQUALS, STEPS, is_answer_in};
+use super::line_text::{MAX_LINE, push_line};
+use super::table::{EQUALS, STEPS, is_line_in};
 use super::words::JournalWords;
 use super::{JournalLine, Version};
 use engine_base::{Act, Entry, Reply, Step};
 
-/// The line of the table that the text is, without its line feed.
-pub fn line(version: Version, text: &[u8]) -> Option<JournalLine>
+/// The line of the table that the text is, without its line feed. What is read of the text is printed into the buffer,
+/// which has the room, and is the line where both are the same.
+pub fn line(version: Version, text: &[u8], printed: &mut Vec<u8>) -> Option<JournalLine>
+    requires { MAX_LINE ≤ vec_capacity printed.old }
     // What is read is a line of the table, in its one spelling.
     ensures found { IfSome result (λ l. IsLine version l × (text_of l ≡ text.now)) }
     // Each line of the table is read; so where none is, no line of the table is spelled so.
     ensures only { (l : JournalLine) → IsLine version l → text_of l ≡ text.now → result ≡ Some l }
+    ensures room { MAX_LINE ≤ vec_capacity printed.new }
 {
-    line_read(version, text)
+    let line = line_read(text)?;
+    if !is_line_in(version, &line) {
+        return None;
+    }
+    printed.clear();
+    push_line(printed, &line);
+    if printed.as_slice() == text {
+        return Some(line);
+    }
+    None
 }
 
 // The act that stands next.
@@ -87,7 +100,7 @@ fn reply(words: &mut JournalWords) -> Option<Reply>
     }
 }
 
-// The entry that the words are.
+// The entry with which the words begin.
 #[tactic(auto, unfolding(crate::specs::LineGrammar::entry_in))]
 fn entry(text: &[u8]) -> Option<Entry<Step, Reply>>
     ensures { result ≡ entry_in (words_of text.now) }
@@ -97,51 +110,29 @@ fn entry(text: &[u8]) -> Option<Entry<Step, Reply>>
     let act = act(&mut words)?;
     words.only(EQUALS)?;
     let reply = reply(&mut words)?;
-    match words.next() {
-        None => Some(Entry {
-            step: Step { worker, act },
-            reply,
-        }),
-        Some(_) => None,
-    }
+    Some(Entry {
+        step: Step { worker, act },
+        reply,
+    })
 }
 
-// The count of steps that the words are.
+// The count of steps with which the words begin.
 #[tactic(auto, unfolding(crate::specs::LineGrammar::count_in))]
 fn count(text: &[u8]) -> Option<u64>
     ensures { result ≡ count_in (words_of text.now) }
 {
     let mut words = JournalWords::of(text);
     words.only(STEPS)?;
-    let count = words.wide()?;
-    match words.next() {
-        None => Some(count),
-        Some(_) => None,
-    }
+    words.wide()
 }
 
-// The line that the text is, where it is no count.
-#[tactic(auto, unfolding(crate::specs::LineGrammar::made_in))]
-fn made(version: Version, text: &[u8]) -> Option<JournalLine>
-    ensures { result ≡ made_in version text.now }
+// The line that the text begins with, however it is spelled.
+#[tactic(auto, unfolding(crate::specs::LineGrammar::line_in))]
+fn line_read(text: &[u8]) -> Option<JournalLine>
+    ensures { result ≡ line_in text.now }
 {
-    let entry = entry(text)?;
-    if !is_answer_in(version, &entry.step.act, &entry.reply) {
-        return None;
-    }
-    Some(JournalLine::Made(entry))
-}
-
-// The line that the text is, as it is read.
-#[tactic(auto, unfolding(crate::specs::LineGrammar::journal_line_in))]
-fn line_read(version: Version, text: &[u8]) -> Option<JournalLine>
-    ensures { result ≡ journal_line_in version text.now }
-{
-    match version {
-        Version::One => made(version, text),
-        Version::Two => match made(version, text) {
-            Some(line) => Some(line),
-            None => Some(JournalLine::Steps(count(text)?)),
-        },
+    match entry(text) {
+        Some(entry) => Some(JournalLine::Made(entry)),
+        None => Some(JournalLine::Steps(count(text)?)),
     }
 }

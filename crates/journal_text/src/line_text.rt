@@ -1,42 +1,51 @@
 //! A line as text, appended to a buffer. The buffer has the room, so nothing fails.
-ghost use Rattle.std.specs.Prelude.{◌≡◌, ◌≤◌, ◌+◌, ◌*◌, ◌++◌, ◌∷◌, [], length, map, vec_len, vec_capacity};
+ghost use Rattle.std.specs.Prelude.{◌≡◌, ◌<◌, ◌≤◌, ◌+◌, ◌*◌, ◌++◌, ◌∷◌, [], length, map, vec_len, vec_capacity};
 ghost use Rattle.std.specs.Fmt.{decimal};
-ghost use Rattle.journal_text.specs.Table.{act_words, behind, entry_words, reply_words, spaced, text_of, FitWords};
+ghost use Rattle.journal_text.specs.Table.{act_words, behind, line_words, reply_words, spaced, text_of, FitWords};
 ghost use Rattle.journal_text.specs.Table.{Named, Wide};
 ghost use Rattle.journal_text.specs.Journal.{ended_line};
-ghost use Rattle.journal_text.specs.declared.line.JournalLine.TheVariants.{Made, Steps};
 ghost use Rattle.journal_text.specs.declared.line_text.TheConstants.{MAX_LINE};
 
+use super::JournalLine;
 use super::table::{EQUALS, STEPS, act_word, answer_reply, reply_word};
-use engine_base::{Act, Entry, Reply, Step};
+use engine_base::{Act, Reply};
 use itoa::Buffer;
 
 /// The room that is asked for a line and its line feed. A line has nine words at most, each of
 /// at most 20 bytes and with one byte after it.
 pub const MAX_LINE: usize = 192;
 
-/// Adds an entry with its line feed. Its words fit, since its numbers are of their types.
-pub fn push_entry_line(text: &mut Vec<u8>, entry: &Entry<Step, Reply>)
+/// Adds a line with its line feed.
+pub fn push_ended_line(text: &mut Vec<u8>, line: &JournalLine)
     requires { vec_len text.old + MAX_LINE ≤ vec_capacity text.old }
-    ensures items { text.new.items ≡ text.old.items ++ ended_line (text_of (Made entry.now)) }
+    ensures items { text.new.items ≡ text.old.items ++ ended_line (text_of line.now) }
     ensures capacity { vec_capacity text.old ≤ vec_capacity text.new }
-    ensures fit { FitWords (entry_words entry.now) }
+    ensures fit { FitWords (line_words line.now) }
 {
-    push_number(text, u64::from(entry.step.worker.number()));
-    push_act(text, entry.step.act);
-    push_name(text, EQUALS);
-    push_reply(text, entry.reply);
+    push_line(text, line);
     text.push_reserved(b'\n');
 }
 
-/// Adds the count of the steps with its line feed.
-pub fn push_count_line(text: &mut Vec<u8>, count: u64)
+/// Adds a line without its line feed. Its words fit, since its numbers are of their types.
+pub fn push_line(text: &mut Vec<u8>, line: &JournalLine)
     requires { vec_len text.old + MAX_LINE ≤ vec_capacity text.old }
-    ensures items { text.new.items ≡ text.old.items ++ ended_line (text_of (Steps count)) }
+    ensures items { text.new.items ≡ text.old.items ++ text_of line.now }
+    ensures len { vec_len text.new < vec_len text.old + MAX_LINE }
+    ensures capacity { vec_capacity text.old ≤ vec_capacity text.new }
+    ensures fit { FitWords (line_words line.now) }
 {
-    push_bytes(text, STEPS);
-    push_numbers(text, &[count]);
-    text.push_reserved(b'\n');
+    match line {
+        JournalLine::Made(entry) => {
+            push_number(text, u64::from(entry.step.worker.number()));
+            push_act(text, entry.step.act);
+            push_name(text, EQUALS);
+            push_reply(text, entry.reply);
+        }
+        JournalLine::Steps(count) => {
+            push_bytes(text, STEPS);
+            push_numbers(text, &[*count]);
+        }
+    }
 }
 
 /// Adds bytes.

@@ -51,5 +51,5 @@ pub fn read_journal<R: CountedRead, E: Engine<Step = Step, Reply = Reply>>(
     ensures tally { FailsWhere (result ≡ Err JournalFault.Read) (R.tally reader.old) (R.tally reader.new) }
 {
     let bytes = streams::read_all(alloc, reader, MAX_JOURNAL_BYTES)?;
-    read_text(bytes.as_slice(), session)
+    read_text(alloc, bytes.as_slice(), session)
 }

@@ -1,21 +1,26 @@
 //! The lines of a journal, whose steps are made one after another.
 ghost use Rattle.std.specs.Prelude.{◌≡◌, ◌≢◌, ◌≤◌, ◌<◌, ◌+◌, ◌++◌, ℕ, List, [], Err, IfErr, OnOk, MatchOption, length};
+ghost use Rattle.std.specs.Prelude.{vec_capacity};
 ghost use Rattle.journal_text.specs.Faults.{Version, IsFault, IsUnread, KeepsSession};
 ghost use Rattle.streams.specs.Feeds.{HasNoFeed};
 ghost use Rattle.journal_text.specs.Journal.{ended_line, header, IsTextOf};
+ghost use Rattle.journal_text.specs.declared.line_text.TheConstants.{MAX_LINE};
 ghost use Rattle.journal_text.specs.declared.version.Version.TheVariants.{One};
 ghost use Rattle.journal.specs.Session.{IsSameSession};
 ghost use Rattle.engine_base.specs.History.{IsLegal};
 
+use super::line_text::MAX_LINE;
 use super::steps::take;
 use super::{JournalFault, Version};
 use engine_base::{Engine, Reply, Step};
 use journal::Session;
+use std::alloc::Global;
 use streams::cut;
 
 /// Reads the bytes as a journal, into a session that has made no step: makes the step of each line
 /// and looks whether it gets the reply of the line.
 pub fn read_text<E: Engine<Step = Step, Reply = Reply>>(
+    alloc: Global,
     bytes: &[u8],
     session: &mut Session<E>,
 ) -> Result<(), JournalFault>
@@ -28,18 +33,23 @@ pub fn read_text<E: Engine<Step = Step, Reply = Reply>>(
     ensures session { KeepsSession E.act session.old session.new }
 {
     match header_of(bytes) {
-        Some((version, lines)) => read_lines(version, lines, session),
+        Some((version, lines)) => match Vec::with_capacity(alloc, MAX_LINE) {
+            Ok(mut printed) => read_lines(version, lines, &mut printed, session),
+            Err(_) => Err(JournalFault::OutOfMemory),
+        },
         None => Err(JournalFault::Header),
     }
 }
 
-// Reads the lines after the header.
+// Reads the lines after the header. Each is printed into the buffer, to be compared.
 fn read_lines<E: Engine<Step = Step, Reply = Reply>>(
     version: Version,
     lines: &[u8],
+    printed: &mut Vec<u8>,
     session: &mut Session<E>,
 ) -> Result<(), JournalFault>
-    requires { session.old.kept ≡ [] }
+    requires kept { session.old.kept ≡ [] }
+    requires room { MAX_LINE ≤ vec_capacity printed.old }
     ensures ok { OnOk result (IsTextOf (ended_line (header version) ++ lines.now) session.new.kept) }
     ensures err { IfErr result (λ f. IsFault E.act session.old.opening session.old.limit f
         (ended_line (header version) ++ lines.now) session.new.kept) }
@@ -48,7 +58,7 @@ fn read_lines<E: Engine<Step = Step, Reply = Reply>>(
 {
     let mut rest = lines;
     'lines: while let Some((text, behind)) = first_line(rest) {
-        if take(version, text, session)? {
+        if take(version, text, printed, session)? {
             return end(behind, session);
         }
         rest = behind;
@@ -79,7 +89,7 @@ fn end<E: Engine<Step = Step, Reply = Reply>>(
     session: &Session<E>,
 ) -> Result<(), JournalFault>
     ensures ok { OnOk result (behind.now ≡ []) }
-    ensures err { IfErr result (λ f. (f ≡ JournalFault.Line (length session.now.kept + 2)) × (behind.now ≢ [])) }
+    ensures err { IfErr result (λ f. (f ≡ JournalFault.Line (length session.now.kept + 2)) × (0 < length behind.now)) }
 {
     if behind.is_empty() {
         return Ok(());

@@ -1,11 +1,11 @@
-//! The words of a journal's lines, from which acts and replies are written, read and compared, and which entries a
+//! The words of a journal's lines, from which acts and replies are written, read and compared, and which lines a
 //! version has.
 ghost use Rattle.std.specs.Prelude.{◌≡◌, ◌≤◌, length};
-ghost use Rattle.journal_text.specs.Table.{act_word, answer_reply, is_answer_in, is_in_version, reply_word};
+ghost use Rattle.journal_text.specs.Table.{act_word, answer_reply, is_in_version, is_line_in, reply_word};
 ghost use Rattle.streams.specs.Reads.{first_named};
 
-use super::Version;
-use engine_base::{Act, Answer, Item, Reply};
+use super::{JournalLine, Version};
+use engine_base::{Act, Answer, Entry, Item, Reply};
 
 /// The word between an act and its reply.
 pub const EQUALS: &[u8] = b"=";
@@ -160,12 +160,17 @@ pub fn reply_named(replies: &[Reply], word: &[u8]) -> Option<Reply>
     None
 }
 
-/// Whether the version has such an entry, whose reply belongs to the act.
-#[tactic(auto, unfolding(crate::specs::Table::is_answer_in))]
-pub fn is_answer_in(version: Version, act: &Act, reply: &Reply) -> bool
-    ensures { result ≡ is_answer_in version act.now reply.now }
+/// Whether the version has such a line, in which the reply belongs to the act.
+pub fn is_line_in(version: Version, line: &JournalLine) -> bool
+    ensures { result ≡ is_line_in version line.now }
 {
-    is_known(version, act, reply) && act.is_answered_by(reply)
+    match (version, line) {
+        (_, JournalLine::Made(Entry { step, reply })) => {
+            is_known(version, &step.act, reply) && step.act.is_answered_by(reply)
+        }
+        (Version::One, JournalLine::Steps(_)) => false,
+        (Version::Two, JournalLine::Steps(_)) => true,
+    }
 }
 
 // Whether the version has such an entry.

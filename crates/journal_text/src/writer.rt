@@ -10,8 +10,8 @@ ghost use Rattle.journal_text.specs.declared.line_text.TheConstants.{MAX_LINE};
 ghost use Rattle.journal_text.specs.declared.writer.TheConstants.{BUFFER};
 ghost use Rattle.journal_text.specs.declared.version.Version.TheVariants.{Two};
 
-use super::WriteFault;
-use super::line_text::{MAX_LINE, push_bytes, push_count_line, push_entry_line};
+use super::line_text::{MAX_LINE, push_bytes, push_ended_line};
+use super::{JournalLine, WriteFault};
 use engine_base::{Engine, Reply, Step};
 use journal::Session;
 use std::alloc::Global;
@@ -44,7 +44,7 @@ pub fn write_journal<E: Engine<Step = Step, Reply = Reply>, W: CountedWrite>(
     let mut budget = RetryBudget::new();
     write_entries(session, writer, &mut text, &mut budget)?;
     make_room_for_line(writer, &mut text, &mut budget)?;
-    push_count_line(&mut text, session.len() as u64);
+    push_ended_line(&mut text, &JournalLine::Steps(session.len() as u64));
     write_all_within(writer, text.as_slice(), &mut budget)?;
     Ok(())
 }
@@ -71,7 +71,7 @@ fn write_entries<E: Engine<Step = Step, Reply = Reply>, W: CountedWrite>(
     for n in 0..session.len() {
         make_room_for_line(writer, text, budget)?;
         match session.entry(n + 1) {
-            Some(entry) => push_entry_line(text, entry),
+            Some(entry) => push_ended_line(text, &JournalLine::Made(*entry)),
             None => unreachable!(),
         }
     }

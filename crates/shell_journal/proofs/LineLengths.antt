@@ -12,9 +12,10 @@ use Rattle.engine_base.specs.declared.step.Reply.TheVariants as reply
 use Rattle.engine_base.specs.Answers.{is_answer}
 use Rattle.engine_base.specs.History.{Entries}
 use Rattle.journal_text.specs.Journal.{Entry, Step, Reply, entry_line, AreLines}
-use Rattle.journal_text.specs.Table.{Act, Item, act_word, act_words, answer_reply, behind, entry_words, is_answer_in, is_in_version, item_words, reply_word, reply_words, spaced, spaced_words, text_of, word_text, FitWords, IsLine, Word, Named, Worker, Stripe, Wide}
+use Rattle.journal_text.specs.Table.{Act, Item, act_word, act_words, answer_reply, behind, entry_words, is_in_version, item_words, reply_word, reply_words, spaced, spaced_words, text_of, word_text, FitWords, IsLine, Word, Named, Worker, Stripe, Wide}
 use Rattle.journal_text.specs.declared.line.JournalLine.TheVariants.{Made}
 use Rattle.journal_text.specs.declared.version.Version.TheVariants.{Two}
+use Rattle.journal_text.proofs.LineLaws.{fit_parts}
 use Rattle.journal_text.proofs.Spacing.{act_front, reply_front, spaced_append, spaced_none, spelled_spaced}
 use Rattle.shell_journal.proofs.NodeBounds.{act_node, reply_node, IsLow}
 
@@ -154,16 +155,12 @@ widths b r h = absurd (cc h)
 
 -- ---- the line of an entry
 
-fit-parts : (xs ys : List Word) → FitWords (xs ++ ys) → FitWords xs × FitWords ys
-fit-parts [] ys h = (tt, h)
-fit-parts (x ∷ xs) ys h = let p = fit-parts xs ys h.1 in ((h.0, p.0), p.1)
-
 pub line-length : (e : Entry Step Reply) → IsLine Two (Made e) → IsLow e → length (entry_line e) ≤ 63
-unfolding text_of IsLine is_answer_in
+unfolding text_of IsLine
 line-length e line low =
     let acts = act_words e.step.act in
     let equals : List Word = Named (codes "=") ∷ reply_words e.reply in
-    let parts = fit-parts acts equals line.0.1 in
+    let parts = fit_parts acts equals line.0.1 in
     let right = and_parts (is_in_version Two e.step.act e.reply) (is_answer e.step.act e.reply) line.1 in
     let text : spaced_words (entry_words e) ≡ decimal e.step.worker ++ spaced (acts ++ equals) = spelled_spaced (Worker e.step.worker) (acts ++ equals) in
     let sizes : length (spaced_words (entry_words e)) ≡ length (decimal e.step.worker) + length (spaced (acts ++ equals)) =

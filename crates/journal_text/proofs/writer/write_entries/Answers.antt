@@ -37,12 +37,12 @@ loop-n-preserved g c =
     let e = c.in-Some.entry.now in
     let next = taken c.args.session.now.kept c.loop-n.n e c.in-Some.ensures in
     record {
-      written = gathered _ _ c.make_room_for_line.new.text.items c.push_entry_line.new.text.items (entry_line e) (begun Two front) _
-          c.push_entry_line.ensures.items (ap (begun Two) next ∙ begun_more Two front e)
+      written = gathered _ _ c.make_room_for_line.new.text.items c.push_ended_line.new.text.items (entry_line e) (begun Two front) _
+          c.push_ended_line.ensures.items (ap (begun Two) next ∙ begun_more Two front e)
           (passed _ _ _ c.loop-n.text.items _ _ c.loop-n.invariant.written c.in_ok-make_room_for_line.ensures.written);
-      room = omega (arith, c.push_entry_line.ensures.capacity, c.in_ok-make_room_for_line.ensures.capacity);
+      room = omega (arith, c.push_ended_line.ensures.capacity, c.in_ok-make_room_for_line.ensures.capacity);
       spent = further _ _ _ _ _ _ c.loop-n.invariant.spent c.in_ok-make_room_for_line.ensures.spent;
-      fit = subst AreFit (sym next) (All-push (λ e. FitWords (entry_words e)) front e c.loop-n.invariant.fit c.push_entry_line.ensures.fit);
+      fit = subst AreFit (sym next) (All-push (λ e. FitWords (entry_words e)) front e c.loop-n.invariant.fit c.push_ended_line.ensures.fit);
     }
 
 pub returns-in_err-make_room_for_line-clause-part : goal.returns-in_err-make_room_for_line-clause-part

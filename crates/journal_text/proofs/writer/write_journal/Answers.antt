@@ -10,11 +10,11 @@ use Rattle.streams.specs.Waiting.{IsTextWritten}
 use Rattle.streams.proofs.Parts.{part_of_more}
 use Rattle.streams.proofs.Waiting.{broken, finished, gathered, passed}
 use Rattle.journal_text.proofs.writer.write_journal.Goals as goal
-use Rattle.journal_text.proofs.writer.write_journal.Goals.{After-push_count_line}
+use Rattle.journal_text.proofs.writer.write_journal.Goals.{After-push_ended_line}
 
 -- the whole text is written, but for what waits with the last line
-made : (g : _) (c : goal.After-push_count_line g) → IsTextWritten (g.W.CountedWrite.contents c.args.writer.now) (g.W.CountedWrite.contents c.make_room_for_line.new.writer)
-    c.push_count_line.new.text.items (journal_of Two c.args.session.now.kept)
+made : (g : _) (c : goal.After-push_ended_line g) → IsTextWritten (g.W.CountedWrite.contents c.args.writer.now) (g.W.CountedWrite.contents c.make_room_for_line.new.writer)
+    c.push_ended_line.new.text.items (journal_of Two c.args.session.now.kept)
 made g c =
     let kept = c.args.session.now.kept in
     let old = g.W.CountedWrite.contents c.args.writer.now in
@@ -22,13 +22,13 @@ made g c =
     let mid = g.W.CountedWrite.contents c.make_room_for_line.new.writer in
     let room = c.make_room_for_line.new.text.items in
     let line = ended_line (text_of (Steps (length kept))) in
-    let count : c.push_count_line.new.text.items ≡ room ++ line = c.push_count_line.ensures.items ∙ ap (λ n. room ++ ended_line (text_of (Steps n))) c.len.ensures.len in
-    gathered old mid room c.push_count_line.new.text.items line (begun Two kept) (journal_of Two kept) count refl
+    let count : c.push_ended_line.new.text.items ≡ room ++ line = c.push_ended_line.ensures.items ∙ ap (λ n. room ++ ended_line (text_of (Steps n))) c.len.ensures.len in
+    gathered old mid room c.push_ended_line.new.text.items line (begun Two kept) (journal_of Two kept) count refl
     (passed old first mid c.write_entries.new.text.items room (begun Two kept) c.in_ok-write_entries.ensures.written c.in_ok-make_room_for_line.ensures.written)
 
 pub returns-clause-text : goal.returns-clause-text
 returns-clause-text g c =
-    finished _ _ _ c.push_count_line.new.text.items _ (made g (goal.at.returns-clause-text g c).After-push_count_line)
+    finished _ _ _ c.push_ended_line.new.text.items _ (made g (goal.at.returns-clause-text g c).After-push_ended_line)
     (subst (Appends _ _) c.as_slice.ensures.value c.in_ok-write_all_within.ensures.bytes)
 
 pub returns-clause-lines : goal.returns-clause-lines
@@ -42,5 +42,5 @@ returns-in_err-make_room_for_line-clause-part g c = λ failed.
 
 pub returns-in_err-write_all_within-clause-part : goal.returns-in_err-write_all_within-clause-part
 returns-in_err-write_all_within-clause-part g c = λ failed.
-    broken _ _ _ c.push_count_line.new.text.items _ (made g (goal.at.returns-in_err-write_all_within-clause-part g c).After-push_count_line)
+    broken _ _ _ c.push_ended_line.new.text.items _ (made g (goal.at.returns-in_err-write_all_within-clause-part g c).After-push_ended_line)
     (subst (AppendsPart _ _) c.as_slice.ensures.value c.in_err-write_all_within.ensures.part)
