@@ -1,7 +1,6 @@
 -- What the subcommands write that read a trace and write a text: `run` and `sweep`, `intervals`, `part`,
 -- `compare` and `footprint`.
-use Rattle.std.specs.Prelude.{◌≡◌, ◌≤◌, ℕ, Bool, if◌then◌else◌, List, Option, None, Some, IfSome, flat_map, map, codes, length, ◌++◌}
-use Rattle.std.specs.Fmt.{decimal}
+use Rattle.std.specs.Prelude.{◌≡◌, ◌≤◌, ℕ, Bool, if◌then◌else◌, List, Option, None, Some, IfSome, flat_map, map, length}
 pub use Rattle.step_record.specs.declared.job.Job.{Job}
 use Rattle.command_line.specs.declared.arguments.Arguments.{Arguments}
 use Rattle.command_line.specs.declared.arguments.Arguments.TheVariants as asked
@@ -16,8 +15,7 @@ use Rattle.policies.specs.AnyPolicy.{outcomes_on}
 use Rattle.policies.specs.Reports.{report_on}
 use Rattle.policies.specs.declared.job_checks.TheConstants.{MAX_ACTORS}
 use Rattle.sweeps.specs.Intervals.{Interval, intervals_on}
-use Rattle.trace_footprint.specs.Footprint.{footprint_of}
-use Rattle.trace_footprint.specs.declared.footprint.Footprint.{Footprint}
+use Rattle.trace_footprint.specs.Footprint.{footprint_of, footprint_text}
 use Rattle.report.specs.IntervalText.{intervals_text}
 use Rattle.policy_queues.specs.QueueRows.{queues_text}
 use Rattle.report.specs.Text.{Report, reports_text}
@@ -57,11 +55,6 @@ IfFaultlessWithin limits format input P =
 -- the same of a trace that is kept
 abbrev pub IfFaultless : Format → Option (List ℕ) → (List ℕ → Type 0) → Type 0
 IfFaultless = IfFaultlessWithin DEFAULT
-
--- the header and the row of how large a trace is
-abbrev pub footprint_text : Footprint → List ℕ
-footprint_text f = codes "accesses,blocks,once\n"
-    ++ (decimal f.accesses ++ (codes "," ++ (decimal f.blocks ++ (codes "," ++ (decimal f.once ++ codes "\n")))))
 
 -- The text that these arguments ask for, over the accesses: of `run` and `sweep` the report of each policy, at each
 -- capacity; of `intervals` the rows of each policy, and with `--inside` of each of its queues; of `part` the line of the

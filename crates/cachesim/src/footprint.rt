@@ -1,17 +1,14 @@
 //! The subcommand `footprint`: how large a trace is.
-ghost use Rattle.std.specs.Prelude.{◌≡◌, IfOk, string_bytes};
 ghost use Rattle.command_line.specs.Accepted.{AreLimits};
 ghost use Rattle.command_line.specs.declared.arguments.Arguments.TheVariants.{Footprint as OfFootprint};
 ghost use Rattle.cachesim.specs.Subcommand.{IsMade};
-ghost use Rattle.cachesim.specs.TraceOutput.{footprint_text};
 
 use crate::fault::Fault;
 use command_line::FootprintArguments;
 use progress::Watch;
-use std::alloc::{AllocError, Global};
+use std::alloc::Global;
 use std::thread::Threads;
 use streams::CountedRead;
-use trace_footprint::Footprint;
 
 /// A header and a row: how many accesses, how many distinct blocks, and how many of these are accessed once.
 pub fn footprint<T: Threads + Sync, R: CountedRead, P: Watch>(
@@ -26,18 +23,5 @@ pub fn footprint<T: Threads + Sync, R: CountedRead, P: Watch>(
 {
     watch.begin("footprint");
     let found = long_traces::footprint(rt, alloc, input, arguments.format, arguments.limits)?;
-    let text = footprint_text(alloc, found)?;
-    Ok(text.into_bytes())
-}
-
-// The text of a footprint.
-fn footprint_text(alloc: Global, footprint: Footprint) -> Result<String, AllocError>
-    ensures { IfOk result (λ text. string_bytes text ≡ footprint_text footprint) }
-{
-    let Footprint {
-        accesses,
-        blocks,
-        once,
-    } = footprint;
-    format!(in alloc; "accesses,blocks,once\n{accesses},{blocks},{once}\n")
+    Ok(found.text(alloc)?)
 }

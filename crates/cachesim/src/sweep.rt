@@ -25,7 +25,8 @@ const ENTRIES_AT_ONCE: u64 = 1 << 21;
 
 /// The reports of the policies that the arguments name at each of the capacities, as text: those of the first policy in
 /// the order of the capacities, then those of the second, and so on. A trace that is not long is kept where a policy goes
-/// by it whole, and where it takes less memory than all caches at once. Too many policies are reported only if the trace has no fault.
+/// by it whole, and where it takes less memory than all caches at once. Too many policies are reported only if the trace
+/// has no fault.
 pub fn sweep<T: Threads + Wait + Sync, R: CountedRead, P: Watch>(
     rt: &T,
     alloc: Global,

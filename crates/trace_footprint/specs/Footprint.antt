@@ -1,5 +1,6 @@
 -- How large a trace is.
-use Rattle.std.specs.Prelude.{◌==◌, ℕ, List, count_by, length}
+use Rattle.std.specs.Prelude.{◌==◌, ◌++◌, ℕ, List, codes, count_by, length}
+use Rattle.std.specs.Fmt.{decimal}
 use Rattle.std.specs.Set.{distinct_count}
 pub use Rattle.trace_footprint.specs.declared.footprint.Footprint.{Footprint}
 
@@ -14,3 +15,8 @@ footprint_of keys = record {
   blocks = distinct_count (λ a b. a == b) keys;
   once = count_by (λ key. times key keys == 1) keys;
 }
+
+-- the header, and the row of a footprint
+abbrev pub footprint_text : Footprint → List ℕ
+footprint_text f = codes "accesses,blocks,once\n"
+    ++ (decimal f.accesses ++ (codes "," ++ (decimal f.blocks ++ (codes "," ++ (decimal f.once ++ codes "\n")))))
