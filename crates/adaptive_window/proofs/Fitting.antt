@@ -1,5 +1,5 @@
 -- An access as the fields show it, that its record fits, and that it undoes the access.
-use Rattle.std.proofs.Common.{◌≡◌, ℕ, ◌+◌, ◌≤◌, Bool, Option, ap, refl, arith, ◌≢◌, Some, Ok, ◌∙◌, sym}
+use Rattle.std.proofs.Common.{◌≡◌, ℕ, ◌≤◌, Bool, Option, ap, refl, arith, ◌≢◌, Some, Ok, ◌∙◌, sym, subst}
 use Rattle.std.proofs.lemmas.Bool.Decides.{nat_tests}
 use Rattle.engine_base.specs.Stats.{is_hit, stats_with, IsTally}
 use Rattle.segments.specs.Queues.{Queues, total_items}
@@ -9,7 +9,7 @@ use Rattle.replacement.specs.PlanMoves.{moves_of, UndoesMoves}
 use Rattle.replacement.specs.Table.{access}
 use Rattle.replacement.specs.declared.rules.Placement.TheVariants.{Windowed}
 use Rattle.replacement.proofs.Balance.{fits-total, balanced}
-use Rattle.replacement.proofs.Carrying.{plan-undone}
+use Rattle.replacement.proofs.Carrying.{access-undone}
 use Rattle.replacement.proofs.Planned.{accesses_planned}
 use Rattle.adaptive_window.specs.declared.window_record.SizeChange.{SizeChange}
 use Rattle.adaptive_window.specs.declared.window_record.WindowRecord.{WindowRecord}
@@ -70,7 +70,9 @@ module _ (p : ClimbRules) (admits : ℕ → ℕ → Bool) (i : Item) (s : Adapti
   climber = climber_after p (is_hit (response_of p admits i s).outcome) s.climber
 
   first : UndoesMoves s.queues queues (moves_of (plan rules admits i s.queues) s.queues)
-  first = plan-undone (plan rules admits i s.queues) s.queues queues _ h.distinct (ap (λ x. x.queues) (accesses_planned rules admits i s.queues h.distinct)) refl
+  first =
+      subst (λ (q : Queues). UndoesMoves s.queues q (moves_of (plan rules admits i s.queues) s.queues))
+      (sym (ap (λ x. x.queues) (accesses_planned rules admits i s.queues h.distinct))) (access-undone rules admits i s.queues h.distinct)
 
   then : queues_before_change (size_change p climber.target s.size queues) (queues_resized p climber.target s.size queues) ≡ queues
   then = resized-back p climber.target s.size queues

@@ -12,6 +12,7 @@ use Rattle.segments.specs.Queues.{queue_holding}
 use Rattle.admission.specs.Frequency.{FrequencyData, empty_frequency, frequency_with, ages, halves, pace_of}
 use Rattle.admission.specs.FreqRecord.{frequency_record, frequency_before, FitsRecord, size_of}
 use Rattle.replacement.specs.Admission.{admits_in}
+use Rattle.replacement.specs.PlanMoves.{leaver_in}
 use Rattle.replacement.specs.Shape.{open_shape_of}
 use Rattle.adaptive_window.specs.declared.adaptive_cache.AdaptiveRecord.{AdaptiveRecord}
 use Rattle.adaptive_window.specs.Climber.{ClimbRules, caffeine_rules, first_window}
@@ -83,7 +84,7 @@ cache_undone r d = record {
 
 -- undoing the access takes memory: an item left in it, which comes back
 abbrev pub cache_asks : AdaptiveRecord → Type 0
-cache_asks r = r.window.access.out ≢ None
+cache_asks r = leaver_in r.window.access ≢ None
 
 abbrev pub cache_words : AdaptiveRecord → ℕ
 cache_words r = size_of r.counting

@@ -221,7 +221,7 @@ impl Engine for AdaptiveCache {
     }
 
     fn undo(&mut self, done: AdaptiveRecord) -> Result<(), AdaptiveRecord> {
-        let asks = done.window.access.moves().out.is_some();
+        let asks = done.window.access.leaver().is_some();
         if asks && self.window.reserve().is_err() {
             return Err(done);
         }

@@ -7,7 +7,7 @@ ghost use Rattle.segments.specs.Queues.{queue_holding, residents_in};
 ghost use Rattle.key_rows.specs.KeyRow.{row_of};
 ghost use Rattle.key_rows.specs.SegmentKeys.{AreKeys};
 ghost use Rattle.replacement.specs.Admission.{admits_in};
-ghost use Rattle.replacement.specs.PlanMoves.{needed_by};
+ghost use Rattle.replacement.specs.PlanMoves.{leaver_in, room_for};
 ghost use Rattle.adaptive_window.specs.Climber.{AreSmallRules, caffeine_rules, first_window};
 ghost use Rattle.adaptive_window.specs.AdaptiveWindow.{empty_adaptive, adaptive_act};
 ghost use Rattle.adaptive_window.specs.WindowRecord.{window_record_of, window_undone, WindowFits};
@@ -19,7 +19,7 @@ use admission::Frequency;
 use engine_base::{Config, Item, Key, Outcome};
 use key_rows::three_queues_row;
 use named_queues::{NamedQueue, three_queues};
-use replacement::{KeptMoves, access, make_room, undo};
+use replacement::{access, make_room, undo};
 use segments::{Queue, Segments};
 use std::alloc::{AllocError, Global};
 use std::marker::Model;
@@ -181,7 +181,7 @@ impl AdaptiveWindow {
         self.size = resized.size;
         WindowRecord {
             outcome: effect.outcome,
-            access: KeptMoves::of(effect.moves),
+            access: effect.moves,
             size: resized.change,
             period,
         }
@@ -207,12 +207,12 @@ impl AdaptiveWindow {
     /// fits, and room for the item that left, if one did.
     pub fn undo(&mut self, done: WindowRecord)
         requires fits { WindowFits self.old.rules done self.old.state }
-        requires room { needed_by done.access.out ≤ self.old.spare }
+        requires room { room_for (leaver_in done.access) ≤ self.old.spare }
         ensures state { self.new.state ≡ window_undone done self.old.state }
         ensures rules { self.new.rules ≡ self.old.rules }
     {
         undo_runs(&mut self.segments, done.size);
-        undo(&mut self.segments, done.access.moves());
+        undo(&mut self.segments, done.access);
         self.size = size_before(done.size, self.size);
         self.climber.uncount(done.period, is_hit(done.outcome));
     }

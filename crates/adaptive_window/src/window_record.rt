@@ -1,7 +1,7 @@
 //! The undo record of an access with an adaptive window.
 use crate::climber::Climber;
 use engine_base::Outcome;
-use replacement::KeptMoves;
+use replacement::Moves;
 
 /// How the window's size in force changed, and how many items went from queue to queue then. It holds no list.
 #[derive(Clone, Copy)]
@@ -33,7 +33,7 @@ pub struct WindowRecord {
     /// The outcome.
     pub outcome: Outcome,
     /// What the access moved.
-    pub access: KeptMoves,
+    pub access: Moves,
     /// How the size in force changed.
     pub size: SizeChange,
     /// The climber before the access, where that ended a period.

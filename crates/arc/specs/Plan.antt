@@ -1,4 +1,4 @@
--- ARC (`Arc`) as the plan of an access. The policy's number is p, how many keys t1 is to have.
+-- ARC (`Arc`) as the plan of an access. The policy's own number is p, how many keys t1 is to have.
 use Rattle.std.specs.Prelude.{ℕ, ◌+◌, ◌-◌, ◌*◌, ◌/◌, min, max, nat_lt, ◌==◌, ◌&&◌, ◌||◌, Bool, true, false}
 use Rattle.std.specs.Prelude.{if◌then◌else◌, Option, Some, None, List, [], ◌∷◌, codes, length}
 use Rattle.queue_table.specs.Queues.{Queues}

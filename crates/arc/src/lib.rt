@@ -31,7 +31,7 @@ const B1: u8 = 2;
 
 const B2: u8 = 3;
 
-/// An access to a key, by ARC's plan, where `t1` is to have `scalar` keys. The one error is out of memory; the queues
+/// An access to a key, by ARC's plan, where `t1` is to have `own_number` keys. The one error is out of memory; the queues
 /// are then as before.
 ///
 /// `C` selects an instance (docs/ARCHITECTURE.md).
@@ -39,31 +39,31 @@ const B2: u8 = 3;
 pub fn step<C>(
     table: &mut KeyQueues,
     capacity: u32,
-    scalar: u32,
+    own_number: u32,
     key: Key,
 ) -> Result<Accessed, AllocError>
     requires few { capacity ≤ MAX_CAPACITY }
-    requires state { IsArc capacity (arc_of scalar (queues table.old)) }
-    ensures accessed { IfOk result (λ a. IsAccessed (arc_plan capacity key scalar (queues table.old))
-        (item_of key) scalar (queues table.old) (queues table.new) a) }
+    requires state { IsArc capacity (arc_of own_number (queues table.old)) }
+    ensures accessed { IfOk result (λ a. IsAccessed (arc_plan capacity key own_number (queues table.old))
+        (item_of key) own_number (queues table.old) (queues table.new) a) }
     // A hit asks for no memory.
-    ensures memory { OnErr result ((arc_plan capacity key scalar (queues table.old)).hits ≡ false) }
+    ensures memory { OnErr result ((arc_plan capacity key own_number (queues table.old)).hits ≡ false) }
     ensures err { OnErr result (queues table.new ≡ queues table.old) }
 {
     let Some(found) = table.find(key) else {
-        return new_key::<C>(table, capacity, scalar, key);
+        return new_key::<C>(table, capacity, own_number, key);
     };
     table.tabled();
     if is_resident(found.queue) {
-        return Ok(hit(table.send(key, found, T2, 0), scalar));
+        return Ok(hit(table.send(key, found, T2, 0), own_number));
     }
     let in_b2 = found.queue == B2;
     let target = if in_b2 {
-        lowered(table, scalar)
+        lowered(table, own_number)
     } else {
-        raised(table, capacity, scalar)
+        raised(table, capacity, own_number)
     };
-    Ok(recalled::<C>(table, key, found, scalar, target, in_b2))
+    Ok(recalled::<C>(table, key, found, own_number, target, in_b2))
 }
 
 // Whether it is the number of t1 or t2.

@@ -1,6 +1,6 @@
 -- CAR (`Car`) as the plan of an access. In a full cache the keys of t1 with a bit go to t2, until t1 has fewer than p
 -- keys. Then the keys with a bit of the queue that gives up a key go to its recent end, and the oldest leaves for its
--- ghost: of t1 none has to go. The policy's number is p.
+-- ghost: of t1 none has to go. The policy's own number is p.
 use Rattle.std.specs.Prelude.{ℕ, ◌+◌, ◌-◌, ◌*◌, ◌/◌, min, max, nat_lt, ◌==◌, ◌||◌, Bool, true, false, if◌then◌else◌}
 use Rattle.std.specs.Prelude.{Option, Some, None, List, [], ◌∷◌, codes, length}
 use Rattle.queue_table.specs.Queues.{Queues}

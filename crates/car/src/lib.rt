@@ -41,7 +41,7 @@ pub struct Replaced {
     pub first: Left,
 }
 
-/// An access to a key, by CAR's plan, where `t1` is to have `scalar` keys. The one error is out of memory; the queues
+/// An access to a key, by CAR's plan, where `t1` is to have `own_number` keys. The one error is out of memory; the queues
 /// are then as before.
 ///
 /// `C` selects an instance (docs/ARCHITECTURE.md).
@@ -49,28 +49,28 @@ pub struct Replaced {
 pub fn step<C>(
     table: &mut KeyQueues,
     capacity: u32,
-    scalar: u32,
+    own_number: u32,
     key: Key,
 ) -> Result<Accessed, AllocError>
     requires few { capacity ≤ MAX_CAPACITY }
-    requires state { IsCar capacity (car_of scalar (queues table.old)) }
-    ensures accessed { IfOk result (λ a. IsAccessed (car_plan capacity key scalar (queues table.old))
-        (item_of key) scalar (queues table.old) (queues table.new) a) }
+    requires state { IsCar capacity (car_of own_number (queues table.old)) }
+    ensures accessed { IfOk result (λ a. IsAccessed (car_plan capacity key own_number (queues table.old))
+        (item_of key) own_number (queues table.old) (queues table.new) a) }
     // A hit asks for no memory.
-    ensures memory { OnErr result ((car_plan capacity key scalar (queues table.old)).hits ≡ false) }
+    ensures memory { OnErr result ((car_plan capacity key own_number (queues table.old)).hits ≡ false) }
     ensures err { OnErr result (queues table.new ≡ queues table.old) }
 {
     let Some(found) = table.find(key) else {
         // Room is made before anything moves.
         table.reserve()?;
-        return Ok(new_key::<C>(table, capacity, scalar, key));
+        return Ok(new_key::<C>(table, capacity, own_number, key));
     };
     table.tabled();
     if is_resident(found.queue) {
-        return Ok(hit(table.recount(key, found, 1), scalar));
+        return Ok(hit(table.recount(key, found, 1), own_number));
     }
     let in_b1 = found.queue == B1;
-    Ok(recalled::<C>(table, capacity, scalar, key, found, in_b1))
+    Ok(recalled::<C>(table, capacity, own_number, key, found, in_b1))
 }
 
 // Whether a key of this queue is in the cache.

@@ -22,7 +22,7 @@ abbrev pub clock_eviction_plan : ℕ → ℕ → Queues → Plan
 clock_eviction_plan c x s =
     leaver_plan (run QUEUE QUEUE 1 (turns_due c QUEUE QUEUE 1 1 s)) no_run (leaving QUEUE None) (goes QUEUE 1) x
 
--- an access to k, where x is the policy's number, which stays
+-- an access to k, where x is the policy's own number, which stays
 abbrev pub clock_plan : ℕ → ℕ → ℕ → Queues → Plan
 clock_plan c k x s =
     resident_plan (standing (item_of k) s) (nat_lt (length (s QUEUE)) c) (counts 1) (goes QUEUE 1) x

@@ -28,42 +28,42 @@ const QUEUE: u8 = 0;
 pub fn step<C>(
     table: &mut KeyQueues,
     capacity: u32,
-    scalar: u32,
+    own_number: u32,
     key: Key,
 ) -> Result<Accessed, AllocError>
-    ensures accessed { IfOk result (λ a. IsAccessed (clock_plan capacity key scalar (queues table.old)) (item_of key)
-        scalar (queues table.old) (queues table.new) a) }
+    ensures accessed { IfOk result (λ a. IsAccessed (clock_plan capacity key own_number (queues table.old)) (item_of key)
+        own_number (queues table.old) (queues table.new) a) }
     // A hit asks for no memory.
-    ensures memory { OnErr result ((clock_plan capacity key scalar (queues table.old)).hits ≡ false) }
+    ensures memory { OnErr result ((clock_plan capacity key own_number (queues table.old)).hits ≡ false) }
     ensures err { OnErr result (queues table.new ≡ queues table.old) }
 {
     match table.find(key) {
         Some(found) => {
             let own = table.recount(key, found, 1);
-            Ok(hit(own, scalar))
+            Ok(hit(own, own_number))
         }
         None => {
             table.reserve()?;
             if table.len(QUEUE) < capacity as usize {
                 let own = table.join_apart(key, QUEUE, 1);
-                return Ok(kept(own, scalar));
+                return Ok(kept(own, own_number));
             }
-            Ok(evict(table, capacity, scalar, key))
+            Ok(evict(table, capacity, own_number, key))
         }
     }
 }
 
 // A miss of a full cache.
 #[inline(always)]
-fn evict(table: &mut KeyQueues, capacity: u32, scalar: u32, key: Key) -> Accessed
+fn evict(table: &mut KeyQueues, capacity: u32, own_number: u32, key: Key) -> Accessed
     requires room { 1 ≤ spare table.old }
     requires absent { queue_holding (item_of key) (queues table.old) ≡ None }
-    ensures { IsAccessed (clock_eviction_plan capacity scalar (queues table.old)) (item_of key) scalar
+    ensures { IsAccessed (clock_eviction_plan capacity own_number (queues table.old)) (item_of key) own_number
         (queues table.old) (queues table.new) result }
 {
     let early = table.run(QUEUE, QUEUE, 1, 1, capacity);
     let (first, own) = table.renew_oldest(QUEUE, key, QUEUE, 1);
-    evicted(early, Run::NONE, first, own, scalar, scalar)
+    evicted(early, Run::NONE, first, own, own_number, own_number)
 }
 
 /// The turns of an eviction end at a key whose reference bit is clear.

@@ -36,31 +36,31 @@ module _ (all : PagesAreSound) (p : DemandPolicy) (c x : ℕ) (s : Queues) (t : 
 
       pub next-queues : IsQueues c (cache_of p c y u)
       next-queues = is-cache p c y u h after-tabled
-          (subst (λ y. IsStateOf p c y u) (sym a.scalar) (subst (IsStateOf p c (plan_by p c k x s).scalar) (sym a.after) what.state))
+          (subst (λ y. IsStateOf p c y u) (sym a.own_number) (subst (IsStateOf p c (plan_by p c k x s).own_number) (sym a.after) what.state))
 
       pub act-is : queues_act k (cache_of p c x s) ≡ (o, cache_of p c y u)
       act-is = cc (lists-shown s t)
 
     module _ (u : Queues) (r : Accessed) (a : IsAccessed (plan_by p c k x s) (item_of k) x s u r) where
-      counted : IsCountedBy (plan_by p c k x s) (item_of k) s u r.outcome r.scalar
-      counted = record { outcome = a.outcome; scalar = a.scalar; after = a.carried.after }
+      counted : IsCountedBy (plan_by p c k x s) (item_of k) s u r.outcome r.own_number
+      counted = record { outcome = a.outcome; own_number = a.own_number; after = a.carried.after }
 
-      pub queues-recorded : IsQueues c (cache_of p c r.scalar u)
-      queues-recorded = next-queues u r.outcome r.scalar counted
+      pub queues-recorded : IsQueues c (cache_of p c r.own_number u)
+      queues-recorded = next-queues u r.outcome r.own_number counted
 
-      pub act-recorded : queues_act k (cache_of p c x s) ≡ (r.outcome, cache_of p c r.scalar u)
-      act-recorded = act-is u r.outcome r.scalar counted
+      pub act-recorded : queues_act k (cache_of p c x s) ≡ (r.outcome, cache_of p c r.own_number u)
+      act-recorded = act-is u r.outcome r.own_number counted
 
       next-tabled : IsTabled u
-      next-tabled = after-tabled u r.outcome r.scalar counted
+      next-tabled = after-tabled u r.outcome r.own_number counted
 
       pub record-is : r.moves ≡ queues_record_of k (cache_of p c x s)
       record-is = a.carried.is ∙ sym (ap (λ v. record_of (plan_by p c k x v) (item_of k) x v) (lists-shown s t))
 
-      pub undone-is : queues_undone r.moves (cache_of p c r.scalar u) ≡ cache_of p c x s
+      pub undone-is : queues_undone r.moves (cache_of p c r.own_number u) ≡ cache_of p c x s
       undone-is = search (arith, lists-shown u next-tabled, next-tabled)
 
-      pub record-fits : QueuesFits r.moves (cache_of p c r.scalar u)
+      pub record-fits : QueuesFits r.moves (cache_of p c r.own_number u)
       record-fits = record {
         moves = subst (FitsMoves r.moves) (sym (lists-shown u next-tabled)) a.carried.fits;
         before = subst (IsQueues c) (sym undone-is) i;
@@ -74,8 +74,8 @@ accepts d k o q stats h a e = grind (arith, nat_tests, ne_eqb d.stats.accesses M
 
 -- undoing, from the queues that a table has
 module _ (p : DemandPolicy) (c x : ℕ) (s u : Queues) (t : IsTabled s) (r : Moves) (done : u ≡ before_all r s) where
-  pub undone-shown : cache_of p c r.scalar u ≡ queues_undone r (cache_of p c x s)
-  undone-shown = ap (cache_of p c r.scalar) (done ∙ sym (ap (before_all r) (lists-shown s t)))
+  pub undone-shown : cache_of p c r.own_number u ≡ queues_undone r (cache_of p c x s)
+  undone-shown = ap (cache_of p c r.own_number) (done ∙ sym (ap (before_all r) (lists-shown s t)))
 
 pub moves-fit : (s : Queues) → IsTabled s → (r : Moves) → FitsMoves r (queues_in (lists_of s)) → FitsMoves r s
 moves-fit s t r f = subst (FitsMoves r) (lists-shown s t) f

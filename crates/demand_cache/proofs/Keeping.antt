@@ -41,8 +41,8 @@ pages-sound Car = car-sound
 
 -- what an access by the plan p comes to, in a cache of the policy
 pub record IsKept (p : DemandPolicy) (c k x : ℕ) (s : Queues) (plan : Plan) : Type 0 where
-  pub state : IsStateOf p c plan.scalar (after_all plan (item_of k) s)
-  pub access : IsAccess c k (residents_by p x s) (outcome_of plan s) (residents_by p plan.scalar (after_all plan (item_of k) s))
+  pub state : IsStateOf p c plan.own_number (after_all plan (item_of k) s)
+  pub access : IsAccess c k (residents_by p x s) (outcome_of plan s) (residents_by p plan.own_number (after_all plan (item_of k) s))
   pub low : IsLowPlan plan
   pub hits : plan.hits ≡ has_key k (residents_by p x s)
 
@@ -63,12 +63,12 @@ kept all p c k x s h t i =
 -- ---- the queues of a cache
 
 abbrev pub cache_of : DemandPolicy → ℕ → ℕ → Queues → DemandQueues
-cache_of p c x s = record { policy = p; capacity = c; scalar = x; lists = lists_of s }
+cache_of p c x s = record { policy = p; capacity = c; own_number = x; lists = lists_of s }
 
 pub is-cache : (p : DemandPolicy) (c x : ℕ) (s : Queues) → 1 ≤ c → IsTabled s → IsStateOf p c x s → IsQueues c (cache_of p c x s)
 is-cache p c x s h t i = search (arith, lists-shown s t)
 
-pub kept-of : PagesAreSound → (c k : ℕ) (d : DemandQueues) → 1 ≤ c → IsQueues c d → IsKept d.policy d.capacity k d.scalar (queues_of d) (plan_of k d)
+pub kept-of : PagesAreSound → (c k : ℕ) (d : DemandQueues) → 1 ≤ c → IsQueues c d → IsKept d.policy d.capacity k d.own_number (queues_of d) (plan_of k d)
 kept-of all c k d h i = grind (arith, nat_tests, kept)
 
 next-tabled : PagesAreSound → (c k : ℕ) (d : DemandQueues) → 1 ≤ c → IsQueues c d → IsTabled (after_all (plan_of k d) (item_of k) (queues_of d))
@@ -123,9 +123,9 @@ module _ (all : PagesAreSound) (p : DemandPolicy) (c : ℕ) (h : 1 ≤ c) where
       let q = (all p).planned c k x (queues_in l) h i.tabled i.state.0 i.state.1 in
       let plan = plan_by p c k x (queues_in l) in
       let u = after_all plan (item_of k) (queues_in l) in
-      let rest = simulated keys plan.scalar (lists_of u) (demand_access k d).1.stats (next-keeps all c h k d.queues i) in
+      let rest = simulated keys plan.own_number (lists_of u) (demand_access k d).1.stats (next-keeps all c h k d.queues i) in
       ap (λ o. o ∷ outcomes_of_all demand_access (demand_access k d).1 keys) q.0.outcome
-      ∙ ap (λ r. (page.act c k (page.view x (queues_in l))).0 ∷ r) (rest ∙ ap (λ v. outcomes_of_all (page.act c) v keys) (ap (page.view plan.scalar) (lists-shown u (next-tabled all c k d.queues h i)) ∙ q.0.state))
+      ∙ ap (λ r. (page.act c k (page.view x (queues_in l))).0 ∷ r) (rest ∙ ap (λ v. outcomes_of_all (page.act c) v keys) (ap (page.view plan.own_number) (lists-shown u (next-tabled all c k d.queues h i)) ∙ q.0.state))
 
 pub runs-by-page : PagesAreSound → RunsByPage
 runs-by-page all p c keys h =

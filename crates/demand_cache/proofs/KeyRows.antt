@@ -12,7 +12,7 @@ use Rattle.queue_moves.specs.Moves.{item_of, standing, standing_at}
 use Rattle.queue_moves.specs.Tabled.{Entry, IsTabled, keys_of}
 use Rattle.queue_moves.proofs.Tabled.{stands, stands-nowhere}
 use Rattle.demand_cache.specs.QueueRow.{QueueRow, IsQueueOf, named_row, numbered_keys}
-use Rattle.demand_cache.specs.declared.demand_policy.QueueRow.TheVariants.{Keys, Counts, Scalar}
+use Rattle.demand_cache.specs.declared.demand_policy.QueueRow.TheVariants.{Keys, Counts, OwnNumber}
 
 -- ---- the keys of a row
 
@@ -28,12 +28,12 @@ counted-keys k (e ∷ l) = grind (arith, nat_tests, counted-keys k l)
 abbrev pub row_has : ℕ → ℕ → Option ℕ → QueueRow → Bool
 row_has k x o (Keys name q) = is_number q o
 row_has k x o (Counts name q) = is_number q o
-row_has k x o (Scalar name) = k == x
+row_has k x o (OwnNumber name) = k == x
 
 pub row-has : (k x : ℕ) (s : Queues) (o : Option ℕ) → IsQueueOf k s o → (r : QueueRow) → row_has k x o r ≡ has_named k (named_row x s r)
 row-has k x s o h (Keys name q) = sym (plain-keys k (keys_of (s q)) ∙ h q)
 row-has k x s o h (Counts name q) = sym (counted-keys k (s q) ∙ h q)
-row-has k x s o h (Scalar name) = grind (arith, nat_tests)
+row-has k x s o h (OwnNumber name) = grind (arith, nat_tests)
 
 -- ---- the queue of a key
 

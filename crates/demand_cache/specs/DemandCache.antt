@@ -20,7 +20,7 @@ pub record DemandState : Type 0 where
 
 abbrev pub state_of : DemandPolicy → ℕ → ℕ → QueueLists → Stats → DemandState
 state_of p c x l stats =
-    record { queues = record { policy = p; capacity = c; scalar = x; lists = l }; stats = stats }
+    record { queues = record { policy = p; capacity = c; own_number = x; lists = l }; stats = stats }
 
 abbrev pub state_with : Stats → Outcome × DemandQueues → DemandState
 state_with stats a = record { queues = a.1; stats = stats_with a.0 stats }
@@ -68,10 +68,10 @@ pub record IsDemand (d : DemandState) : Type 0 where
   pub queues : IsQueues d.queues.capacity d.queues
   pub counts : IsTally d.stats
 
--- an access to i by the plan, of which the outcome o and the policy's number y are read, and not its record
+-- an access to i by the plan, of which the outcome o and the policy's own number y are read, and not its record
 pub record IsCountedBy (p : Plan) (i : Item) (s u : Queues) (o : Outcome) (y : ℕ) : Type 0 where
   pub outcome : o ≡ outcome_of p s
-  pub scalar : y ≡ p.scalar
+  pub own_number : y ≡ p.own_number
   pub after : u ≡ after_all p i s
 
 -- the record is that of the last access: its outcome was counted last

@@ -30,7 +30,7 @@ page_of Car = car_page
 
 -- ---- all policies
 
--- the plan of an access to k at capacity c, where x is the policy's number
+-- the plan of an access to k at capacity c, where x is the policy's own number
 abbrev pub plan_by : DemandPolicy → ℕ → ℕ → ℕ → Queues → Plan
 plan_by p = (page_of p).plan
 

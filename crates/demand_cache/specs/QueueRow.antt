@@ -10,7 +10,7 @@ use Rattle.policy_page.specs.Named.{counted_queue}
 use Rattle.queue_moves.specs.Tabled.{Entry, keys_of}
 use Rattle.queue_table.specs.Queues.{QUEUES, Queues}
 pub use Rattle.demand_cache.specs.declared.demand_policy.QueueRow.{QueueRow}
-use Rattle.demand_cache.specs.declared.demand_policy.QueueRow.TheVariants.{Keys, Counts, Scalar}
+use Rattle.demand_cache.specs.declared.demand_policy.QueueRow.TheVariants.{Keys, Counts, OwnNumber}
 
 -- the keys of entries, each with its count
 abbrev pub numbered_keys : List Entry → List QueueKey
@@ -19,13 +19,13 @@ numbered_keys l = map (λ (e : CountedKey). numbered_key e.key e.count) (counted
 abbrev pub named_row : ℕ → Queues → QueueRow → NamedQueueData
 named_row x s (Keys name q) = plain_queue name.now (keys_of (s q))
 named_row x s (Counts name q) = counted_queue name.now (counted_keys (s q))
-named_row x s (Scalar name) = plain_queue name.now (x ∷ [])
+named_row x s (OwnNumber name) = plain_queue name.now (x ∷ [])
 
 -- the queue is one of those that there are
 abbrev pub IsLowRow : QueueRow → Type 0
 IsLowRow (Keys name q) = q < QUEUES
 IsLowRow (Counts name q) = q < QUEUES
-IsLowRow (Scalar name) = Unit {0}
+IsLowRow (OwnNumber name) = Unit {0}
 
 -- the key stands in this one of the queues by number and in no other, or in none
 abbrev pub IsQueueOf : ℕ → Queues → Option ℕ → Type 0

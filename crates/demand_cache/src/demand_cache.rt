@@ -22,10 +22,10 @@ use std::marker::Model;
 /// A cache of a policy that keeps each missed key.
 #[derive(Drop)]
 pub struct DemandCache {
-    policy: DemandPolicy,
+    pub(crate) policy: DemandPolicy,
     capacity: u32,
     /// The policy's own number: ARC's target, the queue that is ahead of SIEVE's hand.
-    scalar: u32,
+    own_number: u32,
     queues: KeyQueues,
     stats: Stats,
 }
@@ -46,9 +46,9 @@ impl Model for DemandCache {
 
     ghost Value = { DemandState };
 
-    ghost view = { λ t. state_of t.policy t.capacity t.scalar (lists_of (queues_at t.queues)) t.stats };
+    ghost view = { λ t. state_of t.policy t.capacity t.own_number (lists_of (queues_at t.queues)) t.stats };
 
-    ghost invariant = { λ t. IsDemand (state_of t.policy t.capacity t.scalar (lists_of (queues_at t.queues)) t.stats) };
+    ghost invariant = { λ t. IsDemand (state_of t.policy t.capacity t.own_number (lists_of (queues_at t.queues)) t.stats) };
 }
 
 impl DemandCache {
@@ -64,7 +64,7 @@ impl DemandCache {
         DemandCache {
             policy,
             capacity,
-            scalar: 0,
+            own_number: 0,
             queues: KeyQueues::for_items(alloc, policy.keys_in(capacity)),
             stats: Stats::NONE,
         }
@@ -86,8 +86,7 @@ impl DemandCache {
     /// Errors: `NotNow` exactly where `MAX_STEPS` accesses are applied, and `OutOfMemory`; each leaves the cache as it
     /// was.
     ///
-    /// `C` only selects an instance: calls with different `C` are compiled apart, so that one which is called at one
-    /// place is part of the loop there.
+    /// `C` selects an instance (docs/ARCHITECTURE.md).
     #[inline(always)]
     pub fn access<C>(&mut self, key: Key) -> Result<Outcome, StepFault>
         ensures accepted { IfOk result (λ o. demand_act self.old key ≡ Some (o, self.new)) }
@@ -95,22 +94,12 @@ impl DemandCache {
         ensures memory { result ≡ Err StepFault.OutOfMemory → demand_may_ask self.old key }
         ensures err { OnErr result (self.new ≡ self.old) }
     {
-        self.access_as::<C>(self.policy, key)
+        self.access_by::<C>(self.policy, key)
     }
 
-    /// Makes the accesses in turn, none of which is to be undone: at most `MAX_STEPS` with those that it made. The one error
-    /// is that an allocation failed: the cache has made those before an access that may ask for memory.
-    pub fn access_all(&mut self, keys: &[Key]) -> Result<(), AllocError>
-        requires { self.old.stats.accesses + length keys.now ≤ MAX_STEPS }
-        ensures all { OnOk result (self.new ≡ state_after_all demand_access self.old keys.now) }
-        ensures memory { OnErr result (DemandStops keys.now self.old self.new) }
-    {
-        self.policy.access_all(self, keys)
-    }
-
-    /// The same, of this policy, as a loop that is part of its caller.
+    /// The accesses of `access_all`, where the caller knows the policy, as a loop that is part of the caller.
     #[inline(always)]
-    pub(crate) fn access_each<C>(
+    pub(crate) fn access_all_by<C>(
         &mut self,
         policy: DemandPolicy,
         keys: &[Key],
@@ -122,7 +111,7 @@ impl DemandCache {
     {
         for i in 0..keys.len() {
             self.prefetch_at(keys, i);
-            match self.access_as::<C>(policy, keys[i]) {
+            match self.access_by::<C>(policy, keys[i]) {
                 Ok(_) => {}
                 Err(StepFault::OutOfMemory) => return Err(AllocError),
                 Err(StepFault::NotNow) => unreachable!(),
@@ -131,9 +120,9 @@ impl DemandCache {
         Ok(())
     }
 
-    // An access as `access` makes it, where the caller knows the policy, so that no step of another one is compiled.
+    // The access of `access`, where the caller knows the policy, so that no step of another one is compiled.
     #[inline(always)]
-    fn access_as<C>(&mut self, policy: DemandPolicy, key: Key) -> Result<Outcome, StepFault>
+    fn access_by<C>(&mut self, policy: DemandPolicy, key: Key) -> Result<Outcome, StepFault>
         requires { policy ≡ self.old.queues.policy }
         ensures accepted { IfOk result (λ o. demand_act self.old key ≡ Some (o, self.new)) }
         ensures not_now { result ≡ Err StepFault.NotNow ↔ demand_act self.old key ≡ None }
@@ -145,10 +134,10 @@ impl DemandCache {
             return Err(StepFault::NotNow);
         }
         self.queues.tabled();
-        match policy.count_out::<C>(&mut self.queues, self.capacity, self.scalar, key) {
+        match policy.count_out::<C>(&mut self.queues, self.capacity, self.own_number, key) {
             Err(_) => Err(StepFault::OutOfMemory),
             Ok(done) => {
-                self.scalar = done.scalar;
+                self.own_number = done.own_number;
                 self.stats.count(done.outcome);
                 Ok(done.outcome)
             }
@@ -178,8 +167,8 @@ impl DemandCache {
     {
         self.queues.tabled();
         let mut named = Vec::new(alloc);
-        for row in self.policy.queue_rows(self.scalar) {
-            push_row(alloc, &mut named, &self.queues, self.scalar, *row)?;
+        for row in self.policy.queue_rows(self.own_number) {
+            push_row(alloc, &mut named, &self.queues, self.own_number, *row)?;
         }
         Ok(named)
     }
@@ -190,8 +179,8 @@ impl DemandCache {
         ensures { result ≡ row_of key (queues_named self.now.queues) }
     {
         self.queues.tabled();
-        let rows = self.policy.queue_rows(self.scalar);
-        first_row(rows, self.scalar, queue_of(&self.queues, key), key)
+        let rows = self.policy.queue_rows(self.own_number);
+        first_row(rows, self.own_number, queue_of(&self.queues, key), key)
     }
 
     // Appends the resident keys.
@@ -199,7 +188,7 @@ impl DemandCache {
         ensures { OnOk result (keys.new.items ≡ keys.old.items ++ queues_residents self.now.queues) }
     {
         self.queues.tabled();
-        let (first, second) = self.policy.resident_queues(self.scalar);
+        let (first, second) = self.policy.resident_queues(self.own_number);
         self.queues.add_keys(first, keys)?;
         match second {
             Some(second) => self.queues.add_keys(second, keys),
@@ -213,11 +202,11 @@ fn push_row(
     alloc: Global,
     named: &mut Vec<NamedQueue>,
     queues: &KeyQueues,
-    scalar: u32,
+    own_number: u32,
     row: QueueRow,
 ) -> Result<(), AllocError>
     requires { IsLowRow row }
-    ensures { OnOk result (named.new.items ≡ named.old.items ++ named_row scalar (queues_at queues.now) row ∷ []) }
+    ensures { OnOk result (named.new.items ≡ named.old.items ++ named_row own_number (queues_at queues.now) row ∷ []) }
 {
     let mut keys = Vec::new(alloc);
     let name = match row {
@@ -229,9 +218,9 @@ fn push_row(
             push_counted(&mut keys, &queues.entries(queue)?)?;
             name
         }
-        QueueRow::Scalar(name) => {
+        QueueRow::OwnNumber(name) => {
             keys.push(QueueKey {
-                key: u64::from(scalar),
+                key: u64::from(own_number),
                 number: None,
             })?;
             name
@@ -279,11 +268,11 @@ fn queue_of(queues: &KeyQueues, key: Key) -> Option<u8>
 }
 
 // The number of the first of the rows that has the key, where this is the queue in which it stands.
-fn first_row(rows: &[QueueRow], scalar: u32, queue: Option<u8>, key: Key) -> Option<usize>
-    ensures { (s : Queues) → IsQueueOf key s queue → result ≡ row_of key (map (named_row scalar s) rows.now) }
+fn first_row(rows: &[QueueRow], own_number: u32, queue: Option<u8>, key: Key) -> Option<usize>
+    ensures { (s : Queues) → IsQueueOf key s queue → result ≡ row_of key (map (named_row own_number s) rows.now) }
 {
     for i in 0..rows.len() {
-        if has_key(rows[i], scalar, queue, key) {
+        if has_key(rows[i], own_number, queue, key) {
             return Some(i);
         }
     }
@@ -291,13 +280,13 @@ fn first_row(rows: &[QueueRow], scalar: u32, queue: Option<u8>, key: Key) -> Opt
 }
 
 // Whether the row has the key, where this is the queue in which it stands.
-fn has_key(row: QueueRow, scalar: u32, queue: Option<u8>, key: Key) -> bool
-    ensures { (s : Queues) → IsQueueOf key s queue → result ≡ has_named key (named_row scalar s row) }
+fn has_key(row: QueueRow, own_number: u32, queue: Option<u8>, key: Key) -> bool
+    ensures { (s : Queues) → IsQueueOf key s queue → result ≡ has_named key (named_row own_number s row) }
 {
     match row {
         QueueRow::Keys(_, number) => is_queue(queue, number),
         QueueRow::Counts(_, number) => is_queue(queue, number),
-        QueueRow::Scalar(_) => key == u64::from(scalar),
+        QueueRow::OwnNumber(_) => key == u64::from(own_number),
     }
 }
 
@@ -353,11 +342,11 @@ impl Engine for DemandCache {
         self.queues.tabled();
         match self
             .policy
-            .step(&mut self.queues, self.capacity, self.scalar, *step)
+            .step(&mut self.queues, self.capacity, self.own_number, *step)
         {
             Err(_) => Err(StepFault::OutOfMemory),
             Ok(done) => {
-                self.scalar = done.scalar;
+                self.own_number = done.own_number;
                 self.stats.count(done.outcome);
                 let record = DemandRecord {
                     moves: done.moves,
@@ -374,7 +363,7 @@ impl Engine for DemandCache {
             Err(_) => Err(done),
             Ok(()) => {
                 self.queues.tabled();
-                self.scalar = done.moves.scalar;
+                self.own_number = done.moves.own_number;
                 self.stats.uncount(done.outcome);
                 Ok(())
             }

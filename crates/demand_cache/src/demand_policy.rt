@@ -43,69 +43,74 @@ pub(crate) enum QueueRow {
     /// The keys of a queue, each with its count.
     Counts(&'static str, u8),
     /// The policy's own number.
-    Scalar(&'static str),
+    OwnNumber(&'static str),
 }
 
-// Selects the instance of an access that is part of each policy's loop.
-struct FifoLoop;
+// Each selects the instance of an access that is part of a policy's loop.
+pub(crate) struct FifoLoop;
 
-struct ClockLoop;
+pub(crate) struct ClockLoop;
 
-struct SieveLoop;
+pub(crate) struct SieveLoop;
 
-struct S3FifoLoop;
+pub(crate) struct S3FifoLoop;
 
-struct TwoQLoop;
+pub(crate) struct TwoQLoop;
 
-struct ArcLoop;
+pub(crate) struct ArcLoop;
 
-struct CarLoop;
+pub(crate) struct CarLoop;
+
+// Selects the instance of a step whose undo record is read.
+struct WithRecord;
 
 /// What is read of an access that is not to be undone.
 #[derive(Clone, Copy)]
 pub(crate) struct Counted {
     pub outcome: Outcome,
     /// The policy's own number after it.
-    pub scalar: u32,
+    pub own_number: u32,
+}
+
+impl DemandCache {
+    /// Makes the accesses in turn, none of which is to be undone: at most `MAX_STEPS` with those that it made. The one error
+    /// is that an allocation failed: the cache has made those before an access that may ask for memory.
+    // Each policy has a loop of its own: the instructions that tell the policies apart would be a tenth of an access.
+    #[inline(never)]
+    pub fn access_all(&mut self, keys: &[Key]) -> Result<(), AllocError>
+        requires { self.old.stats.accesses + length keys.now ≤ MAX_STEPS }
+        ensures all { OnOk result (self.new ≡ state_after_all demand_access self.old keys.now) }
+        ensures memory { OnErr result (DemandStops keys.now self.old self.new) }
+    {
+        match self.policy {
+            DemandPolicy::Fifo => self.access_all_by::<FifoLoop>(DemandPolicy::Fifo, keys),
+            DemandPolicy::Clock => self.access_all_by::<ClockLoop>(DemandPolicy::Clock, keys),
+            DemandPolicy::Sieve => self.access_all_by::<SieveLoop>(DemandPolicy::Sieve, keys),
+            DemandPolicy::S3Fifo(part) => {
+                self.access_all_by::<S3FifoLoop>(DemandPolicy::S3Fifo(part), keys)
+            }
+            DemandPolicy::TwoQ(sizes) => {
+                self.access_all_by::<TwoQLoop>(DemandPolicy::TwoQ(sizes), keys)
+            }
+            DemandPolicy::Arc => self.access_all_by::<ArcLoop>(DemandPolicy::Arc, keys),
+            DemandPolicy::Car => self.access_all_by::<CarLoop>(DemandPolicy::Car, keys),
+        }
+    }
 }
 
 impl DemandPolicy {
-    /// The accesses of `DemandCache::access_all`, by a cache of this policy. Each policy has a loop of its own: the
-    /// instructions that tell the policies apart would be a tenth of an access.
-    #[inline(never)]
-    pub(crate) fn access_all(self, cache: &mut DemandCache, keys: &[Key]) -> Result<(), AllocError>
-        requires policy { self ≡ cache.old.queues.policy }
-        requires room { cache.old.stats.accesses + length keys.now ≤ MAX_STEPS }
-        ensures all { OnOk result (cache.new ≡ state_after_all demand_access cache.old keys.now) }
-        ensures memory { OnErr result (DemandStops keys.now cache.old cache.new) }
-    {
-        match self {
-            DemandPolicy::Fifo => cache.access_each::<FifoLoop>(DemandPolicy::Fifo, keys),
-            DemandPolicy::Clock => cache.access_each::<ClockLoop>(DemandPolicy::Clock, keys),
-            DemandPolicy::Sieve => cache.access_each::<SieveLoop>(DemandPolicy::Sieve, keys),
-            DemandPolicy::S3Fifo(part) => {
-                cache.access_each::<S3FifoLoop>(DemandPolicy::S3Fifo(part), keys)
-            }
-            DemandPolicy::TwoQ(sizes) => {
-                cache.access_each::<TwoQLoop>(DemandPolicy::TwoQ(sizes), keys)
-            }
-            DemandPolicy::Arc => cache.access_each::<ArcLoop>(DemandPolicy::Arc, keys),
-            DemandPolicy::Car => cache.access_each::<CarLoop>(DemandPolicy::Car, keys),
-        }
-    }
-
     /// The queues in which the resident keys stand, where this is the policy's own number, with which some queues show a
     /// state.
-    pub(crate) fn resident_queues(self, scalar: u32) -> (u8, Option<u8>)
-        requires { (s : Queues) × (page_of self).IsShown scalar s }
-        ensures is { result ≡ (page_of self).resident_queues scalar }
+    pub(crate) fn resident_queues(self, own_number: u32) -> (u8, Option<u8>)
+        requires { (s : Queues) × (page_of self).IsShown own_number s }
+        ensures is { result ≡ (page_of self).resident_queues own_number }
         ensures first { result.0 < QUEUES }
         ensures second { IfSome result.1 (λ q. q < QUEUES) }
     {
         match self {
             DemandPolicy::Fifo | DemandPolicy::Clock => (0, None),
             DemandPolicy::Sieve => {
-                let ahead = queue_ahead(scalar);
+                let ahead = queue_ahead(own_number);
                 (1 - ahead, Some(ahead))
             }
             DemandPolicy::S3Fifo(_) | DemandPolicy::Arc | DemandPolicy::Car => (0, Some(1)),
@@ -114,16 +119,16 @@ impl DemandPolicy {
     }
 
     /// Under which names the policy shows which queues, where this is its own number, with which some queues show a state.
-    pub(crate) fn queue_rows(self, scalar: u32) -> &'static [QueueRow]
-        requires { (s : Queues) × (page_of self).IsShown scalar s }
-        ensures rows { (s : Queues) → map (named_row scalar s) result.now
-            ≡ (page_of self).named_queues ((page_of self).view scalar s) }
+    pub(crate) fn queue_rows(self, own_number: u32) -> &'static [QueueRow]
+        requires { (s : Queues) × (page_of self).IsShown own_number s }
+        ensures rows { (s : Queues) → map (named_row own_number s) result.now
+            ≡ (page_of self).named_queues ((page_of self).view own_number s) }
         ensures low { All IsLowRow result.now }
     {
         match self {
             DemandPolicy::Fifo => &[QueueRow::Keys("queue", 0)],
             DemandPolicy::Clock => &[QueueRow::Counts("queue", 0)],
-            DemandPolicy::Sieve => sieve_rows(scalar),
+            DemandPolicy::Sieve => sieve_rows(own_number),
             DemandPolicy::S3Fifo(_) => &[
                 QueueRow::Counts("small", 0),
                 QueueRow::Counts("main", 1),
@@ -139,14 +144,14 @@ impl DemandPolicy {
                 QueueRow::Keys("t2", 1),
                 QueueRow::Keys("b1", 2),
                 QueueRow::Keys("b2", 3),
-                QueueRow::Scalar("target"),
+                QueueRow::OwnNumber("target"),
             ],
             DemandPolicy::Car => &[
                 QueueRow::Counts("t1", 0),
                 QueueRow::Counts("t2", 1),
                 QueueRow::Keys("b1", 2),
                 QueueRow::Keys("b2", 3),
-                QueueRow::Scalar("target"),
+                QueueRow::OwnNumber("target"),
             ],
         }
     }
@@ -169,36 +174,42 @@ impl DemandPolicy {
     /// The step of the policy, without its record. Each policy's is read where it was made: read after the `match`, they
     /// would all be made.
     ///
-    /// `C` selects an instance: one that is called at a single place becomes part of its caller.
+    /// `C` selects an instance (docs/ARCHITECTURE.md).
     #[inline(always)]
     pub(crate) fn count_out<C>(
         self,
         queues: &mut KeyQueues,
         capacity: u32,
-        scalar: u32,
+        own_number: u32,
         key: Key,
     ) -> Result<Counted, AllocError>
         requires least { 1 ≤ capacity }
         requires most { capacity ≤ MAX_CAPACITY }
-        requires shown { (page_of self).IsShown scalar (queues_at queues.old) }
-        requires state { (page_of self).IsState capacity ((page_of self).view scalar (queues_at queues.old)) }
-        ensures counted { IfOk result (λ c. IsCountedBy (plan_by self capacity key scalar (queues_at queues.old))
-            (item_of key) (queues_at queues.old) (queues_at queues.new) c.outcome c.scalar) }
-        ensures memory { OnErr result ((plan_by self capacity key scalar (queues_at queues.old)).hits ≡ false) }
+        requires shown { (page_of self).IsShown own_number (queues_at queues.old) }
+        requires state { (page_of self).IsState capacity ((page_of self).view own_number (queues_at queues.old)) }
+        ensures counted { IfOk result (λ c. IsCountedBy (plan_by self capacity key own_number (queues_at queues.old))
+            (item_of key) (queues_at queues.old) (queues_at queues.new) c.outcome c.own_number) }
+        ensures memory { OnErr result ((plan_by self capacity key own_number (queues_at queues.old)).hits ≡ false) }
         ensures err { OnErr result (queues_at queues.new ≡ queues_at queues.old) }
     {
         match self {
-            DemandPolicy::Fifo => without_record(fifo::step::<C>(queues, capacity, scalar, key)),
-            DemandPolicy::Clock => without_record(clock::step::<C>(queues, capacity, scalar, key)),
-            DemandPolicy::Sieve => without_record(sieve::step::<C>(queues, capacity, scalar, key)),
+            DemandPolicy::Fifo => without_record(fifo::step::<C>(
+                queues, capacity, own_number, key,
+            )),
+            DemandPolicy::Clock => without_record(clock::step::<C>(
+                queues, capacity, own_number, key,
+            )),
+            DemandPolicy::Sieve => without_record(sieve::step::<C>(
+                queues, capacity, own_number, key,
+            )),
             DemandPolicy::S3Fifo(part) => without_record(s3_fifo::step::<C>(
-                queues, part, capacity, scalar, key,
+                queues, part, capacity, own_number, key,
             )),
             DemandPolicy::TwoQ(sizes) => without_record(two_q::step::<C>(
-                queues, sizes, capacity, scalar, key,
+                queues, sizes, capacity, own_number, key,
             )),
-            DemandPolicy::Arc => without_record(arc::step::<C>(queues, capacity, scalar, key)),
-            DemandPolicy::Car => without_record(car::step::<C>(queues, capacity, scalar, key)),
+            DemandPolicy::Arc => without_record(arc::step::<C>(queues, capacity, own_number, key)),
+            DemandPolicy::Car => without_record(car::step::<C>(queues, capacity, own_number, key)),
         }
     }
 
@@ -208,50 +219,50 @@ impl DemandPolicy {
         self,
         queues: &mut KeyQueues,
         capacity: u32,
-        scalar: u32,
+        own_number: u32,
         key: Key,
     ) -> Result<Accessed, AllocError>
         requires least { 1 ≤ capacity }
         requires most { capacity ≤ MAX_CAPACITY }
-        requires shown { (page_of self).IsShown scalar (queues_at queues.old) }
-        requires state { (page_of self).IsState capacity ((page_of self).view scalar (queues_at queues.old)) }
-        ensures accessed { IfOk result (λ a. IsAccessed (plan_by self capacity key scalar (queues_at queues.old))
-            (item_of key) scalar (queues_at queues.old) (queues_at queues.new) a) }
-        ensures memory { OnErr result ((plan_by self capacity key scalar (queues_at queues.old)).hits ≡ false) }
+        requires shown { (page_of self).IsShown own_number (queues_at queues.old) }
+        requires state { (page_of self).IsState capacity ((page_of self).view own_number (queues_at queues.old)) }
+        ensures accessed { IfOk result (λ a. IsAccessed (plan_by self capacity key own_number (queues_at queues.old))
+            (item_of key) own_number (queues_at queues.old) (queues_at queues.new) a) }
+        ensures memory { OnErr result ((plan_by self capacity key own_number (queues_at queues.old)).hits ≡ false) }
         ensures err { OnErr result (queues_at queues.new ≡ queues_at queues.old) }
     {
         match self {
-            DemandPolicy::Fifo => fifo::step::<Accessed>(queues, capacity, scalar, key),
-            DemandPolicy::Clock => clock::step::<Accessed>(queues, capacity, scalar, key),
-            DemandPolicy::Sieve => sieve::step::<Accessed>(queues, capacity, scalar, key),
-            DemandPolicy::S3Fifo(part) => s3_fifo::step::<Accessed>(
-                queues, part, capacity, scalar, key,
+            DemandPolicy::Fifo => fifo::step::<WithRecord>(queues, capacity, own_number, key),
+            DemandPolicy::Clock => clock::step::<WithRecord>(queues, capacity, own_number, key),
+            DemandPolicy::Sieve => sieve::step::<WithRecord>(queues, capacity, own_number, key),
+            DemandPolicy::S3Fifo(part) => s3_fifo::step::<WithRecord>(
+                queues, part, capacity, own_number, key,
             ),
-            DemandPolicy::TwoQ(sizes) => two_q::step::<Accessed>(
-                queues, sizes, capacity, scalar, key,
+            DemandPolicy::TwoQ(sizes) => two_q::step::<WithRecord>(
+                queues, sizes, capacity, own_number, key,
             ),
-            DemandPolicy::Arc => arc::step::<Accessed>(queues, capacity, scalar, key),
-            DemandPolicy::Car => car::step::<Accessed>(queues, capacity, scalar, key),
+            DemandPolicy::Arc => arc::step::<WithRecord>(queues, capacity, own_number, key),
+            DemandPolicy::Car => car::step::<WithRecord>(queues, capacity, own_number, key),
         }
     }
 }
 
 // The queue of the keys ahead of SIEVE's hand, by the policy's own number.
-fn queue_ahead(scalar: u32) -> u8
-    requires { scalar ≤ 1 }
-    ensures { result ≡ scalar }
+fn queue_ahead(own_number: u32) -> u8
+    requires { own_number ≤ 1 }
+    ensures { result ≡ own_number }
 {
-    scalar as u8
+    own_number as u8
 }
 
 // The rows of SIEVE, by the policy's own number.
-fn sieve_rows(scalar: u32) -> &'static [QueueRow]
-    requires { scalar ≤ 1 }
-    ensures rows { (s : Queues) → map (named_row scalar s) result.now
-        ≡ (page_of DemandPolicy.Sieve).named_queues ((page_of DemandPolicy.Sieve).view scalar s) }
+fn sieve_rows(own_number: u32) -> &'static [QueueRow]
+    requires { own_number ≤ 1 }
+    ensures rows { (s : Queues) → map (named_row own_number s) result.now
+        ≡ (page_of DemandPolicy.Sieve).named_queues ((page_of DemandPolicy.Sieve).view own_number s) }
     ensures low { All IsLowRow result.now }
 {
-    if scalar == 0 {
+    if own_number == 0 {
         &[QueueRow::Counts("passed", 1), QueueRow::Counts("ahead", 0)]
     } else {
         &[QueueRow::Counts("passed", 0), QueueRow::Counts("ahead", 1)]
@@ -262,14 +273,14 @@ fn sieve_rows(scalar: u32) -> &'static [QueueRow]
 #[inline(always)]
 fn without_record(done: Result<Accessed, AllocError>) -> Result<Counted, AllocError>
     ensures counted { (p : Plan) (i : Item) (x : ℕ) (s u : Queues) → IfOk done (λ a. IsAccessed p i x s u a)
-        → IfOk result (λ c. IsCountedBy p i s u c.outcome c.scalar) }
+        → IfOk result (λ c. IsCountedBy p i s u c.outcome c.own_number) }
     ensures memory { (hits : Bool) → OnErr done (hits ≡ false) → OnErr result (hits ≡ false) }
     ensures err { (s u : Queues) → OnErr done (u ≡ s) → OnErr result (u ≡ s) }
 {
     match done {
         Ok(done) => Ok(Counted {
             outcome: done.outcome,
-            scalar: done.scalar,
+            own_number: done.own_number,
         }),
         Err(fault) => Err(fault),
     }

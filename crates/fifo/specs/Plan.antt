@@ -16,7 +16,7 @@ QUEUE = 0
 abbrev pub fifo_of : Queues → List ℕ
 fifo_of s = keys_of (s QUEUE)
 
--- an access to k at capacity c, where x is the policy's number, which stays
+-- an access to k at capacity c, where x is the policy's own number, which stays
 abbrev pub fifo_plan : ℕ → ℕ → ℕ → Queues → Plan
 fifo_plan c k x s =
     resident_plan (standing (item_of k) s) (nat_lt (length (s QUEUE)) c) stays (goes QUEUE 0) x

@@ -24,25 +24,25 @@ const QUEUE: u8 = 0;
 pub fn step<C>(
     table: &mut KeyQueues,
     capacity: u32,
-    scalar: u32,
+    own_number: u32,
     key: Key,
 ) -> Result<Accessed, AllocError>
-    ensures accessed { IfOk result (λ a. IsAccessed (fifo_plan capacity key scalar (queues table.old)) (item_of key)
-        scalar (queues table.old) (queues table.new) a) }
+    ensures accessed { IfOk result (λ a. IsAccessed (fifo_plan capacity key own_number (queues table.old)) (item_of key)
+        own_number (queues table.old) (queues table.new) a) }
     // A hit asks for no memory.
-    ensures memory { OnErr result ((fifo_plan capacity key scalar (queues table.old)).hits ≡ false) }
+    ensures memory { OnErr result ((fifo_plan capacity key own_number (queues table.old)).hits ≡ false) }
     ensures err { OnErr result (queues table.new ≡ queues table.old) }
 {
     match table.find(key) {
-        Some(_) => Ok(hit(KeyMove::unmoved(key), scalar)),
+        Some(_) => Ok(hit(KeyMove::unmoved(key), own_number)),
         None => {
             table.reserve()?;
             if table.len(QUEUE) < capacity as usize {
                 let own = table.join_apart(key, QUEUE, 0);
-                return Ok(kept(own, scalar));
+                return Ok(kept(own, own_number));
             }
             let (first, own) = table.renew_oldest(QUEUE, key, QUEUE, 0);
-            Ok(evicted(Run::NONE, Run::NONE, first, own, scalar, scalar))
+            Ok(evicted(Run::NONE, Run::NONE, first, own, own_number, own_number))
         }
     }
 }

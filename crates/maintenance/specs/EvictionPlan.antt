@@ -1,17 +1,10 @@
 -- An eviction as it is carried out.
-use Rattle.std.specs.Prelude.{Option, Some, None}
-use Rattle.segments.specs.declared.records.MoveRecord.{MoveRecord}
 use Rattle.segments.specs.Queues.{Queues}
 use Rattle.admission.specs.Frequency.{FrequencyData}
 pub use Rattle.replacement.specs.declared.rules.Rules.{Rules}
-use Rattle.replacement.specs.Plan.{Item, Plan, eviction_plan}
+use Rattle.replacement.specs.Plan.{Plan, eviction_plan}
 use Rattle.shell_model.specs.Frequency.{admits}
 
 -- the plan of an eviction, where the keys are counted
 abbrev pub planned : Rules → FrequencyData → Queues → Plan
 planned r f q = eviction_plan r (admits f) q
-
--- the item that a move took out
-abbrev pub item_out : Option MoveRecord → Option Item
-item_out None = None
-item_out (Some r) = Some r.item

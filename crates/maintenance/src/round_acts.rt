@@ -1,5 +1,5 @@
 //! The acts of a round of maintenance: it drains the reads and the writes, evicts, and ends.
-ghost use Rattle.std.specs.Prelude.{◌≡◌, ◌<◌, ◌≤◌, true, false, length, Some, None};
+ghost use Rattle.std.specs.Prelude.{◌≡◌, ◌<◌, ◌≤◌, true, false, length, Some, None, option_map};
 ghost use Rattle.std.specs.Prelude.{IfOk, IsSome, OnOk, OnErr};
 ghost use Rattle.engine_base.specs.declared.item.Item.{Item as ItemValue};
 ghost use Rattle.engine_base.specs.declared.limits.TheConstants.{MAX_STEPS};
@@ -9,22 +9,21 @@ ghost use Rattle.shell_buffers.specs.Buffers.{stripe_at};
 ghost use Rattle.segments.specs.Queues.{IsDistinct, queue_holding};
 ghost use Rattle.replacement.specs.Plan.{candidate_of};
 ghost use Rattle.replacement.specs.Rules.{three_queues};
-ghost use Rattle.replacement.specs.PlanMoves.{queues_after, moves_of};
-ghost use Rattle.replacement.specs.KeptMoves.{IsKeepable};
+ghost use Rattle.replacement.specs.PlanMoves.{queues_after, moves_of, leaver_in};
 ghost use Rattle.shell_model.specs.Frequency.{frequency_recorded, shell_frequency_record};
 ghost use Rattle.shell_model.specs.ShellState.{in_phase, is_over, queues_cleared, unlisted_by};
 ghost use Rattle.shell_model.specs.Changes.{after_change, shell_after_task, shell_after_touch, without_task};
 ghost use Rattle.shell_model.specs.Shell.{act_reply, added_of, cleared_of, end_reply, evict_change, evict_effect};
 ghost use Rattle.shell_model.specs.Shell.{leaves_table, read_reply, reply_by, task_reply, touched_of};
 ghost use Rattle.shell_model.specs.Consistency.{IsConsistent};
-ghost use Rattle.maintenance.specs.EvictionPlan.{planned, item_out};
+ghost use Rattle.maintenance.specs.EvictionPlan.{planned};
 ghost use Rattle.shell_model.specs.declared.record.Change.TheVariants.{Passed};
 ghost use Rattle.maintenance.specs.Performing.{HasTask, IsPerformed};
 
 use crate::shell_core::ShellCore;
 use admission::{FreqRecord, Frequency};
 use engine_base::{Drain, Item, Key, Outcome, Phase, Reply, Worker};
-use replacement::{Effect, KeptMoves, Moves, Rules};
+use replacement::{Effect, Leaver, Moves, Rules, Sent};
 use segments::{MoveRecord, Queue, Segments};
 use shell_buffers::Task;
 use shell_model::{Change, EvictionRecord, Holder, UseRecord};
@@ -91,9 +90,9 @@ impl ShellCore {
             return (Reply::Fits, passed);
         };
         let effect = carry_out(&mut self.queues, &self.frequency, &self.rules);
-        let listed = self.unlist(effect.moves.out);
+        let listed = self.unlist(effect.moves.leaver());
         let eviction = EvictionRecord {
-            moves: KeptMoves::of(effect.moves),
+            moves: effect.moves,
             listed,
         };
         (
@@ -156,10 +155,7 @@ impl ShellCore {
             Some(moves) => moves,
             None => Moves::NONE,
         };
-        Ok(UseRecord {
-            frequency,
-            moves: KeptMoves::of(moves),
-        })
+        Ok(UseRecord { frequency, moves })
     }
 
     // An item that is queued nowhere is recorded, and comes into the window.
@@ -172,15 +168,16 @@ impl ShellCore {
     {
         self.queues.reserve()?;
         let frequency = record_key(&mut self.frequency, item.key)?;
-        let joined = self.queues.push_recent(Queue::Window, item);
-        let moves = Moves {
-            last: Some(joined),
-            ..Moves::NONE
+        let _ = self.queues.push_recent(Queue::Window, item);
+        let moves = Moves::Replaced {
+            came: None,
+            sent: Some(Sent {
+                from: None,
+                to: Queue::Window,
+            }),
+            left: None,
         };
-        Ok(UseRecord {
-            frequency,
-            moves: KeptMoves::of(moves),
-        })
+        Ok(UseRecord { frequency, moves })
     }
 
     // Applies a task, in a round that was at this phase before.
@@ -266,16 +263,17 @@ impl ShellCore {
     }
 
     // What went out of the queues leaves the table, where it is listed there.
-    fn unlist(&mut self, out: Option<MoveRecord>) -> bool
-        ensures state { self.new ≡ record self.old { table = unlisted_by (item_out out) self.old.table } }
-        ensures listed { result ≡ leaves_table (item_out out) self.old.table }
+    fn unlist(&mut self, left: Option<Leaver>) -> bool
+        ensures state { self.new
+            ≡ record self.old { table = unlisted_by (option_map (λ l. l.item) left) self.old.table } }
+        ensures listed { result ≡ leaves_table left self.old.table }
     {
-        let Some(out) = out else {
+        let Some(left) = left else {
             return false;
         };
-        let listed = self.table.is_listed(out.item);
+        let listed = self.table.is_listed(left.item);
         if listed {
-            self.table.remove(out.item);
+            self.table.remove(left.item);
         }
         listed
     }
@@ -306,18 +304,18 @@ fn carry_out(queues: &mut Segments, frequency: &Frequency, rules: &Rules) -> Eff
         ≡ queues_after (planned rules.now frequency.now queues.old.lists) queues.old.lists }
     ensures moves { result.moves ≡ moves_of (planned rules.now frequency.now queues.old.lists) queues.old.lists }
     ensures outcome { result.outcome ≡ (planned rules.now frequency.now queues.old.lists).outcome }
-    ensures keepable { IsKeepable result.moves }
 {
     replacement::evict(queues, Some(frequency), rules)
 }
 
 // What is replied of a candidate, by what the eviction came to.
 fn reply_to(candidate: Item, effect: &Effect) -> Reply
-    ensures { result ≡ reply_by effect.now.outcome (item_out effect.now.moves.out) candidate }
+    ensures { result
+        ≡ reply_by effect.now.outcome (option_map (λ l. l.item) (leaver_in effect.now.moves)) candidate }
 {
-    match (effect.outcome, effect.moves.out) {
-        (Outcome::Evicted(_), Some(out)) => Reply::Evicted { item: out.item },
-        (Outcome::Rejected(_), Some(out)) => Reply::Rejected { item: out.item },
+    match (effect.outcome, effect.moves.leaver()) {
+        (Outcome::Evicted(_), Some(left)) => Reply::Evicted { item: left.item },
+        (Outcome::Rejected(_), Some(left)) => Reply::Rejected { item: left.item },
         _ => Reply::Shifted { item: candidate },
     }
 }

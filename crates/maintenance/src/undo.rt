@@ -1,5 +1,6 @@
 //! Undoing one step.
 ghost use Rattle.std.specs.Prelude.{◌≡◌, ◌≢◌, ◌<◌, Some, None, IfErr, OnOk, OnErr};
+ghost use Rattle.replacement.specs.PlanMoves.{leaver_in};
 ghost use Rattle.shell_model.specs.Changes.{before_change, before_use, change_asks, FitsChange, FitsTouched, HasLeft};
 ghost use Rattle.shell_model.specs.Changes.{holder_with_task, written_task as task_of};
 ghost use Rattle.shell_model.specs.Records.{FitsStep, step_asks, undone_step};
@@ -96,7 +97,7 @@ impl ShellCore {
         ensures { self.new ≡ before_use used self.old }
     {
         let UseRecord { frequency, moves } = used;
-        replacement::undo(&mut self.queues, moves.moves());
+        replacement::undo(&mut self.queues, moves);
         unrecord_key(&mut self.frequency, frequency);
     }
 
@@ -159,16 +160,15 @@ impl ShellCore {
     fn undo_evicted(&mut self, before: Phase, eviction: &EvictionRecord) -> Result<(), AllocError>
         requires { FitsChange (Evicted before eviction.now) self.old }
         ensures ok { OnOk result (self.new ≡ before_change (Evicted before eviction.now) self.old) }
-        ensures err { OnErr result ((self.new ≡ self.old) × (eviction.now.moves.out ≢ None)) }
+        ensures err { OnErr result ((self.new ≡ self.old) × (leaver_in eviction.now.moves ≢ None)) }
     {
-        let moves = eviction.moves.moves();
-        if let Some(out) = moves.out {
+        if let Some(left) = eviction.moves.leaver() {
             self.queues.reserve()?;
             if eviction.listed {
-                self.table.place(out.item)?;
+                self.table.place(left.item)?;
             }
         }
-        replacement::undo(&mut self.queues, moves);
+        replacement::undo(&mut self.queues, eviction.moves);
         self.set_phase(before);
         Ok(())
     }

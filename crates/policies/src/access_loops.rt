@@ -17,26 +17,26 @@ use std::alloc::AllocError;
 use step_record::{Engine, Key, StepFault};
 
 /// Makes the accesses in turn, which are the next ones of a trace. The one error is out of memory.
-pub(crate) fn access_queues(cache: &mut QueueCache, keys: &[Key]) -> Result<(), AllocError>
+pub(crate) fn access_all_queues(cache: &mut QueueCache, keys: &[Key]) -> Result<(), AllocError>
     requires { IsNext keys.now (AnyPolicy.Queues cache.old) }
     ensures all { OnOk result (IsContinued keys.now (AnyPolicy.Queues cache.old) (AnyPolicy.Queues cache.new)) }
     ensures memory { OnErr result (IsStopped keys.now (AnyPolicy.Queues cache.old) (AnyPolicy.Queues cache.new)) }
 {
     let design = cache.design();
     match design.layout {
-        Layout::OneQueue if design.counts_keys => access_each::<TinyLfuLruDesign>(cache, keys),
-        Layout::OneQueue => access_each::<LruDesign>(cache, keys),
+        Layout::OneQueue if design.counts_keys => access_all_by::<TinyLfuLruDesign>(cache, keys),
+        Layout::OneQueue => access_all_by::<LruDesign>(cache, keys),
         Layout::TwoQueues if design.counts_keys => {
-            access_each::<TinyLfuSegmentedDesign>(cache, keys)
+            access_all_by::<TinyLfuSegmentedDesign>(cache, keys)
         }
-        Layout::TwoQueues => access_each::<SegmentedLruDesign>(cache, keys),
+        Layout::TwoQueues => access_all_by::<SegmentedLruDesign>(cache, keys),
         // It serves a cache that counts no keys as well.
-        Layout::ThreeQueues => access_each::<WindowTinyLfuDesign>(cache, keys),
+        Layout::ThreeQueues => access_all_by::<WindowTinyLfuDesign>(cache, keys),
     }
 }
 
 // The same, compiled for a design that serves the cache's. Each design has a loop of its own, which an access is part of.
-fn access_each<D: FixedDesign>(cache: &mut QueueCache, keys: &[Key]) -> Result<(), AllocError>
+fn access_all_by<D: FixedDesign>(cache: &mut QueueCache, keys: &[Key]) -> Result<(), AllocError>
     requires design { CoversDesign D.DESIGN cache.old.setup.design }
     requires next { IsNext keys.now (AnyPolicy.Queues cache.old) }
     ensures all { OnOk result (IsContinued keys.now (AnyPolicy.Queues cache.old) (AnyPolicy.Queues cache.new)) }
@@ -57,7 +57,7 @@ fn access_each<D: FixedDesign>(cache: &mut QueueCache, keys: &[Key]) -> Result<(
 
 /// The same by a cache with an adaptive window.
 #[inline(never)]
-pub(crate) fn access_adaptive(cache: &mut AdaptiveCache, keys: &[Key]) -> Result<(), AllocError>
+pub(crate) fn access_all_adaptive(cache: &mut AdaptiveCache, keys: &[Key]) -> Result<(), AllocError>
     requires { IsNext keys.now (AnyPolicy.Adaptive cache.old) }
     ensures all { OnOk result (IsContinued keys.now (AnyPolicy.Adaptive cache.old) (AnyPolicy.Adaptive cache.new)) }
     ensures memory { OnErr result (IsStopped keys.now (AnyPolicy.Adaptive cache.old) (AnyPolicy.Adaptive cache.new)) }
@@ -79,7 +79,7 @@ pub(crate) fn access_adaptive(cache: &mut AdaptiveCache, keys: &[Key]) -> Result
 struct AdaptiveLoop;
 
 /// The same by the optimal policy.
-pub(crate) fn access_optimal(cache: &mut Clairvoyant, keys: &[Key]) -> Result<(), AllocError>
+pub(crate) fn access_all_optimal(cache: &mut Clairvoyant, keys: &[Key]) -> Result<(), AllocError>
     requires { IsNext keys.now (AnyPolicy.Optimal cache.old) }
     ensures all { OnOk result (IsContinued keys.now (AnyPolicy.Optimal cache.old) (AnyPolicy.Optimal cache.new)) }
     ensures memory { OnErr result (IsStopped keys.now (AnyPolicy.Optimal cache.old) (AnyPolicy.Optimal cache.new)) }

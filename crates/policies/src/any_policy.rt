@@ -121,8 +121,7 @@ impl AnyPolicy {
     /// Errors: `NotNow` exactly where `apply` gives it, and `OutOfMemory`, which the optimal policy never gives; each
     /// leaves the cache as it was.
     ///
-    /// `C` only selects an instance: calls with different `C` are compiled apart, so that one which is called at one
-    /// place is part of the loop there.
+    /// `C` selects an instance (docs/ARCHITECTURE.md).
     #[inline(always)]
     pub fn access<C>(&mut self, key: Key) -> Result<Outcome, StepFault>
         ensures accepted { IfOk result (λ o. any_act self.old key ≡ Some (o, self.new)) }
@@ -137,7 +136,7 @@ impl AnyPolicy {
                 Ok((outcome, _)) => Ok(outcome),
                 Err(fault) => Err(fault),
             },
-            AnyPolicy::Demand(cache) => access_alone::<C>(cache, key),
+            AnyPolicy::Demand(cache) => access_apart::<C>(cache, key),
             AnyPolicy::Adaptive(cache) => cache.access::<C>(key),
         }
     }
@@ -245,7 +244,7 @@ fn optimal_row(outcome: Outcome) -> Option<usize>
 // An access of a policy that keeps each missed key, out of line: it is long, and a loop of the optimal policy would lose
 // its registers to it.
 #[inline(never)]
-fn access_alone<C>(cache: &mut DemandCache, key: Key) -> Result<Outcome, StepFault>
+fn access_apart<C>(cache: &mut DemandCache, key: Key) -> Result<Outcome, StepFault>
     ensures accepted { IfOk result (λ o. demand_act cache.old key ≡ Some (o, cache.new)) }
     ensures not_now { result ≡ Err StepFault.NotNow ↔ demand_act cache.old key ≡ None }
     ensures memory { result ≡ Err StepFault.OutOfMemory → demand_may_ask cache.old key }

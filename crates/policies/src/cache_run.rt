@@ -92,7 +92,7 @@ fn report_over_uses(alloc: Global, finder: NextUseFinder, job: &Job) -> Result<R
     let uses = finder.finish(alloc)?;
     uses.bounded();
     let mut cache = AnyPolicy::open_with(alloc, job, &uses)?;
-    let made = access_whole(&mut cache, &uses);
+    let made = access_all_uses(&mut cache, &uses);
     drop(uses);
     let report = report_by(cache, job);
     made?;
@@ -100,7 +100,7 @@ fn report_over_uses(alloc: Global, finder: NextUseFinder, job: &Job) -> Result<R
 }
 
 // Makes all accesses of the trace that the next uses are of, in turn. The one error is out of memory.
-fn access_whole(cache: &mut AnyPolicy, uses: &NextUse) -> Result<(), AllocError>
+fn access_all_uses(cache: &mut AnyPolicy, uses: &NextUse) -> Result<(), AllocError>
     requires { IsNext uses.now cache.old }
     ensures all { OnOk result (IsContinued uses.now cache.old cache.new) }
     ensures memory { OnErr result (IsStopped uses.now cache.old cache.new) }
@@ -108,7 +108,7 @@ fn access_whole(cache: &mut AnyPolicy, uses: &NextUse) -> Result<(), AllocError>
     theorems::any_step_law();
     theorems::any_accepts();
     for i in 0..uses.len() {
-        match cache.access::<CountedLate>(uses.key(i)) {
+        match cache.access::<UsesLoop>(uses.key(i)) {
             Ok(_) => {}
             Err(StepFault::OutOfMemory) => return Err(AllocError),
             Err(StepFault::NotNow) => unreachable!(),
@@ -117,5 +117,5 @@ fn access_whole(cache: &mut AnyPolicy, uses: &NextUse) -> Result<(), AllocError>
     Ok(())
 }
 
-// Selects the instance of an access that `access_whole` has in its loop.
-struct CountedLate;
+// Selects the instance of an access that `access_all_uses` has in its loop.
+struct UsesLoop;

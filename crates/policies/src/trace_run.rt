@@ -5,7 +5,7 @@ ghost use Rattle.policies.specs.AnyPolicy.{Job, HasAccessed};
 ghost use Rattle.policies.specs.Accesses.{IsContinued, IsNext, IsStopped};
 ghost use Rattle.policies.specs.Reports.{report_on};
 
-use crate::access_loops::{access_adaptive, access_optimal, access_queues};
+use crate::access_loops::{access_all_adaptive, access_all_optimal, access_all_queues};
 use crate::any_policy::AnyPolicy;
 use crate::report::Report;
 use crate::theorems;
@@ -42,10 +42,10 @@ pub fn access_all(cache: &mut AnyPolicy, keys: &[Key]) -> Result<(), AllocError>
     ensures memory { OnErr result (IsStopped keys.now cache.old cache.new) }
 {
     match cache {
-        AnyPolicy::Queues(cache) => access_queues(cache, keys),
+        AnyPolicy::Queues(cache) => access_all_queues(cache, keys),
         AnyPolicy::Demand(cache) => cache.access_all(keys),
-        AnyPolicy::Adaptive(cache) => access_adaptive(cache, keys),
-        AnyPolicy::Optimal(cache) => access_optimal(cache, keys),
+        AnyPolicy::Adaptive(cache) => access_all_adaptive(cache, keys),
+        AnyPolicy::Optimal(cache) => access_all_optimal(cache, keys),
     }
 }
 

@@ -32,7 +32,7 @@ leavers_for_ghost from ghost size remembered s = record {
 -- a miss after two runs
 abbrev pub run_plan : Run → Run → Leavers → Own → ℕ → Plan
 run_plan early late l own x =
-    record { hits = false; early = early; late = late; first = l.first; second = l.second; own = own; scalar = x }
+    record { hits = false; early = early; late = late; first = l.first; second = l.second; own = own; own_number = x }
 
 abbrev pub miss_plan : Leavers → Own → ℕ → Plan
 miss_plan l own x = run_plan no_run no_run l own x

@@ -16,14 +16,14 @@ resident_plan None room hit join x full = if room then own_plan false join x els
 -- a miss at which a key leaves, after two runs
 abbrev pub leaver_plan : Run → Run → Option Leaving → Own → ℕ → Plan
 leaver_plan early late first own x =
-    record { hits = false; early = early; late = late; first = first; second = None; own = own; scalar = x }
+    record { hits = false; early = early; late = late; first = first; second = None; own = own; own_number = x }
 
 -- The plan p of an access to k over the queues s makes the access `act` of a definition, a hit or not. The view shows a
--- state of the definition by the policy's number and the queues.
+-- state of the definition by the policy's own number and the queues.
 pub record IsPlannedBy {S : Type 0} (p : Plan) (k : ℕ) (s : Queues) (view : ℕ → Queues → S) (act : Outcome × S)
     (hit : Bool) : Type 0 where
   pub outcome : outcome_of p s ≡ act.0
-  pub state : view p.scalar (after_all p (item_of k) s) ≡ act.1
+  pub state : view p.own_number (after_all p (item_of k) s) ≡ act.1
   pub hits : p.hits ≡ hit
   pub low : IsLowPlan p
 

@@ -48,7 +48,7 @@ LeavesWhere full p = LeavesNone p ⊎ full
 abbrev pub IsPlannedPage : PolicyPage → Type 0
 IsPlannedPage g = (c k x : ℕ) (s : Queues) → 1 ≤ c → IsTabled s → g.IsShown x s → g.IsState c (g.view x s)
     → IsPlannedBy (g.plan c k x s) k s g.view (g.act c k (g.view x s)) (has_key k (g.residents (g.view x s)))
-    × g.IsShown (g.plan c k x s).scalar (after_all (g.plan c k x s) (item_of k) s)
+    × g.IsShown (g.plan c k x s).own_number (after_all (g.plan c k x s) (item_of k) s)
 
 pub record IsSoundPage (g : PolicyPage) : Type 0 where
   -- the definition keeps each missed key: its residents fit, each once, and in a full cache one key leaves for it

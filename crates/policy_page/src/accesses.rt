@@ -11,32 +11,32 @@ use queue_moves::{Accessed, KeyMove, Left, Moves, Run};
 
 /// A hit.
 #[inline(always)]
-pub fn hit(own: KeyMove, scalar: u32) -> Accessed
+pub fn hit(own: KeyMove, own_number: u32) -> Accessed
     ensures { (o : Own) (i : Item) (s u : Queues) → IsOwn o i s u own
-        → IsAccessed (own_plan true o scalar) i scalar s u result }
+        → IsAccessed (own_plan true o own_number) i own_number s u result }
 {
     Accessed {
         outcome: Outcome::Hit,
-        scalar,
-        moves: Moves::of_key(own, scalar),
+        own_number,
+        moves: Moves::of_key(own, own_number),
     }
 }
 
 /// A miss for which there was room.
 #[inline(always)]
-pub fn kept(own: KeyMove, scalar: u32) -> Accessed
+pub fn kept(own: KeyMove, own_number: u32) -> Accessed
     ensures { (o : Own) (i : Item) (s u : Queues) → IsOwn o i s u own
-        → IsAccessed (own_plan false o scalar) i scalar s u result }
+        → IsAccessed (own_plan false o own_number) i own_number s u result }
 {
     Accessed {
         outcome: Outcome::Kept,
-        scalar,
-        moves: Moves::of_key(own, scalar),
+        own_number,
+        moves: Moves::of_key(own, own_number),
     }
 }
 
-/// A miss at which a key left, after two runs. `before` and `after` are the policy's number before the access and after
-/// it.
+/// A miss at which a key left, after two runs. `before` and `after` are the policy's own number before the access and
+/// after it.
 #[inline(always)]
 pub fn evicted(
     early: Run,

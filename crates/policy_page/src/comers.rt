@@ -35,8 +35,11 @@ pub fn enter_apart(table: &mut KeyQueues, key: Key, found: Option<Found>, queue:
     requires comes { Comes found (item_of key) table.old }
     ensures { IsOwn (goes queue 0) (item_of key) (queues table.old) (queues table.new) result }
 {
-    enter::<Found>(table, key, found, queue)
+    enter::<Apart>(table, key, found, queue)
 }
+
+// Selects the instance of `enter` in `enter_apart`.
+struct Apart;
 
 /// The oldest key of a queue goes out, if it has one, and the accessed key, which is not in it, to the recent end of a
 /// queue. One that stands nowhere takes the slot of the key that goes.

@@ -36,8 +36,8 @@ impl LeftKeys {
     }
 }
 
-/// A miss after two runs, from the keys that left then, what became of its own, and the policy's number before it and
-/// after it.
+/// A miss after two runs, from the keys that left then, what became of its own, and the policy's own number before it
+/// and after it.
 #[inline(always)]
 pub fn missed_after(
     early: Run,
@@ -45,31 +45,31 @@ pub fn missed_after(
     left: LeftKeys,
     own: KeyMove,
     before: u32,
-    scalar: u32,
+    own_number: u32,
 ) -> Accessed
     ensures { (e r : Run) (l : Leavers) (o : Own) (i : Item) (s a b u v : Queues) → early ≡ e → late ≡ r
         → IsRun early s a → IsRun late a b → AreLeft l b u left → IsOwn o i u v own
-        → IsAccessed (run_plan e r l o scalar) i before s v result }
+        → IsAccessed (run_plan e r l o own_number) i before s v result }
 {
     Accessed {
         outcome: left.first.outcome(),
-        scalar,
+        own_number,
         moves: Moves {
             early,
             late,
             first: left.first,
             second: left.second,
             own,
-            scalar: before,
+            own_number: before,
         },
     }
 }
 
 /// The same without runs.
 #[inline(always)]
-pub fn missed(left: LeftKeys, own: KeyMove, before: u32, scalar: u32) -> Accessed
+pub fn missed(left: LeftKeys, own: KeyMove, before: u32, own_number: u32) -> Accessed
     ensures { (l : Leavers) (o : Own) (i : Item) (s u v : Queues) → AreLeft l s u left → IsOwn o i u v own
-        → IsAccessed (miss_plan l o scalar) i before s v result }
+        → IsAccessed (miss_plan l o own_number) i before s v result }
 {
-    missed_after(Run::NONE, Run::NONE, left, own, before, scalar)
+    missed_after(Run::NONE, Run::NONE, left, own, before, own_number)
 }

@@ -1,5 +1,5 @@
 -- From which queue a key leaves by an access, and how many keys left each.
-use Rattle.std.proofs.Common.{◌≡◌, ◌∙◌, ℕ, zero, suc, ◌+◌, ◌<◌, ◌≤◌, true, Option, Some, List, [], ◌∷◌, ◌++◌, length, take, drop, get_or, Result, Ok, Err, OnOk, ap, sym, refl, arith}
+use Rattle.std.proofs.Common.{◌≡◌, ◌∙◌, ℕ, zero, suc, ◌+◌, ◌-◌, ◌<◌, ◌≤◌, true, Option, Some, List, [], ◌∷◌, ◌++◌, length, take, drop, get_or, Result, Ok, Err, OnOk, ap, sym, refl, arith}
 use Rattle.std.specs.Prelude.{slice_index}
 use Rattle.std.proofs.lemmas.List.{get_or-drop, get_or-take, get_or_default}
 use Rattle.engine_base.specs.Stats.{one_if}
@@ -28,13 +28,15 @@ left-few job trace row from (suc n) =
     omega (arith, before, one)
 
 -- one access more
-pub left-more : (job : Job) (trace : List ℕ) (from made : ℕ) (o : Option ℕ) (old new : List ℕ)
-    → o ≡ row_left (get_or (outcomes_on job trace) (from + made) Kept) (queues_at job trace (from + made)) → AreLeft job trace from made old
-    → ((row : ℕ) → get_or new row 0 ≡ get_or old row 0 + one_if (is_number row o)) → AreLeft job trace from (made + 1) new
-left-more job trace from made o old new is are one row =
-    let next : made + 1 ≡ suc made = omega arith in
-    one row ∙ ap (λ (n : ℕ). n + one_if (is_number row o)) (are row)
-    ∙ ap (λ (r : Option ℕ). left_from job trace row from made + one_if (is_number row r)) is
+pub left-more : (job : Job) (trace : List ℕ) (from n : ℕ) (o : Option ℕ) (old new : List ℕ) → from ≤ n
+    → o ≡ row_left (get_or (outcomes_on job trace) n Kept) (queues_at job trace n) → AreLeft job trace from n old
+    → ((row : ℕ) → get_or new row 0 ≡ get_or old row 0 + one_if (is_number row o)) → AreLeft job trace from (n + 1) new
+left-more job trace from n o old new le is are one row =
+    let next : n + 1 - from ≡ suc (n - from) = omega (arith, le) in
+    let here : n ≡ from + (n - from) = omega (arith, le) in
+    one row ∙ ap (λ (m : ℕ). m + one_if (is_number row o)) (are row)
+    ∙ ap (λ (r : Option ℕ). left_from job trace row from (n - from) + one_if (is_number row r)) is
+    ∙ ap (λ (m : ℕ). left_from job trace row from (n - from) + one_if (is_left_by job trace row m)) here
     ∙ ap (left_from job trace row from) (sym next)
 
 -- the row by the definition

@@ -27,9 +27,9 @@ pub(crate) fn access_counted(
     requires few { (row : ℕ) → get_or left.old.items row 0 + 1 < 2 ^ 64 }
     ensures stands { (j : Job) (trace : List ℕ) (n : ℕ) → StandsAt trace n (slice_index keys.now i)
         → HasAccessed j trace (take n trace) cache.old → OnOk result (HasAccessed j trace (take (n + 1) trace) cache.new) }
-    ensures left { (j : Job) (trace : List ℕ) (from made : ℕ) → StandsAt trace (from + made) (slice_index keys.now i)
-        → HasAccessed j trace (take (from + made) trace) cache.old → AreLeft j trace from made left.old.items
-        → OnOk result (AreLeft j trace from (made + 1) left.new.items) }
+    ensures left { (j : Job) (trace : List ℕ) (from n : ℕ) → from ≤ n → StandsAt trace n (slice_index keys.now i)
+        → HasAccessed j trace (take n trace) cache.old → AreLeft j trace from n left.old.items
+        → OnOk result (AreLeft j trace from (n + 1) left.new.items) }
 {
     match access_from(cache, keys, i)? {
         Some(row) => count_left(left, row),

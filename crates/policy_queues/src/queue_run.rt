@@ -1,20 +1,17 @@
 //! A job over a trace whose accesses are made in turn, with a row for each interval and each queue.
-ghost use Rattle.std.specs.Prelude.{◌≡◌, ◌≤◌, ◌<◌, ◌+◌, ◌++◌, [], ℕ, List, Ok, IfOk, OnOk, length};
-ghost use Rattle.std.specs.Prelude.{slice_index};
+ghost use Rattle.std.specs.Prelude.{◌≡◌, ◌≤◌, ◌<◌, ◌+◌, ◌++◌, ℕ, List, Ok, IfOk, OnOk, length, slice_index};
 ghost use Rattle.engine_base.specs.Config.{config_fault};
-ghost use Rattle.policies.specs.AnyPolicy.{HasAccessed, outcomes_on};
-ghost use Rattle.sweeps.specs.Intervals.{interval_at};
+ghost use Rattle.policies.specs.AnyPolicy.{Job as JobOf};
 ghost use Rattle.policy_queues.specs.QueueRows.{queue_rows, queue_rows_on};
-ghost use Rattle.policy_queues.specs.QueueRun.{AreQueueRows, CanAccess, EndsInterval, EndsQueueRows};
-ghost use Rattle.policy_queues.specs.QueueRun.{HasQueueRows, StandsAt};
+ghost use Rattle.policy_queues.specs.QueueRun.{CanAccess, EndsInterval, HasQueueRows, StandsAt};
 ghost use Rattle.sweeps.specs.Taking.{AreNext, CanTake, HasTakenAll, RunsOver};
 
 use crate::left_keys::access_counted;
 use crate::queue_rows::push_queue_rows;
-use policies::AnyPolicy;
+use policies::{AnyPolicy, Interval};
 use std::alloc::{AllocError, Global};
-use step_record::{Job, Key, Stats, Trace};
-use sweeps::{Run, between};
+use step_record::{Job, Key, Trace};
+use sweeps::{CurrentInterval, Run};
 
 /// A cache of a job, with the rows of each interval that is over.
 #[derive(Drop)]
@@ -22,11 +19,8 @@ pub(crate) struct QueueRun {
     pub(crate) job: Job,
     alloc: Global,
     cache: AnyPolicy,
-    // How many accesses an interval has, and how many were made of the one that is not over.
-    every: usize,
-    used: usize,
-    // What was counted before that one, and how many keys left each queue by those that were made of it.
-    cut: Stats,
+    current: CurrentInterval,
+    // How many keys left each queue by the accesses that were made of that interval.
     left: Vec<u64>,
     rows: Vec<u8>,
 }
@@ -40,16 +34,13 @@ impl Run for QueueRun {
 
     fn open(alloc: Global, job: &Job, trace: &Trace, every: usize) -> Result<QueueRun, AllocError> {
         let cache = AnyPolicy::open(alloc, job, trace)?;
-        let cut = cache.stats();
         let left = Vec::new(alloc);
         let rows = Vec::new(alloc);
         Ok(QueueRun {
             job: *job,
             alloc,
             cache,
-            every,
-            used: 0,
-            cut,
+            current: CurrentInterval::first(every),
             left,
             rows,
         })
@@ -71,17 +62,10 @@ impl QueueRun {
             → OnOk result (text.new.items ≡ text.old.items ++ queue_rows_on every self.now.job trace) }
     {
         text.extend_from_slice(self.rows.as_slice())?;
-        if self.used == 0 {
-            return Ok(());
+        if let Some(last) = self.current.last(&self.job, &self.cache) {
+            push_interval_rows(self.alloc, &last, &self.left, &self.cache, text)?;
         }
-        push_interval_rows(
-            self.alloc,
-            &self.job,
-            &self.cut,
-            &self.left,
-            &self.cache,
-            text,
-        )
+        Ok(())
     }
 
     // Makes the access to one of the keys, which come next in a trace. The one error is out of memory.
@@ -93,54 +77,26 @@ impl QueueRun {
             → HasQueueRows every trace n self.old → OnOk result (HasQueueRows every trace (n + 1) self.new) }
     {
         access_counted(&mut self.cache, &mut self.left, keys, i)?;
-        self.used += 1;
-        if self.used < self.every {
-            return Ok(());
+        if let Some(over) = self.current.advance(&self.job, 1, &self.cache) {
+            push_interval_rows(self.alloc, &over, &self.left, &self.cache, &mut self.rows)?;
+            self.left.clear();
         }
-        self.end_interval()
-    }
-
-    // Ends the interval whose accesses were made. The one error is out of memory.
-    fn end_interval(&mut self) -> Result<(), AllocError>
-        requires { (trace : List ℕ) × (done : ℕ) × EndsQueueRows trace done self.old }
-        ensures kept { (self.new.job ≡ self.old.job) × (self.new.every ≡ self.old.every)
-            × (self.new.cache ≡ self.old.cache) }
-        ensures used { OnOk result (self.new.used ≡ 0) }
-        ensures left { OnOk result (self.new.left.items ≡ []) }
-        ensures rows { (trace : List ℕ) (done : ℕ) → EndsQueueRows trace done self.old
-            → OnOk result (AreQueueRows trace (done + 1) self.new) }
-    {
-        push_interval_rows(
-            self.alloc,
-            &self.job,
-            &self.cut,
-            &self.left,
-            &self.cache,
-            &mut self.rows,
-        )?;
-        self.cut = self.cache.stats();
-        self.left.clear();
-        self.used = 0;
         Ok(())
     }
 }
 
-// Adds the rows of the interval whose accesses the cache of the job made last, by what was counted before it and how many
-// keys left each queue by them. The one error is out of memory.
+// Adds the rows of the interval whose accesses the cache of the job made last, where so many keys left each queue by them.
+// The one error is out of memory.
 fn push_interval_rows(
     alloc: Global,
-    job: &Job,
-    cut: &Stats,
+    interval: &Interval,
     left: &[u64],
     cache: &AnyPolicy,
     text: &mut Vec<u8>,
 ) -> Result<(), AllocError>
-    requires { (trace : List ℕ) × (every done : ℕ) × EndsInterval job.now trace every done cut.now left.now cache.now }
-    ensures { (trace : List ℕ) (every done : ℕ) → EndsInterval job.now trace every done cut.now left.now cache.now
-        → OnOk result (text.new.items ≡ text.old.items
-        ++ queue_rows job.now trace (interval_at job.now every (outcomes_on job.now trace) done)) }
+    ensures { (job : JobOf) (trace : List ℕ) → EndsInterval job trace interval.now left.now cache.now
+        → OnOk result (text.new.items ≡ text.old.items ++ queue_rows job trace interval.now) }
 {
-    let interval = between(job, cut, &cache.stats());
     let queues = cache.named_queues(alloc)?;
-    push_queue_rows(alloc, text, &interval, queues.as_slice(), left)
+    push_queue_rows(alloc, text, interval, queues.as_slice(), left)
 }

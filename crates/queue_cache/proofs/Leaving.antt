@@ -5,6 +5,7 @@ use Rattle.engine_base.specs.declared.outcome.Outcome.TheVariants.{Hit}
 use Rattle.engine_base.specs.Stats.{is_eviction}
 use Rattle.engine_base.proofs.Limited.{accepted}
 use Rattle.segments.specs.Queues.{IsDistinct}
+use Rattle.replacement.specs.PlanMoves.{leaver_in}
 use Rattle.replacement.proofs.Leaving.{hit-keeps, leaver-shown, asks-evicts}
 use Rattle.queue_cache.specs.QueueCache.{QueueSetup, QueueState, queue_access, StandsFor}
 use Rattle.queue_cache.specs.QueueStep.{queue_count, queue_asks, queue_record_of}
@@ -12,7 +13,7 @@ use Rattle.queue_cache.specs.Theorems.{HitsKeepAll, RecordsShowLeaver}
 use Rattle.queue_cache.proofs.Balance.{after-stands}
 
 -- the record of a hit
-pub hit-keeps-all : (d : QueueState) (k : ℕ) → (queue_access k d).0 ≡ Hit → (queue_record_of k d).moves.out ≡ None
+pub hit-keeps-all : (d : QueueState) (k : ℕ) → (queue_access k d).0 ≡ Hit → leaver_in (queue_record_of k d).moves ≡ None
 hit-keeps-all d k hit = grind (arith, nat_tests, hit-keeps)
 
 pub hits_keep_all : HitsKeepAll

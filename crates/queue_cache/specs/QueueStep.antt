@@ -11,7 +11,7 @@ use Rattle.admission.specs.FreqRecord.{size_of}
 pub use Rattle.replacement.specs.declared.record.Moves.{Moves}
 use Rattle.replacement.specs.Admission.{admits_in}
 use Rattle.replacement.specs.Plan.{Item, Outcome, plan}
-use Rattle.replacement.specs.PlanMoves.{moves_of, undone_moves, FitsMoves}
+use Rattle.replacement.specs.PlanMoves.{moves_of, leaver_in, undone_moves, FitsMoves}
 use Rattle.segments.specs.Items.{nodeless_item}
 use Rattle.segments.specs.Queues.{Queues, queue_holding}
 pub use Rattle.queue_cache.specs.declared.record.AccessRecord.{AccessRecord}
@@ -99,7 +99,7 @@ pub record QueueFits (r : AccessRecord) (d : QueueState) : Type 0 where
 
 -- undoing the access takes memory: an item left in it, which comes back
 abbrev pub queue_asks : AccessRecord → Type 0
-queue_asks r = r.moves.out ≢ None
+queue_asks r = leaver_in r.moves ≢ None
 
 -- ---- its words, and how the frequency ages
 

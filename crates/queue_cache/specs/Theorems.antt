@@ -3,6 +3,7 @@ use Rattle.std.specs.Prelude.{◌≡◌, ℕ, ◌≤◌, Some, None, option_map,
 use Rattle.engine_base.specs.declared.limits.TheConstants.{MAX_STEPS}
 use Rattle.engine_base.specs.declared.outcome.Outcome.TheVariants.{Hit}
 use Rattle.engine_base.specs.Machine.{KeepsKeys}
+use Rattle.replacement.specs.PlanMoves.{leaver_in}
 use Rattle.queue_cache.specs.Lru.{Outcome, lru, lru_residents, lru_outcome}
 use Rattle.queue_cache.specs.SingleQueue.{single_queue}
 use Rattle.queue_cache.specs.QueueCache.{QueueSetup, QueueState, access_response, queue_machine, frequency_after}
@@ -32,13 +33,13 @@ QueuesAccept = (d : QueueState) (k : ℕ) → queue_act d k ≡ None → d.stats
 -- The record of a hit moves nothing out of the queues, so undoing a hit is never refused.
 abbrev pub HitsKeepAll : Type 0
 HitsKeepAll = (d : QueueState) (k : ℕ) (e : QueueState) → queue_act d k ≡ Some (Hit, e)
-    → (queue_record_of k d).moves.out ≡ None
+    → leaver_in (queue_record_of k d).moves ≡ None
 
 -- The item that the record of an access moves out is the one that left by the table of moves, and no other: where none
 -- left, undoing the access is never refused.
 abbrev pub RecordsShowLeaver : Type 0
 RecordsShowLeaver = (s : QueueSetup) (keys : List ℕ) (d : QueueState) (k : ℕ) → StandsFor s keys d
-    → option_map (λ m. m.item) (queue_record_of k d).moves.out ≡ (access_response k d).left
+    → option_map (λ l. l.item) (leaver_in (queue_record_of k d).moves) ≡ (access_response k d).left
 
 -- For every list of accesses, a cache of Lru holds the last distinct keys, and the outcome of an access is the one that
 -- the whole list gives.

@@ -18,7 +18,7 @@ use engine_base::{Config, Engine, Item, Key, MAX_STEPS, Outcome, Stats, StepFaul
 use key_rows::{one_queue_row, three_queues_row, two_queues_row};
 use named_queues::{NamedQueue, one_queue, three_queues, two_queues};
 use queue_table::AHEAD;
-use replacement::{KeptMoves, Rules, access, make_room, open_frequency, undo};
+use replacement::{Rules, access, make_room, open_frequency, undo};
 use segments::{Queue, Segments};
 use std::alloc::{AllocError, Global};
 use std::marker::{Model, PhantomData};
@@ -273,20 +273,19 @@ impl<P: Drop> Engine for QueueCache<P> {
         self.stats.count(effect.outcome);
         let record = AccessRecord {
             counting,
-            moves: KeptMoves::of(effect.moves),
+            moves: effect.moves,
             outcome: effect.outcome,
         };
         Ok((effect.outcome, record))
     }
 
     fn undo(&mut self, done: AccessRecord) -> Result<(), AccessRecord> {
-        let moves = done.moves.moves();
-        if moves.out.is_some() && self.segments.reserve().is_err() {
+        if done.moves.leaver().is_some() && self.segments.reserve().is_err() {
             return Err(done);
         }
         let AccessRecord {
             counting,
-            moves: _,
+            moves,
             outcome,
         } = done;
         self.stats.uncount(outcome);

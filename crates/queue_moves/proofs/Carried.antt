@@ -11,7 +11,7 @@ no-run s = record { after = refl; fits = record { from = omega arith; to = omega
 -- an access that carried out the parts of a plan in their order; the leaver and what was forgotten give one room at most
 pub carried : (p : Plan) (i : Item) (x : ℕ) (s a b c d u : Queues) (r : Moves)
     → IsRun p.early s a → IsRun p.late a b → IsLeft p.first b c r.first → IsLeft p.second c d r.second → IsOwn p.own i d u r.own
-    → r.early ≡ p.early → r.late ≡ p.late → r.scalar ≡ x → coming_back r ≤ 1
+    → r.early ≡ p.early → r.late ≡ p.late → r.own_number ≡ x → coming_back r ≤ 1
     → IsCarried p i x s u r
 carried p i x s a b c d u r early late first second own re rl rx few =
     let runs_made : b ≡ after_runs p s = late.after ∙ ap (after_run p.late) early.after in
@@ -23,7 +23,7 @@ carried p i x s a b c d u r early late first second own re rl rx few =
     ap (λ y. before_run y (before_leaving r.first (before_leaving r.second (before_own r.own u)))) rl ∙ ap (before_run p.late) back_first ∙ late.undone in
     record {
       after = own.after ∙ ap (after_own p.own i) second_left;
-      is = six r.early _ r.late _ r.first _ r.second _ r.own _ r.scalar _ re rl
+      is = six r.early _ r.late _ r.first _ r.second _ r.own _ r.own_number _ re rl
           (first.is ∙ ap (left_of p.first) runs_made) (second.is ∙ ap (left_of p.second) first_left) (own.is ∙ ap (move_of p.own i) second_left) rx;
       fits = record {
         own = own.fits;
@@ -37,6 +37,6 @@ carried p i x s a b c d u r early late first second own re rl rx few =
     }
   where
     six : (e e2 l l2 : Run) (f f2 g g2 : Left) (o o2 : KeyMove) (y y2 : ℕ) → e ≡ e2 → l ≡ l2 → f ≡ f2 → g ≡ g2 → o ≡ o2 → y ≡ y2
-        → (let m : Moves = record { early = e; late = l; first = f; second = g; own = o; scalar = y } in
-        let m2 : Moves = record { early = e2; late = l2; first = f2; second = g2; own = o2; scalar = y2 } in m ≡ m2)
+        → (let m : Moves = record { early = e; late = l; first = f; second = g; own = o; own_number = y } in
+        let m2 : Moves = record { early = e2; late = l2; first = f2; second = g2; own = o2; own_number = y2 } in m ≡ m2)
     six e e2 l l2 f f2 g g2 o o2 y y2 he hl hf hg ho hy = rw (he, hl, hf, hg, ho, hy) refl

@@ -92,6 +92,10 @@ held-standing at i q n slots t h g =
 pub tabled-in : (slots : List Slot) → HasKeys (lists slots) → IsDistinct (lists slots) → IsTabled (lists slots)
 tabled-in slots k d = record { keys = k; distinct = d; high = high-empty slots }
 
+-- what stands in none of the queues that a table shows
+pub absent-inside : (i : Item) (inside seen : List Slot) → inside ≡ seen → queue_holding i (lists seen) ≡ None → queue_holding i (lists inside) ≡ None
+absent-inside i inside seen view h = ap (λ (x : List Slot). queue_holding i (lists x)) view ∙ h
+
 -- what stands in a list of keys is the item of its key
 pub key-item : (i : Item) → i.node ≡ 0 → item_of i.key ≡ i
 key-item i h = ap (λ (x : ℕ). let r : Item = record { key = i.key; node = x } in r) (sym h)
@@ -117,6 +121,12 @@ keys-back q older e s n k j = grind (arith, nat_tests, nodes-put, nodes-without,
 
 pub first-other : (e o : Entry) (l : List Entry) → oldest_of l ≡ Some o → occurrences e.item l ≡ 0 → is_same_item e.item o.item ≡ false
 first-other e o v h z = grind (arith, nat_tests)
+
+-- nor is the entry of the slot of the oldest one
+pub oldest-other : (e x o : Entry) (q : ℕ) (inside seen : List Slot) → inside ≡ seen → x ≡ o → oldest_of (lists inside q) ≡ Some o → occurrences e.item (lists seen q) ≡ 0
+    → is_same_item e.item x.item ≡ false
+oldest-other e x o q inside seen view is first z =
+    ap (λ (y : Entry). is_same_item e.item y.item) is ∙ first-other e o (lists inside q) first (ap (λ (y : List Slot). occurrences e.item (lists y q)) view ∙ z)
 
 pub off-after-send : (i : Item) (e : Entry) (to q : ℕ) (s : Queues) → is_same_item i e.item ≡ false → occurrences i (s q) ≡ 0 → occurrences i (after_send e to s q) ≡ 0
 off-after-send i e to q s h z = grind (arith, nat_tests, times-without, times-append, cases_eq)
@@ -159,7 +169,8 @@ pub last-key : (l : List Entry) → nodes_of l ≡ 0 → item_in (key_in (last_i
 last-key [] h = refl
 last-key (y ∷ l) h = last-node y.item l (omega (arith, h)) (omega (arith, h))
 
-module _ (k n : ℕ) (s : Queues) (t : IsTabled s) (at : Stands (entry (item_of k) n) s) where
+-- whose slot has the entry x
+module _ (k n : ℕ) (s : Queues) (t : IsTabled s) (at : Stands (entry (item_of k) n) s) (x : Entry) (slot : x ≡ entry (item_of k) n) where
   abbrev own : Entry
   own = entry (item_of k) n
 
@@ -174,10 +185,11 @@ module _ (k n : ℕ) (s : Queues) (t : IsTabled s) (at : Stands (entry (item_of 
   abbrev record_at : Option ℕ → ℕ → ℕ → KeyMove
   record_at o m q = record { key = k; older = o; count = m; queue = q; by = change.Moved }
 
-  pub own-moved : (to m : ℕ) → to < QUEUES → (p : Place) → Some p ≡ place_in (item_of k) s → (u : Queues) → u ≡ after_send (entry (item_of k) m) to s
+  pub own-moved : (to m : ℕ) → to < QUEUES → (p : Place) → Some p ≡ place_in x.item s → (u : Queues) → u ≡ after_send (entry x.item m) to s
       → IsOwn (goes to m) (item_of k) s u (record_at (key_in p.older) n p.queue)
-  own-moved to m w p h u hu =
-      let both : Some p ≡ Some record { queue = at.queue; older = older } = h ∙ place-is own s t at in
+  own-moved to m w p h u made =
+      let hu : u ≡ after_send (entry (item_of k) m) to s = made ∙ ap (λ (y : Entry). after_send (entry y.item m) to s) slot in
+      let both : Some p ≡ Some record { queue = at.queue; older = older } = h ∙ ap (λ (y : Entry). place_in y.item s) slot ∙ place-is own s t at in
       let there : record { queue = at.queue; older = older } ≡ p = cc both in
       subst (λ (x : Place). IsOwn (goes to m) (item_of k) s u (record_at (key_in x.older) n x.queue)) there record {
         after = hu;
@@ -196,14 +208,16 @@ module _ (k n : ℕ) (s : Queues) (t : IsTabled s) (at : Stands (entry (item_of 
   abbrev recounted : KeyMove
   recounted = record { key = k; older = None; count = n; queue = 0; by = change.Counted }
 
-  pub own-counted : (m : ℕ) (u : Queues) → u ≡ after_count (item_of k) m s → IsOwn (counts m) (item_of k) s u recounted
-  own-counted m u hu = record {
-    after = hu;
-    is = ap (λ x. record { key = k; older = None; count = x; queue = 0; by = change.Counted })
-        (sym (ap (λ h. count_at (item_of k) h s) (holding own s t at) ∙ own-count own s t at));
-    fits = tt;
-    undone = ap (after_count (item_of k) n) hu ∙ fun_ext (λ j. counted-twice (item_of k) m n (s j) ∙ same j);
-  }
+  pub own-counted : (m : ℕ) (u : Queues) → u ≡ after_count x.item m s → IsOwn (counts m) (item_of k) s u recounted
+  own-counted m u made =
+      let hu : u ≡ after_count (item_of k) m s = made ∙ ap (λ (y : Entry). after_count y.item m s) slot in
+      record {
+        after = hu;
+        is = ap (λ y. record { key = k; older = None; count = y; queue = 0; by = change.Counted })
+            (sym (ap (λ h. count_at (item_of k) h s) (holding own s t at) ∙ own-count own s t at));
+        fits = tt;
+        undone = ap (after_count (item_of k) n) hu ∙ fun_ext (λ j. counted-twice (item_of k) m n (s j) ∙ same j);
+      }
     where
       same : (j : ℕ) → entries_counted (item_of k) n (s j) ≡ s j
       same j =
@@ -218,38 +232,44 @@ module _ (k : ℕ) (s : Queues) (t : IsTabled s) (none : queue_holding (item_of 
       → IsOwn (goes to m) (item_of k) s u record { key = k; older = None; count = 0; queue = 0; by = change.Joined }
   own-joined to m w u hu = grind (arith, nat_tests, absent-gone, there-pushed, pushed-back, nowhere)
 
--- once another has gone
-pub own-renewed : (k : ℕ) (s : Queues) → IsTabled s → queue_holding (item_of k) s ≡ None → (i : Item) (to m : ℕ) → to < QUEUES → (u : Queues) → u ≡ after_push to (entry (item_of k) m) (after_removal i s)
-    → IsOwn (goes to m) (item_of k) (after_removal i s) u record { key = k; older = None; count = 0; queue = 0; by = change.Joined }
-own-renewed k s t none i = search (arith, own-joined, tabled-removal, is_absent, still-absent, absent)
+-- once another has gone, whose slot has the entry x
+pub own-renewed : (k : ℕ) (s : Queues) → IsTabled s → queue_holding (item_of k) s ≡ None → (e x : Entry) → x ≡ e → (to m : ℕ) → to < QUEUES
+    → (u : Queues) → u ≡ after_push to (entry (item_of k) m) (after_removal x.item s)
+    → IsOwn (goes to m) (item_of k) (after_removal e.item s) u record { key = k; older = None; count = 0; queue = 0; by = change.Joined }
+own-renewed k s t none e x slot to m w u made =
+    own-joined k _ (tabled-removal s t e.item) (is_absent (item_of k) _ (still-absent (item_of k) e.item s (absent (item_of k) s none))) to m w u
+    (made ∙ ap (λ (y : Entry). after_push to (entry (item_of k) m) (after_removal y.item s)) slot)
 
 -- ---- the oldest key of a queue
 
 pub no-front : (e : Entry) (l : List Entry) → oldest_of l ≡ Some e → last_item (before e.item l) ≡ None
 no-front e v h = grind (arith, nat_tests, same-refl)
 
-module _ (e : Entry) (q : ℕ) (s : Queues) (t : IsTabled s) (w : q < QUEUES) (first : oldest_of (s q) ≡ Some e) where
+-- whose slot has the entry x
+module _ (e x : Entry) (q : ℕ) (s : Queues) (t : IsTabled s) (w : q < QUEUES) (first : oldest_of (s q) ≡ Some e) (slot : x ≡ e) where
   abbrev at_end : Stands e s
   at_end = oldest_stands e q s w first
 
   own-key : item_of e.item.key ≡ e.item
   own-key = key-item e.item (oldest-node e (s q) (t.keys q) first)
 
-  pub left-sent : (to m : ℕ) → to < QUEUES → (u : Queues) → u ≡ after_send (entry e.item m) to s
+  pub left-sent : (to m : ℕ) → to < QUEUES → (u : Queues) → u ≡ after_send (entry x.item m) to s
       → IsLeft (leaving q (Some (to, m))) s u record { key = e.item.key; count = e.count; queue = q; by = departure.Sent }
-  left-sent to m low u hu = record {
-    after = hu ∙ sym (ap (λ x. departed (Some (to, m)) x s) first);
-    is = sym (ap (left_by (Some (to, m)) q) first);
-    fits = (w, subst (λ i. queue_holding i u ≢ None) (sym own-key) (subst (λ x. queue_holding e.item x ≢ None) (sym hu) (there-pushed e.item to m (after_removal e.item s) low)));
-    undone = ap (λ i. after_return q None (entry i e.count) (after_removal i u)) own-key
-        ∙ ap (λ x. after_return q None e (after_removal e.item x)) hu
-        ∙ ap (λ o. after_return q o e (after_removal e.item (after_send (entry e.item m) to s))) (sym (no-front e (s q) first))
-        ∙ sent-back e s t at_end to m;
-  }
+  left-sent to m low u made =
+      let hu : u ≡ after_send (entry e.item m) to s = made ∙ ap (λ (y : Entry). after_send (entry y.item m) to s) slot in
+      record {
+        after = hu ∙ sym (ap (λ y. departed (Some (to, m)) y s) first);
+        is = sym (ap (left_by (Some (to, m)) q) first);
+        fits = (w, subst (λ i. queue_holding i u ≢ None) (sym own-key) (subst (λ y. queue_holding e.item y ≢ None) (sym hu) (there-pushed e.item to m (after_removal e.item s) low)));
+        undone = ap (λ i. after_return q None (entry i e.count) (after_removal i u)) own-key
+            ∙ ap (λ y. after_return q None e (after_removal e.item y)) hu
+            ∙ ap (λ o. after_return q o e (after_removal e.item (after_send (entry e.item m) to s))) (sym (no-front e (s q) first))
+            ∙ sent-back e s t at_end to m;
+      }
 
-  pub left-out : (u : Queues) → u ≡ after_removal e.item s
+  pub left-out : (u : Queues) → u ≡ after_removal x.item s
       → IsLeft (leaving q None) s u record { key = e.item.key; count = e.count; queue = q; by = departure.Out }
-  left-out u hu = grind (arith, nat_tests, own-key, no-front e (s q) first, taken-back e s t at_end)
+  left-out u hu = grind (arith, nat_tests, own-key, no-front e (s q) first, taken-back e s t at_end, slot)
 
 pub nothing-left : (s : Queues) → IsLeft None s s nothing_left
 nothing-left s = record { after = refl; is = refl; fits = tt; undone = refl }

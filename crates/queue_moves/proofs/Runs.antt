@@ -17,20 +17,24 @@ newest-append : (found : Option Entry) (l : List Entry) (e : Entry) → newest_f
 newest-append found [] e = refl
 newest-append found (x ∷ l) e = newest-append (Some x) l e
 
-module _ (e : Entry) (from to less m : ℕ) (s : Queues) (t : IsTabled s) (w : from < QUEUES) (first : oldest_of (s from) ≡ Some e)
-    (lower : m + less ≡ e.count) (bound : e.count < 256) (u : Queues) (hu : u ≡ after_send (entry e.item m) to s) where
+-- the slot of the oldest has the entry x
+module _ (e x : Entry) (from to less m : ℕ) (s : Queues) (t : IsTabled s) (w : from < QUEUES) (first : oldest_of (s from) ≡ Some e)
+    (lower : m + less ≡ e.count) (bound : e.count < 256) (slot : x ≡ e) (u : Queues) (made : u ≡ after_send (entry x.item m) to s) where
+  hu : u ≡ after_send (entry e.item m) to s
+  hu = made ∙ ap (λ (y : Entry). after_send (entry y.item m) to s) slot
+
   newest-is : newest_of (u to) ≡ Some (entry e.item m)
-  newest-is = search (arith, with-queue-same, newest-append None (entries_without e.item (s to)) (entry e.item m))
+  newest-is = search (arith, hu, with-queue-same, newest-append None (entries_without e.item (s to)) (entry e.item m))
 
   pub turn-made : IsTurn from to less s u
   turn-made =
       let count_is : m ≡ e.count - less = omega (arith, lower) in
       record {
-        after = hu ∙ ap (λ x. after_send (entry e.item x) to s) count_is ∙ sym (ap (λ x. turned to less x s) first);
+        after = hu ∙ ap (λ y. after_send (entry e.item y) to s) count_is ∙ sym (ap (λ y. turned to less y s) first);
         fits = subst (HasCountLeft less) (sym newest-is) (let low : m + less < 256 = omega (arith, lower, bound) in low);
-        undone = ap (λ x. turned_back from less x u) newest-is
-            ∙ ap (λ x. after_return from None (entry e.item x) (after_removal e.item u)) lower
-            ∙ ap (λ x. after_return from None e (after_removal e.item x)) hu
+        undone = ap (λ y. turned_back from less y u) newest-is
+            ∙ ap (λ y. after_return from None (entry e.item y) (after_removal e.item u)) lower
+            ∙ ap (λ y. after_return from None e (after_removal e.item y)) hu
             ∙ ap (λ o. after_return from o e (after_removal e.item (after_send (entry e.item m) to s))) (sym (no-front e (s from) first))
             ∙ sent-back e s t (oldest_stands e from s w first) to m;
       }

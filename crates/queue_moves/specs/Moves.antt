@@ -49,8 +49,8 @@ pub data Own : Type 0 where
   -- it goes to the recent end of the queue, with the count: from where it stands, or from nowhere
   goes : ℕ → ℕ → Own
 
--- an access: whether it is a hit, two runs, two keys that leave their queues, the accessed key, and the policy's number
--- after it
+-- an access: whether it is a hit, two runs, two keys that leave their queues, the accessed key, and the policy's own
+-- number after it
 pub record Plan : Type 0 where
   pub hits : Bool
   pub early : Run
@@ -58,12 +58,12 @@ pub record Plan : Type 0 where
   pub first : Option Leaving
   pub second : Option Leaving
   pub own : Own
-  pub scalar : ℕ
+  pub own_number : ℕ
 
 -- a plan that only moves the accessed key
 abbrev pub own_plan : Bool → Own → ℕ → Plan
-own_plan hits own scalar =
-    record { hits = hits; early = no_run; late = no_run; first = None; second = None; own = own; scalar = scalar }
+own_plan hits own own_number =
+    record { hits = hits; early = no_run; late = no_run; first = None; second = None; own = own; own_number = own_number }
 
 -- ---- the queues after it
 

@@ -50,7 +50,7 @@ move_of (counts n) i s =
     record { key = i.key; older = None; count = count_at i (queue_holding i s) s; queue = 0; by = Counted }
 move_of (goes q n) i s = move_from i (place_in i s) s
 
--- the record of an access to the item i by the plan, where x is the policy's number before it
+-- the record of an access to the item i by the plan, where x is the policy's own number before it
 abbrev pub record_of : Plan → Item → ℕ → Queues → Moves
 record_of p i x s = record {
   early = p.early;
@@ -58,7 +58,7 @@ record_of p i x s = record {
   first = left_of p.first (after_runs p s);
   second = left_of p.second (after_first p s);
   own = move_of p.own i (after_second p s);
-  scalar = x;
+  own_number = x;
 }
 
 -- ---- undoing it
@@ -204,15 +204,15 @@ pub record IsOwn (o : Own) (i : Item) (s u : Queues) (r : KeyMove) : Type 0 wher
   pub fits : FitsOwn r u
   pub undone : before_own r u ≡ s
 
--- r is the record of an access to i that carried out the plan p, where x was the policy's number before it
+-- r is the record of an access to i that carried out the plan p, where x was the policy's own number before it
 pub record IsCarried (p : Plan) (i : Item) (x : ℕ) (s u : Queues) (r : Moves) : Type 0 where
   pub after : u ≡ after_all p i s
   pub is : r ≡ record_of p i x s
   pub fits : FitsMoves r u
   pub undone : before_all r u ≡ s
 
--- an access to i that carried out the plan p, where x was the policy's number before it
+-- an access to i that carried out the plan p, where x was the policy's own number before it
 pub record IsAccessed (p : Plan) (i : Item) (x : ℕ) (s u : Queues) (r : Accessed) : Type 0 where
   pub outcome : r.outcome ≡ outcome_of p s
-  pub scalar : r.scalar ≡ p.scalar
+  pub own_number : r.own_number ≡ p.own_number
   pub carried : IsCarried p i x s u r.moves

@@ -84,8 +84,8 @@ pub struct Moves {
     pub second: Left,
     /// The accessed key.
     pub own: KeyMove,
-    /// The policy's number before the access.
-    pub scalar: u32,
+    /// The policy's own number before the access.
+    pub own_number: u32,
 }
 
 /// An access that was made.
@@ -93,8 +93,8 @@ pub struct Moves {
 pub struct Accessed {
     /// Its outcome.
     pub outcome: Outcome,
-    /// The policy's number after it.
-    pub scalar: u32,
+    /// The policy's own number after it.
+    pub own_number: u32,
     /// What undoes it.
     pub moves: Moves,
 }
@@ -147,9 +147,9 @@ impl KeyMove {
 
 impl Moves {
     /// The record of an access that only moves its own key.
-    pub fn of_key(own: KeyMove, scalar: u32) -> Moves
+    pub fn of_key(own: KeyMove, own_number: u32) -> Moves
         ensures { (hits : Bool) (o : Own) (i : Item) (x : ℕ) (s u : Queues) → IsOwn o i s u own
-            → IsCarried (own_plan hits o x) i scalar s u result }
+            → IsCarried (own_plan hits o x) i own_number s u result }
     {
         Moves {
             early: Run::NONE,
@@ -157,7 +157,7 @@ impl Moves {
             first: Left::NONE,
             second: Left::NONE,
             own,
-            scalar,
+            own_number,
         }
     }
 }

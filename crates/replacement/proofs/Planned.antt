@@ -1,27 +1,24 @@
 -- The plans carry out the table of moves.
-use Rattle.std.proofs.Common.{◌≡◌, ℕ, ◌≤◌, Bool, true, false, Option, Some, None, List, [], ◌∷◌, ◌++◌, ap, ◌∙◌, sym, refl, arith, inl, inr, length-append}
+use Rattle.std.proofs.Common.{◌≡◌, ℕ, ◌≤◌, Bool, true, false, Option, Some, None, option_map, List, [], ◌∷◌, ◌++◌, ap, ◌∙◌, sym, refl, arith, inl, inr, length-append}
 use Rattle.std.proofs.lemmas.Bool.Decides.{nat_tests}
 use Rattle.std.proofs.lemmas.Bool.{cases_Bool}
 use Rattle.segments.specs.declared.records.Queue.TheVariants.{Window, Probation, Protected}
-use Rattle.segments.specs.Items.{Item, is_same_item, occurrences, items_without, oldest_of, last_item, before}
-use Rattle.segments.specs.Queues.{Queues, queue_holding, queues_after_move, total_items, IsDistinct, queue_of}
-use Rattle.segments.proofs.QueueLists.{same-refl, same-sym, length-without, without-none, without-append, taken-moved, first-stands, pushed-moved, still-absent, placed}
+use Rattle.segments.specs.Items.{Item, is_same_item, occurrences, items_without, oldest_of}
+use Rattle.segments.specs.Queues.{Queues, queue_holding, queues_after_move, total_items, IsDistinct}
+use Rattle.segments.proofs.QueueLists.{same-refl, same-sym, length-without, without-none, without-append, taken-moved, first-stands, pushed-moved, still-absent}
 use Rattle.replacement.specs.declared.rules.Placement.TheVariants.{Direct, Windowed}
 use Rattle.replacement.specs.Table.{Rules, Placement, Queue, Response, with_recent, queues_after_demotion, hit_response, contest, eviction, response_with_victim, response_without_trial, miss_by, miss, access_in, access}
 use Rattle.replacement.specs.Plan.{Plan, Transfer, transfer, demotion, contest_plan, direct_plan, candidate_of, eviction_of, eviction_plan, joining_first, miss_plan_by, miss_plan, plan_in, plan}
-use Rattle.replacement.specs.PlanMoves.{queues_after_transfer, removed, response_of_plan}
+use Rattle.replacement.specs.PlanMoves.{queues_after_transfer, queues_after_leaving, response_of_plan}
 use Rattle.replacement.specs.Theorems.{HitsPlanned, EvictionsPlanned, AccessesPlanned}
 use Rattle.replacement.proofs.Counting.{distinct-moved}
-use Rattle.std.specs.Prelude.{MatchOption, IfSome}
-use Rattle.segments.specs.Moves.{move_record, IsMoveRecord}
-use Rattle.replacement.specs.KeptMoves.{MoveRecord, IsOldest}
 
 -- ---- hits
 
 demoted-planned : (size : ℕ) (s : Queues) → queues_after_demotion size s ≡ queues_after_transfer (demotion size s) s
 demoted-planned size s = grind (arith, nat_tests, by_oldest)
   where
-    by_oldest : (o : Option Item) → with_recent o Probation s ≡ queues_after_transfer (transfer Probation o) s
+    by_oldest : (o : Option Item) → with_recent o Probation s ≡ queues_after_transfer (transfer (Some Protected) Probation o) s
     by_oldest None = refl
     by_oldest (Some i) = refl
 
@@ -62,7 +59,7 @@ apart c v l h f = grind (arith, nat_tests, by)
     by (x ∷ l) h f e = grind (arith, nat_tests, item_in)
 
 contest-planned : (a : ℕ → ℕ → Bool) (c : Item) (o : Option Item) (s : Queues) → oldest_of s.probation ≡ o → occurrences c s.probation ≡ 0
-    → contest a c (first_or c o) (queues_after_move c Probation s) ≡ response_of_plan (contest_plan Probation a c (Some c) o) s
+    → contest a c (first_or c o) (queues_after_move c Probation s) ≡ response_of_plan (contest_plan (Some Window) Probation a c o) s
 unfolding first_or
 contest-planned a c None s f h = let e = same-refl c in rw (e, taken-moved c Probation s) refl
 contest-planned a c (Some v) s f h =
@@ -82,12 +79,12 @@ first-none : (r : Rules) (a : ℕ → ℕ → Bool) (o : Option Item) (s : Queue
 first-none r a None s = refl
 first-none r a (Some c) s = grind (arith, nat_tests, by)
   where
-    by : (o : Option Item) → (contest_plan Probation a c (Some c) o).first ≡ None
+    by : (o : Option Item) → (contest_plan (Some Window) Probation a c o).first ≡ None
     by None = refl
-    by (Some v) = elim (cases_Bool (a c.key v.key)) as (λ _. (contest_plan Probation a c (Some c) (Some v)).first ≡ None) [ inl e ↦ rw e refl | inr e ↦ rw e refl ]
+    by (Some v) = elim (cases_Bool (a c.key v.key)) as (λ _. (contest_plan (Some Window) Probation a c (Some v)).first ≡ None) [ inl e ↦ rw e refl | inr e ↦ rw e refl ]
 
 response_with : Option Transfer → Plan → Queues → Response
-response_with o p s = record { outcome = p.outcome; left = p.leaves; queues = queues_after_transfer p.last (removed p.leaves (queues_after_transfer o s)) }
+response_with o p s = record { outcome = p.outcome; left = option_map (λ l. l.item) p.leaves; queues = queues_after_transfer p.last (queues_after_leaving p.leaves (queues_after_transfer o s)) }
 
 pub joined-response : (i : Item) (p : Plan) (s : Queues) → p.first ≡ None → response_of_plan (joining_first i p) s ≡ response_of_plan p (queues_after_move i Window s)
 unfolding response_with
@@ -96,8 +93,11 @@ joined-response i p s h = ap (λ (o : Option Transfer). response_with o p (queue
 pub evicts-first : (r : Rules) (a : ℕ → ℕ → Bool) (s : Queues) → (eviction_plan r a s).first ≡ None
 evicts-first r a s = first-none r a (candidate_of r s) s
 
+pub direct-first : (r : Rules) (a : ℕ → ℕ → Bool) (q : Queue) (i : Item) (s : Queues) → (direct_plan r a q i s).first ≡ None
+direct-first r a q i s = grind (arith, nat_tests)
+
 replacing-planned : (a : ℕ → ℕ → Bool) (q : Queue) (i : Item) (o : Option Item) (s : Queues) → queue_holding i s ≡ None
-    → response_with_victim a q i o s ≡ response_of_plan (contest_plan q a i None o) s
+    → response_with_victim a q i o s ≡ response_of_plan (contest_plan None q a i o) s
 replacing-planned a q i None s h = refl
 replacing-planned a q i (Some v) s h = search (arith, pushed-moved, still-absent)
 
@@ -132,17 +132,3 @@ pub accesses_planned : AccessesPlanned
 accesses_planned r a i s d =
     access-at r a i s (queue_holding i s) refl ∙ (access-planned-in r a i (queue_holding i s) s d refl
     ∙ ap (λ (p : Plan). response_of_plan p s) (sym (plan-at r a i s (queue_holding i s) refl)))
-
--- ---- moves of the oldest item of a queue, and of one that stands in none
-
-none-before : (l : List Item) (i : Item) → oldest_of l ≡ Some i → last_item (before i l) ≡ None
-none-before v i e = grind (arith, nat_tests)
-
-pub sent-if : (q to : Queue) (o : Option MoveRecord) (s t : Queues) → IsDistinct s
-    → MatchOption o (queue_of q s ≡ []) (λ r. oldest_of (queue_of q s) ≡ Some r.item)
-    → IfSome o (λ r. IsMoveRecord r.item (Some to) s t r) → IsOldest o
-sent-if q to v s t d e h = grind (arith, nat_tests, placed, first-stands, none-before)
-
--- an item that stands in no queue comes to the recent end of one
-pub joined-oldest : (q : Queue) (i : Item) (s : Queues) (r : MoveRecord) → r ≡ move_record i (Some q) s → queue_holding i s ≡ None → IsOldest (Some r)
-joined-oldest q i s r h p = rw (h, p) (refl, tt)

@@ -6,5 +6,4 @@ pub mod Counts
 pub mod Plan
 pub mod PlanMoves
 pub mod Effects
-pub mod KeptMoves
 pub mod Theorems

@@ -6,7 +6,6 @@ ghost use Rattle.replacement.specs.Table.{access};
 ghost use Rattle.replacement.specs.Plan.{plan};
 ghost use Rattle.replacement.specs.PlanMoves.{moves_of, UndoesMoves};
 ghost use Rattle.replacement.specs.Effects.{IsEffect};
-ghost use Rattle.replacement.specs.KeptMoves.{IsKeepable};
 
 use crate::hits::hit;
 use crate::misses::{direct, windowed};
@@ -65,7 +64,6 @@ pub fn access<C>(
         ≡ moves_of (plan rules.now (admits_in (option_map
         (λ f. f.now) frequency.entry)) item segments.old.lists) segments.old.lists }
     ensures undoes { UndoesMoves segments.old.lists segments.new.lists result.moves }
-    ensures keepable { IsKeepable result.moves }
     // what holds of every Segments: no item stands twice
     ensures distinct { IsDistinct segments.old.lists }
 {
@@ -84,7 +82,6 @@ fn access_planned<C>(
     ensures effect { IsEffect (plan rules.now (admits_in
         (option_map (λ f. f.now) frequency.entry)) item segments.old.lists)
         segments.old.lists segments.new.lists result }
-    ensures keepable { IsKeepable result.moves }
     ensures distinct { IsDistinct segments.old.lists }
 {
     match hit(segments, rules.protected, item) {

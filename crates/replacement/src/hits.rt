@@ -3,14 +3,13 @@ ghost use Rattle.std.specs.Prelude.{◌≡◌, ◌≤◌, ◌↔◌, Option, Som
 ghost use Rattle.segments.specs.Queues.{queue_holding, IsDistinct};
 ghost use Rattle.replacement.specs.Table.{after_hit};
 ghost use Rattle.replacement.specs.Plan.{demotion, settling};
-ghost use Rattle.replacement.specs.PlanMoves.{queues_after_transfer, transfer_record, UndoesMoves};
+ghost use Rattle.replacement.specs.PlanMoves.{queues_after_transfer, sent_by, UndoesMoves};
 ghost use Rattle.replacement.specs.Effects.{IsHit};
-ghost use Rattle.replacement.specs.KeptMoves.{IsOldest, IsKeepable};
 
 use crate::queue_moves::send_oldest;
-use crate::record::Moves;
+use crate::record::{Moves, Sent};
 use engine_base::Item;
-use segments::{MoveRecord, Queue, Segments};
+use segments::{Queue, Segments};
 
 /// A hit on an item, where protected holds `size` items: an item of the window goes to the window's recent end, any
 /// other to protected's, and where one that came from probation takes protected over its size, the oldest item there
@@ -21,27 +20,24 @@ pub fn hit(segments: &mut Segments, size: usize, item: Item) -> Option<Moves>
     ensures lists { segments.new.lists ≡ after_hit size item segments.old.lists }
     ensures record { IfSome result (λ m. IsHit size item segments.old.lists segments.new.lists m) }
     ensures undoes { IfSome result (λ m. UndoesMoves segments.old.lists segments.new.lists m) }
-    ensures keepable { IfSome result (λ m. IsKeepable m) }
     ensures spare { segments.old.spare ≤ segments.new.spare }
     // what holds of every Segments: no item stands twice
     ensures distinct { IsDistinct segments.old.lists }
 {
-    let (queue, first) = segments.refresh(item)?;
-    let last = settle(segments, size, queue);
-    Some(Moves {
-        first: Some(first),
-        out: None,
-        last,
-    })
+    let (queue, renewed) = segments.refresh(item)?;
+    let sent = settle(segments, size, queue);
+    match (renewed.from, renewed.to) {
+        (Some(from), Some(to)) => Some(Moves::Renewed { to, sent, from }),
+        (None, _) | (_, None) => unreachable!(),
+    }
 }
 
 // What follows the move of an item that stood in the queue.
 #[inline(always)]
-fn settle(segments: &mut Segments, size: usize, queue: Queue) -> Option<MoveRecord>
-    requires { IsDistinct segments.old.lists }
-    ensures lists { segments.new.lists ≡ queues_after_transfer (settling size queue segments.old.lists) segments.old.lists }
-    ensures record { result ≡ transfer_record (settling size queue segments.old.lists) segments.old.lists }
-    ensures oldest { IsOldest result }
+fn settle(segments: &mut Segments, size: usize, queue: Queue) -> Option<Sent>
+    ensures lists { segments.new.lists
+        ≡ queues_after_transfer (settling size queue segments.old.lists) segments.old.lists }
+    ensures sent { result ≡ sent_by (settling size queue segments.old.lists) }
     ensures spare { segments.old.spare ≤ segments.new.spare }
 {
     match queue {
@@ -52,11 +48,9 @@ fn settle(segments: &mut Segments, size: usize, queue: Queue) -> Option<MoveReco
 
 // Takes the oldest item of protected to probation where protected is over its size.
 #[inline(always)]
-fn demote(segments: &mut Segments, size: usize) -> Option<MoveRecord>
-    requires { IsDistinct segments.old.lists }
+fn demote(segments: &mut Segments, size: usize) -> Option<Sent>
     ensures lists { segments.new.lists ≡ queues_after_transfer (demotion size segments.old.lists) segments.old.lists }
-    ensures record { result ≡ transfer_record (demotion size segments.old.lists) segments.old.lists }
-    ensures oldest { IsOldest result }
+    ensures sent { result ≡ sent_by (demotion size segments.old.lists) }
     ensures spare { segments.old.spare ≤ segments.new.spare }
 {
     if segments.len(Queue::Protected) <= size {

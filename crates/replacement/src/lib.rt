@@ -9,7 +9,6 @@
 mod accesses;
 mod admission_filter;
 mod hits;
-mod kept_moves;
 mod misses;
 mod queue_moves;
 mod record;
@@ -20,8 +19,7 @@ pub mod theorems;
 pub use accesses::{access, make_room};
 pub use admission_filter::{open_frequency, open_frequency_without_doorkeeper};
 pub use hits::hit;
-pub use kept_moves::KeptMoves;
 pub use misses::evict;
-pub use record::{Effect, Moves};
+pub use record::{Effect, Leaver, Moves, Sent};
 pub use rollback::undo;
 pub use rules::{Placement, Rules};

@@ -4,13 +4,12 @@ ghost use Rattle.segments.specs.Queues.{queue_holding, queues_after_move, IsDist
 ghost use Rattle.replacement.specs.Admission.{admits_in};
 ghost use Rattle.replacement.specs.Table.{eviction};
 ghost use Rattle.replacement.specs.Plan.{direct_plan, eviction_plan, joining_first};
-ghost use Rattle.replacement.specs.PlanMoves.{moves_of, UndoesMoves};
-ghost use Rattle.replacement.specs.Effects.{IsEffect};
-ghost use Rattle.replacement.specs.KeptMoves.{IsDrop, IsKeepable};
+ghost use Rattle.replacement.specs.PlanMoves.{moves_of, Replaced, UndoesMoves};
+ghost use Rattle.replacement.specs.Effects.{IsEffect, IsReplacement};
 
 use crate::admission_filter::admits;
 use crate::queue_moves::{drop_oldest, join, renew_oldest, send_oldest};
-use crate::record::{Effect, Moves};
+use crate::record::{Effect, Leaver, Moves, Sent};
 use crate::rules::Rules;
 use admission::Frequency;
 use engine_base::{Item, Outcome};
@@ -31,9 +30,8 @@ pub fn evict(segments: &mut Segments, frequency: Option<&Frequency>, rules: &Rul
         ≡ moves_of (eviction_plan rules.now (admits_in
         (option_map (λ f. f.now) frequency.entry)) segments.old.lists) segments.old.lists }
     ensures undoes { UndoesMoves segments.old.lists segments.new.lists result.moves }
-    ensures keepable { IsKeepable result.moves }
 {
-    evict_planned(segments, frequency, rules)
+    evict_planned(segments, frequency, rules, None)
 }
 
 // A new item joins the window, and one eviction follows. Each `C` has an instance of its own, called at one place: it is
@@ -48,16 +46,13 @@ pub(crate) fn windowed<C>(
     requires absent { queue_holding item segments.old.lists ≡ None }
     requires distinct { IsDistinct segments.old.lists }
     requires room { 1 ≤ segments.old.spare }
-    ensures keepable { IsKeepable result.moves }
     ensures effect { IsEffect (joining_first item
         (eviction_plan rules.now (admits_in (option_map (λ f. f.now) frequency.entry))
         (queues_after_move item Queue.Window segments.old.lists)))
         segments.old.lists segments.new.lists result }
 {
-    let first = join(segments, Queue::Window, item);
-    let mut effect = evict_planned(segments, frequency, rules);
-    effect.moves.first = Some(first);
-    effect
+    join(segments, Queue::Window, item);
+    evict_planned(segments, frequency, rules, Some(Queue::Window))
 }
 
 // A new item seeks a place in a queue.
@@ -72,79 +67,78 @@ pub(crate) fn direct(
     requires absent { queue_holding item segments.old.lists ≡ None }
     requires distinct { IsDistinct segments.old.lists }
     requires room { 1 ≤ segments.old.spare }
-    ensures keepable { IsKeepable result.moves }
     ensures effect { IsEffect (direct_plan rules.now (admits_in
         (option_map (λ f. f.now) frequency.entry)) queue item segments.old.lists)
         segments.old.lists segments.new.lists result }
 {
+    let sent = Some(Sent {
+        from: None,
+        to: queue,
+    });
     if segments.count() < rules.capacity {
-        let last = join(segments, queue, item);
-        return Effect {
-            outcome: Outcome::Kept,
-            moves: Moves {
-                last: Some(last),
-                ..Moves::NONE
-            },
-        };
+        join(segments, queue, item);
+        return replacement(Outcome::Kept, None, None, sent);
     }
-    let rejected = Effect {
-        outcome: Outcome::Rejected(item.key),
-        moves: Moves::NONE,
-    };
     let Some(victim) = segments.oldest(queue) else {
-        return rejected;
+        return replacement(Outcome::Rejected(item.key), None, None, None);
     };
     if !admits(frequency, item.key, victim.key) {
-        return rejected;
+        return replacement(Outcome::Rejected(item.key), None, None, None);
     }
-    let (out, last) = renew_oldest(segments, queue, item);
-    Effect {
-        outcome: Outcome::Evicted(victim.key),
-        moves: Moves {
-            first: None,
-            out: Some(out),
-            last: Some(last),
-        },
-    }
+    renew_oldest(segments, queue, item);
+    let left = Some(Leaver {
+        item: victim,
+        from: queue,
+    });
+    replacement(Outcome::Evicted(victim.key), None, left, sent)
 }
 
-// One eviction, by its plan.
+// One eviction, by its plan, after a new item came to a queue, or none.
 #[inline(always)]
 pub(crate) fn evict_planned(
     segments: &mut Segments,
     frequency: Option<&Frequency>,
     rules: &Rules,
+    came: Option<Queue>,
 ) -> Effect
     requires distinct { IsDistinct segments.old.lists }
-    ensures keepable { IsKeepable result.moves }
-    ensures drop { IsDrop result.moves.out }
-    ensures effect { IsEffect (eviction_plan rules.now (admits_in
+    ensures effect { IsReplacement came (eviction_plan rules.now (admits_in
         (option_map (λ f. f.now) frequency.entry)) segments.old.lists)
         segments.old.lists segments.new.lists result }
 {
-    let mut effect = Effect {
-        outcome: Outcome::Kept,
-        moves: Moves::NONE,
-    };
     if segments.len(Queue::Window) <= rules.window {
-        return effect;
+        return replacement(Outcome::Kept, came, None, None);
     }
     let Some(candidate) = segments.oldest(Queue::Window) else {
-        return effect;
+        return replacement(Outcome::Kept, came, None, None);
     };
     if segments.count() <= rules.capacity {
-        effect.moves.last = send_oldest(segments, Queue::Window, Queue::Probation);
-        return effect;
+        let sent = send_oldest(segments, Queue::Window, Queue::Probation);
+        return replacement(Outcome::Kept, came, None, sent);
     }
     if let Some(victim) = segments.oldest(Queue::Probation) {
         if admits(frequency, candidate.key, victim.key) {
-            effect.outcome = Outcome::Evicted(victim.key);
-            effect.moves.out = drop_oldest(segments, Queue::Probation);
-            effect.moves.last = send_oldest(segments, Queue::Window, Queue::Probation);
-            return effect;
+            let left = drop_oldest(segments, Queue::Probation);
+            let sent = send_oldest(segments, Queue::Window, Queue::Probation);
+            return replacement(Outcome::Evicted(victim.key), came, left, sent);
         }
     }
-    effect.outcome = Outcome::Rejected(candidate.key);
-    effect.moves.out = drop_oldest(segments, Queue::Window);
-    effect
+    let left = drop_oldest(segments, Queue::Window);
+    replacement(Outcome::Rejected(candidate.key), came, left, None)
+}
+
+// What a miss or an eviction came to, by what moved.
+#[inline(always)]
+fn replacement(
+    outcome: Outcome,
+    came: Option<Queue>,
+    left: Option<Leaver>,
+    sent: Option<Sent>,
+) -> Effect
+    ensures { result ≡ record { outcome = outcome; moves = Replaced came sent left } }
+{
+    Effect {
+        outcome,
+        moves: Moves::Replaced { came, sent, left },
+    }
 }

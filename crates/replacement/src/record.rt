@@ -1,25 +1,65 @@
 //! What an access came to, and the undo record of what it moved.
-use engine_base::Outcome;
-use segments::MoveRecord;
+ghost use Rattle.std.specs.Prelude.{◌≡◌};
+ghost use Rattle.replacement.specs.PlanMoves.{leaver_in};
 
-/// The undo record of an access or an eviction: what was moved, in turn. At most one item left the queues.
+use engine_base::{Item, Outcome};
+use segments::{Queue, QueuePlace};
+
+/// The undo record of an access or an eviction: what moved, in turn. It does not name what went to the recent end of a
+/// queue: that is the newest item there, once what came later is undone. It takes 40 bytes, as its small fields stand
+/// first.
 #[derive(Clone, Copy)]
-pub struct Moves {
-    /// The item that went to a recent end first.
-    pub first: Option<MoveRecord>,
-    /// The item that left the queues.
-    pub out: Option<MoveRecord>,
-    /// The item that went to a recent end last.
-    pub last: Option<MoveRecord>,
+pub enum Moves {
+    /// An item of the queues went from a place to the recent end of `to`; then one was sent on, or none.
+    Renewed {
+        to: Queue,
+        sent: Option<Sent>,
+        from: QueuePlace,
+    },
+    /// A new item came to the recent end of a queue, or none; then one left, or none; then one was sent on, or none.
+    Replaced {
+        came: Option<Queue>,
+        sent: Option<Sent>,
+        left: Option<Leaver>,
+    },
+}
+
+/// The oldest item of a queue, which left the queues.
+#[derive(Clone, Copy)]
+pub struct Leaver {
+    /// The item.
+    pub item: Item,
+    /// The queue that it left.
+    pub from: Queue,
+}
+
+/// The way of an item to the recent end of a queue.
+#[derive(Clone, Copy)]
+pub struct Sent {
+    /// The queue whose oldest item it was: `None` where it stood in none.
+    pub from: Option<Queue>,
+    /// The queue to whose recent end it went.
+    pub to: Queue,
 }
 
 impl Moves {
     /// Nothing moved.
-    pub const NONE: Moves = Moves {
-        first: None,
-        out: None,
-        last: None,
+    pub const NONE: Moves = Moves::Replaced {
+        came: None,
+        sent: None,
+        left: None,
     };
+
+    /// The item that left the queues, if one did.
+    #[inline(always)]
+    pub fn leaver(&self) -> Option<Leaver>
+        ensures { result ≡ leaver_in self.now }
+    {
+        match *self {
+            Moves::Renewed { .. } => None,
+            Moves::Replaced { left, .. } => left,
+        }
+    }
 }
 
 /// What an access or an eviction came to: its outcome, and the undo record of what it moved.

@@ -37,29 +37,29 @@ pub fn step<C>(
     table: &mut KeyQueues,
     part: u32,
     capacity: u32,
-    scalar: u32,
+    own_number: u32,
     key: Key,
 ) -> Result<Accessed, AllocError>
     requires few { capacity ≤ MAX_CAPACITY }
     requires state { IsS3Fifo part capacity (s3_fifo_of (queues table.old)) }
-    ensures accessed { IfOk result (λ a. IsAccessed (s3_fifo_plan part capacity key scalar (queues table.old))
-        (item_of key) scalar (queues table.old) (queues table.new) a) }
-    ensures memory { OnErr result ((s3_fifo_plan part capacity key scalar (queues table.old)).hits ≡ false) }
+    ensures accessed { IfOk result (λ a. IsAccessed (s3_fifo_plan part capacity key own_number (queues table.old))
+        (item_of key) own_number (queues table.old) (queues table.new) a) }
+    ensures memory { OnErr result ((s3_fifo_plan part capacity key own_number (queues table.old)).hits ≡ false) }
     ensures err { OnErr result (queues table.new ≡ queues table.old) }
 {
     let Some(found) = table.find(key) else {
         // Room in the table is made before anything moves.
         table.reserve()?;
-        return Ok(miss::<C>(table, part, capacity, scalar, key, None, false));
+        return Ok(miss::<C>(table, part, capacity, own_number, key, None, false));
     };
     if is_resident(found.queue) {
         let own = table.recount(key, found, one_hit_more(found.count));
-        Ok(hit(own, scalar))
+        Ok(hit(own, own_number))
     } else {
         table.tabled();
         let remembered = found.queue == GHOST;
         let found = Some(found);
-        Ok(miss::<(C, Found)>(table, part, capacity, scalar, key, found, remembered))
+        Ok(miss::<(C, Found)>(table, part, capacity, own_number, key, found, remembered))
     }
 }
 
@@ -83,7 +83,7 @@ fn miss<C>(
     table: &mut KeyQueues,
     part: u32,
     capacity: u32,
-    scalar: u32,
+    own_number: u32,
     key: Key,
     found: Option<Found>,
     remembered: bool,
@@ -91,19 +91,19 @@ fn miss<C>(
     requires few { capacity ≤ MAX_CAPACITY }
     requires state { IsS3Fifo part capacity (s3_fifo_of (queues table.old)) }
     requires outside { IsOutside remembered found (item_of key) SmallQueue MainQueue GhostQueue table.old }
-    ensures { IsAccessed (s3_fifo_miss part capacity remembered scalar (queues table.old)) (item_of key) scalar
+    ensures { IsAccessed (s3_fifo_miss part capacity remembered own_number (queues table.old)) (item_of key) own_number
         (queues table.old) (queues table.new) result }
 {
     if table.len(SMALL) + table.len(MAIN) < capacity as usize {
         let own = enter_apart(table, key, found, queue_of(remembered));
-        return kept(own, scalar);
+        return kept(own, own_number);
     }
     table.tabled();
     let main = main_size(part, capacity);
     // Main takes the oldest keys of the small queue that were hit twice, until it is over its size.
     let room = (main as usize + 1).saturating_sub(table.len(MAIN));
     let early = table.run(SMALL, MAIN, 0, 2, room as u32);
-    evict::<C>(table, main, scalar, key, found, remembered, early)
+    evict::<C>(table, main, own_number, key, found, remembered, early)
 }
 
 // The queue that a key joins.
@@ -125,7 +125,7 @@ fn main_size(part: u32, capacity: u32) -> u32
 fn evict<C>(
     table: &mut KeyQueues,
     main: u32,
-    scalar: u32,
+    own_number: u32,
     key: Key,
     found: Option<Found>,
     remembered: bool,
@@ -134,7 +134,7 @@ fn evict<C>(
     requires few { length (queues table.old MainQueue) ≤ MAX_CAPACITY }
     requires outside { IsOutside remembered found (item_of key) SmallQueue MainQueue GhostQueue table.old }
     ensures { (s : Queues) → IsRun early s (queues table.old)
-        → IsAccessed (eviction_plan main early remembered scalar (queues table.old)) (item_of key) scalar s
+        → IsAccessed (eviction_plan main early remembered own_number (queues table.old)) (item_of key) own_number s
         (queues table.new) result }
 {
     let queue = queue_of(remembered);
@@ -142,12 +142,19 @@ fn evict<C>(
         let most = 3 * table.len(MAIN) as u32;
         let late = table.run(MAIN, MAIN, 1, 1, most);
         let (first, own) = enter_for_oldest::<C>(table, MAIN, key, found, queue);
-        return missed_after(early, late, LeftKeys::one(first), own, scalar, scalar);
+        return missed_after(
+            early,
+            late,
+            LeftKeys::one(first),
+            own,
+            own_number,
+            own_number,
+        );
     }
     let (left, own) = enter_for_remembered::<(C, Run)>(
         table, SMALL, GHOST, main, key, found, remembered, queue,
     );
-    missed_after(early, Run::NONE, left, own, scalar, scalar)
+    missed_after(early, Run::NONE, left, own, own_number, own_number)
 }
 
 // Whether main gives up a key, and not the small queue.

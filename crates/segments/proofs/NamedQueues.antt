@@ -49,14 +49,10 @@ newest-is found (e ∷ l) = newest-is (Some e) l
 -- one queue
 
 pub queue-named : (q : Queue) (s : ByNumber.Queues) → items_of (s (number_of q)) ≡ queue_of q (named s)
-queue-named Window s = refl
-queue-named Probation s = refl
-queue-named Protected s = refl
+queue-named q s = grind (arith, nat_tests)
 
 with-named : (q : Queue) (l : List Entry) (s : ByNumber.Queues) → named (ByNumber.with_queue (number_of q) l s) ≡ with_queue q (items_of l) (named s)
-with-named Window l s = refl
-with-named Probation l s = refl
-with-named Protected l s = refl
+with-named q l s = grind (arith, nat_tests)
 
 pub gap-numbered : (q : Queue) (older : Option Item) (s : ByNumber.Queues) → IsGap older (queue_of q (named s)) → Entries.IsGap older (s (number_of q))
 gap-numbered q older s g =
@@ -75,15 +71,13 @@ pub return-named : (q : Queue) (o : Option Item) (e : Entry) (s : ByNumber.Queue
 return-named q o e s = grind (arith, nat_tests, with-named, items-put, queue-named)
 
 pub with-kept : (q : Queue) (l : List Entry) (s : ByNumber.Queues) → IsNamed s → IsNamed (ByNumber.with_queue (number_of q) l s)
-with-kept Window l s h = record { fourth = h.fourth }
-with-kept Probation l s h = record { fourth = h.fourth }
-with-kept Protected l s h = record { fourth = h.fourth }
+with-kept q l s h = grind (arith, nat_tests)
 
 pub without-kept : (i : Item) (s : ByNumber.Queues) → IsNamed s → IsNamed (ByNumber.after_removal i s)
-without-kept i s h = record { fourth = ap (Entries.entries_without i) h.fourth }
+without-kept i s h = grind (arith, nat_tests)
 
 pub distinct-named : (s : ByNumber.Queues) → ByNumber.IsDistinct s → IsDistinct (named s)
-distinct-named s d i = let few = d i in let w = times-is i (s 0) in let p = times-is i (s 1) in let r = times-is i (s 2) in omega (arith, few, w, p, r)
+distinct-named s d i = omega (arith, d i, times-is i (s 0), times-is i (s 1), times-is i (s 2))
 
 -- where an item stands
 
@@ -109,9 +103,7 @@ holding-shown i s d h = at _ (stands i (named s) (distinct-named s d))
     at _ (nowhere a b c) = subst (λ o. IsShown o None) (sym (missing-numbered i s h (is_absent i (named s) record { window = a; probation = b; protected = c }))) in_none
 
 name-number : (q : Queue) → name_of (number_of q) ≡ q
-name-number Window = refl
-name-number Probation = refl
-name-number Protected = refl
+name-number q = grind (arith, nat_tests)
 
 shown-some : (n : ℕ) (o : Option ℕ) (q : Option Queue) → IsShown o q → o ≡ Some n → q ≡ Some (name_of n)
 shown-some n o q in_none h = absurd (cc h)

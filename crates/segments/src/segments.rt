@@ -237,6 +237,14 @@ impl Segments {
         Some(oldest.item)
     }
 
+    /// The newest item of the queue, `None` if it is empty.
+    pub fn newest(&self, queue: Queue) -> Option<Item>
+        ensures { result ≡ last_item (queue_of queue self.now.lists) }
+    {
+        let (_, newest) = self.table.newest(number(queue))?;
+        Some(newest.item)
+    }
+
     /// Moves the oldest item of a queue to the recent end of a queue. `None`, and nothing moved, if the first queue is
     /// empty. Does not search the hash index.
     #[inline(always)]
@@ -296,14 +304,6 @@ impl Segments {
                 });
             }
         }
-    }
-
-    // The newest item of the queue, `None` if it is empty.
-    fn newest(&self, queue: Queue) -> Option<Item>
-        ensures { result ≡ last_item (queue_of queue self.now.lists) }
-    {
-        let (_, newest) = self.table.newest(number(queue))?;
-        Some(newest.item)
     }
 
     // No item stands twice. This does nothing: its contract is the fact.

@@ -1,5 +1,5 @@
 -- Each step's change fits what the step left, and undoes it.
-use Rattle.std.proofs.Common.{◌≡◌, ℕ, suc, zero, ◌+◌, ◌-◌, ◌<◌, ◌≤◌, Bool, true, cond, ◌&&◌, eqb, nat_lt, Option, Some, None, List, [], ◌∷◌, ◌++◌, length, set, drop, ap, sym, refl, arith, inl, inr, length-append}
+use Rattle.std.proofs.Common.{◌≡◌, ℕ, suc, zero, ◌+◌, ◌-◌, ◌<◌, ◌≤◌, Bool, true, cond, ◌&&◌, eqb, nat_lt, Option, Some, None, option_map, List, [], ◌∷◌, ◌++◌, length, set, drop, ap, refl, arith, inl, inr, length-append}
 use Rattle.std.proofs.lemmas.Bool.{and_parts, cases_Bool, cond_both, eqb-false, ltb-true}
 use Rattle.std.proofs.lemmas.List.{take_at, get_or-set_same, set-set, set-get_or, length-set}
 use Rattle.engine_base.specs.declared.step.Act.TheVariants as a
@@ -7,14 +7,16 @@ use Rattle.engine_base.specs.declared.drain.Phase.TheVariants.{Writes, Evictions
 use Rattle.engine_base.specs.declared.step.Reply.TheVariants as reply
 use Rattle.segments.specs.declared.records.Queue.TheVariants.{Window, Probation}
 use Rattle.segments.specs.Items.{Item, is_same_item, occurrences, oldest_of}
-use Rattle.segments.specs.Queues.{Queues, queue_holding, queues_after_push, queues_after_move, queues_without, IsDistinct}
-use Rattle.segments.proofs.QueueLists.{same-refl, same-true, taken-absent}
+use Rattle.segments.specs.Queues.{Queues, queue_holding, queues_after_push, queues_after_move, IsDistinct}
+use Rattle.segments.proofs.QueueLists.{same-refl, same-true, is_absent, pushed-moved}
 use Rattle.replacement.specs.Rules.{three_queues}
 use Rattle.replacement.specs.Table.{Queue, hit_in}
-use Rattle.replacement.specs.Plan.{Plan, hit_plan, stay_plan, candidate_of, eviction_plan}
-use Rattle.replacement.specs.PlanMoves.{MoveRecord, queues_after_transfer, queues_after, response_of_plan, removal_record, moves_of, undone_moves, UndoesMoves}
-use Rattle.replacement.proofs.Carrying.{UndoesMove, removal-undone, plan-undone}
-use Rattle.replacement.proofs.Planned.{hits_planned, evictions_planned}
+use Rattle.replacement.specs.Plan.{Plan, candidate_of, eviction_plan}
+use Rattle.replacement.specs.declared.record.Leaver.{Leaver}
+use Rattle.replacement.specs.PlanMoves.{queues_after, response_of_plan, moves_of, leaver_in, undone_moves, UndoesMoves}
+use Rattle.replacement.proofs.Carrying.{UndoesMove, removal-undone, hit-undone, stay-undone, eviction-undone}
+use Rattle.replacement.proofs.Leaving.{leaver-of}
+use Rattle.replacement.proofs.Planned.{hits_planned, evictions_planned, evicts-first}
 use Rattle.shell_buffers.specs.declared.task.Task.TheVariants.{Add, Update, Remove}
 use Rattle.shell_model.specs.declared.record.Change.TheVariants.{Nothing, Offered, Removed, Passed, Ended}
 use Rattle.shell_model.specs.Frequency.{frequency_unrecorded, admits}
@@ -102,13 +104,14 @@ begin-goes w None x e = record { fits = (refl, refl); back = rw (← e) refl }
 
 -- hits
 
-pub hit-back : (size : ℕ) (i : Item) (q : Queues) (p : Option Queue) → IsDistinct q
+pub hit-back : (size : ℕ) (i : Item) (q : Queues) (p : Option Queue) → IsDistinct q → queue_holding i q ≡ p
     → UndoesMoves q (hit_in size i p q) (hit_moves size i p q)
-hit-back size i q None d = record { fits = record { last = tt; out = tt; first = tt; stays = (refl, refl) }; undone = refl }
-hit-back size i q (Some p) d =
-    plan-undone (hit_plan size i p q) q (hit_in size i (Some p) q) (hit_moves size i (Some p) q) d (hits_planned size i p q) refl
+hit-back size i q None d h = record { fits = record { last = tt; out = tt; first = tt }; undone = refl }
+hit-back size i q (Some p) d h =
+    hit-undone size i q (hit_in size i (Some p) q) (hit_moves size i (Some p) q) d
+    record { queue = p; place = h; lists = hits_planned size i p q; moves = refl }
 
-hit-stays : (size : ℕ) (i : Item) (q : Queues) (p : Option Queue) → (hit_moves size i p q).out ≡ None
+hit-stays : (size : ℕ) (i : Item) (q : Queues) (p : Option Queue) → leaver_in (hit_moves size i p q) ≡ None
 hit-stays size i q None = refl
 hit-stays size i q (Some p) = refl
 
@@ -123,7 +126,7 @@ pub record TouchBack (t : UseRecord) (x y : Shell) : Type 0 where
 
 touch-back : (i : Item) (x : Shell) → IsConsistent x → TouchBack (touched_of i x) x (shell_after_touch i x)
 touch-back i x w =
-    let b = hit-back (shell_protected_size x.config) i x.queues (queue_holding i x.queues) (sound-distinct x w) in
+    let b = hit-back (shell_protected_size x.config) i x.queues (queue_holding i x.queues) (sound-distinct x w) refl in
     record {
       fits = record {
         moves = b.fits;
@@ -161,10 +164,9 @@ queued-waits i rest x e w =
 added-back : (i : Item) (rest : List Task) (x : Shell) → x.writes ≡ Add i ∷ rest → IsConsistent x → TouchBack (added_of i x) x (shell_after_task (Add i) x)
 added-back i rest x e w =
     let none : queue_occurrences i x.queues ≡ 0 = queued-waits i rest x e w in
-    let n : queues_without i x.queues ≡ x.queues = taken-absent i x.queues record { window = omega arith; probation = omega arith; protected = omega arith } in
-    let m : queues_after_move i Window x.queues ≡ queues_after_push Window i x.queues = ap (λ r. queues_after_push Window i r) n in
-    let p = stay_plan Window i in
-    let b = plan-undone p x.queues (queues_after_push Window i x.queues) (moves_of p x.queues) (sound-distinct x w) (sym m) refl in
+    let absent : queue_holding i x.queues ≡ None = is_absent i x.queues record { window = omega arith; probation = omega arith; protected = omega arith } in
+    let b : UndoesMoves x.queues (queues_after_push Window i x.queues) (added_of i x).moves =
+    rw (pushed-moved i Window x.queues absent) (stay-undone Window i x.queues (sound-distinct x w) absent) in
     record {
       fits = record { moves = b.fits; frequency = fits_recorded x.frequency i.key w.frequency; stays = refl };
       queues = b.undone;
@@ -174,7 +176,7 @@ added-back i rest x e w =
 -- an item is taken out, where it is queued
 pub cleared-back : (i : Item) (q : Queues) (p : Option Queue) → IsDistinct q → UndoesMove q (cleared_from i p q) (cleared_of i p q)
 cleared-back i q None d = removal-undone None q d
-cleared-back i q (Some p) d = removal-undone (Some i) q d
+cleared-back i q (Some p) d = removal-undone (Some record { item = i; from = p }) q d
 
 -- where a task is applied, a task fits before the rest again, and another one is left to the holder
 record IsTaken (h : Holder) (t : Task) (x : Shell) : Type 0 where
@@ -248,34 +250,36 @@ shifted-queued c v x h f =
     ]
 
 -- the item that left the queues is back in the table
-record TableBack (b : Bool) (r : Option MoveRecord) (t u : List Item) : Type 0 where
-  out : IsOut b r u
-  back : entered b r u ≡ t
+record TableBack (b : Bool) (l : Option Leaver) (t u : List Item) : Type 0 where
+  out : IsOut b l u
+  back : entered b l u ≡ t
 
-table-back : (o : Option Item) (s : Queues) (t : List Item) → IsAscending t
-    → TableBack (leaves_table o t) (removal_record o s) t (unlisted_by o t)
-table-back None s t a = record { out = tt; back = refl }
-table-back (Some i) s t a =
-    elim (cases_Bool (is_listed i t)) as (λ _. TableBack (is_listed i t) (removal_record (Some i) s) t (unlisted i t)) [
+table-back : (l : Option Leaver) (t : List Item) → IsAscending t
+    → TableBack (leaves_table l t) l t (unlisted_by (option_map (λ m. m.item) l) t)
+table-back None t a = record { out = tt; back = refl }
+table-back (Some l) t a =
+    elim (cases_Bool (is_listed l.item t)) as (λ _. TableBack (is_listed l.item t) (Some l) t (unlisted l.item t)) [
       | inl e ↦
-          let h : 1 ≤ occurrences i t = listed-times i t e in
-          rw e record { out = node_of-without i t a h; back = placed-without i t a h }
+          let h : 1 ≤ occurrences l.item t = listed-times l.item t e in
+          rw e record { out = node_of-without l.item t a h; back = placed-without l.item t a h }
       | inr e ↦ rw e record { out = tt; back = refl }
     ]
 
 planned-goes : (h : Holder) (o : Option Item) (p : Plan) (x : Shell) → x.holder ≡ Some h → shell_eviction x ≡ response_of_plan p x.queues → IsConsistent x
-    → Goes x (planned_change h o p x)
-planned-goes h None p x f r w = passed-goes Evictions h x f
-planned-goes h (Some c) p x f r w =
-    let m = plan-undone p x.queues (queues_after p x.queues) (moves_of p x.queues) (sound-distinct x w) refl refl in
-    let t = table-back p.leaves (queues_after_transfer p.first x.queues) x.table w.placed.ascending in
+    → leaver_in (moves_of p x.queues) ≡ p.leaves → UndoesMoves x.queues (queues_after p x.queues) (moves_of p x.queues) → Goes x (planned_change h o p x)
+planned-goes h None p x f r w l m = passed-goes Evictions h x f
+planned-goes h (Some c) p x f r w l m =
+    let t = table-back p.leaves x.table w.placed.ascending in
     let same : holder_in_phase h.phase (holder_in_phase Evictions x.holder) ≡ x.holder = rw f refl in
-    record { fits = (rw r record { moves = m.fits; table = t.out }, rw f refl); back = rw (r, m.undone, t.back, same) refl }
+    record { fits = (rw r record { moves = m.fits; table = rw l t.out }, rw f refl); back = rw (r, m.undone, l, t.back, same) refl }
 
 evict-goes : (h : Holder) (x : Shell) → x.holder ≡ Some h → IsConsistent x → Goes x (evict_change h x)
 evict-goes h x f w =
-    planned-goes h (candidate_of (three_queues x.config) x.queues) (eviction_plan (three_queues x.config) (admits x.frequency) x.queues) x f
-    (evictions_planned (three_queues x.config) (admits x.frequency) x.queues (sound-distinct x w)) w
+    let r = three_queues x.config in
+    let a = admits x.frequency in
+    let d = sound-distinct x w in
+    planned-goes h (candidate_of r x.queues) (eviction_plan r a x.queues) x f (evictions_planned r a x.queues d) w
+    (leaver-of (eviction_plan r a x.queues) x.queues (evicts-first r a x.queues)) (eviction-undone r a x.queues d)
 
 end-goes : (h : Holder) (x : Shell) → x.holder ≡ Some h → Goes x (end_reply h x).1
 end-goes h x f =

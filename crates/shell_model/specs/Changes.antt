@@ -11,7 +11,8 @@ use Rattle.segments.specs.Queues.{queues_after_push}
 use Rattle.admission.specs.FreqRecord.{size_of}
 use Rattle.replacement.specs.Rules.{three_queues}
 use Rattle.replacement.specs.Table.{Response, after_hit, eviction}
-use Rattle.replacement.specs.PlanMoves.{MoveRecord, undone_by, undone_moves, FitsBy, FitsMoves}
+use Rattle.replacement.specs.declared.record.Leaver.{Leaver}
+use Rattle.replacement.specs.PlanMoves.{leaver_in, undone_by, undone_moves, FitsBy, FitsMoves}
 use Rattle.shell_buffers.specs.Buffers.{stripe_at, all_but_newest}
 use Rattle.shell_buffers.specs.declared.stripes.TheConstants.{MAX_ITEMS}
 use Rattle.shell_buffers.specs.declared.write_tasks.TheConstants.{MAX_TASKS}
@@ -105,12 +106,13 @@ listed true i t = table_with i t
 listed false i t = t
 
 -- what went out of the queues is back in the table, where it was listed
-abbrev pub entered : Bool → Option MoveRecord → List Item → List Item
+abbrev pub entered : Bool → Option Leaver → List Item → List Item
 entered b None t = t
-entered b (Some r) t = listed b r.item t
+entered b (Some l) t = listed b l.item t
 
 abbrev pub unevicted : EvictionRecord → Shell → Shell
-unevicted g x = record x { queues = undone_moves g.moves x.queues; table = entered g.listed g.moves.out x.table }
+unevicted g x =
+    record x { queues = undone_moves g.moves x.queues; table = entered g.listed (leaver_in g.moves) x.table }
 
 abbrev pub before_change : Change → Shell → Shell
 before_change Nothing x = x
@@ -146,7 +148,7 @@ IsNewest a l = l ≡ all_but_newest l ++ a ∷ []
 pub record FitsTouched (t : UseRecord) (x : Shell) : Type 0 where
   pub moves : FitsMoves t.moves x.queues
   pub frequency : FitsFrequency t.frequency x.frequency
-  pub stays : t.moves.out ≡ None
+  pub stays : leaver_in t.moves ≡ None
 
 abbrev pub IsInPhase : Phase → Option Holder → Type 0
 IsInPhase p None = ⊥
@@ -161,13 +163,13 @@ abbrev pub IsFree : Bool → Item → List Item → Type 0
 IsFree true i t = node_of i.key t ≡ None
 IsFree false i t = Unit {0}
 
-abbrev pub IsOut : Bool → Option MoveRecord → List Item → Type 0
+abbrev pub IsOut : Bool → Option Leaver → List Item → Type 0
 IsOut b None t = Unit {0}
-IsOut b (Some r) t = IsFree b r.item t
+IsOut b (Some l) t = IsFree b l.item t
 
 pub record FitsEviction (g : EvictionRecord) (x : Shell) : Type 0 where
   pub moves : FitsMoves g.moves x.queues
-  pub table : IsOut g.listed g.moves.out x.table
+  pub table : IsOut g.listed (leaver_in g.moves) x.table
 
 abbrev pub FitsChange : Change → Shell → Type 0
 FitsChange Nothing x = Unit {0}
@@ -191,7 +193,7 @@ FitsChange (Ended h before now) x = (x.drain ≡ now) × (x.holder ≡ None)
 abbrev pub change_asks : Change → Type 0
 change_asks (Removed i) = Unit {0}
 change_asks (Cleared before i out) = out ≢ None
-change_asks (Evicted before g) = g.moves.out ≢ None
+change_asks (Evicted before g) = leaver_in g.moves ≢ None
 change_asks c = ⊥
 
 -- the words that the change holds in lists: those of a halving of the frequency, if any

@@ -21,7 +21,9 @@ use Rattle.segments.specs.declared.records.Queue.TheVariants.{Window}
 pub use Rattle.segments.specs.declared.records.MoveRecord.{MoveRecord}
 use Rattle.segments.specs.Queues.{Queues, queue_holding}
 use Rattle.segments.specs.Moves.{move_record}
+use Rattle.replacement.specs.declared.record.Leaver.{Leaver}
 pub use Rattle.replacement.specs.declared.record.Moves.{Moves}
+use Rattle.replacement.specs.declared.record.Moves.TheVariants.{Replaced}
 use Rattle.replacement.specs.Rules.{three_queues}
 use Rattle.replacement.specs.Table.{Queue, Response}
 use Rattle.replacement.specs.Plan.{Plan, hit_plan, stay_plan, candidate_of, eviction_plan}
@@ -88,7 +90,7 @@ begin_reply w None x = (reply.Began, change.Began w x.drain)
 
 -- a hit's moves, by where the item is queued
 abbrev pub hit_moves : ℕ → Item → Option Queue → Queues → Moves
-hit_moves size i None q = record { first = None; out = None; last = None }
+hit_moves size i None q = Replaced None None None
 hit_moves size i (Some p) q = moves_of (hit_plan size i p q) q
 
 abbrev pub touched_of : Item → Shell → UseRecord
@@ -103,7 +105,7 @@ read_reply s (i ∷ rest) x = (reply.Drained i, change.Read s i (touched_of i x)
 
 abbrev pub added_of : Item → Shell → UseRecord
 added_of i x =
-    record { frequency = shell_frequency_record x.frequency i.key; moves = moves_of (stay_plan Window i) x.queues }
+    record { frequency = shell_frequency_record x.frequency i.key; moves = moves_of (stay_plan None Window i) x.queues }
 
 abbrev pub cleared_of : Item → Option Queue → Queues → Option MoveRecord
 cleared_of i None q = None
@@ -135,9 +137,9 @@ abbrev pub evict_effect : Shell → Reply × Shell
 evict_effect x = evicted_by (candidate_of (three_queues x.config) x.queues) (shell_eviction x) x
 
 -- whether the item that leaves the queues leaves the table too
-abbrev pub leaves_table : Option Item → List Item → Bool
+abbrev pub leaves_table : Option Leaver → List Item → Bool
 leaves_table None t = false
-leaves_table (Some i) t = is_listed i t
+leaves_table (Some l) t = is_listed l.item t
 
 abbrev pub eviction_record : Plan → Shell → EvictionRecord
 eviction_record p x = record { moves = moves_of p x.queues; listed = leaves_table p.leaves x.table }

@@ -3,7 +3,7 @@ use crate::holder::Holder;
 use crate::stats::Counted;
 use admission::FreqRecord;
 use engine_base::{Drain, Item, Phase, Worker};
-use replacement::KeptMoves;
+use replacement::Moves;
 use segments::MoveRecord;
 
 /// A key that was recorded, and the moves that came with it: where its item went, and what that pushed out of
@@ -11,13 +11,13 @@ use segments::MoveRecord;
 #[derive(Drop)]
 pub struct UseRecord {
     pub frequency: FreqRecord,
-    pub moves: KeptMoves,
+    pub moves: Moves,
 }
 
 /// What an eviction moved in the queues, and whether the item that left them left the table too.
 #[derive(Drop)]
 pub struct EvictionRecord {
-    pub moves: KeptMoves,
+    pub moves: Moves,
     pub listed: bool,
 }
 

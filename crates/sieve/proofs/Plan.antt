@@ -252,7 +252,7 @@ module _ (c k x : ℕ) (s : Queues) (c_some : 1 ≤ c) (t : IsTabled s) (first :
         let r = left k mid (late mid) late mid_low t-late absent refl clear in
         let n = new_low in grind (arith, nat_tests, stop, first-send 2 (new k) (ahead_new c x s) (after_leaver c x s) (omega (arith, n)) (first-out 2 mid late within), first-out 2 mid late within)
 
-  number : (o : Option (ℕ × ℕ)) (room : Bool) → (resident_plan o room (counts 1) (goes x 0) x (sieve_eviction_plan c x s)).scalar ≤ 1
+  number : (o : Option (ℕ × ℕ)) (room : Bool) → (resident_plan o room (counts 1) (goes x 0) x (sieve_eviction_plan c x s)).own_number ≤ 1
   number v room = grind (arith, nat_tests, wrapped-low)
 
 planned : IsPlannedPage sieve_page

@@ -1,5 +1,5 @@
--- SIEVE (`Sieve`) as a plan of moves. The queue is cut at the hand: the policy's number, 0 or 1, is that of the queue of
--- the keys ahead of the hand; those that it has passed stand in the other one.
+-- SIEVE (`Sieve`) as a plan of moves. The queue is cut at the hand: the policy's own number, 0 or 1, is that of the
+-- queue of the keys ahead of the hand; those that it has passed stand in the other one.
 use Rattle.std.specs.Prelude.{ℕ, ◌+◌, ◌-◌, ◌≤◌, nat_lt, if◌then◌else◌, Some, None, List, [], ◌∷◌, codes, length}
 use Rattle.queue_table.specs.Queues.{Queues}
 use Rattle.named_queues.specs.NamedQueue.{NamedQueueData}
@@ -53,7 +53,7 @@ sieve_eviction_plan c x s =
     leaver_plan (pass_run c x s) (pass_run c (ahead_late c x s) (after_early c x s)) (leaving (ahead_late c x s) None)
     (goes (ahead_new c x s) 0) (ahead_new c x s)
 
--- an access to k, where x is the policy's number
+-- an access to k, where x is the policy's own number
 abbrev pub sieve_plan : ℕ → ℕ → ℕ → Queues → Plan
 sieve_plan c k x s =
     resident_plan (standing (item_of k) s) (nat_lt (length (s 0) + length (s 1)) c) (counts 1) (goes x 0) x

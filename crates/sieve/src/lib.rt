@@ -21,7 +21,7 @@ use queue_moves::{Accessed, KeyQueues, Run};
 use std::alloc::AllocError;
 
 /// An access to a key: a hit sets its visited bit; in a full cache the hand passes over the keys whose bits are set,
-/// clearing these, and the key at which it stops leaves. `scalar` is the number of the queue ahead of the hand. The one
+/// clearing these, and the key at which it stops leaves. `own_number` is the number of the queue ahead of the hand. The one
 /// error is out of memory; the queues are then as before.
 ///
 /// `C` selects an instance (docs/ARCHITECTURE.md).
@@ -29,27 +29,27 @@ use std::alloc::AllocError;
 pub fn step<C>(
     table: &mut KeyQueues,
     capacity: u32,
-    scalar: u32,
+    own_number: u32,
     key: Key,
 ) -> Result<Accessed, AllocError>
-    requires { scalar ≤ 1 }
-    ensures accessed { IfOk result (λ a. IsAccessed (sieve_plan capacity key scalar (queues table.old)) (item_of key)
-        scalar (queues table.old) (queues table.new) a) }
+    requires { own_number ≤ 1 }
+    ensures accessed { IfOk result (λ a. IsAccessed (sieve_plan capacity key own_number (queues table.old)) (item_of key)
+        own_number (queues table.old) (queues table.new) a) }
     // A hit asks for no memory.
-    ensures memory { OnErr result ((sieve_plan capacity key scalar (queues table.old)).hits ≡ false) }
+    ensures memory { OnErr result ((sieve_plan capacity key own_number (queues table.old)).hits ≡ false) }
     ensures err { OnErr result (queues table.new ≡ queues table.old) }
 {
     match table.find(key) {
         Some(found) => {
             let own = table.recount(key, found, 1);
-            Ok(hit(own, scalar))
+            Ok(hit(own, own_number))
         }
         None => {
             table.reserve()?;
-            let ahead = scalar as u8;
+            let ahead = own_number as u8;
             if has_room(table, capacity) {
                 let own = table.join_apart(key, ahead, 0);
-                return Ok(kept(own, scalar));
+                return Ok(kept(own, own_number));
             }
             Ok(evict::<C>(table, capacity, ahead, key))
         }

@@ -5,7 +5,7 @@ use Rattle.std.proofs.lemmas.Bool.{cases_lt}
 use Rattle.std.proofs.lemmas.Grind.{div_ceil_times}
 use Rattle.std.proofs.lemmas.Nat.{mul-le}
 
-next-times : (k every : ℕ) → (k + 1) * every ≡ k * every + every
+pub next-times : (k every : ℕ) → (k + 1) * every ≡ k * every + every
 next-times k every = omega arith
 
 -- n pieces cover more than k of them do

@@ -1,71 +1,94 @@
--- Intervals that are over, of a trace whose accesses come in pieces.
-use Rattle.std.proofs.Common.{◌≡◌, ℕ, suc, ◌+◌, ◌*◌, ◌<◌, ◌≤◌, List, [], ◌∷◌, ◌++◌, length, take, sym, ap, subst, ◌∙◌, arith, length-append}
+-- The interval that is not over, and those before it.
+use Rattle.std.proofs.Common.{◌≡◌, ◌∙◌, ℕ, suc, ◌+◌, ◌*◌, ◌<◌, ◌≤◌, Option, Some, None, IfSome, List, [], ◌∷◌, ◌++◌, length, take, drop, refl, sym, ap, arith, append-nil, length-drop, length-take, length-take-le}
 use Rattle.std.specs.Int.{div_ceil}
+use Rattle.std.specs.Option.{option_to_list, MatchOption}
 use Rattle.std.proofs.lemmas.List.{take_all}
 use Rattle.engine_base.specs.Stats.{stats_of}
-use Rattle.policies.specs.AnyPolicy.{Stats, Outcome, Job, HasAccessed, outcomes_on, stats_in}
+use Rattle.policies.specs.AnyPolicy.{Stats, Outcome, outcomes_on, stats_in}
 use Rattle.policies.proofs.FirstAccesses.{first-counts}
 use Rattle.policies.proofs.StepLaws.{any_covers_trace}
-use Rattle.sweeps.specs.Intervals.{Interval, between, first_intervals, interval_at, intervals_on, IsLater}
-use Rattle.sweeps.proofs.Pieces.{next-interval, next-later}
-use Rattle.sweeps.proofs.Covers.{covers-part, covers-whole}
-use Rattle.sweeps.specs.JobRuns.{JobRun, EndsRow, HasRun, rows_in}
+use Rattle.sweeps.specs.Intervals.{Interval, Job, between, first_intervals, intervals_on, IsLater}
+use Rattle.sweeps.specs.CurrentInterval.{AnyPolicy, AreMade, CurrentInterval, IsAdvanced, IsIntervalTo, over_with}
+use Rattle.sweeps.proofs.Covers.{next-times}
+use Rattle.sweeps.proofs.Counts.{between-counts, later-counts}
+use Rattle.sweeps.proofs.Pieces.{piece-more}
 
--- ---- one row more
+module _ {job : Job} {every : ℕ} {trace : List ℕ} {done n m : ℕ} {cache : AnyPolicy} {interval : CurrentInterval}
+    (made : AreMade job every trace done n m cache interval) where
+  abbrev os : List Outcome
+  os = outcomes_on job trace
 
-pub long-more : {X : Type 0} (rows : List X) (row : X) → length (rows ++ row ∷ []) ≡ length rows + 1
-long-more rows row = length-append rows (row ∷ [])
+  -- what two counts say of it, where the accesses that were made are its last ones
+  module _ (begun : done * every < m) (end : take m os ≡ take ((done + 1) * every) os) (after : Stats) (is : after ≡ stats_in cache) where
+    counted : after ≡ stats_of (take m os)
+    counted = is ∙ first-counts job trace m cache made.stands
 
-pub rows-more : (job : Job) (every : ℕ) (os : List Outcome) (rows new : List Interval) (row : Interval)
-    → rows ≡ first_intervals job every os (length rows) → new ≡ rows ++ row ∷ [] → row ≡ interval_at job every os (length rows)
-    → new ≡ first_intervals job every os (length new)
-rows-more job every os rows new row so is one =
-    let next : length rows + 1 ≡ suc (length rows) = omega arith in
-    let long : length new ≡ suc (length rows) = ap (λ (l : List Interval). length l) is ∙ long-more rows row ∙ next in
-    is ∙ ap (λ (l : List Interval). l ++ row ∷ []) so ∙ ap (λ (x : Interval). first_intervals job every os (length rows) ++ x ∷ []) one
-    ∙ ap (first_intervals job every os) (sym long)
+    long : length os ≡ length trace
+    long = any_covers_trace job trace
 
--- ---- what stands in it
+    both : after ≡ stats_of (take (done * every) os ++ take every (drop (done * every) os))
+    both = counted ∙ ap stats_of (end ∙ piece-more every done os)
 
-module _ (trace : List ℕ) (run : JobRun) (ends : EndsRow trace run) (after : Stats) (is : after ≡ stats_in run.cache) where
-  counted : after ≡ stats_of (take ((rows_in run + 1) * run.every) (outcomes_on run.job trace))
-  counted = is ∙ first-counts run.job trace ((rows_in run + 1) * run.every) run.cache ends.stands
+    row : IsLater interval.before after × IsIntervalTo job every trace done m (between job interval.before after)
+    row = (
+      rw (made.current.before, both) (later-counts (take (done * every) os) (take every (drop (done * every) os))
+          (omega (arith, begun, made.within, long, made.current.used, length-take every (drop (done * every) os), length-drop (done * every) os))),
+      record {
+        is = rw (
+          made.current.before,
+          both,
+          between-counts job (take (done * every) os) (take every (drop (done * every) os)),
+          length-take-le (done * every) os (omega (arith, begun, made.within, long)),
+        ) refl;
+        last = ap (λ (s : Stats). s.accesses) counted ∙ length-take-le m os (omega (arith, made.within, long));
+      },
+    )
 
-  begun : rows_in run * run.every < length (outcomes_on run.job trace)
-  begun = omega (arith, ends.begun, any_covers_trace run.job trace)
+  pub ended : (after : Stats) → after ≡ stats_in cache → n + every ≤ m + interval.used → IsLater interval.before after
+      × IsAdvanced job every trace done m cache (Some (between job interval.before after)) (record { every = interval.every; used = 0; before = after })
+  ended after is full =
+      let next : suc done * every ≡ m = omega (arith, next-times done every, full, made.fits, made.current.place) in
+      let end : take m os ≡ take ((done + 1) * every) os = ap (λ (k : ℕ). take k os) (omega (arith, next)) in
+      let two = row (omega (arith, full, made.current.place, made.current.used)) end after is in (
+        two.0,
+        record {
+          over = two.1;
+          current = record {
+            size = made.current.size;
+            used = omega (arith, made.current.used);
+            place = omega (arith, next);
+            before = is ∙ first-counts job trace m cache made.stands ∙ ap (λ (k : ℕ). stats_of (take k os)) (sym next);
+            within = made.within;
+            stands = made.stands;
+          };
+        },
+      )
 
-  pub row-is : between run.job run.cut after ≡ interval_at run.job run.every (outcomes_on run.job trace) (rows_in run)
-  row-is = next-interval run.job run.every (rows_in run) (outcomes_on run.job trace) run.cut after ends.rows.some begun ends.rows.cut counted
+  pub last-row : (after : Stats) → after ≡ stats_in cache → m ≡ length trace → done * every < m
+      → IsLater interval.before after × IsIntervalTo job every trace done m (between job interval.before after)
+  last-row after is all begun =
+      let long = any_covers_trace job trace in
+      let fits : m ≤ (done + 1) * every = omega (arith, made.fits, made.current.place, next-times done every) in
+      row begun (take_all m os (omega (arith, all, long)) ∙ sym (take_all ((done + 1) * every) os (omega (arith, all, long, fits)))) after is
 
-  pub row-later : IsLater run.cut after
-  row-later = next-later run.job run.every (rows_in run) (outcomes_on run.job trace) run.cut after ends.rows.some begun ends.rows.cut counted
+-- ---- the rows
 
--- ---- all rows, once all accesses were made
+-- with that of an interval that is over, if one is
+pub over-more : (job : Job) (every : ℕ) (trace : List ℕ) (done m : ℕ) (over : Option Interval) → IfSome over (IsIntervalTo job every trace done m)
+    → first_intervals job every (outcomes_on job trace) done ++ option_to_list over
+    ≡ first_intervals job every (outcomes_on job trace) (over_with done over)
+over-more job every trace done m None is = append-nil (first_intervals job every (outcomes_on job trace) done)
+over-more job every trace done m (Some i) is =
+    ap (λ (x : Interval). first_intervals job every (outcomes_on job trace) done ++ x ∷ []) is.is
 
-pub all-whole : (every : ℕ) (trace : List ℕ) (run : JobRun) → HasRun every trace (length trace) run → run.used ≡ 0 → run.rows.items ≡ intervals_on run.job run.every trace
+pub slice-is : {X : Type 0} (o : Option X) (slice : List X) → MatchOption o (slice ≡ []) (λ x. slice ≡ x ∷ []) → slice ≡ option_to_list o
+slice-is None slice is = is
+slice-is (Some x) slice is = is
+
+-- all of them, with that of the last interval, if it is shorter
+pub all-rows : (job : Job) (every : ℕ) (trace : List ℕ) (done m : ℕ) (last : Option Interval) → IfSome last (IsIntervalTo job every trace done m)
+    → div_ceil (length trace) every ≡ over_with done last
+    → intervals_on job every trace ≡ first_intervals job every (outcomes_on job trace) done ++ option_to_list last
 unfolding intervals_on
-all-whole every trace run cut none =
-    let is : length trace ≡ rows_in run * run.every + 0 = cut.place ∙ ap (λ (u : ℕ). rows_in run * run.every + u) none in
-    cut.rows.rows ∙ ap (first_intervals run.job run.every (outcomes_on run.job trace)) (sym (covers-whole (rows_in run) run.every (length trace) cut.rows.some is))
-
-pub last-ends : (every : ℕ) (trace : List ℕ) (run : JobRun) → HasRun every trace (length trace) run → 0 < run.used → EndsRow trace run
-last-ends every trace run cut part =
-    let one : (rows_in run + 1) * run.every ≡ rows_in run * run.every + run.every = omega arith in
-    let past : length trace ≤ (rows_in run + 1) * run.every = omega (arith, cut.place, cut.used, one) in
-    let same : take (length trace) trace ≡ take ((rows_in run + 1) * run.every) trace =
-    take_all (length trace) trace (omega arith) ∙ sym (take_all ((rows_in run + 1) * run.every) trace past) in
-    record {
-      rows = cut.rows;
-      begun = omega (arith, cut.place, part);
-      stands = subst (λ (l : List ℕ). HasAccessed run.job trace l run.cache) same cut.stands;
-    }
-
-pub all-with-last : (every : ℕ) (trace : List ℕ) (run : JobRun) (row : Interval) → HasRun every trace (length trace) run → 0 < run.used
-    → row ≡ interval_at run.job run.every (outcomes_on run.job trace) (rows_in run) → run.rows.items ++ row ∷ [] ≡ intervals_on run.job run.every trace
-unfolding intervals_on
-all-with-last every trace run row cut part one =
-    let many = covers-part (rows_in run) run.every run.used (length trace) cut.rows.some part (omega (arith, cut.used)) cut.place in
-    let next : suc (rows_in run) ≡ div_ceil (length trace) run.every = omega (arith, many) in
-    ap (λ (l : List Interval). l ++ row ∷ []) cut.rows.rows
-    ∙ ap (λ (x : Interval). first_intervals run.job run.every (outcomes_on run.job trace) (rows_in run) ++ x ∷ []) one
-    ∙ ap (first_intervals run.job run.every (outcomes_on run.job trace)) next
+all-rows job every trace done m last is many =
+    ap (first_intervals job every (outcomes_on job trace)) many ∙ sym (over-more job every trace done m last is)

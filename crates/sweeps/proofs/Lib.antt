@@ -1,7 +1,7 @@
 pub mod LruReports
 pub mod Rows
 mod Counts
-mod Cuts
+pub mod Cuts
 mod Joined
 pub mod Pieces
 mod Sums

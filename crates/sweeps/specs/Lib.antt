@@ -1,5 +1,6 @@
 pub mod Sweep
 pub mod Intervals
+pub mod CurrentInterval
 pub mod Theorems
 pub mod JobRuns
 pub mod Taking

@@ -2,7 +2,8 @@
 //!
 //! Of a trace that is kept: `run_one` has the report of one job, `sweep` those of a job at several capacities, `sweep_each`
 //! of several jobs at the same capacities, by `rayon`. And what jobs make of a trace over time: `intervals` cuts the
-//! accesses into intervals of the same length, of which the last may be shorter, and each job has a row for each.
+//! accesses into intervals of the same length, of which the last may be shorter, and each job has a row for each. A
+//! `CurrentInterval` returns each interval once its accesses were made, to any run of a job.
 //!
 //! What takes the accesses of a trace piece by piece is a `Taker`: `JobRuns`, which makes these rows and the reports, and
 //! above this crate what compares two policies or shows queues. `take_trace` gives it those of a trace that is kept; a
@@ -15,6 +16,7 @@
 #![tactic(auto)]
 
 mod capacities;
+mod current_interval;
 mod interval_rows;
 mod job_run;
 mod job_runs;
@@ -26,8 +28,8 @@ mod taker;
 pub mod theorems;
 
 pub use capacities::{jobs_over, sweep, sweep_batches, sweep_each};
+pub use current_interval::{CurrentInterval, between};
 pub use interval_rows::intervals;
-pub use job_run::between;
 pub use job_runs::JobRuns;
 pub use runs::{Run, make_next, open_runs};
 pub use single_run::run_one;

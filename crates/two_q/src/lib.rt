@@ -42,30 +42,30 @@ pub fn step<C>(
     table: &mut KeyQueues,
     sizes: TwoQSizes,
     capacity: u32,
-    scalar: u32,
+    own_number: u32,
     key: Key,
 ) -> Result<Accessed, AllocError>
-    ensures accessed { IfOk result (λ a. IsAccessed (two_q_plan sizes capacity key scalar (queues table.old))
-        (item_of key) scalar (queues table.old) (queues table.new) a) }
+    ensures accessed { IfOk result (λ a. IsAccessed (two_q_plan sizes capacity key own_number (queues table.old))
+        (item_of key) own_number (queues table.old) (queues table.new) a) }
     // A hit asks for no memory.
-    ensures memory { OnErr result ((two_q_plan sizes capacity key scalar (queues table.old)).hits ≡ false) }
+    ensures memory { OnErr result ((two_q_plan sizes capacity key own_number (queues table.old)).hits ≡ false) }
     ensures err { OnErr result (queues table.new ≡ queues table.old) }
 {
     let Some(found) = table.find(key) else {
         // Room is made before anything moves.
         table.reserve()?;
-        return Ok(miss::<C>(table, sizes, capacity, scalar, key, None, false));
+        return Ok(miss::<C>(table, sizes, capacity, own_number, key, None, false));
     };
     if found.queue == AM {
-        Ok(hit(table.send(key, found, AM, 0), scalar))
+        Ok(hit(table.send(key, found, AM, 0), own_number))
     } else if found.queue == A1IN {
-        Ok(hit(KeyMove::unmoved(key), scalar))
+        Ok(hit(KeyMove::unmoved(key), own_number))
     } else {
         table.tabled();
         // To 2Q a key of a queue that it does not use is new.
         let remembered = found.queue == A1OUT;
         let found = Some(found);
-        Ok(miss::<(C, Found)>(table, sizes, capacity, scalar, key, found, remembered))
+        Ok(miss::<(C, Found)>(table, sizes, capacity, own_number, key, found, remembered))
     }
 }
 
@@ -75,30 +75,30 @@ fn miss<C>(
     table: &mut KeyQueues,
     sizes: TwoQSizes,
     capacity: u32,
-    scalar: u32,
+    own_number: u32,
     key: Key,
     found: Option<Found>,
     remembered: bool,
 ) -> Accessed
     requires outside { IsOutside remembered found (item_of key) A1IN AM A1OUT table.old }
-    ensures { IsAccessed (two_q_miss sizes capacity remembered scalar (queues table.old)) (item_of key) scalar
+    ensures { IsAccessed (two_q_miss sizes capacity remembered own_number (queues table.old)) (item_of key) own_number
         (queues table.old) (queues table.new) result }
 {
     let queue = queue_of(remembered);
     let (a1in, am) = (table.len(A1IN), table.len(AM));
     if a1in < (capacity as usize).saturating_sub(am) {
         let own = enter_apart(table, key, found, queue);
-        return kept(own, scalar);
+        return kept(own, own_number);
     }
     if !a1in_gives(a1in, am, sizes.kin) {
         let (first, own) = enter_for_oldest::<C>(table, AM, key, found, queue);
-        return missed(LeftKeys::one(first), own, scalar, scalar);
+        return missed(LeftKeys::one(first), own, own_number, own_number);
     }
     let size = sizes.kout;
     let (left, own) = enter_for_remembered::<(C, TwoQSizes)>(
         table, A1IN, A1OUT, size, key, found, remembered, queue,
     );
-    missed(left, own, scalar, scalar)
+    missed(left, own, own_number, own_number)
 }
 
 // The queue that a key joins.

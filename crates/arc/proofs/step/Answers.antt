@@ -10,7 +10,7 @@ use Rattle.arc.proofs.step.Goals as goal
 pub returns-then-is_resident-clause-accessed : goal.returns-then-is_resident-clause-accessed
 returns-then-is_resident-clause-accessed g c =
     let s = queues c.args.table.now in
-    found-accessed (λ at. plan_at c.args.capacity c.args.scalar at s) (item_of c.args.key) c.args.scalar s _ _ _ c.in-Some.ensures.stands
+    found-accessed (λ at. plan_at c.args.capacity c.args.own_number at s) (item_of c.args.key) c.args.own_number s _ _ _ c.in-Some.ensures.stands
     (rw (sym c.is_resident.ensures ∙ c.if-is_resident.true) (c.hit.ensures (goes T2 0) (item_of c.args.key) s _ c.send.ensures.own))
 
 pub returns-clause-accessed : goal.returns-clause-accessed

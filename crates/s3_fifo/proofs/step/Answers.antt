@@ -13,7 +13,7 @@ returns-then-is_resident-clause-accessed g c =
     let s : Queues = queues c.args.table.now in
     let u : Queues = queues c.recount-own.new.self in
     let own = subst (λ n. IsOwn (counts n) (item_of c.args.key) s u c.recount-own.result) c.one_hit_more.ensures c.recount-own.ensures.own in
-    found-accessed (λ at. plan_at c.args.part c.args.capacity c.args.scalar at s) (item_of c.args.key) c.args.scalar s u _ _ c.in-Some.ensures.stands
+    found-accessed (λ at. plan_at c.args.part c.args.capacity c.args.own_number at s) (item_of c.args.key) c.args.own_number s u _ _ c.in-Some.ensures.stands
     (rw (sym c.is_resident.ensures ∙ c.if-is_resident.true) (c.hit.ensures (counts (hit_count c.in-Some.found.count)) (item_of c.args.key) s u own))
 
 pub miss-requires-clause-state : goal.miss-requires-clause-state
@@ -24,4 +24,4 @@ miss-requires-clause-outside g c = new-outside false (item_of c.args.key) SMALL 
 
 pub returns-in_default-clause-accessed : goal.returns-in_default-clause-accessed
 returns-in_default-clause-accessed g c =
-    new-accessed (plan_at c.args.part c.args.capacity c.args.scalar) (item_of c.args.key) c.args.scalar _ _ _ _ c.in_ok-reserve.ensures.queues c.in_default.ensures.absent c.miss.ensures
+    new-accessed (plan_at c.args.part c.args.capacity c.args.own_number) (item_of c.args.key) c.args.own_number _ _ _ _ c.in_ok-reserve.ensures.queues c.in_default.ensures.absent c.miss.ensures

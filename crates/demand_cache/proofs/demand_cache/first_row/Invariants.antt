@@ -5,4 +5,4 @@ use Rattle.demand_cache.specs.QueueRow.{IsQueueOf, named_row}
 use Rattle.demand_cache.proofs.demand_cache.first_row.Given as goal
 
 abbrev pub invariant-loop-i : goal.invariant-loop-i
-invariant-loop-i l = (s : Queues) → IsQueueOf l.key s l.queue → row_from l.i l.key (map (named_row l.scalar s) (drop l.i l.rows)) ≡ row_of l.key (map (named_row l.scalar s) l.rows)
+invariant-loop-i l = (s : Queues) → IsQueueOf l.key s l.queue → row_from l.i l.key (map (named_row l.own_number s) (drop l.i l.rows)) ≡ row_of l.key (map (named_row l.own_number s) l.rows)

@@ -2,8 +2,8 @@ use Rattle.std.proofs.Common.{[], ap, ◌∙◌, sym, append-nil, arith}
 use Rattle.policies.specs.Reports.{report_on}
 use Rattle.policies.proofs.cache_run.report_over_uses.Goals as goal
 
-pub access_whole-made-requires : goal.access_whole-made-requires
-access_whole-made-requires c =
+pub access_all_uses-made-requires : goal.access_all_uses-made-requires
+access_all_uses-made-requires c =
     record {
       job = c.args.job.now;
       trace = c.in_ok-uses.uses;

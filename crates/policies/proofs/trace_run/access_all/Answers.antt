@@ -43,24 +43,24 @@ returns-in-Demand-clause-memory c =
 
 pub returns-in-Queues-clause-all : goal.returns-in-Queues-clause-all
 returns-in-Queues-clause-all c =
-    subst (λ (d : AnyPolicy). OnOk c.access_queues.result (IsContinued c.args.keys.now d (Queues c.access_queues.new.cache))) (sym c.in-Queues.is) c.access_queues.ensures.all
+    subst (λ (d : AnyPolicy). OnOk c.access_all_queues.result (IsContinued c.args.keys.now d (Queues c.access_all_queues.new.cache))) (sym c.in-Queues.is) c.access_all_queues.ensures.all
 
 pub returns-in-Queues-clause-memory : goal.returns-in-Queues-clause-memory
 returns-in-Queues-clause-memory c =
-    subst (λ (d : AnyPolicy). OnErr c.access_queues.result (IsStopped c.args.keys.now d (Queues c.access_queues.new.cache))) (sym c.in-Queues.is) c.access_queues.ensures.memory
+    subst (λ (d : AnyPolicy). OnErr c.access_all_queues.result (IsStopped c.args.keys.now d (Queues c.access_all_queues.new.cache))) (sym c.in-Queues.is) c.access_all_queues.ensures.memory
 
 pub returns-in-Adaptive-clause-all : goal.returns-in-Adaptive-clause-all
 returns-in-Adaptive-clause-all c =
-    subst (λ (d : AnyPolicy). OnOk c.access_adaptive.result (IsContinued c.args.keys.now d (Adaptive c.access_adaptive.new.cache))) (sym c.in-Adaptive.is) c.access_adaptive.ensures.all
+    subst (λ (d : AnyPolicy). OnOk c.access_all_adaptive.result (IsContinued c.args.keys.now d (Adaptive c.access_all_adaptive.new.cache))) (sym c.in-Adaptive.is) c.access_all_adaptive.ensures.all
 
 pub returns-in-Adaptive-clause-memory : goal.returns-in-Adaptive-clause-memory
 returns-in-Adaptive-clause-memory c =
-    subst (λ (d : AnyPolicy). OnErr c.access_adaptive.result (IsStopped c.args.keys.now d (Adaptive c.access_adaptive.new.cache))) (sym c.in-Adaptive.is) c.access_adaptive.ensures.memory
+    subst (λ (d : AnyPolicy). OnErr c.access_all_adaptive.result (IsStopped c.args.keys.now d (Adaptive c.access_all_adaptive.new.cache))) (sym c.in-Adaptive.is) c.access_all_adaptive.ensures.memory
 
 pub returns-in-Optimal-clause-all : goal.returns-in-Optimal-clause-all
 returns-in-Optimal-clause-all c =
-    subst (λ (d : AnyPolicy). OnOk c.access_optimal.result (IsContinued c.args.keys.now d (Optimal c.access_optimal.new.cache))) (sym c.in-Optimal.is) c.access_optimal.ensures.all
+    subst (λ (d : AnyPolicy). OnOk c.access_all_optimal.result (IsContinued c.args.keys.now d (Optimal c.access_all_optimal.new.cache))) (sym c.in-Optimal.is) c.access_all_optimal.ensures.all
 
 pub returns-in-Optimal-clause-memory : goal.returns-in-Optimal-clause-memory
 returns-in-Optimal-clause-memory c =
-    subst (λ (d : AnyPolicy). OnErr c.access_optimal.result (IsStopped c.args.keys.now d (Optimal c.access_optimal.new.cache))) (sym c.in-Optimal.is) c.access_optimal.ensures.memory
+    subst (λ (d : AnyPolicy). OnErr c.access_all_optimal.result (IsStopped c.args.keys.now d (Optimal c.access_all_optimal.new.cache))) (sym c.in-Optimal.is) c.access_all_optimal.ensures.memory

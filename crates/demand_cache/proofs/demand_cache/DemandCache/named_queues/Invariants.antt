@@ -5,4 +5,4 @@ use Rattle.demand_cache.proofs.demand_cache.DemandCache.named_queues.Given as go
 
 abbrev pub invariant-loop-row : goal.invariant-loop-row
 invariant-loop-row l =
-    l.named.items ≡ map (named_row l.self-inside.scalar (queues l.self-inside.queues)) (take l.row-index l.row-items)
+    l.named.items ≡ map (named_row l.self-inside.own_number (queues l.self-inside.queues)) (take l.row-index l.row-items)

@@ -13,5 +13,5 @@ returns c =
     let s : Queues = queues c.self.inside.queues in
     c.first_row.ensures s c.queue_of.ensures
     ∙ ap (row_of c.args.key) (c.queue_rows-rows.ensures.rows s
-    ∙ ap (named_by c.self.inside.policy c.self.inside.scalar) (sym (lists-shown s c.tabled.ensures))
+    ∙ ap (named_by c.self.inside.policy c.self.inside.own_number) (sym (lists-shown s c.tabled.ensures))
     ∙ ap (λ (d : DemandState). queues_named d.queues) c.self.view_is)

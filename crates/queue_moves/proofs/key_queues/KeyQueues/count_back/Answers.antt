@@ -1,8 +1,8 @@
-use Rattle.std.proofs.Common.{◌∙◌, List, ap, sym, subst}
+use Rattle.std.proofs.Common.{◌∙◌, ap, sym, subst}
 use Rattle.queue_table.specs.Queues.{after_count}
 use Rattle.queue_table.specs.QueueTable.{queues}
-use Rattle.queue_moves.specs.Moves.{Entry, item_of}
-use Rattle.queue_moves.specs.Tabled.{Slot, HasKeys}
+use Rattle.queue_moves.specs.Moves.{Entry}
+use Rattle.queue_moves.specs.Tabled.{HasKeys}
 use Rattle.queue_moves.proofs.Laws.{tabled-in}
 use Rattle.queue_moves.proofs.Tabled.{counts-absent, tabled-count}
 use Rattle.queue_moves.proofs.key_queues.KeyQueues.count_back.Goals as goal
@@ -13,12 +13,8 @@ invariant_of-self c =
 
 pub returns-in-Some-clause-queues : goal.returns-in-Some-clause-queues
 returns-in-Some-clause-queues c =
-    c.set_count.ensures.queues
-    ∙ ap (λ (e : Entry). after_count e.item c.args.count (queues c.self.inside.table)) c.in-Some.ensures.entry
-    ∙ ap (λ (x : List Slot). after_count (item_of c.args.key) c.args.count (queues x)) c.self.view_is
+    rw (sym c.self.view_is) (c.set_count.ensures.queues ∙ ap (λ (e : Entry). after_count e.item c.args.count (queues c.self.inside.table)) c.in-Some.ensures.entry)
 
 pub returns-in-None-clause-queues : goal.returns-in-None-clause-queues
 returns-in-None-clause-queues c =
-    sym (ap (λ (x : List Slot). after_count (item_of c.args.key) c.args.count (queues x)) (sym c.self.view_is)
-    ∙ counts-absent _ (tabled-in c.self.inside.table c.self.invariant c.find.ensures.distinct) (item_of c.args.key) c.args.count c.in-None.ensures.missing
-    ∙ ap queues c.self.view_is)
+    rw (sym c.self.view_is) (sym (counts-absent _ (tabled-in c.self.inside.table c.self.invariant c.find.ensures.distinct) _ c.args.count c.in-None.ensures.missing))

@@ -1,6 +1,6 @@
-use Rattle.std.proofs.Common.{◌≡◌, ◌∙◌, List, Option, None, ap, refl, sym, subst}
-use Rattle.queue_table.specs.Entries.{entry, oldest_of}
-use Rattle.queue_table.specs.Queues.{Queues, queue_holding, after_push, after_removal}
+use Rattle.std.proofs.Common.{◌∙◌, List, Option, None, ap, refl, sym, subst}
+use Rattle.queue_table.specs.Entries.{oldest_of}
+use Rattle.queue_table.specs.Queues.{Queues}
 use Rattle.queue_table.specs.QueueTable.{queues}
 use Rattle.queue_table.proofs.QueueLists.{absent, still-absent}
 use Rattle.queue_moves.specs.declared.records.Departure.TheVariants as departure
@@ -8,25 +8,17 @@ use Rattle.queue_moves.specs.declared.records.Change.TheVariants as change
 use Rattle.queue_moves.specs.Moves.{Entry, item_of, leaving, goes, departed}
 use Rattle.queue_moves.specs.Undoing.{IsLeft, IsOwn}
 use Rattle.queue_moves.specs.Tabled.{Slot, HasKeys}
-use Rattle.queue_moves.proofs.Laws.{tabled-in, left-out, own-renewed}
+use Rattle.queue_moves.proofs.Laws.{tabled-in, absent-inside, left-out, own-renewed}
 use Rattle.queue_moves.proofs.Tabled.{tabled-removal, tabled-push}
 use Rattle.queue_moves.proofs.key_queues.KeyQueues.renew_oldest.Goals as goal
 use Rattle.queue_moves.proofs.key_queues.KeyQueues.renew_oldest.Goals.{After-renew}
 
-none-there : (c : After-renew) → queue_holding (item_of c.args.key) (queues c.self.inside.table) ≡ None
-none-there c = subst (λ (x : List Slot). queue_holding (item_of c.args.key) (queues x) ≡ None) (sym c.self.view_is) c.requires.absent
-
--- the queues after it
-renewed : (c : After-renew) → queues c.renew.new.self ≡ after_push c.args.queue (entry (item_of c.args.key) c.args.count) (after_removal c.in-Some.oldest.item (queues c.self.inside.table))
-renewed c = c.renew.ensures.queues ∙ ap (λ (e : Entry). after_push c.args.queue (entry (item_of c.args.key) c.args.count) (after_removal e.item (queues c.self.inside.table))) c.in-Some.ensures.entry
-
 pub invariant_of-self : goal.invariant_of-self
 invariant_of-self c =
     let s = queues c.self.inside.table in
-    let gone = tabled-removal s (tabled-in c.self.inside.table c.self.invariant c.distinct.ensures) c.in-Some.oldest.item in
-    subst HasKeys (sym (renewed ((goal.at.invariant_of-self c).After-renew)))
-    (tabled-push _ gone c.args.queue (entry (item_of c.args.key) c.args.count) c.requires.queue refl
-    (still-absent (item_of c.args.key) c.in-Some.oldest.item s (absent _ _ (none-there ((goal.at.invariant_of-self c).After-renew))))).keys
+    let t = tabled-in c.self.inside.table c.self.invariant c.distinct.ensures in
+    let none = absent (item_of c.args.key) s (absent-inside _ _ _ c.self.view_is c.requires.absent) in
+    subst HasKeys (sym c.renew.ensures.queues) (tabled-push _ (tabled-removal s t _) c.args.queue _ c.requires.queue refl (still-absent _ _ s none)).keys
 
 pub returns-in_default-clause-own : goal.returns-in_default-clause-own
 returns-in_default-clause-own c =
@@ -37,16 +29,14 @@ returns-in_default-clause-own c =
 pub returns-clause-left : goal.returns-clause-left
 returns-clause-left c =
     let s = queues c.self.inside.table in
-    let u = after_removal c.in-Some.oldest.item s in
     subst (λ (x : List Slot). IsLeft (leaving c.args.from None) (queues x) (departed None (oldest_of (queues x c.args.from)) (queues x)) (record { key = c.in-Some.oldest.item.key; count = c.in-Some.oldest.count; queue = c.args.from; by = departure.Out })) c.self.view_is
-    (left-out c.in-Some.oldest c.args.from _ (tabled-in c.self.inside.table c.self.invariant c.distinct.ensures) c.requires.from c.in-Some.ensures.first _
+    (left-out _ _ c.args.from s (tabled-in c.self.inside.table c.self.invariant c.distinct.ensures) c.requires.from c.in-Some.ensures.first refl _
     (ap (λ (o : Option Entry). departed None o s) c.in-Some.ensures.first))
 
 pub returns-clause-own : goal.returns-clause-own
 returns-clause-own c =
-    let at = (goal.at.returns-clause-own c).After-renew in
-    let s = queues c.self.inside.table in
     let own : Queues → Type 0 = λ m. IsOwn (goes c.args.queue c.args.count) (item_of c.args.key) m (queues c.renew.new.self) (record { key = c.args.key; older = None; count = 0; queue = 0; by = change.Joined }) in
     subst (λ (x : List Slot). own (departed None (oldest_of (queues x c.args.from)) (queues x))) c.self.view_is
-    (subst (λ (o : Option Entry). own (departed None o s)) (sym c.in-Some.ensures.first)
-    (own-renewed c.args.key _ (tabled-in c.self.inside.table c.self.invariant c.distinct.ensures) (none-there at) c.in-Some.oldest.item c.args.queue c.args.count c.requires.queue _ (renewed at)))
+    (subst (λ (o : Option Entry). own (departed None o (queues c.self.inside.table))) (sym c.in-Some.ensures.first)
+    (own-renewed c.args.key _ (tabled-in c.self.inside.table c.self.invariant c.distinct.ensures) (absent-inside _ _ _ c.self.view_is c.requires.absent) _ _ c.in-Some.ensures.entry
+    c.args.queue c.args.count c.requires.queue _ c.renew.ensures.queues))

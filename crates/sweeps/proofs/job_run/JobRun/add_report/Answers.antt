@@ -15,4 +15,4 @@ returns c = λ every trace has.
     ∙ ap (report_of run.job)
     (c.stats.ensures
     ∙ any_reports run.job trace run.cache
-    (subst (λ (l : List ℕ). HasAccessed run.job trace l run.cache) (take_all (length trace) trace (omega arith)) has.stands)))
+    (subst (λ (l : List ℕ). HasAccessed run.job trace l run.cache) (take_all (length trace) trace (omega arith)) has.current.stands)))

@@ -10,11 +10,11 @@ pieces-init c = (
   λ every trace n next has. let none : n ≡ n + 0 = omega arith in subst (λ (m : ℕ). HasRun every trace m c.args.self.now) none has,
 )
 
-pub overflow_sub-room : goal.overflow_sub-room
-overflow_sub-room c =
+pub room-requires : goal.room-requires
+room-requires c =
     let n = c.requires.1 in
     let has = c.pieces.invariant.2 c.requires.0 n.trace n.place n.next n.taken in
-    omega (arith, has.used)
+    omega (arith, has.current.used, has.current.size)
 
 pub make_piece-requires : goal.make_piece-requires
 make_piece-requires c =
@@ -34,15 +34,14 @@ make_piece-requires c =
           taken = has;
         },
       );
-      some = omega (arith, c.min.ensures, c.pieces-test.true, has.used, rest, size);
-      within = omega (arith, c.min.ensures, c.pieces-test.true, has.used, rest, size);
+      within = omega (arith, c.min.ensures, c.room.ensures, has.current.used, has.current.size, rest, size);
     }
 
 pub pieces-smaller : goal.pieces-smaller
 pieces-smaller c =
     let n = c.requires.1 in
     let has = c.pieces.invariant.2 c.requires.0 n.trace n.place n.next n.taken in
-    omega (arith, c.min.ensures, c.pieces-test.true, has.used)
+    omega (arith, c.min.ensures, c.room.ensures, c.pieces-test.true, has.current.used, has.current.size)
 
 pub pieces-preserved : goal.pieces-preserved
 pieces-preserved c =

@@ -4,7 +4,7 @@ use Rattle.policies.specs.declared.any_policy.AnyPolicy.TheVariants.{Queues}
 use Rattle.queue_cache.specs.QueueCache.{QueueState}
 use Rattle.policies.specs.Accesses.{IsStopped}
 use Rattle.policies.proofs.Stretches.{HasMade, has-made-all, next-made, next-accepted, stops-next}
-use Rattle.policies.proofs.access_loops.access_each.Goals as goal
+use Rattle.policies.proofs.access_loops.access_all_by.Goals as goal
 
 pub unreachable-requires : goal.unreachable-requires
 unreachable-requires g c =

@@ -2,7 +2,7 @@ use Rattle.std.proofs.Common.{ap, ◌∙◌, arith, Err}
 use Rattle.engine_base.specs.Limited.{lifted}
 use Rattle.policies.specs.declared.any_policy.AnyPolicy.TheVariants.{Optimal}
 use Rattle.policies.proofs.Stretches.{has-made-all, next-made, next-accepted}
-use Rattle.policies.proofs.access_loops.access_optimal.Goals as goal
+use Rattle.policies.proofs.access_loops.access_all_optimal.Goals as goal
 
 pub unreachable-requires : goal.unreachable-requires
 unreachable-requires c =

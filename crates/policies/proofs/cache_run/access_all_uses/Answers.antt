@@ -4,7 +4,7 @@ use Rattle.policies.specs.AnyStep.{any_act}
 use Rattle.policies.specs.Accesses.{IsStopped}
 use Rattle.policies.specs.AnyStep.{MayAllocate}
 use Rattle.policies.proofs.Stretches.{has-made-all, next-made, next-accepted, stops-next}
-use Rattle.policies.proofs.cache_run.access_whole.Goals as goal
+use Rattle.policies.proofs.cache_run.access_all_uses.Goals as goal
 
 pub unreachable-requires : goal.unreachable-requires
 unreachable-requires c =

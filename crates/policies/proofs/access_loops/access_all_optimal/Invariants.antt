@@ -1,6 +1,6 @@
 use Rattle.policies.specs.declared.any_policy.AnyPolicy.TheVariants.{Optimal}
 use Rattle.policies.proofs.Stretches.{HasMade}
-use Rattle.policies.proofs.access_loops.access_optimal.Given as goal
+use Rattle.policies.proofs.access_loops.access_all_optimal.Given as goal
 
 abbrev pub invariant-loop-i : goal.invariant-loop-i
 invariant-loop-i l = HasMade l.keys l.i (Optimal l.initial.cache) (Optimal l.cache)

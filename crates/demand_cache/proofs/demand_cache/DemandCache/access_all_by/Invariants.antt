@@ -1,5 +1,5 @@
 use Rattle.demand_cache.proofs.Accesses.{HasMade}
-use Rattle.demand_cache.proofs.demand_cache.DemandCache.access_each.Given as goal
+use Rattle.demand_cache.proofs.demand_cache.DemandCache.access_all_by.Given as goal
 
 abbrev pub invariant-loop-i : goal.invariant-loop-i
 invariant-loop-i g l = HasMade l.keys l.i l.initial.self l.self

@@ -4,7 +4,7 @@ use Rattle.engine_base.specs.Limited.{lifted}
 use Rattle.policies.specs.declared.any_policy.AnyPolicy.TheVariants.{Adaptive}
 use Rattle.policies.specs.Accesses.{IsStopped}
 use Rattle.policies.proofs.Stretches.{HasMade, has-made-all, next-made, next-accepted, stops-next}
-use Rattle.policies.proofs.access_loops.access_adaptive.Goals as goal
+use Rattle.policies.proofs.access_loops.access_all_adaptive.Goals as goal
 
 pub unreachable-requires : goal.unreachable-requires
 unreachable-requires c =

@@ -1,7 +1,7 @@
 use Rattle.std.proofs.Common.{◌≡◌}
 use Rattle.policies.specs.declared.any_policy.AnyPolicy.TheVariants.{Queues}
 use Rattle.policies.proofs.Stretches.{HasMade}
-use Rattle.policies.proofs.access_loops.access_each.Given as goal
+use Rattle.policies.proofs.access_loops.access_all_by.Given as goal
 
 abbrev pub invariant-loop-i : goal.invariant-loop-i
 invariant-loop-i g l =
