@@ -94,8 +94,7 @@ impl AdaptiveCache {
     /// Errors: `NotNow` exactly where `MAX_STEPS` accesses are applied, and `OutOfMemory`; each leaves the cache as it
     /// was.
     ///
-    /// `C` only selects an instance: calls with different `C` are compiled apart, so that one which is called at one
-    /// place is part of the loop there.
+    /// `C` selects an instance (docs/ARCHITECTURE.md).
     #[inline(always)]
     pub fn access<C>(&mut self, key: Key) -> Result<Outcome, StepFault>
         ensures accepted { IfOk result (λ o. cache_act self.old key ≡ Some (o, self.new)) }
@@ -210,7 +209,7 @@ impl Engine for AdaptiveCache {
         let Ok(counting) = self.frequency.record(key) else {
             return Err(StepFault::OutOfMemory);
         };
-        let done = self.window.access::<Recorder>(&self.frequency, item);
+        let done = self.window.access::<WithRecord>(&self.frequency, item);
         let outcome = done.outcome;
         self.stats.count(outcome);
         let record = AdaptiveRecord {
@@ -248,9 +247,8 @@ impl Engine for AdaptiveCache {
         (λ k d. recorded_paced d.frequency k) };
 }
 
-// The caller of an access that keeps its undo record. The code of an access stands in the program once for each type of
-// caller, so that the code for callers that drop the record neither makes nor copies it.
-struct Recorder;
+// Selects the instance of an access whose undo record is read.
+struct WithRecord;
 
 // Makes the room that one more access takes, before its key is counted: what follows takes none.
 #[inline(always)]

@@ -24,6 +24,9 @@ use segments::{Queue, Segments};
 use std::alloc::{AllocError, Global};
 use std::marker::Model;
 
+// Selects the instance of an access of the queues alone.
+struct Windowed;
+
 /// The queues of a cache, the size of its window in force, and the climber that says which size it is to have. Contracts
 /// see these with the rules, and for how many more items there is room.
 #[derive(Drop)]
@@ -149,8 +152,7 @@ impl AdaptiveWindow {
     /// The access is counted, and then the size in force goes to the target, by `MAX_SIZE_CHANGE` at most, and the queues
     /// follow. It requires room for one item where the item is not there.
     ///
-    /// `C` only selects an instance: calls with different `C` are compiled apart, so an instance whose undo record is
-    /// unused makes none.
+    /// `C` selects an instance (docs/ARCHITECTURE.md).
     #[inline(always)]
     pub fn access<C>(&mut self, frequency: &Frequency, item: Item) -> WindowRecord
         requires room { queue_holding item self.old.state.queues ≡ None → 1 ≤ self.old.spare }
@@ -165,12 +167,7 @@ impl AdaptiveWindow {
         ensures rules { self.new.rules ≡ self.old.rules }
     {
         let rules = self.rules.at(self.size);
-        let effect = access::<(C, AdaptiveWindow)>(
-            &mut self.segments,
-            Some(frequency),
-            &rules,
-            item,
-        );
+        let effect = access::<(C, Windowed)>(&mut self.segments, Some(frequency), &rules, item);
         let period = self.climber.count(&self.rules, is_hit(effect.outcome));
         let resized = resize(
             &mut self.segments,

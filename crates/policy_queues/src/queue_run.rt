@@ -20,7 +20,7 @@ pub(crate) struct QueueRun {
     alloc: Global,
     cache: AnyPolicy,
     current: CurrentInterval,
-    // How many keys left each queue by the accesses that were made of that interval.
+    // How many keys left each queue by the accesses that were made of the current interval.
     left: Vec<u64>,
     rows: Vec<u8>,
 }

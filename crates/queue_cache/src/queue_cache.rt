@@ -124,8 +124,7 @@ impl<P: Drop> QueueCache<P> {
     /// Errors: `NotNow` exactly where `MAX_STEPS` accesses are applied, and `OutOfMemory`; each leaves the cache as it
     /// was.
     ///
-    /// `C` only selects an instance: calls with different `C` are compiled apart, so that one which is called at one
-    /// place is part of the loop there.
+    /// `C` selects an instance (docs/ARCHITECTURE.md).
     #[inline(always)]
     pub fn access<C>(&mut self, key: Key) -> Result<Outcome, StepFault>
         ensures accepted { IfOk result (λ o. queue_act self.old key ≡ Some (o, self.new)) }
@@ -269,7 +268,7 @@ impl<P: Drop> Engine for QueueCache<P> {
             return Err(StepFault::OutOfMemory);
         };
         let frequency = self.frequency.as_ref();
-        let effect = access::<Recorder>(&mut self.segments, frequency, &self.rules, item);
+        let effect = access::<WithRecord>(&mut self.segments, frequency, &self.rules, item);
         self.stats.count(effect.outcome);
         let record = AccessRecord {
             counting,
@@ -310,9 +309,8 @@ impl<P: Drop> Engine for QueueCache<P> {
         (λ k d. paced-by k d.frequency) };
 }
 
-// The caller of an access that keeps its undo record. The code of an access stands in the program once for each type of
-// caller, so that the code for callers that drop the record neither makes nor copies it.
-struct Recorder;
+// Selects the instance of an access whose undo record is read.
+struct WithRecord;
 
 // The frequency of no key, where keys are counted.
 fn first_frequency(

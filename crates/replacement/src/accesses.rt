@@ -46,8 +46,7 @@ fn without_room(segments: &Segments, key: Key, node: Node) -> Result<(), AllocEr
 /// Accesses an item: a hit where it stands in a queue, else a miss, by the rules. Where keys are counted, `frequency`
 /// is the one that already has the item's key. It requires room for one item where the item stands in no queue.
 ///
-/// `C` only selects an instance: calls with different `C` are compiled apart, so an instance whose undo record is
-/// unused makes none.
+/// `C` selects an instance (docs/ARCHITECTURE.md).
 #[inline(always)]
 pub fn access<C>(
     segments: &mut Segments,

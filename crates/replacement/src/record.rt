@@ -10,16 +10,22 @@ use segments::{Queue, QueuePlace};
 /// first.
 #[derive(Clone, Copy)]
 pub enum Moves {
-    /// An item of the queues went from a place to the recent end of `to`; then one was sent on, or none.
+    /// An item of the queues was accessed, and maybe another followed it.
     Renewed {
+        /// To whose recent end it went.
         to: Queue,
+        /// What went to a recent end then: the oldest item of a queue.
         sent: Option<Sent>,
+        /// Where it stood.
         from: QueuePlace,
     },
-    /// A new item came to the recent end of a queue, or none; then one left, or none; then one was sent on, or none.
+    /// What a new item or an eviction moved.
     Replaced {
+        /// The queue to whose recent end the new item came first, if it came before others moved.
         came: Option<Queue>,
+        /// What went to a recent end last: the oldest item of a queue, or the new item.
         sent: Option<Sent>,
+        /// The item that left between the two.
         left: Option<Leaver>,
     },
 }

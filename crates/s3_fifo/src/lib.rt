@@ -28,6 +28,12 @@ const MAIN: u8 = 1;
 
 const GHOST: u8 = 2;
 
+// Selects the instance of a miss of a key that was searched.
+struct Searched;
+
+// Selects the instance of a miss after which a key leaves the small queue.
+struct Early;
+
 /// An access to a key, by S3-FIFO's plan, where the small queue is to have `part` keys, any number. The one error is
 /// out of memory; the queues are then as before. S3-FIFO has no number of its own.
 ///
@@ -59,7 +65,7 @@ pub fn step<C>(
         table.tabled();
         let remembered = found.queue == GHOST;
         let found = Some(found);
-        Ok(miss::<(C, Found)>(table, part, capacity, own_number, key, found, remembered))
+        Ok(miss::<(C, Searched)>(table, part, capacity, own_number, key, found, remembered))
     }
 }
 
@@ -151,7 +157,7 @@ fn evict<C>(
             own_number,
         );
     }
-    let (left, own) = enter_for_remembered::<(C, Run)>(
+    let (left, own) = enter_for_remembered::<(C, Early)>(
         table, SMALL, GHOST, main, key, found, remembered, queue,
     );
     missed_after(early, Run::NONE, left, own, own_number, own_number)

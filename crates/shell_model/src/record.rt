@@ -10,14 +10,18 @@ use segments::MoveRecord;
 /// protected.
 #[derive(Drop)]
 pub struct UseRecord {
+    /// What recording the key changed.
     pub frequency: FreqRecord,
+    /// What moved.
     pub moves: Moves,
 }
 
 /// What an eviction moved in the queues, and whether the item that left them left the table too.
 #[derive(Drop)]
 pub struct EvictionRecord {
+    /// What moved in the queues.
     pub moves: Moves,
+    /// Whether the item that left them was that of its key in the table, and left that too.
     pub listed: bool,
 }
 

@@ -7,6 +7,7 @@ use std::alloc::{AllocError, Global};
 /// How large a trace is.
 #[derive(Clone, Copy, Debug, PartialEq, Eq)]
 pub struct Footprint {
+    /// How many accesses it has.
     pub accesses: u64,
     /// How many distinct blocks are accessed.
     pub blocks: u64,
@@ -15,8 +16,8 @@ pub struct Footprint {
 }
 
 impl Footprint {
-    /// A header and a row: how many accesses, how many distinct blocks, and how many of these are accessed once. The one
-    /// error is out of memory.
+    /// A header and a row: how many accesses, how many distinct blocks, and how many of these are accessed once. The
+    /// one error is out of memory.
     pub fn text(&self, alloc: Global) -> Result<Vec<u8>, AllocError>
         ensures { IfOk result (λ text. text.items ≡ footprint_text self.now) }
     {

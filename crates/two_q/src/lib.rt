@@ -24,6 +24,12 @@ const A1OUT: u8 = 1;
 
 const AM: u8 = 2;
 
+// Selects the instance of a miss of a key that was searched.
+struct Searched;
+
+// Selects the instance of a miss of which `a1out` keeps the key that leaves.
+struct Remembered;
+
 /// The sizes of two parts of a 2Q cache, in keys. Any numbers will do.
 #[derive(Clone, Copy, Debug, PartialEq, Eq)]
 pub struct TwoQSizes {
@@ -33,8 +39,8 @@ pub struct TwoQSizes {
     pub kout: u32,
 }
 
-/// An access to a key, by 2Q's plan, with parts of any sizes. The one error is out of memory; the queues are then as before. 2Q has no number of
-/// its own.
+/// An access to a key, by 2Q's plan, with parts of any sizes. The one error is out of memory; the queues are then as
+/// before. 2Q has no number of its own.
 ///
 /// `C` selects an instance (docs/ARCHITECTURE.md).
 #[inline(always)]
@@ -65,7 +71,7 @@ pub fn step<C>(
         // To 2Q a key of a queue that it does not use is new.
         let remembered = found.queue == A1OUT;
         let found = Some(found);
-        Ok(miss::<(C, Found)>(table, sizes, capacity, own_number, key, found, remembered))
+        Ok(miss::<(C, Searched)>(table, sizes, capacity, own_number, key, found, remembered))
     }
 }
 
@@ -95,7 +101,7 @@ fn miss<C>(
         return missed(LeftKeys::one(first), own, own_number, own_number);
     }
     let size = sizes.kout;
-    let (left, own) = enter_for_remembered::<(C, TwoQSizes)>(
+    let (left, own) = enter_for_remembered::<(C, Remembered)>(
         table, A1IN, A1OUT, size, key, found, remembered, queue,
     );
     missed(left, own, own_number, own_number)

@@ -11,7 +11,6 @@ use Rattle.queue_moves.specs.Tabled.{Slot, HasKeys}
 use Rattle.queue_moves.proofs.Laws.{tabled-in, absent-inside, left-out, own-renewed}
 use Rattle.queue_moves.proofs.Tabled.{tabled-removal, tabled-push}
 use Rattle.queue_moves.proofs.key_queues.KeyQueues.renew_oldest.Goals as goal
-use Rattle.queue_moves.proofs.key_queues.KeyQueues.renew_oldest.Goals.{After-renew}
 
 pub invariant_of-self : goal.invariant_of-self
 invariant_of-self c =
