@@ -1,10 +1,9 @@
 -- What a line of commands says. (Grammar of this project: the words of a command, and nothing after them.)
 use Rattle.std.specs.Prelude.{ℕ, Option, Some, None, List, [], ◌∷◌}
 use Rattle.streams.specs.Blanks.{trimmed_text}
-use Rattle.streams.specs.Numbers.{number_of}
 use Rattle.streams.specs.Reads.{◌>>=◌, with_rest, Reads, at_end}
+use Rattle.streams.specs.Words.{number_at, words_in}
 use Rattle.debug_commands.specs.Names.{Name, name_of}
-use Rattle.debug_commands.specs.Words.{words_in}
 use Rattle.debug_commands.specs.declared.breakpoint.Breakpoint.{Breakpoint}
 use Rattle.debug_commands.specs.declared.breakpoint.Breakpoint.TheVariants as point
 use Rattle.debug_commands.specs.declared.command.Command.{Command}
@@ -20,10 +19,6 @@ use Rattle.debug_commands.specs.declared.grammar.Name.TheVariants as name
 unfoldable pub command_name_at : Reads Name
 command_name_at [] = None
 command_name_at (w ∷ ws) = with_rest ws (name_of w)
-
-unfoldable pub number_at : Reads ℕ
-number_at [] = None
-number_at (w ∷ ws) = with_rest ws (number_of w)
 
 -- a breakpoint; `part` is of the policies' debugger, `drop` of the journal's
 abbrev pub point_named : Dialect → Name → Reads Breakpoint

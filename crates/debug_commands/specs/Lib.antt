@@ -1,5 +1,4 @@
 pub mod Names
-pub mod Words
 pub mod Commands
 pub mod Breakpoints
 pub mod Timeline

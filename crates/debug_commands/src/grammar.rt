@@ -1,25 +1,20 @@
 //! The grammar of a line, and its words.
-ghost use Rattle.std.specs.Prelude.{◌≡◌, ℕ, List, [], ◌∷◌, MatchOption};
-ghost use Rattle.std.specs.Option.{option_map_or};
-ghost use Rattle.debug_commands.specs.Commands.{command_line_of, command_name_at, command_named, number_at, point_at, view_named};
+ghost use Rattle.std.specs.Prelude.{◌≡◌};
+ghost use Rattle.debug_commands.specs.Commands.{command_line_of, command_name_at, command_named, point_at, view_named};
 ghost use Rattle.debug_commands.specs.Names.{command_names, command_spelling};
-ghost use Rattle.debug_commands.specs.Words.{words_in};
 ghost use Rattle.debug_commands.specs.declared.grammar.TheConstants.{NAMES};
 ghost use Rattle.streams.specs.Reads.{first_named, with_rest};
 
 use crate::breakpoint::Breakpoint;
 use crate::command::{Command, Dialect, InputLine, View};
-use std::marker::Model;
-use streams::{cut, number, trimmed};
+use streams::{Words, trimmed};
 
 /// What a line says, which is given without its line feed.
 #[tactic(auto, unfolding(crate::specs::Commands::line_in, crate::specs::Commands::command_in, crate::specs::Commands::command_at, crate::specs::Commands::command_name_at, crate::specs::Names::name_of))]
 pub fn line(dialect: Dialect, text: &[u8]) -> InputLine
     ensures { result ≡ command_line_of dialect text.now }
 {
-    let mut words = Words {
-        rest: Some(trimmed(text)),
-    };
+    let mut words = Words::of(trimmed(text));
     let Some(first) = words.next() else {
         return InputLine::Empty;
     };
@@ -132,7 +127,7 @@ fn named_view(name: Name, words: &mut Words) -> Option<View>
 fn next_breakpoint(dialect: Dialect, words: &mut Words) -> Option<Breakpoint>
     ensures { with_rest words.new result ≡ point_at dialect words.old }
 {
-    match words.name()? {
+    match next_name(words)? {
         Name::Hit => Some(Breakpoint::Hit(words.number()?)),
         Name::Evict => Some(Breakpoint::Evict(words.number()?)),
         Name::Halve => Some(Breakpoint::Halve),
@@ -148,48 +143,12 @@ fn next_breakpoint(dialect: Dialect, words: &mut Words) -> Option<Breakpoint>
     }
 }
 
-// The words of a line that are not yet read.
-#[derive(Drop)]
-struct Words<'a> {
-    rest: Option<&'a [u8]>,
-}
-
-impl<'a> Model for Words<'a> {
-    ghost Value = { List (List ℕ) };
-
-    ghost view = { λ w. option_map_or (λ r. words_in r.now) w.rest [] };
-}
-
-impl<'a> Words<'a> {
-    // The next word.
-    fn next(&mut self) -> Option<&'a [u8]>
-        ensures { MatchOption result (self.old ≡ []) (λ w. self.old ≡ w.now ∷ self.new) }
-    {
-        'pieces: while let Some(text) = self.rest {
-            let (piece, rest) = cut(text, b' ');
-            self.rest = rest;
-            if !piece.is_empty() {
-                return Some(piece);
-            }
-        }
-        None
-    }
-
-    // The name that stands next.
-    #[tactic(auto, unfolding(crate::specs::Commands::command_name_at, crate::specs::Names::name_of))]
-    fn name(&mut self) -> Option<Name>
-        ensures { with_rest self.new result ≡ command_name_at self.old }
-    {
-        first_named(&NAMES, self.next()?)
-    }
-
-    // The number that stands next.
-    #[tactic(auto, unfolding(crate::specs::Commands::number_at))]
-    fn number(&mut self) -> Option<u64>
-        ensures { with_rest self.new result ≡ number_at self.old }
-    {
-        number(self.next()?)
-    }
+// The name that stands next.
+#[tactic(auto, unfolding(crate::specs::Commands::command_name_at, crate::specs::Names::name_of))]
+fn next_name(words: &mut Words) -> Option<Name>
+    ensures { with_rest words.new result ≡ command_name_at words.old }
+{
+    first_named(&NAMES, words.next()?)
 }
 
 // All names.

@@ -8,3 +8,4 @@ pub mod Reads
 pub mod Tally
 pub mod Texts
 pub mod Waiting
+pub mod Words

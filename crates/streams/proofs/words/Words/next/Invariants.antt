@@ -2,8 +2,8 @@ use Rattle.std.proofs.Common.{◌≡◌, length, []}
 use Rattle.std.specs.Option.{option_map_or}
 use Rattle.std.specs.List.{slice_split}
 use Rattle.std.specs.Prelude.{◌==◌}
-use Rattle.debug_commands.specs.Words.{words_in}
-use Rattle.debug_commands.proofs.grammar.Words.next.Given as goal
+use Rattle.streams.specs.Words.{words_in}
+use Rattle.streams.proofs.words.Words.next.Given as goal
 
 abbrev pub invariant-pieces : goal.invariant-pieces
 invariant-pieces l =
