@@ -1,7 +1,6 @@
 -- How a line is read, word by word. What callers see is the table; the laws say that this reads each of its lines.
--- Leading zeros and more words are read over: the line is then printed, and compared with the text.
-use Rattle.std.specs.Prelude.{◌==◌, ℕ, List, [], ◌∷◌, Option, Some, None, codes, nat_lt, if◌then◌else◌}
-use Rattle.std.specs.List.{slice_split}
+-- Spaces and leading zeros too many, and more words, are read over: the line is then printed, and compared with the text.
+use Rattle.std.specs.Prelude.{ℕ, List, [], ◌∷◌, Option, Some, None, codes, nat_lt, if◌then◌else◌}
 use Rattle.std.specs.Str.{bytes_eq}
 use Rattle.journal_text.specs.Table.{act_word, reply_word}
 pub use Rattle.journal_text.specs.declared.line.JournalLine.{JournalLine}
@@ -17,12 +16,8 @@ pub use Rattle.engine_base.specs.declared.step.Reply.{Reply}
 use Rattle.engine_base.specs.declared.step.Reply.TheVariants as reply
 pub use Rattle.engine_base.specs.declared.step.Step.{Step}
 use Rattle.engine_base.specs.declared.worker.TheConstants.{MAX_WORKERS}
-use Rattle.streams.specs.Numbers.{number_of}
 use Rattle.streams.specs.Reads.{◌>>=◌, first_named, with_rest, Reads}
-
--- the words of a text, between spaces (32)
-abbrev pub words_of : List ℕ → List (List ℕ)
-words_of text = slice_split (λ b. b == 32) text
+use Rattle.streams.specs.Words.{number_at, words_in}
 
 -- one of these values, whose word stands next
 unfoldable pub named_at : {A : Type 0} → (A → List ℕ) → List A → Reads A
@@ -34,16 +29,12 @@ unfoldable pub only_at : List ℕ → Reads (Unit {0})
 only_at word [] = None
 only_at word (w ∷ ws) = if bytes_eq w word then Some (tt, ws) else None
 
-unfoldable pub wide_at : Reads ℕ
-wide_at [] = None
-wide_at (w ∷ ws) = with_rest ws (number_of w)
-
 -- a number below a small limit
 unfoldable pub small_at : ℕ → Reads ℕ
-small_at limit ws = wide_at ws >>= λ n. if nat_lt n.0 limit then Some n else None
+small_at limit ws = number_at ws >>= λ n. if nat_lt n.0 limit then Some n else None
 
 unfoldable pub item_at : Reads Item
-item_at ws = wide_at ws >>= λ k. (wide_at k.1 >>= λ n. Some (record { key = k.0; node = n.0 }, n.1))
+item_at ws = number_at ws >>= λ k. (number_at k.1 >>= λ n. Some (record { key = k.0; node = n.0 }, n.1))
 
 abbrev pub answer_of : Reply → Option Answer
 answer_of reply.Kept = Some answer.Kept
@@ -56,11 +47,11 @@ answer_at ws = named_at reply_word REPLIES ws >>= λ r. with_rest r.1 (answer_of
 
 -- an act, with the numbers that follow its word
 abbrev pub act_with_numbers : Act → Reads Act
-act_with_numbers (act.Look _) ws = wide_at ws >>= λ k. Some (act.Look k.0, k.1)
+act_with_numbers (act.Look _) ws = number_at ws >>= λ k. Some (act.Look k.0, k.1)
 act_with_numbers (act.Offer _ _) ws = small_at 256 ws >>= λ s. (item_at s.1 >>= λ i. Some (act.Offer s.0 i.0, i.1))
 act_with_numbers (act.Lose _ _) ws = small_at 256 ws >>= λ s. (item_at s.1 >>= λ i. Some (act.Lose s.0 i.0, i.1))
-act_with_numbers (act.Put _) ws = wide_at ws >>= λ k. Some (act.Put k.0, k.1)
-act_with_numbers (act.Remove _) ws = wide_at ws >>= λ k. Some (act.Remove k.0, k.1)
+act_with_numbers (act.Put _) ws = number_at ws >>= λ k. Some (act.Put k.0, k.1)
+act_with_numbers (act.Remove _) ws = number_at ws >>= λ k. Some (act.Remove k.0, k.1)
 act_with_numbers (act.AfterRead _) ws = answer_at ws >>= λ a. Some (act.AfterRead a.0, a.1)
 act_with_numbers (act.DrainRead _) ws = small_at 256 ws >>= λ s. Some (act.DrainRead s.0, s.1)
 act_with_numbers a ws = Some (a, ws)
@@ -70,10 +61,10 @@ act_at ws = named_at act_word ACTS ws >>= λ a. act_with_numbers a.0 a.1
 
 -- a reply, with the numbers that follow its word
 abbrev pub reply_with_numbers : Reply → Reads Reply
-reply_with_numbers (reply.Hit _) ws = wide_at ws >>= λ n. Some (reply.Hit n.0, n.1)
-reply_with_numbers (reply.Added _) ws = wide_at ws >>= λ n. Some (reply.Added n.0, n.1)
-reply_with_numbers (reply.Present _) ws = wide_at ws >>= λ n. Some (reply.Present n.0, n.1)
-reply_with_numbers (reply.Removed _) ws = wide_at ws >>= λ n. Some (reply.Removed n.0, n.1)
+reply_with_numbers (reply.Hit _) ws = number_at ws >>= λ n. Some (reply.Hit n.0, n.1)
+reply_with_numbers (reply.Added _) ws = number_at ws >>= λ n. Some (reply.Added n.0, n.1)
+reply_with_numbers (reply.Present _) ws = number_at ws >>= λ n. Some (reply.Present n.0, n.1)
+reply_with_numbers (reply.Removed _) ws = number_at ws >>= λ n. Some (reply.Removed n.0, n.1)
 reply_with_numbers (reply.Drained _) ws = item_at ws >>= λ i. Some (reply.Drained i.0, i.1)
 reply_with_numbers (reply.Applied _) ws = item_at ws >>= λ i. Some (reply.Applied i.0, i.1)
 reply_with_numbers (reply.Cleared _) ws = item_at ws >>= λ i. Some (reply.Cleared i.0, i.1)
@@ -90,7 +81,7 @@ entry_in ws = small_at MAX_WORKERS ws >>= λ w. (act_at w.1 >>= λ a. (only_at (
     (reply_at e.1 >>= λ r. Some (record { step = record { worker = w.0; act = a.0 }; reply = r.0 }))))
 
 unfoldable pub count_in : List (List ℕ) → Option ℕ
-count_in ws = only_at (codes "steps") ws >>= λ s. (wide_at s.1 >>= λ n. Some n.0)
+count_in ws = only_at (codes "steps") ws >>= λ s. (number_at s.1 >>= λ n. Some n.0)
 
 -- an entry, or else the count of the steps
 abbrev pub or_count : Option (Entry Step Reply) → Option ℕ → Option JournalLine
@@ -99,4 +90,4 @@ or_count None (Some n) = Some (line.Steps n)
 or_count None None = None
 
 unfoldable pub line_in : List ℕ → Option JournalLine
-line_in text = or_count (entry_in (words_of text)) (count_in (words_of text))
+line_in text = or_count (entry_in (words_in text)) (count_in (words_in text))

@@ -17,7 +17,6 @@ mod steps;
 mod table;
 pub mod theorems;
 mod version;
-mod words;
 mod writer;
 
 pub use fault::JournalFault;
