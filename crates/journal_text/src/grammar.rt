@@ -135,7 +135,7 @@ fn reply(words: &mut Words) -> Option<Reply>
 }
 
 // The act whose word stands next. Its numbers are still to be read.
-#[tactic(auto, unfolding(crate::specs::LineGrammar::named_at))]
+#[tactic(auto, unfolding(crate::specs::LineGrammar::named_at), using(crate::proofs::Parsed::found_at))]
 fn named_act(words: &mut Words) -> Option<Act>
     ensures { with_rest words.new result ≡ named_at act_word ACTS words.old }
 {
@@ -143,7 +143,7 @@ fn named_act(words: &mut Words) -> Option<Act>
 }
 
 // The reply whose word stands next. Its numbers are still to be read.
-#[tactic(auto, unfolding(crate::specs::LineGrammar::named_at))]
+#[tactic(auto, unfolding(crate::specs::LineGrammar::named_at), using(crate::proofs::Parsed::found_at))]
 fn named_reply(words: &mut Words) -> Option<Reply>
     ensures { with_rest words.new result ≡ named_at reply_word REPLIES words.old }
 {
