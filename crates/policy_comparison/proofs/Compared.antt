@@ -1,5 +1,5 @@
 -- Two policies' hits, access by access.
-use Rattle.std.proofs.Common.{◌≡◌, ◌∙◌, ℕ, suc, ◌+◌, ◌<◌, ◌≤◌, Bool, false, cond, List, [], ◌∷◌, ◌++◌, length, take, get_or, map, count_by, ap, ap₂, sym, refl, arith, length-append}
+use Rattle.std.proofs.Common.{◌≡◌, ◌∙◌, ℕ, suc, ◌+◌, ◌<◌, ◌≤◌, Bool, false, cond, List, [], ◌∷◌, ◌++◌, length, take, get_or, map, count_by, ap, ap₂, sym, subst, refl, arith, length-append, length-take}
 use Rattle.std.specs.Prelude.{not, ◌&&◌, slice_index_or}
 use Rattle.std.proofs.lemmas.List.{get_or-map, get_or_default, length-map, take_more}
 use Rattle.std.proofs.lemmas.Slice.Zip.{get_or-zip, length-zip}
@@ -68,11 +68,14 @@ counts-more hits n hit c next is =
 
 -- ---- how large the counts are
 
-pub counts-few : (hits : List (Bool × Bool)) (most : ℕ) → length hits ≤ most → IsUpTo most (counts_of hits)
-counts-few hits most long = record {
+few : (hits : List (Bool × Bool)) (most : ℕ) → length hits ≤ most → IsUpTo most (counts_of hits)
+few hits most long = record {
   accesses = long;
   both = omega (arith, long, count_by-le-length (λ h. h.0 && h.1) hits);
   first_only = omega (arith, long, count_by-le-length (λ h. h.0 && not h.1) hits);
   second_only = omega (arith, long, count_by-le-length (λ h. not h.0 && h.1) hits);
   neither = omega (arith, long, count_by-le-length (λ h. not h.0 && not h.1) hits);
 }
+
+pub counts-few : (hits : List (Bool × Bool)) (n : ℕ) (c : Comparison) (most : ℕ) → length hits ≤ most → c ≡ counts_of (take n hits) → IsUpTo most c
+counts-few hits n c most long is = subst (IsUpTo most) (sym is) (few (take n hits) most (omega (arith, long, length-take n hits)))

@@ -1,5 +1,5 @@
--- Hits cut into intervals, and what two counts say of the piece between them.
-use Rattle.std.proofs.Common.{◌≡◌, ◌∙◌, ◌+◌, ◌-◌, ◌*◌, ◌<◌, ◌≤◌, ℕ, zero, suc, Bool, cond, List, [], ◌∷◌, ◌++◌, length, take, drop, count_by, refl, ap, sym, arith, take-add, length-append, length-drop, length-take, length-take-le}
+-- Hits cut into intervals, and what is counted of each.
+use Rattle.std.proofs.Common.{◌≡◌, ◌∙◌, ◌+◌, ◌*◌, ◌≤◌, ℕ, zero, suc, Bool, cond, List, [], ◌∷◌, ◌++◌, length, take, drop, count_by, refl, ap, sym, arith, take-add, length-append, length-take-le}
 use Rattle.std.specs.Int.{div_ceil}
 use Rattle.std.specs.Prelude.{not, ◌&&◌}
 use Rattle.std.proofs.lemmas.Grind.{div_ceil_times}
@@ -7,9 +7,9 @@ use Rattle.std.proofs.lemmas.List.{take_all}
 use Rattle.std.proofs.lemmas.List.Sums.{sum_by-append, sum_by_push}
 use Rattle.policies.specs.AnyPolicy.{Job, outcomes_on}
 use Rattle.policy_comparison.specs.Comparison.{Comparison, compared_on, counts_of, hits_beside}
-use Rattle.policy_comparison.specs.ComparedRows.{ComparedRows, EndsRow, rows_in}
+use Rattle.policy_comparison.specs.ComparedRows.{ComparedRows, HasCut, rows_in}
 use Rattle.policy_comparison.proofs.Compared.{beside-long}
-use Rattle.policy_comparison.specs.ComparedIntervals.{ComparedInterval, between, compared_at, compared_behind, compared_intervals_on, first_compared, IsLater, sum_over, ComparedIntervalsAddUp}
+use Rattle.policy_comparison.specs.ComparedIntervals.{ComparedInterval, compared_at, compared_intervals_on, first_compared, sum_over, ComparedIntervalsAddUp}
 
 abbrev pub Hit : Type 0
 Hit = Bool × Bool
@@ -26,57 +26,9 @@ piece-more every n hits =
 counted : (p : Hit → Bool) (xs ys : List Hit) → count_by p (xs ++ ys) ≡ count_by p xs + count_by p ys
 counted p xs ys = sum_by-append (λ h. cond (p h) 1 0) xs ys
 
-less : (p : Hit → Bool) (xs ys : List Hit) → count_by p (xs ++ ys) - count_by p xs ≡ count_by p ys
-less p xs ys = omega (arith, counted p xs ys)
-
-shorter : (xs ys : List Hit) → length (xs ++ ys) - length xs ≡ length ys
-shorter xs ys = omega (arith, length-append xs ys)
-
-between-counts : (xs ys : List Hit) → between (counts_of xs) (counts_of (xs ++ ys)) ≡ compared_behind (length xs) ys
-between-counts xs ys =
-    rw (
-      shorter xs ys,
-      less (λ h. h.0 && h.1) xs ys,
-      less (λ h. h.0 && not h.1) xs ys,
-      less (λ h. not h.0 && h.1) xs ys,
-      less (λ h. not h.0 && not h.1) xs ys,
-      length-append xs ys,
-    ) refl
-
-later-counts : (xs ys : List Hit) → 0 < length ys → IsLater (counts_of xs) (counts_of (xs ++ ys))
-later-counts xs ys some = record {
-  accesses = omega (arith, some, length-append xs ys);
-  both = omega (arith, counted (λ h. h.0 && h.1) xs ys);
-  first_only = omega (arith, counted (λ h. h.0 && not h.1) xs ys);
-  second_only = omega (arith, counted (λ h. not h.0 && h.1) xs ys);
-  neither = omega (arith, counted (λ h. not h.0 && not h.1) xs ys);
-}
-
--- what two counts say of the piece between them
-module _ (every : ℕ) (hits : List Hit) (n : ℕ) (c : ComparedRows) (ends : EndsRow every hits n c) where
-  begun : rows_in c * every < length hits
-  begun = omega (arith, ends.cut.place, ends.cut.within, ends.part)
-
-  -- what was counted when the piece is over
-  pub at-end : c.counts ≡ counts_of (take ((rows_in c + 1) * every) hits)
-  at-end = ends.cut.counts ∙ ap counts_of ends.end
-
-  next : c.counts ≡ counts_of (take (rows_in c * every) hits ++ take every (drop (rows_in c * every) hits))
-  next = at-end ∙ ap counts_of (piece-more every (rows_in c) hits)
-
-  pub row-is : between c.cut c.counts ≡ compared_at every hits (rows_in c)
-  row-is =
-      rw (
-        ends.cut.cut,
-        next,
-        between-counts (take (rows_in c * every) hits) (take every (drop (rows_in c * every) hits)),
-        length-take-le (rows_in c * every) hits (omega (arith, begun)),
-      ) refl
-
-  pub row-later : IsLater c.cut c.counts
-  row-later =
-      rw (ends.cut.cut, next) (later-counts (take (rows_in c * every) hits) (take every (drop (rows_in c * every) hits))
-      (omega (arith, begun, ends.cut.some, length-take every (drop (rows_in c * every) hits), length-drop (rows_in c * every) hits)))
+-- all accesses are those of the intervals that are over, and of the one that is not
+pub all-are : (every : ℕ) (hits : List Hit) (n : ℕ) (c : ComparedRows) → HasCut every hits n c → c.counts.accesses ≡ rows_in c * every + c.interval.accesses
+all-are every hits n c cut = ap (λ (x : Comparison). x.accesses) cut.counts ∙ length-take-le n hits cut.within ∙ cut.place
 
 -- one row more
 pub rows-more : (every : ℕ) (hits : List Hit) (rows new : List ComparedInterval) (row : ComparedInterval)

@@ -1,6 +1,6 @@
 -- A trace cut into intervals, and how often two policies hit at the same accesses of each.
 use Rattle.std.specs.Int.{div_ceil}
-use Rattle.std.specs.Prelude.{◌≡◌, ℕ, zero, suc, ◌+◌, ◌-◌, ◌*◌, ◌<◌, ◌≤◌, Bool, List, [], ◌∷◌, ◌++◌, codes, drop}
+use Rattle.std.specs.Prelude.{◌≡◌, ℕ, zero, suc, ◌+◌, ◌*◌, ◌≤◌, Bool, List, [], ◌∷◌, ◌++◌, codes, drop}
 use Rattle.std.specs.Prelude.{flat_map}
 use Rattle.std.specs.Prelude.{length, sum_by, take}
 use Rattle.policies.specs.AnyPolicy.{Job, outcomes_on}
@@ -45,32 +45,6 @@ ComparedIntervalsAddUp = (every : ℕ) (first second : Job) (trace : List ℕ) �
     ≡ (compared_on first second trace).second_only)
     × (sum_over (λ c. c.neither) (compared_intervals_on every first second trace)
     ≡ (compared_on first second trace).neither)
-
--- ---- between two counts of all accesses
-
-abbrev pub counts_between : Comparison → Comparison → Comparison
-counts_between before after = record {
-  accesses = after.accesses - before.accesses;
-  both = after.both - before.both;
-  first_only = after.first_only - before.first_only;
-  second_only = after.second_only - before.second_only;
-  neither = after.neither - before.neither;
-}
-
-abbrev pub between : Comparison → Comparison → ComparedInterval
-between before after = record {
-  from = before.accesses + 1;
-  to = after.accesses;
-  counts = counts_between before after;
-}
-
--- at least one access was counted more, and no count fell
-pub record IsLater (before after : Comparison) : Type 0 where
-  pub accesses : before.accesses < after.accesses
-  pub both : before.both ≤ after.both
-  pub first_only : before.first_only ≤ after.first_only
-  pub second_only : before.second_only ≤ after.second_only
-  pub neither : before.neither ≤ after.neither
 
 -- ---- what is printed of it
 

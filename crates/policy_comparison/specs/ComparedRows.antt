@@ -1,5 +1,5 @@
 -- What was counted of the first accesses of two policies, with a row for each interval that is over.
-use Rattle.std.specs.Prelude.{◌≡◌, ◌≤◌, ◌<◌, ℕ, ◌+◌, ◌*◌, Bool, List, length, take}
+use Rattle.std.specs.Prelude.{◌≡◌, ◌≤◌, ◌<◌, ℕ, ◌+◌, ◌*◌, Bool, List, length, drop, take}
 use Rattle.engine_base.specs.declared.limits.TheConstants.{MAX_STEPS}
 use Rattle.policy_comparison.specs.CacheAccess.{StandsAt}
 use Rattle.policy_comparison.specs.Comparison.{counts_of}
@@ -16,27 +16,24 @@ pub record HasCut (every : ℕ) (hits : List (Bool × Bool)) (n : ℕ) (c : Comp
   pub some : 1 ≤ every
   pub within : n ≤ length hits
   pub counts : c.counts ≡ counts_of (take n hits)
-  pub cut : c.cut ≡ counts_of (take (rows_in c * every) hits)
+  pub interval : c.interval ≡ counts_of (take c.interval.accesses (drop (rows_in c * every) hits))
   pub rows : c.rows.items ≡ first_compared every hits (rows_in c)
-  pub place : n ≡ rows_in c * every + c.used
+  pub place : n ≡ rows_in c * every + c.interval.accesses
 
 -- some of them in an interval that is not over
 pub record HasCounted (every : ℕ) (hits : List (Bool × Bool)) (n : ℕ) (c : ComparedRows) : Type 0 where
   pub cut : HasCut every hits n c
-  pub used : c.used < c.every
+  pub few : c.interval.accesses < c.every
 
 -- they end an interval, which has fewer accesses than another only where it is the last one
 pub record EndsRow (every : ℕ) (hits : List (Bool × Bool)) (n : ℕ) (c : ComparedRows) : Type 0 where
   pub cut : HasCut every hits n c
-  pub part : 1 ≤ c.used
-  pub end : take n hits ≡ take ((rows_in c + 1) * every) hits
+  pub end : take c.interval.accesses (drop (rows_in c * every) hits) ≡ take every (drop (rows_in c * every) hits)
 
--- so of some accesses
-pub record EndsSomeRow (c : ComparedRows) : Type 0 where
-  pub every : ℕ
-  pub hits : List (Bool × Bool)
-  pub place : ℕ
-  pub ends : EndsRow every hits place c
+-- some accesses of the interval that is not over are counted, and no more than of all
+pub record HasBegun (c : ComparedRows) : Type 0 where
+  pub some : 1 ≤ c.interval.accesses
+  pub part : c.interval.accesses ≤ c.counts.accesses
 
 -- one more of some accesses can be counted
 pub record CanCount (hit : Bool × Bool) (c : ComparedRows) : Type 0 where

@@ -2,8 +2,8 @@
 ghost use Rattle.std.specs.Int.{div_ceil};
 ghost use Rattle.std.specs.Prelude.{◌≡◌, ◌≤◌, ◌+◌, Bool, List, ℕ, length, IfOk, OnOk};
 ghost use Rattle.policy_comparison.specs.CacheAccess.{StandsAt};
-ghost use Rattle.policy_comparison.specs.ComparedIntervals.{between, compared_at, first_compared, IsLater};
-ghost use Rattle.policy_comparison.specs.ComparedRows.{CanCount, EndsRow, EndsSomeRow, HasCounted, HasCountedAll, rows_in};
+ghost use Rattle.policy_comparison.specs.ComparedIntervals.{compared_at, first_compared};
+ghost use Rattle.policy_comparison.specs.ComparedRows.{CanCount, EndsRow, HasBegun, HasCounted, HasCountedAll, rows_in};
 ghost use Rattle.policy_comparison.specs.Comparison.{counts_of};
 
 use crate::comparison::Comparison;
@@ -21,12 +21,11 @@ pub struct ComparedInterval {
 /// What was counted of the first accesses of two policies, with a row for each interval that is over.
 #[derive(Drop)]
 pub(crate) struct ComparedRows {
-    // How many accesses an interval has, and how many were counted of the one that is not over.
+    // How many accesses an interval has.
     every: usize,
-    used: usize,
     counts: Comparison,
-    // What was counted before that one.
-    cut: Comparison,
+    // What was counted of the interval that is not over.
+    interval: Comparison,
     rows: Vec<ComparedInterval>,
 }
 
@@ -40,9 +39,8 @@ impl ComparedRows {
         let counts = Comparison::none();
         ComparedRows {
             every,
-            used: 0,
             counts,
-            cut: counts,
+            interval: counts,
             rows,
         }
     }
@@ -55,8 +53,8 @@ impl ComparedRows {
             → HasCounted every hits n self.old → OnOk result (HasCounted every hits (n + 1) self.new) }
     {
         self.counts.count(first, second);
-        self.used += 1;
-        if self.used < self.every {
+        self.interval.count(first, second);
+        if self.interval.accesses < self.every as u64 {
             return Ok(());
         }
         self.end_row()
@@ -77,7 +75,7 @@ impl ComparedRows {
         ensures { (every : ℕ) (hits : List (Bool × Bool)) → HasCounted every hits (length hits) self
             → IfOk result (λ rows. rows.items ≡ first_compared every hits (div_ceil (length hits) every)) }
     {
-        if self.used == 0 {
+        if self.interval.accesses == 0 {
             return Ok(self.rows);
         }
         let row = self.row();
@@ -88,42 +86,27 @@ impl ComparedRows {
 
     // Ends the interval whose accesses were counted. The one error is out of memory.
     fn end_row(&mut self) -> Result<(), AllocError>
-        requires some { EndsSomeRow self.old }
-        requires whole { self.old.used ≡ self.old.every }
+        requires begun { HasBegun self.old }
+        requires whole { self.old.interval.accesses ≡ self.old.every }
         ensures { (every : ℕ) (hits : List (Bool × Bool)) (n : ℕ) → EndsRow every hits n self.old
             → OnOk result (HasCounted every hits n self.new) }
     {
         let row = self.row();
         self.rows.push(row)?;
-        self.cut = self.counts;
-        self.used = 0;
+        self.interval = Comparison::none();
         Ok(())
     }
 
-    // The row of the interval whose accesses were counted: the difference of the counts before and after.
+    // The row of the interval whose accesses were counted.
     fn row(&self) -> ComparedInterval
-        requires { EndsSomeRow self.now }
+        requires { HasBegun self.now }
         ensures { (every : ℕ) (hits : List (Bool × Bool)) (n : ℕ) → EndsRow every hits n self.now
             → result ≡ compared_at every hits (rows_in self.now) }
     {
-        between(&self.cut, &self.counts)
-    }
-}
-
-// The interval of the accesses, at least one, between two counts of all accesses.
-fn between(before: &Comparison, after: &Comparison) -> ComparedInterval
-    requires { IsLater before.now after.now }
-    ensures { result ≡ between before.now after.now }
-{
-    ComparedInterval {
-        from: before.accesses + 1,
-        to: after.accesses,
-        counts: Comparison {
-            accesses: after.accesses - before.accesses,
-            both: after.both - before.both,
-            first_only: after.first_only - before.first_only,
-            second_only: after.second_only - before.second_only,
-            neither: after.neither - before.neither,
-        },
+        ComparedInterval {
+            from: self.counts.accesses - self.interval.accesses + 1,
+            to: self.counts.accesses,
+            counts: self.interval,
+        }
     }
 }
