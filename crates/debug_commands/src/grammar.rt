@@ -1,4 +1,4 @@
-//! The grammar of a line, and its words.
+//! The grammar of a line, and its names.
 ghost use Rattle.std.specs.Prelude.{◌≡◌};
 ghost use Rattle.debug_commands.specs.Commands.{command_line_of, command_name_at, command_named, point_at, view_named};
 ghost use Rattle.debug_commands.specs.Names.{command_names, command_spelling};
