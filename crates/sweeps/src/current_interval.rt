@@ -78,8 +78,8 @@ impl CurrentInterval {
     }
 }
 
-/// The interval of the accesses, at least one, that a job made between two counts of all its accesses.
-pub fn between(job: &Job, before: &Stats, after: &Stats) -> Interval
+// The interval of the accesses, at least one, that a job made between two counts of all its accesses.
+fn between(job: &Job, before: &Stats, after: &Stats) -> Interval
     requires { IsLater before.now after.now }
     ensures { result ≡ between job.now before.now after.now }
 {

@@ -28,7 +28,7 @@ mod taker;
 pub mod theorems;
 
 pub use capacities::{jobs_over, sweep, sweep_batches, sweep_each};
-pub use current_interval::{CurrentInterval, between};
+pub use current_interval::CurrentInterval;
 pub use interval_rows::intervals;
 pub use job_runs::JobRuns;
 pub use runs::{Run, make_next, open_runs};
