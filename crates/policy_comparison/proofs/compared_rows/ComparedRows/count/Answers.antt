@@ -29,9 +29,9 @@ more c every hits n next has =
     let past = rows_in old * every in
     let one : c.count-2.new.self.accesses ≡ old.interval.accesses + 1 = ap (λ (x : Comparison). x.accesses) c.count-2.ensures in
     let behind : StandsAt (drop past hits) old.interval.accesses hit = record {
-          within = omega (arith, next.within, has.cut.place, length-drop past hits);
-          same = λ d. get_or-drop past hits old.interval.accesses d ∙ ap (λ k. get_or hits k d) (sym has.cut.place) ∙ next.same d;
-        }
+      within = omega (arith, next.within, has.cut.place, length-drop past hits);
+      same = λ d. get_or-drop past hits old.interval.accesses d ∙ ap (λ k. get_or hits k d) (sym has.cut.place) ∙ next.same d;
+    }
     in
     record {
       size = has.cut.size;
