@@ -23,7 +23,7 @@ ghost use Rattle.maintenance.specs.Performing.{HasTask, IsPerformed};
 use crate::shell_core::ShellCore;
 use admission::{FreqRecord, Frequency};
 use engine_base::{Drain, Item, Key, Outcome, Phase, Reply, Worker};
-use replacement::{Effect, Leaver, Moves, Rules, Sent};
+use replacement::{Effect, Leaver, Moves, Rules};
 use segments::{MoveRecord, Queue, Segments};
 use shell_buffers::Task;
 use shell_model::{Change, EvictionRecord, Holder, UseRecord};
@@ -170,11 +170,8 @@ impl ShellCore {
         let frequency = record_key(&mut self.frequency, item.key)?;
         let _ = self.queues.push_recent(Queue::Window, item);
         let moves = Moves::Replaced {
-            came: None,
-            sent: Some(Sent {
-                from: None,
-                to: Queue::Window,
-            }),
+            came: Some(Queue::Window),
+            sent: None,
             left: None,
         };
         Ok(UseRecord { frequency, moves })

@@ -7,9 +7,9 @@ use Rattle.engine_base.specs.Stats.{is_eviction, is_hit}
 use Rattle.segments.specs.Items.{Item, oldest_of}
 use Rattle.segments.specs.Queues.{Queues, queue_holding, IsDistinct}
 use Rattle.replacement.specs.Table.{Rules, Placement, Queue, Response, kept_in, trial_of, eviction, miss_by, access_in, access}
-use Rattle.replacement.specs.Plan.{Plan, direct_plan, miss_plan_by, plan_in, plan}
+use Rattle.replacement.specs.Plan.{Plan, miss_plan_by, plan_in, plan}
 use Rattle.replacement.specs.PlanMoves.{moves_of, leaver_in, Moves}
-use Rattle.replacement.proofs.Planned.{direct-first, plan-at, access-at, accesses_planned}
+use Rattle.replacement.proofs.Planned.{plan-at, access-at, accesses_planned}
 use Rattle.replacement.specs.declared.rules.Placement.TheVariants.{Direct, Windowed}
 use Rattle.replacement.specs.Effects.{IsEffect, IsHit}
 
@@ -50,7 +50,7 @@ leaver-planned : (r : Rules) (a : ℕ → ℕ → Bool) (i : Item) (s : Queues) 
 leaver-planned r a i s = rw (plan-at r a i s (queue_holding i s) refl) (by (queue_holding i s))
   where
     missed : (p : Placement) → leaver_in (moves_of (miss_plan_by p r a i s) s) ≡ (miss_plan_by p r a i s).leaves
-    missed (Direct q) = leaver-of (direct_plan r a q i s) s (direct-first r a q i s)
+    missed (Direct q) = grind (arith, nat_tests)
     missed Windowed = refl
 
     by : (p : Option Queue) → leaver_in (moves_of (plan_in r a i p s) s) ≡ (plan_in r a i p s).leaves

@@ -4,12 +4,12 @@ use Rattle.std.proofs.lemmas.Bool.Decides.{nat_tests}
 use Rattle.std.proofs.lemmas.Bool.{cases_Bool}
 use Rattle.segments.specs.declared.records.Queue.TheVariants.{Window, Probation, Protected}
 use Rattle.segments.specs.Items.{Item, is_same_item, occurrences, items_without, oldest_of}
-use Rattle.segments.specs.Queues.{Queues, queue_holding, queues_after_move, total_items, IsDistinct}
-use Rattle.segments.proofs.QueueLists.{same-refl, same-sym, length-without, without-none, without-append, taken-moved, first-stands, pushed-moved, still-absent}
+use Rattle.segments.specs.Queues.{Queues, queue_of, queue_holding, queues_after_push, queues_without, queues_after_move, total_items, IsDistinct}
+use Rattle.segments.proofs.QueueLists.{absent, queue-absent, same-refl, same-sym, length-without, without-none, without-append, taken-moved, first-stands, pushed-moved, still-absent}
 use Rattle.replacement.specs.declared.rules.Placement.TheVariants.{Direct, Windowed}
 use Rattle.replacement.specs.Table.{Rules, Placement, Queue, Response, with_recent, queues_after_demotion, hit_response, contest, eviction, response_with_victim, response_without_trial, miss_by, miss, access_in, access}
-use Rattle.replacement.specs.Plan.{Plan, Transfer, transfer, demotion, contest_plan, direct_plan, candidate_of, eviction_of, eviction_plan, joining_first, miss_plan_by, miss_plan, plan_in, plan}
-use Rattle.replacement.specs.PlanMoves.{queues_after_transfer, queues_after_leaving, response_of_plan}
+use Rattle.replacement.specs.Plan.{Plan, Arrival, transfer, demotion, contest_plan, replacing_plan, direct_plan, candidate_of, eviction_of, eviction_plan, joining_first, miss_plan_by, miss_plan, plan_in, plan}
+use Rattle.replacement.specs.PlanMoves.{queues_after_arrival, queues_after_transfer, queues_after_leaving, response_of_plan}
 use Rattle.replacement.specs.Theorems.{HitsPlanned, EvictionsPlanned, AccessesPlanned}
 use Rattle.replacement.proofs.Counting.{distinct-moved}
 
@@ -18,7 +18,7 @@ use Rattle.replacement.proofs.Counting.{distinct-moved}
 demoted-planned : (size : ℕ) (s : Queues) → queues_after_demotion size s ≡ queues_after_transfer (demotion size s) s
 demoted-planned size s = grind (arith, nat_tests, by_oldest)
   where
-    by_oldest : (o : Option Item) → with_recent o Probation s ≡ queues_after_transfer (transfer (Some Protected) Probation o) s
+    by_oldest : (o : Option Item) → with_recent o Probation s ≡ queues_after_transfer (transfer Protected Probation o) s
     by_oldest None = refl
     by_oldest (Some i) = refl
 
@@ -59,7 +59,7 @@ apart c v l h f = grind (arith, nat_tests, by)
     by (x ∷ l) h f e = grind (arith, nat_tests, item_in)
 
 contest-planned : (a : ℕ → ℕ → Bool) (c : Item) (o : Option Item) (s : Queues) → oldest_of s.probation ≡ o → occurrences c s.probation ≡ 0
-    → contest a c (first_or c o) (queues_after_move c Probation s) ≡ response_of_plan (contest_plan (Some Window) Probation a c o) s
+    → contest a c (first_or c o) (queues_after_move c Probation s) ≡ response_of_plan (contest_plan a c o) s
 unfolding first_or
 contest-planned a c None s f h = let e = same-refl c in rw (e, taken-moved c Probation s) refl
 contest-planned a c (Some v) s f h =
@@ -79,30 +79,35 @@ first-none : (r : Rules) (a : ℕ → ℕ → Bool) (o : Option Item) (s : Queue
 first-none r a None s = refl
 first-none r a (Some c) s = grind (arith, nat_tests, by)
   where
-    by : (o : Option Item) → (contest_plan (Some Window) Probation a c o).first ≡ None
+    by : (o : Option Item) → (contest_plan a c o).first ≡ None
     by None = refl
-    by (Some v) = elim (cases_Bool (a c.key v.key)) as (λ _. (contest_plan (Some Window) Probation a c (Some v)).first ≡ None) [ inl e ↦ rw e refl | inr e ↦ rw e refl ]
+    by (Some v) = elim (cases_Bool (a c.key v.key)) as (λ _. (contest_plan a c (Some v)).first ≡ None) [ inl e ↦ rw e refl | inr e ↦ rw e refl ]
 
-response_with : Option Transfer → Plan → Queues → Response
-response_with o p s = record { outcome = p.outcome; left = option_map (λ l. l.item) p.leaves; queues = queues_after_transfer p.last (queues_after_leaving p.leaves (queues_after_transfer o s)) }
+response_with : Option Arrival → Plan → Queues → Response
+response_with o p s = record { outcome = p.outcome; left = option_map (λ l. l.item) p.leaves; queues = queues_after_transfer p.last (queues_after_leaving p.leaves (queues_after_arrival o s)) }
 
-pub joined-response : (i : Item) (p : Plan) (s : Queues) → p.first ≡ None → response_of_plan (joining_first i p) s ≡ response_of_plan p (queues_after_move i Window s)
+pub joined-response : (i : Item) (p : Plan) (s : Queues) → p.first ≡ None → response_of_plan (joining_first Window i p) s ≡ response_of_plan p (queues_after_move i Window s)
 unfolding response_with
-joined-response i p s h = ap (λ (o : Option Transfer). response_with o p (queues_after_move i Window s)) (sym h)
+joined-response i p s h = ap (λ (o : Option Arrival). response_with o p (queues_after_move i Window s)) (sym h)
 
 pub evicts-first : (r : Rules) (a : ℕ → ℕ → Bool) (s : Queues) → (eviction_plan r a s).first ≡ None
 evicts-first r a s = first-none r a (candidate_of r s) s
 
-pub direct-first : (r : Rules) (a : ℕ → ℕ → Bool) (q : Queue) (i : Item) (s : Queues) → (direct_plan r a q i s).first ≡ None
-direct-first r a q i s = grind (arith, nat_tests)
+-- a queue's oldest item is the same once a new one came there, and may leave before that or after it
+pub oldest-joined : (q : Queue) (i v : Item) (s : Queues) → queue_holding i s ≡ None → oldest_of (queue_of q s) ≡ Some v → oldest_of (queue_of q (queues_after_move i q s)) ≡ Some v
+oldest-joined q i v s h e = grind (arith, nat_tests, first-shifted i (queue_of q s) (queue-absent q i s (absent i s h)))
 
-replacing-planned : (a : ℕ → ℕ → Bool) (q : Queue) (i : Item) (o : Option Item) (s : Queues) → queue_holding i s ≡ None
-    → response_with_victim a q i o s ≡ response_of_plan (contest_plan None q a i o) s
-replacing-planned a q i None s h = refl
-replacing-planned a q i (Some v) s h = search (arith, pushed-moved, still-absent)
+pub left-joined : (q : Queue) (i v : Item) (s : Queues) → queue_holding i s ≡ None → oldest_of (queue_of q s) ≡ Some v
+    → queues_without v (queues_after_move i q s) ≡ queues_after_push q i (queues_without v s)
+left-joined q i v s h e = grind (arith, nat_tests, pushed-moved i q s h, without-append, apart i v (queue_of q s) (queue-absent q i s (absent i s h)) e, same-sym)
+
+replacing-planned : (a : ℕ → ℕ → Bool) (q : Queue) (i : Item) (o : Option Item) (s : Queues) → queue_holding i s ≡ None → oldest_of (queue_of q s) ≡ o
+    → response_with_victim a q i o s ≡ response_of_plan (replacing_plan a q i o) s
+replacing-planned a q i None s h e = refl
+replacing-planned a q i (Some v) s h e = grind (arith, nat_tests, left-joined q i v s h e)
 
 direct-planned : (r : Rules) (a : ℕ → ℕ → Bool) (q : Queue) (i : Item) (s : Queues) → queue_holding i s ≡ None → response_without_trial r a q i s ≡ response_of_plan (direct_plan r a q i s) s
-direct-planned r a q i s h = grind (arith, nat_tests, pushed-moved, replacing-planned)
+direct-planned r a q i s h = grind (arith, nat_tests, pushed-moved, replacing-planned a q i (oldest_of (queue_of q s)) s h refl)
 
 miss-planned : (r : Rules) (a : ℕ → ℕ → Bool) (i : Item) (s : Queues) → IsDistinct s → queue_holding i s ≡ None → miss r a i s ≡ response_of_plan (miss_plan r a i s) s
 miss-planned r a i s d h = by r.placement

@@ -13,34 +13,38 @@ use Rattle.replacement.specs.declared.rules.Placement.TheVariants.{Direct, Windo
 pub use Rattle.replacement.specs.declared.rules.Rules.{Rules}
 pub use Rattle.replacement.specs.declared.record.Leaver.{Leaver}
 
--- an item goes to the recent end of a queue, from one or as a new item
-pub record Transfer : Type 0 where
+-- an item comes to the recent end of a queue, from one or as a new item
+pub record Arrival : Type 0 where
   pub item : Item
   pub from : Option Queue
   pub to : Queue
 
--- what is done in turn: an item goes to a recent end, an item leaves, an item goes to a recent end
+-- the oldest item of a queue goes to the recent end of another
+pub record Transfer : Type 0 where
+  pub item : Item
+  pub from : Queue
+  pub to : Queue
+
+-- what is done in turn: an item comes to a recent end, an item leaves, an item is sent on
 pub record Plan : Type 0 where
-  pub first : Option Transfer
+  pub first : Option Arrival
   pub leaves : Option Leaver
   pub last : Option Transfer
   pub outcome : Outcome
 
-abbrev pub transfer : Option Queue → Queue → Option Item → Option Transfer
+abbrev pub transfer : Queue → Queue → Option Item → Option Transfer
 transfer from to None = None
 transfer from to (Some i) = Some record { item = i; from = from; to = to }
 
--- the item leaves the queue in which it stands; where it stands in none, nothing leaves
-abbrev pub leaver : Option Queue → Option Item → Option Leaver
-leaver None i = None
-leaver (Some q) None = None
-leaver (Some q) (Some i) = Some record { item = i; from = q }
+abbrev pub leaver : Queue → Option Item → Option Leaver
+leaver q None = None
+leaver q (Some i) = Some record { item = i; from = q }
 
 -- ---- a hit
 
 abbrev pub demotion : ℕ → Queues → Option Transfer
 demotion size s =
-    if nat_lt size (length s.protected) then transfer (Some Protected) Probation (oldest_of s.protected) else None
+    if nat_lt size (length s.protected) then transfer Protected Probation (oldest_of s.protected) else None
 
 -- what follows the move of an item that stood in the queue
 abbrev pub settling : ℕ → Queue → Queues → Option Transfer
@@ -50,65 +54,82 @@ settling size Protected s = None
 
 abbrev pub hit_plan : ℕ → Item → Queue → Queues → Plan
 hit_plan size i q s = record {
-  first = transfer (Some q) (queue_after_access q) (Some i);
+  first = Some record { item = i; from = Some q; to = queue_after_access q };
   leaves = None;
   last = settling size q (queues_after_move i (queue_after_access q) s);
   outcome = Hit;
 }
 
--- ---- a miss, of a candidate that stands in a queue or is new
+-- ---- a miss
 
--- the candidate stays
-abbrev pub stay_plan : Option Queue → Queue → Item → Plan
-stay_plan from to c = record { first = None; leaves = None; last = transfer from to (Some c); outcome = Kept }
+-- nothing moves
+abbrev pub still_plan : Outcome → Plan
+still_plan o = record { first = None; leaves = None; last = None; outcome = o }
 
--- the candidate is rejected
-abbrev pub rejection_plan : Option Queue → Item → Plan
-rejection_plan from c = record { first = None; leaves = leaver from (Some c); last = None; outcome = Rejected c.key }
+-- an item leaves a queue
+abbrev pub leaving_plan : Queue → Item → Outcome → Plan
+leaving_plan q i o = record { first = None; leaves = leaver q (Some i); last = None; outcome = o }
 
--- the candidate takes the place of the victim, the oldest item of a queue, where it is admitted against that
-abbrev pub contest_plan : Option Queue → Queue → (ℕ → ℕ → Bool) → Item → Option Item → Plan
-contest_plan from to admits c None = rejection_plan from c
-contest_plan from to admits c (Some v) =
-    if admits c.key v.key
-    then record {
-      first = None;
-      leaves = leaver (Some to) (Some v);
-      last = transfer from to (Some c);
-      outcome = Evicted v.key;
-    }
-    else rejection_plan from c
+-- a new item first comes to a queue
+abbrev pub joining_first : Queue → Item → Plan → Plan
+joining_first q i p = record {
+  first = Some record { item = i; from = None; to = q };
+  leaves = p.leaves;
+  last = p.last;
+  outcome = p.outcome;
+}
+
+-- a new item comes to a queue, and nothing else moves
+abbrev pub joining_plan : Queue → Item → Plan
+joining_plan q i = joining_first q i (still_plan Kept)
+
+-- a new item comes in place of the victim, the oldest item of a queue, where it is admitted against that
+abbrev pub replacing_plan : (ℕ → ℕ → Bool) → Queue → Item → Option Item → Plan
+replacing_plan admits q i None = still_plan (Rejected i.key)
+replacing_plan admits q i (Some v) =
+    if admits i.key v.key
+    then joining_first q i (leaving_plan q v (Evicted v.key))
+    else still_plan (Rejected i.key)
 
 -- a new item joins a queue, against the oldest there where the cache is full
 abbrev pub direct_plan : Rules → (ℕ → ℕ → Bool) → Queue → Item → Queues → Plan
 direct_plan r admits q i s =
     if nat_lt (total_items s) r.capacity
-    then stay_plan None q i
-    else contest_plan None q admits i (oldest_of (queue_of q s))
+    then joining_plan q i
+    else replacing_plan admits q i (oldest_of (queue_of q s))
+
+-- the candidate goes on to probation, and what is given leaves
+abbrev pub promotion_plan : Item → Option Leaver → Outcome → Plan
+promotion_plan c leaves o =
+    record { first = None; leaves = leaves; last = transfer Window Probation (Some c); outcome = o }
+
+-- the candidate takes the place of the victim, probation's oldest item, where it is admitted against that
+abbrev pub contest_plan : (ℕ → ℕ → Bool) → Item → Option Item → Plan
+contest_plan admits c None = leaving_plan Window c (Rejected c.key)
+contest_plan admits c (Some v) =
+    if admits c.key v.key
+    then promotion_plan c (leaver Probation (Some v)) (Evicted v.key)
+    else leaving_plan Window c (Rejected c.key)
 
 -- the item that has to leave the window
 abbrev pub candidate_of : Rules → Queues → Option Item
 candidate_of r s = if nat_lt r.window (length s.window) then oldest_of s.window else None
 
 abbrev pub eviction_of : Rules → (ℕ → ℕ → Bool) → Option Item → Queues → Plan
-eviction_of r admits None s = record { first = None; leaves = None; last = None; outcome = Kept }
+eviction_of r admits None s = still_plan Kept
 eviction_of r admits (Some c) s =
     if nat_lt r.capacity (total_items s)
-    then contest_plan (Some Window) Probation admits c (oldest_of s.probation)
-    else stay_plan (Some Window) Probation c
+    then contest_plan admits c (oldest_of s.probation)
+    else promotion_plan c None Kept
 
 -- one eviction
 abbrev pub eviction_plan : Rules → (ℕ → ℕ → Bool) → Queues → Plan
 eviction_plan r admits s = eviction_of r admits (candidate_of r s) s
 
--- an item first joins the window
-abbrev pub joining_first : Item → Plan → Plan
-joining_first i p =
-    record { first = transfer None Window (Some i); leaves = p.leaves; last = p.last; outcome = p.outcome }
-
 abbrev pub miss_plan_by : Placement → Rules → (ℕ → ℕ → Bool) → Item → Queues → Plan
 miss_plan_by (Direct q) r admits i s = direct_plan r admits q i s
-miss_plan_by Windowed r admits i s = joining_first i (eviction_plan r admits (queues_after_move i Window s))
+miss_plan_by Windowed r admits i s =
+    joining_first Window i (eviction_plan r admits (queues_after_move i Window s))
 
 abbrev pub miss_plan : Rules → (ℕ → ℕ → Bool) → Item → Queues → Plan
 miss_plan r admits i s = miss_plan_by r.placement r admits i s

@@ -9,7 +9,11 @@ pub use Rattle.replacement.specs.declared.record.Moves.{Moves}
 pub use Rattle.replacement.specs.declared.record.Moves.TheVariants.{Renewed, Replaced}
 pub use Rattle.replacement.specs.declared.record.Sent.{Sent}
 use Rattle.replacement.specs.Table.{Item, Queue, Response}
-use Rattle.replacement.specs.Plan.{Leaver, Transfer, Plan}
+use Rattle.replacement.specs.Plan.{Leaver, Arrival, Transfer, Plan}
+
+abbrev pub queues_after_arrival : Option Arrival → Queues → Queues
+queues_after_arrival None s = s
+queues_after_arrival (Some t) s = queues_after_move t.item t.to s
 
 abbrev pub queues_after_transfer : Option Transfer → Queues → Queues
 queues_after_transfer None s = s
@@ -21,7 +25,7 @@ queues_after_leaving (Some l) s = queues_without l.item s
 
 -- the queues after the plan
 abbrev pub queues_after : Plan → Queues → Queues
-queues_after p s = queues_after_transfer p.last (queues_after_leaving p.leaves (queues_after_transfer p.first s))
+queues_after p s = queues_after_transfer p.last (queues_after_leaving p.leaves (queues_after_arrival p.first s))
 
 -- what the plan comes to
 abbrev pub response_of_plan : Plan → Queues → Response
@@ -39,11 +43,11 @@ abbrev pub place_in : Queue → Item → Queues → QueuePlace
 place_in q i s = record { queue = q; older = last_item (before i (queue_of q s)) }
 
 -- by the queue that the first item comes from
-abbrev pub moves_from : Option Queue → Transfer → Plan → Queues → Moves
+abbrev pub moves_from : Option Queue → Arrival → Plan → Queues → Moves
 moves_from None t p s = Replaced (Some t.to) (sent_by p.last) p.leaves
 moves_from (Some q) t p s = Renewed t.to (sent_by p.last) (place_in q t.item s)
 
-abbrev pub moves_by : Option Transfer → Plan → Queues → Moves
+abbrev pub moves_by : Option Arrival → Plan → Queues → Moves
 moves_by None p s = Replaced None (sent_by p.last) p.leaves
 moves_by (Some t) p s = moves_from t.from t p s
 
@@ -59,9 +63,8 @@ leaver_in (Replaced came sent left) = left
 -- ---- the single moves that undoing takes back, from the queues as each left them
 
 -- the oldest place of a queue
-abbrev pub oldest_place : Option Queue → Option QueuePlace
-oldest_place None = None
-oldest_place (Some q) = Some record { queue = q; older = None }
+abbrev pub oldest_place : Queue → QueuePlace
+oldest_place q = record { queue = q; older = None }
 
 -- the newest item of the queue came there from the place
 abbrev pub arrival : Option QueuePlace → Queue → Queues → Option MoveRecord
@@ -74,7 +77,7 @@ arrival_of_new (Some to) s = arrival None to s
 
 abbrev pub arrival_of_sent : Option Sent → Queues → Option MoveRecord
 arrival_of_sent None s = None
-arrival_of_sent (Some t) s = arrival (oldest_place t.from) t.to s
+arrival_of_sent (Some t) s = arrival (Some (oldest_place t.from)) t.to s
 
 abbrev pub first_move : Moves → Queues → Option MoveRecord
 first_move (Renewed to sent from) s = arrival (Some from) to s
@@ -82,7 +85,7 @@ first_move (Replaced came sent left) s = arrival_of_new came s
 
 abbrev pub move_out : Option Leaver → Option MoveRecord
 move_out None = None
-move_out (Some l) = Some record { item = l.item; from = oldest_place (Some l.from); to = None }
+move_out (Some l) = Some record { item = l.item; from = Some (oldest_place l.from); to = None }
 
 abbrev pub last_move : Moves → Queues → Option MoveRecord
 last_move (Renewed to sent from) s = arrival_of_sent sent s

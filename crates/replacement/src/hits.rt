@@ -26,10 +26,10 @@ pub fn hit(segments: &mut Segments, size: usize, item: Item) -> Option<Moves>
 {
     let (queue, renewed) = segments.refresh(item)?;
     let sent = settle(segments, size, queue);
-    match (renewed.from, renewed.to) {
-        (Some(from), Some(to)) => Some(Moves::Renewed { to, sent, from }),
-        (None, _) | (_, None) => unreachable!(),
-    }
+    let (Some(from), Some(to)) = (renewed.from, renewed.to) else {
+        unreachable!()
+    };
+    Some(Moves::Renewed { to, sent, from })
 }
 
 // What follows the move of an item that stood in the queue.

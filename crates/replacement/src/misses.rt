@@ -46,7 +46,7 @@ pub(crate) fn windowed<C>(
     requires absent { queue_holding item segments.old.lists ≡ None }
     requires distinct { IsDistinct segments.old.lists }
     requires room { 1 ≤ segments.old.spare }
-    ensures effect { IsEffect (joining_first item
+    ensures effect { IsEffect (joining_first Queue.Window item
         (eviction_plan rules.now (admits_in (option_map (λ f. f.now) frequency.entry))
         (queues_after_move item Queue.Window segments.old.lists)))
         segments.old.lists segments.new.lists result }
@@ -71,13 +71,9 @@ pub(crate) fn direct(
         (option_map (λ f. f.now) frequency.entry)) queue item segments.old.lists)
         segments.old.lists segments.new.lists result }
 {
-    let sent = Some(Sent {
-        from: None,
-        to: queue,
-    });
     if segments.count() < rules.capacity {
         join(segments, queue, item);
-        return replacement(Outcome::Kept, None, None, sent);
+        return replacement(Outcome::Kept, Some(queue), None, None);
     }
     let Some(victim) = segments.oldest(queue) else {
         return replacement(Outcome::Rejected(item.key), None, None, None);
@@ -90,7 +86,7 @@ pub(crate) fn direct(
         item: victim,
         from: queue,
     });
-    replacement(Outcome::Evicted(victim.key), None, left, sent)
+    replacement(Outcome::Evicted(victim.key), Some(queue), left, None)
 }
 
 // One eviction, by its plan, after a new item came to a queue, or none.

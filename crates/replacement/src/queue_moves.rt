@@ -27,23 +27,23 @@ pub(crate) fn join(segments: &mut Segments, queue: Queue, item: Item)
 pub(crate) fn drop_oldest(segments: &mut Segments, queue: Queue) -> Option<Leaver>
     requires { IsDistinct segments.old.lists }
     ensures lists { segments.new.lists ≡ queues_after_leaving
-        (leaver (Some queue) (oldest_of (queue_of queue segments.old.lists))) segments.old.lists }
+        (leaver queue (oldest_of (queue_of queue segments.old.lists))) segments.old.lists }
     ensures rest { segments.new.lists ≡ queues_after_pop queue segments.old.lists }
-    ensures left { result ≡ leaver (Some queue) (oldest_of (queue_of queue segments.old.lists)) }
+    ensures left { result ≡ leaver queue (oldest_of (queue_of queue segments.old.lists)) }
     ensures distinct { IsDistinct segments.new.lists }
 {
     let (item, _) = segments.pop_oldest(queue)?;
     Some(Leaver { item, from: queue })
 }
 
-/// Takes out the oldest item of a queue that is not empty, and puts an item that stands in no queue at its recent end.
+/// Puts an item that stands in no queue at the recent end of a queue that is not empty, whose oldest item leaves.
 #[inline(always)]
 pub(crate) fn renew_oldest(segments: &mut Segments, queue: Queue, item: Item)
     requires oldest { IsSome (oldest_of (queue_of queue segments.old.lists)) }
     requires absent { queue_holding item segments.old.lists ≡ None }
     requires distinct { IsDistinct segments.old.lists }
-    ensures lists { segments.new.lists ≡ queues_after_move item queue (queues_after_leaving
-        (leaver (Some queue) (oldest_of (queue_of queue segments.old.lists))) segments.old.lists) }
+    ensures lists { segments.new.lists ≡ queues_after_leaving
+        (leaver queue (oldest_of (queue_of queue segments.old.lists))) (queues_after_move item queue segments.old.lists) }
     ensures spare { segments.old.spare ≤ segments.new.spare }
 {
     match segments.renew_oldest(queue, item) {
@@ -56,14 +56,11 @@ pub(crate) fn renew_oldest(segments: &mut Segments, queue: Queue, item: Item)
 #[inline(always)]
 pub(crate) fn send_oldest(segments: &mut Segments, from: Queue, to: Queue) -> Option<Sent>
     ensures lists { segments.new.lists
-        ≡ queues_after_transfer (transfer (Some from) to (oldest_of (queue_of from segments.old.lists)))
+        ≡ queues_after_transfer (transfer from to (oldest_of (queue_of from segments.old.lists)))
         segments.old.lists }
-    ensures sent { result ≡ sent_by (transfer (Some from) to (oldest_of (queue_of from segments.old.lists))) }
+    ensures sent { result ≡ sent_by (transfer from to (oldest_of (queue_of from segments.old.lists))) }
     ensures spare { segments.old.spare ≤ segments.new.spare }
 {
     segments.send_oldest(from, to)?;
-    Some(Sent {
-        from: Some(from),
-        to,
-    })
+    Some(Sent { from, to })
 }

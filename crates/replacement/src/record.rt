@@ -21,9 +21,9 @@ pub enum Moves {
     },
     /// What a new item or an eviction moved.
     Replaced {
-        /// The queue to whose recent end the new item came first, if it came before others moved.
+        /// The queue to whose recent end a new item came first, if one did.
         came: Option<Queue>,
-        /// What went to a recent end last: the oldest item of a queue, or the new item.
+        /// What went to a recent end last: the oldest item of a queue.
         sent: Option<Sent>,
         /// The item that left between the two.
         left: Option<Leaver>,
@@ -39,11 +39,11 @@ pub struct Leaver {
     pub from: Queue,
 }
 
-/// The way of an item to the recent end of a queue.
+/// The way of the oldest item of a queue to the recent end of another.
 #[derive(Clone, Copy)]
 pub struct Sent {
-    /// The queue whose oldest item it was: `None` where it stood in none.
-    pub from: Option<Queue>,
+    /// The queue whose oldest item it was.
+    pub from: Queue,
     /// The queue to whose recent end it went.
     pub to: Queue,
 }

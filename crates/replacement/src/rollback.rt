@@ -38,7 +38,7 @@ fn return_sent(segments: &mut Segments, sent: Option<Sent>)
     ensures spare { segments.old.spare ≤ segments.new.spare }
 {
     if let Some(sent) = sent {
-        return_newest(segments, oldest_place(sent.from), sent.to);
+        return_newest(segments, Some(oldest_place(sent.from)), sent.to);
     }
 }
 
@@ -52,7 +52,7 @@ fn return_leaver(segments: &mut Segments, left: Option<Leaver>)
     if let Some(left) = left {
         segments.put_back(MoveRecord {
             item: left.item,
-            from: oldest_place(Some(left.from)),
+            from: Some(oldest_place(left.from)),
             to: None,
         });
     }
@@ -75,9 +75,8 @@ fn return_newest(segments: &mut Segments, from: Option<QueuePlace>, to: Queue)
 }
 
 // The oldest place of a queue.
-fn oldest_place(queue: Option<Queue>) -> Option<QueuePlace>
+fn oldest_place(queue: Queue) -> QueuePlace
     ensures { result ≡ oldest_place_of queue }
 {
-    let queue = queue?;
-    Some(QueuePlace { queue, older: None })
+    QueuePlace { queue, older: None }
 }

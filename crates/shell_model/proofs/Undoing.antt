@@ -14,7 +14,7 @@ use Rattle.replacement.specs.Table.{Queue, hit_in}
 use Rattle.replacement.specs.Plan.{Plan, candidate_of, eviction_plan}
 use Rattle.replacement.specs.declared.record.Leaver.{Leaver}
 use Rattle.replacement.specs.PlanMoves.{queues_after, response_of_plan, moves_of, leaver_in, undone_moves, UndoesMoves}
-use Rattle.replacement.proofs.Carrying.{UndoesMove, removal-undone, hit-undone, stay-undone, eviction-undone}
+use Rattle.replacement.proofs.Carrying.{UndoesMove, removal-undone, hit-undone, join-undone, eviction-undone}
 use Rattle.replacement.proofs.Leaving.{leaver-of}
 use Rattle.replacement.proofs.Planned.{hits_planned, evictions_planned, evicts-first}
 use Rattle.shell_buffers.specs.declared.task.Task.TheVariants.{Add, Update, Remove}
@@ -166,7 +166,7 @@ added-back i rest x e w =
     let none : queue_occurrences i x.queues ≡ 0 = queued-waits i rest x e w in
     let absent : queue_holding i x.queues ≡ None = is_absent i x.queues record { window = omega arith; probation = omega arith; protected = omega arith } in
     let b : UndoesMoves x.queues (queues_after_push Window i x.queues) (added_of i x).moves =
-    rw (pushed-moved i Window x.queues absent) (stay-undone Window i x.queues (sound-distinct x w) absent) in
+    rw (pushed-moved i Window x.queues absent) (join-undone Window i x.queues (sound-distinct x w) absent) in
     record {
       fits = record { moves = b.fits; frequency = fits_recorded x.frequency i.key w.frequency; stays = refl };
       queues = b.undone;

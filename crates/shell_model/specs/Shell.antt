@@ -26,7 +26,7 @@ pub use Rattle.replacement.specs.declared.record.Moves.{Moves}
 use Rattle.replacement.specs.declared.record.Moves.TheVariants.{Replaced}
 use Rattle.replacement.specs.Rules.{three_queues}
 use Rattle.replacement.specs.Table.{Queue, Response}
-use Rattle.replacement.specs.Plan.{Plan, hit_plan, stay_plan, candidate_of, eviction_plan}
+use Rattle.replacement.specs.Plan.{Plan, hit_plan, joining_plan, candidate_of, eviction_plan}
 use Rattle.replacement.specs.PlanMoves.{moves_of}
 use Rattle.shell_buffers.specs.Buffers.{stripe_at}
 use Rattle.shell_buffers.specs.declared.stripes.TheConstants.{MAX_ITEMS}
@@ -105,7 +105,7 @@ read_reply s (i ∷ rest) x = (reply.Drained i, change.Read s i (touched_of i x)
 
 abbrev pub added_of : Item → Shell → UseRecord
 added_of i x =
-    record { frequency = shell_frequency_record x.frequency i.key; moves = moves_of (stay_plan None Window i) x.queues }
+    record { frequency = shell_frequency_record x.frequency i.key; moves = moves_of (joining_plan Window i) x.queues }
 
 abbrev pub cleared_of : Item → Option Queue → Queues → Option MoveRecord
 cleared_of i None q = None
