@@ -3,7 +3,7 @@ use Rattle.std.proofs.Common.{◌≡◌, ℕ, suc, zero, ◌<◌, ◌≤◌, Som
 use Rattle.std.specs.List.{Contains, slice_index_or}
 use Rattle.std.proofs.lemmas.Bool.Decides.{nat_tests}
 use Rattle.queue_table.specs.Ring.{lists, order_of, entries, slot_entry}
-use Rattle.queue_table.specs.Entries.{Item, entry, occurrences, oldest_of, before, is_same_item, entries_counted, last_from, last_item, newest_of, newest_from, put_behind, IsGap}
+use Rattle.queue_table.specs.Entries.{Item, entry, items_of, occurrences, oldest_of, before, is_same_item, entries_counted, last_item, newest_of, newest_from, put_behind, IsGap}
 use Rattle.queue_table.specs.Queues.{QUEUES, Queues, queue_holding, place_at, place_in, IsDistinct, after_push, after_removal, after_send, after_count, after_return}
 use Rattle.queue_table.specs.QueueTable.{HoldsAt}
 use Rattle.queue_table.proofs.QueueLists.{same-refl, times-append, times-without, placed, absent, is_absent, still-absent, StandsIn, gap, move-back, taken-sent, out-back, pushed-back, high-empty}
@@ -161,7 +161,7 @@ counted-twice i m n (x ∷ l) = let r = counted-twice i m n l in grind (arith, n
 
 -- ---- the accessed key
 
-last-node : (x : Item) (l : List Entry) → x.node ≡ 0 → nodes_of l ≡ 0 → item_in (key_in (last_from (Some x) l)) ≡ last_from (Some x) l
+last-node : (x : Item) (l : List Entry) → x.node ≡ 0 → nodes_of l ≡ 0 → item_in (key_in (newest_from (Some x) (items_of l))) ≡ newest_from (Some x) (items_of l)
 last-node x [] hx hl = ap Some (key-item x hx)
 last-node x (y ∷ l) hx hl = last-node y.item l (omega (arith, hl)) (omega (arith, hl))
 

@@ -1,10 +1,11 @@
 -- Runs: a turn, and any number of them.
 use Rattle.std.proofs.lemmas.Bool.Decides.{nat_tests}
-use Rattle.std.proofs.Common.{◌≡◌, ℕ, suc, zero, ◌+◌, ◌-◌, ◌<◌, ◌≤◌, true, false, nat_lt, Option, Some, None, List, [], ◌∷◌, ◌++◌, ap, ◌∙◌, sym, subst, refl, arith, inl, inr}
+use Rattle.std.proofs.Common.{◌≡◌, ℕ, suc, zero, ◌+◌, ◌-◌, ◌<◌, ◌≤◌, true, false, nat_lt, Some, None, [], ◌∷◌, ap, ◌∙◌, sym, subst, refl, arith, inl, inr}
 use Rattle.std.proofs.lemmas.Bool.{cases_Bool}
 use Rattle.queue_table.specs.declared.records.Entry.{Entry}
-use Rattle.queue_table.specs.Entries.{entry, entries_without, oldest_of, newest_of, newest_from}
+use Rattle.queue_table.specs.Entries.{entry, entries_without, oldest_of, newest_of}
 use Rattle.queue_table.specs.Queues.{QUEUES, Queues, after_removal, after_send, after_return}
+use Rattle.queue_table.proofs.Items.{newest-append}
 use Rattle.queue_table.proofs.QueueLists.{with-queue-same}
 use Rattle.queue_moves.specs.Moves.{Entry, run, turned, after_turn, after_turns, turns_due, count_or}
 use Rattle.queue_moves.specs.Undoing.{HasCountLeft, FitTurns, turned_back, before_turn, before_turns, IsTurn, IsRun}
@@ -13,10 +14,6 @@ use Rattle.queue_moves.proofs.Laws.{oldest_stands, sent-back, no-front}
 
 -- ---- a turn
 
-newest-append : (found : Option Entry) (l : List Entry) (e : Entry) → newest_from found (l ++ e ∷ []) ≡ Some e
-newest-append found [] e = refl
-newest-append found (x ∷ l) e = newest-append (Some x) l e
-
 -- the slot of the oldest has the entry x
 module _ (e x : Entry) (from to less m : ℕ) (s : Queues) (t : IsTabled s) (w : from < QUEUES) (first : oldest_of (s from) ≡ Some e)
     (lower : m + less ≡ e.count) (bound : e.count < 256) (slot : x ≡ e) (u : Queues) (made : u ≡ after_send (entry x.item m) to s) where
@@ -24,7 +21,7 @@ module _ (e x : Entry) (from to less m : ℕ) (s : Queues) (t : IsTabled s) (w :
   hu = made ∙ ap (λ (y : Entry). after_send (entry y.item m) to s) slot
 
   newest-is : newest_of (u to) ≡ Some (entry e.item m)
-  newest-is = search (arith, hu, with-queue-same, newest-append None (entries_without e.item (s to)) (entry e.item m))
+  newest-is = search (arith, hu, with-queue-same, newest-append None (entries_without e.item (s to)) (entry e.item m ∷ []))
 
   pub turn-made : IsTurn from to less s u
   turn-made =

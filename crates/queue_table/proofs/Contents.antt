@@ -5,9 +5,10 @@ use Rattle.std.proofs.Math.Path.{fun_ext}
 use Rattle.std.proofs.lemmas.Bool.{cases_Bool, cases_eq, cases_lt, eqb-true}
 use Rattle.std.proofs.lemmas.List.{map-append}
 use Rattle.std.proofs.lemmas.Bool.Decides.{nat_tests}
-use Rattle.queue_table.specs.Entries.{Entry, Item, is_same_item, occurrences, last_from, last_item, before, put_behind, entries_without}
+use Rattle.queue_table.specs.Entries.{Entry, Item, is_same_item, items_of, occurrences, newest_from, last_item, before, put_behind, entries_without}
 use Rattle.queue_table.specs.Queues.{QUEUES, queue_holding, times_below, after_push, after_removal, after_return, IsDistinct}
-use Rattle.queue_table.proofs.QueueLists.{same-true, same-refl, times-append, put_behind-at, IsAbsent, is_absent, placed, queue-few, times-none, times-with}
+use Rattle.queue_table.proofs.Items.{put_behind-at}
+use Rattle.queue_table.proofs.QueueLists.{same-true, same-refl, times-append, IsAbsent, is_absent, placed, queue-few, times-none, times-with}
 use Rattle.queue_table.specs.Ring.{slot_entry, slot_item, count, put_before, FIRST, Order, used, order_without, sent, lists_of, item_or, IsShort}
 use Rattle.queue_table.specs.QueueTable.{IsBehind}
 use Rattle.engine_base.specs.Keys.{keys_without}
@@ -117,7 +118,7 @@ map-put q k b older es l u n c =
     ap (λ (m : List ℕ). map f (put_before k b m)) c.whole
     ∙ (ap (map f) (put-cut f k b (suc (suc q)) c.front c.back few none c.next)
     ∙ (map-append f c.front (k ∷ c.back)
-    ∙ (sym (put_behind-at older (f k) (map f c.front) (map f c.back) (front-few f l (map f c.front) (map f c.back) parts u) c.older_last)
+    ∙ (sym (put_behind-at (λ (e : Entry). e.item) older (f k) (map f c.front) (map f c.back) (front-few f l (map f c.front) (map f c.back) parts u) c.older_last)
     ∙ ap (put_behind older (f k)) (sym parts))))
 
 pub lists-back : (q k b : ℕ) (o : Order) (es : List Entry) (older : Option Item) → q < QUEUES → IsDistinct (lists_of (order_without k o) es) →
@@ -142,7 +143,7 @@ before-map f k (x ∷ us) vs h =
     let e : is_same_item (f k).item (f x).item ≡ false = h x (let n = count-here x us in omega (arith, n)) in
     rw e (ap (λ t. f x ∷ t) (before-map f k us vs (λ j n. h j (omega arith))))
 
-item-last : (es : List Entry) (x : ℕ) (us : List ℕ) → FIRST ≤ x → ((j : ℕ) → 1 ≤ count j us → FIRST ≤ j) → item_or es (end_of x us) ≡ last_from (Some (slot_item es x)) (map (λ k. slot_entry es k) us)
+item-last : (es : List Entry) (x : ℕ) (us : List ℕ) → FIRST ≤ x → ((j : ℕ) → 1 ≤ count j us → FIRST ≤ j) → item_or es (end_of x us) ≡ newest_from (Some (slot_item es x)) (items_of (map (λ k. slot_entry es k) us))
 item-last es x [] r h = (grind (arith, nat_tests))
 item-last es x (y ∷ us) r h = item-last es y us (h y (let n = count-here y us in omega (arith, n))) (λ j n. h j (omega arith))
 

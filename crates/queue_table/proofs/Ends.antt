@@ -1,13 +1,15 @@
 -- The ends of the sections, and the slots between them.
-use Rattle.std.proofs.Common.{◌≡◌, ℕ, suc, zero, ◌<◌, ◌≤◌, Some, List, [], ◌∷◌, ◌++◌, length, get_or, map, ap, ◌∙◌, sym, refl, subst, arith, append_assoc, false, eqb, Option, None}
-use Rattle.queue_table.specs.Entries.{Entry, Item, newest_from, newest_of, last_from, last_item, IsGap}
-use Rattle.queue_table.specs.Ring.{Slot, newers, olders, slot_entry, slot_item, count, walk, IsRing, SECTIONS, Order, ring, first_of, last_after, last_of, IsQueued, entries, next_but, IsLinked, used, order_without, lists_of, IsPlace}
+use Rattle.std.proofs.Common.{◌≡◌, ℕ, suc, zero, ◌<◌, ◌≤◌, Some, List, [], ◌∷◌, ◌++◌, length, get_or, map, ap, ◌∙◌, sym, refl, subst, arith, append_assoc, false, eqb, Option, None, option_map}
+use Rattle.queue_table.specs.Entries.{Entry, Item, oldest_of, newest_from, newest_of, IsGap}
+use Rattle.queue_table.proofs.Items.{newest-append, newest-map}
+use Rattle.queue_table.specs.Ring.{Slot, newers, olders, slot_entry, slot_item, count, walk, IsRing, SECTIONS, Order, ring, IsQueued, entries, next_but, IsLinked, used, order_without, lists_of, IsPlace}
 use Rattle.queue_table.proofs.Splices.{older-end, newer-start, end_of, start_of, start-stands, count-append, count-here, linked-split}
 use Rattle.queue_table.proofs.Turning.{turned, IsSplit, split_at, gone, count-without, without-append, without-none}
 use Rattle.queue_table.proofs.Holding.{linked-section, slots-length}
 use Rattle.std.proofs.lemmas.Grind.{common_steps}
 use Rattle.std.proofs.lemmas.Bool.{cases_eq, ne_eqb}
 use Rattle.std.proofs.lemmas.List.{map-append}
+use Rattle.std.proofs.lemmas.Simd.{map-map}
 use Rattle.std.proofs.lemmas.Bool.Decides.{nat_tests}
 use Rattle.queue_table.specs.Queues.{QUEUES, queue_holding}
 use Rattle.engine_base.specs.Keys.{keys_without}
@@ -17,43 +19,38 @@ use Rattle.queue_table.proofs.Contents.{IsCutAt, cut_at, alone, placed-at}
 
 -- the first slot of a section, and the last one
 
-pub first-slot : (slots : List Slot) (s : ℕ) (o : Order) → s < SECTIONS → IsQueued slots o → 1 ≤ length (o s) → first_of (o s) ≡ Some (get_or (newers slots) s 0)
+pub first-slot : (slots : List Slot) (s : ℕ) (o : Order) → s < SECTIONS → IsQueued slots o → 1 ≤ length (o s) → oldest_of (o s) ≡ Some (get_or (newers slots) s 0)
 first-slot slots s o w h n = some (o s) n ∙ ap Some (sym (newer-start (newers slots) (olders slots) s (o s) (suc s) (linked-section s (newers slots) (olders slots) o w h.linked.linked)))
   where
-    some : (l : List ℕ) → 1 ≤ length l → first_of l ≡ Some (start_of l (suc s))
+    some : (l : List ℕ) → 1 ≤ length l → oldest_of l ≡ Some (start_of l (suc s))
     some [] m = absurd (omega (arith, m))
     some (x ∷ l) m = refl
 
-last-after-end : (a : ℕ) (l : List ℕ) → last_after (Some a) l ≡ Some (end_of a l)
+last-after-end : (a : ℕ) (l : List ℕ) → newest_from (Some a) l ≡ Some (end_of a l)
 last-after-end a [] = refl
 last-after-end a (x ∷ l) = last-after-end x l
 
-pub last-slot : (slots : List Slot) (s : ℕ) (o : Order) → s < SECTIONS → IsQueued slots o → 1 ≤ length (o s) → last_of (o s) ≡ Some (get_or (olders slots) (suc s) 0)
+pub last-slot : (slots : List Slot) (s : ℕ) (o : Order) → s < SECTIONS → IsQueued slots o → 1 ≤ length (o s) → newest_of (o s) ≡ Some (get_or (olders slots) (suc s) 0)
 last-slot slots s o w h n = some (o s) n ∙ ap Some (sym (older-end (newers slots) (olders slots) s (o s) (suc s) (linked-section s (newers slots) (olders slots) o w h.linked.linked)))
   where
-    some : (l : List ℕ) → 1 ≤ length l → last_of l ≡ Some (end_of s l)
+    some : (l : List ℕ) → 1 ≤ length l → newest_of l ≡ Some (end_of s l)
     some [] m = absurd (omega (arith, m))
     some (x ∷ l) m = last-after-end x l
 
-pub first-stands : (k : ℕ) (l : List ℕ) → first_of l ≡ Some k → 1 ≤ count k l
+pub first-stands : (k : ℕ) (l : List ℕ) → oldest_of l ≡ Some k → 1 ≤ count k l
 first-stands k [] e = absurd (cc (e))
 first-stands k (x ∷ l) e = let s : x ≡ k = cc (e) in subst (λ y. 1 ≤ count y (x ∷ l)) s (let c = count-here x l in omega (arith, c))
 
-last-after-stands : (k a : ℕ) (l : List ℕ) → last_after (Some a) l ≡ Some k → 1 ≤ count k (a ∷ l)
+last-after-stands : (k a : ℕ) (l : List ℕ) → newest_from (Some a) l ≡ Some k → 1 ≤ count k (a ∷ l)
 last-after-stands k a [] e = let s : a ≡ k = cc (e) in subst (λ y. 1 ≤ count y (a ∷ [])) s (let c = count-here a [] in omega (arith, c))
 last-after-stands k a (x ∷ l) e = let r = last-after-stands k x l e in omega (arith, r)
 
-pub last-stands : (k : ℕ) (l : List ℕ) → last_of l ≡ Some k → 1 ≤ count k l
+pub last-stands : (k : ℕ) (l : List ℕ) → newest_of l ≡ Some k → 1 ≤ count k l
 last-stands k [] e = absurd (cc (e))
 last-stands k (x ∷ l) e = last-after-stands k x l e
 
-newest-after : (es : List Entry) (k a : ℕ) (l : List ℕ) → last_after (Some a) l ≡ Some k → newest_from (Some (slot_entry es a)) (map (λ j. slot_entry es j) l) ≡ Some (slot_entry es k)
-newest-after es k a [] e = let s : a ≡ k = cc (e) in ap (λ y. Some (slot_entry es y)) s
-newest-after es k a (x ∷ l) e = newest-after es k x l e
-
-pub last-entry : (es : List Entry) (k : ℕ) (l : List ℕ) → last_of l ≡ Some k → newest_of (map (λ j. slot_entry es j) l) ≡ Some (slot_entry es k)
-last-entry es k [] e = absurd (cc (e))
-last-entry es k (x ∷ l) e = newest-after es k x l e
+pub last-entry : (es : List Entry) (k : ℕ) (l : List ℕ) → newest_of l ≡ Some k → newest_of (map (λ j. slot_entry es j) l) ≡ Some (slot_entry es k)
+last-entry es k l e = newest-map (λ j. slot_entry es j) None l ∙ ap (option_map (λ j. slot_entry es j)) e
 
 pub last-free : (slots : List Slot) (o : Order) → IsQueued slots o → 1 ≤ length (o 0) → 1 ≤ count (get_or (olders slots) 1 0) (o 0)
 last-free slots o h n = last-stands (get_or (olders slots) 1 0) (o 0) (last-slot slots 0 o (omega arith) h n)
@@ -83,22 +80,18 @@ next-linked : (ns os : List ℕ) (j but c : ℕ) (ws : List ℕ) → IsLinked ns
 next-linked ns os j but c v k d few = grind (arith, nat_tests, without-none, newer-start, cases_eq)
 
 -- the slot of the last item
-record HasLast (f : ℕ → Entry) (l : List ℕ) (n : Item) : Type 0 where
+record HasLast (f : ℕ → Item) (l : List ℕ) (n : Item) : Type 0 where
   at : ℕ
   stands : 1 ≤ count at l
-  holds : (f at).item ≡ n
+  holds : f at ≡ n
 
-has-last-from : (f : ℕ → Entry) (a : ℕ) (l : List ℕ) (n : Item) → last_from (Some (f a).item) (map f l) ≡ Some n → HasLast f (a ∷ l) n
+has-last-from : (f : ℕ → Item) (a : ℕ) (l : List ℕ) (n : Item) → newest_from (Some (f a)) (map f l) ≡ Some n → HasLast f (a ∷ l) n
 has-last-from f a [] n e = record { at = a; stands = (let c = count-here a [] in omega (arith, c)); holds = cc (e) }
 has-last-from f a (x ∷ l) n e = grind (arith, nat_tests, has-last-from f x l n e)
 
-has-last : (f : ℕ → Entry) (l : List ℕ) (n : Item) → last_item (map f l) ≡ Some n → HasLast f l n
+has-last : (f : ℕ → Item) (l : List ℕ) (n : Item) → newest_of (map f l) ≡ Some n → HasLast f l n
 has-last f [] n e = absurd (cc (e))
 has-last f (x ∷ l) n e = has-last-from f x l n e
-
-last-put : (found : Option Item) (l : List Entry) (x : Entry) → last_from found (l ++ x ∷ []) ≡ Some x.item
-last-put found [] x = refl
-last-put found (y ∷ l) x = last-put (Some y.item) l x
 
 module _ (slots : List Slot) (o : Order) (h : IsQueued slots o) (q but j : ℕ) (w : q < QUEUES) (d : but ≡ suc (suc q) → ⊥) where
   links : IsLinked (newers slots) (olders slots) (suc q) (o (suc q)) (suc (suc q))
@@ -117,17 +110,18 @@ module _ (slots : List Slot) (o : Order) (h : IsQueued slots o) (q but j : ℕ) 
       let back_few : count but s.back ≤ 1 = (let a = ap (count but) s.whole in let p = count-append but s.front (j ∷ s.back) in let u = few but in omega (arith, a, p, u)) in
       let cut : keys_without but (s.front ++ j ∷ s.back) ≡ (keys_without but s.front ++ j ∷ []) ++ keys_without but s.back =
       without-append but s.front (j ∷ s.back) ∙ rw apart (sym (append_assoc (keys_without but s.front) (j ∷ []) (keys_without but s.back))) in
-      grind (arith, nat_tests, map-append, last-put, next-linked)
+      grind (arith, nat_tests, map-append, newest-append, next-linked)
 
   pub cut-behind : (older : Option Item) → (older ≡ None → j ≡ suc q) →
       ((n : Item) → older ≡ Some n → (queue_holding n (lists_of o (entries slots)) ≡ None → ⊥) → (1 ≤ count j (used o)) × (slot_item (entries slots) j ≡ n)) →
       IsGap older (lists_of (order_without but o) (entries slots) q) → IsBehind (next_but (newers slots) j but) q older (entries slots) (order_without but o (suc q))
   cut-behind None a c g = grind (arith, nat_tests, next-linked, links, few)
   cut-behind (Some n) a c g =
-      let f : ℕ → Entry = λ k. slot_entry (entries slots) k in
+      let f : ℕ → Item = λ k. slot_item (entries slots) k in
       let l : List ℕ = order_without but o (suc q) in
-      let t : IsCutAt f l g.before g.behind = cut_at f l g.before g.behind g.whole in
-      let v : HasLast f t.front n = has-last f t.front n (ap last_item t.fronts ∙ g.older_last) in
+      let t : IsCutAt f l g.before g.behind =
+      cut_at f l g.before g.behind (sym (map-map (λ (e : Entry). e.item) (λ k. slot_entry (entries slots) k) l) ∙ g.whole) in
+      let v : HasLast f t.front n = has-last f t.front n (ap newest_of t.fronts ∙ g.older_last) in
       let there : 1 ≤ count v.at l = (let e = ap (count v.at) t.whole in let p = count-append v.at t.front t.back in let s = v.stands in omega (arith, p, s)) in
       let stands : 1 ≤ count v.at (o (suc q)) = (let p = count-without but v.at (o (suc q)) in omega (arith, p, there)) in
       let in_use : 1 ≤ count v.at (used o) = section-used q v.at o w stands in

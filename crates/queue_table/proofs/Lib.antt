@@ -6,6 +6,7 @@ pub mod SlotWrites
 pub mod Splices
 pub mod Turning
 pub mod Orders
+pub mod Items
 pub mod QueueLists
 pub mod Contents
 pub mod Holding

@@ -1,57 +1,30 @@
 -- Queues of distinct items, by number.
-use Rattle.std.proofs.Common.{◌≡◌, ◌+◌, ◌≤◌, true, Option, Some, None, List, [], ◌∷◌, ◌++◌, refl, arith, ◌⊎◌, inl, ℕ, suc, zero, ◌<◌, map, ap, ◌∙◌, append-nil}
+use Rattle.std.proofs.Common.{◌≡◌, ◌+◌, ◌≤◌, Option, Some, None, List, [], ◌∷◌, ◌++◌, refl, arith, ℕ, suc, zero, ◌<◌, map, ap, ◌∙◌, sym, append-nil}
+use Rattle.std.proofs.lemmas.List.{map-append}
 use Rattle.std.proofs.lemmas.Bool.Decides.{nat_tests}
-use Rattle.queue_table.specs.Entries.{is_same_item, occurrences, entries_without, last_from, last_item, put_behind, Entry, Item, entry, IsGap}
 use Rattle.std.proofs.lemmas.Bool.{cases_eq, cases_lt}
+use Rattle.queue_table.specs.Items.{items_without}
+use Rattle.queue_table.specs.Entries.{items_of, occurrences, entries_without, last_item, put_behind, Entry, Item, entry, IsGap}
 use Rattle.queue_table.specs.Queues.{QUEUES, Queues, with_queue, queue_below, queue_holding, times_below, IsDistinct, after_removal, after_push, after_send, after_return}
 use Rattle.queue_table.specs.Ring.{Slot, newers, ring_of, entries, slot_entry, lists}
+use Rattle.queue_table.proofs.Items
+pub use Rattle.queue_table.proofs.Items.{same-true, same-refl}
 use Rattle.queue_table.proofs.Orders.{order-short}
 
 -- ---- lists of entries
 
-pub same-true : (a b : Item) → is_same_item a b ≡ true → a ≡ b
-same-true a b h = grind (arith, nat_tests)
-
-pub same-refl : (a : Item) → is_same_item a a ≡ true
-same-refl a = grind (arith, nat_tests)
+pub items-without : (i : Item) (l : List Entry) → items_of (entries_without i l) ≡ items_without i (items_of l)
+items-without i [] = refl
+items-without i (x ∷ l) = let r = items-without i l in grind (arith, nat_tests)
 
 pub times-append : (i : Item) (xs ys : List Entry) → occurrences i (xs ++ ys) ≡ occurrences i xs + occurrences i ys
-times-append i [] ys = omega arith
-times-append i (x ∷ xs) ys = let h : occurrences i (xs ++ ys) ≡ occurrences i xs + occurrences i ys = times-append i xs ys in omega (arith, h)
+times-append i xs ys = rw map-append (Items.times-append i (items_of xs) (items_of ys))
 
 pub times-without : (i j : Item) (l : List Entry) → occurrences j (entries_without i l) ≤ occurrences j l
-times-without i j [] = omega arith
-times-without i j (x ∷ l) = let r = times-without i j l in grind (arith, nat_tests)
+times-without i j l = rw items-without (Items.times-without i j (items_of l))
 
 pub times-gone : (i : Item) (l : List Entry) → occurrences i (entries_without i l) ≡ 0
-times-gone i [] = refl
-times-gone i (x ∷ l) = let r = times-gone i l in grind (arith, nat_tests)
-
--- ends
-
--- what is last is the one given before, or stands in the list
-pub last-among : (a x : Item) (l : List Entry) → last_from (Some x) l ≡ Some a → (x ≡ a) ⊎ (1 ≤ occurrences a l)
-last-among a x [] h = inl (cc)
-last-among a x (y ∷ l) h = let r = last-among a y.item l h in grind (arith, nat_tests)
-
-last-some : (x : Item) (l : List Entry) → last_from (Some x) l ≡ None → ⊥
-last-some x [] h = cc
-last-some x (y ∷ l) h = last-some y.item l h
-
-pub last-none : (l : List Entry) → last_item l ≡ None → l ≡ []
-last-none [] h = refl
-last-none (x ∷ l) h = absurd (last-some x.item l h)
-
--- an entry goes back between its neighbours
-pub put_behind-at : (older : Option Item) (i : Entry) (xs ys : List Entry) → ((j : Item) → occurrences j xs ≤ 1) → last_item xs ≡ older → put_behind older i (xs ++ ys) ≡ xs ++ i ∷ ys
-put_behind-at None i xs ys u h = let e : xs ≡ [] = last-none xs h in rw e refl
-put_behind-at (Some a) i [] ys u h = absurd (cc (h))
-put_behind-at (Some a) i (x ∷ []) ys u h = let e : x.item ≡ a = cc in let s : is_same_item a x.item ≡ true = rw e (same-refl a) in rw s refl
-put_behind-at (Some a) i (x ∷ (y ∷ xs)) ys u h =
-    let few = u a in
-    let last = last-among a y.item xs h in
-    let r = put_behind-at (Some a) i (y ∷ xs) ys (λ j. let less = u j in omega arith) h in
-    grind (arith, nat_tests)
+times-gone i l = rw items-without (Items.times-gone i (items_of l))
 
 -- the item stands in none of the queues
 abbrev pub IsAbsent : Item → Queues → Type 0
@@ -154,10 +127,15 @@ module _ (p : ℕ) (e : Entry) (s : Queues) (d : IsDistinct s) (at : StandsIn p 
 
   -- the gap that it leaves
   pub gap : IsGap (last_item at.front) (after_removal e.item s p)
-  gap = record { before = at.front; behind = at.back; whole = rest; older_last = refl }
+  gap = record {
+    before = items_of at.front;
+    behind = items_of at.back;
+    whole = ap items_of rest ∙ map-append (λ (x : Entry). x.item) at.front at.back;
+    older_last = refl;
+  }
 
   back-here : put_behind (last_item at.front) e (after_removal e.item s p) ≡ s p
-  back-here = grind (arith, nat_tests, rest, put_behind-at, front-few)
+  back-here = ap (put_behind (last_item at.front) e) rest ∙ Items.put_behind-at (λ (x : Entry). x.item) (last_item at.front) e at.front at.back front-few refl ∙ sym at.whole
 
 -- what is out of a queue that gets it back
 pub restored : (p : ℕ) (e : Entry) (s : Queues) (d : IsDistinct s) (at : StandsIn p e s) (none : (j : ℕ) → (j ≡ p → ⊥) → occurrences e.item (s j) ≡ 0)

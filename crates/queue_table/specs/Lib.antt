@@ -1,3 +1,4 @@
+pub mod Items
 pub mod Entries
 pub mod Queues
 pub mod Ring

@@ -199,18 +199,6 @@ no_slots s = []
 abbrev pub more_free : ℕ → Order → Order
 more_free k o = with_section 0 (o 0 ++ k ∷ []) o
 
-abbrev pub first_of : List ℕ → Option ℕ
-first_of [] = None
-first_of (x ∷ l) = Some x
-
--- the last number of the list, or what was found before where there is none
-abbrev pub last_after : Option ℕ → List ℕ → Option ℕ
-last_after found [] = found
-last_after found (x ∷ l) = last_after (Some x) l
-
-abbrev pub last_of : List ℕ → Option ℕ
-last_of l = last_after None l
-
 -- the slot after another one, where one slot is left out
 abbrev pub next_but : List ℕ → ℕ → ℕ → ℕ
 next_but newers at but =

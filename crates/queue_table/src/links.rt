@@ -12,9 +12,10 @@
 //!                          6:A           10:D
 //! ```
 ghost use Rattle.std.specs.Prelude.{◌≡◌, ◌≢◌, ◌<◌, ◌≤◌, suc, Some, IfOk, map, length, slice_index, slice_set};
+ghost use Rattle.queue_table.specs.Items.{oldest_of, newest_of};
 ghost use Rattle.queue_table.specs.Queues.{QUEUES, place_in};
 ghost use Rattle.queue_table.specs.Ring.{slot_item, count, walk, IsRing, ring_of, moved_before, ring, used};
-ghost use Rattle.queue_table.specs.Ring.{order_of, lists, item_or, first_of, last_of, entries, olders, newers, next_but};
+ghost use Rattle.queue_table.specs.Ring.{order_of, lists, item_or, entries, olders, newers, next_but};
 ghost use Rattle.queue_table.specs.Ring.{IsQueued, HasItems, CanGo, IsSent, IsFreed, ChangesOnlyLinks};
 
 use crate::records::{Entry, Place};
@@ -109,7 +110,7 @@ pub(crate) fn newest_free(slots: &[Slot]) -> u32
 #[inline(always)]
 pub(crate) fn oldest_slot(slots: &[Slot], queue: u8) -> u32
     requires { HasItems queue slots.now }
-    ensures { first_of (order_of slots.now (suc queue)) ≡ Some result }
+    ensures { oldest_of (order_of slots.now (suc queue)) ≡ Some result }
 {
     slots[slot_before(queue) as usize].newer
 }
@@ -118,7 +119,7 @@ pub(crate) fn oldest_slot(slots: &[Slot], queue: u8) -> u32
 #[inline(always)]
 pub(crate) fn newest_slot(slots: &[Slot], queue: u8) -> u32
     requires { HasItems queue slots.now }
-    ensures { last_of (order_of slots.now (suc queue)) ≡ Some result }
+    ensures { newest_of (order_of slots.now (suc queue)) ≡ Some result }
 {
     slots[slot_behind(queue) as usize].older
 }

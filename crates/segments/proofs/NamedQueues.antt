@@ -1,5 +1,5 @@
 -- The queues by name, over the queues by number.
-use Rattle.std.proofs.Common.{◌≡◌, ℕ, ◌+◌, ◌<◌, ◌≤◌, cond, Option, Some, None, List, [], ◌∷◌, ◌++◌, ap, ◌∙◌, sym, refl, subst, arith}
+use Rattle.std.proofs.Common.{◌≡◌, ℕ, ◌<◌, ◌≤◌, Option, Some, None, List, [], ◌∷◌, ◌++◌, ap, ◌∙◌, sym, refl, subst, arith}
 use Rattle.std.specs.Prelude.{option_map}
 use Rattle.std.proofs.lemmas.List.{map-append}
 use Rattle.std.proofs.lemmas.Bool.Decides.{nat_tests}
@@ -9,21 +9,17 @@ use Rattle.queue_table.specs.Entries.{Item, items_of}
 use Rattle.queue_table.specs.Queues as ByNumber
 use Rattle.segments.specs.declared.records.Queue.{Queue}
 use Rattle.segments.specs.declared.records.Queue.TheVariants.{Window, Probation, Protected}
-use Rattle.segments.specs.Items.{is_same_item, occurrences, items_without, last_from, last_item, before, IsGap, put_behind}
+use Rattle.segments.specs.Items.{occurrences, last_item, before, IsGap, put_behind}
 use Rattle.segments.specs.Queues.{queue_of, with_queue, queue_holding, IsDistinct, queues_after_push, queues_without, Queues, Shown, queues_after_move, queues_after_pop}
 use Rattle.segments.specs.Moves.{item_place, move_record, queues_restored, queues_before_move, IsOpen, IsMoveRecord}
-use Rattle.queue_table.proofs.Contents.{cut_at}
-use Rattle.queue_table.proofs.QueueLists.{placed}
+use Rattle.queue_table.proofs.Items.{newest-map}
+use Rattle.queue_table.proofs.QueueLists.{placed, items-without}
 use Rattle.segments.proofs.QueueLists.{absent, is_absent, pushed-moved, distinct-taken, taken-first, still-absent, Stands, in_window, in_probation, in_protected, nowhere, stands, move-recorded, out-recorded}
 use Rattle.segments.specs.Names.{Place, number_of, name_of, named, IsNamed, named_place, shown_of, numbered_place}
 use Rattle.segments.specs.declared.records.QueuePlace.{QueuePlace}
 use Rattle.segments.specs.declared.records.MoveRecord.{MoveRecord}
 
 -- one list: what is done to the entries is done to their items
-
-items-without : (i : Item) (l : List Entry) → items_of (Entries.entries_without i l) ≡ items_without i (items_of l)
-items-without i [] = refl
-items-without i (e ∷ l) = let r = items-without i l in grind (arith, nat_tests)
 
 items-put : (o : Option Item) (x : Entry) (l : List Entry) → items_of (Entries.put_behind o x l) ≡ put_behind o x.item (items_of l)
 items-put None x l = refl
@@ -34,18 +30,6 @@ items-before : (i : Item) (l : List Entry) → items_of (Entries.before i l) ≡
 items-before i [] = refl
 items-before i (e ∷ l) = let r = items-before i l in grind (arith, nat_tests)
 
-last-is : (found : Option Item) (l : List Entry) → Entries.last_from found l ≡ last_from found (items_of l)
-last-is found [] = refl
-last-is found (e ∷ l) = last-is (Some e.item) l
-
-times-is : (i : Item) (l : List Entry) → occurrences i (items_of l) ≡ Entries.occurrences i l
-times-is i [] = refl
-times-is i (e ∷ l) = ap (λ n. cond (is_same_item i e.item) 1 0 + n) (times-is i l)
-
-newest-is : (found : Option Entry) (l : List Entry) → option_map (λ e. e.item) (Entries.newest_from found l) ≡ last_from (option_map (λ e. e.item) found) (items_of l)
-newest-is found [] = refl
-newest-is found (e ∷ l) = newest-is (Some e) l
-
 -- one queue
 
 pub queue-named : (q : Queue) (s : ByNumber.Queues) → items_of (s (number_of q)) ≡ queue_of q (named s)
@@ -53,11 +37,6 @@ queue-named q s = grind (arith, nat_tests)
 
 with-named : (q : Queue) (l : List Entry) (s : ByNumber.Queues) → named (ByNumber.with_queue (number_of q) l s) ≡ with_queue q (items_of l) (named s)
 with-named q l s = grind (arith, nat_tests)
-
-pub gap-numbered : (q : Queue) (older : Option Item) (s : ByNumber.Queues) → IsGap older (queue_of q (named s)) → Entries.IsGap older (s (number_of q))
-gap-numbered q older s g =
-    let c = cut_at (λ (e : Entry). e.item) (s (number_of q)) g.before g.behind (queue-named q s ∙ g.whole) in
-    record { before = c.front; behind = c.back; whole = c.whole; older_last = last-is None c.front ∙ (ap last_item c.fronts ∙ g.older_last) }
 
 -- the queues
 
@@ -77,7 +56,7 @@ pub without-kept : (i : Item) (s : ByNumber.Queues) → IsNamed s → IsNamed (B
 without-kept i s h = grind (arith, nat_tests)
 
 pub distinct-named : (s : ByNumber.Queues) → ByNumber.IsDistinct s → IsDistinct (named s)
-distinct-named s d i = omega (arith, d i, times-is i (s 0), times-is i (s 1), times-is i (s 2))
+distinct-named s d i = omega (arith, d i)
 
 -- where an item stands
 
@@ -86,15 +65,13 @@ pub data IsShown : Option ℕ → Option Queue → Type 0 where
   in_queue : (q : Queue) → IsShown (Some (number_of q)) (Some q)
 
 pub missing-numbered : (i : Item) (s : ByNumber.Queues) → IsNamed s → queue_holding i (named s) ≡ None → ByNumber.queue_holding i s ≡ None
-missing-numbered i s h e = search (arith, absent i (named s) e, times-is i (s 0), times-is i (s 1), times-is i (s 2))
+missing-numbered i s h e = search (arith, absent i (named s) e)
 
 pub holding-shown : (i : Item) (s : ByNumber.Queues) → ByNumber.IsDistinct s → IsNamed s → IsShown (ByNumber.queue_holding i s) (queue_holding i (named s))
 holding-shown i s d h = at _ (stands i (named s) (distinct-named s d))
   where
     here : (q : Queue) → number_of q < ByNumber.QUEUES → 1 ≤ occurrences i (items_of (s (number_of q))) → IsShown (ByNumber.queue_holding i s) (Some q)
-    here q w n =
-        let same = times-is i (s (number_of q)) in
-        subst (λ o. IsShown o (Some q)) (sym (placed (number_of q) i s w d (omega arith))) (in_queue q)
+    here q w n = subst (λ o. IsShown o (Some q)) (sym (placed (number_of q) i s w d n)) (in_queue q)
 
     at : (o : Option Queue) → Stands i (named s) o → IsShown (ByNumber.queue_holding i s) o
     at _ (in_window a b c) = here Window (omega arith) (omega arith)
@@ -115,7 +92,7 @@ shown-none o q (in_queue x) h = absurd (cc h)
 
 place-at : (i : Item) (p : Place) (o : Option ℕ) (q : Option Queue) (s : ByNumber.Queues) → IsShown o q → Some p ≡ ByNumber.place_at i o s → Some (named_place p) ≡ item_place i q (named s)
 place-at i p o q s in_none h = absurd (cc h)
-place-at i p o q s (in_queue x) h = grind (arith, nat_tests, last-is, items-before, queue-named, name-number)
+place-at i p o q s (in_queue x) h = grind (arith, nat_tests, items-before, queue-named, name-number)
 
 module _ (i : Item) (s : ByNumber.Queues) (d : ByNumber.IsDistinct s) (h : IsNamed s) where
   pub holding-named : (n : ℕ) → ByNumber.queue_holding i s ≡ Some n → queue_holding i (named s) ≡ Some (name_of n)
@@ -173,7 +150,7 @@ module _ (s : ByNumber.Queues) (n : ℕ) (shown : Shown) (v : shown_of s n ≡ s
   pub newest-shown : (q : Queue) (k : ℕ) (x : Entry) → k ≡ number_of q → Entries.newest_of (s k) ≡ Some x → Some x.item ≡ last_item (queue_of q shown.lists)
   newest-shown q k x kq last =
       ap (option_map (λ e. e.item)) (sym (ap (λ n. Entries.newest_of (s n)) (sym kq) ∙ last))
-      ∙ newest-is None (s (number_of q))
+      ∙ sym (newest-map (λ (e : Entry). e.item) None (s (number_of q)))
       ∙ ap last_item (queue-named q s)
       ∙ ap (λ (x : Queues). last_item (queue_of q x)) before-is
 
@@ -253,7 +230,7 @@ module _ (s : ByNumber.Queues) (n : ℕ) (shown : Shown) (v : shown_of s n ≡ s
     module _ (e : Entry) (ee : e ≡ Entries.entry r.item 0) where
       pub gap-without : Entries.IsGap place.older (ByNumber.after_removal e.item s place.queue)
       gap-without =
-          let g = gap-numbered p.queue p.older (ByNumber.after_removal r.item s)
+          let g = subst (IsGap p.older) (sym (queue-named p.queue (ByNumber.after_removal r.item s)))
           (subst (λ (x : Queues). IsGap p.older (queue_of p.queue x)) (sym without-is) gap-shown) in
           grind (arith, nat_tests)
 

@@ -9,7 +9,8 @@ use Rattle.segments.specs.Items.{Item, occurrences, items_without, oldest_of, la
 use Rattle.segments.specs.Queues.{Queues, queue_of, with_queue, IsDistinct, queues_after_push, queues_after_pop, queues_after_move}
 use Rattle.segments.specs.Moves.{MoveRecord, queues_before_move}
 use Rattle.segments.specs.Runs.{newest_items, items_before_newest, with_both, queues_after_run, queues_before_run}
-use Rattle.segments.proofs.QueueLists.{times-append, times-one, without-at, taken-first, taken-in, last-stands, last-none}
+use Rattle.queue_table.proofs.Items.{times-append, times-one, without-at, last-stands, last-none}
+use Rattle.segments.proofs.QueueLists.{taken-first, taken-in}
 
 -- ---- two queues
 

@@ -1,6 +1,7 @@
 use Rattle.std.proofs.lemmas.Bool.Decides.{nat_tests}
 use Rattle.std.proofs.Common.{arith, ◌≡◌, ◌∙◌, List, Some, suc, sym, subst}
-use Rattle.queue_table.specs.Ring.{Slot, entries, slot_entry, order_of, last_of, HasItems}
+use Rattle.queue_table.specs.Ring.{Slot, entries, slot_entry, order_of, HasItems}
+use Rattle.queue_table.specs.Items.{newest_of}
 use Rattle.queue_table.specs.QueueTable.{entry_at, IsKept, IsUsed}
 use Rattle.queue_table.proofs.Orders.{section-used}
 use Rattle.queue_table.proofs.Calls.{slot-within}
@@ -13,8 +14,8 @@ has-some : (c : goal.After-deref) → HasItems c.args.queue c.args.self.now
 has-some c = has-items _ _ _ (subst (λ (s : List Slot). IsKept s c.self.inside.index c.self.inside.lengths) c.self.view_is c.self.invariant) c.args.queue c.of.result c.requires c.of.ensures c.if-of-eq0.false
 
 -- the slot at the end, and its entry
-end-there : (c : goal.After-newest_slot-at) → last_of (order_of c.args.self.now (suc c.args.queue)) ≡ Some c.newest_slot-at.result
-end-there c = subst (λ (s : List Slot). last_of (order_of s (suc c.args.queue)) ≡ Some c.newest_slot-at.result) (c.deref.ensures.value ∙ c.self.view_is) c.newest_slot-at.ensures
+end-there : (c : goal.After-newest_slot-at) → newest_of (order_of c.args.self.now (suc c.args.queue)) ≡ Some c.newest_slot-at.result
+end-there c = subst (λ (s : List Slot). newest_of (order_of s (suc c.args.queue)) ≡ Some c.newest_slot-at.result) (c.deref.ensures.value ∙ c.self.view_is) c.newest_slot-at.ensures
 
 used-there : (c : goal.After-newest_slot-at) → IsUsed c.newest_slot-at.result c.args.self.now
 used-there c = section-used c.args.queue c.newest_slot-at.result (order_of c.args.self.now) c.requires (last-stands c.newest_slot-at.result (order_of c.args.self.now (suc c.args.queue)) (end-there c))
