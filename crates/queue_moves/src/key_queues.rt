@@ -1,5 +1,5 @@
 //! Queues of keys by number, and the calls that carry out one part of a plan.
-ghost use Rattle.std.specs.Prelude.{◌≡◌, ◌≢◌, ◌<◌, ◌≤◌, ◌+◌, ◌++◌, ℕ, nat_lt, true, false, map, [], length, Ok, Option, Some, None, OnOk, OnErr, IfOk, IfSome, IfNone, Contains};
+ghost use Rattle.std.specs.Prelude.{◌≡◌, ◌≢◌, ◌<◌, ◌≤◌, ◌+◌, ◌++◌, ℕ, nat_lt, true, false, [], length, Ok, Option, Some, None, OnOk, OnErr, IfOk, IfSome, IfNone, Contains};
 ghost use Rattle.queue_table.specs.Entries.{entry, items_of, occurrences, oldest_of};
 ghost use Rattle.queue_table.specs.Queues.{QUEUES, empty_queues, queue_holding};
 ghost use Rattle.queue_table.specs.QueueTable.{queues, spare, HoldsAt};
@@ -9,7 +9,7 @@ ghost use Rattle.queue_moves.specs.Tabled.{IsTabled, keys_of};
 
 use crate::records::{Change, Departure, KeyMove, Left, Run};
 use engine_base::{Item, Key};
-use queue_table::{AHEAD, Entry, Found, QueueTable};
+use queue_table::{AHEAD, Entry, Found, QueueTable, push_keys};
 use std::alloc::{AllocError, Global};
 use std::marker::Model;
 
@@ -366,15 +366,6 @@ fn count_beside(table: &QueueTable, item: Item) -> u8
         Some(found) => found.count,
         None => 0,
     }
-}
-
-fn push_keys(keys: &mut Vec<Key>, items: &[Item]) -> Result<(), AllocError>
-    ensures { OnOk result (keys.new.items ≡ keys.old.items ++ map (λ i. i.key) items.now) }
-{
-    for item in items {
-        keys.push(item.key)?;
-    }
-    Ok(())
 }
 
 // The key of a neighbour.

@@ -33,5 +33,5 @@ mod records;
 mod slot;
 mod slot_index;
 
-pub use queue_table::{AHEAD, QueueTable};
+pub use queue_table::{AHEAD, QueueTable, push_keys};
 pub use records::{Entry, Found, Place};

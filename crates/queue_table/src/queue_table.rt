@@ -1,6 +1,6 @@
 //! Slots, index and lengths together: what holds of the three, and the calls that keep it.
 ghost use Rattle.std.specs.Prelude.{◌≡◌, ◌≢◌, ◌<◌, ◌≤◌, ◌+◌, ◌*◌, ◌^◌, suc, [], Ok, Option, Some, None, OnOk, IfOk, IfSome, IfNone};
-ghost use Rattle.std.specs.Prelude.{ℕ, length};
+ghost use Rattle.std.specs.Prelude.{ℕ, ◌++◌, length, map};
 ghost use Rattle.std.specs.List.{Contains};
 ghost use Rattle.queue_table.specs.Entries.{Item, entry, items_of, oldest_of, newest_of, IsGap};
 ghost use Rattle.queue_table.specs.Queues.{QUEUES, empty_queues, queue_holding, items_below, place_in, IsDistinct};
@@ -427,6 +427,16 @@ impl QueueTable {
         let item = slots[at as usize].item;
         set_entry(slots, at as usize, Entry { item, count });
     }
+}
+
+/// Appends the keys of the items. The one error is that an allocation failed; some keys may be appended then.
+pub fn push_keys(keys: &mut Vec<Key>, items: &[Item]) -> Result<(), AllocError>
+    ensures { OnOk result (keys.new.items ≡ keys.old.items ++ map (λ i. i.key) items.now) }
+{
+    for item in items {
+        keys.push(item.key)?;
+    }
+    Ok(())
 }
 
 // Counts a slot in use out of its queue and into a section, and says where it stood.

@@ -1,5 +1,5 @@
 //! The queues, over a table of queues by number.
-ghost use Rattle.std.specs.Prelude.{◌≡◌, ◌≢◌, ◌↔◌, ◌+◌, ◌≤◌, Ok, [], ◌++◌, map, length, Option, Some, None, MatchOption};
+ghost use Rattle.std.specs.Prelude.{◌≡◌, ◌≢◌, ◌↔◌, ◌+◌, ◌≤◌, Ok, [], length, Option, Some, None, MatchOption};
 ghost use Rattle.std.specs.Prelude.{IfOk, OnOk, IfSome, IfNone};
 ghost use Rattle.queue_table.specs.Entries.{entry};
 ghost use Rattle.segments.specs.Items.{oldest_of, last_item};
@@ -11,7 +11,7 @@ ghost use Rattle.segments.specs.Runs.{queues_after_run, queues_before_run};
 use crate::names::{name, number, queue_place, table_place};
 use crate::records::{MoveRecord, Queue, QueuePlace};
 use engine_base::{Item, Key};
-use queue_table::{Entry, QueueTable};
+use queue_table::{Entry, QueueTable, push_keys};
 use std::alloc::{AllocError, Global};
 use std::marker::Model;
 
@@ -361,9 +361,9 @@ impl Segments {
         ensures { IfOk result (λ keys. keys.items ≡ residents_in self.now.lists) }
     {
         let mut keys = Vec::new(alloc);
-        add_keys(&mut keys, &self.list(alloc, Queue::Window)?)?;
-        add_keys(&mut keys, &self.list(alloc, Queue::Probation)?)?;
-        add_keys(&mut keys, &self.list(alloc, Queue::Protected)?)?;
+        push_keys(&mut keys, &self.list(alloc, Queue::Window)?)?;
+        push_keys(&mut keys, &self.list(alloc, Queue::Probation)?)?;
+        push_keys(&mut keys, &self.list(alloc, Queue::Protected)?)?;
         Ok(keys)
     }
 
@@ -392,14 +392,4 @@ impl Segments {
         let found = self.table.find(item)?;
         Some(name(found.queue))
     }
-}
-
-// Adds the keys of the items.
-fn add_keys(keys: &mut Vec<Key>, items: &[Item]) -> Result<(), AllocError>
-    ensures { OnOk result (keys.new.items ≡ keys.old.items ++ map (λ i. i.key) items.now) }
-{
-    for item in items {
-        keys.push(item.key)?;
-    }
-    Ok(())
 }
