@@ -5,7 +5,7 @@ use Rattle.std.proofs.lemmas.Bool.{cases_Bool, eq-eqb, ltb-false, eqb-false}
 use Rattle.engine_base.specs.Keys.{has_key}
 use Rattle.engine_base.specs.Machine.{outcomes_of_all}
 use Rattle.policy_page.specs.Residents.{Outcome, times}
-use Rattle.policy_page.specs.Queues.{oldest_of}
+use Rattle.queue_table.specs.Items.{oldest_of}
 use Rattle.policy_page.specs.CountedKeys.{CountedKey, uncounted_key, keys_of, count_of, with_count, AreCounted, counted_less}
 use Rattle.sieve.specs.Sieve.{SieveState, empty_sieve, after_wrap, after_pass, pass_count_within, after_passes, sieve_eviction, sieve_act, HasAhead, IsSieve}
 use Rattle.sieve.specs.SieveListing.{empty_listing, SieveListing, newer_than, key_or_oldest, scan_within, queue_without, listing_eviction, listing_act}

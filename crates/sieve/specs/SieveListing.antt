@@ -4,7 +4,7 @@ use Rattle.std.specs.Prelude.{ℕ, zero, suc, nat_lt, if◌then◌else◌, eqb, 
 use Rattle.engine_base.specs.Keys.{has_key}
 use Rattle.engine_base.specs.declared.outcome.Outcome.{Outcome}
 use Rattle.engine_base.specs.declared.outcome.Outcome.TheVariants.{Hit, Kept, Evicted}
-use Rattle.policy_page.specs.Queues.{oldest_of}
+use Rattle.queue_table.specs.Items.{oldest_of}
 use Rattle.policy_page.specs.CountedKeys.{CountedKey, uncounted_key, keys_of, count_of, with_count, total_count}
 
 -- the queue, oldest first
