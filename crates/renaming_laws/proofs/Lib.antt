@@ -1,0 +1,4 @@
+pub mod Machines
+pub mod Queues
+pub mod Plans
+pub mod Engine
