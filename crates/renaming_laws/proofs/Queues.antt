@@ -1,8 +1,8 @@
 -- Queues whose keys are renamed: what a plan makes of them is what it makes of the queues, renamed.
-use Rattle.std.proofs.Common.{◌≡◌, ℕ, zero, suc, ◌-◌, Bool, true, false, cond, Option, Some, None, option_map, List, [], ◌∷◌, map, length, ap, ◌∙◌, refl, arith}
+use Rattle.std.proofs.Common.{◌≡◌, ℕ, zero, suc, ◌-◌, Bool, true, false, cond, Option, Some, None, option_map, List, [], ◌∷◌, map, ap, ◌∙◌, refl, arith}
 use Rattle.std.proofs.Math.Path.{fun_ext}
 use Rattle.std.proofs.lemmas.Bool.Decides.{nat_tests}
-use Rattle.std.proofs.lemmas.List.{length-map, map-append}
+use Rattle.std.proofs.lemmas.List.{map-append}
 use Rattle.engine_base.specs.declared.outcome.Outcome.TheVariants.{Hit}
 use Rattle.queue_table.specs.Entries.{Item, is_same_item, entry, occurrences, entries_without, entries_counted, oldest_of}
 use Rattle.queue_table.specs.Queues.{QUEUES, Queues, queue_below, queue_holding, after_push, after_removal, after_send}
@@ -25,9 +25,6 @@ abbrev pub renamed_queues : (ℕ → ℕ) → Queues → Queues
 renamed_queues f s q = map (renamed_entry f) (s q)
 
 module _ (f : ℕ → ℕ) where
-  pub length-renamed : (s : Queues) (q : ℕ) → length (renamed_queues f s q) ≡ length (s q)
-  length-renamed s q = length-map (s q) (renamed_entry f)
-
   pub oldest-renamed : (l : List Entry) → oldest_of (map (renamed_entry f) l) ≡ option_map (renamed_entry f) (oldest_of l)
   oldest-renamed [] = refl
   oldest-renamed (e ∷ l) = refl
