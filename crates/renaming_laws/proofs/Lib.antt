@@ -1,4 +1,6 @@
 pub mod Machines
 pub mod Queues
 pub mod Plans
-pub mod Engine
+pub mod DemandCache
+pub mod Segments
+pub mod QueueCache

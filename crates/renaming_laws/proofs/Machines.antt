@@ -6,7 +6,9 @@ use Rattle.std.proofs.lemmas.List.{length-map}
 use Rattle.engine_base.specs.Keys.{has_key}
 use Rattle.engine_base.specs.declared.outcome.Outcome.{Outcome}
 use Rattle.engine_base.specs.Machine.{Machine, outcomes_of_all, outcomes}
-use Rattle.engine_base.specs.Stats.{is_hit, is_miss, is_eviction, is_rejection, one_if, stats_of}
+use Rattle.engine_base.specs.declared.outcome.Outcome.TheVariants.{Hit, Kept, Evicted, Rejected}
+use Rattle.engine_base.specs.declared.stats.Stats.{Stats}
+use Rattle.engine_base.specs.Stats.{is_hit, is_miss, is_eviction, is_rejection, one_if, stats_of, stats_with}
 use Rattle.engine_base.proofs.Counting.{count-cons}
 use Rattle.renaming_laws.specs.Names.{IsRenaming, renamed_outcome, IgnoresNames}
 
@@ -64,21 +66,29 @@ stats-renamed f os =
       count-renamed f is_rejection (λ o. grind (arith, nat_tests)) os,
     ) refl
 
+pub stats-with-renamed : (f : ℕ → ℕ) (o : Outcome) (stats : Stats) → stats_with (renamed_outcome f o) stats ≡ stats_with o stats
+stats-with-renamed f Hit stats = refl
+stats-with-renamed f Kept stats = refl
+stats-with-renamed f (Evicted k) stats = refl
+stats-with-renamed f (Rejected k) stats = refl
+
 -- ---- a machine
 
--- its states renamed, the first among them, and an access in them
-pub record IsRenamed (m : Machine) (renamed : (ℕ → ℕ) → m.State → m.State) : Type 0 where
+-- its states renamed, the first among them, and an access in them, where this holds of each state
+pub record IsRenamed (m : Machine) (Holds : m.State → Type 0) (renamed : (ℕ → ℕ) → m.State → m.State) : Type 0 where
+  pub starts : Holds m.start
+  pub keeps : (k : ℕ) (s : m.State) → Holds s → Holds (m.access k s).1
   pub start : (f : ℕ → ℕ) → renamed f m.start ≡ m.start
-  pub access : (f : ℕ → ℕ) → IsInjective f → (k : ℕ) (s : m.State)
+  pub access : (f : ℕ → ℕ) → IsInjective f → (k : ℕ) (s : m.State) → Holds s
       → m.access (f k) (renamed f s) ≡ (renamed_outcome f (m.access k s).0, renamed f (m.access k s).1)
 
-module _ (m : Machine) (renamed : (ℕ → ℕ) → m.State → m.State) (is : IsRenamed m renamed) where
-  run-renamed : (f : ℕ → ℕ) → IsInjective f → (keys : List ℕ) (s : m.State)
+module _ (m : Machine) (Holds : m.State → Type 0) (renamed : (ℕ → ℕ) → m.State → m.State) (is : IsRenamed m Holds renamed) where
+  run-renamed : (f : ℕ → ℕ) → IsInjective f → (keys : List ℕ) (s : m.State) → Holds s
       → outcomes_of_all m.access (renamed f s) (map f keys) ≡ map (renamed_outcome f) (outcomes_of_all m.access s keys)
-  run-renamed f i [] s = refl
-  run-renamed f i (k ∷ keys) s =
-      ap (λ (a : Outcome × m.State). a.0 ∷ outcomes_of_all m.access a.1 (map f keys)) (is.access f i k s)
-      ∙ ap (λ (l : List Outcome). renamed_outcome f (m.access k s).0 ∷ l) (run-renamed f i keys (m.access k s).1)
+  run-renamed f i [] s h = refl
+  run-renamed f i (k ∷ keys) s h =
+      ap (λ (a : Outcome × m.State). a.0 ∷ outcomes_of_all m.access a.1 (map f keys)) (is.access f i k s h)
+      ∙ ap (λ (l : List Outcome). renamed_outcome f (m.access k s).0 ∷ l) (run-renamed f i keys (m.access k s).1 (is.keeps k s h))
 
   -- by each renaming of all keys that agrees with f on the trace
   module _ (f : ℕ → ℕ) (trace : List ℕ) (r : IsRenaming f trace) where
@@ -87,7 +97,7 @@ module _ (m : Machine) (renamed : (ℕ → ℕ) → m.State → m.State) (is : I
         let g : ℕ → ℕ = extended n f trace in
         ap (outcomes m) (map-same f g trace (λ k i. rw i refl))
         ∙ ap (λ (s : m.State). outcomes_of_all m.access s (map g trace)) (sym (is.start g))
-        ∙ run-renamed g (extended-injective n f trace r h) trace m.start
+        ∙ run-renamed g (extended-injective n f trace r h) trace m.start is.starts
 
     outcomes-renamed : outcomes m (map f trace) ≡ map (renamed_outcome f) (outcomes m trace)
     outcomes-renamed =

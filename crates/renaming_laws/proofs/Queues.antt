@@ -39,7 +39,7 @@ module _ (f : ℕ → ℕ) where
 module _ (f : ℕ → ℕ) (i : IsInjective f) where
   -- ---- lists of entries
 
-  same-item : (a b : Item) → is_same_item (renamed_item f a) (renamed_item f b) ≡ is_same_item a b
+  pub same-item : (a b : Item) → is_same_item (renamed_item f a) (renamed_item f b) ≡ is_same_item a b
   same-item a b = grind (arith, nat_tests, i a.key b.key)
 
   occurrences-renamed : (a : Item) (l : List Entry) → occurrences (renamed_item f a) (map (renamed_entry f) l) ≡ occurrences a l

@@ -1,8 +1,6 @@
 -- The engine of the policies that keep each missed key, with the keys renamed.
 use Rattle.std.proofs.Common.{◌≡◌, ℕ, zero, suc, ap, ◌∙◌, refl}
 use Rattle.std.proofs.Math.Path.{fun_ext}
-use Rattle.engine_base.specs.Stats.{stats_with}
-use Rattle.engine_base.specs.declared.outcome.Outcome.TheVariants.{Hit, Kept, Evicted, Rejected}
 use Rattle.queue_table.specs.Queues.{Queues}
 use Rattle.engine_base.specs.declared.outcome.Outcome.{Outcome}
 use Rattle.queue_moves.specs.Moves.{item_of, Plan, outcome_of, after_all}
@@ -13,7 +11,7 @@ use Rattle.engine_base.specs.declared.stats.Stats.{Stats}
 use Rattle.demand_cache.specs.DemandCache.{DemandState, state_with, demand_access, demand_machine}
 use Rattle.renaming_laws.specs.Names.{renamed_outcome}
 use Rattle.renaming_laws.specs.Theorems.{DemandIgnoresNames}
-use Rattle.renaming_laws.proofs.Machines.{IsInjective, ignores-names}
+use Rattle.renaming_laws.proofs.Machines.{IsInjective, stats-with-renamed, ignores-names}
 use Rattle.renaming_laws.proofs.Queues.{renamed_queues, all-renamed, outcome-renamed}
 use Rattle.renaming_laws.proofs.Plans.{plan-renamed}
 
@@ -36,12 +34,6 @@ lists-renamed f l = fun_ext at
     at (suc (suc (suc zero))) = refl
     at (suc (suc (suc (suc q)))) = refl
 
-stats-with-renamed : (f : ℕ → ℕ) (o : Outcome) (stats : Stats) → stats_with (renamed_outcome f o) stats ≡ stats_with o stats
-stats-with-renamed f Hit stats = refl
-stats-with-renamed f Kept stats = refl
-stats-with-renamed f (Evicted k) stats = refl
-stats-with-renamed f (Rejected k) stats = refl
-
 -- the cache after an access by the plan to k, over the queues s
 abbrev act_by : DemandQueues → ℕ → Plan → Queues → Outcome × DemandQueues
 act_by d k p s = (outcome_of p s, record d { own_number = p.own_number; lists = lists_of (after_all p (item_of k) s) })
@@ -63,4 +55,9 @@ module _ (f : ℕ → ℕ) (i : IsInjective f) (k : ℕ) where
       ∙ ap (λ (stats : Stats). (renamed_outcome f a.0, record { queues = renamed_cache f a.1; stats = stats })) (stats-with-renamed f a.0 d.stats)
 
 pub demand_ignores_names : DemandIgnoresNames
-demand_ignores_names p c = ignores-names (demand_machine p c) renamed_state record { start = λ f. refl; access = access-renamed }
+demand_ignores_names p c = ignores-names (demand_machine p c) (λ d. Unit {0}) renamed_state record {
+  starts = tt;
+  keeps = λ k d h. tt;
+  start = λ f. refl;
+  access = λ f i k d h. access-renamed f i k d;
+}
