@@ -14,11 +14,12 @@ use Rattle.policy_page.proofs.Weights.{has-append}
 use Rattle.queue_moves.specs.Moves.{Entry, item_of, standing, Leaving, leaving, after_leaving, IsLowLeaving, evicted, outcome_after, goes, Plan, own_plan}
 use Rattle.queue_moves.specs.Tabled.{IsTabled, keys_of, StandsAs}
 use Rattle.queue_moves.proofs.Tabled.{keys-append, absent-gone, stands, stands-nowhere, tabled-leaving}
-use Rattle.policy_page.specs.Planned.{IsPlannedBy}
-use Rattle.policy_page.specs.Misses.{Leavers, no_leavers, miss_plan}
+use Rattle.policy_page.specs.Plans.{IsPlannedBy, miss_plan}
+use Rattle.policy_page.specs.Leavers.{Leavers, no_leavers}
 use Rattle.arc.specs.Plan.{T1, T2, B1, B2, arc_of, total, step_size, gives_t1, replaced, new_key_leavers, new_key_plan, recall_plan, plan_in, plan_at, arc_page}
-use Rattle.policy_page.proofs.Moving.{nowhere, length-keys, keys-sent, keys_left, left-keys, without-drop, without-push, apart-first, own-low, AreLow, miss-low, tabled-leavers}
-use Rattle.policy_page.proofs.Leaving.{still-absent, HitsAlone, own-alone, never, either, one-of, own-none, miss-full, keys-length, not-less}
+use Rattle.policy_page.proofs.Plans.{nowhere, own-low, miss-low, HitsAlone, own-alone, never, either, one-of, own-none, miss-full, not-less}
+use Rattle.policy_page.proofs.QueueKeys.{length-keys, keys-sent, keys_left, left-keys, without-drop, without-push, apart-first, keys-length}
+use Rattle.policy_page.proofs.Leavers.{AreLow, tabled-leavers, still-absent}
 use Rattle.policy_page.specs.PolicyPage.{LeavesWhere, IsPlannedPage, IsSoundPage}
 use Rattle.arc.proofs.Keeping.{keeps}
 

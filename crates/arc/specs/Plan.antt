@@ -6,10 +6,10 @@ use Rattle.named_queues.specs.NamedQueue.{NamedQueueData, plain_queue}
 use Rattle.arc.specs.Arc.{ArcState, empty_arc, arc_residents, arc_act, IsArc}
 use Rattle.queue_moves.specs.Moves.{item_of, standing, Leaving, leaving, goes, Plan, own_plan}
 use Rattle.queue_moves.specs.Tabled.{keys_of}
-use Rattle.policy_page.specs.Misses.{Leavers, no_leavers, miss_plan}
+use Rattle.policy_page.specs.Leavers.{Leavers, no_leavers}
+use Rattle.policy_page.specs.Plans.{miss_plan}
 use Rattle.policy_page.specs.PolicyPage.{PolicyPage}
 
--- the queues' numbers
 abbrev pub T1 : ℕ
 T1 = 0
 
@@ -22,7 +22,6 @@ B1 = 2
 abbrev pub B2 : ℕ
 B2 = 3
 
--- the queues as the definition names them
 abbrev pub arc_of : ℕ → Queues → ArcState
 arc_of p s = record { t1 = keys_of (s T1); t2 = keys_of (s T2); b1 = keys_of (s B1); b2 = keys_of (s B2); p = p }
 
@@ -93,7 +92,6 @@ plan_at c p (Some at) s = plan_in c p at.0 s
 abbrev pub arc_plan : ℕ → ℕ → ℕ → Queues → Plan
 arc_plan c k p s = plan_at c p (standing (item_of k) s) s
 
--- the queues, and p
 abbrev pub arc_queues : ArcState → List NamedQueueData
 arc_queues s =
     plain_queue (codes "t1") s.t1 ∷ plain_queue (codes "t2") s.t2 ∷ plain_queue (codes "b1") s.b1

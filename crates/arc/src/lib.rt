@@ -11,14 +11,13 @@ ghost use Rattle.queue_table.specs.QueueTable.{queues, spare, HoldsAt};
 ghost use Rattle.queue_moves.specs.Moves.{Entry, item_of, goes};
 ghost use Rattle.queue_moves.specs.Undoing.{IsLeft, IsAccessed, outs};
 ghost use Rattle.arc.specs.Arc.{IsArc};
-ghost use Rattle.policy_page.specs.Misses.{miss_plan};
+ghost use Rattle.policy_page.specs.Plans.{miss_plan};
 ghost use Rattle.arc.specs.Plan.{T1, T2, B1, B2, arc_of, total, step_size, replaced, full_l1_leavers};
 ghost use Rattle.arc.specs.Plan.{open_l1_leavers, new_key_plan, recall_plan, arc_plan};
 ghost use Rattle.arc.specs.Examples.{WorkedExamples};
 
 use engine_base::Key;
-use policy_page::accesses::hit;
-use policy_page::misses::{LeftKeys, missed};
+use policy_page::accesses::{LeftKeys, hit, miss_without_runs};
 use queue_moves::{Accessed, KeyQueues, Left};
 use queue_table::Found;
 use std::alloc::AllocError;
@@ -66,7 +65,7 @@ pub fn step<C>(
     Ok(recalled::<C>(table, key, found, own_number, target, in_b2))
 }
 
-// Whether it is the number of t1 or t2.
+// Whether a key of this queue is in the cache.
 fn is_resident(queue: u8) -> bool
     ensures { result ≡ (queue == T1 || queue == T2) }
 {
@@ -109,19 +108,19 @@ fn recalled<C>(
     table: &mut KeyQueues,
     key: Key,
     found: Found,
-    before: u32,
+    old_target: u32,
     target: u32,
     in_b2: bool,
 ) -> Accessed
     requires at { HoldsAt found.at (entry (item_of key) found.count) table.old }
     requires t1 { occurrences (item_of key) (queues table.old T1) ≡ 0 }
     requires t2 { occurrences (item_of key) (queues table.old T2) ≡ 0 }
-    ensures { IsAccessed (recall_plan in_b2 target (queues table.old)) (item_of key) before
+    ensures { IsAccessed (recall_plan in_b2 target (queues table.old)) (item_of key) old_target
         (queues table.old) (queues table.new) result }
 {
     let first = replace(table, target, in_b2);
     let own = table.send(key, found, T2, 0);
-    missed(LeftKeys::one(first), own, before, target)
+    miss_without_runs(LeftKeys::one(first), own, old_target, target)
 }
 
 // An access to a key that stands nowhere. Room is made before anything moves.
@@ -173,10 +172,10 @@ fn join_full_l1<C>(table: &mut KeyQueues, capacity: u32, target: u32, key: Key) 
     if table.len(T1) < capacity as usize {
         let first = replace(table, target, false);
         let (second, own) = table.renew_oldest(B1, key, T1, 0);
-        return missed(LeftKeys { first, second }, own, target, target);
+        return miss_without_runs(LeftKeys { first, second }, own, target, target);
     }
     let (first, own) = table.renew_oldest(T1, key, T1, 0);
-    missed(LeftKeys::one(first), own, target, target)
+    miss_without_runs(LeftKeys::one(first), own, target, target)
 }
 
 // The same, where they have fewer; all four queues have `all` keys.
@@ -198,15 +197,15 @@ fn join_open_l1<C>(
     let room = capacity as usize;
     if all < room {
         let own = table.join_apart(key, T1, 0);
-        return missed(LeftKeys::NONE, own, target, target);
+        return miss_without_runs(LeftKeys::NONE, own, target, target);
     }
     let first = replace(table, target, false);
     if all == 2 * room {
         let (second, own) = table.renew_oldest(B2, key, T1, 0);
-        return missed(LeftKeys { first, second }, own, target, target);
+        return miss_without_runs(LeftKeys { first, second }, own, target, target);
     }
     let own = table.join(key, T1, 0);
-    missed(LeftKeys::one(first), own, target, target)
+    miss_without_runs(LeftKeys::one(first), own, target, target)
 }
 
 // The oldest of t1 leaves for b1, or the oldest of t2 for b2.

@@ -15,15 +15,15 @@ use Rattle.policy_page.specs.Residents.{Outcome}
 use Rattle.policy_page.specs.CountedKeys as counted
 use Rattle.policy_page.specs.CountedKeys.{CountedKey, AreCounted, total_count, oldest_count, uncounted_key, counted_less, with_count}
 use Rattle.policy_page.specs.Turns as page
-use Rattle.policy_page.specs.Counted.{counted_key, counted_keys}
-use Rattle.policy_page.specs.Planned.{IsPlannedBy}
-use Rattle.policy_page.specs.Misses.{Run}
+use Rattle.policy_page.specs.QueueView.{counted_key, counted_keys}
+use Rattle.policy_page.specs.Plans.{IsPlannedBy, Run}
 use Rattle.policy_page.specs.PolicyPage.{LeavesWhere, IsPlannedPage, IsSoundPage}
 use Rattle.policy_page.proofs.CountedKeys.{total-append, total-few, keys-with}
 use Rattle.policy_page.proofs.Weights.{length-total}
-use Rattle.policy_page.proofs.Counted.{counted-append, length-counted, oldest-counted, keys-counted, both-counted, counted-with, has-both, turns-are, turns-keep}
-use Rattle.policy_page.proofs.Moving.{length-keys, nowhere, own-low, without-keys, held}
-use Rattle.policy_page.proofs.Leaving.{by-departure, any-out, off-run, off-first, absent-first, still-absent, HitsAlone, own-alone, never, either, one-of, own-none, both-length, not-less}
+use Rattle.policy_page.proofs.QueueView.{counted-append, length-counted, oldest-counted, keys-counted, both-counted, counted-with, has-both, turns-are, turns-keep, both-length}
+use Rattle.policy_page.proofs.QueueKeys.{length-keys, without-keys}
+use Rattle.policy_page.proofs.Plans.{nowhere, own-low, held, HitsAlone, own-alone, never, either, one-of, own-none, not-less}
+use Rattle.policy_page.proofs.Leavers.{by-departure, any-out, off-run, off-first, absent-first, still-absent}
 use Rattle.car.specs.Car.{CarState, car_residents, t2_gives, after_promotion, is_settled, t1_eviction, t2_eviction, car_departure, car_eviction_within, most_moves, car_eviction, NoGhost, InB1, InB2, after_history, after_recall, after_join, car_act, IsCar}
 use Rattle.car.specs.Plan.{T1, T2, B1, B2, car_of, total, promotions, after_promotions, giver, ghost_of, giver_turns, after_giver_turns, leaver, after_departure, after_replacing, forgotten, target_after, full_plan, new_key_plan, recall_plan, is_resident, plan_at, car_page}
 use Rattle.car.specs.Step.{IsReplaced}

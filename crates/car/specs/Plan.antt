@@ -10,12 +10,10 @@ pub use Rattle.queue_moves.specs.declared.records.Run.{Run}
 use Rattle.queue_moves.specs.Moves.{item_of, standing, run, turns_due, after_run, Leaving, leaving, after_leaving}
 use Rattle.queue_moves.specs.Moves.{Own, counts, goes, Plan, own_plan}
 use Rattle.queue_moves.specs.Tabled.{keys_of}
-use Rattle.policy_page.specs.Counted.{counted_keys}
-use Rattle.policy_page.specs.Misses.{run_plan}
-use Rattle.policy_page.specs.Named.{counted_queue}
+use Rattle.policy_page.specs.QueueView.{counted_keys, counted_queue}
+use Rattle.policy_page.specs.Plans.{run_plan}
 use Rattle.policy_page.specs.PolicyPage.{PolicyPage}
 
--- the queues' numbers
 abbrev pub T1 : ℕ
 T1 = 0
 
@@ -28,7 +26,6 @@ B1 = 2
 abbrev pub B2 : ℕ
 B2 = 3
 
--- the queues as the definition names them
 abbrev pub car_of : ℕ → Queues → CarState
 car_of p s =
     record { t1 = counted_keys (s T1); t2 = counted_keys (s T2); b1 = keys_of (s B1); b2 = keys_of (s B2); p = p }

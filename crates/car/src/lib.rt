@@ -16,8 +16,7 @@ ghost use Rattle.car.specs.Step.{IsReplaced, IsJoined};
 ghost use Rattle.car.specs.Examples.{WorkedExamples};
 
 use engine_base::Key;
-use policy_page::accesses::{hit, kept};
-use policy_page::misses::{LeftKeys, missed_after};
+use policy_page::accesses::{LeftKeys, hit, kept, miss_after_runs};
 use queue_moves::{Accessed, KeyMove, KeyQueues, Left, Run};
 use queue_table::Found;
 use std::alloc::AllocError;
@@ -100,7 +99,7 @@ fn new_key<C>(table: &mut KeyQueues, capacity: u32, target: u32, key: Key) -> Ac
         first: left.first,
         second,
     };
-    missed_after(left.early, left.late, keys, own, target, target)
+    miss_after_runs(left.early, left.late, keys, own, target, target)
 }
 
 // The key joins t1, once another one left, and a ghost may forget its oldest for it.
@@ -145,7 +144,7 @@ fn recalled<C>(
     let left = replace(table, capacity, target);
     let after = moved_target(table, capacity, target, in_b1);
     let own = table.send(key, found, T2, 0);
-    missed_after(
+    miss_after_runs(
         left.early,
         left.late,
         LeftKeys::one(left.first),

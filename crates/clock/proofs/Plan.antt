@@ -12,13 +12,13 @@ use Rattle.policy_page.proofs.CountedKeys.{length-keys, total-few}
 use Rattle.clock.proofs.Keeping.{keeps}
 use Rattle.queue_moves.specs.Moves.{Entry, item_of, after_turns, turns_due, evicted, departed, leaving, after_leaving, counts}
 use Rattle.queue_moves.specs.Tabled.{IsTabled}
-use Rattle.policy_page.specs.Counted.{counted_keys}
-use Rattle.policy_page.specs.Planned.{IsWithin, IsPlannedWithin}
+use Rattle.policy_page.specs.QueueView.{counted_keys}
+use Rattle.policy_page.specs.Plans.{IsWithin, IsPlannedWithin}
 use Rattle.clock.specs.Plan.{clock_of, clock_eviction_plan, clock_page}
 use Rattle.policy_page.specs.PolicyPage.{IsPlannedPage, IsSoundPage}
-use Rattle.policy_page.proofs.Leaving.{resident-alone, resident-full, counted-length, not-less, absent-turns}
-use Rattle.policy_page.proofs.Moving.{resident-planned, first-count, first-send, first-turns, first-out}
-use Rattle.policy_page.proofs.Counted.{keys-counted, counted-append, length-counted, key-counted, counted-with, turns-are}
+use Rattle.policy_page.proofs.Plans.{resident-alone, resident-full, not-less, resident-planned, first-count, first-send, first-turns, first-out}
+use Rattle.policy_page.proofs.QueueView.{counted-length, keys-counted, counted-append, length-counted, key-counted, counted-with, turns-are}
+use Rattle.policy_page.proofs.Leavers.{absent-turns}
 use Rattle.queue_moves.proofs.Tabled.{oldest-gone, tabled-turns}
 
 -- ---- the oldest leaves, and the key joins

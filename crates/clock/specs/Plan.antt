@@ -5,12 +5,10 @@ use Rattle.named_queues.specs.NamedQueue.{NamedQueueData}
 use Rattle.policy_page.specs.CountedKeys.{CountedKey, keys_of}
 use Rattle.clock.specs.Clock.{clock_act, IsClock}
 use Rattle.queue_moves.specs.Moves.{item_of, standing, run, no_run, turns_due, leaving, counts, goes, Plan}
-use Rattle.policy_page.specs.Counted.{counted_keys}
-use Rattle.policy_page.specs.Planned.{IsWithin, leaver_plan, resident_plan}
-use Rattle.policy_page.specs.Named.{counted_queue}
+use Rattle.policy_page.specs.QueueView.{counted_keys, counted_queue}
+use Rattle.policy_page.specs.Plans.{IsWithin, leaver_plan, resident_plan}
 use Rattle.policy_page.specs.PolicyPage.{PolicyPage}
 
--- the one queue
 abbrev pub QUEUE : ℕ
 QUEUE = 0
 

@@ -4,9 +4,8 @@ use Rattle.engine_base.specs.Keys.{has_key}
 use Rattle.key_rows.specs.KeyRow.{is_number}
 use Rattle.named_queues.specs.NamedQueue.{NamedQueueData, numbered_key, plain_queue}
 use Rattle.named_queues.specs.declared.named_queue.QueueKey.{QueueKey}
-use Rattle.policy_page.specs.Counted.{counted_keys}
+use Rattle.policy_page.specs.QueueView.{counted_keys, counted_queue}
 use Rattle.policy_page.specs.CountedKeys.{CountedKey}
-use Rattle.policy_page.specs.Named.{counted_queue}
 use Rattle.queue_moves.specs.Tabled.{Entry, keys_of}
 use Rattle.queue_table.specs.Queues.{QUEUES, Queues}
 pub use Rattle.demand_cache.specs.declared.demand_policy.QueueRow.{QueueRow}

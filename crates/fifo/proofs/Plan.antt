@@ -10,13 +10,13 @@ use Rattle.policy_page.proofs.Ghost.{without-none}
 use Rattle.queue_moves.specs.Moves.{Entry, item_of, standing, evicted, leaving, after_leaving, no_run, stays, goes}
 use Rattle.queue_moves.specs.Tabled.{IsTabled, keys_of}
 use Rattle.queue_moves.proofs.Tabled.{has-occurs, tabled-leaving}
-use Rattle.policy_page.specs.Planned.{IsWithin, leaver_plan, IsPlannedWithin}
-use Rattle.policy_page.specs.Misses.{one_leaver}
+use Rattle.policy_page.specs.Plans.{IsWithin, leaver_plan, IsPlannedWithin}
+use Rattle.policy_page.specs.Leavers.{one_leaver}
 use Rattle.fifo.specs.Plan.{fifo_of, fifo_page}
 use Rattle.policy_page.specs.PolicyPage.{IsPlannedPage, IsSoundPage}
-use Rattle.policy_page.proofs.Leaving.{resident-alone, resident-full, not-less}
+use Rattle.policy_page.proofs.Plans.{resident-alone, resident-full, not-less, miss-low, first-send, first-out, resident-planned}
 use Rattle.fifo.proofs.Keeping.{keeps}
-use Rattle.policy_page.proofs.Moving.{length-keys, keys-sent, left-keys, without-drop, miss-low, first-send, first-out, resident-planned}
+use Rattle.policy_page.proofs.QueueKeys.{length-keys, keys-sent, left-keys, without-drop}
 
 -- the oldest leaves, and the key joins
 eviction-is : (k : ℕ) (l : List Entry) → ◌≡◌ {A = Outcome × List ℕ} (evicted (oldest_of l), drop 1 (keys_of l) ++ k ∷ []) (fifo_eviction k (keys_of l))

@@ -6,10 +6,9 @@ use Rattle.fifo.specs.Fifo.{fifo_act}
 use Rattle.policy_page.specs.Residents.{AreResidents}
 use Rattle.queue_moves.specs.Moves.{item_of, standing, no_run, leaving, stays, goes, Plan}
 use Rattle.queue_moves.specs.Tabled.{keys_of}
-use Rattle.policy_page.specs.Planned.{IsWithin, leaver_plan, resident_plan}
+use Rattle.policy_page.specs.Plans.{IsWithin, leaver_plan, resident_plan}
 use Rattle.policy_page.specs.PolicyPage.{PolicyPage}
 
--- the one queue
 abbrev pub QUEUE : ℕ
 QUEUE = 0
 
@@ -22,7 +21,6 @@ fifo_plan c k x s =
     resident_plan (standing (item_of k) s) (nat_lt (length (s QUEUE)) c) stays (goes QUEUE 0) x
     (leaver_plan no_run no_run (leaving QUEUE None) (goes QUEUE 0) x)
 
--- the queue
 abbrev pub fifo_queues : List ℕ → List NamedQueueData
 fifo_queues queue = plain_queue (codes "queue") queue ∷ []
 

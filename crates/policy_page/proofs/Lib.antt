@@ -3,7 +3,8 @@ pub mod CountedKeys
 pub mod Turns
 pub mod Ghost
 pub mod Weights
-pub mod Counted
-pub mod Leaving
-pub mod Moving
-pub mod Steps
+pub mod QueueView
+pub mod Leavers
+pub mod QueueKeys
+pub mod Plans
+pub mod MissedKey

@@ -4,9 +4,8 @@ pub mod CountedKeys
 pub mod Turns
 pub mod Ghost
 pub mod Examples
-pub mod Planned
-pub mod Counted
-pub mod Named
+pub mod QueueView
+pub mod Leavers
+pub mod Plans
 pub mod PolicyPage
-pub mod Misses
-pub mod Comers
+pub mod MissedKey

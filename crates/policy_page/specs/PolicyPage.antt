@@ -7,7 +7,7 @@ use Rattle.policy_page.specs.Residents.{Outcome, KeepsResidents}
 use Rattle.queue_moves.specs.Moves.{item_of, Plan, after_all}
 use Rattle.queue_moves.specs.Tabled.{IsTabled, keys_of}
 use Rattle.named_queues.specs.NamedQueue.{NamedQueueData}
-use Rattle.policy_page.specs.Planned.{IsPlannedBy}
+use Rattle.policy_page.specs.Plans.{IsPlannedBy}
 
 -- Its definition: the state of an empty cache, an access to a key in a cache of some capacity, the resident keys of a state,
 -- what holds of each state, and its queues under their names. How a number of the policy's own and the queues show such a

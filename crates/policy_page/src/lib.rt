@@ -4,5 +4,4 @@
 #![tactic(auto)]
 
 pub mod accesses;
-pub mod comers;
-pub mod misses;
+pub mod missed_key;

@@ -16,19 +16,20 @@ use Rattle.queue_moves.specs.Moves.{Entry, count_or, turns_due, leaving, after_l
 use Rattle.queue_moves.specs.Moves as moves
 use Rattle.queue_moves.specs.Tabled.{IsTabled, keys_of, lowered_entry, StandsAs, HasKeys}
 use Rattle.queue_moves.proofs.Tabled.{tabled-turn, turn-is, stands, stands-nowhere, tabled-turns, tabled-runs, has-occurs}
-use Rattle.policy_page.specs.Counted.{counted_keys}
-use Rattle.policy_page.specs.Misses.{Run, after_leavers, leavers_for_ghost, Leavers, no_leavers, one_leaver, run_plan}
+use Rattle.policy_page.specs.QueueView.{counted_keys}
+use Rattle.policy_page.specs.Plans.{Run, run_plan, IsPlannedBy}
+use Rattle.policy_page.specs.Leavers.{after_leavers, leavers_for_ghost, Leavers, no_leavers, one_leaver}
 use Rattle.s3_fifo.specs.Plan.{SMALL, MAIN, GHOST, s3_fifo_of, gives_main, main_turns, promotions, joins, s3_fifo_miss, plan_at, is_resident, s3_fifo_page}
-use Rattle.policy_page.proofs.Counted.{counted-append, length-counted, oldest-counted, turns-are, keys-counted, counted-with, both-counted, has-both, its-count, turns-keep}
-use Rattle.policy_page.proofs.Moving.{sent, kept, leavers-gone, ghost-keys, leavers-low, first-of, apart-first, own-low, AreLow, tabled-leavers, without-keys}
+use Rattle.policy_page.proofs.QueueView.{counted-append, length-counted, oldest-counted, turns-are, keys-counted, counted-with, both-counted, has-both, its-count, turns-keep, both-length}
+use Rattle.policy_page.proofs.Leavers.{after_oldest_sent, ghost_entries, leavers-gone, leavers-low, AreLow, tabled-leavers, any-out}
+use Rattle.policy_page.proofs.QueueKeys.{ghost-keys, first-of, apart-first, without-keys}
+use Rattle.policy_page.proofs.Plans.{own-low, HitsAlone, own-alone, never, either, one-of, own-none, not-less}
 use Rattle.engine_base.specs.declared.outcome.Outcome.TheVariants as outcome
 use Rattle.queue_table.proofs.QueueLists.{queue-few, without-none}
 use Rattle.policy_page.specs.Residents.{Outcome, times}
 use Rattle.policy_page.specs.CountedKeys as counted
 use Rattle.policy_page.proofs.Residents.{times-none, no-times, brought-few}
-use Rattle.policy_page.specs.Planned.{IsPlannedBy}
 use Rattle.policy_page.specs.PolicyPage.{LeavesWhere, IsSoundPage}
-use Rattle.policy_page.proofs.Leaving.{HitsAlone, own-alone, never, either, one-of, own-none, both-length, not-less, any-out}
 
 -- ---- what each move of an eviction by S3-FIFO makes of the queues
 
@@ -112,7 +113,7 @@ pub small-left : (size k : ℕ) (s : Queues) (r : Bool) (e : Entry) (l : List En
     → IsLeft k (after_leavers (leavers_for_ghost SMALL GHOST size r s) s) (outcome_after (leaving SMALL (Some (GHOST, 0))) s) (small_eviction size (counted_keys (s SMALL)) (counted_keys (s MAIN)) (keys_without k (keys_of (s GHOST))))
 small-left size k s r e l t h is other few =
     let P : Queues → List Entry → Type 0 = λ u x. IsLeft k u (evicted (oldest_of x)) (small_eviction size (counted_keys x) (counted_keys (s MAIN)) (keys_without k (keys_of (s GHOST)))) in
-    let gone : Queues = with_queue GHOST (kept (r || nat_lt (length (s GHOST)) size) (sent SMALL GHOST e l s GHOST)) (sent SMALL GHOST e l s) in
+    let gone : Queues = with_queue GHOST (ghost_entries (r || nat_lt (length (s GHOST)) size) (after_oldest_sent SMALL GHOST e l s GHOST)) (after_oldest_sent SMALL GHOST e l s) in
     let at : P gone (e ∷ l) = record { outcome = refl; small = refl; main = refl; ghost = ghost-keys k size e (s GHOST) r is other few } in
     subst (P _) (sym h) (subst (λ u. P u (e ∷ l)) (sym (leavers-gone s t SMALL GHOST size r e l h (omega arith) (omega arith))) at)
 

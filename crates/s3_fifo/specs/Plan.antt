@@ -12,12 +12,11 @@ pub use Rattle.queue_moves.specs.declared.records.Run.{Run}
 use Rattle.queue_moves.specs.Moves.{item_of, standing, run, no_run, turns_due, after_run, leaving, counts, goes}
 use Rattle.queue_moves.specs.Moves.{Plan, own_plan}
 use Rattle.queue_moves.specs.Tabled.{keys_of}
-use Rattle.policy_page.specs.Counted.{counted_keys}
-use Rattle.policy_page.specs.Misses.{one_leaver, leavers_for_ghost, run_plan}
-use Rattle.policy_page.specs.Named.{counted_queue}
+use Rattle.policy_page.specs.QueueView.{counted_keys, counted_queue}
+use Rattle.policy_page.specs.Leavers.{one_leaver, leavers_for_ghost}
+use Rattle.policy_page.specs.Plans.{run_plan}
 use Rattle.policy_page.specs.PolicyPage.{PolicyPage}
 
--- the queues' numbers
 abbrev pub SMALL : ℕ
 SMALL = 0
 
@@ -27,7 +26,6 @@ MAIN = 1
 abbrev pub GHOST : ℕ
 GHOST = 2
 
--- the queues as the definition names them
 abbrev pub s3_fifo_of : Queues → S3FifoState
 s3_fifo_of s =
     record { small = counted_keys (s SMALL); main = counted_keys (s MAIN); ghost = keys_of (s GHOST) }

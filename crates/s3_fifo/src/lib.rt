@@ -9,15 +9,14 @@ ghost use Rattle.queue_table.specs.QueueTable.{queues};
 ghost use Rattle.s3_fifo.specs.S3Fifo.{s3_fifo_main_size, hit_count, IsS3Fifo};
 ghost use Rattle.queue_moves.specs.Moves.{item_of};
 ghost use Rattle.queue_moves.specs.Undoing.{IsRun, IsAccessed};
-ghost use Rattle.policy_page.specs.Comers.{IsOutside};
+ghost use Rattle.policy_page.specs.MissedKey.{IsOutside};
 ghost use Rattle.s3_fifo.specs.Plan.{SMALL as SmallQueue, MAIN as MainQueue, GHOST as GhostQueue, s3_fifo_of};
 ghost use Rattle.s3_fifo.specs.Plan.{joins, gives_main, eviction_plan, is_resident, s3_fifo_miss, s3_fifo_plan};
 ghost use Rattle.s3_fifo.specs.Examples.{WorkedExamples};
 
 use engine_base::Key;
-use policy_page::accesses::{hit, kept};
-use policy_page::comers::{enter_apart, enter_for_oldest, enter_for_remembered};
-use policy_page::misses::{LeftKeys, missed_after};
+use policy_page::accesses::{LeftKeys, hit, kept, miss_after_runs};
+use policy_page::missed_key::{enter_apart, enter_for_oldest, enter_for_remembered};
 use queue_moves::{Accessed, KeyQueues, Run};
 use queue_table::Found;
 use std::alloc::AllocError;
@@ -148,7 +147,7 @@ fn evict<C>(
         let most = 3 * table.len(MAIN) as u32;
         let late = table.run(MAIN, MAIN, 1, 1, most);
         let (first, own) = enter_for_oldest::<C>(table, MAIN, key, found, queue);
-        return missed_after(
+        return miss_after_runs(
             early,
             late,
             LeftKeys::one(first),
@@ -160,7 +159,7 @@ fn evict<C>(
     let (left, own) = enter_for_remembered::<(C, Early)>(
         table, SMALL, GHOST, main, key, found, remembered, queue,
     );
-    missed_after(early, Run::NONE, left, own, own_number, own_number)
+    miss_after_runs(early, Run::NONE, left, own, own_number, own_number)
 }
 
 // Whether main gives up a key, and not the small queue.

@@ -12,16 +12,16 @@ use Rattle.queue_moves.specs.Moves.{Entry, count_or, after_turn, after_turns, tu
 use Rattle.queue_moves.specs.Tabled.{IsTabled}
 use Rattle.queue_moves.proofs.Tabled.{tabled-turn, turn-is, oldest-gone, tabled-turns}
 use Rattle.sieve.specs.Plan.{passed_queue, sieve_of, queue_ahead, pass_run, after_early, ahead_late, after_late, after_leaver, ahead_new, sieve_eviction_plan, sieve_page, Run}
-use Rattle.policy_page.specs.Counted.{counted_keys}
-use Rattle.policy_page.proofs.Counted.{counted-append, length-counted, oldest-counted, key-both, counted-with, both-counted}
+use Rattle.policy_page.specs.QueueView.{counted_keys}
+use Rattle.policy_page.proofs.QueueView.{counted-append, length-counted, oldest-counted, key-both, counted-with, both-counted, both-length as shown-length}
 use Rattle.std.proofs.lemmas.Grind.{common_steps}
 use Rattle.engine_base.specs.Keys.{has_key}
 use Rattle.policy_page.specs.Queues.{is_empty}
 use Rattle.policy_page.proofs.CountedKeys.{by-oldest, length-keys, counted-second}
-use Rattle.policy_page.specs.Planned.{IsWithin, resident_plan, IsPlannedWithin, leaver_plan}
+use Rattle.policy_page.specs.Plans.{IsWithin, resident_plan, IsPlannedWithin, leaver_plan}
 use Rattle.policy_page.specs.PolicyPage.{IsPlannedPage, IsSoundPage}
-use Rattle.policy_page.proofs.Leaving.{resident-alone, resident-full, both-length as shown-length, not-less, absent-turns, any-out}
-use Rattle.policy_page.proofs.Moving.{resident-planned, first-count, first-send, first-turns, first-out}
+use Rattle.policy_page.proofs.Plans.{resident-alone, resident-full, not-less, resident-planned, first-count, first-send, first-turns, first-out}
+use Rattle.policy_page.proofs.Leavers.{absent-turns, any-out}
 use Rattle.queue_moves.proofs.Runs.{turns-stop}
 
 -- ---- the hand of SIEVE by runs from the queue ahead of it to the other one

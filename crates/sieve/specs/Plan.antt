@@ -8,9 +8,8 @@ use Rattle.sieve.specs.Sieve.{SieveState, empty_sieve, sieve_residents, sieve_ac
 pub use Rattle.queue_moves.specs.declared.records.Run.{Run}
 use Rattle.queue_moves.specs.Moves.{item_of, standing, run, turns_due, after_run, leaving, after_leaving, counts, goes}
 use Rattle.queue_moves.specs.Moves.{Plan}
-use Rattle.policy_page.specs.Counted.{counted_keys}
-use Rattle.policy_page.specs.Planned.{IsWithin, leaver_plan, resident_plan}
-use Rattle.policy_page.specs.Named.{counted_queue}
+use Rattle.policy_page.specs.QueueView.{counted_keys, counted_queue}
+use Rattle.policy_page.specs.Plans.{IsWithin, leaver_plan, resident_plan}
 use Rattle.policy_page.specs.PolicyPage.{PolicyPage}
 
 -- the number of the queue of the passed keys, where those ahead stand in x

@@ -11,11 +11,12 @@ use Rattle.policy_page.proofs.Weights.{has-append}
 use Rattle.queue_moves.specs.Moves.{Entry, item_of, standing, leaving, evicted, outcome_after, stays, goes, own_plan}
 use Rattle.queue_moves.specs.Tabled.{HasKeys, IsTabled, keys_of, StandsAs}
 use Rattle.queue_moves.proofs.Tabled.{stands, stands-nowhere}
-use Rattle.policy_page.specs.Planned.{IsPlannedBy}
-use Rattle.policy_page.specs.Misses.{Leavers, no_leavers, one_leaver, leavers_for_ghost, after_leavers, miss_plan}
+use Rattle.policy_page.specs.Plans.{IsPlannedBy, miss_plan}
+use Rattle.policy_page.specs.Leavers.{Leavers, no_leavers, one_leaver, leavers_for_ghost, after_leavers}
 use Rattle.two_q.specs.Plan.{TwoQSizes, A1IN, A1OUT, AM, two_q_of, joins, two_q_miss, plan_at, two_q_page}
-use Rattle.policy_page.proofs.Moving.{leavers-low, sent, kept, leavers-gone, ghost-keys, length-keys, keys-sent, first-of, apart-first, own-low, AreLow, miss-low, tabled-leavers}
-use Rattle.policy_page.proofs.Leaving.{oldest-out, one-of, own-none, miss-full, keys-length, not-less}
+use Rattle.policy_page.proofs.Leavers.{leavers-low, after_oldest_sent, ghost_entries, leavers-gone, AreLow, tabled-leavers, oldest-out}
+use Rattle.policy_page.proofs.QueueKeys.{ghost-keys, length-keys, keys-sent, first-of, apart-first, keys-length}
+use Rattle.policy_page.proofs.Plans.{own-low, miss-low, one-of, own-none, miss-full, not-less}
 use Rattle.policy_page.specs.PolicyPage.{LeavesWhere, IsPlannedPage, IsSoundPage}
 use Rattle.two_q.proofs.Keeping.{keeps}
 
@@ -76,7 +77,7 @@ module _ (z : TwoQSizes) (c k x : ℕ) (r : Bool) (s : Queues) (some : 1 ≤ c) 
   a1in-leaves e l h =
       let v : TwoQLeaver = FromA1in e.item.key in
       let other = apart-first k e.item.key (keys_of l) (ap (λ x. has_key k (keys_of x)) (sym h) ∙ no_a1in) in
-      let gone : Queues = with_queue A1OUT (kept (r || nat_lt (length (s A1OUT)) z.kout) (sent A1IN A1OUT e l s A1OUT)) (sent A1IN A1OUT e l s) in
+      let gone : Queues = with_queue A1OUT (ghost_entries (r || nat_lt (length (s A1OUT)) z.kout) (after_oldest_sent A1IN A1OUT e l s A1OUT)) (after_oldest_sent A1IN A1OUT e l s) in
       let shows : Shows k gone (after v) = record { a1in = rest A1IN e l h no_a1in; a1out = ghost-keys k z.kout e (s A1OUT) r in_a1out other i.few; am = without-none k (keys_of (s AM)) no_am } in
       subst (IsMiss (leavers_for_ghost A1IN A1OUT z.kout r s)) (sym (ap (λ x. leaver_of_a1in (keys_of x)) h))
       (brought (leavers_for_ghost A1IN A1OUT z.kout r s) v (leavers-low A1IN A1OUT z.kout r s (omega arith) (omega arith)) (ap (λ x. evicted (oldest_of x)) h)

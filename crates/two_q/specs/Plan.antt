@@ -7,10 +7,10 @@ pub use Rattle.two_q.specs.declared.TwoQSizes.{TwoQSizes}
 use Rattle.two_q.specs.TwoQ.{TwoQState, empty_two_q, two_q_residents, two_q_act, IsTwoQ}
 use Rattle.queue_moves.specs.Moves.{item_of, standing, leaving, stays, goes, Plan, own_plan}
 use Rattle.queue_moves.specs.Tabled.{keys_of}
-use Rattle.policy_page.specs.Misses.{Leavers, no_leavers, one_leaver, leavers_for_ghost, miss_plan}
+use Rattle.policy_page.specs.Leavers.{Leavers, no_leavers, one_leaver, leavers_for_ghost}
+use Rattle.policy_page.specs.Plans.{miss_plan}
 use Rattle.policy_page.specs.PolicyPage.{PolicyPage}
 
--- the queues' numbers
 abbrev pub A1IN : ℕ
 A1IN = 0
 
@@ -20,7 +20,6 @@ A1OUT = 1
 abbrev pub AM : ℕ
 AM = 2
 
--- the queues as the definition names them
 abbrev pub two_q_of : Queues → TwoQState
 two_q_of s = record { a1in = keys_of (s A1IN); a1out = keys_of (s A1OUT); am = keys_of (s AM) }
 
@@ -60,7 +59,6 @@ plan_at z c x (Some p) s =
 abbrev pub two_q_plan : TwoQSizes → ℕ → ℕ → ℕ → Queues → Plan
 two_q_plan z c k x s = plan_at z c x (standing (item_of k) s) s
 
--- the queues
 abbrev pub two_q_queues : TwoQState → List NamedQueueData
 two_q_queues s =
     plain_queue (codes "a1in") s.a1in ∷ plain_queue (codes "am") s.am ∷ plain_queue (codes "a1out") s.a1out ∷ []

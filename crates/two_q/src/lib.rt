@@ -6,14 +6,13 @@ ghost use Rattle.std.specs.Prelude.{◌≡◌, ◌≤◌, nat_lt, ◌==◌, ◌|
 ghost use Rattle.queue_table.specs.QueueTable.{queues};
 ghost use Rattle.queue_moves.specs.Moves.{item_of};
 ghost use Rattle.queue_moves.specs.Undoing.{IsAccessed};
-ghost use Rattle.policy_page.specs.Comers.{IsOutside};
+ghost use Rattle.policy_page.specs.MissedKey.{IsOutside};
 ghost use Rattle.two_q.specs.Plan.{A1IN, A1OUT, AM, joins, two_q_miss, two_q_plan};
 ghost use Rattle.two_q.specs.Examples.{WorkedExamples};
 
 use engine_base::Key;
-use policy_page::accesses::{hit, kept};
-use policy_page::comers::{enter_apart, enter_for_oldest, enter_for_remembered};
-use policy_page::misses::{LeftKeys, missed};
+use policy_page::accesses::{LeftKeys, hit, kept, miss_without_runs};
+use policy_page::missed_key::{enter_apart, enter_for_oldest, enter_for_remembered};
 use queue_moves::{Accessed, KeyMove, KeyQueues};
 use queue_table::Found;
 use std::alloc::AllocError;
@@ -98,13 +97,13 @@ fn miss<C>(
     }
     if !a1in_gives(a1in, am, sizes.kin) {
         let (first, own) = enter_for_oldest::<C>(table, AM, key, found, queue);
-        return missed(LeftKeys::one(first), own, own_number, own_number);
+        return miss_without_runs(LeftKeys::one(first), own, own_number, own_number);
     }
     let size = sizes.kout;
     let (left, own) = enter_for_remembered::<(C, Remembered)>(
         table, A1IN, A1OUT, size, key, found, remembered, queue,
     );
-    missed(left, own, own_number, own_number)
+    miss_without_runs(left, own, own_number, own_number)
 }
 
 // The queue that a key joins.

@@ -3,7 +3,7 @@ use Rattle.queue_table.specs.QueueTable.{queues}
 use Rattle.queue_moves.specs.Moves.{item_of}
 use Rattle.queue_moves.specs.Undoing.{IsAccessed}
 use Rattle.arc.specs.Plan.{total, new_key_plan}
-use Rattle.policy_page.proofs.Steps.{still-none}
+use Rattle.policy_page.proofs.Plans.{still-none}
 use Rattle.arc.proofs.new_key.Goals as goal
 
 pub join-requires-clause-all_fit : goal.join-requires-clause-all_fit

@@ -2,7 +2,7 @@ use Rattle.std.proofs.Common.{arith}
 use Rattle.queue_table.specs.Entries.{entry}
 use Rattle.queue_table.specs.QueueTable.{queues}
 use Rattle.queue_moves.specs.Moves.{item_of, goes}
-use Rattle.policy_page.specs.Misses.{one_leaver}
+use Rattle.policy_page.specs.Leavers.{one_leaver}
 use Rattle.arc.specs.Plan.{T2, replaced}
 use Rattle.arc.proofs.recalled.Goals as goal
 
@@ -13,4 +13,4 @@ send-own-requires-clause-at g c =
 pub returns : goal.returns
 returns g c =
     let l = replaced c.args.in_b2 c.args.target (queues c.args.table.now) in
-    c.missed.ensures (one_leaver l) (goes T2 0) (item_of c.args.key) _ _ _ (c.one.ensures l _ _ c.replace-first.ensures.left (omega arith)) c.send-own.ensures.own
+    c.miss_without_runs.ensures (one_leaver l) (goes T2 0) (item_of c.args.key) _ _ _ (c.one.ensures l _ _ c.replace-first.ensures.left (omega arith)) c.send-own.ensures.own

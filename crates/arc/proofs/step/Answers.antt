@@ -3,7 +3,7 @@ use Rattle.std.proofs.lemmas.Bool.{ne_eqb}
 use Rattle.queue_table.specs.QueueTable.{queues}
 use Rattle.queue_moves.specs.Moves.{item_of, goes}
 use Rattle.arc.specs.Plan.{T2, plan_at}
-use Rattle.policy_page.proofs.Steps.{found-accessed}
+use Rattle.policy_page.proofs.Plans.{found-accessed}
 use Rattle.arc.proofs.step.Goals.{then-in_b2, else-in_b2}
 use Rattle.arc.proofs.step.Goals as goal
 

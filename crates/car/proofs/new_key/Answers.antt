@@ -27,6 +27,6 @@ returns g c =
     let made = c.replace-left.ensures.made in
     let joined = c.join.ensures in
     rw (le-ltb (length (s T1) + length (s T2)) c.args.capacity (omega (arith, c.len.ensures, c.len-2.ensures, c.if-len-capacity.false)))
-    (subst (λ (x : Queues). IsAccessed (full_plan c.args.capacity p (forgotten c.args.capacity x) (goes T1 0) p s) (item_of c.args.key) p s (queues c.join.new.table) c.missed_after.result) made.left.after
-    (c.missed_after.ensures (promotions p s) (giver_turns c.args.capacity q a) record { first = leaver q; second = forgotten c.args.capacity w } (goes T1 0) (item_of c.args.key) s a (after_giver_turns c.args.capacity q a) _ _
+    (subst (λ (x : Queues). IsAccessed (full_plan c.args.capacity p (forgotten c.args.capacity x) (goes T1 0) p s) (item_of c.args.key) p s (queues c.join.new.table) c.miss_after_runs.result) made.left.after
+    (c.miss_after_runs.ensures (promotions p s) (giver_turns c.args.capacity q a) record { first = leaver q; second = forgotten c.args.capacity w } (goes T1 0) (item_of c.args.key) s a (after_giver_turns c.args.capacity q a) _ _
     made.early made.late made.made_early made.made_late record { between = w; first = made.left; second = joined.left; few = omega (arith, made.stays, joined.few) } joined.own))

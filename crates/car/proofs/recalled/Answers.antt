@@ -4,7 +4,7 @@ use Rattle.queue_table.specs.Entries.{entry}
 use Rattle.queue_table.specs.QueueTable.{queues}
 use Rattle.queue_moves.specs.Moves.{item_of, goes}
 use Rattle.queue_moves.specs.Undoing.{IsAccessed}
-use Rattle.policy_page.specs.Misses.{one_leaver}
+use Rattle.policy_page.specs.Leavers.{one_leaver}
 use Rattle.car.specs.Plan.{T2, promotions, after_promotions, giver, giver_turns, after_giver_turns, leaver, target_after, full_plan}
 use Rattle.car.proofs.recalled.Goals as goal
 
@@ -19,6 +19,6 @@ returns g c =
     let a : Queues = after_promotions p s in
     let q = giver p a in
     let made = c.replace-left.ensures.made in
-    subst (λ x. IsAccessed (full_plan c.args.capacity p None (goes T2 0) x s) (item_of c.args.key) p s (queues c.send-own.new.self) c.missed_after.result) (c.moved_target-after.ensures ∙ ap (target_after c.args.capacity p c.args.in_b1) made.left.after)
-    (c.missed_after.ensures (promotions p s) (giver_turns c.args.capacity q a) (one_leaver (leaver q)) (goes T2 0) (item_of c.args.key) s a (after_giver_turns c.args.capacity q a) _ _
+    subst (λ x. IsAccessed (full_plan c.args.capacity p None (goes T2 0) x s) (item_of c.args.key) p s (queues c.send-own.new.self) c.miss_after_runs.result) (c.moved_target-after.ensures ∙ ap (target_after c.args.capacity p c.args.in_b1) made.left.after)
+    (c.miss_after_runs.ensures (promotions p s) (giver_turns c.args.capacity q a) (one_leaver (leaver q)) (goes T2 0) (item_of c.args.key) s a (after_giver_turns c.args.capacity q a) _ _
     made.early made.late made.made_early made.made_late (c.one.ensures (leaver q) _ _ made.left (omega (arith, made.stays))) c.send-own.ensures.own)

@@ -3,7 +3,7 @@ use Rattle.queue_table.specs.Queues.{Queues}
 use Rattle.queue_table.specs.QueueTable.{queues}
 use Rattle.queue_table.specs.Entries.{occurrences}
 use Rattle.car.specs.Plan.{Run, promotions, giver_turns}
-use Rattle.policy_page.proofs.Leaving.{off-run}
+use Rattle.policy_page.proofs.Leavers.{off-run}
 use Rattle.car.proofs.Plan.{is-replaced, off-both}
 use Rattle.car.proofs.replace.Goals as goal
 

@@ -2,8 +2,8 @@ use Rattle.std.proofs.Common.{arith, ◌+◌, ◌≤◌, ◌∙◌, sym, subst, 
 use Rattle.queue_table.specs.Queues.{Queues}
 use Rattle.queue_table.specs.QueueTable.{queues}
 use Rattle.queue_moves.specs.Moves.{item_of, counts}
-use Rattle.policy_page.proofs.Steps.{still-none, found-accessed, new-accessed}
-use Rattle.policy_page.proofs.Counted.{length-counted}
+use Rattle.policy_page.proofs.Plans.{still-none, found-accessed, new-accessed}
+use Rattle.policy_page.proofs.QueueView.{length-counted}
 use Rattle.car.specs.Plan.{T1, T2, plan_at}
 use Rattle.car.proofs.Plan.{off-ghost}
 use Rattle.car.proofs.step.Goals as goal

@@ -3,7 +3,7 @@ use Rattle.queue_table.specs.QueueTable.{queues}
 use Rattle.queue_moves.specs.Moves.{leaving, no_run, goes}
 use Rattle.queue_moves.proofs.Carried.{no-run}
 use Rattle.clock.specs.Plan.{clock_eviction_plan}
-use Rattle.policy_page.proofs.Leaving.{absent-run}
+use Rattle.policy_page.proofs.Leavers.{absent-run}
 use Rattle.clock.proofs.evict.Goals as goal
 
 pub renew_oldest-requires-clause-absent : goal.renew_oldest-requires-clause-absent

@@ -3,7 +3,7 @@ use Rattle.std.proofs.lemmas.Bool.{lt-ltb, le-ltb}
 use Rattle.queue_table.specs.QueueTable.{queues}
 use Rattle.queue_moves.specs.Moves.{item_of, counts, goes}
 use Rattle.clock.specs.Plan.{clock_plan, clock_eviction_plan}
-use Rattle.policy_page.proofs.Steps.{by-plan, still-none, hit-plan, join-plan, full-plan}
+use Rattle.policy_page.proofs.Plans.{by-plan, still-none, hit-plan, join-plan, full-plan}
 use Rattle.clock.proofs.step.Goals as goal
 
 pub join_apart-own-requires-clause-absent : goal.join_apart-own-requires-clause-absent

@@ -3,9 +3,9 @@ use Rattle.std.proofs.lemmas.Bool.{lt-ltb, le-ltb}
 use Rattle.queue_table.specs.QueueTable.{queues}
 use Rattle.queue_moves.specs.Moves.{item_of, leaving, no_run, stays, goes}
 use Rattle.queue_moves.proofs.Carried.{no-run}
-use Rattle.policy_page.specs.Planned.{leaver_plan}
+use Rattle.policy_page.specs.Plans.{leaver_plan}
 use Rattle.fifo.specs.Plan.{QUEUE, fifo_plan}
-use Rattle.policy_page.proofs.Steps.{by-plan, still-none, hit-plan, join-plan, full-plan}
+use Rattle.policy_page.proofs.Plans.{by-plan, still-none, hit-plan, join-plan, full-plan}
 use Rattle.fifo.proofs.step.Goals as goal
 
 pub join_apart-own-requires-clause-absent : goal.join_apart-own-requires-clause-absent

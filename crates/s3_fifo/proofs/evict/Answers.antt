@@ -3,14 +3,15 @@ use Rattle.queue_table.specs.Queues.{Queues}
 use Rattle.queue_table.specs.QueueTable.{queues}
 use Rattle.queue_moves.specs.Moves.{item_of, no_run, leaving, goes}
 use Rattle.queue_moves.proofs.Carried.{no-run}
-use Rattle.policy_page.specs.Misses.{Run, one_leaver, leavers_for_ghost}
+use Rattle.policy_page.specs.Plans.{Run}
+use Rattle.policy_page.specs.Leavers.{one_leaver, leavers_for_ghost}
 use Rattle.s3_fifo.specs.Plan.{SMALL, MAIN, GHOST, main_turns}
-use Rattle.policy_page.proofs.Steps.{comes-ran}
-use Rattle.policy_page.proofs.Leaving.{off-run}
+use Rattle.policy_page.proofs.MissedKey.{enters-after-run}
+use Rattle.policy_page.proofs.Leavers.{off-run}
 use Rattle.s3_fifo.proofs.evict.Goals as goal
 
-pub enter_for_oldest-requires-clause-comes : goal.enter_for_oldest-requires-clause-comes
-enter_for_oldest-requires-clause-comes g c = search (arith, comes-ran)
+pub enter_for_oldest-requires-clause-enters : goal.enter_for_oldest-requires-clause-enters
+enter_for_oldest-requires-clause-enters g c = search (arith, enters-after-run)
 
 pub enter_for_oldest-requires-clause-off : goal.enter_for_oldest-requires-clause-off
 enter_for_oldest-requires-clause-off g c =
@@ -23,7 +24,7 @@ returns-then-main_gives g c = λ s ran.
     let enter = c.enter_for_oldest.ensures in
     let late : c.run-late.result ≡ main_turns t = search rules in
     rw (sym c.main_gives.ensures ∙ c.if-main_gives.true, sym c.queue_of-queue.ensures)
-    (c.missed_after.ensures c.args.early (main_turns t) (one_leaver (leaving MAIN None)) (goes c.queue_of-queue.result 0) (item_of c.args.key) s t u _ _ refl late ran
+    (c.miss_after_runs.ensures c.args.early (main_turns t) (one_leaver (leaving MAIN None)) (goes c.queue_of-queue.result 0) (item_of c.args.key) s t u _ _ refl late ran
     c.run-late.ensures.made (c.one.ensures (leaving MAIN None) u _ enter.left enter.out) enter.own)
 
 pub returns : goal.returns
@@ -31,4 +32,4 @@ returns g c = λ s ran.
     let t : Queues = queues c.args.table.now in
     let enter = c.enter_for_remembered.ensures in
     rw (sym c.main_gives.ensures ∙ c.if-main_gives.false, sym c.queue_of-queue.ensures)
-    (c.missed_after-2.ensures c.args.early no_run (leavers_for_ghost SMALL GHOST c.args.main c.args.remembered t) (goes c.queue_of-queue.result 0) (item_of c.args.key) s t t _ _ refl refl ran (no-run t) enter.left enter.own)
+    (c.miss_after_runs-2.ensures c.args.early no_run (leavers_for_ghost SMALL GHOST c.args.main c.args.remembered t) (goes c.queue_of-queue.result 0) (item_of c.args.key) s t t _ _ refl refl ran (no-run t) enter.left enter.own)

@@ -5,7 +5,7 @@ use Rattle.queue_table.specs.Queues.{Queues}
 use Rattle.queue_table.specs.QueueTable.{queues}
 use Rattle.queue_moves.specs.Moves.{item_of, goes}
 use Rattle.s3_fifo.specs.Plan.{Run, SMALL, MAIN, GHOST}
-use Rattle.policy_page.proofs.Steps.{outside-ran}
+use Rattle.policy_page.proofs.MissedKey.{outside-after-run}
 use Rattle.s3_fifo.proofs.Plan.{resident-count, main-few}
 use Rattle.s3_fifo.proofs.miss.Goals as goal
 
@@ -28,7 +28,7 @@ evict-requires-clause-few g c =
 pub evict-requires-clause-outside : goal.evict-requires-clause-outside
 evict-requires-clause-outside g c =
     let early = c.run-early.ensures in
-    outside-ran c.args.remembered c.args.found (item_of c.args.key) c.run-early.result SMALL MAIN GHOST _ _ (ap (λ (r : Run). r.from) early.run) early.made early.spare early.others c.requires.outside
+    outside-after-run c.args.remembered c.args.found (item_of c.args.key) c.run-early.result SMALL MAIN GHOST _ _ (ap (λ (r : Run). r.from) early.run) early.made early.spare early.others c.requires.outside
 
 pub returns : goal.returns
 returns g c = grind (arith, nat_tests, le-ltb)

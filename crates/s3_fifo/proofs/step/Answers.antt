@@ -5,7 +5,8 @@ use Rattle.s3_fifo.specs.S3Fifo.{hit_count, IsS3Fifo}
 use Rattle.queue_moves.specs.Moves.{item_of, counts}
 use Rattle.queue_moves.specs.Undoing.{IsOwn}
 use Rattle.s3_fifo.specs.Plan.{SMALL, MAIN, GHOST, s3_fifo_of, plan_at}
-use Rattle.policy_page.proofs.Steps.{new-outside, found-accessed, new-accessed}
+use Rattle.policy_page.proofs.MissedKey.{new-outside}
+use Rattle.policy_page.proofs.Plans.{found-accessed, new-accessed}
 use Rattle.s3_fifo.proofs.step.Goals as goal
 
 pub returns-then-is_resident-clause-accessed : goal.returns-then-is_resident-clause-accessed

@@ -1,7 +1,7 @@
 use Rattle.std.proofs.Common.{◌≤◌, length, arith}
 use Rattle.queue_table.specs.QueueTable.{queues}
 use Rattle.sieve.proofs.Plan.{pass-stops}
-use Rattle.policy_page.proofs.Leaving.{absent-run}
+use Rattle.policy_page.proofs.Leavers.{absent-run}
 use Rattle.sieve.proofs.evict.Goals as goal
 
 pub evict_late-requires-clause-stopped : goal.evict_late-requires-clause-stopped

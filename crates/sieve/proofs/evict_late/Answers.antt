@@ -4,7 +4,7 @@ use Rattle.queue_moves.specs.Moves.{item_of, leaving, after_leaving, goes}
 use Rattle.queue_moves.specs.Undoing.{IsAccessed}
 use Rattle.sieve.specs.Plan.{pass_run, sieve_eviction_plan}
 use Rattle.sieve.proofs.Plan.{eviction}
-use Rattle.policy_page.proofs.Leaving.{absent-run}
+use Rattle.policy_page.proofs.Leavers.{absent-run}
 use Rattle.sieve.proofs.evict_late.Goals as goal
 
 pub renew_oldest-requires-clause-absent : goal.renew_oldest-requires-clause-absent

@@ -2,7 +2,7 @@ use Rattle.std.proofs.Common.{sym, ◌∙◌, refl}
 use Rattle.queue_table.specs.QueueTable.{queues}
 use Rattle.queue_moves.specs.Moves.{item_of, counts, goes}
 use Rattle.sieve.specs.Plan.{sieve_plan, sieve_eviction_plan}
-use Rattle.policy_page.proofs.Steps.{by-plan, still-none, hit-plan, join-plan, full-plan}
+use Rattle.policy_page.proofs.Plans.{by-plan, still-none, hit-plan, join-plan, full-plan}
 use Rattle.sieve.proofs.step.Goals as goal
 
 pub join_apart-own-requires-clause-absent : goal.join_apart-own-requires-clause-absent

@@ -3,7 +3,7 @@ use Rattle.std.proofs.lemmas.Bool.{lt-ltb, le-ltb}
 use Rattle.queue_table.specs.Queues.{Queues}
 use Rattle.queue_table.specs.QueueTable.{queues}
 use Rattle.queue_moves.specs.Moves.{item_of, leaving, goes}
-use Rattle.policy_page.specs.Misses.{one_leaver, leavers_for_ghost}
+use Rattle.policy_page.specs.Leavers.{one_leaver, leavers_for_ghost}
 use Rattle.two_q.specs.Plan.{A1IN, A1OUT, AM}
 use Rattle.two_q.proofs.miss.Goals as goal
 
@@ -20,7 +20,7 @@ returns-then-not-a1in_gives g c =
     let gives : (nat_lt c.args.sizes.kin (length (s A1IN)) || length (s AM) == 0) ≡ false = rw (sym c.len-a1in.ensures, sym c.len-am.ensures) (sym c.a1in_gives.ensures ∙ c.if-not-a1in_gives.true) in
     let enter = c.enter_for_oldest.ensures in
     rw (full, gives, sym c.queue_of-queue.ensures)
-    (c.missed.ensures (one_leaver (leaving AM None)) (goes c.queue_of-queue.result 0) (item_of c.args.key) s _ _ (c.one.ensures (leaving AM None) s _ enter.left enter.out) enter.own)
+    (c.miss_without_runs.ensures (one_leaver (leaving AM None)) (goes c.queue_of-queue.result 0) (item_of c.args.key) s _ _ (c.one.ensures (leaving AM None) s _ enter.left enter.out) enter.own)
 
 pub returns : goal.returns
 returns g c =
@@ -29,4 +29,4 @@ returns g c =
     let gives : (nat_lt c.args.sizes.kin (length (s A1IN)) || length (s AM) == 0) ≡ true = rw (sym c.len-a1in.ensures, sym c.len-am.ensures) (sym c.a1in_gives.ensures ∙ c.if-not-a1in_gives.false) in
     let enter = c.enter_for_remembered.ensures in
     rw (full, gives, sym c.queue_of-queue.ensures)
-    (c.missed-2.ensures (leavers_for_ghost A1IN A1OUT c.args.sizes.kout c.args.remembered s) (goes c.queue_of-queue.result 0) (item_of c.args.key) s _ _ enter.left enter.own)
+    (c.miss_without_runs-2.ensures (leavers_for_ghost A1IN A1OUT c.args.sizes.kout c.args.remembered s) (goes c.queue_of-queue.result 0) (item_of c.args.key) s _ _ enter.left enter.own)

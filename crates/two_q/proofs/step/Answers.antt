@@ -3,7 +3,8 @@ use Rattle.std.proofs.lemmas.Bool.{eq-eqb}
 use Rattle.queue_table.specs.QueueTable.{queues}
 use Rattle.queue_moves.specs.Moves.{item_of, stays, goes}
 use Rattle.two_q.specs.Plan.{A1IN, A1OUT, AM, plan_at}
-use Rattle.policy_page.proofs.Steps.{new-outside, found-accessed, new-accessed}
+use Rattle.policy_page.proofs.MissedKey.{new-outside}
+use Rattle.policy_page.proofs.Plans.{found-accessed, new-accessed}
 use Rattle.two_q.proofs.step.Goals as goal
 
 pub returns-then-found-eq-AM-clause-accessed : goal.returns-then-found-eq-AM-clause-accessed

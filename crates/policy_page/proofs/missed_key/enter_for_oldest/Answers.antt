@@ -4,13 +4,13 @@ use Rattle.queue_table.specs.Queues.{Queues}
 use Rattle.queue_table.specs.QueueTable.{queues}
 use Rattle.queue_moves.specs.Moves.{item_of, goes}
 use Rattle.queue_moves.specs.Undoing.{IsOwn}
-use Rattle.policy_page.specs.Comers.{Found, Comes}
-use Rattle.policy_page.proofs.comers.enter_for_oldest.Goals as goal
+use Rattle.policy_page.specs.MissedKey.{Found, CanEnter}
+use Rattle.policy_page.proofs.missed_key.enter_for_oldest.Goals as goal
 
 pub send-own-requires-clause-at : goal.send-own-requires-clause-at
 send-own-requires-clause-at g c =
     c.drop_oldest-left.ensures.others c.in-Some.found.at (entry (item_of c.args.key) c.in-Some.found.count)
-    (subst (λ (o : Option Found). Comes o (item_of c.args.key) c.args.table.now) c.in-Some.is c.requires.comes) c.requires.off
+    (subst (λ (o : Option Found). CanEnter o (item_of c.args.key) c.args.table.now) c.in-Some.is c.requires.enters) c.requires.off
 
 pub returns-in-Some-clause-own : goal.returns-in-Some-clause-own
 returns-in-Some-clause-own g c =

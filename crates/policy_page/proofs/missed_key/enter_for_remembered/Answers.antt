@@ -4,15 +4,15 @@ use Rattle.std.proofs.lemmas.Bool.{or_parts}
 use Rattle.queue_table.specs.Queues.{Queues}
 use Rattle.queue_table.specs.QueueTable.{queues}
 use Rattle.queue_moves.specs.Moves.{item_of, leaving}
-use Rattle.policy_page.proofs.Steps.{comes-on}
-use Rattle.policy_page.proofs.Leaving.{none-left}
-use Rattle.policy_page.proofs.comers.enter_for_remembered.Goals as goal
+use Rattle.policy_page.proofs.MissedKey.{enters-after-leaver}
+use Rattle.policy_page.proofs.Leavers.{none-left}
+use Rattle.policy_page.proofs.missed_key.enter_for_remembered.Goals as goal
 
-pub enter-own-requires-clause-comes : goal.enter-own-requires-clause-comes
-enter-own-requires-clause-comes g c = search (arith, comes-on)
+pub enter-own-requires-clause-enters : goal.enter-own-requires-clause-enters
+enter-own-requires-clause-enters g c = search (arith, enters-after-leaver)
 
-pub enter_for_oldest-requires-clause-comes : goal.enter_for_oldest-requires-clause-comes
-enter_for_oldest-requires-clause-comes g c = search (arith, comes-on)
+pub enter_for_oldest-requires-clause-enters : goal.enter_for_oldest-requires-clause-enters
+enter_for_oldest-requires-clause-enters g c = search (arith, enters-after-leaver)
 
 pub enter_for_oldest-requires-clause-off : goal.enter_for_oldest-requires-clause-off
 enter_for_oldest-requires-clause-off g c =

@@ -1,13 +1,12 @@
--- The plan of a miss: what leaves, and what becomes of the accessed key.
-use Rattle.std.specs.Prelude.{ℕ, ◌+◌, ◌≤◌, nat_lt, ◌||◌, Bool, false, if◌then◌else◌, Option, Some, None, length}
+-- The keys that leave their queues at a miss, and the accessed key that moves then.
+use Rattle.std.specs.Prelude.{ℕ, ◌+◌, ◌≤◌, nat_lt, ◌||◌, Bool, if◌then◌else◌, Option, Some, None, length}
 use Rattle.queue_table.specs.Queues.{Item, Queues}
 use Rattle.queue_moves.specs.declared.records.KeyMove.{KeyMove}
-pub use Rattle.queue_moves.specs.declared.records.Run.{Run}
-use Rattle.queue_moves.specs.Moves.{no_run, Leaving, leaving, after_leaving, Own, Plan}
+use Rattle.queue_moves.specs.Moves.{Leaving, leaving, after_leaving, Own}
 use Rattle.queue_moves.specs.Undoing.{outs, IsLeft, IsOwn}
-use Rattle.policy_page.specs.declared.misses.LeftKeys.{LeftKeys}
+use Rattle.policy_page.specs.declared.accesses.LeftKeys.{LeftKeys}
 
--- the keys that leave their queues, in turn
+-- in turn
 pub record Leavers : Type 0 where
   pub first : Option Leaving
   pub second : Option Leaving
@@ -28,14 +27,6 @@ leavers_for_ghost from ghost size remembered s = record {
   first = leaving from (Some (ghost, 0));
   second = if remembered || nat_lt (length (s ghost)) size then None else leaving ghost None;
 }
-
--- a miss after two runs
-abbrev pub run_plan : Run → Run → Leavers → Own → ℕ → Plan
-run_plan early late l own x =
-    record { hits = false; early = early; late = late; first = l.first; second = l.second; own = own; own_number = x }
-
-abbrev pub miss_plan : Leavers → Own → ℕ → Plan
-miss_plan l own x = run_plan no_run no_run l own x
 
 -- they left, which took the queues from s to u, and these are their records; one at most is out
 pub record AreLeft (l : Leavers) (s u : Queues) (r : LeftKeys) : Type 0 where

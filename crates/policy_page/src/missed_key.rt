@@ -5,10 +5,10 @@ ghost use Rattle.queue_table.specs.Queues.{QUEUES};
 ghost use Rattle.queue_table.specs.QueueTable.{queues};
 ghost use Rattle.queue_moves.specs.Moves.{item_of, leaving, after_leaving, goes};
 ghost use Rattle.queue_moves.specs.Undoing.{IsLeft, IsOwn, outs};
-ghost use Rattle.policy_page.specs.Comers.{Comes};
-ghost use Rattle.policy_page.specs.Misses.{leavers_for_ghost, IsEntered};
+ghost use Rattle.policy_page.specs.Leavers.{leavers_for_ghost, IsEntered};
+ghost use Rattle.policy_page.specs.MissedKey.{CanEnter};
 
-use crate::misses::LeftKeys;
+use crate::accesses::LeftKeys;
 use engine_base::Key;
 use queue_moves::{KeyMove, KeyQueues, Left};
 use queue_table::Found;
@@ -19,7 +19,7 @@ use queue_table::Found;
 #[inline(always)]
 pub fn enter<C>(table: &mut KeyQueues, key: Key, found: Option<Found>, queue: u8) -> KeyMove
     requires queue { queue < QUEUES }
-    requires comes { Comes found (item_of key) table.old }
+    requires enters { CanEnter found (item_of key) table.old }
     ensures { IsOwn (goes queue 0) (item_of key) (queues table.old) (queues table.new) result }
 {
     match found {
@@ -32,7 +32,7 @@ pub fn enter<C>(table: &mut KeyQueues, key: Key, found: Option<Found>, queue: u8
 #[inline(never)]
 pub fn enter_apart(table: &mut KeyQueues, key: Key, found: Option<Found>, queue: u8) -> KeyMove
     requires queue { queue < QUEUES }
-    requires comes { Comes found (item_of key) table.old }
+    requires enters { CanEnter found (item_of key) table.old }
     ensures { IsOwn (goes queue 0) (item_of key) (queues table.old) (queues table.new) result }
 {
     enter::<Apart>(table, key, found, queue)
@@ -53,7 +53,7 @@ pub fn enter_for_oldest<C>(
 ) -> (Left, KeyMove)
     requires from { from < QUEUES }
     requires queue { queue < QUEUES }
-    requires comes { Comes found (item_of key) table.old }
+    requires enters { CanEnter found (item_of key) table.old }
     requires off { occurrences (item_of key) (queues table.old from) ≡ 0 }
     ensures left { IsLeft (leaving from None) (queues table.old) (after_leaving (leaving from None) (queues table.old))
         result.0 }
@@ -87,7 +87,7 @@ pub fn enter_for_remembered<C>(
     requires from { from < QUEUES }
     requires into { into < QUEUES }
     requires queue { queue < QUEUES }
-    requires comes { Comes found (item_of key) table.old }
+    requires enters { CanEnter found (item_of key) table.old }
     requires off { occurrences (item_of key) (queues table.old from) ≡ 0 }
     requires new { remembered ≡ false → occurrences (item_of key) (queues table.old into) ≡ 0 }
     ensures { IsEntered (leavers_for_ghost from into size remembered (queues table.old)) (goes queue 0) (item_of key)

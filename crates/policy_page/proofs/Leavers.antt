@@ -1,27 +1,20 @@
 -- A queue's oldest key leaves it, and what that leaves alone.
 use Rattle.std.proofs.lemmas.Bool.Decides.{nat_tests}
-use Rattle.std.proofs.Common.{eqb, ◌++◌, map, take, append-nil, ◌≡◌, ℕ, zero, suc, ◌-◌, ◌<◌, false, Option, Some, None, List, [], ◌∷◌, drop, ap, sym, subst, ◌∙◌, refl, arith, ◌+◌, ◌⊎◌, Bool, true, if◌then◌else◌, nat_lt, length, inl, length-append}
+use Rattle.std.proofs.Common.{eqb, ◌++◌, map, take, append-nil, ◌≡◌, ℕ, zero, suc, ◌-◌, ◌<◌, false, Option, Some, None, List, [], ◌∷◌, drop, ap, sym, subst, ◌∙◌, refl, arith, Bool, nat_lt, length, cond, ◌||◌}
 use Rattle.std.proofs.Math.Path.{fun_ext}
 use Rattle.std.proofs.lemmas.Bool.{cond_both, eqb-true}
+use Rattle.engine_base.specs.declared.outcome.Outcome.TheVariants.{Kept, Evicted}
 use Rattle.queue_table.specs.Entries.{Item, is_same_item, entry, occurrences, oldest_of}
 use Rattle.queue_table.specs.Queues.{QUEUES, Queues, with_queue, queue_holding, after_push}
 use Rattle.queue_table.proofs.QueueLists.{times-without, IsAbsent, absent, is_absent}
 use Rattle.queue_moves.specs.declared.records.Left.{Left}
 use Rattle.queue_moves.specs.declared.records.Run.{Run}
-use Rattle.queue_moves.specs.Moves.{Outcome, Entry, turned, after_turn, after_turns, after_run, after_runs, after_first, Leaving, departed, leaving, after_leaving, evicted, outcome_after, IsLowLeaving, IsLowPlan, Own, Plan, own_plan}
-use Rattle.engine_base.specs.declared.outcome.Outcome.TheVariants.{Kept, Evicted}
-use Rattle.queue_moves.specs.Tabled.{IsTabled, keys_of}
+use Rattle.queue_moves.specs.Moves.{Outcome, Entry, turned, after_turn, after_turns, after_run, after_runs, after_first, Leaving, departed, leaving, after_leaving, evicted, outcome_after, IsLowLeaving, IsLowPlan, Plan}
+use Rattle.queue_moves.specs.Tabled.{IsTabled}
 use Rattle.queue_moves.specs.Undoing.{IsLeft, IsRun}
 use Rattle.queue_moves.proofs.Laws.{first-other, off-after-send}
-use Rattle.queue_moves.proofs.Tabled.{oldest-gone}
-use Rattle.std.proofs.lemmas.List.{length-map}
-use Rattle.policy_page.specs.CountedKeys as counted
-use Rattle.policy_page.proofs.CountedKeys.{length-keys}
-use Rattle.policy_page.specs.Planned.{resident_plan}
-use Rattle.policy_page.specs.Counted.{counted_keys}
-use Rattle.policy_page.specs.Misses.{Leavers, miss_plan}
-use Rattle.policy_page.specs.PolicyPage.{LeavesNone, LeavesWhere}
-use Rattle.policy_page.proofs.Counted.{length-counted}
+use Rattle.queue_moves.proofs.Tabled.{oldest-gone, tabled-leaving, turns-within}
+use Rattle.policy_page.specs.Leavers.{Leavers, after_leavers, leavers_for_ghost}
 
 pub oldest-out : (s : Queues) → IsTabled s → (q : ℕ) (e : Entry) (l : List Entry) → s q ≡ e ∷ l → after_leaving (leaving q None) s ≡ with_queue q l s
 oldest-out s t q e l h = ap (λ o. departed None o s) (ap oldest_of h) ∙ oldest-gone s t q e l h
@@ -123,50 +116,31 @@ absent-left i l s u r w left h = is_absent i u (subst (IsAbsent i) (sym left.aft
 pub absent-run : (i : Item) (r : Run) (s u : Queues) → IsRun r s u → queue_holding i s ≡ None → queue_holding i u ≡ None
 absent-run i r s u ran none = grind (arith, nat_tests, is_absent, absent-turns, absent)
 
--- ---- when keys leave the queues by a plan
+-- ---- which queues leavers name
 
--- ---- by a hit no key leaves
+abbrev pub AreLow : Leavers → Type 0
+AreLow l = IsLowLeaving l.first × IsLowLeaving l.second
 
-abbrev pub HitsAlone : Plan → Type 0
-HitsAlone p = p.hits ≡ true → LeavesNone p
+pub tabled-leavers : (l : Leavers) (s : Queues) → AreLow l → IsTabled s → IsTabled (after_leaving l.second (after_leaving l.first s))
+tabled-leavers l s w t = tabled-leaving (after_leaving l.first s) (tabled-leaving s t l.first w.0) l.second w.1
 
-pub own-alone : (b : Bool) (o : Own) (x : ℕ) → HitsAlone (own_plan b o x)
-own-alone b o x h = record { first = refl; second = refl }
+pub leavers-low : (from ghost size : ℕ) (r : Bool) (s : Queues) → from < QUEUES → ghost < QUEUES → AreLow (leavers_for_ghost from ghost size r s)
+leavers-low from ghost size r s low into = ((low, into), cond_both (r || nat_lt (length (s ghost)) size) _ _ IsLowLeaving (λ f. tt) (λ f. (into, tt)))
 
-pub never : (p : Plan) → p.hits ≡ false → HitsAlone p
-never p f h = absurd (let no : false ≡ true = sym f ∙ h in cc no)
+-- ---- A key leaves for a ghost, which the accessed key may leave
 
-pub either : (b : Bool) (p q : Plan) → HitsAlone p → HitsAlone q → HitsAlone (if b then p else q)
-either v p q f g = grind (arith, nat_tests)
+-- the oldest of a queue has gone to the recent end of the ghost
+abbrev pub after_oldest_sent : ℕ → ℕ → Entry → List Entry → Queues → Queues
+after_oldest_sent from ghost e l s = after_push ghost (entry e.item 0) (with_queue from l s)
 
-pub resident-alone : (at : Option (ℕ × ℕ)) (room : Bool) (hit join : Own) (x : ℕ) (full : Plan) → full.hits ≡ false → HitsAlone (resident_plan at room hit join x full)
-resident-alone v room hit join x full f = grind (arith, nat_tests, own-alone, either, never)
+-- the ghost g, less its oldest where it forgets that
+abbrev pub ghost_entries : Bool → List Entry → List Entry
+ghost_entries f g = cond f g (drop 1 g)
 
--- ---- by a miss keys leave where the cache is full
-
-module _ (full : Type 0) where
-  pub one-of : (b : Bool) (p q : Plan) → (b ≡ true → LeavesWhere full p) → (b ≡ false → LeavesWhere full q) → LeavesWhere full (if b then p else q)
-  one-of v p q f g = grind (arith, nat_tests)
-
-  pub own-none : (b : Bool) (o : Own) (x : ℕ) → LeavesWhere full (own_plan b o x)
-  own-none b o x = inl (record { first = refl; second = refl })
-
-  pub resident-full : (at : Option (ℕ × ℕ)) (room : Bool) (hit join : Own) (x : ℕ) (p : Plan) → (room ≡ false → full) → LeavesWhere full (resident_plan at room hit join x p)
-  resident-full v room hit join x p f = grind (arith, nat_tests, own-none, one-of)
-
-  -- a miss without runs
-  pub miss-full : (l : Leavers) (o : Own) (x : ℕ) → (l.first ≡ None) × (l.second ≡ None) ⊎ full → LeavesWhere full (miss_plan l o x)
-  miss-full l o x v = grind (arith, nat_tests)
-
--- the sizes of one queue with counts, and of two, with counts and without
-pub counted-length : (l : List Entry) → length (counted.keys_of (counted_keys l)) ≡ length l
-counted-length l = length-keys (counted_keys l) ∙ length-counted l
-
-pub both-length : (l m : List Entry) → length (counted.keys_of (counted_keys l ++ counted_keys m)) ≡ length l + length m
-both-length l m = grind (arith, nat_tests, length-counted, length-keys, length-append)
-
-pub keys-length : (l m : List Entry) → length (keys_of l ++ keys_of m) ≡ length l + length m
-keys-length l m = grind (arith, nat_tests, length-map, length-append (keys_of l) (keys_of m))
-
-pub not-less : (n m c : ℕ) → n ≡ m → nat_lt m c ≡ false → nat_lt n c ≡ false
-not-less n m c e h = ap (λ y. nat_lt y c) e ∙ h
+module _ (s : Queues) (t : IsTabled s) (from ghost size : ℕ) (r : Bool) (e : Entry) (l : List Entry) (h : s from ≡ e ∷ l) (low : from < QUEUES) (into : ghost < QUEUES) where
+  pub leavers-gone : after_leavers (leavers_for_ghost from ghost size r s) s
+      ≡ with_queue ghost (ghost_entries (r || nat_lt (length (s ghost)) size) (after_oldest_sent from ghost e l s ghost)) (after_oldest_sent from ghost e l s)
+  leavers-gone =
+      let first : Queues = after_leaving (leaving from (Some (ghost, 0))) s in
+      let tabled : IsTabled first = tabled-leaving s t (leaving from (Some (ghost, 0))) (low, into) in
+      grind (arith, nat_tests, oldest-sent s t from ghost e l h, turns-within, any-out)

@@ -1,21 +1,21 @@
 -- Entries as keys with counts.
-use Rattle.std.proofs.Common.{◌≡◌, ℕ, ◌+◌, ◌≤◌, true, cond, nat_lt, List, [], ◌∷◌, ◌++◌, length, ap, ◌∙◌, refl, arith, zero, suc, ◌<◌, eqb}
-use Rattle.std.proofs.lemmas.Bool.{eq-eqb}
-use Rattle.std.proofs.lemmas.List.{length-map, map-append}
 use Rattle.std.proofs.lemmas.Bool.Decides.{nat_tests}
+use Rattle.std.proofs.Common.{eqb, ◌++◌, ◌≡◌, ℕ, zero, suc, ◌<◌, List, [], ◌∷◌, ap, ◌∙◌, refl, arith, ◌+◌, true, nat_lt, length, length-append, ◌≤◌, cond}
+use Rattle.std.proofs.lemmas.List.{length-map, map-append}
+use Rattle.std.proofs.lemmas.Bool.{eq-eqb}
 use Rattle.engine_base.specs.Keys.{has_key}
-use Rattle.queue_table.specs.Entries.{oldest_of, occurrences, entries_counted}
-use Rattle.queue_table.specs.Queues.{Queues, QUEUES}
-use Rattle.queue_table.proofs.QueueLists.{times-append, with-queue-same, with-queue-other}
+use Rattle.queue_table.specs.Entries.{occurrences, oldest_of, entries_counted}
+use Rattle.queue_table.specs.Queues.{QUEUES, Queues}
+use Rattle.queue_table.proofs.QueueLists.{with-queue-other, times-append, with-queue-same}
+use Rattle.queue_moves.specs.Moves.{Entry, after_turn, after_turns, item_of, count_or, turns_due}
+use Rattle.queue_moves.specs.Tabled.{IsTabled, nodes_of, StandsAs, keys_of as entry_keys}
+use Rattle.queue_moves.proofs.Tabled.{turns-within, has-occurs, same-key, counted-none, tabled-turn, turn-is, turn-none}
+use Rattle.policy_page.specs.QueueView.{counted_keys, counted_key}
 use Rattle.policy_page.specs.CountedKeys.{CountedKey, keys_of, count_of, with_count, oldest_count, total_count}
-use Rattle.policy_page.proofs.CountedKeys.{keys-append, count-append}
 use Rattle.policy_page.proofs.Weights.{has-append}
-use Rattle.queue_moves.specs.Moves.{Entry, item_of, count_or, after_turn, after_turns, turns_due}
-use Rattle.queue_moves.specs.Tabled.{StandsAs, nodes_of, keys_of as entry_keys, IsTabled}
-use Rattle.queue_moves.proofs.Tabled.{same-key, has-occurs, counted-none, tabled-turn, turn-is, turn-none, turns-within}
-use Rattle.policy_page.specs.Counted.{counted_key, counted_keys}
-use Rattle.policy_page.specs.Turns as page
+use Rattle.policy_page.proofs.CountedKeys.{keys-append, count-append, length-keys}
 use Rattle.policy_page.proofs.Turns.{turned-total, oldest-few}
+use Rattle.policy_page.specs.Turns as page
 
 pub counted-append : (a b : List Entry) → counted_keys (a ++ b) ≡ counted_keys a ++ counted_keys b
 counted-append a b = map-append counted_key a b
@@ -33,6 +33,12 @@ keys-counted (e ∷ l) = ap (λ t. e.item.key ∷ t) (keys-counted l)
 pub both-counted : (l m : List Entry) → keys_of (counted_keys l ++ counted_keys m) ≡ entry_keys l ++ entry_keys m
 both-counted [] m = keys-counted m
 both-counted (e ∷ l) m = ap (λ t. e.item.key ∷ t) (both-counted l m)
+
+pub counted-length : (l : List Entry) → length (keys_of (counted_keys l)) ≡ length l
+counted-length l = length-keys (counted_keys l) ∙ length-counted l
+
+pub both-length : (l m : List Entry) → length (keys_of (counted_keys l ++ counted_keys m)) ≡ length l + length m
+both-length l m = grind (arith, nat_tests, length-counted, length-keys, length-append)
 
 pub key-counted : (k : ℕ) (l : List Entry) → nodes_of l ≡ 0 → has_key k (keys_of (counted_keys l)) ≡ nat_lt 0 (occurrences (item_of k) l)
 key-counted k l h = ap (has_key k) (keys-counted l) ∙ has-occurs k l h
