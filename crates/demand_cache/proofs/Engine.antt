@@ -16,15 +16,15 @@ use Rattle.demand_cache.specs.DemandQueues.{DemandPolicy, Moves, DemandQueues, q
 use Rattle.demand_cache.specs.DemandPolicy.{plan_by, residents_by, IsStateOf}
 use Rattle.demand_cache.specs.DemandCache.{Stats, DemandState, demand_act, IsCountedBy}
 use Rattle.demand_cache.specs.Theorems.{PagesAreSound}
-use Rattle.demand_cache.proofs.Keeping.{IsKept, kept, is-cache, cache_of}
+use Rattle.demand_cache.proofs.Keeping.{IsPlannedAccess, planned-access, is-cache, cache_of}
 
 module _ (all : PagesAreSound) (p : DemandPolicy) (c x : ℕ) (s : Queues) (t : IsTabled s) (h : 1 ≤ c) (i : IsQueues c (cache_of p c x s)) where
   pub state-shown : IsStateOf p c x s
   state-shown = subst (IsStateOf p c x) (lists-shown s t) i.state
 
   module _ (k : ℕ) where
-    what : IsKept p c k x s (plan_by p c k x s)
-    what = kept all p c k x s h t state-shown
+    what : IsPlannedAccess p c k x s (plan_by p c k x s)
+    what = planned-access all p c k x s h t state-shown
 
     -- an access that is out of memory is no hit
     pub no-resident : (plan_by p c k x s).hits ≡ false → has_key k (queues_residents (cache_of p c x s)) ≡ false

@@ -23,7 +23,7 @@ use Rattle.demand_cache.specs.declared.demand_policy.DemandPolicy.TheVariants.{F
 use Rattle.demand_cache.specs.DemandQueues.{DemandPolicy, DemandQueues, queues_of, plan_of, queues_residents, queues_act, IsQueues}
 use Rattle.demand_cache.specs.DemandPolicy.{page_of, plan_by, residents_by, IsStateOf}
 use Rattle.demand_cache.specs.DemandCache.{Stats, DemandState, state_of, demand_access}
-use Rattle.demand_cache.specs.Theorems.{PagesAreSound, DemandKeeps, MissesAreKept, RunsByPage, HitsAskNothing, AsksWhereOneLeft}
+use Rattle.demand_cache.specs.Theorems.{PagesAreSound, DemandKeeps, MissesAreAdmitted, RunsByPage, HitsAskNothing, AsksWhereOneLeft}
 use Rattle.std.proofs.lemmas.Bool.{cases_Bool}
 use Rattle.engine_base.specs.declared.outcome.Outcome.TheVariants.{Hit}
 use Rattle.queue_table.specs.declared.records.Entry.{Entry}
@@ -40,14 +40,14 @@ pages-sound Arc = arc-sound
 pages-sound Car = car-sound
 
 -- what an access by the plan p comes to, in a cache of the policy
-pub record IsKept (p : DemandPolicy) (c k x : ℕ) (s : Queues) (plan : Plan) : Type 0 where
+pub record IsPlannedAccess (p : DemandPolicy) (c k x : ℕ) (s : Queues) (plan : Plan) : Type 0 where
   pub state : IsStateOf p c plan.own_number (after_all plan (item_of k) s)
   pub access : IsAccess c k (residents_by p x s) (outcome_of plan s) (residents_by p plan.own_number (after_all plan (item_of k) s))
   pub low : IsLowPlan plan
   pub hits : plan.hits ≡ has_key k (residents_by p x s)
 
-pub kept : PagesAreSound → (p : DemandPolicy) (c k x : ℕ) (s : Queues) → 1 ≤ c → IsTabled s → IsStateOf p c x s → IsKept p c k x s (plan_by p c k x s)
-kept all p c k x s h t i =
+pub planned-access : PagesAreSound → (p : DemandPolicy) (c k x : ℕ) (s : Queues) → 1 ≤ c → IsTabled s → IsStateOf p c x s → IsPlannedAccess p c k x s (plan_by p c k x s)
+planned-access all p c k x s h t i =
     let g : PolicyPage = page_of p in
     let old : g.State = g.view x s in
     let q = (all p).planned c k x s h t i.0 i.1 in
@@ -68,17 +68,17 @@ cache_of p c x s = record { policy = p; capacity = c; own_number = x; lists = li
 pub is-cache : (p : DemandPolicy) (c x : ℕ) (s : Queues) → 1 ≤ c → IsTabled s → IsStateOf p c x s → IsQueues c (cache_of p c x s)
 is-cache p c x s h t i = search (arith, lists-shown s t)
 
-pub kept-of : PagesAreSound → (c k : ℕ) (d : DemandQueues) → 1 ≤ c → IsQueues c d → IsKept d.policy d.capacity k d.own_number (queues_of d) (plan_of k d)
-kept-of all c k d h i = grind (arith, nat_tests, kept)
+pub access-of : PagesAreSound → (c k : ℕ) (d : DemandQueues) → 1 ≤ c → IsQueues c d → IsPlannedAccess d.policy d.capacity k d.own_number (queues_of d) (plan_of k d)
+access-of all c k d h i = grind (arith, nat_tests, planned-access)
 
 next-tabled : PagesAreSound → (c k : ℕ) (d : DemandQueues) → 1 ≤ c → IsQueues c d → IsTabled (after_all (plan_of k d) (item_of k) (queues_of d))
-next-tabled all c k d h i = tabled-all (queues_of d) i.tabled (plan_of k d) (kept-of all c k d h i).low k
+next-tabled all c k d h i = tabled-all (queues_of d) i.tabled (plan_of k d) (access-of all c k d h i).low k
 
 pub next-keeps : PagesAreSound → (c : ℕ) → 1 ≤ c → (k : ℕ) (d : DemandQueues) → IsQueues c d → IsQueues c (queues_act k d).1
-next-keeps all c h k d i = search (arith, is-cache, next-tabled all c k d h i, kept-of all c k d h i)
+next-keeps all c h k d i = search (arith, is-cache, next-tabled all c k d h i, access-of all c k d h i)
 
-pub misses-kept : PagesAreSound → MissesAreKept
-misses-kept all c k d i = search (arith, lists-shown, next-tabled all c k d i.least i, kept-of all c k d i.least i)
+pub misses-admitted : PagesAreSound → MissesAreAdmitted
+misses-admitted all c k d i = search (arith, lists-shown, next-tabled all c k d i.least i, access-of all c k d i.least i)
 
 empty-tabled : IsTabled empty_queues
 empty-tabled = record { keys = λ q. refl; distinct = λ i. omega arith; high = λ q w. refl }
@@ -98,7 +98,7 @@ demand-keeps all p c h = record {
   empty = ap (residents_by p 0) (lists-shown empty_queues empty-tabled) ∙ empty-residents all p c h;
   starts = started all p c h;
   keeps = λ k d i. next-keeps all c h k d.queues i;
-  accesses = λ k d i. served c k _ _ _ (misses-kept all c k d.queues i);
+  accesses = λ k d i. served c k _ _ _ (misses-admitted all c k d.queues i);
   fits = λ d i. (((all d.queues.policy).keeps c h).holds _ i.state.1).fits;
   distinct = λ d k i. each-once c k _ (((all d.queues.policy).keeps c h).holds _ i.state.1);
 }
@@ -161,4 +161,4 @@ hits-ask-nothing all k d h a = grind (arith, nat_tests, asks-nothing, cases_Bool
 
 pub asks-where-one-left : PagesAreSound → AsksWhereOneLeft
 asks-where-one-left all c k d i a =
-    grind (arith, nat_tests, asks-nothing, cases_Bool (plan_of k d).hits, kept-of all c k d i.least i)
+    grind (arith, nat_tests, asks-nothing, cases_Bool (plan_of k d).hits, access-of all c k d i.least i)

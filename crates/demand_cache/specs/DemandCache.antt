@@ -25,7 +25,6 @@ state_of p c x l stats =
 abbrev pub state_with : Stats → Outcome × DemandQueues → DemandState
 state_with stats a = record { queues = a.1; stats = stats_with a.0 stats }
 
--- an access to k
 abbrev pub demand_access : ℕ → DemandState → Outcome × DemandState
 demand_access k d = ((queues_act k d.queues).0, state_with d.stats (queues_act k d.queues))
 

@@ -18,7 +18,6 @@ pub record DemandQueues : Type 0 where
   pub own_number : ℕ
   pub lists : QueueLists
 
--- the queues by number
 abbrev pub queues_of : DemandQueues → Queues
 queues_of d = queues_in d.lists
 

@@ -24,8 +24,8 @@ abbrev pub DemandKeeps : Type 0
 DemandKeeps = (p : DemandPolicy) (c : ℕ) → 1 ≤ c → KeepsKeys c (demand_machine p c)
 
 -- A miss brings its key in, and of a full cache one key leaves; none is rejected.
-abbrev pub MissesAreKept : Type 0
-MissesAreKept = (c k : ℕ) (d : DemandQueues) → IsQueues c d
+abbrev pub MissesAreAdmitted : Type 0
+MissesAreAdmitted = (c k : ℕ) (d : DemandQueues) → IsQueues c d
     → IsAccess c k (queues_residents d) (queues_act k d).0 (queues_residents (queues_act k d).1)
 
 -- Undoing a hit takes no memory.

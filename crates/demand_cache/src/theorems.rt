@@ -1,6 +1,6 @@
 //! Theorems on these policies, for callers that see a cache by its steps alone. Each of these functions does nothing:
 //! its contract is the theorem.
-ghost use Rattle.demand_cache.specs.Theorems.{PagesAreSound, PagesCount, DemandKeeps, MissesAreKept, RunsByPage};
+ghost use Rattle.demand_cache.specs.Theorems.{PagesAreSound, PagesCount, DemandKeeps, MissesAreAdmitted, RunsByPage};
 ghost use Rattle.demand_cache.specs.Theorems.{HitsAskNothing, AsksWhereOneLeft};
 
 /// Each policy's definition keeps every missed key, and an access by its plan is the definition's.
@@ -12,7 +12,7 @@ pub fn pages_are_sound()
 /// Each policy keeps every missed key, and its residents fit, each once.
 pub fn demand_keeps()
     ensures residents { DemandKeeps }
-    ensures misses { MissesAreKept }
+    ensures misses { MissesAreAdmitted }
 {}
 
 /// The outcomes of a run by each policy's plans are those of its definition.

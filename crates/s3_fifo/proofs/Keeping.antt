@@ -110,19 +110,19 @@ hit-few n = cond_both (nat_lt n 3) _ _ (λ m. m ≤ 3) (λ e. let few : n < 3 = 
 
 module _ (part c k : ℕ) (s : S3FifoState) (some : 1 ≤ c) (state : IsS3Fifo part c s) where
   -- an access with the outcome r.0, after which the state is r.1
-  record IsKept (r : Outcome × S3FifoState) : Type 0 where
+  record IsNext (r : Outcome × S3FifoState) : Type 0 where
     access : IsAccess c k (s3_fifo_residents s) r.0 (s3_fifo_residents r.1)
     counts : AreCounted 3 (r.1.small ++ r.1.main)
     ghost_fits : length r.1.ghost ≤ s3_fifo_main_size part c
     apart : (x : ℕ) → times x r.1.ghost + times x (s3_fifo_residents r.1) ≤ 1
 
-  kept : IsKept (s3_fifo_act part c k s)
-  kept =
+  next : IsNext (s3_fifo_act part c k s)
+  next =
       let n : ℕ = hit_count (count_of k (s.small ++ s.main)) in
       let t : S3FifoState = without_ghost_key k s in
       let remembered : Bool = has_key k s.ghost in
       let r : Outcome × S3FifoState = s3_fifo_room part c t in
-      cond_both (has_key k (s3_fifo_residents s)) _ _ IsKept
+      cond_both (has_key k (s3_fifo_residents s)) _ _ IsNext
       (λ e. record {
         access = rw (keys-with-both k n s.small s.main) (hit-stays c k (s3_fifo_residents s) e);
         counts = counted-both 3 k n s.small s.main (hit-few (count_of k (s.small ++ s.main))) state.counts;
@@ -143,8 +143,8 @@ pub keeps : (part c : ℕ) → 1 ≤ c → KeepsResidents c empty_s3_fifo (s3_fi
 keeps part c h = record {
   starts = (record { residents = none-held c; counts = tt; ghost_fits = omega arith; apart = λ k. omega arith }, refl);
   keeps = λ k s state.
-      let a = kept part c k s h state in
+      let a = next part c k s h state in
       record { residents = access-keeps c k (s3_fifo_residents s) _ _ a.access state.residents; counts = a.counts; ghost_fits = a.ghost_fits; apart = a.apart };
-  accesses = λ k s state. (kept part c k s h state).access;
+  accesses = λ k s state. (next part c k s h state).access;
   holds = λ s state. state.residents;
 }

@@ -64,7 +64,7 @@ room z c s some =
 
 module _ (z : TwoQSizes) (c k : ℕ) (s : TwoQState) (some : 1 ≤ c) (state : IsTwoQ z c s) where
   -- an access with the outcome r.0, after which the state is r.1
-  record IsKept (r : Outcome × TwoQState) : Type 0 where
+  record IsNext (r : Outcome × TwoQState) : Type 0 where
     access : IsAccess c k (two_q_residents s) r.0 (two_q_residents r.1)
     few : length r.1.a1out ≤ z.kout
     apart : (x : ℕ) → times x r.1.a1out + times x (two_q_residents r.1) ≤ 1
@@ -72,13 +72,13 @@ module _ (z : TwoQSizes) (c k : ℕ) (s : TwoQState) (some : 1 ≤ c) (state : I
   apart-before : (x : ℕ) → times x s.a1out + times x (two_q_residents s) ≤ 1
   apart-before x = omega (arith, state.distinct x, times-append x s.a1in s.am)
 
-  renewed : has_key k s.am ≡ true → IsKept (Hit, two_q_after_renewal k s)
+  renewed : has_key k s.am ≡ true → IsNext (Hit, two_q_after_renewal k s)
   renewed e =
       let has : has_key k (two_q_residents s) ≡ true = has-append k s.a1in s.am ∙ rw e (cond_both (has_key k s.a1in) _ _ (λ b. b ≡ true) (λ f. refl) (λ f. refl)) in
       let access = hit-moves c k (two_q_residents s) (two_q_residents (two_q_after_renewal k s)) has (λ f. omega (arith, weight-renewed f k s.am (omega (arith, state.distinct k)) e, weight-append f)) in
       record { access = access; few = state.few; apart = λ x. omega (arith, access.moves x, apart-before x) }
 
-  missed : has_key k s.am ≡ false → has_key k s.a1in ≡ false → IsKept (two_q_outcome (two_q_leaver z c s), two_q_after_miss z c k s)
+  missed : has_key k s.am ≡ false → has_key k s.a1in ≡ false → IsNext (two_q_outcome (two_q_leaver z c s), two_q_after_miss z c k s)
   missed e g =
       let absent : has_key k (two_q_residents s) ≡ false = has-append k s.a1in s.am ∙ rw (g, e) refl in
       let remembered : Bool = has_key k s.a1out in
@@ -92,9 +92,9 @@ module _ (z : TwoQSizes) (c k : ℕ) (s : TwoQState) (some : 1 ≤ c) (state : I
         apart = λ x. rw ghost (still-apart x k s.a1out (two_q_residents s) r.1.a1out (two_q_residents (two_q_after_join remembered k r.1)) r.0 absent (apart-before x) (made.grows x) (access.moves x));
       }
 
-  kept : IsKept (two_q_act z c k s)
-  kept =
-      cond_both (has_key k s.am) _ _ IsKept renewed (λ e. cond_both (has_key k s.a1in) _ _ IsKept
+  next : IsNext (two_q_act z c k s)
+  next =
+      cond_both (has_key k s.am) _ _ IsNext renewed (λ e. cond_both (has_key k s.a1in) _ _ IsNext
       (λ g. record {
         access = hit-moves c k (two_q_residents s) (two_q_residents s) (has-append k s.a1in s.am ∙ rw g refl) (λ f. refl);
         few = state.few;
@@ -110,13 +110,13 @@ keeps z c h = record {
   starts = (record { fits = omega arith; few = omega arith; distinct = λ x. omega arith }, refl);
   keeps = λ k s state.
       let new : TwoQState = (two_q_act z c k s).1 in
-      let a = kept z c k s h state in
+      let a = next z c k s h state in
       let held = access-keeps c k (two_q_residents s) (two_q_act z c k s).0 (two_q_residents new) a.access (holds z c s state) in
       record {
         fits = omega (arith, held.fits, length-append new.a1in new.am);
         few = a.few;
         distinct = λ x. omega (arith, a.apart x, times-append x new.a1in new.am);
       };
-  accesses = λ k s state. (kept z c k s h state).access;
+  accesses = λ k s state. (next z c k s h state).access;
   holds = λ s state. holds z c s state;
 }
