@@ -8,7 +8,7 @@ use Rattle.trace_read.specs.TraceText.{keys_in}
 use Rattle.trace_read.specs.declared.fault.TraceFault.{TraceFault}
 use Rattle.trace_read.specs.declared.limits.TheConstants.Limits.{LONG}
 use Rattle.trace_read.specs.declared.fault.TraceFault.TheVariants.{OutOfMemory}
-use Rattle.trace_sample.specs.Kept.{Kept, Keeps}
+use Rattle.trace_sample.specs.SampledAccesses.{SampledAccesses, Keeps}
 use Rattle.trace_sample.specs.Sample.{sample_of}
 use Rattle.trace_sample.specs.Written.{Format, IsSampleFault}
 use Rattle.trace_sample.specs.declared.rule.SampleRule.{SampleRule}
@@ -23,7 +23,7 @@ fault_at format old new fault is = read_as fault is
 -- ---- a piece more
 
 -- its accesses were kept
-pub kept_more : (rule : SampleRule) (format : Format) (old : Option (List ℕ)) (taken : ℕ) (more : Bool) (keys slice : List ℕ) (was new : Kept) (start now : Option (List ℕ))
+pub kept_more : (rule : SampleRule) (format : Format) (old : Option (List ℕ)) (taken : ℕ) (more : Bool) (keys slice : List ℕ) (was new : SampledAccesses) (start now : Option (List ℕ))
     → GivesNext format old taken more keys → was.test.rule ≡ rule → slice ≡ keys → Keeps was new (sample_of was.test.rule.inverse was.test.rule.seed slice)
     → IfSome old (λ bytes. IsSampled rule.inverse rule.seed taken was start now (keys_in format bytes))
     → IfSome old (λ bytes. IsSampled rule.inverse rule.seed (taken + length keys) new start now (keys_in format bytes))

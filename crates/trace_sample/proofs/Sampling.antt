@@ -7,7 +7,7 @@ use Rattle.std.proofs.lemmas.List.Elements.{filter_more}
 use Rattle.std.proofs.lemmas.List.Folds.{list_any-append}
 use Rattle.std.proofs.lemmas.List.{length-append}
 use Rattle.trace_sample.specs.Hash.{is_sampled}
-use Rattle.trace_sample.specs.Kept.{Kept, Keeps}
+use Rattle.trace_sample.specs.SampledAccesses.{SampledAccesses, Keeps}
 use Rattle.trace_sample.specs.Numbers.{numbers_text, number_line}
 use Rattle.trace_sample.specs.Sample.{sample_of}
 
@@ -24,7 +24,7 @@ or-false true = refl
 or-false false = refl
 
 -- nothing was kept
-pub keeps-none : (old new : Kept) → new.text.items ≡ old.text.items → new.accesses ≡ old.accesses → new.blocks ≡ old.blocks → Keeps old new []
+pub keeps-none : (old new : SampledAccesses) → new.text.items ≡ old.text.items → new.accesses ≡ old.accesses → new.blocks ≡ old.blocks → Keeps old new []
 unfolding numbers_text
 keeps-none old new text accesses blocks = record {
   text = text ∙ sym (append-nil _);
@@ -39,7 +39,7 @@ or-assoc true b c = refl
 or-assoc false b c = refl
 
 -- some, and then more
-pub keeps-then : (old mid new : Kept) (xs ys : List ℕ) → Keeps old mid xs → Keeps mid new ys → Keeps old new (xs ++ ys)
+pub keeps-then : (old mid new : SampledAccesses) (xs ys : List ℕ) → Keeps old mid xs → Keeps mid new ys → Keeps old new (xs ++ ys)
 keeps-then old mid new xs ys first second = record {
   text = second.text ∙ ap (λ t. t ++ numbers_text ys) first.text ∙ append_assoc old.text.items (numbers_text xs) (numbers_text ys)
       ∙ ap (λ t. old.text.items ++ t) (sym (numbers-append xs ys));

@@ -1,5 +1,5 @@
 pub mod Hash
-pub mod Kept
 pub mod Numbers
 pub mod Sample
+pub mod SampledAccesses
 pub mod Written

@@ -6,8 +6,8 @@
 
 mod counts;
 mod fault;
-mod kept;
 mod rule;
+mod sampled_accesses;
 mod write;
 
 pub use counts::SampleCounts;

@@ -11,8 +11,8 @@ ghost use Rattle.trace_sample.specs.Written.{Counts, IsFaultless, IsSampleFault}
 
 use crate::counts::SampleCounts;
 use crate::fault::SampleFault;
-use crate::kept::Kept;
 use crate::rule::SampleRule;
+use crate::sampled_accesses::SampledAccesses;
 use engine_base::Gate;
 use std::alloc::Global;
 use streams::{CountedRead, CountedWrite, RetryBudget, WriteAllFault, flush, write_some};
@@ -51,7 +51,7 @@ pub fn write_sample<R: CountedRead, W: CountedWrite, G: Gate>(
     ensures writes { FailsWhere (result ≡ Err SampleFault.Write) (W.tally writer.old) (W.tally writer.new) }
 {
     let mut reading = Reading::new(alloc, format, Limits::LONG);
-    let mut kept = Kept::new(alloc, rule);
+    let mut sample = SampledAccesses::new(alloc, rule);
     let mut keys = Vec::new(alloc);
     let mut budget = RetryBudget::new();
     let mut accesses = 0;
@@ -60,40 +60,40 @@ pub fn write_sample<R: CountedRead, W: CountedWrite, G: Gate>(
             Ok(more) => more,
             Err(fault) => return Err(SampleFault::Trace(fault)),
         };
-        if let Err(_) = kept.add(keys.as_slice()) {
+        if let Err(_) = sample.add(keys.as_slice()) {
             return Err(SampleFault::Trace(TraceFault::OutOfMemory));
         }
         accesses += keys.len() as u64;
         gate.after(0, accesses);
-        if let Err(_) = pass_on(&mut kept, more, writer, &mut budget) {
+        if let Err(_) = pass_on(&mut sample, more, writer, &mut budget) {
             return Err(SampleFault::Write);
         }
         if !more {
-            return Ok(kept.counts(accesses));
+            return Ok(sample.counts(accesses));
         }
     }
 }
 
 // Writes the text that waits, where it is long. Where no more comes, it is written in any case, and the writer flushed.
 fn pass_on<W: CountedWrite>(
-    kept: &mut Kept,
+    sample: &mut SampledAccesses,
     more: bool,
     writer: &mut W,
     budget: &mut RetryBudget,
 ) -> Result<(), WriteAllFault>
-    ensures same { (kept.new.test ≡ kept.old.test) × (kept.new.blocks ≡ kept.old.blocks) × (kept.new.accesses ≡ kept.old.accesses) }
-    ensures written { OnOk result (IsTextWritten (W.contents writer.old) (W.contents writer.new) kept.new.text.items kept.old.text.items) }
-    ensures none { OnOk result (more ≡ false → kept.new.text.items ≡ []) }
+    ensures same { (sample.new.test ≡ sample.old.test) × (sample.new.blocks ≡ sample.old.blocks) × (sample.new.accesses ≡ sample.old.accesses) }
+    ensures written { OnOk result (IsTextWritten (W.contents writer.old) (W.contents writer.new) sample.new.text.items sample.old.text.items) }
+    ensures none { OnOk result (more ≡ false → sample.new.text.items ≡ []) }
     ensures flushed { OnOk result (more ≡ false → W.is_flushed writer.new ≡ true) }
-    ensures part { OnErr result (AppendsPart (W.contents writer.old) (W.contents writer.new) kept.old.text.items) }
+    ensures part { OnErr result (AppendsPart (W.contents writer.old) (W.contents writer.new) sample.old.text.items) }
     ensures spent { OnOk result (Spends budget.old budget.new (W.tally writer.old) (W.tally writer.new)) }
     ensures exhausted { OnErr result (Exhausts budget.old (W.tally writer.old) (W.tally writer.new)) }
 {
-    if more && kept.text.len() < LONG_TEXT {
+    if more && sample.text.len() < LONG_TEXT {
         return Ok(());
     }
-    write_some(writer, kept.text.as_slice(), budget)?;
-    kept.text.clear();
+    write_some(writer, sample.text.as_slice(), budget)?;
+    sample.text.clear();
     if more {
         return Ok(());
     }

@@ -13,9 +13,9 @@ use Rattle.trace_sample.proofs.write.write_sample.Goals.{After-pass_on}
 pub pieces-init : goal.pieces-init
 pieces-init g c = record {
   reading = c.new-reading.ensures.new (g.R.CountedRead.remaining c.args.reader.now) (g.R.CountedRead.tally c.args.reader.now);
-  rule = c.new-kept.ensures.rule;
-  few = omega (arith, c.new-kept.ensures.none.accesses);
-  sampled = always _ (λ b. nothing_sampled _ _ c.new-kept.result _ _ c.new-kept.ensures.none);
+  rule = c.new-sample.ensures.rule;
+  few = omega (arith, c.new-sample.ensures.none.accesses);
+  sampled = always _ (λ b. nothing_sampled _ _ c.new-sample.result _ _ c.new-sample.ensures.none);
   spent = rw c.new-budget.ensures (unspent _ _);
 }
 
@@ -28,7 +28,7 @@ pub returns-in-Err : goal.returns-in-Err
 returns-in-Err g c =
     let i = c.pieces.invariant in
     let next = c.in-Err.ensures.next _ _ _ _ _ i.reading in
-    failed (IfSome_then _ i.sampled (λ b s. sampled_so_far _ _ c.pieces.accesses _ c.pieces.kept _ _ s))
+    failed (IfSome_then _ i.sampled (λ b s. sampled_so_far _ _ c.pieces.accesses _ c.pieces.sample _ _ s))
     (fault_at _ _ _ c.in-Err.fault (next.end (λ q. absurd (cc q))))
     (fails_as (λ q. cc q) (λ q. cc q) next.tally) (spent_only c.pieces.budget (λ q. absurd (cc q)) i.spent)
 
@@ -36,7 +36,7 @@ pub returns-in-Err-add : goal.returns-in-Err-add
 returns-in-Err-add g c =
     let i = c.pieces.invariant in
     let next = c.in-Ok.ensures.next _ _ _ _ _ i.reading in
-    failed (IfSome_then _ i.sampled (λ b s. sampled_so_far _ _ c.pieces.accesses _ c.pieces.kept _ _ s)) tt
+    failed (IfSome_then _ i.sampled (λ b s. sampled_so_far _ _ c.pieces.accesses _ c.pieces.sample _ _ s)) tt
     (fails_as (λ q. absurd (cc q)) (λ q. absurd (cc q)) next.tally) (spent_only c.pieces.budget (λ q. absurd (cc q)) i.spent)
 
 -- the accesses of the piece were kept
@@ -62,11 +62,11 @@ returns-then-not-more g c =
     let last = next.gives.last c.if-not-more.true in
     let read = next.end (λ q. absurd (cc (q, c.if-not-more.true))) in
     let len : c.len.result ≡ length c.next.new.keys.items = search rules in
-    let on = IfSome_then _ (kept g at) (λ b s. sampled_on _ _ _ _ c.add.new.self c.pass_on.new.kept _ _ _ c.pass_on.ensures.same.1 c.pass_on.ensures.same.2 c.in_default-pass_on.ensures.written s) in
+    let on = IfSome_then _ (kept g at) (λ b s. sampled_on _ _ _ _ c.add.new.self c.pass_on.new.sample _ _ _ c.pass_on.ensures.same.1 c.pass_on.ensures.same.2 c.in_default-pass_on.ensures.written s) in
     record {
       sound = read.ok;
-      text = both _ on last (λ b s l. sampled_all _ _ _ _ c.pass_on.new.kept _ _ l (c.in_default-pass_on.ensures.none c.if-not-more.true) s);
-      counts = both _ on last (λ b s l. sampled_counts _ _ _ _ c.pass_on.new.kept _ _ c.counts.result l
+      text = both _ on last (λ b s l. sampled_all _ _ _ _ c.pass_on.new.sample _ _ l (c.in_default-pass_on.ensures.none c.if-not-more.true) s);
+      counts = both _ on last (λ b s l. sampled_counts _ _ _ _ c.pass_on.new.sample _ _ c.counts.result l
           (c.counts.ensures.accesses.0 ∙ ap (λ n. c.pieces.accesses + n) len, c.counts.ensures.accesses.1) c.counts.ensures.blocks s);
       end = read.end;
       flushed = c.in_default-pass_on.ensures.flushed c.if-not-more.true;
@@ -88,8 +88,8 @@ pieces-preserved g c =
       reading = record { same_limits = on.same_limits; same_format = on.same_format; count = on.count ∙ count; reading = on.reading };
       rule = ap (λ t. t.rule) same.0 ∙ c.add.ensures.rule ∙ i.rule;
       few = omega (arith, same.2, c.add.ensures.few, i.few, len, ap length c.as_slice.ensures.value);
-      sampled = IfSome_then _ (kept g (goal.at.pieces-preserved g c).After-pass_on) (λ b s. subst (λ n. IsSampled c.args.rule.inverse c.args.rule.seed n c.pass_on.new.kept
+      sampled = IfSome_then _ (kept g (goal.at.pieces-preserved g c).After-pass_on) (λ b s. subst (λ n. IsSampled c.args.rule.inverse c.args.rule.seed n c.pass_on.new.sample
           (g.W.CountedWrite.contents c.args.writer.now) (g.W.CountedWrite.contents c.pass_on.new.writer) (keys_in c.args.format b)) count
-          (sampled_on _ _ _ _ c.add.new.self c.pass_on.new.kept _ _ _ same.1 same.2 c.in_default-pass_on.ensures.written s));
+          (sampled_on _ _ _ _ c.add.new.self c.pass_on.new.sample _ _ _ same.1 same.2 c.in_default-pass_on.ensures.written s));
       spent = further _ _ _ _ _ _ i.spent c.in_default-pass_on.ensures.spent;
     }

@@ -11,9 +11,9 @@ use Rattle.trace_sample.proofs.write.write_sample.Given as goal
 abbrev pub invariant-pieces : goal.invariant-pieces
 invariant-pieces g l = record {
   reading : HasGiven LONG l.fn.format (g.R.CountedRead.remaining l.initial.reader) (g.R.CountedRead.remaining l.reader) (g.R.CountedRead.tally l.initial.reader) (g.R.CountedRead.tally l.reader) l.accesses l.reading;
-  rule : l.kept.test.rule ≡ l.fn.rule;
-  few : l.kept.accesses ≤ l.accesses;
-  sampled : IfSome (g.R.CountedRead.remaining l.initial.reader) (λ bytes. IsSampled l.fn.rule.inverse l.fn.rule.seed l.accesses l.kept (g.W.CountedWrite.contents l.initial.writer) (g.W.CountedWrite.contents l.writer) (keys_in l.fn.format bytes));
+  rule : l.sample.test.rule ≡ l.fn.rule;
+  few : l.sample.accesses ≤ l.accesses;
+  sampled : IfSome (g.R.CountedRead.remaining l.initial.reader) (λ bytes. IsSampled l.fn.rule.inverse l.fn.rule.seed l.accesses l.sample (g.W.CountedWrite.contents l.initial.writer) (g.W.CountedWrite.contents l.writer) (keys_in l.fn.format bytes));
   spent : Spends INTERRUPTIONS l.budget (g.W.CountedWrite.tally l.initial.writer) (g.W.CountedWrite.tally l.writer);
 }
 

@@ -1,7 +1,7 @@
 //! What a sample keeps of the accesses that it is given.
 ghost use Rattle.std.specs.Prelude.{◌≡◌, ◌≤◌, ◌<◌, ◌+◌, ◌^◌, ◌==◌, [], ◌∷◌, OnOk, length};
 ghost use Rattle.std.specs.List.{IsDistinct};
-ghost use Rattle.trace_sample.specs.Kept.{HasNothing, Keeps};
+ghost use Rattle.trace_sample.specs.SampledAccesses.{HasNothing, Keeps};
 ghost use Rattle.trace_sample.specs.Sample.{sample_of};
 
 use crate::counts::SampleCounts;
@@ -12,23 +12,23 @@ use std::alloc::{AllocError, Global};
 use std::collections::HashSet;
 use std::hash::{BuildHasherDefault, FoldHasher};
 
-/// What a sample kept: the blocks, how many accesses, and the text of the last of these.
+/// What a sample has so far: the blocks, how many accesses, and the text of the last of these.
 #[derive(Drop)]
-pub struct Kept {
+pub struct SampledAccesses {
     test: BlockTest,
     pub blocks: HashSet<Key, BuildHasherDefault<FoldHasher>, Global>,
     pub accesses: u64,
     pub text: Vec<u8>,
 }
 
-impl Kept {
+impl SampledAccesses {
     /// Nothing yet, by this rule.
-    pub fn new(alloc: Global, rule: SampleRule) -> Kept
+    pub fn new(alloc: Global, rule: SampleRule) -> SampledAccesses
         requires { 2 ≤ rule.inverse }
         ensures rule { result.test.rule ≡ rule }
         ensures none { HasNothing result }
     {
-        Kept {
+        SampledAccesses {
             test: BlockTest::new(rule),
             blocks: HashSet::new(alloc),
             accesses: 0,
@@ -77,7 +77,6 @@ impl Kept {
         Ok(())
     }
 
-    // Keeps an access.
     fn keep(&mut self, key: Key) -> Result<(), AllocError>
         requires { self.old.accesses + 1 < 2 ^ 64 }
         ensures rule { self.new.test.rule ≡ self.old.test.rule }

@@ -1,8 +1,8 @@
 use Rattle.std.proofs.Common.{◌∙◌, subst, refl, arith, take, get_or, ◌∷◌, []}
-use Rattle.trace_sample.specs.Kept.{Keeps}
+use Rattle.trace_sample.specs.SampledAccesses.{Keeps}
 use Rattle.trace_sample.specs.Sample.{sample_of}
 use Rattle.trace_sample.proofs.Sampling.{keeps-none, keeps-then, sample-more}
-use Rattle.trace_sample.proofs.kept.Kept.add.Goals as goal
+use Rattle.trace_sample.proofs.sampled_accesses.SampledAccesses.add.Goals as goal
 
 pub loop-key-init : goal.loop-key-init
 loop-key-init c = record { rule = refl; kept = keeps-none _ _ refl refl refl; few = omega arith }

@@ -1,7 +1,7 @@
 use Rattle.std.proofs.Common.{◌≡◌, ◌≤◌, ◌+◌, take}
-use Rattle.trace_sample.specs.Kept.{Keeps}
+use Rattle.trace_sample.specs.SampledAccesses.{Keeps}
 use Rattle.trace_sample.specs.Sample.{sample_of}
-use Rattle.trace_sample.proofs.kept.Kept.add.Given as goal
+use Rattle.trace_sample.proofs.sampled_accesses.SampledAccesses.add.Given as goal
 
 abbrev pub invariant-loop-key : goal.invariant-loop-key
 invariant-loop-key l = record {

@@ -2,7 +2,7 @@ use Rattle.std.proofs.Common.{rules, ◌≡◌, ◌∙◌, ◌++◌, ap, sym, ar
 use Rattle.std.proofs.lemmas.Grind.{common_steps}
 use Rattle.trace_sample.specs.Numbers.{number_line}
 use Rattle.trace_sample.proofs.Sampling.{number-one, put}
-use Rattle.trace_sample.proofs.kept.Kept.keep.Goals as goal
+use Rattle.trace_sample.proofs.sampled_accesses.SampledAccesses.keep.Goals as goal
 
 pub returns-clause-kept : goal.returns-clause-kept
 returns-clause-kept c =
