@@ -133,7 +133,7 @@ impl<P: Drop> QueueCache<P> {
         ensures err { OnErr result (self.new ≡ self.old) }
     {
         let item = Item { key, node: 0 };
-        room_for(&self.stats, &mut self.segments, item)?;
+        reserve_access(&self.stats, &mut self.segments, item)?;
         let Ok(()) = count_in(&mut self.frequency, key) else {
             return Err(StepFault::OutOfMemory);
         };
@@ -157,7 +157,7 @@ impl<P: Drop> QueueCache<P> {
     {
         let design = D::DESIGN;
         let item = Item { key, node: 0 };
-        room_for(&self.stats, &mut self.segments, item)?;
+        reserve_access(&self.stats, &mut self.segments, item)?;
         let Ok(()) = count_where(design.counts_keys, &mut self.frequency, key) else {
             return Err(StepFault::OutOfMemory);
         };
@@ -263,7 +263,7 @@ impl<P: Drop> Engine for QueueCache<P> {
     fn apply(&mut self, step: &Key) -> Result<(Outcome, AccessRecord), StepFault> {
         let key = *step;
         let item = Item { key, node: 0 };
-        room_for(&self.stats, &mut self.segments, item)?;
+        reserve_access(&self.stats, &mut self.segments, item)?;
         let Ok(counting) = record_in(&mut self.frequency, key) else {
             return Err(StepFault::OutOfMemory);
         };
@@ -330,7 +330,7 @@ fn first_frequency(
 
 // Makes the room that one more access takes, before its key is counted: what follows takes none.
 #[inline(always)]
-fn room_for(stats: &Stats, segments: &mut Segments, item: Item) -> Result<(), StepFault>
+fn reserve_access(stats: &Stats, segments: &mut Segments, item: Item) -> Result<(), StepFault>
     ensures below { OnOk result (stats.now.accesses ≢ MAX_STEPS) }
     ensures room { OnOk result (queue_holding item segments.new.lists ≡ None → 1 ≤ segments.new.spare) }
     ensures lists { segments.new.lists ≡ segments.old.lists }
