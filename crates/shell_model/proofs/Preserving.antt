@@ -48,35 +48,35 @@ moved-protected i q h = omega (arith, length-without i q.probation, length-witho
 moved-probation : (i : Item) (q : Queues) → 1 ≤ occurrences i q.probation + occurrences i q.protected → main_length (queues_after_move i Probation q) ≤ main_length q
 moved-probation i q h = omega (arith, length-without i q.probation, length-without i q.protected, length-append (items_without i q.probation) (i ∷ []))
 
--- what a hit keeps
-pub record IsKept (q r : Queues) : Type 0 where
+-- r has the items of q, and a main part no longer
+pub record HasItemsOf (q r : Queues) : Type 0 where
   pub queued : (j : Item) → queue_occurrences j r ≡ queue_occurrences j q
   pub main : main_length r ≤ main_length q
 
-kept-demote : (o : Option Item) (q : Queues) → IsDistinct q → ((d : Item) → o ≡ Some d → 1 ≤ occurrences d q.protected) → IsKept q (with_recent o Probation q)
-kept-demote None q u k = record { queued = λ j. refl; main = omega arith }
-kept-demote (Some d) q u k =
+demotion-has-items : (o : Option Item) (q : Queues) → IsDistinct q → ((d : Item) → o ≡ Some d → 1 ≤ occurrences d q.protected) → HasItemsOf q (with_recent o Probation q)
+demotion-has-items None q u k = record { queued = λ j. refl; main = omega arith }
+demotion-has-items (Some d) q u k =
     let n : 1 ≤ occurrences d q.protected = k d refl in
     let few = u d in
     let one : queue_occurrences d q ≡ 1 = omega (arith, n, few) in
     record { queued = λ j. queued-kept j d Probation q one; main = moved-probation d q (omega (arith, n)) }
 
-hit-kept : (size : ℕ) (i : Item) (q : Queues) (p : Option Queue) → IsDistinct q → Stands i q p → IsKept q (hit_in size i p q)
-hit-kept size i q p u (nowhere e f g) = record { queued = λ j. refl; main = omega arith }
-hit-kept size i q p u (in_window e f g) = record { queued = λ j. queued-kept j i Window q (omega (arith, e, f, g)); main = moved-window i q }
-hit-kept size i q p u (in_protected e f g) = record { queued = λ j. queued-kept j i Protected q (omega (arith, e, f, g)); main = moved-protected i q (omega (arith, e, f, g)) }
-hit-kept size i q p u (in_probation e f g) =
+hit-in-has-items : (size : ℕ) (i : Item) (q : Queues) (p : Option Queue) → IsDistinct q → Stands i q p → HasItemsOf q (hit_in size i p q)
+hit-in-has-items size i q p u (nowhere e f g) = record { queued = λ j. refl; main = omega arith }
+hit-in-has-items size i q p u (in_window e f g) = record { queued = λ j. queued-kept j i Window q (omega (arith, e, f, g)); main = moved-window i q }
+hit-in-has-items size i q p u (in_protected e f g) = record { queued = λ j. queued-kept j i Protected q (omega (arith, e, f, g)); main = moved-protected i q (omega (arith, e, f, g)) }
+hit-in-has-items size i q p u (in_probation e f g) =
     let r : Queues = queues_after_move i Protected q in
     let m : main_length (queues_after_move i Protected q) ≤ main_length q = moved-protected i q (omega (arith, e, f, g)) in
     let k : (j : Item) → queue_occurrences j (queues_after_move i Protected q) ≡ queue_occurrences j q = λ j. queued-kept j i Protected q (omega (arith, e, f, g)) in
-    elim (cases_Bool (nat_lt size (length (queues_after_move i Protected q).protected))) as (λ _. IsKept q (cond (nat_lt size (length (queues_after_move i Protected q).protected)) (with_recent (oldest_of (queues_after_move i Protected q).protected) Probation (queues_after_move i Protected q)) (queues_after_move i Protected q))) [
-      | inl t ↦ rw t (let d : IsKept (queues_after_move i Protected q) (with_recent (oldest_of (queues_after_move i Protected q).protected) Probation (queues_after_move i Protected q)) = kept-demote (oldest_of (queues_after_move i Protected q).protected) (queues_after_move i Protected q) (distinct-moved i Protected q u) (λ d h. first-queued d (queues_after_move i Protected q).protected h) in
+    elim (cases_Bool (nat_lt size (length (queues_after_move i Protected q).protected))) as (λ _. HasItemsOf q (cond (nat_lt size (length (queues_after_move i Protected q).protected)) (with_recent (oldest_of (queues_after_move i Protected q).protected) Probation (queues_after_move i Protected q)) (queues_after_move i Protected q))) [
+      | inl t ↦ rw t (let d : HasItemsOf (queues_after_move i Protected q) (with_recent (oldest_of (queues_after_move i Protected q).protected) Probation (queues_after_move i Protected q)) = demotion-has-items (oldest_of (queues_after_move i Protected q).protected) (queues_after_move i Protected q) (distinct-moved i Protected q u) (λ d h. first-queued d (queues_after_move i Protected q).protected h) in
           record { queued = λ j. d.queued j ∙ k j; main = omega (arith, d.main, m) })
       | inr t ↦ rw t record { queued = k; main = m }
     ]
 
-pub hit-is-kept : (size : ℕ) (i : Item) (q : Queues) → IsDistinct q → IsKept q (after_hit size i q)
-hit-is-kept size i q u = hit-kept size i q (queue_holding i q) u (stands i q u)
+pub hit-has-items : (size : ℕ) (i : Item) (q : Queues) → IsDistinct q → HasItemsOf q (after_hit size i q)
+hit-has-items size i q u = hit-in-has-items size i q (queue_holding i q) u (stands i q u)
 
 -- the table
 
@@ -235,7 +235,7 @@ placed-remove t n q l i h p = record {
   ordered = ordered-push l (Remove i) (refl, tt) (λ j h. refl) p.ordered;
 }
 
-placed-hit : (t : List Item) (n : ℕ) (q r : Queues) (l : List Task) → IsKept q r → IsPlaced t n q l → IsPlaced t n r l
+placed-hit : (t : List Item) (n : ℕ) (q r : Queues) (l : List Task) → HasItemsOf q r → IsPlaced t n q l → IsPlaced t n r l
 placed-hit t n q r l k p = placed-same t n q r l l (λ j. rw (k.queued j) refl) (λ j. refl) p.ordered p
 
 placed-update-done : (t : List Item) (n : ℕ) (q : Queues) (l : List Task) (i : Item) → IsPlaced t n q (Update i ∷ l) → IsPlaced t n q l
@@ -303,15 +303,15 @@ phase-sound p x v = record { placed = v.placed; stripes = v.stripes; writes = v.
     left None l = l
     left (Some h) l = l
 
--- evictions: all but the sizes
-pub record IsLoose (x : Shell) : Type 0 where
+-- consistent but for the sizes, as while evictions last
+pub record IsConsistentUpToSizes (x : Shell) : Type 0 where
   pub placed : IsPlaced x.table x.next x.queues x.writes
   pub stripes : (s : ℕ) → length (stripe_at s x.stripes) ≤ 16
   pub writes : length x.writes ≤ 128
   pub left : IsLeft x.holder
   pub frequency : IsFrequency x.frequency
 
-leave-sound : (v : Item) (x : Shell) → IsLoose x → 1 ≤ occurrences v x.queues.probation → main_length x.queues ≤ main_size x.config + 1 → IsConsistent (leave v x)
+leave-sound : (v : Item) (x : Shell) → IsConsistentUpToSizes x → 1 ≤ occurrences v x.queues.probation → main_length x.queues ≤ main_size x.config + 1 → IsConsistent (leave v x)
 leave-sound v x s h m = record {
   placed = rw (unlisted-is v x.table s.placed.ascending) (placed-leave x.table x.next x.queues x.writes v (omega (arith, h)) s.placed);
   stripes = s.stripes;
@@ -323,7 +323,7 @@ leave-sound v x s h m = record {
 
 -- the candidate stands in probation, and nothing else has changed
 record IsShifted (c : Item) (x : Shell) : Type 0 where
-  loose : IsLoose (shift_effect c x)
+  loose : IsConsistentUpToSizes (shift_effect c x)
   queued : 1 ≤ occurrences c (shift_effect c x).queues.probation
   main : main_length (shift_effect c x).queues ≤ main_size x.config + 1
   window : window_size x.config ≤ length (shift_effect c x).queues.window
@@ -382,14 +382,14 @@ made-sound x w b r y (k.removed j n e h) v = record {
 }
 made-sound x w b r y (k.began e) v = record { placed = v.placed; stripes = v.stripes; writes = v.writes; main = v.main; frequency = v.frequency; left = omega arith }
 made-sound x w b r y (k.drained s i rest h e) v =
-    let kept = hit-is-kept (shell_protected_size x.config) i x.queues (sound-distinct x v) in
+    let items = hit-has-items (shell_protected_size x.config) i x.queues (sound-distinct x v) in
     let few : suc (length rest) ≤ 16 = rw e at (v.stripes s) in
     record {
-      placed = placed-hit x.table x.next x.queues (after_hit (shell_protected_size x.config) i x.queues) x.writes kept v.placed;
+      placed = placed-hit x.table x.next x.queues (after_hit (shell_protected_size x.config) i x.queues) x.writes items v.placed;
       stripes = set-short x.stripes s (drop 1 (stripe_at s x.stripes)) h.stripe (rw e (omega (arith, few))) v.stripes;
       writes = v.writes;
       left = v.left;
-      main = omega (arith, kept.main, v.main);
+      main = omega (arith, items.main, v.main);
       frequency = recorded-whole x.frequency i.key v.frequency;
     }
 made-sound x w b r y (k.write_empty h f e) v = phase-sound Writes x v
@@ -408,13 +408,13 @@ made-sound x w b r y (k.applied_add h i rest f e l) v =
 made-sound x w b r y (k.applied_update h i rest f e l) v =
     let t = is-taken w h (Update i) rest x f e v in
     let p : IsPlaced x.table x.next x.queues (Update i ∷ rest) = rw e at v.placed in
-    let kept = hit-is-kept (shell_protected_size x.config) i x.queues (sound-distinct x v) in
+    let items = hit-has-items (shell_protected_size x.config) i x.queues (sound-distinct x v) in
     record {
-      placed = rw t.behind (placed-hit x.table x.next x.queues (after_hit (shell_protected_size x.config) i x.queues) rest kept (placed-update-done x.table x.next x.queues rest i p));
+      placed = rw t.behind (placed-hit x.table x.next x.queues (after_hit (shell_protected_size x.config) i x.queues) rest items (placed-update-done x.table x.next x.queues rest i p));
       writes = t.writes;
       stripes = v.stripes;
       left = t.left;
-      main = omega (arith, kept.main, v.main);
+      main = omega (arith, items.main, v.main);
       frequency = recorded-whole x.frequency i.key v.frequency;
     }
 made-sound x w b r y (k.applied_remove h i rest f e l) v =
