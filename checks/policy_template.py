@@ -9,7 +9,7 @@ from typing import NamedTuple
 JOB = "crates/step_record/specs/Job.antt"
 # What has a policy's row, and what has its word.
 ROW = ["crates/demand_cache/src/demand_policy.rt", "crates/demand_cache/specs/DemandPolicy.antt", "crates/demand_cache/proofs/Keeping.antt",
-       "crates/renaming_laws/proofs/Plans.antt"]
+       "crates/policy_laws/proofs/RenamedPlans.antt"]
 WORD = ["crates/step_record/src/job.rt", JOB, "crates/policies/src/design.rt", "crates/policies/specs/Design.antt"]
 CODE = [*ROW, *WORD]
 # Where a step that requires a state has it.

@@ -1,2 +1,4 @@
 pub mod Theorems
 pub mod Scans
+pub mod Names
+pub mod Renaming

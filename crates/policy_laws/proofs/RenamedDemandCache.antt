@@ -9,11 +9,11 @@ use Rattle.demand_cache.specs.DemandPolicy.{plan_by}
 use Rattle.demand_cache.specs.DemandQueues.{DemandQueues, queues_of, plan_of, queues_act}
 use Rattle.engine_base.specs.declared.stats.Stats.{Stats}
 use Rattle.demand_cache.specs.DemandCache.{DemandState, state_with, demand_access, demand_machine}
-use Rattle.renaming_laws.specs.Names.{renamed_outcome}
-use Rattle.renaming_laws.specs.Theorems.{DemandIgnoresNames}
-use Rattle.renaming_laws.proofs.Machines.{IsInjective, stats-with-renamed, ignores-names}
-use Rattle.renaming_laws.proofs.Queues.{renamed_queues, all-renamed, outcome-renamed}
-use Rattle.renaming_laws.proofs.Plans.{plan-renamed}
+use Rattle.policy_laws.specs.Names.{renamed_outcome}
+use Rattle.policy_laws.specs.Renaming.{DemandIgnoresNames}
+use Rattle.policy_laws.proofs.RenamedMachines.{IsInjective, stats-with-renamed, ignores-names}
+use Rattle.policy_laws.proofs.RenamedQueues.{renamed_queues, all-renamed, outcome-renamed}
+use Rattle.policy_laws.proofs.RenamedPlans.{plan-renamed}
 
 abbrev renamed_lists : (ℕ → ℕ) → QueueLists → QueueLists
 renamed_lists f l = lists_of (renamed_queues f (queues_in l))

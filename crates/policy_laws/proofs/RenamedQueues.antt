@@ -12,8 +12,8 @@ use Rattle.queue_moves.specs.declared.records.Run.{Run}
 use Rattle.queue_moves.specs.Moves.{item_of, count_of, standing_at, standing, turned, after_turn, after_turns, after_run, count_or, turns_due}
 use Rattle.queue_moves.specs.Moves.{Leaving, departed, after_leaving, Own, stays, counts, goes, after_own, Plan, after_runs, after_first, after_second, after_all}
 use Rattle.queue_moves.specs.Moves.{evicted, outcome_after, outcome_of}
-use Rattle.renaming_laws.specs.Names.{renamed_outcome}
-use Rattle.renaming_laws.proofs.Machines.{IsInjective}
+use Rattle.policy_laws.specs.Names.{renamed_outcome}
+use Rattle.policy_laws.proofs.RenamedMachines.{IsInjective}
 
 abbrev pub renamed_item : (ℕ → ℕ) → Item → Item
 renamed_item f i = record { key = f i.key; node = i.node }

@@ -4,7 +4,7 @@ use Rattle.demand_cache.specs.declared.demand_policy.DemandPolicy.{DemandPolicy}
 use Rattle.demand_cache.specs.DemandCache.{demand_machine}
 use Rattle.queue_cache.specs.declared.design.QueueSetup.{QueueSetup}
 use Rattle.queue_cache.specs.QueueCache.{queue_machine}
-use Rattle.renaming_laws.specs.Names.{IgnoresNames}
+use Rattle.policy_laws.specs.Names.{IgnoresNames}
 
 -- Those that keep each missed key do, at each capacity.
 abbrev pub DemandIgnoresNames : Type 0

@@ -10,10 +10,10 @@ use Rattle.replacement.specs.Shape.{shape_of}
 use Rattle.replacement.specs.Table.{Response, access}
 use Rattle.segments.specs.Items.{nodeless_item}
 use Rattle.admission.specs.Frequency.{FrequencyData}
-use Rattle.renaming_laws.specs.Names.{renamed_outcome}
-use Rattle.renaming_laws.specs.Theorems.{QueuesIgnoreNames}
-use Rattle.renaming_laws.proofs.Machines.{IsInjective, ignores-names, stats-with-renamed}
-use Rattle.renaming_laws.proofs.Segments.{renamed_segments, renamed_response, access-renamed}
+use Rattle.policy_laws.specs.Names.{renamed_outcome}
+use Rattle.policy_laws.specs.Renaming.{QueuesIgnoreNames}
+use Rattle.policy_laws.proofs.RenamedMachines.{IsInjective, ignores-names, stats-with-renamed}
+use Rattle.policy_laws.proofs.RenamedSegments.{renamed_segments, renamed_response, access-renamed}
 
 abbrev renamed_state : (ℕ → ℕ) → QueueState → QueueState
 renamed_state f d = record { setup = d.setup; queues = renamed_segments f d.queues; frequency = d.frequency; stats = d.stats }

@@ -10,7 +10,7 @@ use Rattle.engine_base.specs.declared.outcome.Outcome.TheVariants.{Hit, Kept, Ev
 use Rattle.engine_base.specs.declared.stats.Stats.{Stats}
 use Rattle.engine_base.specs.Stats.{is_hit, is_miss, is_eviction, is_rejection, one_if, stats_of, stats_with}
 use Rattle.engine_base.proofs.Counting.{count-cons}
-use Rattle.renaming_laws.specs.Names.{IsRenaming, renamed_outcome, IgnoresNames}
+use Rattle.policy_laws.specs.Names.{IsRenaming, renamed_outcome, IgnoresNames}
 
 -- no two numbers get the same name
 abbrev pub IsInjective : (ℕ → ℕ) → Type 0

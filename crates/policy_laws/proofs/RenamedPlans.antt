@@ -16,8 +16,8 @@ use Rattle.car.specs.Plan as car
 use Rattle.demand_cache.specs.declared.demand_policy.DemandPolicy.TheVariants.{Fifo, Clock, Sieve, S3Fifo, TwoQ, Arc, Car}
 use Rattle.demand_cache.specs.declared.demand_policy.DemandPolicy.{DemandPolicy}
 use Rattle.demand_cache.specs.DemandPolicy.{plan_by}
-use Rattle.renaming_laws.proofs.Machines.{IsInjective}
-use Rattle.renaming_laws.proofs.Queues.{renamed_entry, renamed_queues, standing-renamed, turns-renamed, turns-at, due-renamed, oldest-renamed, departed-renamed, departed-at}
+use Rattle.policy_laws.proofs.RenamedMachines.{IsInjective}
+use Rattle.policy_laws.proofs.RenamedQueues.{renamed_entry, renamed_queues, standing-renamed, turns-renamed, turns-at, due-renamed, oldest-renamed, departed-renamed, departed-at}
 
 empty-renamed : (f : ℕ → ℕ) (l : List Entry) → is_empty (map (renamed_entry f) l) ≡ is_empty l
 empty-renamed f [] = refl

@@ -1,6 +1,0 @@
-pub mod Machines
-pub mod Queues
-pub mod Plans
-pub mod DemandCache
-pub mod Segments
-pub mod QueueCache
