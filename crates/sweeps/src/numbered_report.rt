@@ -30,7 +30,7 @@ pub(crate) fn report_by_numbers<G: Gate>(
     ensures { (trace : List ℕ) → numbers.now ≡ numbers_of trace → IfOk result (λ r. r ≡ report_on job.now trace) }
 {
     theorems::demand_ignores_names();
-    let mut cache = DemandCache::new(alloc, policy, job.config.capacity);
+    let mut cache = DemandCache::<Number>::new(alloc, policy, job.config.capacity);
     let made = access_in_batches(&mut cache, numbers.as_slice(), gate);
     let stats = cache.stats();
     drop(cache);
@@ -41,7 +41,7 @@ pub(crate) fn report_by_numbers<G: Gate>(
 // Makes the accesses in turn, in batches of `MAX_BATCH`. The gate is called before and after each, as worker 0, with the
 // batch's number. The one error is out of memory.
 fn access_in_batches<G: Gate>(
-    cache: &mut DemandCache,
+    cache: &mut DemandCache<Number>,
     numbers: &[Number],
     gate: &G,
 ) -> Result<(), AllocError>

@@ -9,10 +9,10 @@ use std::alloc::{AllocError, Global};
 use std::marker::Model;
 
 /// The number of a key of a trace.
-pub type Number = Key;
+pub type Number = u32;
 
 /// For each access of a trace the number of its key: 0 for the key that comes first, 1 for the next other one, and so
-/// on. What does not depend on what keys are called can go by them in place of the keys.
+/// on. What does not depend on what keys are called can go by them in place of the keys, which are twice as long.
 #[derive(Drop)]
 pub struct TraceNumbers {
     numbers: Vec<Number>,
@@ -60,7 +60,7 @@ fn numbers_of(alloc: Global, keys: &[Key]) -> Result<Vec<Number>, AllocError>
     for key in keys {
         let number = number_of(&mut seen, count, *key)?;
         count += (number == count) as u32;
-        numbers.push(number as Number)?;
+        numbers.push(number)?;
     }
     Ok(numbers)
 }
