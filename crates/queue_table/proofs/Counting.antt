@@ -1,5 +1,5 @@
 -- Another count beside an item.
-use Rattle.std.proofs.Common.{◌≡◌, ℕ, suc, zero, ◌≤◌, eqb, List, [], ◌∷◌, length, map, ap, ◌∙◌, sym, refl, subst, arith, inl, inr, length-set, ◌<◌, Some, get_or}
+use Rattle.std.proofs.Common.{◌≡◌, ℕ, suc, zero, ◌≤◌, eqb, List, [], ◌∷◌, length, map, ap, ◌∙◌, sym, refl, subst, arith, inl, inr, length-set, ◌<◌, Some}
 use Rattle.std.proofs.Math.Path.{fun_ext}
 use Rattle.std.proofs.lemmas.Bool.{cases_eq, cases_lt}
 use Rattle.std.proofs.lemmas.Bool.Decides.{nat_tests}
@@ -15,10 +15,7 @@ use Rattle.queue_table.proofs.Growing.{written-entry, other-entry, same-items, k
 use Rattle.queue_table.proofs.Kept.{kept-on}
 use Rattle.queue_table.proofs.Moves.{IsLoose}
 use Rattle.std.specs.List.{Contains}
-use Rattle.std.proofs.lemmas.List.{get_or_default}
-use Rattle.queue_table.proofs.SlotWrites.{no_slot, field_at}
 use Rattle.queue_table.proofs.Holding.{tag-stands, tag-low}
-use Rattle.queue_table.proofs.Calls.{slot-within}
 
 map-counted : (f g : ℕ → Entry) (n k : ℕ) (l : List ℕ) → ((j : ℕ) → 1 ≤ count j l → is_same_item (f k).item (f j).item ≡ eqb k j) → ((j : ℕ) → (j ≡ k → ⊥) → g j ≡ f j) → g k ≡ entry (f k).item n →
     map g l ≡ entries_counted (f k).item n (map f l)

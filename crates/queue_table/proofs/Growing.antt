@@ -1,5 +1,5 @@
 -- What growth leaves.
-use Rattle.std.proofs.Common.{◌≡◌, ℕ, ◌+◌, ◌*◌, ◌^◌, ◌≤◌, suc, cond, eqb, Result, Ok, Err, List, [], ◌∷◌, ◌++◌, length, ap, ◌∙◌, sym, subst, arith, length-append, ◌<◌, set, get_or, get_or-set_same, get_or-set_other}
+use Rattle.std.proofs.Common.{◌≡◌, ℕ, ◌+◌, ◌*◌, ◌^◌, ◌≤◌, suc, cond, eqb, Result, Ok, Err, List, [], ◌∷◌, ◌++◌, length, ap, ◌∙◌, sym, subst, arith, length-append, ◌<◌, set, get_or-set_same, get_or-set_other}
 use Rattle.std.specs.Result.{OnOk, OnErr}
 use Rattle.std.specs.declared.alloc.AllocError.{AllocError}
 use Rattle.std.proofs.Math.Path.{fun_ext}
@@ -15,7 +15,6 @@ use Rattle.queue_table.proofs.Holding.{queued-order}
 use Rattle.queue_table.proofs.Tables.{held-grown, lists-grown}
 use Rattle.std.proofs.lemmas.List.{length-map}
 use Rattle.queue_table.proofs.Orders.{used-gone, used-without}
-use Rattle.queue_table.proofs.SlotWrites.{no_slot, field_at}
 use Rattle.queue_table.proofs.QueueLists.{same-refl}
 
 pub record IsSettled (before slots : List Slot) (index : SlotIndex) : Type 0 where

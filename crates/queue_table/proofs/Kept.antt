@@ -13,7 +13,6 @@ use Rattle.queue_table.proofs.Splices.{walked}
 use Rattle.queue_table.proofs.Orders.{used-real, ring-at, cut_at_section}
 use Rattle.queue_table.proofs.Growing.{no-order, entries-length}
 use Rattle.queue_table.proofs.Holding.{slots-length, linked-section}
-use Rattle.queue_table.proofs.SlotWrites.{no_slot}
 use Rattle.queue_table.proofs.Calls.{slot-within}
 
 pub some-slots : (slots : List Slot) (s : ℕ) → 1 ≤ length (order_of slots s) → 0 < length slots

@@ -6,11 +6,6 @@ use Rattle.queue_table.specs.Ring.{Slot, ChangesOnlyLinks}
 abbrev pub no_slot : Slot
 no_slot = record { item = record { key = 0; node = 0 }; older = 0; newer = 0; queue = 0; count = 0 }
 
-pub field_at : {X Y : Type 0} (f : X → Y) (s : List X) (i : ℕ) (d : X) → get_or (map f s) i (f d) ≡ f (get_or s i d)
-field_at f [] i d = refl
-field_at f (y ∷ s) zero d = refl
-field_at f (y ∷ s) (suc i) d = field_at f s i d
-
 -- a field of the slots as they are shown: of one that was written, of all where it stays, and of one that is read
 
 pub shown-set : {X Y : Type 0} (shown : X → Slot) (f : Slot → Y) (s : List X) (i : ℕ) (x : X) → map f (map shown (set s i x)) ≡ set (map f (map shown s)) i (f (shown x))

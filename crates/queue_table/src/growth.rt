@@ -47,7 +47,11 @@ fn first_bits(wished: u32) -> u32
 }
 
 /// Makes the first slots and buckets where there are none.
-fn begin<S: RingSlot>(alloc: Global, slots: &mut Vec<S>, index: &mut SlotIndex) -> Result<(), AllocError>
+fn begin<S: RingSlot>(
+    alloc: Global,
+    slots: &mut Vec<S>,
+    index: &mut SlotIndex,
+) -> Result<(), AllocError>
     requires sound { IsSound (map S.shown slots.old.items) index.old }
     requires few { length (map S.shown slots.old.items) < 2 ^ 32 }
     requires load { IsLoaded (length (map S.shown slots.old.items)) index.old.bits }

@@ -1,4 +1,4 @@
-use Rattle.std.proofs.Common.{map, ◌≡◌, ◌∙◌, ◌++◌, ◌∷◌, [], length, take, drop, ap, arith, refl, length-append}
+use Rattle.std.proofs.Common.{map, ◌≡◌, ◌∙◌, ◌++◌, ◌∷◌, [], length, take, drop, ap, arith, length-append}
 use Rattle.std.proofs.lemmas.List.{take_at, map-append, length-map}
 use Rattle.queue_table.specs.Entries.{entry}
 use Rattle.queue_table.specs.Ring.{Slot, newers, olders, entries, tags, order_of}

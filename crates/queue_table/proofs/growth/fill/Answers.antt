@@ -1,9 +1,8 @@
 use Rattle.std.proofs.lemmas.Bool.Decides.{nat_tests}
 use Rattle.std.proofs.Common.{map, ◌∙◌, ◌+◌, ◌-◌, refl, ap, arith}
-use Rattle.queue_table.specs.Entries.{Entry, entry}
-use Rattle.queue_table.specs.Ring.{Slot, FIRST, entries, slot_item, count}
+use Rattle.queue_table.specs.Entries.{Entry}
+use Rattle.queue_table.specs.Ring.{FIRST, entries, slot_item, count}
 use Rattle.queue_table.specs.QueueTable.{from_first}
-use Rattle.queue_table.proofs.SlotWrites.{no_slot, field_at}
 use Rattle.queue_table.proofs.Holding.{count-from_first, from_first-next}
 use Rattle.queue_table.proofs.growth.fill.Goals as goal
 

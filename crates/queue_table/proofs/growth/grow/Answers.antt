@@ -1,5 +1,5 @@
 use Rattle.std.proofs.lemmas.Grind.{common_steps}
-use Rattle.std.proofs.Common.{map, ◌≡◌, ◌≤◌, ◌*◌, ◌^◌, List, length, sym, ap, ◌∙◌, subst, arith}
+use Rattle.std.proofs.Common.{map, ◌≤◌, ◌*◌, ◌^◌, List, length, sym, ap, ◌∙◌, subst, arith}
 use Rattle.std.proofs.lemmas.List.{nil_from_length}
 use Rattle.queue_table.specs.Ring.{Slot, order_of}
 use Rattle.queue_table.specs.QueueTable.{IsInSlots}

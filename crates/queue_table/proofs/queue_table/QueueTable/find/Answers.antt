@@ -1,4 +1,4 @@
-use Rattle.std.proofs.Common.{map, ◌≡◌, ◌∙◌, List, length, ap, sym, arith}
+use Rattle.std.proofs.Common.{map, ◌≡◌, ◌∙◌, List, ap, sym}
 use Rattle.queue_table.specs.Entries.{entry}
 use Rattle.queue_table.specs.Ring.{Slot, entries, tags, tag_at, slot_entry, order_of}
 use Rattle.queue_table.proofs.Calls.{slot-within}

@@ -1,5 +1,5 @@
 use Rattle.std.proofs.lemmas.Bool.Decides.{nat_tests}
-use Rattle.std.proofs.Common.{map, ap, sym, ◌≡◌, List, None, subst, arith, rules}
+use Rattle.std.proofs.Common.{map, ap, sym, ◌≡◌, List, None, subst, arith}
 use Rattle.std.proofs.lemmas.List.{length-map}
 use Rattle.queue_table.specs.Index.{IsFound, IsIndexed}
 use Rattle.queue_table.specs.Ring.{Slot, entries, slot_item, count, used, order_of, lists}

@@ -1,6 +1,6 @@
-use Rattle.std.proofs.Common.{map, ◌≡◌, List, [], subst, sym, rules}
+use Rattle.std.proofs.Common.{map, ◌≡◌, [], subst, sym, rules}
 use Rattle.queue_table.specs.Queues.{IsDistinct}
-use Rattle.queue_table.specs.Ring.{Slot, lists}
+use Rattle.queue_table.specs.Ring.{lists}
 use Rattle.queue_table.proofs.Kept.{none-distinct}
 use Rattle.queue_table.proofs.queue_table.QueueTable.for_items.Goals as goal
 

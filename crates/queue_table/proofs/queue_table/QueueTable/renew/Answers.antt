@@ -1,4 +1,3 @@
-use Rattle.std.proofs.lemmas.Bool.Decides.{nat_tests}
 use Rattle.std.proofs.Common.{ap, map, ℕ, inr, ◌≡◌, ◌∙◌, ◌<◌, ◌++◌, sym, subst, arith, List, suc, length, take, drop, refl, Some}
 use Rattle.std.proofs.lemmas.List.{length-map}
 use Rattle.queue_table.specs.Entries.{Entry, Item, entry}

@@ -1,4 +1,4 @@
-use Rattle.std.proofs.Common.{map, ◌≡◌, ◌∙◌, ◌++◌, sym, ap, subst, arith, List, length, take, drop}
+use Rattle.std.proofs.Common.{map, ◌≡◌, ◌∙◌, ◌++◌, ap, subst, arith, List, length, take, drop}
 use Rattle.queue_table.specs.Entries.{entry}
 use Rattle.queue_table.specs.Queues.{after_removal}
 use Rattle.queue_table.specs.Ring.{Slot, entries, slot_item, lists, Order, ChangesOnlyEntry}

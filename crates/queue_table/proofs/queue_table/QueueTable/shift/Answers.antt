@@ -1,5 +1,4 @@
-use Rattle.std.proofs.lemmas.Bool.Decides.{nat_tests}
-use Rattle.std.proofs.Common.{ap, map, ◌≡◌, ◌∙◌, ◌++◌, sym, subst, arith, List, suc, length, take, drop, refl, Some}
+use Rattle.std.proofs.Common.{ap, map, ◌≡◌, ◌∙◌, ◌++◌, subst, arith, List, suc, length, take, drop, refl, Some}
 use Rattle.queue_table.specs.Entries.{entry}
 use Rattle.queue_table.specs.Queues.{after_removal, place_in}
 use Rattle.queue_table.specs.Ring.{Slot, entries, slot_item, order_of, sent, lists, IsSent}
