@@ -11,7 +11,7 @@ ghost use Rattle.queue_moves.specs.Undoing.{item_in};
 use crate::key_queues::KeyQueues;
 use crate::records::{Change, Departure, KeyMove, Left, Moves, Run};
 use engine_base::{Item, Key};
-use queue_table::Place;
+use queue_table::{Entry, Place};
 use std::alloc::AllocError;
 
 impl KeyQueues {
@@ -103,7 +103,8 @@ impl KeyQueues {
             queue,
             older: item_in(older),
         };
-        self.table.put_back(place, key, count);
+        let item = Item { key, node: 0 };
+        self.table.put_back(place, Entry { item, count });
     }
 
     // Takes a key out, wherever it stands.

@@ -10,4 +10,3 @@ pub mod Cut
 pub mod Halves
 pub mod Covers
 pub mod Each
-pub mod NumberedReports

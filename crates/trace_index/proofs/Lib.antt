@@ -1,4 +1,3 @@
 pub mod Uses
 pub mod Passes
 pub mod KeyCells
-pub mod Numbers
