@@ -16,9 +16,8 @@ ghost use Rattle.arc.specs.Plan.{T1, T2, B1, B2, arc_of, total, step_size, repla
 ghost use Rattle.arc.specs.Plan.{open_l1_leavers, new_key_plan, recall_plan, arc_plan};
 ghost use Rattle.arc.specs.Examples.{WorkedExamples};
 
-use engine_base::Key;
 use policy_page::accesses::{LeftKeys, hit, miss_without_runs};
-use queue_moves::{Accessed, KeyQueues, Left};
+use queue_moves::{Accessed, KeyName, KeyQueues, Left};
 use queue_table::Found;
 use std::alloc::AllocError;
 
@@ -35,22 +34,22 @@ const B2: u8 = 3;
 ///
 /// `C` selects an instance (docs/ARCHITECTURE.md).
 #[inline(always)]
-pub fn step<C>(
-    table: &mut KeyQueues,
+pub fn step<C, K: KeyName>(
+    table: &mut KeyQueues<K>,
     capacity: u32,
     own_number: u32,
-    key: Key,
+    key: K,
 ) -> Result<Accessed, AllocError>
     requires few { capacity ≤ MAX_CAPACITY }
     requires state { IsArc capacity (arc_of own_number (queues table.old)) }
-    ensures accessed { IfOk result (λ a. IsAccessed (arc_plan capacity key own_number (queues table.old))
-        (item_of key) own_number (queues table.old) (queues table.new) a) }
+    ensures accessed { IfOk result (λ a. IsAccessed (arc_plan capacity (K.key key) own_number (queues table.old))
+        (item_of (K.key key)) own_number (queues table.old) (queues table.new) a) }
     // A hit asks for no memory.
-    ensures memory { OnErr result ((arc_plan capacity key own_number (queues table.old)).hits ≡ false) }
+    ensures memory { OnErr result ((arc_plan capacity (K.key key) own_number (queues table.old)).hits ≡ false) }
     ensures err { OnErr result (queues table.new ≡ queues table.old) }
 {
     let Some(found) = table.find(key) else {
-        return new_key::<C>(table, capacity, own_number, key);
+        return new_key::<C, K>(table, capacity, own_number, key);
     };
     table.tabled();
     if is_resident(found.queue) {
@@ -62,7 +61,7 @@ pub fn step<C>(
     } else {
         raised(table, capacity, own_number)
     };
-    Ok(recalled::<C>(table, key, found, own_number, target, in_b2))
+    Ok(recalled::<C, K>(table, key, found, own_number, target, in_b2))
 }
 
 // Whether a key of this queue is in the cache.
@@ -73,7 +72,7 @@ fn is_resident(queue: u8) -> bool
 }
 
 // The size that t1 is to have after a key of b1 came again.
-fn raised(table: &KeyQueues, capacity: u32, target: u32) -> u32
+fn raised<K: KeyName>(table: &KeyQueues<K>, capacity: u32, target: u32) -> u32
     requires few { capacity ≤ MAX_CAPACITY }
     requires target { target ≤ capacity }
     requires b1 { 1 ≤ length (queues table.now B1) }
@@ -84,7 +83,7 @@ fn raised(table: &KeyQueues, capacity: u32, target: u32) -> u32
 }
 
 // The size that t1 is to have after a key of b2 came again.
-fn lowered(table: &KeyQueues, target: u32) -> u32
+fn lowered<K: KeyName>(table: &KeyQueues<K>, target: u32) -> u32
     requires b1 { length (queues table.now B1) ≤ 2 * MAX_CAPACITY }
     requires b2 { 1 ≤ length (queues table.now B2) }
     ensures { result ≡ target - step_size B1 B2 (queues table.now) }
@@ -104,18 +103,18 @@ fn step_size(other: usize, own: usize) -> u32
 
 // An access to a key of a ghost, where t1 is to have `target` keys after it. It needs no room.
 #[inline(always)]
-fn recalled<C>(
-    table: &mut KeyQueues,
-    key: Key,
+fn recalled<C, K: KeyName>(
+    table: &mut KeyQueues<K>,
+    key: K,
     found: Found,
     old_target: u32,
     target: u32,
     in_b2: bool,
 ) -> Accessed
-    requires at { HoldsAt found.at (entry (item_of key) found.count) table.old }
-    requires t1 { occurrences (item_of key) (queues table.old T1) ≡ 0 }
-    requires t2 { occurrences (item_of key) (queues table.old T2) ≡ 0 }
-    ensures { IsAccessed (recall_plan in_b2 target (queues table.old)) (item_of key) old_target
+    requires at { HoldsAt found.at (entry (item_of (K.key key)) found.count) table.old }
+    requires t1 { occurrences (item_of (K.key key)) (queues table.old T1) ≡ 0 }
+    requires t2 { occurrences (item_of (K.key key)) (queues table.old T2) ≡ 0 }
+    ensures { IsAccessed (recall_plan in_b2 target (queues table.old)) (item_of (K.key key)) old_target
         (queues table.old) (queues table.new) result }
 {
     let first = replace(table, target, in_b2);
@@ -125,49 +124,54 @@ fn recalled<C>(
 
 // An access to a key that stands nowhere. Room is made before anything moves.
 #[inline(always)]
-fn new_key<C>(
-    table: &mut KeyQueues,
+fn new_key<C, K: KeyName>(
+    table: &mut KeyQueues<K>,
     capacity: u32,
     target: u32,
-    key: Key,
+    key: K,
 ) -> Result<Accessed, AllocError>
     requires few { capacity ≤ MAX_CAPACITY }
     requires all_fit { total (queues table.old) ≤ 2 * capacity }
-    requires absent { queue_holding (item_of key) (queues table.old) ≡ None }
+    requires absent { queue_holding (item_of (K.key key)) (queues table.old) ≡ None }
     ensures accessed { IfOk result (λ a. IsAccessed (new_key_plan capacity target (queues table.old))
-        (item_of key) target (queues table.old) (queues table.new) a) }
+        (item_of (K.key key)) target (queues table.old) (queues table.new) a) }
     ensures err { OnErr result (queues table.new ≡ queues table.old) }
 {
     table.reserve()?;
-    Ok(join::<C>(table, capacity, target, key))
+    Ok(join::<C, K>(table, capacity, target, key))
 }
 
 // A new key joins t1, in the slot of the key that leaves for good, if one does.
 #[inline(always)]
-fn join<C>(table: &mut KeyQueues, capacity: u32, target: u32, key: Key) -> Accessed
+fn join<C, K: KeyName>(table: &mut KeyQueues<K>, capacity: u32, target: u32, key: K) -> Accessed
     requires few { capacity ≤ MAX_CAPACITY }
     requires all_fit { total (queues table.old) ≤ 2 * capacity }
     requires room { 1 ≤ spare table.old }
-    requires absent { queue_holding (item_of key) (queues table.old) ≡ None }
-    ensures { IsAccessed (new_key_plan capacity target (queues table.old)) (item_of key) target
+    requires absent { queue_holding (item_of (K.key key)) (queues table.old) ≡ None }
+    ensures { IsAccessed (new_key_plan capacity target (queues table.old)) (item_of (K.key key)) target
         (queues table.old) (queues table.new) result }
 {
     let l1 = table.len(T1) + table.len(B1);
     if l1 == capacity as usize {
-        join_full_l1::<C>(table, capacity, target, key)
+        join_full_l1::<C, K>(table, capacity, target, key)
     } else {
         let all = l1 + table.len(T2) + table.len(B2);
-        join_open_l1::<C>(table, capacity, target, all, key)
+        join_open_l1::<C, K>(table, capacity, target, all, key)
     }
 }
 
 // The same, where t1 and b1 have as many keys as the cache has room for.
 #[inline(always)]
-fn join_full_l1<C>(table: &mut KeyQueues, capacity: u32, target: u32, key: Key) -> Accessed
+fn join_full_l1<C, K: KeyName>(
+    table: &mut KeyQueues<K>,
+    capacity: u32,
+    target: u32,
+    key: K,
+) -> Accessed
     requires room { 1 ≤ spare table.old }
-    requires absent { queue_holding (item_of key) (queues table.old) ≡ None }
+    requires absent { queue_holding (item_of (K.key key)) (queues table.old) ≡ None }
     ensures { IsAccessed (miss_plan (full_l1_leavers capacity target (queues table.old)) (goes T1 0) target)
-        (item_of key) target (queues table.old) (queues table.new) result }
+        (item_of (K.key key)) target (queues table.old) (queues table.new) result }
 {
     if table.len(T1) < capacity as usize {
         let first = replace(table, target, false);
@@ -180,19 +184,19 @@ fn join_full_l1<C>(table: &mut KeyQueues, capacity: u32, target: u32, key: Key) 
 
 // The same, where they have fewer; all four queues have `all` keys.
 #[inline(always)]
-fn join_open_l1<C>(
-    table: &mut KeyQueues,
+fn join_open_l1<C, K: KeyName>(
+    table: &mut KeyQueues<K>,
     capacity: u32,
     target: u32,
     all: usize,
-    key: Key,
+    key: K,
 ) -> Accessed
     requires few { capacity ≤ MAX_CAPACITY }
     requires all { all ≡ total (queues table.old) }
     requires room { 1 ≤ spare table.old }
-    requires absent { queue_holding (item_of key) (queues table.old) ≡ None }
+    requires absent { queue_holding (item_of (K.key key)) (queues table.old) ≡ None }
     ensures { IsAccessed (miss_plan (open_l1_leavers capacity target (queues table.old)) (goes T1 0) target)
-        (item_of key) target (queues table.old) (queues table.new) result }
+        (item_of (K.key key)) target (queues table.old) (queues table.new) result }
 {
     let room = capacity as usize;
     if all < room {
@@ -210,7 +214,7 @@ fn join_open_l1<C>(
 
 // The oldest of t1 leaves for b1, or the oldest of t2 for b2.
 #[inline(always)]
-fn replace(table: &mut KeyQueues, target: u32, in_b2: bool) -> Left
+fn replace<K: KeyName>(table: &mut KeyQueues<K>, target: u32, in_b2: bool) -> Left
     ensures left { IsLeft (replaced in_b2 target (queues table.old)) (queues table.old) (queues table.new) result }
     ensures stays { outs result.by ≡ 0 }
     ensures spare { spare table.new ≡ spare table.old }

@@ -1,6 +1,6 @@
 //! The subcommand `sweep`: reports at several capacities.
-ghost use Rattle.std.specs.Prelude.{◌≡◌, ◌≤◌, ◌⊎◌, IfErr, IfOk, OnOk, false, length};
-ghost use Rattle.command_line.specs.Accepted.{IsAcceptedSweep, needs_whole_trace};
+ghost use Rattle.std.specs.Prelude.{◌≡◌, ◌≤◌, ◌⊎◌, All, IfErr, IfOk, OnOk, false, length};
+ghost use Rattle.command_line.specs.Accepted.{IsAcceptedJob, IsAcceptedSweep, needs_whole_trace};
 ghost use Rattle.command_line.specs.declared.arguments.Arguments.TheVariants.{Sweep};
 ghost use Rattle.policies.specs.declared.job_checks.TheConstants.{MAX_ACTORS};
 ghost use Rattle.cachesim.specs.FaultCauses.{IsTooMany};
@@ -9,7 +9,7 @@ ghost use Rattle.cachesim.specs.TraceOutput.{AreFew, IsText};
 
 use crate::fault::{Fault, only_memory};
 use command_line::{JobArguments, SweepArguments};
-use policies::MAX_ACTORS;
+use policies::{Design, MAX_ACTORS, design_of};
 use progress::Watch;
 use report::reports_text;
 use std::alloc::Global;
@@ -23,9 +23,13 @@ use trace_read::read_trace_within;
 // As many entries as all caches of a sweep may have at once: they take less memory than a trace that is kept.
 const ENTRIES_AT_ONCE: u64 = 1 << 21;
 
+// From so many reports of policies that keep each missed key on, the trace is kept, for 12 bytes an access: they go by
+// numbers of its keys then, which takes half the time or less.
+const BY_NUMBERS_FROM: usize = 8;
+
 /// The reports of the policies that the arguments name at each of the capacities, as text: those of the first policy in
 /// the order of the capacities, then those of the second, and so on. A trace that is not long is kept where a policy goes
-/// by it whole, and where it takes less memory than all caches at once. Too many policies are reported only if the trace
+/// by it whole, where many reports go by numbers of its keys, and where it takes less memory than all caches at once. Too many policies are reported only if the trace
 /// has no fault.
 pub fn sweep<T: Threads + Wait + Sync, R: CountedRead, P: Watch>(
     rt: &T,
@@ -109,9 +113,11 @@ fn few_jobs(asked: &JobArguments) -> Result<&[Job], Fault>
     Ok(jobs)
 }
 
-// Whether a report goes by the whole trace, as Lru's by its curve and Belady's by its next uses, or there are too many or
-// too large caches for all to be there at once.
-fn wants_whole_trace(jobs: &[Job], capacities: &[u32]) -> bool {
+// Whether a report goes by the whole trace, as Lru's by its curve and Belady's by its next uses, or many reports go by
+// numbers of its keys, or there are too many or too large caches for all to be there at once.
+fn wants_whole_trace(jobs: &[Job], capacities: &[u32]) -> bool
+    requires { All IsAcceptedJob jobs.now }
+{
     let mut entries = 0u64;
     for capacity in capacities {
         entries = entries.saturating_add(u64::from(*capacity));
@@ -120,4 +126,18 @@ fn wants_whole_trace(jobs: &[Job], capacities: &[u32]) -> bool {
     reports > MAX_ACTORS
         || entries.saturating_mul(jobs.len() as u64) > ENTRIES_AT_ONCE
         || jobs.iter().any(|job| job.policy == Policy::Lru || job.policy == Policy::Clairvoyant)
+        || demand_jobs(jobs).saturating_mul(capacities.len()) >= BY_NUMBERS_FROM
+}
+
+// How many of the jobs are of policies that keep each missed key.
+fn demand_jobs(jobs: &[Job]) -> usize
+    requires { All IsAcceptedJob jobs.now }
+{
+    let mut count = 0usize;
+    for job in jobs {
+        if let Design::Demand(_) = design_of(job) {
+            count = count.saturating_add(1);
+        }
+    }
+    count
 }

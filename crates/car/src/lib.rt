@@ -15,9 +15,8 @@ ghost use Rattle.car.specs.Plan.{new_key_plan, recall_plan, car_plan};
 ghost use Rattle.car.specs.Step.{IsReplaced, IsJoined};
 ghost use Rattle.car.specs.Examples.{WorkedExamples};
 
-use engine_base::Key;
 use policy_page::accesses::{LeftKeys, hit, kept, miss_after_runs};
-use queue_moves::{Accessed, KeyMove, KeyQueues, Left, Run};
+use queue_moves::{Accessed, KeyMove, KeyName, KeyQueues, Left, Run};
 use queue_table::Found;
 use std::alloc::AllocError;
 
@@ -45,31 +44,31 @@ pub struct Replaced {
 ///
 /// `C` selects an instance (docs/ARCHITECTURE.md).
 #[inline(always)]
-pub fn step<C>(
-    table: &mut KeyQueues,
+pub fn step<C, K: KeyName>(
+    table: &mut KeyQueues<K>,
     capacity: u32,
     own_number: u32,
-    key: Key,
+    key: K,
 ) -> Result<Accessed, AllocError>
     requires few { capacity ≤ MAX_CAPACITY }
     requires state { IsCar capacity (car_of own_number (queues table.old)) }
-    ensures accessed { IfOk result (λ a. IsAccessed (car_plan capacity key own_number (queues table.old))
-        (item_of key) own_number (queues table.old) (queues table.new) a) }
+    ensures accessed { IfOk result (λ a. IsAccessed (car_plan capacity (K.key key) own_number (queues table.old))
+        (item_of (K.key key)) own_number (queues table.old) (queues table.new) a) }
     // A hit asks for no memory.
-    ensures memory { OnErr result ((car_plan capacity key own_number (queues table.old)).hits ≡ false) }
+    ensures memory { OnErr result ((car_plan capacity (K.key key) own_number (queues table.old)).hits ≡ false) }
     ensures err { OnErr result (queues table.new ≡ queues table.old) }
 {
     let Some(found) = table.find(key) else {
         // Room is made before anything moves.
         table.reserve()?;
-        return Ok(new_key::<C>(table, capacity, own_number, key));
+        return Ok(new_key::<C, K>(table, capacity, own_number, key));
     };
     table.tabled();
     if is_resident(found.queue) {
         return Ok(hit(table.recount(key, found, 1), own_number));
     }
     let in_b1 = found.queue == B1;
-    Ok(recalled::<C>(table, capacity, own_number, key, found, in_b1))
+    Ok(recalled::<C, K>(table, capacity, own_number, key, found, in_b1))
 }
 
 // Whether a key of this queue is in the cache.
@@ -81,12 +80,12 @@ fn is_resident(queue: u8) -> bool
 
 // An access to a key that stands nowhere. In a full cache it takes the slot of a key that a ghost forgets, if one does.
 #[inline(always)]
-fn new_key<C>(table: &mut KeyQueues, capacity: u32, target: u32, key: Key) -> Accessed
+fn new_key<C, K: KeyName>(table: &mut KeyQueues<K>, capacity: u32, target: u32, key: K) -> Accessed
     requires few { capacity ≤ MAX_CAPACITY }
     requires fits { length (queues table.old T1) + length (queues table.old T2) ≤ capacity }
     requires room { 1 ≤ spare table.old }
-    requires absent { queue_holding (item_of key) (queues table.old) ≡ None }
-    ensures { IsAccessed (new_key_plan capacity target (queues table.old)) (item_of key) target
+    requires absent { queue_holding (item_of (K.key key)) (queues table.old) ≡ None }
+    ensures { IsAccessed (new_key_plan capacity target (queues table.old)) (item_of (K.key key)) target
         (queues table.old) (queues table.new) result }
 {
     if table.len(T1) + table.len(T2) < capacity as usize {
@@ -104,10 +103,10 @@ fn new_key<C>(table: &mut KeyQueues, capacity: u32, target: u32, key: Key) -> Ac
 
 // The key joins t1, once another one left, and a ghost may forget its oldest for it.
 #[inline(always)]
-fn join(table: &mut KeyQueues, capacity: u32, key: Key) -> (Left, KeyMove)
+fn join<K: KeyName>(table: &mut KeyQueues<K>, capacity: u32, key: K) -> (Left, KeyMove)
     requires room { 1 ≤ spare table.old }
-    requires absent { queue_holding (item_of key) (queues table.old) ≡ None }
-    ensures { IsJoined (forgotten capacity (queues table.old)) (goes T1 0) (item_of key) (queues table.old)
+    requires absent { queue_holding (item_of (K.key key)) (queues table.old) ≡ None }
+    ensures { IsJoined (forgotten capacity (queues table.old)) (goes T1 0) (item_of (K.key key)) (queues table.old)
         (queues table.new) result.0 result.1 }
 {
     let room = capacity as usize;
@@ -126,19 +125,19 @@ fn join(table: &mut KeyQueues, capacity: u32, key: Key) -> (Left, KeyMove)
 
 // An access to a key of a ghost.
 #[inline(always)]
-fn recalled<C>(
-    table: &mut KeyQueues,
+fn recalled<C, K: KeyName>(
+    table: &mut KeyQueues<K>,
     capacity: u32,
     target: u32,
-    key: Key,
+    key: K,
     found: Found,
     in_b1: bool,
 ) -> Accessed
     requires few { length (queues table.old T1) ≤ MAX_CAPACITY }
-    requires at { HoldsAt found.at (entry (item_of key) found.count) table.old }
-    requires t1 { occurrences (item_of key) (queues table.old T1) ≡ 0 }
-    requires t2 { occurrences (item_of key) (queues table.old T2) ≡ 0 }
-    ensures { IsAccessed (recall_plan capacity target in_b1 (queues table.old)) (item_of key) target
+    requires at { HoldsAt found.at (entry (item_of (K.key key)) found.count) table.old }
+    requires t1 { occurrences (item_of (K.key key)) (queues table.old T1) ≡ 0 }
+    requires t2 { occurrences (item_of (K.key key)) (queues table.old T2) ≡ 0 }
+    ensures { IsAccessed (recall_plan capacity target in_b1 (queues table.old)) (item_of (K.key key)) target
         (queues table.old) (queues table.new) result }
 {
     let left = replace(table, capacity, target);
@@ -156,7 +155,7 @@ fn recalled<C>(
 
 // A key leaves, for b1 or b2.
 #[inline(always)]
-fn replace(table: &mut KeyQueues, capacity: u32, target: u32) -> Replaced
+fn replace<K: KeyName>(table: &mut KeyQueues<K>, capacity: u32, target: u32) -> Replaced
     requires { length (queues table.old T1) ≤ MAX_CAPACITY }
     ensures made { IsReplaced capacity target (queues table.old) (queues table.new) result }
     ensures spare { spare table.new ≡ spare table.old }
@@ -173,7 +172,7 @@ fn replace(table: &mut KeyQueues, capacity: u32, target: u32) -> Replaced
 
 // The queue that gives up a key.
 #[inline(always)]
-fn giver(table: &KeyQueues, target: u32) -> u8
+fn giver<K: KeyName>(table: &KeyQueues<K>, target: u32) -> u8
     ensures queue { result ≡ giver target (queues table.now) }
     ensures low { result ≤ 1 }
 {
@@ -185,7 +184,7 @@ fn giver(table: &KeyQueues, target: u32) -> u8
 }
 
 // The size that t1 is to have after a key of a ghost came again.
-fn moved_target(table: &KeyQueues, capacity: u32, target: u32, in_b1: bool) -> u32
+fn moved_target<K: KeyName>(table: &KeyQueues<K>, capacity: u32, target: u32, in_b1: bool) -> u32
     ensures { result ≡ target_after capacity target in_b1 (queues table.now) }
 {
     let before = target as usize;

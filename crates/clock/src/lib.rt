@@ -13,9 +13,8 @@ ghost use Rattle.policy_page.specs.Turns.{turn_count, after_turns};
 ghost use Rattle.clock.specs.Clock.{IsClock};
 ghost use Rattle.clock.specs.Examples.{WorkedExamples};
 
-use engine_base::Key;
 use policy_page::accesses::{evicted, hit, kept};
-use queue_moves::{Accessed, KeyQueues, Run};
+use queue_moves::{Accessed, KeyName, KeyQueues, Run};
 use std::alloc::AllocError;
 
 const QUEUE: u8 = 0;
@@ -25,16 +24,16 @@ const QUEUE: u8 = 0;
 ///
 /// `C` selects an instance (docs/ARCHITECTURE.md).
 #[inline(always)]
-pub fn step<C>(
-    table: &mut KeyQueues,
+pub fn step<C, K: KeyName>(
+    table: &mut KeyQueues<K>,
     capacity: u32,
     own_number: u32,
-    key: Key,
+    key: K,
 ) -> Result<Accessed, AllocError>
-    ensures accessed { IfOk result (λ a. IsAccessed (clock_plan capacity key own_number (queues table.old)) (item_of key)
-        own_number (queues table.old) (queues table.new) a) }
+    ensures accessed { IfOk result (λ a. IsAccessed (clock_plan capacity (K.key key) own_number (queues table.old))
+        (item_of (K.key key)) own_number (queues table.old) (queues table.new) a) }
     // A hit asks for no memory.
-    ensures memory { OnErr result ((clock_plan capacity key own_number (queues table.old)).hits ≡ false) }
+    ensures memory { OnErr result ((clock_plan capacity (K.key key) own_number (queues table.old)).hits ≡ false) }
     ensures err { OnErr result (queues table.new ≡ queues table.old) }
 {
     match table.find(key) {
@@ -55,10 +54,10 @@ pub fn step<C>(
 
 // A miss of a full cache.
 #[inline(always)]
-fn evict(table: &mut KeyQueues, capacity: u32, own_number: u32, key: Key) -> Accessed
+fn evict<K: KeyName>(table: &mut KeyQueues<K>, capacity: u32, own_number: u32, key: K) -> Accessed
     requires room { 1 ≤ spare table.old }
-    requires absent { queue_holding (item_of key) (queues table.old) ≡ None }
-    ensures { IsAccessed (clock_eviction_plan capacity own_number (queues table.old)) (item_of key) own_number
+    requires absent { queue_holding (item_of (K.key key)) (queues table.old) ≡ None }
+    ensures { IsAccessed (clock_eviction_plan capacity own_number (queues table.old)) (item_of (K.key key)) own_number
         (queues table.old) (queues table.new) result }
 {
     let early = table.run(QUEUE, QUEUE, 1, 1, capacity);

@@ -1,11 +1,11 @@
-//! Places of keys, and next uses of a trace that comes whole or in pieces.
+//! Places of keys, next uses of a trace that comes whole or in pieces, and numbers of its keys.
 use super::assertions::assert_equal;
 use clairvoyant::{NextUse, NextUseFinder};
 use engine_base::{Key, Trace};
 use std::alloc::Global;
 use std::process::Abort;
 use std::test::Fail;
-use trace_index::KeyPlaces;
+use trace_index::{KeyPlaces, TraceNumbers};
 
 // A key of more than 4 bytes.
 const LONG: Key = 4_294_967_297;
@@ -97,5 +97,13 @@ fn shared_next_uses_outlive_their_first_owner(rt: HostRuntime) -> Result<(), Fai
     let second = first.share()?;
     drop(first);
     assert_uses(&rt, &second);
+    Ok(())
+}
+
+#[test]
+fn keys_have_numbers_as_they_first_come(rt: HostRuntime) -> Result<(), Fail> {
+    let trace = Trace::new(vec![in rt.alloc(); 7, LONG, 7, 1_048_582, LONG, 0]?);
+    let numbers = TraceNumbers::of(rt.alloc(), &trace)?;
+    assert_equal(&rt, numbers.as_slice(), &[0, 1, 0, 2, 1, 3]);
     Ok(())
 }

@@ -1,13 +1,21 @@
 -- Accesses in a loop over a list of keys.
-use Rattle.std.proofs.Common.{◌≡◌, ℕ, suc, ◌+◌, ◌++◌, ◌<◌, ◌≤◌, Some, None, List, [], ◌∷◌, take, drop, length, ap, sym, ◌∙◌, arith, drop-cons, take-append-drop}
+use Rattle.std.proofs.Common.{◌≡◌, ℕ, suc, ◌+◌, ◌++◌, ◌<◌, ◌≤◌, Some, None, List, [], ◌∷◌, map, take, drop, get_or, length, ap, sym, ◌∙◌, arith, drop-cons, take-append-drop}
 use Rattle.std.specs.Prelude.{slice_index}
-use Rattle.std.proofs.lemmas.List.{take_more, take_all}
+use Rattle.std.proofs.lemmas.List.{take_more, take_all, get_or-map, length-map}
 use Rattle.engine_base.specs.declared.limits.TheConstants.{MAX_STEPS}
 use Rattle.engine_base.proofs.Limited.{accepted, refused}
 use Rattle.engine_base.specs.Machine.{state_after_all}
 use Rattle.policy_page.specs.Residents.{Outcome}
 use Rattle.engine_base.proofs.Machine.{state-append}
 use Rattle.demand_cache.specs.DemandCache.{DemandState, demand_access, demand_act, demand_count, demand_may_ask, DemandStops}
+
+-- the key of the name at a place
+pub named-at : {K : Type 0} (key : K → ℕ) (names : List K) (keys : List ℕ) (i : ℕ) (x : K) → keys ≡ map key names → i < length names
+    → x ≡ get_or names i x → key x ≡ slice_index keys i
+named-at key names keys i x is below at = ap key at ∙ sym (ap (λ l. slice_index l i) is ∙ get_or-map key names i x 0 below)
+
+pub named-length : {K : Type 0} (key : K → ℕ) (names : List K) (keys : List ℕ) → keys ≡ map key names → length keys ≡ length names
+named-length key names keys is = ap length is ∙ length-map names key
 
 -- the cache d is the one from the start after the first i of the keys
 pub record HasMade (keys : List ℕ) (i : ℕ) (start d : DemandState) : Type 0 where

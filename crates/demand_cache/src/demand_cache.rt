@@ -14,19 +14,19 @@ ghost use Rattle.queue_table.specs.Queues.{Queues};
 use crate::demand_policy::{DemandPolicy, QueueRow};
 use engine_base::{Engine, Key, MAX_STEPS, Outcome, Stats, StepFault};
 use named_queues::{NamedQueue, QueueKey};
-use queue_moves::{KeyQueues, Moves};
+use queue_moves::{KeyName, KeyQueues, Moves};
 use queue_table::Entry;
 use std::alloc::{AllocError, Global};
 use std::marker::Model;
 
 /// A cache of a policy that keeps each missed key.
 #[derive(Drop)]
-pub struct DemandCache {
+pub struct DemandCache<K: KeyName = Key> {
     pub(crate) policy: DemandPolicy,
     capacity: u32,
     /// The policy's own number: ARC's target, the queue that is ahead of SIEVE's hand.
     own_number: u32,
-    queues: KeyQueues,
+    queues: KeyQueues<K>,
     stats: Stats,
 }
 
@@ -39,7 +39,7 @@ pub struct DemandRecord {
     pub outcome: Outcome,
 }
 
-impl Model for DemandCache {
+impl<K: KeyName> Model for DemandCache<K> {
     ghost use Rattle.queue_table.specs.QueueTable.{queues as queues_at};
     ghost use Rattle.queue_moves.specs.Lists.{lists_of};
     ghost use Rattle.demand_cache.specs.DemandCache.{DemandState, IsDemand, state_of};
@@ -51,11 +51,11 @@ impl Model for DemandCache {
     ghost invariant = { λ t. IsDemand (state_of t.policy t.capacity t.own_number (lists_of (queues_at t.queues)) t.stats) };
 }
 
-impl DemandCache {
+impl<K: KeyName> DemandCache<K> {
     ghost use Rattle.demand_cache.specs.DemandCache.{demand_access, demand_act, demand_may_ask, DemandStops};
 
     /// An empty cache. Allocates nothing.
-    pub fn new(alloc: Global, policy: DemandPolicy, capacity: u32) -> DemandCache
+    pub fn new(alloc: Global, policy: DemandPolicy, capacity: u32) -> DemandCache<K>
         requires least { 1 ≤ capacity }
         requires most { capacity ≤ MAX_CAPACITY }
         ensures queues { result.queues ≡ empty_cache policy capacity }
@@ -73,12 +73,70 @@ impl DemandCache {
     /// Reads ahead, for each few keys, what accesses to them read first, from the key at `i` on: to be called before
     /// each access of a loop over them. It changes nothing.
     #[inline(always)]
-    pub fn prefetch_at(&mut self, keys: &[Key], i: usize)
+    pub fn prefetch_at(&mut self, keys: &[K], i: usize)
         requires { i ≤ length keys.now }
         ensures { self.new ≡ self.old }
     {
         self.queues.prefetch_at(keys, i);
     }
+
+    /// The accesses of `access_all`, where the caller knows the policy, as a loop that is part of the caller.
+    #[inline(always)]
+    pub(crate) fn access_all_by<C>(
+        &mut self,
+        policy: DemandPolicy,
+        keys: &[K],
+    ) -> Result<(), AllocError>
+        requires policy { policy ≡ self.old.queues.policy }
+        requires room { self.old.stats.accesses + length keys.now ≤ MAX_STEPS }
+        ensures all { OnOk result (self.new ≡ state_after_all demand_access self.old (K.keys keys.now)) }
+        ensures memory { OnErr result (DemandStops (K.keys keys.now) self.old self.new) }
+    {
+        for i in 0..keys.len() {
+            self.prefetch_at(keys, i);
+            match self.access_by::<C>(policy, keys[i]) {
+                Ok(_) => {}
+                Err(StepFault::OutOfMemory) => return Err(AllocError),
+                Err(StepFault::NotNow) => unreachable!(),
+            }
+        }
+        Ok(())
+    }
+
+    // The access of `access`, where the caller knows the policy, so that no step of another one is compiled.
+    #[inline(always)]
+    fn access_by<C>(&mut self, policy: DemandPolicy, key: K) -> Result<Outcome, StepFault>
+        requires { policy ≡ self.old.queues.policy }
+        ensures accepted { IfOk result (λ o. demand_act self.old (K.key key) ≡ Some (o, self.new)) }
+        ensures not_now { result ≡ Err StepFault.NotNow ↔ demand_act self.old (K.key key) ≡ None }
+        ensures memory { result ≡ Err StepFault.OutOfMemory → demand_may_ask self.old (K.key key) }
+        ensures err { OnErr result (self.new ≡ self.old) }
+        ensures policy { self.new.queues.policy ≡ self.old.queues.policy }
+    {
+        if self.stats.accesses == MAX_STEPS {
+            return Err(StepFault::NotNow);
+        }
+        self.queues.tabled();
+        match policy.count_out::<C, K>(&mut self.queues, self.capacity, self.own_number, key) {
+            Err(_) => Err(StepFault::OutOfMemory),
+            Ok(done) => {
+                self.own_number = done.own_number;
+                self.stats.count(done.outcome);
+                Ok(done.outcome)
+            }
+        }
+    }
+
+    /// What was counted of the applied accesses.
+    pub fn stats(&self) -> Stats
+        ensures { result ≡ self.now.stats }
+    {
+        self.stats
+    }
+}
+
+impl DemandCache {
+    ghost use Rattle.demand_cache.specs.DemandCache.{demand_act, demand_may_ask};
 
     /// Makes an access that is not to be undone: that of `apply`, without its undo record. It is part of its caller, so
     /// that the record is not made.
@@ -95,60 +153,6 @@ impl DemandCache {
         ensures err { OnErr result (self.new ≡ self.old) }
     {
         self.access_by::<C>(self.policy, key)
-    }
-
-    /// The accesses of `access_all`, where the caller knows the policy, as a loop that is part of the caller.
-    #[inline(always)]
-    pub(crate) fn access_all_by<C>(
-        &mut self,
-        policy: DemandPolicy,
-        keys: &[Key],
-    ) -> Result<(), AllocError>
-        requires policy { policy ≡ self.old.queues.policy }
-        requires room { self.old.stats.accesses + length keys.now ≤ MAX_STEPS }
-        ensures all { OnOk result (self.new ≡ state_after_all demand_access self.old keys.now) }
-        ensures memory { OnErr result (DemandStops keys.now self.old self.new) }
-    {
-        for i in 0..keys.len() {
-            self.prefetch_at(keys, i);
-            match self.access_by::<C>(policy, keys[i]) {
-                Ok(_) => {}
-                Err(StepFault::OutOfMemory) => return Err(AllocError),
-                Err(StepFault::NotNow) => unreachable!(),
-            }
-        }
-        Ok(())
-    }
-
-    // The access of `access`, where the caller knows the policy, so that no step of another one is compiled.
-    #[inline(always)]
-    fn access_by<C>(&mut self, policy: DemandPolicy, key: Key) -> Result<Outcome, StepFault>
-        requires { policy ≡ self.old.queues.policy }
-        ensures accepted { IfOk result (λ o. demand_act self.old key ≡ Some (o, self.new)) }
-        ensures not_now { result ≡ Err StepFault.NotNow ↔ demand_act self.old key ≡ None }
-        ensures memory { result ≡ Err StepFault.OutOfMemory → demand_may_ask self.old key }
-        ensures err { OnErr result (self.new ≡ self.old) }
-        ensures policy { self.new.queues.policy ≡ self.old.queues.policy }
-    {
-        if self.stats.accesses == MAX_STEPS {
-            return Err(StepFault::NotNow);
-        }
-        self.queues.tabled();
-        match policy.count_out::<C>(&mut self.queues, self.capacity, self.own_number, key) {
-            Err(_) => Err(StepFault::OutOfMemory),
-            Ok(done) => {
-                self.own_number = done.own_number;
-                self.stats.count(done.outcome);
-                Ok(done.outcome)
-            }
-        }
-    }
-
-    /// What was counted of the applied accesses.
-    pub fn stats(&self) -> Stats
-        ensures { result ≡ self.now.stats }
-    {
-        self.stats
     }
 
     /// The resident keys, queue by queue, oldest first. The one error is that an allocation failed.

@@ -12,7 +12,7 @@ ghost use Rattle.demand_cache.specs.DemandCache.{IsCountedBy, DemandStops, deman
 
 use crate::demand_cache::DemandCache;
 use engine_base::{Key, Outcome};
-use queue_moves::{Accessed, KeyQueues};
+use queue_moves::{Accessed, KeyName, KeyQueues};
 use std::alloc::{AllocError, Global};
 use two_q::TwoQSizes;
 
@@ -72,15 +72,15 @@ pub(crate) struct Counted {
     pub own_number: u32,
 }
 
-impl DemandCache {
+impl<K: KeyName> DemandCache<K> {
     /// Makes the accesses in turn, none of which is to be undone: at most `MAX_STEPS` with those that it made. The one error
     /// is that an allocation failed: the cache has made those before an access that may ask for memory.
     // Each policy has a loop of its own: the instructions that tell the policies apart would be a tenth of an access.
     #[inline(never)]
-    pub fn access_all(&mut self, keys: &[Key]) -> Result<(), AllocError>
+    pub fn access_all(&mut self, keys: &[K]) -> Result<(), AllocError>
         requires { self.old.stats.accesses + length keys.now ≤ MAX_STEPS }
-        ensures all { OnOk result (self.new ≡ state_after_all demand_access self.old keys.now) }
-        ensures memory { OnErr result (DemandStops keys.now self.old self.new) }
+        ensures all { OnOk result (self.new ≡ state_after_all demand_access self.old (K.keys keys.now)) }
+        ensures memory { OnErr result (DemandStops (K.keys keys.now) self.old self.new) }
     {
         match self.policy {
             DemandPolicy::Fifo => self.access_all_by::<FifoLoop>(DemandPolicy::Fifo, keys),
@@ -176,40 +176,46 @@ impl DemandPolicy {
     ///
     /// `C` selects an instance (docs/ARCHITECTURE.md).
     #[inline(always)]
-    pub(crate) fn count_out<C>(
+    pub(crate) fn count_out<C, K: KeyName>(
         self,
-        queues: &mut KeyQueues,
+        queues: &mut KeyQueues<K>,
         capacity: u32,
         own_number: u32,
-        key: Key,
+        key: K,
     ) -> Result<Counted, AllocError>
         requires least { 1 ≤ capacity }
         requires most { capacity ≤ MAX_CAPACITY }
         requires shown { (page_of self).IsShown own_number (queues_at queues.old) }
         requires state { (page_of self).IsState capacity ((page_of self).view own_number (queues_at queues.old)) }
-        ensures counted { IfOk result (λ c. IsCountedBy (plan_by self capacity key own_number (queues_at queues.old))
-            (item_of key) (queues_at queues.old) (queues_at queues.new) c.outcome c.own_number) }
-        ensures memory { OnErr result ((plan_by self capacity key own_number (queues_at queues.old)).hits ≡ false) }
+        ensures counted { IfOk result (λ c. IsCountedBy (plan_by self capacity (K.key key) own_number
+            (queues_at queues.old)) (item_of (K.key key)) (queues_at queues.old) (queues_at queues.new)
+            c.outcome c.own_number) }
+        ensures memory { OnErr result
+            ((plan_by self capacity (K.key key) own_number (queues_at queues.old)).hits ≡ false) }
         ensures err { OnErr result (queues_at queues.new ≡ queues_at queues.old) }
     {
         match self {
-            DemandPolicy::Fifo => without_record(fifo::step::<C>(
+            DemandPolicy::Fifo => without_record(fifo::step::<C, K>(
                 queues, capacity, own_number, key,
             )),
-            DemandPolicy::Clock => without_record(clock::step::<C>(
+            DemandPolicy::Clock => without_record(clock::step::<C, K>(
                 queues, capacity, own_number, key,
             )),
-            DemandPolicy::Sieve => without_record(sieve::step::<C>(
+            DemandPolicy::Sieve => without_record(sieve::step::<C, K>(
                 queues, capacity, own_number, key,
             )),
-            DemandPolicy::S3Fifo(part) => without_record(s3_fifo::step::<C>(
+            DemandPolicy::S3Fifo(part) => without_record(s3_fifo::step::<C, K>(
                 queues, part, capacity, own_number, key,
             )),
-            DemandPolicy::TwoQ(sizes) => without_record(two_q::step::<C>(
+            DemandPolicy::TwoQ(sizes) => without_record(two_q::step::<C, K>(
                 queues, sizes, capacity, own_number, key,
             )),
-            DemandPolicy::Arc => without_record(arc::step::<C>(queues, capacity, own_number, key)),
-            DemandPolicy::Car => without_record(car::step::<C>(queues, capacity, own_number, key)),
+            DemandPolicy::Arc => without_record(arc::step::<C, K>(
+                queues, capacity, own_number, key,
+            )),
+            DemandPolicy::Car => without_record(car::step::<C, K>(
+                queues, capacity, own_number, key,
+            )),
         }
     }
 
@@ -232,17 +238,21 @@ impl DemandPolicy {
         ensures err { OnErr result (queues_at queues.new ≡ queues_at queues.old) }
     {
         match self {
-            DemandPolicy::Fifo => fifo::step::<WithRecord>(queues, capacity, own_number, key),
-            DemandPolicy::Clock => clock::step::<WithRecord>(queues, capacity, own_number, key),
-            DemandPolicy::Sieve => sieve::step::<WithRecord>(queues, capacity, own_number, key),
-            DemandPolicy::S3Fifo(part) => s3_fifo::step::<WithRecord>(
+            DemandPolicy::Fifo => fifo::step::<WithRecord, Key>(queues, capacity, own_number, key),
+            DemandPolicy::Clock => clock::step::<WithRecord, Key>(
+                queues, capacity, own_number, key,
+            ),
+            DemandPolicy::Sieve => sieve::step::<WithRecord, Key>(
+                queues, capacity, own_number, key,
+            ),
+            DemandPolicy::S3Fifo(part) => s3_fifo::step::<WithRecord, Key>(
                 queues, part, capacity, own_number, key,
             ),
-            DemandPolicy::TwoQ(sizes) => two_q::step::<WithRecord>(
+            DemandPolicy::TwoQ(sizes) => two_q::step::<WithRecord, Key>(
                 queues, sizes, capacity, own_number, key,
             ),
-            DemandPolicy::Arc => arc::step::<WithRecord>(queues, capacity, own_number, key),
-            DemandPolicy::Car => car::step::<WithRecord>(queues, capacity, own_number, key),
+            DemandPolicy::Arc => arc::step::<WithRecord, Key>(queues, capacity, own_number, key),
+            DemandPolicy::Car => car::step::<WithRecord, Key>(queues, capacity, own_number, key),
         }
     }
 }

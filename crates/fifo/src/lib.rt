@@ -9,9 +9,8 @@ ghost use Rattle.queue_moves.specs.Undoing.{IsAccessed};
 ghost use Rattle.fifo.specs.Plan.{fifo_plan};
 ghost use Rattle.fifo.specs.Examples.{WorkedExamples};
 
-use engine_base::Key;
 use policy_page::accesses::{evicted, hit, kept};
-use queue_moves::{Accessed, KeyMove, KeyQueues, Run};
+use queue_moves::{Accessed, KeyMove, KeyName, KeyQueues, Run};
 use std::alloc::AllocError;
 
 const QUEUE: u8 = 0;
@@ -21,20 +20,20 @@ const QUEUE: u8 = 0;
 ///
 /// `C` selects an instance (docs/ARCHITECTURE.md).
 #[inline(always)]
-pub fn step<C>(
-    table: &mut KeyQueues,
+pub fn step<C, K: KeyName>(
+    table: &mut KeyQueues<K>,
     capacity: u32,
     own_number: u32,
-    key: Key,
+    key: K,
 ) -> Result<Accessed, AllocError>
-    ensures accessed { IfOk result (λ a. IsAccessed (fifo_plan capacity key own_number (queues table.old)) (item_of key)
-        own_number (queues table.old) (queues table.new) a) }
+    ensures accessed { IfOk result (λ a. IsAccessed (fifo_plan capacity (K.key key) own_number (queues table.old))
+        (item_of (K.key key)) own_number (queues table.old) (queues table.new) a) }
     // A hit asks for no memory.
-    ensures memory { OnErr result ((fifo_plan capacity key own_number (queues table.old)).hits ≡ false) }
+    ensures memory { OnErr result ((fifo_plan capacity (K.key key) own_number (queues table.old)).hits ≡ false) }
     ensures err { OnErr result (queues table.new ≡ queues table.old) }
 {
     match table.find(key) {
-        Some(_) => Ok(hit(KeyMove::unmoved(key), own_number)),
+        Some(_) => Ok(hit(KeyMove::unmoved(key.key()), own_number)),
         None => {
             table.reserve()?;
             if table.len(QUEUE) < capacity as usize {

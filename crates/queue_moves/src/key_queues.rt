@@ -7,9 +7,10 @@ ghost use Rattle.queue_moves.specs.Moves.{Entry, after_leaving, item_of, run, st
 ghost use Rattle.queue_moves.specs.Undoing.{IsTurn, IsRun, IsLeft, IsOwn, outs, key_in};
 ghost use Rattle.queue_moves.specs.Tabled.{IsTabled, keys_of};
 
+use crate::key_name::KeyName;
 use crate::records::{Change, Departure, KeyMove, Left, Run};
 use engine_base::{Item, Key};
-use queue_table::{AHEAD, Entry, Found, QueueTable, push_keys};
+use queue_table::{AHEAD, Entry, Found, QueueTable, TableItem, push_keys};
 use std::alloc::{AllocError, Global};
 use std::marker::Model;
 
@@ -19,14 +20,14 @@ const AHEAD_FROM: usize = 65_536;
 
 /// Queues by number, of distinct keys, oldest first, with a count beside each key.
 #[derive(Drop)]
-pub struct KeyQueues {
+pub struct KeyQueues<K: KeyName = Key> {
     alloc: Global,
-    pub(crate) table: QueueTable,
+    pub(crate) table: QueueTable<K>,
     /// A sum over what `read_ahead` read, kept so that the compiler cannot drop the reads.
     read: u64,
 }
 
-impl Model for KeyQueues {
+impl<K: KeyName> Model for KeyQueues<K> {
     ghost use Rattle.std.specs.Prelude.{List};
     ghost use Rattle.queue_table.specs.QueueTable.{queues};
     ghost use Rattle.queue_moves.specs.Tabled.{Slot, HasKeys};
@@ -38,11 +39,11 @@ impl Model for KeyQueues {
     ghost invariant = { λ t. HasKeys (queues t.table) };
 }
 
-impl KeyQueues {
+impl<K: KeyName> KeyQueues<K> {
     /// Empty queues, with no room yet. Allocates nothing. The first `reserve` makes a hash index that is large enough
     /// for so many keys, so that it is not rebuilt while the queues fill.
     #[inline(always)]
-    pub fn for_items(alloc: Global, items: u32) -> KeyQueues
+    pub fn for_items(alloc: Global, items: u32) -> KeyQueues<K>
         ensures { queues result ≡ empty_queues }
     {
         KeyQueues {
@@ -84,7 +85,7 @@ impl KeyQueues {
     /// Reads ahead, once for each few keys, what accesses to the keys from the one at `i` on read first, where the queues
     /// are larger than the processor's caches: to be called before each access of a loop over them. It changes nothing.
     #[inline(always)]
-    pub fn prefetch_at(&mut self, keys: &[Key], i: usize)
+    pub fn prefetch_at(&mut self, keys: &[K], i: usize)
         requires { i ≤ length keys.now }
         ensures { self.new ≡ self.old }
     {
@@ -94,7 +95,7 @@ impl KeyQueues {
     }
 
     #[inline(never)]
-    fn read_ahead(&mut self, keys: &[Key], i: usize)
+    fn read_ahead(&mut self, keys: &[K], i: usize)
         requires { i ≤ length keys.now }
         ensures { self.new ≡ self.old }
     {
@@ -103,13 +104,13 @@ impl KeyQueues {
 
     /// The slot of the key, with its queue and its count.
     #[inline(always)]
-    pub fn find(&self, key: Key) -> Option<Found>
-        ensures at { IfSome result (λ f. HoldsAt f.at (entry (item_of key) f.count) self.now) }
+    pub fn find(&self, key: K) -> Option<Found>
+        ensures at { IfSome result (λ f. HoldsAt f.at (entry (item_of (K.key key)) f.count) self.now) }
         ensures low { IfSome result (λ f. f.queue < QUEUES) }
-        ensures stands { IfSome result (λ f. standing (item_of key) (queues self.now) ≡ Some (f.queue, f.count)) }
-        ensures absent { IfNone result (queue_holding (item_of key) (queues self.now) ≡ None) }
+        ensures stands { IfSome result (λ f. standing (item_of (K.key key)) (queues self.now) ≡ Some (f.queue, f.count)) }
+        ensures absent { IfNone result (queue_holding (item_of (K.key key)) (queues self.now) ≡ None) }
     {
-        let found = self.table.find(Item { key, node: 0 })?;
+        let found = self.table.find(key.item())?;
         Some(found)
     }
 
@@ -217,15 +218,15 @@ impl KeyQueues {
 
     /// Gives a key that was found another count, where it stands.
     #[inline(always)]
-    pub fn recount(&mut self, key: Key, found: Found, count: u8) -> KeyMove
-        requires at { HoldsAt found.at (entry (item_of key) found.count) self.old }
-        ensures own { IsOwn (counts count) (item_of key) (queues self.old) (queues self.new) result }
+    pub fn recount(&mut self, key: K, found: Found, count: u8) -> KeyMove
+        requires at { HoldsAt found.at (entry (item_of (K.key key)) found.count) self.old }
+        ensures own { IsOwn (counts count) (item_of (K.key key)) (queues self.old) (queues self.new) result }
         ensures spare { spare self.new ≡ spare self.old }
     {
         self.table.distinct();
         self.table.set_count(found.at, count);
         KeyMove {
-            key,
+            key: key.key(),
             older: None,
             count: found.count,
             queue: 0,
@@ -235,16 +236,16 @@ impl KeyQueues {
 
     /// Takes a key that was found to the recent end of a queue, with another count. It needs no room.
     #[inline(always)]
-    pub fn send(&mut self, key: Key, found: Found, queue: u8, count: u8) -> KeyMove
+    pub fn send(&mut self, key: K, found: Found, queue: u8, count: u8) -> KeyMove
         requires queue { queue < QUEUES }
-        requires at { HoldsAt found.at (entry (item_of key) found.count) self.old }
-        ensures own { IsOwn (goes queue count) (item_of key) (queues self.old) (queues self.new) result }
+        requires at { HoldsAt found.at (entry (item_of (K.key key)) found.count) self.old }
+        ensures own { IsOwn (goes queue count) (item_of (K.key key)) (queues self.old) (queues self.new) result }
         ensures spare { spare self.new ≡ spare self.old }
     {
         self.table.distinct();
         let place = self.table.send(found.at, queue, count);
         KeyMove {
-            key,
+            key: key.key(),
             older: key_in(place.older),
             count: found.count,
             queue: place.queue,
@@ -254,17 +255,16 @@ impl KeyQueues {
 
     /// Puts a key that stands nowhere at the recent end of a queue. It takes room for one.
     #[inline(always)]
-    pub fn join(&mut self, key: Key, queue: u8, count: u8) -> KeyMove
+    pub fn join(&mut self, key: K, queue: u8, count: u8) -> KeyMove
         requires queue { queue < QUEUES }
         requires room { 1 ≤ spare self.old }
-        requires absent { queue_holding (item_of key) (queues self.old) ≡ None }
-        ensures own { IsOwn (goes queue count) (item_of key) (queues self.old) (queues self.new) result }
+        requires absent { queue_holding (item_of (K.key key)) (queues self.old) ≡ None }
+        ensures own { IsOwn (goes queue count) (item_of (K.key key)) (queues self.old) (queues self.new) result }
         ensures spare { spare self.new + 1 ≡ spare self.old }
     {
-        let item = Item { key, node: 0 };
-        self.table.push(queue, Entry { item, count });
+        self.table.push(queue, key, count);
         KeyMove {
-            key,
+            key: key.key(),
             older: None,
             count: 0,
             queue: 0,
@@ -275,23 +275,22 @@ impl KeyQueues {
     /// The oldest key of a queue, if it has one, goes out, and a key that stands nowhere joins the recent end of a queue,
     /// in its slot. It takes room for one where none goes out.
     #[inline(always)]
-    pub fn renew_oldest(&mut self, from: u8, key: Key, queue: u8, count: u8) -> (Left, KeyMove)
+    pub fn renew_oldest(&mut self, from: u8, key: K, queue: u8, count: u8) -> (Left, KeyMove)
         requires from { from < QUEUES }
         requires queue { queue < QUEUES }
         requires room { 1 ≤ spare self.old }
-        requires absent { queue_holding (item_of key) (queues self.old) ≡ None }
+        requires absent { queue_holding (item_of (K.key key)) (queues self.old) ≡ None }
         ensures left { IsLeft (leaving from None) (queues self.old) (after_leaving (leaving from None) (queues self.old))
             result.0 }
         ensures out { outs result.0.by ≤ 1 }
-        ensures own { IsOwn (goes queue count) (item_of key) (after_leaving (leaving from None) (queues self.old))
+        ensures own { IsOwn (goes queue count) (item_of (K.key key)) (after_leaving (leaving from None) (queues self.old))
             (queues self.new) result.1 }
     {
         self.table.distinct();
         let Some((at, oldest)) = self.table.oldest(from) else {
             return (Left::NONE, self.join_apart(key, queue, count));
         };
-        let item = Item { key, node: 0 };
-        let _ = self.table.renew(at, queue, Entry { item, count });
+        let _ = self.table.renew(at, queue, key, count);
         let left = Left {
             key: oldest.item.key,
             count: oldest.count,
@@ -299,7 +298,7 @@ impl KeyQueues {
             by: Departure::Out,
         };
         let own = KeyMove {
-            key,
+            key: key.key(),
             older: None,
             count: 0,
             queue: 0,
@@ -310,11 +309,11 @@ impl KeyQueues {
 
     /// `join` as a call, where a key that comes finds room: that ends once a cache is full, and callers stay small.
     #[inline(never)]
-    pub fn join_apart(&mut self, key: Key, queue: u8, count: u8) -> KeyMove
+    pub fn join_apart(&mut self, key: K, queue: u8, count: u8) -> KeyMove
         requires queue { queue < QUEUES }
         requires room { 1 ≤ spare self.old }
-        requires absent { queue_holding (item_of key) (queues self.old) ≡ None }
-        ensures own { IsOwn (goes queue count) (item_of key) (queues self.old) (queues self.new) result }
+        requires absent { queue_holding (item_of (K.key key)) (queues self.old) ≡ None }
+        ensures own { IsOwn (goes queue count) (item_of (K.key key)) (queues self.old) (queues self.new) result }
         ensures spare { spare self.new + 1 ≡ spare self.old }
     {
         self.join(key, queue, count)
@@ -343,9 +342,9 @@ impl KeyQueues {
 }
 
 // Appends the items of a queue with the counts beside them.
-fn push_entries(
+fn push_entries<K: KeyName>(
     entries: &mut Vec<Entry>,
-    table: &QueueTable,
+    table: &QueueTable<K>,
     items: &[Item],
 ) -> Result<(), AllocError>
     ensures { (q : ℕ) → q < QUEUES → items.now ≡ items_of (queues table.now q)
@@ -359,7 +358,7 @@ fn push_entries(
 }
 
 // The count beside an item, where it stands in a queue.
-fn count_beside(table: &QueueTable, item: Item) -> u8
+fn count_beside<K: KeyName>(table: &QueueTable<K>, item: Item) -> u8
     ensures { (q n : ℕ) → q < QUEUES → Contains (queues table.now q) (entry item n) → result ≡ n }
 {
     match table.find(item) {

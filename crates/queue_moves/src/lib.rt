@@ -6,9 +6,11 @@
 //! own.
 #![tactic(auto)]
 
+mod key_name;
 mod key_queues;
 mod records;
 mod undo;
 
+pub use key_name::KeyName;
 pub use key_queues::KeyQueues;
 pub use records::{Accessed, Change, Departure, KeyMove, Left, Moves, Run};

@@ -11,7 +11,7 @@ ghost use Rattle.queue_moves.specs.Undoing.{item_in};
 use crate::key_queues::KeyQueues;
 use crate::records::{Change, Departure, KeyMove, Left, Moves, Run};
 use engine_base::{Item, Key};
-use queue_table::{Entry, Place};
+use queue_table::Place;
 use std::alloc::AllocError;
 
 impl KeyQueues {
@@ -103,8 +103,7 @@ impl KeyQueues {
             queue,
             older: item_in(older),
         };
-        let item = Item { key, node: 0 };
-        self.table.put_back(place, Entry { item, count });
+        self.table.put_back(place, key, count);
     }
 
     // Takes a key out, wherever it stands.

@@ -1,5 +1,5 @@
 -- Another count beside an item.
-use Rattle.std.proofs.Common.{◌≡◌, ℕ, suc, zero, ◌≤◌, eqb, List, [], ◌∷◌, length, map, ap, ◌∙◌, sym, refl, subst, arith, inl, inr, length-set, ◌<◌, Some, get_or}
+use Rattle.std.proofs.Common.{◌≡◌, ℕ, suc, zero, ◌≤◌, eqb, List, [], ◌∷◌, length, map, ap, ◌∙◌, sym, refl, subst, arith, inl, inr, length-set, ◌<◌, Some}
 use Rattle.std.proofs.Math.Path.{fun_ext}
 use Rattle.std.proofs.lemmas.Bool.{cases_eq, cases_lt}
 use Rattle.std.proofs.lemmas.Bool.Decides.{nat_tests}
@@ -15,10 +15,7 @@ use Rattle.queue_table.proofs.Growing.{written-entry, other-entry, same-items, k
 use Rattle.queue_table.proofs.Kept.{kept-on}
 use Rattle.queue_table.proofs.Moves.{IsLoose}
 use Rattle.std.specs.List.{Contains}
-use Rattle.std.proofs.lemmas.List.{get_or_default}
-use Rattle.queue_table.proofs.SlotWrites.{no_slot, field_at}
 use Rattle.queue_table.proofs.Holding.{tag-stands, tag-low}
-use Rattle.queue_table.proofs.Calls.{slot-within}
 
 map-counted : (f g : ℕ → Entry) (n k : ℕ) (l : List ℕ) → ((j : ℕ) → 1 ≤ count j l → is_same_item (f k).item (f j).item ≡ eqb k j) → ((j : ℕ) → (j ≡ k → ⊥) → g j ≡ f j) → g k ≡ entry (f k).item n →
     map g l ≡ entries_counted (f k).item n (map f l)
@@ -66,35 +63,18 @@ module _ (slots slots2 : List Slot) (index : SlotIndex) (lengths : Lengths) (k n
         distinct = subst IsDistinct (sym lists-counted) (distinct-counted (slot_item (entries slots) k) n (lists slots) l.held.queued.distinct);
       } in
       kept-on slots slots2 index index lengths lengths l.kept l.held queued
-      (same-map _ _ _ _ _ _ (same-items slots slots2 k _ l.within m.entries refl) (λ j. ap (λ (o : Order). count j (used o)) order-counted) l.held.indexed)
+      (same-map _ _ _ _ _ _ _ (same-items slots slots2 k _ l.within m.entries refl) (λ j. ap (λ (o : Order). count j (used o)) order-counted) l.held.indexed)
       (subst (IsCounted lengths) (sym order-counted) l.kept.counted) (ap length m.entries ∙ length-set (entries slots) k _) refl
 
 -- ---- what the fields of a slot in use say of its item
 
--- the slot as it is read
-module _ (slots inside : List Slot) (k : ℕ) (r : Slot) (same : inside ≡ slots) (within : k < length slots) (read : r ≡ get_or inside k r) where
-  slot-read : r ≡ get_or slots k no_slot
-  slot-read = read ∙ (ap (λ l. get_or l k r) same ∙ get_or_default slots k r no_slot within)
-
-  pub entry-read : slot_entry (entries slots) k ≡ entry r.item r.count
-  entry-read = field_at (λ (s : Slot). entry s.item s.count) slots k no_slot ∙ ap (λ (s : Slot). entry s.item s.count) (sym slot-read)
-
-  pub tag-read : tag_at (tags slots) k ≡ r.queue
-  tag-read = field_at (λ (s : Slot). s.queue) slots k no_slot ∙ ap (λ (s : Slot). s.queue) (sym slot-read)
-
--- the slot of an item
-module _ (slots inside : List Slot) (k : ℕ) (i : Item) (r : Slot) (t : IsSlotOf k i slots) (same : inside ≡ slots) (read : r ≡ get_or inside k r) where
-  pub found-within : k < length slots
-  found-within = slot-within slots (order_of slots) t.queued k t.used
-
-  tag : tag_at (tags slots) k ≡ r.queue
-  tag = tag-read slots inside k r same found-within read
-
+-- the slot of an item, by its fields as they are read
+module _ (slots : List Slot) (k : ℕ) (i : Item) (r : Slot) (t : IsSlotOf k i slots) (own : slot_entry (entries slots) k ≡ entry r.item r.count) (tag : tag_at (tags slots) k ≡ r.queue) where
   pub found-entry : slot_entry (entries slots) k ≡ entry i r.count
-  found-entry = grind (arith, nat_tests, entry-read, found-within)
+  found-entry = own ∙ ap (λ (j : Item). entry j r.count) (sym (ap (λ (e : Entry). e.item) own) ∙ t.item)
 
   pub found-low : r.queue < QUEUES
-  found-low = let w = tag-low slots (order_of slots) t.queued k t.used in let q = tag in omega (arith, w, q)
+  found-low = let w = tag-low slots (order_of slots) t.queued k t.used in omega (arith, w, tag)
 
   pub found-queue : queue_holding i (lists slots) ≡ Some r.queue
   found-queue =

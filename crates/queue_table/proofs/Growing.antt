@@ -1,10 +1,10 @@
 -- What growth leaves.
-use Rattle.std.proofs.Common.{◌≡◌, ℕ, ◌+◌, ◌*◌, ◌^◌, ◌≤◌, suc, cond, eqb, Result, Ok, Err, List, [], ◌∷◌, ◌++◌, length, ap, ◌∙◌, sym, subst, arith, length-append, ◌<◌, set, get_or, get_or-set_same, get_or-set_other}
+use Rattle.std.proofs.Common.{◌≡◌, ℕ, ◌+◌, ◌*◌, ◌^◌, ◌≤◌, suc, cond, eqb, Result, Ok, Err, List, [], ◌∷◌, ◌++◌, length, ap, ◌∙◌, sym, subst, arith, length-append, ◌<◌, set, get_or-set_same, get_or-set_other}
 use Rattle.std.specs.Result.{OnOk, OnErr}
 use Rattle.std.specs.declared.alloc.AllocError.{AllocError}
 use Rattle.std.proofs.Math.Path.{fun_ext}
 use Rattle.std.proofs.lemmas.Bool.{cases_eq}
-use Rattle.queue_table.specs.Entries.{entry, Entry}
+use Rattle.queue_table.specs.Entries.{Item, entry, Entry}
 use Rattle.queue_table.specs.Ring.{Slot, entries, olders, newers, tags, FIRST, until, past, IsRing, Order, ring, order_of, more_free, no_slots, lists, IsQueued, slot_entry, slot_item, count, used, order_without}
 use Rattle.queue_table.specs.Index.{SlotIndex, capacity, IsRemoved, LacksSlot}
 use Rattle.queue_table.specs.QueueTable.{IsIndexOf, IsLoaded, IsInSlots, IsSound, IsSame, HoldsAt, entry_at, KeepsSlots, KeepsOthers}
@@ -15,7 +15,6 @@ use Rattle.queue_table.proofs.Holding.{queued-order}
 use Rattle.queue_table.proofs.Tables.{held-grown, lists-grown}
 use Rattle.std.proofs.lemmas.List.{length-map}
 use Rattle.queue_table.proofs.Orders.{used-gone, used-without}
-use Rattle.queue_table.proofs.SlotWrites.{no_slot, field_at}
 use Rattle.queue_table.proofs.QueueLists.{same-refl}
 
 pub record IsSettled (before slots : List Slot) (index : SlotIndex) : Type 0 where
@@ -83,12 +82,9 @@ wider_room n bits more e h = grind (arith, nat_tests, more, pow-add 2 1 bits)
 pub entries-length : (slots : List Slot) → length (entries slots) ≡ length slots
 entries-length slots = length-map slots (λ (s : Slot). entry s.item s.count)
 
-pub item_at : (slots : List Slot) (k : ℕ) → slot_item (entries slots) k ≡ (get_or slots k no_slot).item
-item_at slots k = ap (λ (e : Entry). e.item) (field_at (λ (s : Slot). entry s.item s.count) slots k no_slot)
-
 -- the slot goes out of the index, with the item that is read of it
-pub leaves : (slots lent : List Slot) (o : Order) (k : ℕ) (left : List ℕ) → lent ≡ slots → left ≡ used (order_without k o) → 1 ≤ count k (used o) → IsRemoved k (get_or lent k no_slot).item (slot_item (entries slots)) (λ j. count j (used o)) (λ j. count j left)
-leaves slots lent o k left e w n = record { there = n; its = ap (λ (s : List Slot). slot_item (entries s) k) (sym e) ∙ item_at lent k; counted = λ j. ap (count j) w ∙ used-without j k o }
+pub leaves : (slots : List Slot) (o : Order) (k : ℕ) (i : Item) (left : List ℕ) → slot_item (entries slots) k ≡ i → left ≡ used (order_without k o) → 1 ≤ count k (used o) → IsRemoved k i (slot_item (entries slots)) (λ j. count j (used o)) (λ j. count j left)
+leaves slots o k i left e w n = record { there = n; its = e; counted = λ j. ap (count j) w ∙ used-without j k o }
 
 -- and is then not in it
 pub lacks : (slots : List Slot) (index : SlotIndex) (o : Order) (k : ℕ) → IsIndexOf index (entries slots) (used (order_without k o)) → LacksSlot k index

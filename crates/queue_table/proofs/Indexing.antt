@@ -113,20 +113,20 @@ more-there k n m e = rw (eq-eqb k k refl) at e
 more-elsewhere : (k at n m : ℕ) → (k ≡ at → ⊥) → m ≡ cond (eqb k at) 1 0 + n → m ≡ n
 more-elsewhere k at n m d e = let f : m ≡ 0 + n = rw (ne_eqb k at d) at e in omega (arith, f)
 
-module _ (links : List ℕ) (bits : ℕ) (item_of : ℕ → Item) (used : ℕ → ℕ) (x : IsMapped links bits item_of used) where
+module _ (links : List ℕ) (mul bits : ℕ) (item_of : ℕ → Item) (used : ℕ → ℕ) (x : IsMapped links mul bits item_of used) where
   -- a tree has slots in use alone
   pub placed-used : (b k : ℕ) → b < 2 ^ bits → tally k (x.trees b) ≤ used k
-  placed-used b k w = let p = x.placed b k w in let m = cond-below (eqb (bucket bits (item_of k)) b) (used k) in omega (arith, p, m)
+  placed-used b k w = let p = x.placed b k w in let m = cond-below (eqb (bucket mul bits (item_of k)) b) (used k) in omega (arith, p, m)
 
   placed-once : (b k : ℕ) → b < 2 ^ bits → tally k (x.trees b) ≤ 1
   placed-once b k w = let p = placed-used b k w in let o = x.once k in omega (arith, p, o)
 
   -- a slot stands in the tree of its bucket
-  pub placed-here : (b k : ℕ) → b < 2 ^ bits → bucket bits (item_of k) ≡ b → tally k (x.trees b) ≡ used k
-  placed-here b k w e = x.placed b k w ∙ cond-true (eqb (bucket bits (item_of k)) b) (used k) 0 (eq-eqb _ _ e)
+  pub placed-here : (b k : ℕ) → b < 2 ^ bits → bucket mul bits (item_of k) ≡ b → tally k (x.trees b) ≡ used k
+  placed-here b k w e = x.placed b k w ∙ cond-true (eqb (bucket mul bits (item_of k)) b) (used k) 0 (eq-eqb _ _ e)
 
-  placed-elsewhere : (b k : ℕ) → b < 2 ^ bits → (bucket bits (item_of k) ≡ b → ⊥) → tally k (x.trees b) ≡ 0
-  placed-elsewhere b k w n = x.placed b k w ∙ cond-false (eqb (bucket bits (item_of k)) b) (used k) 0 (ne_eqb _ _ n)
+  placed-elsewhere : (b k : ℕ) → b < 2 ^ bits → (bucket mul bits (item_of k) ≡ b → ⊥) → tally k (x.trees b) ≡ 0
+  placed-elsewhere b k w n = x.placed b k w ∙ cond-false (eqb (bucket mul bits (item_of k)) b) (used k) 0 (ne_eqb _ _ n)
 
   -- a slot stands in one tree at most
   placed-apart : (b c k : ℕ) → b < 2 ^ bits → c < 2 ^ bits → (c ≡ b → ⊥) → 1 ≤ tally k (x.trees c) → tally k (x.trees b) ≡ 0
@@ -167,11 +167,11 @@ module _ (links : List ℕ) (bits : ℕ) (item_of : ℕ → Item) (used : ℕ �
         ∙ x.bare k z side
 
     -- the slot k is in this tree as often as it is in use, and in no other, and nothing else has changed
-    changed : (item_of2 : ℕ → Item) (used2 : ℕ → ℕ) (k : ℕ) → bucket bits (item_of2 k) ≡ b →
+    changed : (item_of2 : ℕ → Item) (used2 : ℕ → ℕ) (k : ℕ) → bucket mul bits (item_of2 k) ≡ b →
         ((j : ℕ) → (j ≡ k → ⊥) → item_of2 j ≡ item_of j) → ((j : ℕ) → (j ≡ k → ⊥) → used2 j ≡ used j) →
         ((j : ℕ) → (j ≡ k → ⊥) → tally j t2 ≡ tally j (x.trees b)) → tally k t2 ≡ used2 k → used2 k ≤ 1 →
         ((c : ℕ) → c < 2 ^ bits → (c ≡ b → ⊥) → tally k (x.trees c) ≡ 0) → IsSorted item_of2 0 t2 →
-        (used2 k ≡ 0 → IsBare links2 (2 ^ bits) k) → IsMapped links2 bits item_of2 used2
+        (used2 k ≡ 0 → IsBare links2 (2 ^ bits) k) → IsMapped links2 mul bits item_of2 used2
     changed item_of2 used2 k bk others uses tallies here few past st own = record {
       size = p.size ∙ x.size;
       some = x.some;
@@ -195,8 +195,8 @@ module _ (links : List ℕ) (bits : ℕ) (item_of : ℕ → Item) (used : ℕ �
       ];
     }
       where
-        own_tree : (c : ℕ) → c < 2 ^ bits → tally k (cond (eqb c b) t2 (x.trees c)) ≡ cond (eqb (bucket bits (item_of2 k)) c) (used2 k) 0
-        own_tree c u = elim (cases_eq c b) as (λ _. tally k (cond (eqb c b) t2 (x.trees c)) ≡ cond (eqb (bucket bits (item_of2 k)) c) (used2 k) 0) [
+        own_tree : (c : ℕ) → c < 2 ^ bits → tally k (cond (eqb c b) t2 (x.trees c)) ≡ cond (eqb (bucket mul bits (item_of2 k)) c) (used2 k) 0
+        own_tree c u = elim (cases_eq c b) as (λ _. tally k (cond (eqb c b) t2 (x.trees c)) ≡ cond (eqb (bucket mul bits (item_of2 k)) c) (used2 k) 0) [
           | inl q ↦ rw (eq-eqb c b q, eq-eqb _ c (bk ∙ sym q)) here
           | inr q ↦ rw (ne_eqb c b q, ne_eqb _ c (λ e. q (sym e ∙ bk))) (past c u q)
         ]
@@ -207,7 +207,7 @@ module _ (links : List ℕ) (bits : ℕ) (item_of : ℕ → Item) (used : ℕ �
           | inr q ↦ rw (ne_eqb c b q) refl
         ]
 
-        placed2 : (c j : ℕ) → c < 2 ^ bits → tally j (cond (eqb c b) t2 (x.trees c)) ≡ cond (eqb (bucket bits (item_of2 j)) c) (used2 j) 0
+        placed2 : (c j : ℕ) → c < 2 ^ bits → tally j (cond (eqb c b) t2 (x.trees c)) ≡ cond (eqb (bucket mul bits (item_of2 j)) c) (used2 j) 0
         placed2 c j u =
             elim (cases_eq j k) [
               | inl s ↦ rw s (own_tree c u)
@@ -215,14 +215,14 @@ module _ (links : List ℕ) (bits : ℕ) (item_of : ℕ → Item) (used : ℕ �
             ]
 
   -- a slot comes
-  module _ (at : ℕ) (item : Item) (item_of2 : ℕ → Item) (used2 : ℕ → ℕ) (j : IsAdded at item item_of item_of2 used used2) (b : ℕ) (bk : b ≡ bucket bits item) (v : b < 2 ^ bits) where
-    pub added : (links2 : List ℕ) → Replaces (2 ^ bits) links links2 b (x.trees b) (grafted 0 item at (x.trees b)) → IsMapped links2 bits item_of2 used2
+  module _ (at : ℕ) (item : Item) (item_of2 : ℕ → Item) (used2 : ℕ → ℕ) (j : IsAdded at item item_of item_of2 used used2) (b : ℕ) (bk : b ≡ bucket mul bits item) (v : b < 2 ^ bits) where
+    pub added : (links2 : List ℕ) → Replaces (2 ^ bits) links links2 b (x.trees b) (grafted 0 item at (x.trees b)) → IsMapped links2 mul bits item_of2 used2
     added links2 p =
         let more : used2 at ≡ 1 + used at = more-there at _ _ (j.counted at) in
         let one : tally at (grafted 0 item at (x.trees b)) ≡ 1 + tally at (x.trees b) = more-there at _ _ (grafted-tally 0 item at at (x.trees b)) in
         let none : tally at (x.trees b) ≡ 0 = omega (arith, placed-used b at v) in
         let st : IsSorted item_of2 0 (x.trees b) = sorted-same item_of item_of2 0 (x.trees b) (λ k m. j.others k (λ e. let q = ap (λ i. tally i (x.trees b)) e in omega (arith, q, m, none))) (x.sorted b v) in
-        changed links2 b (grafted 0 item at (x.trees b)) v p item_of2 used2 at (ap (bucket bits) j.its ∙ sym bk) j.others
+        changed links2 b (grafted 0 item at (x.trees b)) v p item_of2 used2 at (ap (bucket mul bits) j.its ∙ sym bk) j.others
         (λ k d. more-elsewhere k at _ _ d (j.counted k))
         (λ k d. more-elsewhere k at _ _ d (grafted-tally 0 item at k (x.trees b)))
         (omega (arith, one, more, none))
@@ -232,9 +232,9 @@ module _ (links : List ℕ) (bits : ℕ) (item_of : ℕ → Item) (used : ℕ �
         (λ z. absurd (omega (arith, z, more)))
 
   -- a slot goes
-  module _ (at : ℕ) (item : Item) (used2 : ℕ → ℕ) (j : IsRemoved at item item_of used used2) (b : ℕ) (bk : b ≡ bucket bits item) (v : b < 2 ^ bits) where
-    here : bucket bits (item_of at) ≡ b
-    here = ap (bucket bits) j.its ∙ sym bk
+  module _ (at : ℕ) (item : Item) (used2 : ℕ → ℕ) (j : IsRemoved at item item_of used used2) (b : ℕ) (bk : b ≡ bucket mul bits item) (v : b < 2 ^ bits) where
+    here : bucket mul bits (item_of at) ≡ b
+    here = ap (bucket mul bits) j.its ∙ sym bk
 
     pub stands : IsThere item_of at item 0 (x.trees b)
     stands =
@@ -242,7 +242,7 @@ module _ (links : List ℕ) (bits : ℕ) (item_of : ℕ → Item) (used : ℕ �
         let whole = placed-here b at v here in
         record { stands = omega (arith, there, whole); its = j.its; sorted = x.sorted b v }
 
-    pub removed : (links2 : List ℕ) → Replaces (2 ^ bits) links links2 b (x.trees b) (detached 0 item at (x.trees b)) → IsBare links2 (2 ^ bits) at → IsMapped links2 bits item_of used2
+    pub removed : (links2 : List ℕ) → Replaces (2 ^ bits) links links2 b (x.trees b) (detached 0 item at (x.trees b)) → IsBare links2 (2 ^ bits) at → IsMapped links2 mul bits item_of used2
     removed links2 p bare =
         let left : (k : ℕ) → tally k (x.trees b) ≡ cond (eqb k at) 1 0 + tally k (detached 0 item at (x.trees b)) = λ k. detached-tally item_of 0 item at k (x.trees b) (x.sorted b v) j.its stands.stands in
         let m : used2 at ≡ 0 = j.counted at ∙ cond-true (eqb at at) 0 (used at) (eq-eqb at at refl) in
@@ -258,18 +258,18 @@ module _ (links : List ℕ) (bits : ℕ) (item_of : ℕ → Item) (used : ℕ �
         (λ z. bare)
 
   -- what is found in the tree of the item's bucket
-  pub found-root : (b : ℕ) (item : Item) (r : ℕ) → b ≡ bucket bits item → (v : b < 2 ^ bits) → IsFound item item_of (λ k. tally k (x.trees b)) r → IsFound item item_of used r
+  pub found-root : (b : ℕ) (item : Item) (r : ℕ) → b ≡ bucket mul bits item → (v : b < 2 ^ bits) → IsFound item item_of (λ k. tally k (x.trees b)) r → IsFound item item_of used r
   found-root b item r bk v f = record {
     there = λ m. (let t = (f.there m).0 in let few = placed-used b r v in omega (arith, t, few), (f.there m).1);
-    missing = λ z k m e. f.missing z k (let p = placed-here b k v (ap (bucket bits) e ∙ sym bk) in omega (arith, p, m)) e;
+    missing = λ z k m e. f.missing z k (let p = placed-here b k v (ap (bucket mul bits) e ∙ sym bk) in omega (arith, p, m)) e;
   }
 
   -- the first slot of the item's bucket
-  pub first-in-bucket : (b : ℕ) (item : Item) (r : ℕ) → b ≡ bucket bits item → b < 2 ^ bits → r ≡ get_or links b 0 → IsInBucket item bits item_of used r
+  pub first-in-bucket : (b : ℕ) (item : Item) (r : ℕ) → b ≡ bucket mul bits item → b < 2 ^ bits → r ≡ get_or links b 0 → IsInBucket item mul bits item_of used r
   first-in-bucket b item r bk v n = record {
     there = λ m.
         let h = (step links (2 ^ bits) b r (branch (2 ^ bits) r true) true (x.trees b) (root-whole b v) n (λ z. omega (arith, m, z)) refl).here in
-        elim (cases_eq (bucket bits (item_of r)) b) [
+        elim (cases_eq (bucket mul bits (item_of r)) b) [
           | inl s ↦ (let few = placed-used b r v in omega (arith, h, few), s ∙ bk)
           | inr d ↦ absurd (let z = placed-elsewhere b r v d in omega (arith, z, h))
         ];
@@ -279,8 +279,8 @@ module _ (links : List ℕ) (bits : ℕ) (item_of : ℕ → Item) (used : ℕ �
   }
 
 -- the same map in other words
-pub same-map : (links : List ℕ) (bits : ℕ) (item_of item_of2 : ℕ → Item) (used used2 : ℕ → ℕ) → ((k : ℕ) → item_of2 k ≡ item_of k) → ((k : ℕ) → used2 k ≡ used k) → IsMapped links bits item_of used → IsMapped links bits item_of2 used2
-same-map links bits item_of item_of2 used used2 f g x = record {
+pub same-map : (links : List ℕ) (mul bits : ℕ) (item_of item_of2 : ℕ → Item) (used used2 : ℕ → ℕ) → ((k : ℕ) → item_of2 k ≡ item_of k) → ((k : ℕ) → used2 k ≡ used k) → IsMapped links mul bits item_of used → IsMapped links mul bits item_of2 used2
+same-map links mul bits item_of item_of2 used used2 f g x = record {
   size = x.size;
   some = x.some;
   trees = x.trees;
@@ -294,7 +294,7 @@ same-map links bits item_of item_of2 used used2 f g x = record {
 -- what the walks begin with
 abbrev pub root-has : (index : SlotIndex) (item_of : ℕ → Item) (used : ℕ → ℕ) (x : IsIndexed index item_of used) (b : ℕ) → b < 2 ^ index.bits → HasTree index b 0
 root-has index item_of used x b w =
-    let h = root-whole index.links.items index.bits item_of used x b w in
+    let h = root-whole index.links.items index.multiplier index.bits item_of used x b w in
     let f = size-few index.links.items (2 ^ index.bits) b (x.trees b) h.tree h.once in
     record { shown = x.trees b; whole = h; few = omega (arith, f); bits = x.some.1 }
 
@@ -302,17 +302,17 @@ root-has index item_of used x b w =
 pub root-within : (index : SlotIndex) (slots : ℕ) → CanFind index slots → (b : ℕ) → b < 2 ^ index.bits → HasTreeWithin index b 0 slots
 root-within index slots q b w = record {
   has = root-has index q.item_of q.used q.indexed b w;
-  within = λ k m. q.within k (let p = placed-used _ _ q.item_of q.used q.indexed b k w in omega (arith, p, m));
+  within = λ k m. q.within k (let p = placed-used _ _ _ q.item_of q.used q.indexed b k w in omega (arith, p, m));
 }
 
 -- empty trees
-pub empty-mapped : (links : List ℕ) (bits : ℕ) (item_of : ℕ → Item) → links ≡ replicate (2 ^ bits + 2 * capacity bits) 0 → (1 ≤ bits) × (bits < 32) → IsMapped links bits item_of (λ k. 0)
-empty-mapped links bits item_of e s = rw e record {
+pub empty-mapped : (links : List ℕ) (mul bits : ℕ) (item_of : ℕ → Item) → links ≡ replicate (2 ^ bits + 2 * capacity bits) 0 → (1 ≤ bits) × (bits < 32) → IsMapped links mul bits item_of (λ k. 0)
+empty-mapped links mul bits item_of e s = rw e record {
   size = length-replicate {A = ℕ} (2 ^ bits + 2 * capacity bits) 0;
   some = s;
   trees = λ b. leaf;
   rooted = λ b w. none (2 ^ bits + 2 * capacity bits) b;
-  placed = λ b k w. elim (cases_Bool (eqb (bucket bits (item_of k)) b)) as (λ _. ◌≡◌ {A = ℕ} 0 (cond (eqb (bucket bits (item_of k)) b) 0 0)) [ inl y ↦ rw y refl | inr y ↦ rw y refl ];
+  placed = λ b k w. elim (cases_Bool (eqb (bucket mul bits (item_of k)) b)) as (λ _. ◌≡◌ {A = ℕ} 0 (cond (eqb (bucket mul bits (item_of k)) b) 0 0)) [ inl y ↦ rw y refl | inr y ↦ rw y refl ];
   sorted = λ b w. tt;
   once = λ k. omega arith;
   bare = λ k z side. none (2 ^ bits + 2 * capacity bits) (branch (2 ^ bits) k side);

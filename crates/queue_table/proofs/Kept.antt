@@ -11,9 +11,8 @@ use Rattle.queue_table.specs.Index.{SlotIndex, HasSlot}
 use Rattle.queue_table.specs.QueueTable.{Lengths, IsCounted, IsIndexOf, IsInSlots, IsKept}
 use Rattle.queue_table.proofs.Splices.{walked}
 use Rattle.queue_table.proofs.Orders.{used-real, ring-at, cut_at_section}
-use Rattle.queue_table.proofs.Growing.{no-order, item_at, entries-length}
+use Rattle.queue_table.proofs.Growing.{no-order, entries-length}
 use Rattle.queue_table.proofs.Holding.{slots-length, linked-section}
-use Rattle.queue_table.proofs.SlotWrites.{no_slot}
 use Rattle.queue_table.proofs.Calls.{slot-within}
 
 pub some-slots : (slots : List Slot) (s : ℕ) → 1 ≤ length (order_of slots s) → 0 < length slots
@@ -68,8 +67,8 @@ pub used-slot : (slots : List Slot) (k : ℕ) → IsQueued slots (order_of slots
 used-slot slots k h u = (used-real (order_of slots) k h.linked.once u, slot-within slots (order_of slots) h k u)
 
 -- and the index knows it, with its item
-pub known : (slots : List Slot) (index : SlotIndex) (k : ℕ) → IsInSlots slots index (order_of slots) → 1 ≤ count k (used (order_of slots)) → HasSlot k (get_or slots k no_slot).item index
-known slots index k h u = grind (arith, nat_tests, item_at slots k)
+pub known : (slots : List Slot) (index : SlotIndex) (k : ℕ) (i : Item) → slot_item (entries slots) k ≡ i → IsInSlots slots index (order_of slots) → 1 ≤ count k (used (order_of slots)) → HasSlot k i index
+known slots index k i e h u = record { item_of = slot_item (entries slots); used = λ j. count j (used (order_of slots)); indexed = h.indexed; there = u; its = e }
 
 -- the items of a queue, slot by slot
 
@@ -85,5 +84,6 @@ listed slots index lengths q w k =
         walked (newers (x ∷ s)) (olders (x ∷ s)) (suc q) (order_of (x ∷ s) (suc q)) (suc (suc q)) (linked-section (suc q) (newers (x ∷ s)) (olders (x ∷ s)) (order_of (x ∷ s)) (omega (arith, w)) i.queued.linked.linked)
 
 -- a fact of the slots as a call borrows and leaves them is one of the table before and after
-pub on_view : (F : List Slot → List Slot → Type 0) (n : ℕ) (left rest lent old : List Slot) → n ≡ length left → lent ≡ old → F lent left → F old (take n (left ++ rest))
-on_view F n left rest lent old a b x = subst (λ (s : List Slot). F old s) (sym (take_at left rest n (sym a))) (subst (λ (s : List Slot). F s left) b x)
+pub on_view : {X : Type 0} (shown : X → Slot) (F : List Slot → List Slot → Type 0) (n : ℕ) (left rest lent : List X) (old : List Slot) → n ≡ length left → map shown lent ≡ old → F (map shown lent) (map shown left)
+    → F old (map shown (take n (left ++ rest)))
+on_view {X} shown F n left rest lent old a b x = subst (λ (s : List X). F old (map shown s)) (sym (take_at left rest n (sym a))) (subst (λ (s : List Slot). F s (map shown left)) b x)

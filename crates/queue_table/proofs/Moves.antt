@@ -1,10 +1,10 @@
 -- A slot that goes to a queue, or to the free ones: what the table is then.
 use Rattle.std.proofs.Common.{◌≡◌, ℕ, suc, ◌+◌, ◌<◌, ◌≤◌, Option, List, length, set, map, ap, ◌∙◌, sym, subst, arith, inl, inr, length-set, get_or-set_same, get_or-set_other}
-use Rattle.std.proofs.lemmas.List.{length-map}
+use Rattle.std.proofs.lemmas.List.{length-map, set-set}
 use Rattle.std.proofs.lemmas.Bool.Decides.{nat_tests}
-use Rattle.queue_table.specs.Entries.{Entry, Item, last_item}
+use Rattle.queue_table.specs.Entries.{Entry, Item, entry, last_item}
 use Rattle.queue_table.specs.Queues.{QUEUES, Queues, after_push, after_removal, after_return, IsDistinct}
-use Rattle.queue_table.specs.Ring.{Slot, entries, newers, tags, tag_at, slot_entry, slot_item, count, ring_of, FIRST, Order, used, order_of, order_without, sent, lists, lists_of, IsPlace, IsQueued, CanGo, IsSent, IsFreed}
+use Rattle.queue_table.specs.Ring.{Slot, entries, newers, olders, tags, IsRing, ring, tag_at, slot_entry, slot_item, count, ring_of, FIRST, Order, used, order_in, order_of, order_without, sent, lists, lists_of, IsPlace, IsQueued, CanGo, IsSent, IsFreed, ChangesOnlyEntry}
 use Rattle.queue_table.specs.Index.{SlotIndex, capacity, IsAdded}
 use Rattle.queue_table.specs.QueueTable.{Lengths, entry_at, IsUsed, IsBehind, IsCounted, IsIndexOf, IsInSlots, IsKept, CanLeave, KeepsSlots, KeepsOthers}
 use Rattle.queue_table.proofs.QueueLists.{IsAbsent, distinct-taken}
@@ -27,6 +27,18 @@ pub record IsLoose (slots : List Slot) (index : SlotIndex) (lengths : Lengths) (
   pub within : k < length slots
   pub rest : lists_of (order_without k (order_of slots)) (entries slots) ≡ s
   pub distinct : IsDistinct s
+
+-- a slot that went to a queue, with another item then
+pub with-item : (k q b : ℕ) (i : Item) (e : Entry) (old mid new : List Slot) → k < length old → IsSent k q b e old mid → ChangesOnlyEntry k (entry i (slot_entry (entries mid) k).count) mid new → IsSent k q b (entry i e.count) old new
+with-item k q b i e old mid new within x w =
+    let in-entries : k < length (entries old) = rw (length-map old (λ (s : Slot). entry s.item s.count)) within in
+    record {
+      low = x.low;
+      linked = subst (λ ns. IsRing ns (olders new) (ring (order_in (ring_of ns)))) (sym w.newers) (subst (λ os. IsRing (newers mid) os (ring (order_of mid))) (sym w.olders) x.linked);
+      order = ap (λ l. order_in (ring_of l)) w.newers ∙ x.order;
+      entries = w.entries ∙ (ap (λ l. set l k (entry i (slot_entry l k).count)) x.entries ∙ (set-set (entries old) k e _ ∙ ap (λ (y : Entry). set (entries old) k (entry i y.count)) (get_or-set_same (entries old) k e _ in-entries)));
+      tags = w.tags ∙ x.tags;
+    }
 
 module _ (slots : List Slot) (index : SlotIndex) (lengths : Lengths) (x : IsKept slots index lengths) (k : ℕ) where
   pub free-loose : 1 ≤ count k (order_of slots 0) → IsLoose slots index lengths k (lists slots)
@@ -156,7 +168,7 @@ module _ (slots slots2 : List Slot) (index : SlotIndex) (lengths : Lengths) (k q
   pub stays : IsUsed k slots → e.item ≡ slot_item (entries slots) k → IsIndexOf index (entries slots2) (used (order_of slots2))
   stays u i =
       let few = used-few (order_of slots) k l.held.queued.linked.once in
-      same-map _ _ _ _ _ _ (same-items slots slots2 k e l.within m.entries i) (λ j. ap (λ (o : Order). count j (used o)) m.order ∙ used-kept j k b q (order_of slots) m.low (omega (arith, u, few))) l.held.indexed
+      same-map _ _ _ _ _ _ _ (same-items slots slots2 k e l.within m.entries i) (λ j. ap (λ (o : Order). count j (used o)) m.order ∙ used-kept j k b q (order_of slots) m.low (omega (arith, u, few))) l.held.indexed
 
   pub kept-after : (index2 : SlotIndex) (lengths2 : Lengths) → IsAbsent e.item s → IsIndexOf index2 (entries slots2) (used (order_of slots2)) → IsCounted lengths2 (sent k (suc q) b (order_of slots)) → index2.bits ≡ index.bits → IsKept slots2 index2 lengths2
   kept-after index2 lengths2 a x c bits =

@@ -1,5 +1,5 @@
 -- Splices of one slot out of linked slots and into them.
-use Rattle.std.proofs.Common.{◌≡◌, ℕ, suc, zero, ◌+◌, ◌<◌, ◌≤◌, cond, eqb, List, [], ◌∷◌, ◌++◌, length, get_or, set, ap, ◌∙◌, sym, refl, arith, get_or-set_same, get_or-set_other, length-set, append-nil, map}
+use Rattle.std.proofs.Common.{◌≡◌, ℕ, ◌+◌, ◌<◌, ◌≤◌, cond, eqb, List, [], ◌∷◌, ◌++◌, length, get_or, set, ap, ◌∙◌, sym, refl, arith, get_or-set_same, get_or-set_other, length-set, append-nil}
 use Rattle.std.proofs.lemmas.Bool.Decides.{nat_tests}
 use Rattle.queue_table.specs.Ring.{count, IsLinked, walk}
 
@@ -133,9 +133,3 @@ module _ (ns os : List ℕ) (a : ℕ) (xs : List ℕ) (i b : ℕ) where
 pub walked : (ns os : List ℕ) (a : ℕ) (l : List ℕ) (b : ℕ) → IsLinked ns os a l b → walk ns a (length l) ≡ l
 walked ns os a [] b k = refl
 walked ns os a (i ∷ l) b k = rw k.0 (ap (λ t. i ∷ t) (walked ns os i l b k.2))
-
--- one field written
-pub field_kept : {X Y : Type 0} (f : X → Y) (s : List X) (i : ℕ) (x d : X) → f x ≡ f (get_or s i d) → map f (set s i x) ≡ map f s
-field_kept f [] i x d h = refl
-field_kept f (y ∷ s) zero x d h = rw h refl
-field_kept f (y ∷ s) (suc i) x d h = ap (λ t. f y ∷ t) (field_kept f s i x d h)

@@ -56,7 +56,7 @@ all-used slots o h f j =
     grind (arith, nat_tests)
 
 pub held-spread : (slots : List Slot) (index : SlotIndex) (o : Order) → IsQueued slots o → o 0 ≡ [] → IsIndexOf index (entries slots) (from_first (length slots - FIRST)) → length slots ≤ capacity index.bits → IsInSlots slots index o
-held-spread slots index o h f x room = record { queued = h; indexed = same-map _ _ _ _ _ _ (λ j. refl) (all-used slots o h f) x; room = room }
+held-spread slots index o h f x room = record { queued = h; indexed = same-map _ _ _ _ _ _ _ (λ j. refl) (all-used slots o h f) x; room = room }
 
 -- one more free slot
 
@@ -144,7 +144,7 @@ held-grown slots slots2 index n o h r it tg room = record {
     tagged = λ q k m. rw (tg, get-more 0 (tags slots) k) (h.queued.tagged q k (let e = ap (count k) (free-section q n o) in omega (arith, e, m)));
     distinct = subst IsDistinct (sym (ap (lists_of (more_free n o)) it ∙ lists-more n o (entries slots))) h.queued.distinct;
   };
-  indexed = rw it (same-map _ _ _ _ _ _ (λ k. ap (λ (e : Entry). e.item) (get-more nothing (entries slots) k)) (λ k. ap (count k) (used-free k (o 0 ++ n ∷ []) o)) h.indexed);
+  indexed = rw it (same-map _ _ _ _ _ _ _ (λ k. ap (λ (e : Entry). e.item) (get-more nothing (entries slots) k)) (λ k. ap (count k) (used-free k (o 0 ++ n ∷ []) o)) h.indexed);
   room = (let a = length-map slots2 (λ (s : Slot). entry s.item s.count) in let b = length-map slots (λ (s : Slot). entry s.item s.count) in let c = ap length it in let d = length-append (entries slots) (nothing ∷ []) in omega (arith, a, b, c, d, room));
 }
 

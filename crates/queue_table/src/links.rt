@@ -12,14 +12,15 @@
 //!                          6:A           10:D
 //! ```
 ghost use Rattle.std.specs.Prelude.{◌≡◌, ◌≢◌, ◌<◌, ◌≤◌, suc, Some, IfOk, map, length, slice_index, slice_set};
+ghost use Rattle.queue_table.specs.Entries.{entry};
 ghost use Rattle.queue_table.specs.Items.{oldest_of, newest_of};
 ghost use Rattle.queue_table.specs.Queues.{QUEUES, place_in};
 ghost use Rattle.queue_table.specs.Ring.{slot_item, count, walk, IsRing, ring_of, moved_before, ring, used};
 ghost use Rattle.queue_table.specs.Ring.{order_of, lists, item_or, entries, olders, newers, next_but};
 ghost use Rattle.queue_table.specs.Ring.{IsQueued, HasItems, CanGo, IsSent, IsFreed, ChangesOnlyLinks};
 
-use crate::records::{Entry, Place};
-use crate::slot::{Slot, set_entry, set_newer, set_older, set_queue};
+use crate::records::Place;
+use crate::slot::{RingSlot, set_count, set_newer, set_older, set_queue, slot_at};
 use engine_base::Item;
 use std::alloc::{AllocError, Global};
 
@@ -28,17 +29,17 @@ pub(crate) const FIRST_SLOT: u32 = 6;
 
 /// Takes the slot out from between its neighbours.
 #[inline(always)]
-fn unlink(slots: &mut [Slot], at: u32)
-    requires at { at < length slots.old }
-    requires older { slice_index (olders slots.old) at < length slots.old }
-    requires newer { slice_index (newers slots.old) at < length slots.old }
-    ensures newers { newers slots.new ≡ slice_set (newers slots.old) (slice_index (olders slots.old) at)
-        (slice_index (newers slots.old) at) }
-    ensures olders { olders slots.new ≡ slice_set (olders slots.old) (slice_index (newers slots.old) at)
-        (slice_index (olders slots.old) at) }
-    ensures only { ChangesOnlyLinks slots.old slots.new }
+fn unlink<S: RingSlot>(slots: &mut [S], at: u32)
+    requires at { at < length (map S.shown slots.old) }
+    requires older { slice_index (olders (map S.shown slots.old)) at < length (map S.shown slots.old) }
+    requires newer { slice_index (newers (map S.shown slots.old)) at < length (map S.shown slots.old) }
+    ensures newers { newers (map S.shown slots.new) ≡ slice_set (newers (map S.shown slots.old)) (slice_index (olders (map S.shown slots.old)) at)
+        (slice_index (newers (map S.shown slots.old)) at) }
+    ensures olders { olders (map S.shown slots.new) ≡ slice_set (olders (map S.shown slots.old)) (slice_index (newers (map S.shown slots.old)) at)
+        (slice_index (olders (map S.shown slots.old)) at) }
+    ensures only { ChangesOnlyLinks (map S.shown slots.old) (map S.shown slots.new) }
 {
-    let slot = slots[at as usize];
+    let slot = slot_at(slots, at);
     let (older, newer) = (slot.older, slot.newer);
     set_newer(slots, older as usize, newer);
     set_older(slots, newer as usize, older);
@@ -46,17 +47,17 @@ fn unlink(slots: &mut [Slot], at: u32)
 
 /// Puts the slot between `before` and its older neighbour.
 #[inline(always)]
-pub(crate) fn link(slots: &mut [Slot], at: u32, before: u32)
-    requires at { at < length slots.old }
-    requires before { before < length slots.old }
-    requires older { slice_index (olders slots.old) before < length slots.old }
-    ensures newers { newers slots.new ≡ slice_set (slice_set (newers slots.old)
-        (slice_index (olders slots.old) before) at) at before }
-    ensures olders { olders slots.new ≡ slice_set (slice_set (olders slots.old) at
-        (slice_index (olders slots.old) before)) before at }
-    ensures only { ChangesOnlyLinks slots.old slots.new }
+pub(crate) fn link<S: RingSlot>(slots: &mut [S], at: u32, before: u32)
+    requires at { at < length (map S.shown slots.old) }
+    requires before { before < length (map S.shown slots.old) }
+    requires older { slice_index (olders (map S.shown slots.old)) before < length (map S.shown slots.old) }
+    ensures newers { newers (map S.shown slots.new) ≡ slice_set (slice_set (newers (map S.shown slots.old))
+        (slice_index (olders (map S.shown slots.old)) before) at) at before }
+    ensures olders { olders (map S.shown slots.new) ≡ slice_set (slice_set (olders (map S.shown slots.old)) at
+        (slice_index (olders (map S.shown slots.old)) before)) before at }
+    ensures only { ChangesOnlyLinks (map S.shown slots.old) (map S.shown slots.new) }
 {
-    let older = slots[before as usize].older;
+    let older = slot_at(slots, before).older;
     set_newer(slots, older as usize, at);
     set_newer(slots, at as usize, before);
     set_older(slots, at as usize, older);
@@ -65,14 +66,14 @@ pub(crate) fn link(slots: &mut [Slot], at: u32, before: u32)
 
 /// Moves the slot to the place before another one.
 #[inline(always)]
-fn move_before(slots: &mut [Slot], at: u32, before: u32)
-    requires ring { IsRing (newers slots.old) (olders slots.old) (ring_of (newers slots.old)) }
-    requires at { (1 ≤ at) × (at < length slots.old) }
-    requires before { before < length slots.old }
+fn move_before<S: RingSlot>(slots: &mut [S], at: u32, before: u32)
+    requires ring { IsRing (newers (map S.shown slots.old)) (olders (map S.shown slots.old)) (ring_of (newers (map S.shown slots.old))) }
+    requires at { (1 ≤ at) × (at < length (map S.shown slots.old)) }
+    requires before { before < length (map S.shown slots.old) }
     requires apart { before ≢ at }
-    ensures ring { IsRing (newers slots.new) (olders slots.new) (ring_of (newers slots.new)) }
-    ensures order { ring_of (newers slots.new) ≡ moved_before at before (ring_of (newers slots.old)) }
-    ensures only { ChangesOnlyLinks slots.old slots.new }
+    ensures ring { IsRing (newers (map S.shown slots.new)) (olders (map S.shown slots.new)) (ring_of (newers (map S.shown slots.new))) }
+    ensures order { ring_of (newers (map S.shown slots.new)) ≡ moved_before at before (ring_of (newers (map S.shown slots.old))) }
+    ensures only { ChangesOnlyLinks (map S.shown slots.old) (map S.shown slots.new) }
 {
     unlink(slots, at);
     link(slots, at, before);
@@ -98,110 +99,111 @@ pub(crate) fn slot_behind(queue: u8) -> u32
 
 /// The free slot that was freed last.
 #[inline(always)]
-pub(crate) fn newest_free(slots: &[Slot]) -> u32
-    requires queued { IsQueued slots.now (order_of slots.now) }
-    requires room { 1 ≤ length (order_of slots.now 0) }
-    ensures { 1 ≤ count result (order_of slots.now 0) }
+pub(crate) fn newest_free<S: RingSlot>(slots: &[S]) -> u32
+    requires queued { IsQueued (map S.shown slots.now) (order_of (map S.shown slots.now)) }
+    requires room { 1 ≤ length (order_of (map S.shown slots.now) 0) }
+    ensures { 1 ≤ count result (order_of (map S.shown slots.now) 0) }
 {
-    slots[1].older
+    slot_at(slots, 1).older
 }
 
 /// The first slot of a queue that is not empty.
 #[inline(always)]
-pub(crate) fn oldest_slot(slots: &[Slot], queue: u8) -> u32
-    requires { HasItems queue slots.now }
-    ensures { oldest_of (order_of slots.now (suc queue)) ≡ Some result }
+pub(crate) fn oldest_slot<S: RingSlot>(slots: &[S], queue: u8) -> u32
+    requires { HasItems queue (map S.shown slots.now) }
+    ensures { oldest_of (order_of (map S.shown slots.now) (suc queue)) ≡ Some result }
 {
-    slots[slot_before(queue) as usize].newer
+    slot_at(slots, slot_before(queue)).newer
 }
 
 /// The last slot of a queue that is not empty.
 #[inline(always)]
-pub(crate) fn newest_slot(slots: &[Slot], queue: u8) -> u32
-    requires { HasItems queue slots.now }
-    ensures { newest_of (order_of slots.now (suc queue)) ≡ Some result }
+pub(crate) fn newest_slot<S: RingSlot>(slots: &[S], queue: u8) -> u32
+    requires { HasItems queue (map S.shown slots.now) }
+    ensures { newest_of (order_of (map S.shown slots.now) (suc queue)) ≡ Some result }
 {
-    slots[slot_behind(queue) as usize].older
+    slot_at(slots, slot_behind(queue)).older
 }
 
 /// The slot after another one, `but` left out.
 #[inline(always)]
-pub(crate) fn next_slot(slots: &[Slot], at: u32, but: u32) -> u32
-    requires ring { IsRing (newers slots.now) (olders slots.now) (ring (order_of slots.now)) }
-    requires at { at < length slots.now }
-    ensures { result ≡ next_but (newers slots.now) at but }
+pub(crate) fn next_slot<S: RingSlot>(slots: &[S], at: u32, but: u32) -> u32
+    requires ring { IsRing (newers (map S.shown slots.now)) (olders (map S.shown slots.now)) (ring (order_of (map S.shown slots.now))) }
+    requires at { at < length (map S.shown slots.now) }
+    ensures { result ≡ next_but (newers (map S.shown slots.now)) at but }
 {
-    let newer = slots[at as usize].newer;
+    let newer = slot_at(slots, at).newer;
     if newer == but {
-        return slots[newer as usize].newer;
+        return slot_at(slots, newer).newer;
     }
     newer
 }
 
 /// The items of so many slots from the one that stands before the queue on.
-pub(crate) fn items_in(
-    slots: &[Slot],
+pub(crate) fn items_in<S: RingSlot>(
+    slots: &[S],
     alloc: Global,
     queue: u8,
     len: usize,
 ) -> Result<Vec<Item>, AllocError>
     requires queue { queue < QUEUES }
-    requires ring { 1 ≤ len → IsRing (newers slots.now) (olders slots.now) (ring (order_of slots.now)) }
-    ensures { IfOk result (λ v. v.items ≡ map (λ k. slot_item (entries slots.now) k)
-        (walk (newers slots.now) (suc queue) len)) }
+    requires ring { 1 ≤ len → IsRing (newers (map S.shown slots.now)) (olders (map S.shown slots.now)) (ring (order_of (map S.shown slots.now))) }
+    ensures { IfOk result (λ v. v.items ≡ map (λ k. slot_item (entries (map S.shown slots.now)) k)
+        (walk (newers (map S.shown slots.now)) (suc queue) len)) }
 {
     let mut list = Vec::with_capacity(alloc, len)?;
     let mut at = slot_before(queue);
     for step in 0..len {
-        at = slots[at as usize].newer;
-        list.push(slots[at as usize].item)?;
+        at = slot_at(slots, at).newer;
+        list.push(slot_at(slots, at).item)?;
     }
     Ok(list)
 }
 
 /// The item of a slot, `None` at those that stand between the sections.
 #[inline(always)]
-fn item_of(slots: &[Slot], at: u32) -> Option<Item>
-    requires { at < length slots.now }
-    ensures { result ≡ item_or (entries slots.now) at }
+fn item_of<S: RingSlot>(slots: &[S], at: u32) -> Option<Item>
+    requires { at < length (map S.shown slots.now) }
+    ensures { result ≡ item_or (entries (map S.shown slots.now)) at }
 {
     if at < FIRST_SLOT {
         return None;
     }
-    Some(slots[at as usize].item)
+    Some(slot_at(slots, at).item)
 }
 
-/// Gives the slot an entry, and moves it to the place before another one in a queue.
+/// Gives the slot another count, and moves it to the place before another one in a queue.
 #[inline(always)]
-pub(crate) fn send(slots: &mut [Slot], at: u32, entry: Entry, queue: u8, before: u32)
+pub(crate) fn send<S: RingSlot>(slots: &mut [S], at: u32, count: u8, queue: u8, before: u32)
     requires queue { queue < QUEUES }
-    requires place { CanGo at (suc queue) before slots.old }
-    ensures { IsSent at queue before entry slots.old slots.new }
+    requires place { CanGo at (suc queue) before (map S.shown slots.old) }
+    ensures { IsSent at queue before (entry (slot_item (entries (map S.shown slots.old)) at) count)
+        (map S.shown slots.old) (map S.shown slots.new) }
 {
-    set_entry(slots, at as usize, entry);
+    set_count(slots, at as usize, count);
     move_before(slots, at, before);
     set_queue(slots, at as usize, queue);
 }
 
 /// Moves the slot to the free ones.
 #[inline(always)]
-pub(crate) fn release(slots: &mut [Slot], at: u32)
-    requires { CanGo at 0 1 slots.old }
-    ensures { IsFreed at slots.old slots.new }
+pub(crate) fn release<S: RingSlot>(slots: &mut [S], at: u32)
+    requires { CanGo at 0 1 (map S.shown slots.old) }
+    ensures { IsFreed at (map S.shown slots.old) (map S.shown slots.new) }
 {
     move_before(slots, at, 1);
 }
 
 /// Where the item of a slot in use stands, by the item right before it.
 #[inline(always)]
-pub(crate) fn place_of_slot(slots: &[Slot], at: u32) -> Place
-    requires queued { IsQueued slots.now (order_of slots.now) }
-    requires used { 1 ≤ count at (used (order_of slots.now)) }
-    ensures place { Some result ≡ place_in (slot_item (entries slots.now) at) (lists slots.now) }
+pub(crate) fn place_of_slot<S: RingSlot>(slots: &[S], at: u32) -> Place
+    requires queued { IsQueued (map S.shown slots.now) (order_of (map S.shown slots.now)) }
+    requires used { 1 ≤ count at (used (order_of (map S.shown slots.now))) }
+    ensures place { Some result ≡ place_in (slot_item (entries (map S.shown slots.now)) at) (lists (map S.shown slots.now)) }
     ensures low { result.queue < QUEUES }
-    ensures queue { 1 ≤ count at (order_of slots.now (suc result.queue)) }
+    ensures queue { 1 ≤ count at (order_of (map S.shown slots.now) (suc result.queue)) }
 {
-    let slot = slots[at as usize];
+    let slot = slot_at(slots, at);
     Place {
         queue: slot.queue,
         older: item_of(slots, slot.older),

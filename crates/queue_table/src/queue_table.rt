@@ -16,7 +16,7 @@ use crate::links::{
     slot_before, slot_behind,
 };
 use crate::records::{Entry, Found, Place};
-use crate::slot::{RingItems, Slot, entry_of, set_entry};
+use crate::slot::{RingItems, RingSlot, TableItem, entry_of, set_count, set_item, slot_at};
 use crate::slot_index::SlotIndex;
 use engine_base::{Item, Key};
 use std::alloc::{AllocError, Global};
@@ -25,22 +25,22 @@ use std::marker::Model;
 /// Queues by number, each item once, with a count beside it. A call that works on an item takes its slot, as `find`,
 /// `oldest` and `newest` give it.
 #[derive(Drop)]
-pub struct QueueTable {
-    slots: Vec<Slot>,
+pub struct QueueTable<K: TableItem = Item> {
+    slots: Vec<K::Slot>,
     index: SlotIndex,
     lengths: Lengths,
 }
 
-impl Model for QueueTable {
-    ghost use Rattle.std.specs.Prelude.{List};
+impl<K: TableItem> Model for QueueTable<K> {
+    ghost use Rattle.std.specs.Prelude.{List, map};
     ghost use Rattle.queue_table.specs.declared.slot.Slot.{Slot};
     ghost use Rattle.queue_table.specs.QueueTable.{IsKept};
 
     ghost Value = { List Slot };
 
-    ghost view = { λ t. t.slots.items };
+    ghost view = { λ t. map K.Slot.shown t.slots.items };
 
-    ghost invariant = { λ t. IsKept t.slots.items t.index t.lengths };
+    ghost invariant = { λ t. IsKept (map K.Slot.shown t.slots.items) t.index t.lengths };
 }
 
 // A first index of up to so many bits has four buckets for each item, so most hold one item at most. A larger one has
@@ -63,10 +63,10 @@ fn bits_for(items: u32) -> u32
     }
 }
 
-impl QueueTable {
+impl<K: TableItem> QueueTable<K> {
     /// Empty queues, with no room yet. Allocates nothing. The first `reserve` makes a hash index that is large enough
     /// for so many items.
-    pub fn for_items(alloc: Global, items: u32) -> QueueTable
+    pub fn for_items(alloc: Global, items: u32) -> QueueTable<K>
         ensures queues { queues result ≡ empty_queues }
         ensures distinct { IsDistinct (queues result) }
     {
@@ -81,15 +81,16 @@ impl QueueTable {
     /// item and a link, since it may lie in two lines of the processor's cache. Unlike the reads of a search, these do not
     /// wait for one another. What it returns means nothing.
     #[inline(always)]
-    pub fn read_ahead(&self, keys: &[Key], i: usize) -> u64
+    pub fn read_ahead<N: TableItem>(&self, keys: &[N], i: usize) -> u64
         requires { i ≤ length keys.now }
     {
-        let end = keys.len().min(i + AHEAD);
+        let end = i + AHEAD.min(keys.len() - i);
         let mut read = 0;
         for key in &keys[i..end] {
-            let at = self.index.first_slot(Item { key: *key, node: 0 }) as usize;
-            if at < self.slots.len() {
-                read ^= self.slots[at].item.key ^ self.slots[at].newer as u64;
+            let at = self.index.first_slot(key.item());
+            if (at as usize) < self.slots.len() {
+                let slot = slot_at(&self.slots, at);
+                read ^= slot.item.key ^ slot.newer as u64;
             }
         }
         read
@@ -183,7 +184,7 @@ impl QueueTable {
         ensures distinct { IsDistinct (queues self.now) }
     {
         let at = self.find_slot(item)?;
-        let slot = &self.slots[at as usize];
+        let slot = slot_at(&self.slots, at);
         Some(Found {
             at,
             queue: slot.queue,
@@ -252,25 +253,27 @@ impl QueueTable {
         next_slot(&self.slots, self.older_slot(place), but)
     }
 
-    // Puts an entry whose item is not there into a free slot, and the slot before another one of a queue.
+    // Puts an item that is not there into a free slot, and the slot before another one of a queue.
     #[inline(always)]
-    fn put(&mut self, entry: Entry, queue: u8, before: u32)
+    fn put(&mut self, item: K, count: u8, queue: u8, before: u32)
         requires queue { queue < QUEUES }
         requires room { 1 ≤ spare self.old }
-        requires absent { queue_holding entry.item (queues self.old) ≡ None }
+        requires absent { queue_holding (K.item item) (queues self.old) ≡ None }
         requires place { IsPlace before (suc queue) (order_of self.old) }
         ensures distinct { IsDistinct (queues self.old) }
         ensures spare { spare self.new + 1 ≡ spare self.old }
-        ensures recent { before ≡ suc (suc queue) → queues self.new ≡ after_push queue entry (queues self.old) }
+        ensures recent { before ≡ suc (suc queue) → queues self.new
+            ≡ after_push queue (entry (K.item item) count) (queues self.old) }
         ensures back { (older : Option Item)
             → IsBehind before queue older (entries self.old) (order_of self.old (suc queue))
-            → queues self.new ≡ after_return queue older entry (queues self.old) }
+            → queues self.new ≡ after_return queue older (entry (K.item item) count) (queues self.old) }
         ensures others { KeepsSlots self.old self.new }
     {
-        let slots: &mut [Slot] = &mut self.slots;
+        let slots: &mut [K::Slot] = &mut self.slots;
         let at = newest_free(slots);
-        self.index.insert(at, entry.item);
-        send(slots, at, entry, queue, before);
+        self.index.insert(at, item.item());
+        send(slots, at, count, queue, before);
+        set_item(slots, at as usize, item);
         self.lengths.pass(0, section(queue));
     }
 
@@ -291,42 +294,41 @@ impl QueueTable {
             (after_removal (entry_at at self.old).item (queues self.old)) }
         ensures others { KeepsOthers (entry_at at self.old).item self.old self.new }
     {
-        let slots: &mut [Slot] = &mut self.slots;
+        let slots: &mut [K::Slot] = &mut self.slots;
         let from = leave(slots, &mut self.lengths, at, section(queue));
-        let item = slots[at as usize].item;
-        send(slots, at, Entry { item, count }, queue, before);
+        send(slots, at, count, queue, before);
         from
     }
 
-    /// Puts an entry whose item stands in no queue at the recent end of one. It requires room, and takes room for one.
+    /// Puts an item that stands in no queue at the recent end of one, with a count. It requires room, and takes room for one.
     #[inline(always)]
-    pub fn push(&mut self, queue: u8, entry: Entry)
+    pub fn push(&mut self, queue: u8, item: K, count: u8)
         requires queue { queue < QUEUES }
         requires room { 1 ≤ spare self.old }
-        requires absent { queue_holding entry.item (queues self.old) ≡ None }
-        ensures queues { queues self.new ≡ after_push queue entry (queues self.old) }
+        requires absent { queue_holding (K.item item) (queues self.old) ≡ None }
+        ensures queues { queues self.new ≡ after_push queue (entry (K.item item) count) (queues self.old) }
         ensures spare { spare self.new + 1 ≡ spare self.old }
         ensures others { KeepsSlots self.old self.new }
         // Of every table: no item stands twice.
         ensures distinct { IsDistinct (queues self.old) }
     {
-        self.put(entry, queue, slot_behind(queue));
+        self.put(item, count, queue, slot_behind(queue));
     }
 
-    /// Puts an entry whose item stands in no queue into a place. It requires room, and takes room for one.
-    pub fn insert(&mut self, place: Place, entry: Entry)
+    /// Puts an item that stands in no queue into a place, with a count. It requires room, and takes room for one.
+    pub fn insert(&mut self, place: Place, item: K, count: u8)
         requires queue { place.queue < QUEUES }
         requires room { 1 ≤ spare self.old }
-        requires absent { queue_holding entry.item (queues self.old) ≡ None }
+        requires absent { queue_holding (K.item item) (queues self.old) ≡ None }
         requires gap { IsGap place.older (queues self.old place.queue) }
-        ensures queues { queues self.new ≡ after_return place.queue place.older entry (queues self.old) }
+        ensures queues { queues self.new ≡ after_return place.queue place.older (entry (K.item item) count) (queues self.old) }
         ensures spare { spare self.new + 1 ≡ spare self.old }
         ensures others { KeepsSlots self.old self.new }
         // Of every table: no item stands twice.
         ensures distinct { IsDistinct (queues self.old) }
     {
         let before = self.slot_at_place(place, 0);
-        self.put(entry, place.queue, before);
+        self.put(item, count, place.queue, before);
     }
 
     /// Takes the item of a slot to the recent end of a queue, with another count, and says where it stood.
@@ -357,43 +359,45 @@ impl QueueTable {
         let _ = self.shift(at, place.queue, before, count);
     }
 
-    /// Takes an entry back to a place, from the queue in which its item stands, or from nowhere. It requires room, and
-    /// takes room for one, where the item stands nowhere.
-    pub fn put_back(&mut self, place: Place, entry: Entry)
+    /// Takes an item back to a place, with a count, from the queue in which it stands, or from nowhere. It requires room,
+    /// and takes room for one, where the item stands nowhere.
+    pub fn put_back(&mut self, place: Place, item: K, count: u8)
         requires queue { place.queue < QUEUES }
-        requires room { queue_holding entry.item (queues self.old) ≡ None → 1 ≤ spare self.old }
-        requires gap { IsGap place.older (after_removal entry.item (queues self.old) place.queue) }
-        ensures queues { queues self.new ≡ after_return place.queue place.older entry
-            (after_removal entry.item (queues self.old)) }
+        requires room { queue_holding (K.item item) (queues self.old) ≡ None → 1 ≤ spare self.old }
+        requires gap { IsGap place.older (after_removal (K.item item) (queues self.old) place.queue) }
+        ensures queues { queues self.new ≡ after_return place.queue place.older (entry (K.item item) count)
+            (after_removal (K.item item) (queues self.old)) }
         ensures spare { spare self.old ≤ spare self.new + 1 }
-        ensures stood { queue_holding entry.item (queues self.old) ≢ None → spare self.old ≤ spare self.new }
-        ensures others { KeepsOthers entry.item self.old self.new }
+        ensures stood { queue_holding (K.item item) (queues self.old) ≢ None → spare self.old ≤ spare self.new }
+        ensures others { KeepsOthers (K.item item) self.old self.new }
     {
-        match self.find(entry.item) {
-            Some(found) => self.send_to(found.at, place, entry.count),
-            None => self.insert(place, entry),
+        match self.find(item.item()) {
+            Some(found) => self.send_to(found.at, place, count),
+            None => self.insert(place, item, count),
         }
     }
 
-    /// Gives a slot an entry whose item stands in no queue, and takes it to the recent end of a queue. Says where the
-    /// item stood that it had. Takes no room.
+    /// Gives a slot an item that stands in no queue, with a count, and takes it to the recent end of a queue. Says where
+    /// the item stood that it had. Takes no room.
     #[inline(always)]
-    pub fn renew(&mut self, at: u32, queue: u8, entry: Entry) -> Place
+    pub fn renew(&mut self, at: u32, queue: u8, item: K, count: u8) -> Place
         requires queue { queue < QUEUES }
         requires used { IsUsed at self.old }
-        requires absent { queue_holding entry.item (queues self.old) ≡ None }
-        ensures queues { queues self.new ≡ after_push queue entry (after_removal (entry_at at self.old).item (queues self.old)) }
+        requires absent { queue_holding (K.item item) (queues self.old) ≡ None }
+        ensures queues { queues self.new ≡ after_push queue (entry (K.item item) count)
+            (after_removal (entry_at at self.old).item (queues self.old)) }
         ensures low { result.queue < QUEUES }
         ensures place { Some result ≡ place_in (entry_at at self.old).item (queues self.old) }
         ensures spare { spare self.new ≡ spare self.old }
         ensures others { KeepsOthers (entry_at at self.old).item self.old self.new }
     {
-        let slots: &mut [Slot] = &mut self.slots;
+        let slots: &mut [K::Slot] = &mut self.slots;
         let from = leave(slots, &mut self.lengths, at, section(queue));
-        let old = slots[at as usize].item;
-        self.index.remove(at, old);
-        self.index.insert(at, entry.item);
-        send(slots, at, entry, queue, slot_behind(queue));
+        let old = slot_at(slots, at);
+        self.index.remove(at, old.item);
+        self.index.insert(at, item.item());
+        send(slots, at, count, queue, slot_behind(queue));
+        set_item(slots, at as usize, item);
         from
     }
 
@@ -407,10 +411,10 @@ impl QueueTable {
         ensures spare { spare self.new ≡ spare self.old + 1 }
         ensures others { KeepsOthers (entry_at at self.old).item self.old self.new }
     {
-        let slots: &mut [Slot] = &mut self.slots;
+        let slots: &mut [K::Slot] = &mut self.slots;
         let from = leave(slots, &mut self.lengths, at, 0);
-        let item = slots[at as usize].item;
-        self.index.remove(at, item);
+        let old = slot_at(slots, at);
+        self.index.remove(at, old.item);
         release(slots, at);
         from
     }
@@ -423,9 +427,8 @@ impl QueueTable {
         ensures spare { spare self.new ≡ spare self.old }
         ensures others { KeepsOthers (entry_at at self.old).item self.old self.new }
     {
-        let slots: &mut [Slot] = &mut self.slots;
-        let item = slots[at as usize].item;
-        set_entry(slots, at as usize, Entry { item, count });
+        let slots: &mut [K::Slot] = &mut self.slots;
+        set_count(slots, at as usize, count);
     }
 }
 
@@ -441,12 +444,12 @@ pub fn push_keys(keys: &mut Vec<Key>, items: &[Item]) -> Result<(), AllocError>
 
 // Counts a slot in use out of its queue and into a section, and says where it stood.
 #[inline(always)]
-fn leave(slots: &[Slot], lengths: &mut Lengths, at: u32, to: usize) -> Place
-    requires slot { CanLeave at slots.now lengths.old }
+fn leave<S: RingSlot>(slots: &[S], lengths: &mut Lengths, at: u32, to: usize) -> Place
+    requires slot { CanLeave at (map S.shown slots.now) lengths.old }
     requires to { to ≤ QUEUES }
     ensures low { result.queue < QUEUES }
-    ensures place { Some result ≡ place_in (entry_at at slots.now).item (queues slots.now) }
-    ensures counted { (s b : ℕ) → to ≡ s → IsCounted lengths.new (sent at s b (order_of slots.now)) }
+    ensures place { Some result ≡ place_in (entry_at at (map S.shown slots.now)).item (queues (map S.shown slots.now)) }
+    ensures counted { (s b : ℕ) → to ≡ s → IsCounted lengths.new (sent at s b (order_of (map S.shown slots.now))) }
 {
     let from = place_of_slot(slots, at);
     lengths.pass(section(from.queue), to);

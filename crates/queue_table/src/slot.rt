@@ -1,14 +1,15 @@
-//! A slot, and writes to one field of it.
-ghost use Rattle.std.specs.Prelude.{◌≡◌, ◌<◌, length, slice_set};
-ghost use Rattle.queue_table.specs.Ring.{entries, olders, newers, tags, slot_entry, slot_item, ChangesOnlyLinks, ChangesOnlyEntry};
+//! What a slot keeps, and how it is read and written.
+ghost use Rattle.std.specs.Prelude.{◌≡◌, ◌<◌, length, map, slice_index, slice_set};
+ghost use Rattle.queue_table.specs.Entries.{Item, entry};
+ghost use Rattle.queue_table.specs.Ring.{Slot, entries, olders, newers, tags, slot_entry, slot_item, tag_at, bare_slot, ChangesOnlyLinks, ChangesOnlyEntry};
 
 use crate::records::Entry;
 use crate::slot_index::SlotItems;
-use engine_base::Item;
+use engine_base::{Item, Key};
 
 /// A place for one item, with its neighbours in the ring of all slots.
 #[derive(Clone, Copy)]
-pub(crate) struct Slot {
+pub struct Slot {
     pub(crate) item: Item,
     pub(crate) older: u32,
     pub(crate) newer: u32,
@@ -18,30 +19,253 @@ pub(crate) struct Slot {
     pub(crate) count: u8,
 }
 
-/// The items of the slots, as a search of the index reads them.
+/// The same for an item that is a number, in half the bytes.
 #[derive(Clone, Copy)]
-pub(crate) struct RingItems<'a> {
-    pub(crate) slots: &'a [Slot],
+pub struct NumberSlot {
+    number: u32,
+    older: u32,
+    newer: u32,
+    queue: u8,
+    count: u8,
 }
 
-impl SlotItems for RingItems<'_> {
-    ghost len = { λ r. length r.slots.now };
+/// What a ring is made of: a slot, however it is kept.
+pub trait RingSlot: Copy {
+    // the slot that definitions see
+    ghost shown: { Self → Slot };
 
-    ghost item_at = { λ r. slot_item (entries r.slots.now) };
+    /// What an item is multiplied with for its bucket, of 2^bits. Any number will do.
+    fn multiplier(bits: u32) -> u64;
+
+    /// A slot that holds no item.
+    fn bare(older: u32, newer: u32) -> Self
+        ensures { shown result ≡ bare_slot older newer };
+
+    /// Its fields.
+    fn slot(&self) -> Slot
+        ensures { result ≡ shown self.now };
+
+    /// Writes the older neighbour.
+    fn set_older(&mut self, to: u32)
+        ensures { shown self.new ≡ record (shown self.old) { older = to } };
+
+    /// Writes the newer neighbour.
+    fn set_newer(&mut self, to: u32)
+        ensures { shown self.new ≡ record (shown self.old) { newer = to } };
+
+    /// Writes the queue.
+    fn set_queue(&mut self, to: u8)
+        ensures { shown self.new ≡ record (shown self.old) { queue = to } };
+
+    /// Writes the count.
+    fn set_count(&mut self, to: u8)
+        ensures { shown self.new ≡ record (shown self.old) { count = to } };
+}
+
+/// What stands in the queues of a table: an item, or a key or a number, which is the item with node 0.
+pub trait TableItem: Copy {
+    // the item that definitions see
+    ghost item: { Self → Item };
+
+    /// A slot that can hold it.
+    type Slot: RingSlot;
+
+    /// The item.
+    fn item(self) -> Item
+        ensures { result ≡ item self };
+
+    /// Writes it into a slot.
+    fn put_in(self, slot: &mut Self::Slot)
+        ensures { Self.Slot.shown slot.new ≡ record (Self.Slot.shown slot.old) { item = item self } };
+}
+
+// 2^64 over the golden ratio, to the nearest odd number (Knuth's multiplicative hashing).
+const MULTIPLIER: u64 = 11400714819323198485;
+
+impl RingSlot for Slot {
+    ghost shown = { λ s. s };
+
+    #[inline(always)]
+    fn multiplier(_bits: u32) -> u64 {
+        MULTIPLIER
+    }
+
+    #[inline(always)]
+    fn bare(older: u32, newer: u32) -> Slot {
+        Slot {
+            item: Item { key: 0, node: 0 },
+            older,
+            newer,
+            queue: 0,
+            count: 0,
+        }
+    }
+
+    #[inline(always)]
+    fn slot(&self) -> Slot {
+        *self
+    }
+
+    #[inline(always)]
+    fn set_older(&mut self, to: u32) {
+        self.older = to;
+    }
+
+    #[inline(always)]
+    fn set_newer(&mut self, to: u32) {
+        self.newer = to;
+    }
+
+    #[inline(always)]
+    fn set_queue(&mut self, to: u8) {
+        self.queue = to;
+    }
+
+    #[inline(always)]
+    fn set_count(&mut self, to: u8) {
+        self.count = to;
+    }
+}
+
+// Numbers in turn have buckets in turn: keys that come one after the other stand side by side.
+impl RingSlot for NumberSlot {
+    ghost shown = { λ s. record { item = record { key = s.number; node = 0 }; older = s.older; newer = s.newer; queue = s.queue; count = s.count } };
+
+    #[inline(always)]
+    fn multiplier(bits: u32) -> u64 {
+        1 << (64u32.wrapping_sub(bits) % 64)
+    }
+
+    #[inline(always)]
+    fn bare(older: u32, newer: u32) -> NumberSlot {
+        NumberSlot {
+            number: 0,
+            older,
+            newer,
+            queue: 0,
+            count: 0,
+        }
+    }
+
+    #[inline(always)]
+    fn slot(&self) -> Slot {
+        Slot {
+            item: self.number.item(),
+            older: self.older,
+            newer: self.newer,
+            queue: self.queue,
+            count: self.count,
+        }
+    }
+
+    #[inline(always)]
+    fn set_older(&mut self, to: u32) {
+        self.older = to;
+    }
+
+    #[inline(always)]
+    fn set_newer(&mut self, to: u32) {
+        self.newer = to;
+    }
+
+    #[inline(always)]
+    fn set_queue(&mut self, to: u8) {
+        self.queue = to;
+    }
+
+    #[inline(always)]
+    fn set_count(&mut self, to: u8) {
+        self.count = to;
+    }
+}
+
+impl TableItem for Item {
+    ghost item = { λ i. i };
+
+    type Slot = Slot;
+
+    #[inline(always)]
+    fn item(self) -> Item {
+        self
+    }
+
+    #[inline(always)]
+    fn put_in(self, slot: &mut Slot) {
+        slot.item = self;
+    }
+}
+
+impl TableItem for Key {
+    ghost item = { λ k. record { key = k; node = 0 } };
+
+    type Slot = Slot;
+
+    #[inline(always)]
+    fn item(self) -> Item {
+        Item { key: self, node: 0 }
+    }
+
+    #[inline(always)]
+    fn put_in(self, slot: &mut Slot) {
+        slot.item = self.item();
+    }
+}
+
+impl TableItem for u32 {
+    ghost item = { λ n. record { key = n; node = 0 } };
+
+    type Slot = NumberSlot;
+
+    #[inline(always)]
+    fn item(self) -> Item {
+        Item {
+            key: self as u64,
+            node: 0,
+        }
+    }
+
+    #[inline(always)]
+    fn put_in(self, slot: &mut NumberSlot) {
+        slot.number = self;
+    }
+}
+
+/// The items of the slots, as a search of the index reads them.
+#[derive(Clone, Copy)]
+pub(crate) struct RingItems<'a, S: RingSlot> {
+    pub(crate) slots: &'a [S],
+}
+
+impl<S: RingSlot> SlotItems for RingItems<'_, S> {
+    ghost len = { λ r. length (map S.shown r.slots.now) };
+
+    ghost item_at = { λ r. slot_item (entries (map S.shown r.slots.now)) };
 
     #[inline(always)]
     fn item(&self, at: u32) -> Item {
-        self.slots[at as usize].item
+        slot_at(self.slots, at).item
     }
+}
+
+/// The fields of a slot.
+#[inline(always)]
+pub(crate) fn slot_at<S: RingSlot>(slots: &[S], at: u32) -> Slot
+    requires { at < length (map S.shown slots.now) }
+    ensures entry { slot_entry (entries (map S.shown slots.now)) at ≡ entry result.item result.count }
+    ensures older { slice_index (olders (map S.shown slots.now)) at ≡ result.older }
+    ensures newer { slice_index (newers (map S.shown slots.now)) at ≡ result.newer }
+    ensures queue { tag_at (tags (map S.shown slots.now)) at ≡ result.queue }
+{
+    slots[at as usize].slot()
 }
 
 /// The entry of a slot.
 #[inline(always)]
-pub(crate) fn entry_of(slots: &[Slot], at: u32) -> Entry
-    requires { at < length slots.now }
-    ensures { slot_entry (entries slots.now) at ≡ result }
+pub(crate) fn entry_of<S: RingSlot>(slots: &[S], at: u32) -> Entry
+    requires { at < length (map S.shown slots.now) }
+    ensures { slot_entry (entries (map S.shown slots.now)) at ≡ result }
 {
-    let slot = &slots[at as usize];
+    let slot = slot_at(slots, at);
     Entry {
         item: slot.item,
         count: slot.count,
@@ -49,45 +273,57 @@ pub(crate) fn entry_of(slots: &[Slot], at: u32) -> Entry
 }
 
 #[inline(always)]
-pub(crate) fn set_newer(slots: &mut [Slot], at: usize, to: u32)
-    requires { at < length slots.old }
-    ensures newers { newers slots.new ≡ slice_set (newers slots.old) at to }
-    ensures olders { olders slots.new ≡ olders slots.old }
-    ensures only { ChangesOnlyLinks slots.old slots.new }
+pub(crate) fn set_newer<S: RingSlot>(slots: &mut [S], at: usize, to: u32)
+    requires { at < length (map S.shown slots.old) }
+    ensures newers { newers (map S.shown slots.new) ≡ slice_set (newers (map S.shown slots.old)) at to }
+    ensures olders { olders (map S.shown slots.new) ≡ olders (map S.shown slots.old) }
+    ensures only { ChangesOnlyLinks (map S.shown slots.old) (map S.shown slots.new) }
 {
     let slot = &mut slots[at];
-    slot.newer = to;
+    slot.set_newer(to);
 }
 
 #[inline(always)]
-pub(crate) fn set_older(slots: &mut [Slot], at: usize, to: u32)
-    requires { at < length slots.old }
-    ensures newers { newers slots.new ≡ newers slots.old }
-    ensures olders { olders slots.new ≡ slice_set (olders slots.old) at to }
-    ensures only { ChangesOnlyLinks slots.old slots.new }
+pub(crate) fn set_older<S: RingSlot>(slots: &mut [S], at: usize, to: u32)
+    requires { at < length (map S.shown slots.old) }
+    ensures newers { newers (map S.shown slots.new) ≡ newers (map S.shown slots.old) }
+    ensures olders { olders (map S.shown slots.new) ≡ slice_set (olders (map S.shown slots.old)) at to }
+    ensures only { ChangesOnlyLinks (map S.shown slots.old) (map S.shown slots.new) }
 {
     let slot = &mut slots[at];
-    slot.older = to;
+    slot.set_older(to);
 }
 
 #[inline(always)]
-pub(crate) fn set_queue(slots: &mut [Slot], at: usize, to: u8)
-    requires { at < length slots.old }
-    ensures newers { newers slots.new ≡ newers slots.old }
-    ensures olders { olders slots.new ≡ olders slots.old }
-    ensures entries { entries slots.new ≡ entries slots.old }
-    ensures tags { tags slots.new ≡ slice_set (tags slots.old) at to }
+pub(crate) fn set_queue<S: RingSlot>(slots: &mut [S], at: usize, to: u8)
+    requires { at < length (map S.shown slots.old) }
+    ensures newers { newers (map S.shown slots.new) ≡ newers (map S.shown slots.old) }
+    ensures olders { olders (map S.shown slots.new) ≡ olders (map S.shown slots.old) }
+    ensures entries { entries (map S.shown slots.new) ≡ entries (map S.shown slots.old) }
+    ensures tags { tags (map S.shown slots.new) ≡ slice_set (tags (map S.shown slots.old)) at to }
 {
     let slot = &mut slots[at];
-    slot.queue = to;
+    slot.set_queue(to);
 }
 
+/// Writes another count beside the item.
 #[inline(always)]
-pub(crate) fn set_entry(slots: &mut [Slot], at: usize, to: Entry)
-    requires { at < length slots.old }
-    ensures { ChangesOnlyEntry at to slots.old slots.new }
+pub(crate) fn set_count<S: RingSlot>(slots: &mut [S], at: usize, to: u8)
+    requires { at < length (map S.shown slots.old) }
+    ensures { ChangesOnlyEntry at (entry (slot_item (entries (map S.shown slots.old)) at) to) (map S.shown slots.old)
+        (map S.shown slots.new) }
 {
     let slot = &mut slots[at];
-    slot.item = to.item;
-    slot.count = to.count;
+    slot.set_count(to);
+}
+
+/// Writes another item beside the count.
+#[inline(always)]
+pub(crate) fn set_item<K: TableItem>(slots: &mut [K::Slot], at: usize, to: K)
+    requires { at < length (map K.Slot.shown slots.old) }
+    ensures { ChangesOnlyEntry at (entry (K.item to) (slot_entry (entries (map K.Slot.shown slots.old)) at).count)
+        (map K.Slot.shown slots.old) (map K.Slot.shown slots.new) }
+{
+    let slot = &mut slots[at];
+    to.put_in(slot);
 }

@@ -9,9 +9,6 @@ ghost use Rattle.queue_table.specs.Walks.{HasTree, HasTreeWithin, IsOnWay};
 use engine_base::Item;
 use std::alloc::{AllocError, Global};
 
-// 2^64 over the golden ratio, to the nearest odd number (Knuth's multiplicative hashing).
-const MULTIPLIER: u64 = 11400714819323198485;
-
 /// What a search reads: the item of each slot.
 pub trait SlotItems {
     // how many slots there are
@@ -34,6 +31,8 @@ pub struct SlotIndex {
     links: Vec<u32>,
     // There are 2^bits buckets.
     bits: u32,
+    // The upper bits of the product of an item with it say its bucket.
+    multiplier: u64,
 }
 
 impl SlotIndex {
@@ -45,19 +44,24 @@ impl SlotIndex {
         SlotIndex {
             links: Vec::new(alloc),
             bits,
+            multiplier: 0,
         }
     }
 
-    /// An index of 2^bits buckets for half as many slots and two more. It knows no slot. The one error is out of
-    /// memory.
-    pub fn new(alloc: Global, bits: u32) -> Result<SlotIndex, AllocError>
+    /// An index of 2^bits buckets for half as many slots and two more. It knows no slot. The upper bits of the product of
+    /// an item with the multiplier say its bucket. The one error is out of memory.
+    pub fn new(alloc: Global, bits: u32, multiplier: u64) -> Result<SlotIndex, AllocError>
         requires { (1 ≤ bits) × (bits < 32) }
         ensures empty { IfOk result (λ x. (item_of : ℕ → Item) → IsIndexed x item_of (λ _. 0)) }
         ensures bits { IfOk result (λ x. x.bits ≡ bits) }
     {
         let buckets = 1usize << bits;
         let links = vec![in alloc; 0u32; buckets + 2 * (buckets / 2 + 2)]?;
-        Ok(SlotIndex { links, bits })
+        Ok(SlotIndex {
+            links,
+            bits,
+            multiplier,
+        })
     }
 
     /// How many bits number the buckets.
@@ -75,7 +79,7 @@ impl SlotIndex {
         ensures { (used : ℕ → ℕ) → IsIndexed self.now (I.item_at items.now) used
             → IsFound item (I.item_at items.now) used result }
     {
-        let bucket = bucket_of(self.bits, item);
+        let bucket = bucket_of(self.multiplier, self.bits, item);
         let at = self.links[bucket];
         if at == 0 {
             return 0;
@@ -91,12 +95,12 @@ impl SlotIndex {
     #[inline(always)]
     pub fn first_slot(&self, item: Item) -> u32
         ensures { (item_of : ℕ → Item) (used : ℕ → ℕ) → IsIndexed self.now item_of used
-            → IsInBucket item self.now.bits item_of used result }
+            → IsInBucket item self.now.multiplier self.now.bits item_of used result }
     {
         if self.bits < 1 || self.bits > 31 {
             return 0;
         }
-        let bucket = bucket_of(self.bits, item);
+        let bucket = bucket_of(self.multiplier, self.bits, item);
         if bucket >= self.links.len() {
             return 0;
         }
@@ -112,7 +116,7 @@ impl SlotIndex {
             → IsAdded at item item_of item_of2 used used2 → IsIndexed self.new item_of2 used2 }
         ensures bits { self.new.bits ≡ self.old.bits }
     {
-        let bucket = bucket_of(self.bits, item);
+        let bucket = bucket_of(self.multiplier, self.bits, item);
         let next = self.links[bucket];
         if next == 0 {
             self.links[bucket] = at;
@@ -130,7 +134,7 @@ impl SlotIndex {
             → IsRemoved at item item_of used used2 → IsIndexed self.new item_of used2 }
         ensures bits { self.new.bits ≡ self.old.bits }
     {
-        let bucket = bucket_of(self.bits, item);
+        let bucket = bucket_of(self.multiplier, self.bits, item);
         if self.links[bucket] == at && self.is_bare(at) {
             self.links[bucket] = 0;
             return;
@@ -164,6 +168,7 @@ impl SlotIndex {
             → IsFree self.old.links.items (2 ^ self.old.bits) place at t
             → Replaces (2 ^ self.old.bits) self.old.links.items self.new.links.items place t (grafted depth item at t) }
         ensures bits { self.new.bits ≡ self.old.bits }
+        ensures multiplier { self.new.multiplier ≡ self.old.multiplier }
     {
         let next = self.links[place];
         if next == 0 {
@@ -182,6 +187,7 @@ impl SlotIndex {
             → Replaces (2 ^ self.old.bits) self.old.links.items self.new.links.items place t (detached depth item at t) }
         ensures bare { IsBare self.new.links.items (2 ^ self.old.bits) at }
         ensures bits { self.new.bits ≡ self.old.bits }
+        ensures multiplier { self.new.multiplier ≡ self.old.multiplier }
     {
         let next = self.links[place];
         if next == at {
@@ -219,6 +225,7 @@ impl SlotIndex {
             → Replaces (2 ^ self.old.bits) self.old.links.items self.new.links.items place t (lifted t) }
         ensures bare { IsBare self.new.links.items (2 ^ self.old.bits) at }
         ensures bits { self.new.bits ≡ self.old.bits }
+        ensures multiplier { self.new.multiplier ≡ self.old.multiplier }
     {
         let lowest = self.pluck(place);
         if lowest == at {
@@ -242,6 +249,7 @@ impl SlotIndex {
         ensures lowest { (t : Tree) → IsWhole self.old.links.items (2 ^ self.old.bits) place t → result ≡ lowest 0 t }
         ensures bare { IsBare self.new.links.items (2 ^ self.old.bits) result }
         ensures bits { self.new.bits ≡ self.old.bits }
+        ensures multiplier { self.new.multiplier ≡ self.old.multiplier }
     {
         let at = self.links[place];
         let left = branch_of(self.bits, at, false);
@@ -258,13 +266,13 @@ impl SlotIndex {
 
 // The bucket of an item: the upper bits of one product of its key with its node.
 #[inline(always)]
-fn bucket_of(bits: u32, item: Item) -> usize
+fn bucket_of(multiplier: u64, bits: u32, item: Item) -> usize
     requires { (1 ≤ bits) × (bits < 32) }
-    ensures bucket { result ≡ bucket bits item }
+    ensures bucket { result ≡ bucket multiplier bits item }
     ensures within { result < 2 ^ bits }
 {
     let mixed = item.key.wrapping_add(item.node.wrapping_mul(1 << 32));
-    (mixed.wrapping_mul(MULTIPLIER) >> (64 - bits)) as usize
+    (mixed.wrapping_mul(multiplier) >> (64 - bits)) as usize
 }
 
 // Where the links have a slot's left or right branch.

@@ -14,10 +14,9 @@ ghost use Rattle.s3_fifo.specs.Plan.{SMALL as SmallQueue, MAIN as MainQueue, GHO
 ghost use Rattle.s3_fifo.specs.Plan.{joins, gives_main, eviction_plan, is_resident, s3_fifo_miss, s3_fifo_plan};
 ghost use Rattle.s3_fifo.specs.Examples.{WorkedExamples};
 
-use engine_base::Key;
 use policy_page::accesses::{LeftKeys, hit, kept, miss_after_runs};
 use policy_page::missed_key::{enter_apart, enter_for_oldest, enter_for_remembered};
-use queue_moves::{Accessed, KeyQueues, Run};
+use queue_moves::{Accessed, KeyName, KeyQueues, Run};
 use queue_table::Found;
 use std::alloc::AllocError;
 
@@ -38,24 +37,25 @@ struct Early;
 ///
 /// `C` selects an instance (docs/ARCHITECTURE.md).
 #[inline(always)]
-pub fn step<C>(
-    table: &mut KeyQueues,
+pub fn step<C, K: KeyName>(
+    table: &mut KeyQueues<K>,
     part: u32,
     capacity: u32,
     own_number: u32,
-    key: Key,
+    key: K,
 ) -> Result<Accessed, AllocError>
     requires few { capacity ≤ MAX_CAPACITY }
     requires state { IsS3Fifo part capacity (s3_fifo_of (queues table.old)) }
-    ensures accessed { IfOk result (λ a. IsAccessed (s3_fifo_plan part capacity key own_number (queues table.old))
-        (item_of key) own_number (queues table.old) (queues table.new) a) }
-    ensures memory { OnErr result ((s3_fifo_plan part capacity key own_number (queues table.old)).hits ≡ false) }
+    ensures accessed { IfOk result (λ a. IsAccessed (s3_fifo_plan part capacity (K.key key) own_number
+        (queues table.old)) (item_of (K.key key)) own_number (queues table.old) (queues table.new) a) }
+    ensures memory { OnErr result
+        ((s3_fifo_plan part capacity (K.key key) own_number (queues table.old)).hits ≡ false) }
     ensures err { OnErr result (queues table.new ≡ queues table.old) }
 {
     let Some(found) = table.find(key) else {
         // Room in the table is made before anything moves.
         table.reserve()?;
-        return Ok(miss::<C>(table, part, capacity, own_number, key, None, false));
+        return Ok(miss::<C, K>(table, part, capacity, own_number, key, None, false));
     };
     if is_resident(found.queue) {
         let own = table.recount(key, found, one_hit_more(found.count));
@@ -64,7 +64,7 @@ pub fn step<C>(
         table.tabled();
         let remembered = found.queue == GHOST;
         let found = Some(found);
-        Ok(miss::<(C, Searched)>(table, part, capacity, own_number, key, found, remembered))
+        Ok(miss::<(C, Searched), K>(table, part, capacity, own_number, key, found, remembered))
     }
 }
 
@@ -84,20 +84,20 @@ fn one_hit_more(count: u8) -> u8
 
 // A miss. In a full cache main takes keys of the small queue, and then a key leaves.
 #[inline(always)]
-fn miss<C>(
-    table: &mut KeyQueues,
+fn miss<C, K: KeyName>(
+    table: &mut KeyQueues<K>,
     part: u32,
     capacity: u32,
     own_number: u32,
-    key: Key,
+    key: K,
     found: Option<Found>,
     remembered: bool,
 ) -> Accessed
     requires few { capacity ≤ MAX_CAPACITY }
     requires state { IsS3Fifo part capacity (s3_fifo_of (queues table.old)) }
-    requires outside { IsOutside remembered found (item_of key) SmallQueue MainQueue GhostQueue table.old }
-    ensures { IsAccessed (s3_fifo_miss part capacity remembered own_number (queues table.old)) (item_of key) own_number
-        (queues table.old) (queues table.new) result }
+    requires outside { IsOutside remembered found (item_of (K.key key)) SmallQueue MainQueue GhostQueue table.old }
+    ensures { IsAccessed (s3_fifo_miss part capacity remembered own_number (queues table.old))
+        (item_of (K.key key)) own_number (queues table.old) (queues table.new) result }
 {
     if table.len(SMALL) + table.len(MAIN) < capacity as usize {
         let own = enter_apart(table, key, found, queue_of(remembered));
@@ -108,7 +108,7 @@ fn miss<C>(
     // Main takes the oldest keys of the small queue that were hit twice, until it is over its size.
     let room = (main as usize + 1).saturating_sub(table.len(MAIN));
     let early = table.run(SMALL, MAIN, 0, 2, room as u32);
-    evict::<C>(table, main, own_number, key, found, remembered, early)
+    evict::<C, K>(table, main, own_number, key, found, remembered, early)
 }
 
 // The queue that a key joins.
@@ -127,26 +127,26 @@ fn main_size(part: u32, capacity: u32) -> u32
 
 // A key leaves for the accessed one, once all are promoted that are to be.
 #[inline(always)]
-fn evict<C>(
-    table: &mut KeyQueues,
+fn evict<C, K: KeyName>(
+    table: &mut KeyQueues<K>,
     main: u32,
     own_number: u32,
-    key: Key,
+    key: K,
     found: Option<Found>,
     remembered: bool,
     early: Run,
 ) -> Accessed
     requires few { length (queues table.old MainQueue) ≤ MAX_CAPACITY }
-    requires outside { IsOutside remembered found (item_of key) SmallQueue MainQueue GhostQueue table.old }
+    requires outside { IsOutside remembered found (item_of (K.key key)) SmallQueue MainQueue GhostQueue table.old }
     ensures { (s : Queues) → IsRun early s (queues table.old)
-        → IsAccessed (eviction_plan main early remembered own_number (queues table.old)) (item_of key) own_number s
-        (queues table.new) result }
+        → IsAccessed (eviction_plan main early remembered own_number (queues table.old))
+        (item_of (K.key key)) own_number s (queues table.new) result }
 {
     let queue = queue_of(remembered);
     if main_gives(table, main) {
         let most = 3 * table.len(MAIN) as u32;
         let late = table.run(MAIN, MAIN, 1, 1, most);
-        let (first, own) = enter_for_oldest::<C>(table, MAIN, key, found, queue);
+        let (first, own) = enter_for_oldest::<C, K>(table, MAIN, key, found, queue);
         return miss_after_runs(
             early,
             late,
@@ -156,14 +156,14 @@ fn evict<C>(
             own_number,
         );
     }
-    let (left, own) = enter_for_remembered::<(C, Early)>(
+    let (left, own) = enter_for_remembered::<(C, Early), K>(
         table, SMALL, GHOST, main, key, found, remembered, queue,
     );
     miss_after_runs(early, Run::NONE, left, own, own_number, own_number)
 }
 
 // Whether main gives up a key, and not the small queue.
-fn main_gives(table: &KeyQueues, main: u32) -> bool
+fn main_gives<K: KeyName>(table: &KeyQueues<K>, main: u32) -> bool
     ensures { result ≡ gives_main main (queues table.now) }
 {
     table.len(SMALL) == 0 || (main as usize) < table.len(MAIN)

@@ -126,10 +126,10 @@ from-place : (i : Item) (to : Option Queue) (p : QueuePlace) (s : Queues) → So
     → (let r : MoveRecord = record { item = i; from = Some p; to = to } in r ≡ move_record i to s)
 from-place i to p s e = ap (λ (f : Option QueuePlace). let r : MoveRecord = record { item = i; from = f; to = to } in r) e
 
-pushed-on : (q : Queue) (i : Item) (k : ℕ) (e : Entry) (s t : ByNumber.Queues) → IsDistinct (named s) → IsNamed s → e ≡ Entries.entry i 0 → k ≡ number_of q → queue_holding i (named s) ≡ None → t ≡ ByNumber.after_push k e s
+pushed-on : (q : Queue) (i : Item) (k : ℕ) (s t : ByNumber.Queues) → IsDistinct (named s) → IsNamed s → k ≡ number_of q → queue_holding i (named s) ≡ None → t ≡ ByNumber.after_push k (Entries.entry i 0) s
     → IsMade record { item = i; from = None; to = Some q } (queues_after_push q i (named s)) (named s) t
-pushed-on q i k e s t u h ee kq absent to =
-    let made_of : t ≡ ByNumber.after_push (number_of q) (Entries.entry i 0) s = to ∙ rw (ee, kq) refl in
+pushed-on q i k s t u h kq absent to =
+    let made_of : t ≡ ByNumber.after_push (number_of q) (Entries.entry i 0) s = to ∙ rw kq refl in
     let lists : named t ≡ queues_after_push q i (named s) = ap named made_of ∙ push-named q (Entries.entry i 0) s in
     let r : MoveRecord = record { item = i; from = None; to = Some q } in
     let e : r ≡ move_record i (Some q) (named s) = rw absent refl in
@@ -144,8 +144,8 @@ module _ (s : ByNumber.Queues) (n : ℕ) (shown : Shown) (v : shown_of s n ≡ s
   before-is = ap (λ (x : Shown). x.lists) v
 
   -- an item that the lists by name do not hold
-  pub absent-below : (i : Item) (e : Entry) → e ≡ Entries.entry i 0 → queue_holding i shown.lists ≡ None → ByNumber.queue_holding e.item s ≡ None
-  absent-below i e ee none = cc (missing-numbered i s h (ap (queue_holding i) before-is ∙ none), before-is)
+  pub absent-below : (i : Item) → queue_holding i shown.lists ≡ None → ByNumber.queue_holding i s ≡ None
+  absent-below i none = missing-numbered i s h (ap (queue_holding i) before-is ∙ none)
 
   pub newest-shown : (q : Queue) (k : ℕ) (x : Entry) → k ≡ number_of q → Entries.newest_of (s k) ≡ Some x → Some x.item ≡ last_item (queue_of q shown.lists)
   newest-shown q k x kq last =
@@ -164,11 +164,11 @@ module _ (s : ByNumber.Queues) (n : ℕ) (shown : Shown) (v : shown_of s n ≡ s
     pub missing-is : (i : Item) → ByNumber.queue_holding i s ≡ None → queue_holding i shown.lists ≡ None
     missing-is i e = ap (queue_holding i) (sym before-is) ∙ missing-named i s d h e
 
-    pub pushed : (q : Queue) (i : Item) (k : ℕ) (e : Entry) (t : ByNumber.Queues) → e ≡ Entries.entry i 0 → k ≡ number_of q → queue_holding i shown.lists ≡ None → t ≡ ByNumber.after_push k e s
+    pub pushed : (q : Queue) (i : Item) (k : ℕ) (t : ByNumber.Queues) → k ≡ number_of q → queue_holding i shown.lists ≡ None → t ≡ ByNumber.after_push k (Entries.entry i 0) s
         → IsMade record { item = i; from = None; to = Some q } (queues_after_push q i shown.lists) shown.lists t
-    pushed q i k e t ee kq none to =
+    pushed q i k t kq none to =
         subst (λ (x : Queues). IsMade record { item = i; from = None; to = Some q } (queues_after_push q i x) x t) before-is
-        (pushed-on q i k e s t (distinct-named s d) h ee kq (ap (queue_holding i) before-is ∙ none) to)
+        (pushed-on q i k s t (distinct-named s d) h kq (ap (queue_holding i) before-is ∙ none) to)
 
     -- the slot's entry e is x, whose item stood at the place p
     module _ (e x : Entry) (p : Place) (from : QueuePlace) (ex : e ≡ x) (ps : Some p ≡ ByNumber.place_in e.item s) (fp : from ≡ named_place p) (t : ByNumber.Queues) where
@@ -207,16 +207,16 @@ module _ (s : ByNumber.Queues) (n : ℕ) (shown : Shown) (v : shown_of s n ≡ s
 
     pub renewed : (e x : Entry) (p : Place) (from : QueuePlace) → e ≡ x → Some p ≡ ByNumber.place_in e.item s → from ≡ named_place p
         → (q : Queue) (k : ℕ) → k ≡ number_of q → Entries.oldest_of (s k) ≡ Some x
-        → (j : Item) (r : ℕ) (y : Entry) (t : ByNumber.Queues) → y ≡ Entries.entry j 0 → r ≡ number_of q → queue_holding j shown.lists ≡ None → t ≡ ByNumber.after_push r y (ByNumber.after_removal e.item s)
+        → (j : Item) (r : ℕ) (t : ByNumber.Queues) → r ≡ number_of q → queue_holding j shown.lists ≡ None → t ≡ ByNumber.after_push r (Entries.entry j 0) (ByNumber.after_removal e.item s)
         → AreMade record { item = x.item; from = Some from; to = None } record { item = j; from = None; to = Some q }
         (queues_after_push q j (queues_after_pop q shown.lists)) (queues_after_pop q shown.lists) shown.lists t
-    renewed e x p from ex ps fp q k kq first j r y t ye rq none to =
+    renewed e x p from ex ps fp q k kq first j r t rq none to =
         let m : ByNumber.Queues = ByNumber.after_removal e.item s in
         let out = popped e x p from ex ps fp m q k kq first refl in
         let without : named m ≡ queues_without e.item (named s) = without-named e.item s in
         let u : IsDistinct (named m) = subst IsDistinct (sym without) (distinct-taken e.item (named s) (distinct-named s d)) in
         let absent : queue_holding j (named m) ≡ None = ap (queue_holding j) without ∙ still-absent j e.item (named s) (ap (queue_holding j) before-is ∙ none) in
-        let put = pushed-on q j r y m t u out.kept ye rq absent to in
+        let put = pushed-on q j r m t u out.kept rq absent to in
         grind (arith, nat_tests)
 
   -- an item goes back to the place that its record names
@@ -227,21 +227,20 @@ module _ (s : ByNumber.Queues) (n : ℕ) (shown : Shown) (v : shown_of s n ≡ s
     gap-shown : IsGap p.older (queue_of p.queue (queues_without r.item shown.lists))
     gap-shown = subst (λ (x : Option QueuePlace). IsOpen x (queues_without r.item shown.lists)) is open_there
 
-    module _ (e : Entry) (ee : e ≡ Entries.entry r.item 0) where
-      pub gap-without : Entries.IsGap place.older (ByNumber.after_removal e.item s place.queue)
-      gap-without =
-          let g = subst (IsGap p.older) (sym (queue-named p.queue (ByNumber.after_removal r.item s)))
-          (subst (λ (x : Queues). IsGap p.older (queue_of p.queue x)) (sym without-is) gap-shown) in
-          grind (arith, nat_tests)
+    pub gap-without : Entries.IsGap place.older (ByNumber.after_removal r.item s place.queue)
+    gap-without =
+        let g = subst (IsGap p.older) (sym (queue-named p.queue (ByNumber.after_removal r.item s)))
+        (subst (λ (x : Queues). IsGap p.older (queue_of p.queue x)) (sym without-is) gap-shown) in
+        grind (arith, nat_tests)
 
-      pub put-back : (t : ByNumber.Queues) → t ≡ ByNumber.after_return place.queue place.older e (ByNumber.after_removal e.item s) → IsUndone r shown.lists t
-      put-back t to =
-          let m : ByNumber.Queues = ByNumber.after_removal r.item s in
-          let made_of : t ≡ ByNumber.after_return (number_of p.queue) p.older (Entries.entry r.item 0) m = to ∙ rw (ee, pp) refl in
-          record {
-            lists = ap named made_of
-                ∙ (return-named p.queue p.older (Entries.entry r.item 0) m
-                ∙ (ap (λ (x : Queues). with_queue p.queue (put_behind p.older r.item (queue_of p.queue x)) x) without-is
-                ∙ ap (λ (f : Option QueuePlace). queues_restored f r.item (queues_without r.item shown.lists)) (sym is)));
-            kept = subst IsNamed (sym made_of) (with-kept p.queue (Entries.put_behind p.older (Entries.entry r.item 0) (m (number_of p.queue))) m (without-kept r.item s h));
-          }
+    pub put-back : (t : ByNumber.Queues) → t ≡ ByNumber.after_return place.queue place.older (Entries.entry r.item 0) (ByNumber.after_removal r.item s) → IsUndone r shown.lists t
+    put-back t to =
+        let m : ByNumber.Queues = ByNumber.after_removal r.item s in
+        let made_of : t ≡ ByNumber.after_return (number_of p.queue) p.older (Entries.entry r.item 0) m = to ∙ rw pp refl in
+        record {
+          lists = ap named made_of
+              ∙ (return-named p.queue p.older (Entries.entry r.item 0) m
+              ∙ (ap (λ (x : Queues). with_queue p.queue (put_behind p.older r.item (queue_of p.queue x)) x) without-is
+              ∙ ap (λ (f : Option QueuePlace). queues_restored f r.item (queues_without r.item shown.lists)) (sym is)));
+          kept = subst IsNamed (sym made_of) (with-kept p.queue (Entries.put_behind p.older (Entries.entry r.item 0) (m (number_of p.queue))) m (without-kept r.item s h));
+        }

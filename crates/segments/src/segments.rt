@@ -1,7 +1,6 @@
 //! The queues, over a table of queues by number.
 ghost use Rattle.std.specs.Prelude.{◌≡◌, ◌≢◌, ◌↔◌, ◌+◌, ◌≤◌, Ok, [], length, Option, Some, None, MatchOption};
 ghost use Rattle.std.specs.Prelude.{IfOk, OnOk, IfSome, IfNone};
-ghost use Rattle.queue_table.specs.Entries.{entry};
 ghost use Rattle.segments.specs.Items.{oldest_of, last_item};
 ghost use Rattle.segments.specs.Queues.{empty_queues, queue_of, queue_holding, IsDistinct, queues_after_push, queues_without, queues_after_move, queues_after_pop};
 ghost use Rattle.segments.specs.Queues.{queue_after_access, total_items, residents_in};
@@ -11,7 +10,7 @@ ghost use Rattle.segments.specs.Runs.{queues_after_run, queues_before_run};
 use crate::names::{name, number, queue_place, table_place};
 use crate::records::{MoveRecord, Queue, QueuePlace};
 use engine_base::{Item, Key};
-use queue_table::{Entry, QueueTable, push_keys};
+use queue_table::{QueueTable, push_keys};
 use std::alloc::{AllocError, Global};
 use std::marker::Model;
 
@@ -45,14 +44,6 @@ fn queue_after_hit(queue: Queue) -> Queue
         Queue::Window => Queue::Window,
         Queue::Probation | Queue::Protected => Queue::Protected,
     }
-}
-
-// The entry for an item. The count beside it is not used.
-#[inline(always)]
-fn entry_for(item: Item) -> Entry
-    ensures { result ≡ entry item 0 }
-{
-    Entry { item, count: 0 }
 }
 
 impl Segments {
@@ -114,7 +105,7 @@ impl Segments {
         ensures record { IsMoveRecord item (Some queue) self.old.lists self.new.lists result }
         ensures spare { self.old.spare ≤ self.new.spare + 1 }
     {
-        self.table.push(number(queue), entry_for(item));
+        self.table.push(number(queue), item, 0);
         MoveRecord {
             item,
             from: None,
@@ -214,7 +205,7 @@ impl Segments {
         let Some((at, oldest)) = self.table.oldest(number(queue)) else {
             return None;
         };
-        let place = self.table.renew(at, number(queue), entry_for(item));
+        let place = self.table.renew(at, number(queue), item, 0);
         let out = MoveRecord {
             item: oldest.item,
             from: Some(queue_place(place)),
@@ -344,8 +335,7 @@ impl Segments {
             return;
         };
         self.table.distinct();
-        self.table
-            .put_back(table_place(place), entry_for(done.item));
+        self.table.put_back(table_place(place), done.item, 0);
     }
 
     /// A copy of the queue's items, oldest first.

@@ -15,9 +15,8 @@ ghost use Rattle.sieve.specs.Sieve.{SieveState, empty_sieve, pass_count, after_p
 ghost use Rattle.sieve.specs.SieveListing.{empty_listing, listing_act};
 ghost use Rattle.sieve.specs.Examples.{WorkedExamples};
 
-use engine_base::Key;
 use policy_page::accesses::{evicted, hit, kept};
-use queue_moves::{Accessed, KeyQueues, Run};
+use queue_moves::{Accessed, KeyName, KeyQueues, Run};
 use std::alloc::AllocError;
 
 /// An access to a key: a hit sets its visited bit; in a full cache the hand passes over the keys whose bits are set,
@@ -26,17 +25,17 @@ use std::alloc::AllocError;
 ///
 /// `C` selects an instance (docs/ARCHITECTURE.md).
 #[inline(always)]
-pub fn step<C>(
-    table: &mut KeyQueues,
+pub fn step<C, K: KeyName>(
+    table: &mut KeyQueues<K>,
     capacity: u32,
     own_number: u32,
-    key: Key,
+    key: K,
 ) -> Result<Accessed, AllocError>
     requires { own_number ≤ 1 }
-    ensures accessed { IfOk result (λ a. IsAccessed (sieve_plan capacity key own_number (queues table.old)) (item_of key)
-        own_number (queues table.old) (queues table.new) a) }
+    ensures accessed { IfOk result (λ a. IsAccessed (sieve_plan capacity (K.key key) own_number (queues table.old))
+        (item_of (K.key key)) own_number (queues table.old) (queues table.new) a) }
     // A hit asks for no memory.
-    ensures memory { OnErr result ((sieve_plan capacity key own_number (queues table.old)).hits ≡ false) }
+    ensures memory { OnErr result ((sieve_plan capacity (K.key key) own_number (queues table.old)).hits ≡ false) }
     ensures err { OnErr result (queues table.new ≡ queues table.old) }
 {
     match table.find(key) {
@@ -51,13 +50,13 @@ pub fn step<C>(
                 let own = table.join_apart(key, ahead, 0);
                 return Ok(kept(own, own_number));
             }
-            Ok(evict::<C>(table, capacity, ahead, key))
+            Ok(evict::<C, K>(table, capacity, ahead, key))
         }
     }
 }
 
 #[inline(always)]
-fn has_room(table: &KeyQueues, capacity: u32) -> bool
+fn has_room<K: KeyName>(table: &KeyQueues<K>, capacity: u32) -> bool
     ensures { result ≡ nat_lt (length (queues table.now 0) + length (queues table.now 1)) capacity }
 {
     let (first, second) = (table.len(0), table.len(1));
@@ -66,28 +65,28 @@ fn has_room(table: &KeyQueues, capacity: u32) -> bool
 
 // A miss of a full cache. Mostly the hand stops before it has to go back to the oldest key: that case is compiled apart.
 #[inline(always)]
-fn evict<C>(table: &mut KeyQueues, capacity: u32, ahead: u8, key: Key) -> Accessed
+fn evict<C, K: KeyName>(table: &mut KeyQueues<K>, capacity: u32, ahead: u8, key: K) -> Accessed
     requires low { ahead ≤ 1 }
     requires room { 1 ≤ spare table.old }
-    requires absent { queue_holding (item_of key) (queues table.old) ≡ None }
-    ensures { IsAccessed (sieve_eviction_plan capacity ahead (queues table.old)) (item_of key) ahead
+    requires absent { queue_holding (item_of (K.key key)) (queues table.old) ≡ None }
+    ensures { IsAccessed (sieve_eviction_plan capacity ahead (queues table.old)) (item_of (K.key key)) ahead
         (queues table.old) (queues table.new) result }
 {
     let early = table.run(ahead, 1 - ahead, 1, 1, capacity);
     if table.len(ahead) > 0 && early.times < capacity {
-        evict_late::<C>(table, capacity, ahead, key, early, true)
+        evict_late::<C, K>(table, capacity, ahead, key, early, true)
     } else {
-        evict_late::<C>(table, capacity, ahead, key, early, false)
+        evict_late::<C, K>(table, capacity, ahead, key, early, false)
     }
 }
 
 // The same, once the hand has passed on from where it was.
 #[inline(always)]
-fn evict_late<C>(
-    table: &mut KeyQueues,
+fn evict_late<C, K: KeyName>(
+    table: &mut KeyQueues<K>,
     capacity: u32,
     ahead: u8,
-    key: Key,
+    key: K,
     early: Run,
     stopped: bool,
 ) -> Accessed
@@ -95,9 +94,9 @@ fn evict_late<C>(
     requires stopped { stopped ≡ true
         → nat_lt (count_or 0 (oldest_of (queues table.old (queue_ahead ahead (queues table.old))))) 1 ≡ true }
     requires room { 1 ≤ spare table.old }
-    requires absent { queue_holding (item_of key) (queues table.old) ≡ None }
+    requires absent { queue_holding (item_of (K.key key)) (queues table.old) ≡ None }
     ensures { (s : Queues) → early ≡ pass_run capacity ahead s → IsRun early s (queues table.old)
-        → IsAccessed (sieve_eviction_plan capacity ahead s) (item_of key) ahead s (queues table.new) result }
+        → IsAccessed (sieve_eviction_plan capacity ahead s) (item_of (K.key key)) ahead s (queues table.new) result }
 {
     let mid = wrap(table, ahead);
     let late = pass(table, capacity, mid, stopped);
@@ -108,7 +107,7 @@ fn evict_late<C>(
 
 // The hand passes the keys ahead of it whose bits are set, none where it has stopped.
 #[inline(always)]
-fn pass(table: &mut KeyQueues, capacity: u32, ahead: u8, stopped: bool) -> Run
+fn pass<K: KeyName>(table: &mut KeyQueues<K>, capacity: u32, ahead: u8, stopped: bool) -> Run
     requires low { ahead ≤ 1 }
     requires stopped { stopped ≡ true → nat_lt (count_or 0 (oldest_of (queues table.old ahead))) 1 ≡ true }
     ensures run { result ≡ pass_run capacity ahead (queues table.old) }
@@ -121,7 +120,7 @@ fn pass(table: &mut KeyQueues, capacity: u32, ahead: u8, stopped: bool) -> Run
 
 // Where no key is ahead of the hand, it goes back to the oldest: the queue that is ahead of it then.
 #[inline(always)]
-fn wrap(table: &KeyQueues, ahead: u8) -> u8
+fn wrap<K: KeyName>(table: &KeyQueues<K>, ahead: u8) -> u8
     requires { ahead ≤ 1 }
     ensures is { result ≡ queue_ahead ahead (queues table.now) }
     ensures low { result ≤ 1 }
@@ -134,7 +133,7 @@ fn wrap(table: &KeyQueues, ahead: u8) -> u8
 }
 
 // The same, once the oldest of these keys has left.
-fn wrap_after(table: &KeyQueues, ahead: u8) -> u8
+fn wrap_after<K: KeyName>(table: &KeyQueues<K>, ahead: u8) -> u8
     requires { ahead ≤ 1 }
     ensures is { result ≡ queue_ahead ahead (after_leaving (leaving ahead None) (queues table.now)) }
     ensures low { result ≤ 1 }

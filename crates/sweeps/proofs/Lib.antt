@@ -10,3 +10,4 @@ pub mod Cut
 pub mod Halves
 pub mod Covers
 pub mod Each
+pub mod NumberedReports

@@ -3,7 +3,7 @@ use Rattle.std.specs.Int.{div_ceil}
 use Rattle.std.specs.List.{Any}
 use Rattle.std.specs.Option.{option_or}
 use Rattle.std.specs.Prelude.{◌≡◌, ℕ, ◌+◌, ◌*◌, All, Ok, Bool, true, false, if◌then◌else◌, cond, nat_le, Option, Some}
-use Rattle.std.specs.Prelude.{None, List, [], ◌∷◌, ◌++◌, length, map}
+use Rattle.std.specs.Prelude.{None, List, [], ◌∷◌, ◌++◌, count_by, length, map}
 use Rattle.engine_base.specs.Config.{config_fault}
 use Rattle.step_record.specs.declared.job.Job.{Job}
 use Rattle.step_record.specs.declared.job.Policy.{Policy}
@@ -12,6 +12,9 @@ use Rattle.engine_base.specs.declared.limits.TheConstants.{MAX_BATCH}
 use Rattle.policies.specs.declared.job_checks.TheConstants.{MAX_ACTORS}
 pub use Rattle.policies.specs.declared.actor_fault.ActorFault.{ActorFault}
 use Rattle.policies.specs.declared.actor_fault.ActorFault.TheVariants.{Actors}
+use Rattle.policies.specs.Design.{design_of}
+use Rattle.policies.specs.declared.design.Design.{Design}
+use Rattle.policies.specs.declared.design.Design.TheVariants.{Demand}
 use Rattle.policies.specs.FaultyJobs.{at_capacity, faulty_in}
 
 -- `Config::check` accepts the configuration of each job
@@ -36,6 +39,14 @@ sweep_fault jobs capacities = cond (nat_le (length jobs) MAX_ACTORS) (first_conf
 -- one of the jobs is of the policy
 abbrev pub AsksFor : Policy → List Job → Type 0
 AsksFor policy jobs = Any (λ job. job.policy ≡ policy) jobs
+
+-- how many of the jobs are of policies that keep each missed key
+abbrev pub is_demand : Design → Bool
+is_demand (Demand p) = true
+is_demand _ = false
+
+abbrev pub demand_jobs : List Job → ℕ
+demand_jobs jobs = count_by (λ job. is_demand (design_of job)) jobs
 
 -- ---- the gate of a sweep
 

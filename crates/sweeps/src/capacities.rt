@@ -33,7 +33,8 @@ pub fn sweep<R: Threads + Sync>(
 
 /// The reports of each job at each capacity: those of the first job in the order of the capacities, then those of the
 /// second, and so on. `rayon` runs them side by side where there are threads. What several reports need is computed
-/// once: the next uses for Belady's policy, and for Lru the reuses of the trace, or for many capacities its curve.
+/// once: the next uses for Belady's policy, for Lru the reuses of the trace, or for many capacities its curve, and for the
+/// policies that keep each missed key, where there are several reports of them, numbers in place of the keys.
 ///
 /// The gate is called before and after each batch of `MAX_BATCH` accesses of a report of another policy than Lru, on
 /// the thread that makes them, as worker 0, with the batch's number.
@@ -113,12 +114,13 @@ fn reports<R: Threads + Sync, G: Gate>(
         v.items ≡ map (λ j. report_on j trace.now) (jobs_over jobs.now capacities.now)) }
 {
     let rows = jobs_over(alloc, jobs, capacities)?;
-    let prepared = PreparedTrace::of(alloc, trace, jobs, capacities.len())?;
+    let rows = rows.as_slice();
+    let prepared = PreparedTrace::of(alloc, trace, rows, capacities.len())?;
     let prepared = &prepared;
     made_by_each(
         rt,
         alloc,
-        rows.as_slice(),
+        rows,
         |job: &Job| -> Result<Report, AllocError>
             requires { config_fault job.now.config ≡ Ok tt }
             ensures { IfOk result (λ r. r ≡ report_on job.now prepared.entry.now.trace.now) }

@@ -20,6 +20,7 @@ mod current_interval;
 mod interval_rows;
 mod job_run;
 mod job_runs;
+mod numbered_report;
 mod prepared_trace;
 mod runs;
 mod side_by_side;

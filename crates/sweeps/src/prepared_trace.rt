@@ -4,55 +4,69 @@ ghost use Rattle.std.proofs.Props.{props};
 ghost use Rattle.engine_base.specs.Config.{config_fault};
 ghost use Rattle.policies.specs.Reports.{report_on};
 ghost use Rattle.stack_distances.specs.Curve.{curve_of};
-ghost use Rattle.sweeps.specs.Sweep.{AsksFor};
+ghost use Rattle.sweeps.specs.Sweep.{AreAccepted, AsksFor, demand_jobs};
+ghost use Rattle.trace_index.specs.TraceNumbers.{numbers_of};
 
+use crate::numbered_report::report_by_numbers;
 use clairvoyant::NextUse;
-use policies::{Report, report_over};
+use policies::{Design, Report, design_of, report_over};
 use stack_distances::{Curve, Reuses};
 use std::alloc::{AllocError, Global};
 use step_record::{Gate, Job, Policy, Trace};
+use trace_index::TraceNumbers;
 
 // From this number of capacities on, the reports of Lru are read off the curve of the trace. Finding the curve takes
 // the processor as long as finding the reuses and passing over them at some seven capacities; but passes go side by
 // side, so on four threads they are done first up to some 26.
 const CURVE_FROM: usize = 16;
 
-/// A trace, with what several reports need, computed once: the next uses of its keys, and for Lru the reuses or the
-/// curve.
+// From this number of reports on, those of policies that keep each missed key are made over the numbers of the trace's
+// keys. Finding the numbers takes 20 to 40 nanoseconds an access, and each report then takes 10 to 20 less.
+const NUMBERS_FROM: usize = 4;
+
+/// A trace, with what several reports need, computed once: the next uses of its keys, for Lru the reuses or the curve,
+/// and for the policies that keep each missed key the keys' numbers.
 #[derive(Drop)]
 pub struct PreparedTrace<'a> {
     pub trace: &'a Trace,
     uses: Option<NextUse>,
     reuses: Option<Reuses<'a>>,
     curve: Option<Curve>,
+    numbers: Option<TraceNumbers>,
     ghost known: { IfSome uses (λ u. u ≡ trace.now) } by { Prim.hlevel props },
     ghost noted: { IfSome reuses (λ r. r ≡ trace.now) } by { Prim.hlevel props },
     ghost found: { IfSome curve (λ c. c ≡ curve_of trace.now) } by { Prim.hlevel props },
+    ghost numbered: { IfSome numbers (λ n. n ≡ numbers_of trace.now) } by { Prim.hlevel props },
 }
 
 impl<'a> PreparedTrace<'a> {
-    /// The trace, with what the jobs need at so many capacities.
+    /// The trace, with what the jobs need, which are some at each of so many capacities. It requires configurations
+    /// that `Config::check` accepts.
     pub fn of(
         alloc: Global,
         trace: &'a Trace,
         jobs: &[Job],
         capacities: usize,
     ) -> Result<PreparedTrace<'a>, AllocError>
+        requires { AreAccepted jobs.now }
         ensures trace { IfOk result (λ p. p.trace.now ≡ trace.now) }
         ensures uses { IfOk result (λ p. IsSome p.uses ↔ AsksFor Policy.Clairvoyant jobs.now) }
         ensures reuses { IfOk result (λ p. IsSome p.reuses
             ↔ (capacities < CURVE_FROM × AsksFor Policy.Lru jobs.now)) }
         ensures curve { IfOk result (λ p. IsSome p.curve
             ↔ (CURVE_FROM ≤ capacities × AsksFor Policy.Lru jobs.now)) }
+        ensures numbers { IfOk result (λ p. IsSome p.numbers ↔ NUMBERS_FROM ≤ demand_jobs jobs.now) }
     {
         let uses = next_uses(alloc, trace, jobs)?;
         let reuses = reuses(alloc, trace, jobs, capacities)?;
         let curve = curve(alloc, trace, jobs, capacities)?;
+        let numbers = numbers(alloc, trace, jobs)?;
         Ok(PreparedTrace {
             trace,
             uses,
             reuses,
             curve,
+            numbers,
         })
     }
 
@@ -69,6 +83,11 @@ impl<'a> PreparedTrace<'a> {
             }
             if let Some(reuses) = &self.reuses {
                 return Ok(Report::of(job, reuses.stats(alloc, job.config.capacity)?));
+            }
+        }
+        if let Some(numbers) = &self.numbers {
+            if let Design::Demand(policy) = design_of(job) {
+                return report_by_numbers(alloc, numbers, policy, job, gate);
             }
         }
         report_over(alloc, self.trace, self.uses.as_ref(), job, gate)
@@ -121,6 +140,33 @@ fn curve(
         return Ok(Some(curve));
     }
     Ok(None)
+}
+
+// The numbers of the trace's keys, where there are enough jobs whose reports are to be made over them.
+fn numbers(alloc: Global, trace: &Trace, jobs: &[Job]) -> Result<Option<TraceNumbers>, AllocError>
+    requires { AreAccepted jobs.now }
+    ensures numbers { IfOk result (λ numbers. IfSome numbers (λ n. n ≡ numbers_of trace.now)) }
+    ensures enough { IfOk result (λ numbers. IsSome numbers ↔ NUMBERS_FROM ≤ demand_jobs jobs.now) }
+{
+    if demand_jobs(jobs) < NUMBERS_FROM {
+        return Ok(None);
+    }
+    let numbers = TraceNumbers::of(alloc, trace)?;
+    Ok(Some(numbers))
+}
+
+// How many of the jobs are of policies that keep each missed key.
+fn demand_jobs(jobs: &[Job]) -> usize
+    requires { AreAccepted jobs.now }
+    ensures { result ≡ demand_jobs jobs.now }
+{
+    let mut count = 0;
+    for job in jobs {
+        if let Design::Demand(_) = design_of(job) {
+            count += 1;
+        }
+    }
+    count
 }
 
 // Whether one of the jobs is of the policy.

@@ -122,13 +122,13 @@ fn sweeps_of_several_policies(rt: HostRuntime) -> Result<(), Fail> {
 }
 
 // The gate is called for as many batches as were announced, those of each report in their turn: for none of Lru, which
-// makes no access one by one.
+// makes no access one by one, and for those of Sieve, whose accesses are to numbers.
 #[test]
 fn a_sweep_shows_its_batches(rt: HostRuntime) -> Result<(), Fail> {
     let trace = Trace::new(vec![in rt.alloc(); 1; 196_609]?);
     let jobs = [
         job(Policy::Lru, 7),
-        job(Policy::SegmentedLru, 7),
+        job(Policy::Sieve, 7),
         job(Policy::Clairvoyant, 7),
     ];
     let gate = AllAlike::new(rt.alloc(), 4)?;

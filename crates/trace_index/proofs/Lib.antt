@@ -1,3 +1,4 @@
 pub mod Uses
 pub mod Passes
 pub mod KeyCells
+pub mod Numbers

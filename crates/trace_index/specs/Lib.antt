@@ -3,3 +3,4 @@ pub mod KeyCells
 pub mod KeyNumbers
 pub mod KeyPlaces
 pub mod PackedKeys
+pub mod TraceNumbers

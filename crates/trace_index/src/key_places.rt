@@ -78,6 +78,20 @@ impl KeyPlaces {
         None
     }
 
+    /// The number of the place that a key has: one more than it, or 0 for none.
+    #[inline(always)]
+    pub(crate) fn number(&self, key: Key) -> u32
+        ensures { result ≡ number_of_key self.now key }
+    {
+        if key < self.low.len() as u64 {
+            let number = self.low[key as usize];
+            if number != 0 {
+                return number;
+            }
+        }
+        self.high.number(key)
+    }
+
     /// Puts a key's place, and returns the one that it had. The only error is out of memory.
     #[inline(always)]
     pub fn put(&mut self, key: Key, place: u32) -> Result<Option<u32>, AllocError>

@@ -10,10 +10,9 @@ ghost use Rattle.policy_page.specs.MissedKey.{IsOutside};
 ghost use Rattle.two_q.specs.Plan.{A1IN, A1OUT, AM, joins, two_q_miss, two_q_plan};
 ghost use Rattle.two_q.specs.Examples.{WorkedExamples};
 
-use engine_base::Key;
 use policy_page::accesses::{LeftKeys, hit, kept, miss_without_runs};
 use policy_page::missed_key::{enter_apart, enter_for_oldest, enter_for_remembered};
-use queue_moves::{Accessed, KeyMove, KeyQueues};
+use queue_moves::{Accessed, KeyMove, KeyName, KeyQueues};
 use queue_table::Found;
 use std::alloc::AllocError;
 
@@ -43,51 +42,52 @@ pub struct TwoQSizes {
 ///
 /// `C` selects an instance (docs/ARCHITECTURE.md).
 #[inline(always)]
-pub fn step<C>(
-    table: &mut KeyQueues,
+pub fn step<C, K: KeyName>(
+    table: &mut KeyQueues<K>,
     sizes: TwoQSizes,
     capacity: u32,
     own_number: u32,
-    key: Key,
+    key: K,
 ) -> Result<Accessed, AllocError>
-    ensures accessed { IfOk result (λ a. IsAccessed (two_q_plan sizes capacity key own_number (queues table.old))
-        (item_of key) own_number (queues table.old) (queues table.new) a) }
+    ensures accessed { IfOk result (λ a. IsAccessed (two_q_plan sizes capacity (K.key key) own_number
+        (queues table.old)) (item_of (K.key key)) own_number (queues table.old) (queues table.new) a) }
     // A hit asks for no memory.
-    ensures memory { OnErr result ((two_q_plan sizes capacity key own_number (queues table.old)).hits ≡ false) }
+    ensures memory { OnErr result
+        ((two_q_plan sizes capacity (K.key key) own_number (queues table.old)).hits ≡ false) }
     ensures err { OnErr result (queues table.new ≡ queues table.old) }
 {
     let Some(found) = table.find(key) else {
         // Room is made before anything moves.
         table.reserve()?;
-        return Ok(miss::<C>(table, sizes, capacity, own_number, key, None, false));
+        return Ok(miss::<C, K>(table, sizes, capacity, own_number, key, None, false));
     };
     if found.queue == AM {
         Ok(hit(table.send(key, found, AM, 0), own_number))
     } else if found.queue == A1IN {
-        Ok(hit(KeyMove::unmoved(key), own_number))
+        Ok(hit(KeyMove::unmoved(key.key()), own_number))
     } else {
         table.tabled();
         // To 2Q a key of a queue that it does not use is new.
         let remembered = found.queue == A1OUT;
         let found = Some(found);
-        Ok(miss::<(C, Searched)>(table, sizes, capacity, own_number, key, found, remembered))
+        Ok(miss::<(C, Searched), K>(table, sizes, capacity, own_number, key, found, remembered))
     }
 }
 
 // A miss. In a full cache a key leaves, and a1out may forget one.
 #[inline(always)]
-fn miss<C>(
-    table: &mut KeyQueues,
+fn miss<C, K: KeyName>(
+    table: &mut KeyQueues<K>,
     sizes: TwoQSizes,
     capacity: u32,
     own_number: u32,
-    key: Key,
+    key: K,
     found: Option<Found>,
     remembered: bool,
 ) -> Accessed
-    requires outside { IsOutside remembered found (item_of key) A1IN AM A1OUT table.old }
-    ensures { IsAccessed (two_q_miss sizes capacity remembered own_number (queues table.old)) (item_of key) own_number
-        (queues table.old) (queues table.new) result }
+    requires outside { IsOutside remembered found (item_of (K.key key)) A1IN AM A1OUT table.old }
+    ensures { IsAccessed (two_q_miss sizes capacity remembered own_number (queues table.old))
+        (item_of (K.key key)) own_number (queues table.old) (queues table.new) result }
 {
     let queue = queue_of(remembered);
     let (a1in, am) = (table.len(A1IN), table.len(AM));
@@ -96,11 +96,11 @@ fn miss<C>(
         return kept(own, own_number);
     }
     if !a1in_gives(a1in, am, sizes.kin) {
-        let (first, own) = enter_for_oldest::<C>(table, AM, key, found, queue);
+        let (first, own) = enter_for_oldest::<C, K>(table, AM, key, found, queue);
         return miss_without_runs(LeftKeys::one(first), own, own_number, own_number);
     }
     let size = sizes.kout;
-    let (left, own) = enter_for_remembered::<(C, Remembered)>(
+    let (left, own) = enter_for_remembered::<(C, Remembered), K>(
         table, A1IN, A1OUT, size, key, found, remembered, queue,
     );
     miss_without_runs(left, own, own_number, own_number)

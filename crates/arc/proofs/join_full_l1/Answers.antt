@@ -13,7 +13,7 @@ renew_oldest-requires-clause-absent g c = search (arith, absent-left, leaver-low
 pub returns-then-len-capacity : goal.returns-then-len-capacity
 returns-then-len-capacity g c =
     rw (lt-ltb (length (queues c.args.table.now T1)) c.args.capacity (omega (arith, c.len.ensures, c.if-len-capacity.true)))
-    (c.miss_without_runs.ensures record { first = replaced false c.args.target (queues c.args.table.now); second = leaving B1 None } (goes T1 0) (item_of c.args.key) _ _ _
+    (c.miss_without_runs.ensures record { first = replaced false c.args.target (queues c.args.table.now); second = leaving B1 None } (goes T1 0) (item_of (g.K.KeyName.key c.args.key)) _ _ _
     record {
       between = queues c.replace-first.new.table;
       first = c.replace-first.ensures.left;
@@ -26,5 +26,5 @@ pub returns : goal.returns
 returns g c =
     let out = c.renew_oldest-2.ensures.out in
     rw (le-ltb (length (queues c.args.table.now T1)) c.args.capacity (omega (arith, c.len.ensures, c.if-len-capacity.false)))
-    (c.miss_without_runs-2.ensures record { first = leaving T1 None; second = None } (goes T1 0) (item_of c.args.key) _ _ _
+    (c.miss_without_runs-2.ensures record { first = leaving T1 None; second = None } (goes T1 0) (item_of (g.K.KeyName.key c.args.key)) _ _ _
     (c.one.ensures (leaving T1 None) _ _ c.renew_oldest-2.ensures.left out) c.renew_oldest-2.ensures.own)

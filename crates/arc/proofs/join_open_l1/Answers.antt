@@ -20,13 +20,13 @@ pub returns-then-all-room : goal.returns-then-all-room
 returns-then-all-room g c =
     let s : Queues = queues c.args.table.now in
     rw (lt-ltb (total s) c.args.capacity (omega (arith, c.requires.all, c.if-all-room.true)))
-    (c.miss_without_runs.ensures no_leavers (goes T1 0) (item_of c.args.key) s s _ (record { between = s; first = nothing-left s; second = nothing-left s; few = omega arith }) c.join_apart-own.ensures.own)
+    (c.miss_without_runs.ensures no_leavers (goes T1 0) (item_of (g.K.KeyName.key c.args.key)) s s _ (record { between = s; first = nothing-left s; second = nothing-left s; few = omega arith }) c.join_apart-own.ensures.own)
 
 pub returns-then-all-room-2 : goal.returns-then-all-room-2
 returns-then-all-room-2 g c =
     let s : Queues = queues c.args.table.now in
     rw (le-ltb (total s) c.args.capacity (omega (arith, c.requires.all, c.if-all-room.false)), eq-eqb (total s) (2 * c.args.capacity) (omega (arith, c.requires.all, c.if-all-room-2.true)))
-    (c.miss_without_runs-then-all-room-2.ensures record { first = replaced false c.args.target s; second = leaving B2 None } (goes T1 0) (item_of c.args.key) _ _ _
+    (c.miss_without_runs-then-all-room-2.ensures record { first = replaced false c.args.target s; second = leaving B2 None } (goes T1 0) (item_of (g.K.KeyName.key c.args.key)) _ _ _
     record {
       between = queues c.replace-first.new.table;
       first = c.replace-first.ensures.left;
@@ -40,5 +40,5 @@ returns g c =
     let s : Queues = queues c.args.table.now in
     let stays = c.replace-first.ensures.stays in
     rw (le-ltb (total s) c.args.capacity (omega (arith, c.requires.all, c.if-all-room.false)), ne_eqb (total s) (2 * c.args.capacity) (λ e. c.if-all-room-2.false (c.requires.all ∙ e)))
-    (c.miss_without_runs-2.ensures record { first = replaced false c.args.target s; second = None } (goes T1 0) (item_of c.args.key) _ _ _
+    (c.miss_without_runs-2.ensures record { first = replaced false c.args.target s; second = None } (goes T1 0) (item_of (g.K.KeyName.key c.args.key)) _ _ _
     (c.one.ensures (replaced false c.args.target s) _ _ c.replace-first.ensures.left (omega (arith, stays))) c.join-own.ensures.own)

@@ -14,5 +14,5 @@ join-requires-clause-absent g c = still-none _ _ _ c.in_ok-reserve.ensures.queue
 
 pub returns-clause-accessed : goal.returns-clause-accessed
 returns-clause-accessed g c =
-    subst (λ s. IsAccessed (new_key_plan c.args.capacity c.args.target s) (item_of c.args.key) c.args.target s (queues c.join.new.table) c.join.result)
+    subst (λ s. IsAccessed (new_key_plan c.args.capacity c.args.target s) (item_of (g.K.KeyName.key c.args.key)) c.args.target s (queues c.join.new.table) c.join.result)
     c.in_ok-reserve.ensures.queues c.join.ensures

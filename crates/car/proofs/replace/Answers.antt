@@ -8,7 +8,7 @@ use Rattle.car.proofs.Plan.{is-replaced, off-both}
 use Rattle.car.proofs.replace.Goals as goal
 
 pub returns-clause-made : goal.returns-clause-made
-returns-clause-made c =
+returns-clause-made g c =
     let s : Queues = queues c.args.table.now in
     let a : Queues = queues c.run-early.new.self in
     let b : Queues = queues c.run-late.new.self in
@@ -18,7 +18,7 @@ returns-clause-made c =
     early c.run-early.ensures.made c.giver-queue.ensures.queue late c.run-late.ensures.made c.send_oldest-first.ensures.left c.send_oldest-first.ensures.stays
 
 pub returns-clause-others : goal.returns-clause-others
-returns-clause-others c = λ j e held off1 off2.
+returns-clause-others g c = λ j e held off1 off2.
     let q = c.giver-queue.result in
     let s : Queues = queues c.args.table.now in
     let a : Queues = queues c.run-early.new.self in

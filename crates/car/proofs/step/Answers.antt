@@ -18,13 +18,13 @@ new_key-requires-clause-absent g c = still-none _ _ _ c.in_ok-reserve.ensures.qu
 
 pub returns-in_default-clause-accessed : goal.returns-in_default-clause-accessed
 returns-in_default-clause-accessed g c =
-    new-accessed (plan_at c.args.capacity c.args.own_number) (item_of c.args.key) c.args.own_number _ _ _ _ c.in_ok-reserve.ensures.queues c.in_default.ensures.absent c.new_key.ensures
+    new-accessed (plan_at c.args.capacity c.args.own_number) (item_of (g.K.KeyName.key c.args.key)) c.args.own_number _ _ _ _ c.in_ok-reserve.ensures.queues c.in_default.ensures.absent c.new_key.ensures
 
 pub returns-then-is_resident-clause-accessed : goal.returns-then-is_resident-clause-accessed
 returns-then-is_resident-clause-accessed g c =
     let s = queues c.args.table.now in
-    found-accessed (λ at. plan_at c.args.capacity c.args.own_number at s) (item_of c.args.key) c.args.own_number s _ _ _ c.in-Some.ensures.stands
-    (rw (sym c.is_resident.ensures ∙ c.if-is_resident.true) (c.hit.ensures (counts 1) (item_of c.args.key) s _ c.recount.ensures.own))
+    found-accessed (λ at. plan_at c.args.capacity c.args.own_number at s) (item_of (g.K.KeyName.key c.args.key)) c.args.own_number s _ _ _ c.in-Some.ensures.stands
+    (rw (sym c.is_resident.ensures ∙ c.if-is_resident.true) (c.hit.ensures (counts 1) (item_of (g.K.KeyName.key c.args.key)) s _ c.recount.ensures.own))
 
 pub recalled-requires-clause-few : goal.recalled-requires-clause-few
 recalled-requires-clause-few g c =
@@ -32,13 +32,13 @@ recalled-requires-clause-few g c =
     omega (arith, c.requires.few, c.requires.state.fits, length-counted (s T1))
 
 pub recalled-requires-clause-t1 : goal.recalled-requires-clause-t1
-recalled-requires-clause-t1 g c = (off-ghost c.args.key c.in-Some.found.queue c.in-Some.found.count _ c.tabled.ensures c.in-Some.ensures.stands (sym c.is_resident.ensures ∙ c.if-is_resident.false)).0
+recalled-requires-clause-t1 g c = (off-ghost (g.K.KeyName.key c.args.key) c.in-Some.found.queue c.in-Some.found.count _ c.tabled.ensures c.in-Some.ensures.stands (sym c.is_resident.ensures ∙ c.if-is_resident.false)).0
 
 pub recalled-requires-clause-t2 : goal.recalled-requires-clause-t2
-recalled-requires-clause-t2 g c = (off-ghost c.args.key c.in-Some.found.queue c.in-Some.found.count _ c.tabled.ensures c.in-Some.ensures.stands (sym c.is_resident.ensures ∙ c.if-is_resident.false)).1
+recalled-requires-clause-t2 g c = (off-ghost (g.K.KeyName.key c.args.key) c.in-Some.found.queue c.in-Some.found.count _ c.tabled.ensures c.in-Some.ensures.stands (sym c.is_resident.ensures ∙ c.if-is_resident.false)).1
 
 pub returns-clause-accessed : goal.returns-clause-accessed
 returns-clause-accessed g c =
     let s = queues c.args.table.now in
-    found-accessed (λ at. plan_at c.args.capacity c.args.own_number at s) (item_of c.args.key) c.args.own_number s _ _ _ c.in-Some.ensures.stands
+    found-accessed (λ at. plan_at c.args.capacity c.args.own_number at s) (item_of (g.K.KeyName.key c.args.key)) c.args.own_number s _ _ _ c.in-Some.ensures.stands
     (rw (sym c.is_resident.ensures ∙ c.if-is_resident.false) c.recalled.ensures)

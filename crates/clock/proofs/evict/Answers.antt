@@ -7,9 +7,9 @@ use Rattle.policy_page.proofs.Leavers.{absent-run}
 use Rattle.clock.proofs.evict.Goals as goal
 
 pub renew_oldest-requires-clause-absent : goal.renew_oldest-requires-clause-absent
-renew_oldest-requires-clause-absent c = search (arith, absent-run)
+renew_oldest-requires-clause-absent g c = search (arith, absent-run)
 
 pub returns : goal.returns
-returns c =
+returns g c =
     c.evicted.ensures (clock_eviction_plan c.args.capacity c.args.own_number (queues c.args.table.now)).early no_run (leaving 0 None) (goes 0 1) _ _ _ _ _ _ c.run-early.ensures.run refl
     c.run-early.ensures.made (no-run (queues c.run-early.new.self)) c.renew_oldest.ensures.left c.renew_oldest.ensures.out c.renew_oldest.ensures.own

@@ -14,7 +14,7 @@ overflow_add-len g c = omega (arith, c.requires.few, c.requires.state.residents.
 
 pub returns-then-len-capacity : goal.returns-then-len-capacity
 returns-then-len-capacity g c =
-    let i = item_of c.args.key in
+    let i = item_of (g.K.KeyName.key c.args.key) in
     let s : Queues = queues c.args.table.now in
     rw (lt-ltb (length (s SMALL) + length (s MAIN)) c.args.capacity (omega (arith, c.len.ensures, c.len-2.ensures, c.if-len-capacity.true)), sym c.queue_of.ensures)
     (c.kept.ensures (goes c.queue_of.result 0) i s _ c.enter_apart-own.ensures)
@@ -28,7 +28,7 @@ evict-requires-clause-few g c =
 pub evict-requires-clause-outside : goal.evict-requires-clause-outside
 evict-requires-clause-outside g c =
     let early = c.run-early.ensures in
-    outside-after-run c.args.remembered c.args.found (item_of c.args.key) c.run-early.result SMALL MAIN GHOST _ _ (ap (λ (r : Run). r.from) early.run) early.made early.spare early.others c.requires.outside
+    outside-after-run c.args.remembered c.args.found (item_of (g.K.KeyName.key c.args.key)) c.run-early.result SMALL MAIN GHOST _ _ (ap (λ (r : Run). r.from) early.run) early.made early.spare early.others c.requires.outside
 
 pub returns : goal.returns
 returns g c = grind (arith, nat_tests, le-ltb)

@@ -13,16 +13,16 @@ pub returns-then-is_resident-clause-accessed : goal.returns-then-is_resident-cla
 returns-then-is_resident-clause-accessed g c =
     let s : Queues = queues c.args.table.now in
     let u : Queues = queues c.recount-own.new.self in
-    let own = subst (λ n. IsOwn (counts n) (item_of c.args.key) s u c.recount-own.result) c.one_hit_more.ensures c.recount-own.ensures.own in
-    found-accessed (λ at. plan_at c.args.part c.args.capacity c.args.own_number at s) (item_of c.args.key) c.args.own_number s u _ _ c.in-Some.ensures.stands
-    (rw (sym c.is_resident.ensures ∙ c.if-is_resident.true) (c.hit.ensures (counts (hit_count c.in-Some.found.count)) (item_of c.args.key) s u own))
+    let own = subst (λ n. IsOwn (counts n) (item_of (g.K.KeyName.key c.args.key)) s u c.recount-own.result) c.one_hit_more.ensures c.recount-own.ensures.own in
+    found-accessed (λ at. plan_at c.args.part c.args.capacity c.args.own_number at s) (item_of (g.K.KeyName.key c.args.key)) c.args.own_number s u _ _ c.in-Some.ensures.stands
+    (rw (sym c.is_resident.ensures ∙ c.if-is_resident.true) (c.hit.ensures (counts (hit_count c.in-Some.found.count)) (item_of (g.K.KeyName.key c.args.key)) s u own))
 
 pub miss-requires-clause-state : goal.miss-requires-clause-state
 miss-requires-clause-state g c = subst (λ s. IsS3Fifo c.args.part c.args.capacity (s3_fifo_of s)) (sym c.in_ok-reserve.ensures.queues) c.requires.state
 
 pub miss-requires-clause-outside : goal.miss-requires-clause-outside
-miss-requires-clause-outside g c = new-outside false (item_of c.args.key) SMALL MAIN GHOST _ _ (omega arith) (omega arith) (omega arith) c.in_ok-reserve.ensures.queues c.in_default.ensures.absent c.in_ok-reserve.ensures.room
+miss-requires-clause-outside g c = new-outside false (item_of (g.K.KeyName.key c.args.key)) SMALL MAIN GHOST _ _ (omega arith) (omega arith) (omega arith) c.in_ok-reserve.ensures.queues c.in_default.ensures.absent c.in_ok-reserve.ensures.room
 
 pub returns-in_default-clause-accessed : goal.returns-in_default-clause-accessed
 returns-in_default-clause-accessed g c =
-    new-accessed (plan_at c.args.part c.args.capacity c.args.own_number) (item_of c.args.key) c.args.own_number _ _ _ _ c.in_ok-reserve.ensures.queues c.in_default.ensures.absent c.miss.ensures
+    new-accessed (plan_at c.args.part c.args.capacity c.args.own_number) (item_of (g.K.KeyName.key c.args.key)) c.args.own_number _ _ _ _ c.in_ok-reserve.ensures.queues c.in_default.ensures.absent c.miss.ensures

@@ -19,7 +19,7 @@ returns g c = λ s is_early ran.
     let new = c.wrap_after-new.result in
     let is = eviction c.args.capacity c.args.ahead s ran_to full (after_leaving (leaving mid None) full) c.args.early c.pass-late.result mid new c.from-2.result
     ran.after is_early c.wrap-mid.ensures.is c.pass-late.ensures.made.after c.pass-late.ensures.run refl c.wrap_after-new.ensures.is c.from-2.ensures in
-    let accessed = c.evicted.ensures (pass_run c.args.capacity c.args.ahead s) (pass_run c.args.capacity mid ran_to) (leaving mid None) (goes new 0) (item_of c.args.key) s _ _ _ end is_early c.pass-late.ensures.run
+    let accessed = c.evicted.ensures (pass_run c.args.capacity c.args.ahead s) (pass_run c.args.capacity mid ran_to) (leaving mid None) (goes new 0) (item_of (g.K.KeyName.key c.args.key)) s _ _ _ end is_early c.pass-late.ensures.run
     ran c.pass-late.ensures.made c.renew_oldest.ensures.left c.renew_oldest.ensures.out c.renew_oldest.ensures.own in
-    subst (λ x. IsAccessed (sieve_eviction_plan c.args.capacity c.args.ahead s) (item_of c.args.key) x s end c.evicted.result) c.from.ensures
-    (subst (λ p. IsAccessed p (item_of c.args.key) c.from.result s end c.evicted.result) is accessed)
+    subst (λ x. IsAccessed (sieve_eviction_plan c.args.capacity c.args.ahead s) (item_of (g.K.KeyName.key c.args.key)) x s end c.evicted.result) c.from.ensures
+    (subst (λ p. IsAccessed p (item_of (g.K.KeyName.key c.args.key)) c.from.result s end c.evicted.result) is accessed)

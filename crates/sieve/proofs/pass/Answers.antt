@@ -5,4 +5,4 @@ use Rattle.sieve.proofs.pass.Goals.{then-stopped, else-stopped}
 use Rattle.sieve.proofs.pass.Goals as goal
 
 pub returns-clause-run : goal.returns-clause-run
-returns-clause-run c = grind (arith, nat_tests, no-due)
+returns-clause-run g c = grind (arith, nat_tests, no-due)

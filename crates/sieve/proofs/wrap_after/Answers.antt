@@ -7,10 +7,10 @@ use Rattle.sieve.proofs.Plan.{left-empty}
 use Rattle.sieve.proofs.wrap_after.Goals as goal
 
 pub returns-then-len-le1-clause-is : goal.returns-then-len-le1-clause-is
-returns-then-len-le1-clause-is c = grind (arith, common_steps, left-empty, lt-ltb)
+returns-then-len-le1-clause-is g c = grind (arith, common_steps, left-empty, lt-ltb)
 
 pub returns-else-len-le1-clause-is : goal.returns-else-len-le1-clause-is
-returns-else-len-le1-clause-is c =
+returns-else-len-le1-clause-is g c =
     let ahead : Bool → ℕ = λ b. if b then passed_queue c.args.ahead else c.args.ahead in
     let many = c.if-len-le1.false in
     sym (ap ahead (left-empty c.args.ahead (queues c.args.table.now) c.tabled.ensures ∙ le-ltb _ 2 (omega (arith, c.len.ensures, many))))

@@ -18,7 +18,7 @@ pub enter_for_oldest-requires-clause-off : goal.enter_for_oldest-requires-clause
 enter_for_oldest-requires-clause-off g c =
     let s : Queues = queues c.args.table.now in
     let new = (or_parts c.args.remembered (nat_lt (length (s c.args.into)) c.args.size) (sym c.ghost_keeps-keeps.ensures ∙ c.if-keeps.false)).0 in
-    grind (arith, nat_tests, none-left (item_of c.args.key) c.args.from (Some (c.args.into, 0)) s c.args.into c.requires.off (c.requires.new new))
+    grind (arith, nat_tests, none-left (item_of (g.K.KeyName.key c.args.key)) c.args.from (Some (c.args.into, 0)) s c.args.into c.requires.off (c.requires.new new))
 
 pub returns-then-keeps : goal.returns-then-keeps
 returns-then-keeps g c =

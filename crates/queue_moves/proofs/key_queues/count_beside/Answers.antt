@@ -4,11 +4,11 @@ use Rattle.queue_moves.proofs.Beside.{contained-in, one-count}
 use Rattle.queue_moves.proofs.key_queues.count_beside.Goals as goal
 
 pub returns-in-Some : goal.returns-in-Some
-returns-in-Some c q n w h =
+returns-in-Some g c q n w h =
     let f = c.in-Some.ensures in
     one-count c.args.item c.in-Some.found.count n c.in-Some.found.queue q (queues c.args.table.now) f.distinct f.low w f.stands h
 
 pub returns-in-None : goal.returns-in-None
-returns-in-None c q n w h =
+returns-in-None g c q n w h =
     let f = c.in-None.ensures in
     absurd (cc (sym f.missing ∙ (contained-in c.args.item n q (queues c.args.table.now) f.distinct w h).0))

@@ -7,7 +7,7 @@ use Rattle.queue_moves.proofs.Beside.{one-more}
 use Rattle.queue_moves.proofs.key_queues.push_entries.Goals as goal
 
 pub loop-item-preserved : goal.loop-item-preserved
-loop-item-preserved c q w is =
+loop-item-preserved g c q w is =
     let l : List Entry = queues c.args.table.now q in
     let i : ℕ = c.loop-item.item-index in
     let item : Item = slice_index_or c.args.items.now i (item_of 0) in

@@ -1,27 +1,26 @@
 use Rattle.std.proofs.lemmas.Bool.Decides.{nat_tests}
-use Rattle.std.proofs.Common.{◌∙◌, ◌+◌, ◌-◌, refl, ap, arith}
-use Rattle.queue_table.specs.Entries.{Entry, entry}
-use Rattle.queue_table.specs.Ring.{Slot, FIRST, entries, slot_item, count}
+use Rattle.std.proofs.Common.{map, ◌∙◌, ◌+◌, ◌-◌, refl, ap, arith}
+use Rattle.queue_table.specs.Entries.{Entry}
+use Rattle.queue_table.specs.Ring.{FIRST, entries, slot_item, count}
 use Rattle.queue_table.specs.QueueTable.{from_first}
-use Rattle.queue_table.proofs.SlotWrites.{no_slot, field_at}
 use Rattle.queue_table.proofs.Holding.{count-from_first, from_first-next}
 use Rattle.queue_table.proofs.growth.fill.Goals as goal
 
 pub loop-at-init : goal.loop-at-init
-loop-at-init c = record { indexed = c.requires.empty (slot_item (entries c.args.slots.now)); bits = refl }
+loop-at-init g c = record { indexed = c.requires.empty (slot_item (entries (map g.S.RingSlot.shown c.args.slots.now))); bits = refl }
 
 pub insert-requires-clause-absent : goal.insert-requires-clause-absent
-insert-requires-clause-absent c =
+insert-requires-clause-absent g c =
     grind (arith, nat_tests, count-from_first (c.loop-at.at - FIRST) c.loop-at.at (omega arith))
 
 pub loop-at-preserved : goal.loop-at-preserved
-loop-at-preserved c =
+loop-at-preserved g c =
     let v = c.loop-at.invariant in
     let e = c.insert.ensures in
     record {
-      indexed = e.indexed (slot_item (entries c.args.slots.now)) (slot_item (entries c.args.slots.now)) (λ k. count k (from_first (c.loop-at.at - FIRST))) (λ k. count k (from_first (c.loop-at.at + 1 - FIRST))) v.indexed record {
+      indexed = e.indexed (slot_item (entries (map g.S.RingSlot.shown c.args.slots.now))) (slot_item (entries (map g.S.RingSlot.shown c.args.slots.now))) (λ k. count k (from_first (c.loop-at.at - FIRST))) (λ k. count k (from_first (c.loop-at.at + 1 - FIRST))) v.indexed record {
         absent = count-from_first (c.loop-at.at - FIRST) c.loop-at.at (omega arith);
-        its = ap (λ (e : Entry). e.item) (field_at (λ (s : Slot). entry s.item s.count) c.args.slots.now c.loop-at.at no_slot);
+        its = ap (λ (e : Entry). e.item) c.slot_at.ensures.entry;
         others = λ j _. refl;
         counted = from_first-next c.loop-at.at (c.loop-at.at - FIRST) (c.loop-at.at + 1 - FIRST) (omega arith) refl refl;
       };

@@ -1,11 +1,10 @@
-use Rattle.std.proofs.Common.{arith}
-use Rattle.queue_table.specs.Ring.{Slot, order_of}
-use Rattle.queue_table.proofs.SlotWrites.{no_slot, field_at}
+use Rattle.std.proofs.Common.{map, arith}
+use Rattle.queue_table.specs.Ring.{order_of}
 use Rattle.queue_table.proofs.Ends.{newer-in}
 use Rattle.queue_table.proofs.links.next_slot.Goals as goal
 
-pub bounds-slots-newer : goal.bounds-slots-newer
-bounds-slots-newer c =
-    let f = field_at (λ (s : Slot). s.newer) c.args.slots.now c.args.at no_slot in
-    let n = newer-in c.args.slots.now (order_of c.args.slots.now) c.requires.ring c.args.at c.requires.at in
-    omega (arith, f, n)
+pub slot_at-requires : goal.slot_at-requires
+slot_at-requires g c =
+    let s = (map g.S.RingSlot.shown c.args.slots.now) in
+    let n = newer-in s (order_of s) c.requires.ring c.args.at c.requires.at in
+    omega (arith, c.slot_at-newer.ensures.newer, n)

@@ -28,15 +28,15 @@ pub invariant_of-self-in-Ok : goal.invariant_of-self-in-Ok
 invariant_of-self-in-Ok g c = record {
   least = c.self.invariant.least;
   most = c.self.invariant.most;
-  queues = next-queues pages-sound c.self.inside.policy c.self.inside.capacity c.self.inside.own_number (queues c.self.inside.queues) c.tabled.ensures c.self.invariant.least c.self.invariant.queues c.args.key (queues c.count_out.new.queues) c.in-Ok.done.outcome c.in-Ok.done.own_number (subst (λ p. IsCountedBy (plan_by p c.self.inside.capacity c.args.key c.self.inside.own_number (queues c.self.inside.queues)) (item_of c.args.key) (queues c.self.inside.queues) (queues c.count_out.new.queues) c.in-Ok.done.outcome c.in-Ok.done.own_number) (c.requires ∙ sym (ap (λ (d : DemandState). d.queues.policy) c.self.view_is)) c.in-Ok.ensures.counted);
+  queues = next-queues pages-sound c.self.inside.policy c.self.inside.capacity c.self.inside.own_number (queues c.self.inside.queues) c.tabled.ensures c.self.invariant.least c.self.invariant.queues (g.K.KeyName.key c.args.key) (queues c.count_out.new.queues) c.in-Ok.done.outcome c.in-Ok.done.own_number (subst (λ p. IsCountedBy (plan_by p c.self.inside.capacity (g.K.KeyName.key c.args.key) c.self.inside.own_number (queues c.self.inside.queues)) (item_of (g.K.KeyName.key c.args.key)) (queues c.self.inside.queues) (queues c.count_out.new.queues) c.in-Ok.done.outcome c.in-Ok.done.own_number) (c.requires ∙ sym (ap (λ (d : DemandState). d.queues.policy) c.self.view_is)) c.in-Ok.ensures.counted);
   counts = (let t = c.self.invariant.counts in search rules);
 }
 
 pub returns-in-Err-clause-memory : goal.returns-in-Err-clause-memory
 returns-in-Err-clause-memory g c m =
-    subst (λ (d : DemandState). has_key c.args.key (queues_residents d.queues) ≡ false) c.self.view_is
-    (no-resident pages-sound c.self.inside.policy c.self.inside.capacity c.self.inside.own_number (queues c.self.inside.queues) c.tabled.ensures c.self.invariant.least c.self.invariant.queues c.args.key
-    (subst (λ p. (plan_by p c.self.inside.capacity c.args.key c.self.inside.own_number (queues c.self.inside.queues)).hits ≡ false) (c.requires ∙ sym (ap (λ (d : DemandState). d.queues.policy) c.self.view_is)) c.in-Err.ensures.memory))
+    subst (λ (d : DemandState). has_key (g.K.KeyName.key c.args.key) (queues_residents d.queues) ≡ false) c.self.view_is
+    (no-resident pages-sound c.self.inside.policy c.self.inside.capacity c.self.inside.own_number (queues c.self.inside.queues) c.tabled.ensures c.self.invariant.least c.self.invariant.queues (g.K.KeyName.key c.args.key)
+    (subst (λ p. (plan_by p c.self.inside.capacity (g.K.KeyName.key c.args.key) c.self.inside.own_number (queues c.self.inside.queues)).hits ≡ false) (c.requires ∙ sym (ap (λ (d : DemandState). d.queues.policy) c.self.view_is)) c.in-Err.ensures.memory))
 
 pub returns-in-Err-clause-err : goal.returns-in-Err-clause-err
 returns-in-Err-clause-err g c =
@@ -44,8 +44,8 @@ returns-in-Err-clause-err g c =
 
 pub returns-in-Ok-clause-accepted : goal.returns-in-Ok-clause-accepted
 returns-in-Ok-clause-accepted g c =
-    ap (λ d. demand_act d c.args.key) (sym c.self.view_is)
-    ∙ accepts (state_of c.self.inside.policy c.self.inside.capacity c.self.inside.own_number (lists_of (queues c.self.inside.queues)) c.self.inside.stats) c.args.key
+    ap (λ d. demand_act d (g.K.KeyName.key c.args.key)) (sym c.self.view_is)
+    ∙ accepts (state_of c.self.inside.policy c.self.inside.capacity c.self.inside.own_number (lists_of (queues c.self.inside.queues)) c.self.inside.stats) (g.K.KeyName.key c.args.key)
     c.in-Ok.done.outcome _ c.count.new.self c.if-self-eq-MAX_STEPS.false
-    (act-is pages-sound c.self.inside.policy c.self.inside.capacity c.self.inside.own_number (queues c.self.inside.queues) c.tabled.ensures c.self.invariant.least c.self.invariant.queues c.args.key (queues c.count_out.new.queues) c.in-Ok.done.outcome c.in-Ok.done.own_number (subst (λ p. IsCountedBy (plan_by p c.self.inside.capacity c.args.key c.self.inside.own_number (queues c.self.inside.queues)) (item_of c.args.key) (queues c.self.inside.queues) (queues c.count_out.new.queues) c.in-Ok.done.outcome c.in-Ok.done.own_number) (c.requires ∙ sym (ap (λ (d : DemandState). d.queues.policy) c.self.view_is)) c.in-Ok.ensures.counted))
+    (act-is pages-sound c.self.inside.policy c.self.inside.capacity c.self.inside.own_number (queues c.self.inside.queues) c.tabled.ensures c.self.invariant.least c.self.invariant.queues (g.K.KeyName.key c.args.key) (queues c.count_out.new.queues) c.in-Ok.done.outcome c.in-Ok.done.own_number (subst (λ p. IsCountedBy (plan_by p c.self.inside.capacity (g.K.KeyName.key c.args.key) c.self.inside.own_number (queues c.self.inside.queues)) (item_of (g.K.KeyName.key c.args.key)) (queues c.self.inside.queues) (queues c.count_out.new.queues) c.in-Ok.done.outcome c.in-Ok.done.own_number) (c.requires ∙ sym (ap (λ (d : DemandState). d.queues.policy) c.self.view_is)) c.in-Ok.ensures.counted))
     c.count.ensures

@@ -4,4 +4,4 @@ use Rattle.std.proofs.lemmas.Simd.{map-map}
 use Rattle.queue_moves.proofs.key_queues.KeyQueues.add_keys.Goals as goal
 
 pub returns : goal.returns
-returns c = grind (arith, nat_tests, map-map)
+returns g c = grind (arith, nat_tests, map-map)

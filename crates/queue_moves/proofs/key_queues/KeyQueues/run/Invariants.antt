@@ -6,11 +6,11 @@ use Rattle.queue_moves.proofs.Runs.{IsRunning}
 use Rattle.queue_moves.proofs.key_queues.KeyQueues.run.Given as goal
 
 abbrev pub invariant-loop-times : goal.invariant-loop-times
-invariant-loop-times l =
+invariant-loop-times g l =
     IsRunning l.fn.from l.fn.to l.fn.less l.fn.least l.fn.most l.times (queues l.fn.self) (queues l.self)
     × ((spare l.self ≡ spare l.fn.self)
     × ((j : ℕ) (e : Entry) → HoldsAt j e l.fn.self → occurrences e.item (queues l.fn.self l.fn.from) ≡ 0
     → HoldsAt j e l.self × (occurrences e.item (queues l.self l.fn.from) ≡ 0)))
 
 abbrev pub decreases-loop-times : goal.decreases-loop-times
-decreases-loop-times l = l.fn.most - l.times
+decreases-loop-times g l = l.fn.most - l.times

@@ -9,18 +9,18 @@ use Rattle.queue_moves.proofs.Tabled.{oldest-node, tabled-send}
 use Rattle.queue_moves.proofs.key_queues.KeyQueues.turn.Goals as goal
 
 pub invariant_of-self : goal.invariant_of-self
-invariant_of-self c =
+invariant_of-self g c =
     let node = ap (λ (e : Entry). e.item.node) c.in-Some.ensures.entry ∙ oldest-node c.in-Some.oldest _ (c.self.invariant c.args.from) c.in-Some.ensures.first in
     subst HasKeys (sym c.send.ensures.queues) (tabled-send _ (tabled-in c.self.inside.table c.self.invariant c.distinct.ensures) _ c.args.to c.requires.to node).keys
 
 pub returns-clause-turned : goal.returns-clause-turned
-returns-clause-turned c some =
+returns-clause-turned g c some =
     rw (sym c.self.view_is)
     (turn-made _ _ c.args.from c.args.to c.args.less _ _ (tabled-in c.self.inside.table c.self.invariant c.distinct.ensures) c.requires.from c.in-Some.ensures.first
     (omega (arith, c.if-oldest-least.false, c.requires.less)) (let fit : Fits w8 c.in-Some.oldest.count = search rules in fit.fits) c.in-Some.ensures.entry _ c.send.ensures.queues)
 
 pub returns-clause-others : goal.returns-clause-others
-returns-clause-others c j e h z =
+returns-clause-others g c j e h z =
     let off = oldest-other e _ _ c.args.from _ _ c.self.view_is c.in-Some.ensures.entry c.in-Some.ensures.first z in (
       c.send.ensures.others j e (subst (HoldsAt j e) (sym c.self.view_is) h) off,
       ap (λ (s : Queues). occurrences e.item (s c.args.from)) c.send.ensures.queues

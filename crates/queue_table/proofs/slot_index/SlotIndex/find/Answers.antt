@@ -15,16 +15,16 @@ item-requires g c =
 pub returns-then-at-eq0 : goal.returns-then-at-eq0
 returns-then-at-eq0 g c used x =
     let b = c.bucket_of-bucket in
-    let w = root-whole _ _ _ used x b.result b.ensures.within in
+    let w = root-whole _ _ _ _ used x b.result b.ensures.within in
     let n = c.index-at.ensures ∙ get_or_default _ _ _ 0 w.within in
-    found-root _ _ _ used x b.result _ _ b.ensures.bucket b.ensures.within (found-none _ _ b.result _ _ (x.trees b.result) w (sym n ∙ c.if-at-eq0.true))
+    found-root _ _ _ _ used x b.result _ _ b.ensures.bucket b.ensures.within (found-none _ _ b.result _ _ (x.trees b.result) w (sym n ∙ c.if-at-eq0.true))
 
 pub returns-then-is_same : goal.returns-then-is_same
 returns-then-is_same g c used x =
     let b = c.bucket_of-bucket in
-    let w = root-whole _ _ _ used x b.result b.ensures.within in
+    let w = root-whole _ _ _ _ used x b.result b.ensures.within in
     let n = c.index-at.ensures ∙ get_or_default _ _ _ 0 w.within in
-    found-root _ _ _ used x b.result _ _ b.ensures.bucket b.ensures.within
+    found-root _ _ _ _ used x b.result _ _ b.ensures.bucket b.ensures.within
     (found-here _ _ b.result _ _ _ (x.trees b.result) w n c.if-at-eq0.false (sym c.item.ensures ∙ c.is_same.ensures.same c.if-is_same.true))
 
 pub find_below-requires : goal.find_below-requires
@@ -37,8 +37,8 @@ find_below-requires g c =
 pub returns : goal.returns
 returns g c used x =
     let b = c.bucket_of-bucket in
-    let w = root-whole _ _ _ used x b.result b.ensures.within in
+    let w = root-whole _ _ _ _ used x b.result b.ensures.within in
     let n = c.index-at.ensures ∙ get_or_default _ _ _ 0 w.within in
-    found-root _ _ _ used x b.result _ _ b.ensures.bucket b.ensures.within
+    found-root _ _ _ _ used x b.result _ _ b.ensures.bucket b.ensures.within
     (found-on _ _ b.result 0 _ _ _ _ _ (x.trees b.result) w (x.sorted b.result b.ensures.within) n c.if-at-eq0.false (λ e. c.is_same.ensures.other c.if-is_same.false (c.item.ensures ∙ e))
     (c.branch_of-below.ensures ∙ ap (branch _ _) c.turns_right.ensures) c.find_below.ensures)

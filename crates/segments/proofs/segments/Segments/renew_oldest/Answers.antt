@@ -9,10 +9,10 @@ made : (c : goal.After-queue_place) → AreMade record { item = c.in-Some.oldest
     (queues_after_push c.args.queue c.args.item (queues_after_pop c.args.queue c.args.self.now.lists)) (queues_after_pop c.args.queue c.args.self.now.lists) c.args.self.now.lists (queues c.renew-place.new.self)
 made c =
     renewed _ _ _ c.self.view_is c.self.invariant c.distinct.ensures _ _ _ _ c.in-Some.ensures.entry c.renew-place.ensures.place c.queue_place.ensures
-    c.args.queue _ c.number.ensures.number c.in-Some.ensures.first c.args.item _ _ _ c.entry_for.ensures c.number-2.ensures.number c.requires.absent c.renew-place.ensures.queues
+    c.args.queue _ c.number.ensures.number c.in-Some.ensures.first c.args.item _ _ c.number-2.ensures.number c.requires.absent c.renew-place.ensures.queues
 
 pub renew-place-requires-clause-absent : goal.renew-place-requires-clause-absent
-renew-place-requires-clause-absent c = absent-below _ _ _ c.self.view_is c.self.invariant c.args.item _ c.entry_for.ensures c.requires.absent
+renew-place-requires-clause-absent c = absent-below _ _ _ c.self.view_is c.self.invariant c.args.item c.requires.absent
 
 pub invariant_of-self : goal.invariant_of-self
 invariant_of-self c = (made (goal.at.invariant_of-self c).After-queue_place).put_made.kept

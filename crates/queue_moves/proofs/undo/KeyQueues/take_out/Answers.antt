@@ -2,7 +2,7 @@ use Rattle.std.proofs.Common.{sym, subst}
 use Rattle.queue_moves.specs.Tabled.{HasKeys}
 use Rattle.queue_moves.proofs.Laws.{tabled-in}
 use Rattle.queue_moves.proofs.Tabled.{tabled-removal}
-use Rattle.queue_moves.proofs.key_queues.KeyQueues.take_out.Goals as goal
+use Rattle.queue_moves.proofs.undo.KeyQueues.take_out.Goals as goal
 
 pub invariant_of-self : goal.invariant_of-self
 invariant_of-self c =

@@ -1,7 +1,7 @@
 use Rattle.std.proofs.Common.{◌∙◌, ap, sym}
 use Rattle.queue_table.specs.QueueTable.{queues}
 use Rattle.queue_moves.specs.Undoing.{before_departure}
-use Rattle.queue_moves.proofs.key_queues.KeyQueues.undo_left.Goals as goal
+use Rattle.queue_moves.proofs.undo.KeyQueues.undo_left.Goals as goal
 
 pub returns-in-Sent-clause-queues : goal.returns-in-Sent-clause-queues
 returns-in-Sent-clause-queues c = c.put_back.ensures.queues ∙ sym (ap (λ b. before_departure b c.args.done (queues c.args.self.now)) c.in-Sent.is)

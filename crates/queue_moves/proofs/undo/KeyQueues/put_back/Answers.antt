@@ -6,7 +6,7 @@ use Rattle.queue_moves.specs.Moves.{item_of}
 use Rattle.queue_moves.specs.Undoing.{item_in}
 use Rattle.queue_moves.specs.Tabled.{Slot, HasKeys}
 use Rattle.queue_moves.proofs.Laws.{keys-back}
-use Rattle.queue_moves.proofs.key_queues.KeyQueues.put_back.Goals as goal
+use Rattle.queue_moves.proofs.undo.KeyQueues.put_back.Goals as goal
 
 pub invariant_of-self : goal.invariant_of-self
 invariant_of-self c =

@@ -5,7 +5,7 @@ use Rattle.queue_moves.specs.Moves.{Entry}
 use Rattle.queue_moves.specs.Tabled.{HasKeys}
 use Rattle.queue_moves.proofs.Laws.{tabled-in}
 use Rattle.queue_moves.proofs.Tabled.{counts-absent, tabled-count}
-use Rattle.queue_moves.proofs.key_queues.KeyQueues.count_back.Goals as goal
+use Rattle.queue_moves.proofs.undo.KeyQueues.count_back.Goals as goal
 
 pub invariant_of-self : goal.invariant_of-self
 invariant_of-self c =

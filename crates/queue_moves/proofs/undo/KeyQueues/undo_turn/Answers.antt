@@ -5,7 +5,7 @@ use Rattle.queue_table.specs.QueueTable.{queues}
 use Rattle.queue_moves.specs.Undoing.{turned_back, before_turn}
 use Rattle.queue_moves.specs.Tabled.{Slot, Entry, HasKeys}
 use Rattle.queue_moves.proofs.Laws.{keys-back, newest-node}
-use Rattle.queue_moves.proofs.key_queues.KeyQueues.undo_turn.Goals as goal
+use Rattle.queue_moves.proofs.undo.KeyQueues.undo_turn.Goals as goal
 
 pub invariant_of-self : goal.invariant_of-self
 invariant_of-self c =
