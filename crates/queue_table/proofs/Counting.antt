@@ -69,20 +69,20 @@ module _ (slots slots2 : List Slot) (index : SlotIndex) (lengths : Lengths) (k n
 -- ---- what the fields of a slot in use say of its item
 
 -- the slot of an item, by its fields as they are read
-module _ (slots : List Slot) (k : ℕ) (i : Item) (r : Slot) (t : IsSlotOf k i slots) (own : slot_entry (entries slots) k ≡ entry r.item r.count) (tag : tag_at (tags slots) k ≡ r.queue) where
+module _ (slots : List Slot) (k : ℕ) (i : Item) (r : Entry) (n : ℕ) (t : IsSlotOf k i slots) (own : slot_entry (entries slots) k ≡ r) (tag : tag_at (tags slots) k ≡ n) where
   pub found-entry : slot_entry (entries slots) k ≡ entry i r.count
   found-entry = own ∙ ap (λ (j : Item). entry j r.count) (sym (ap (λ (e : Entry). e.item) own) ∙ t.item)
 
-  pub found-low : r.queue < QUEUES
+  pub found-low : n < QUEUES
   found-low = let w = tag-low slots (order_of slots) t.queued k t.used in omega (arith, w, tag)
 
-  pub found-queue : queue_holding i (lists slots) ≡ Some r.queue
+  pub found-queue : queue_holding i (lists slots) ≡ Some n
   found-queue =
       let w = tag-low slots (order_of slots) t.queued k t.used in
       let p = placed-at (tag_at (tags slots) k) k (order_of slots) (entries slots) w t.queued.distinct (tag-stands slots (order_of slots) t.queued k t.used) in
       ap (λ (x : Item). queue_holding x (lists slots)) (sym t.item) ∙ (p ∙ ap Some tag)
 
-  pub found-stands : Contains (lists slots r.queue) (entry i r.count)
+  pub found-stands : Contains (lists slots n) (entry i r.count)
   found-stands =
       let h = has-entry (λ j. slot_entry (entries slots) j) k (order_of slots (suc (tag_at (tags slots) k))) (tag-stands slots (order_of slots) t.queued k t.used) in
-      subst (λ (n : ℕ). Contains (lists slots n) (entry i r.count)) tag (subst (Contains (lists slots (tag_at (tags slots) k))) found-entry h)
+      subst (λ (m : ℕ). Contains (lists slots m) (entry i r.count)) tag (subst (Contains (lists slots (tag_at (tags slots) k))) found-entry h)

@@ -7,7 +7,7 @@ ghost use Rattle.queue_table.specs.Index.{capacity, IsIndexed};
 ghost use Rattle.queue_table.specs.QueueTable.{bits_of_first, bits_of_wider, bits_once_begun, from_first, IsIndexOf, IsLoaded, IsInSlots, IsSound, IsSame};
 
 use crate::links::{FIRST_SLOT, link};
-use crate::slot::{RingSlot, slot_at};
+use crate::slot::{RingSlot, item_of};
 use crate::slot_index::SlotIndex;
 use std::alloc::{AllocError, Global};
 
@@ -99,7 +99,7 @@ fn fill<S: RingSlot>(slots: &[S], index: &mut SlotIndex)
     ensures bits { index.new.bits ≡ index.old.bits }
 {
     for at in FIRST_SLOT as usize..slots.len() {
-        index.insert(at as u32, slot_at(slots, at as u32).item);
+        index.insert(at as u32, item_of(slots, at as u32));
     }
 }
 

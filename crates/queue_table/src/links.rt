@@ -20,7 +20,9 @@ ghost use Rattle.queue_table.specs.Ring.{order_of, lists, item_or, entries, olde
 ghost use Rattle.queue_table.specs.Ring.{IsQueued, HasItems, CanGo, IsSent, IsFreed, ChangesOnlyLinks};
 
 use crate::records::Place;
-use crate::slot::{RingSlot, set_count, set_newer, set_older, set_queue, slot_at};
+use crate::slot::{
+    RingSlot, item_of, newer_than, older_than, queue_of, set_count, set_newer, set_older, set_queue,
+};
 use engine_base::Item;
 use std::alloc::{AllocError, Global};
 
@@ -39,8 +41,8 @@ fn unlink<S: RingSlot>(slots: &mut [S], at: u32)
         (slice_index (olders (map S.shown slots.old)) at) }
     ensures only { ChangesOnlyLinks (map S.shown slots.old) (map S.shown slots.new) }
 {
-    let slot = slot_at(slots, at);
-    let (older, newer) = (slot.older, slot.newer);
+    let older = older_than(slots, at);
+    let newer = newer_than(slots, at);
     set_newer(slots, older as usize, newer);
     set_older(slots, newer as usize, older);
 }
@@ -57,7 +59,7 @@ pub(crate) fn link<S: RingSlot>(slots: &mut [S], at: u32, before: u32)
         (slice_index (olders (map S.shown slots.old)) before)) before at }
     ensures only { ChangesOnlyLinks (map S.shown slots.old) (map S.shown slots.new) }
 {
-    let older = slot_at(slots, before).older;
+    let older = older_than(slots, before);
     set_newer(slots, older as usize, at);
     set_newer(slots, at as usize, before);
     set_older(slots, at as usize, older);
@@ -104,7 +106,7 @@ pub(crate) fn newest_free<S: RingSlot>(slots: &[S]) -> u32
     requires room { 1 ≤ length (order_of (map S.shown slots.now) 0) }
     ensures { 1 ≤ count result (order_of (map S.shown slots.now) 0) }
 {
-    slot_at(slots, 1).older
+    older_than(slots, 1)
 }
 
 /// The first slot of a queue that is not empty.
@@ -113,7 +115,7 @@ pub(crate) fn oldest_slot<S: RingSlot>(slots: &[S], queue: u8) -> u32
     requires { HasItems queue (map S.shown slots.now) }
     ensures { oldest_of (order_of (map S.shown slots.now) (suc queue)) ≡ Some result }
 {
-    slot_at(slots, slot_before(queue)).newer
+    newer_than(slots, slot_before(queue))
 }
 
 /// The last slot of a queue that is not empty.
@@ -122,7 +124,7 @@ pub(crate) fn newest_slot<S: RingSlot>(slots: &[S], queue: u8) -> u32
     requires { HasItems queue (map S.shown slots.now) }
     ensures { newest_of (order_of (map S.shown slots.now) (suc queue)) ≡ Some result }
 {
-    slot_at(slots, slot_behind(queue)).older
+    older_than(slots, slot_behind(queue))
 }
 
 /// The slot after another one, `but` left out.
@@ -132,9 +134,9 @@ pub(crate) fn next_slot<S: RingSlot>(slots: &[S], at: u32, but: u32) -> u32
     requires at { at < length (map S.shown slots.now) }
     ensures { result ≡ next_but (newers (map S.shown slots.now)) at but }
 {
-    let newer = slot_at(slots, at).newer;
+    let newer = newer_than(slots, at);
     if newer == but {
-        return slot_at(slots, newer).newer;
+        return newer_than(slots, newer);
     }
     newer
 }
@@ -154,22 +156,22 @@ pub(crate) fn items_in<S: RingSlot>(
     let mut list = Vec::with_capacity(alloc, len)?;
     let mut at = slot_before(queue);
     for step in 0..len {
-        at = slot_at(slots, at).newer;
-        list.push(slot_at(slots, at).item)?;
+        at = newer_than(slots, at);
+        list.push(item_of(slots, at))?;
     }
     Ok(list)
 }
 
 /// The item of a slot, `None` at those that stand between the sections.
 #[inline(always)]
-fn item_of<S: RingSlot>(slots: &[S], at: u32) -> Option<Item>
+fn held_item<S: RingSlot>(slots: &[S], at: u32) -> Option<Item>
     requires { at < length (map S.shown slots.now) }
     ensures { result ≡ item_or (entries (map S.shown slots.now)) at }
 {
     if at < FIRST_SLOT {
         return None;
     }
-    Some(slot_at(slots, at).item)
+    Some(item_of(slots, at))
 }
 
 /// Gives the slot another count, and moves it to the place before another one in a queue.
@@ -203,9 +205,9 @@ pub(crate) fn place_of_slot<S: RingSlot>(slots: &[S], at: u32) -> Place
     ensures low { result.queue < QUEUES }
     ensures queue { 1 ≤ count at (order_of (map S.shown slots.now) (suc result.queue)) }
 {
-    let slot = slot_at(slots, at);
+    let older = older_than(slots, at);
     Place {
-        queue: slot.queue,
-        older: item_of(slots, slot.older),
+        queue: queue_of(slots, at),
+        older: held_item(slots, older),
     }
 }

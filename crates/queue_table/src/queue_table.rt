@@ -16,7 +16,9 @@ use crate::links::{
     slot_before, slot_behind,
 };
 use crate::records::{Entry, Found, Place};
-use crate::slot::{RingItems, RingSlot, TableItem, entry_of, set_count, set_item, slot_at};
+use crate::slot::{
+    RingItems, RingSlot, TableItem, entry_of, item_of, newer_than, queue_of, set_count, set_item,
+};
 use crate::slot_index::SlotIndex;
 use engine_base::{Item, Key};
 use std::alloc::{AllocError, Global};
@@ -89,8 +91,8 @@ impl<K: TableItem> QueueTable<K> {
         for key in &keys[i..end] {
             let at = self.index.first_slot(key.item());
             if (at as usize) < self.slots.len() {
-                let slot = slot_at(&self.slots, at);
-                read ^= slot.item.key ^ slot.newer as u64;
+                let slots: &[K::Slot] = &self.slots;
+                read ^= item_of(slots, at).key ^ newer_than(slots, at) as u64;
             }
         }
         read
@@ -184,11 +186,12 @@ impl<K: TableItem> QueueTable<K> {
         ensures distinct { IsDistinct (queues self.now) }
     {
         let at = self.find_slot(item)?;
-        let slot = slot_at(&self.slots, at);
+        let slots: &[K::Slot] = &self.slots;
+        let entry = entry_of(slots, at);
         Some(Found {
             at,
-            queue: slot.queue,
-            count: slot.count,
+            queue: queue_of(slots, at),
+            count: entry.count,
         })
     }
 
@@ -393,8 +396,8 @@ impl<K: TableItem> QueueTable<K> {
     {
         let slots: &mut [K::Slot] = &mut self.slots;
         let from = leave(slots, &mut self.lengths, at, section(queue));
-        let old = slot_at(slots, at);
-        self.index.remove(at, old.item);
+        let old = item_of(slots, at);
+        self.index.remove(at, old);
         self.index.insert(at, item.item());
         send(slots, at, count, queue, slot_behind(queue));
         set_item(slots, at as usize, item);
@@ -413,8 +416,8 @@ impl<K: TableItem> QueueTable<K> {
     {
         let slots: &mut [K::Slot] = &mut self.slots;
         let from = leave(slots, &mut self.lengths, at, 0);
-        let old = slot_at(slots, at);
-        self.index.remove(at, old.item);
+        let old = item_of(slots, at);
+        self.index.remove(at, old);
         release(slots, at);
         from
     }

@@ -41,9 +41,25 @@ pub trait RingSlot: Copy {
     fn bare(older: u32, newer: u32) -> Self
         ensures { shown result ≡ bare_slot older newer };
 
-    /// Its fields.
-    fn slot(&self) -> Slot
-        ensures { result ≡ shown self.now };
+    /// The item.
+    fn item(&self) -> Item
+        ensures { result ≡ (shown self.now).item };
+
+    /// The older neighbour.
+    fn older(&self) -> u32
+        ensures { result ≡ (shown self.now).older };
+
+    /// The newer neighbour.
+    fn newer(&self) -> u32
+        ensures { result ≡ (shown self.now).newer };
+
+    /// The queue.
+    fn queue(&self) -> u8
+        ensures { result ≡ (shown self.now).queue };
+
+    /// The count.
+    fn count(&self) -> u8
+        ensures { result ≡ (shown self.now).count };
 
     /// Writes the older neighbour.
     fn set_older(&mut self, to: u32)
@@ -102,8 +118,28 @@ impl RingSlot for Slot {
     }
 
     #[inline(always)]
-    fn slot(&self) -> Slot {
-        *self
+    fn item(&self) -> Item {
+        self.item
+    }
+
+    #[inline(always)]
+    fn older(&self) -> u32 {
+        self.older
+    }
+
+    #[inline(always)]
+    fn newer(&self) -> u32 {
+        self.newer
+    }
+
+    #[inline(always)]
+    fn queue(&self) -> u8 {
+        self.queue
+    }
+
+    #[inline(always)]
+    fn count(&self) -> u8 {
+        self.count
     }
 
     #[inline(always)]
@@ -148,14 +184,28 @@ impl RingSlot for NumberSlot {
     }
 
     #[inline(always)]
-    fn slot(&self) -> Slot {
-        Slot {
-            item: self.number.item(),
-            older: self.older,
-            newer: self.newer,
-            queue: self.queue,
-            count: self.count,
-        }
+    fn item(&self) -> Item {
+        self.number.item()
+    }
+
+    #[inline(always)]
+    fn older(&self) -> u32 {
+        self.older
+    }
+
+    #[inline(always)]
+    fn newer(&self) -> u32 {
+        self.newer
+    }
+
+    #[inline(always)]
+    fn queue(&self) -> u8 {
+        self.queue
+    }
+
+    #[inline(always)]
+    fn count(&self) -> u8 {
+        self.count
     }
 
     #[inline(always)]
@@ -243,20 +293,17 @@ impl<S: RingSlot> SlotItems for RingItems<'_, S> {
 
     #[inline(always)]
     fn item(&self, at: u32) -> Item {
-        slot_at(self.slots, at).item
+        item_of(self.slots, at)
     }
 }
 
-/// The fields of a slot.
+/// The item of a slot.
 #[inline(always)]
-pub(crate) fn slot_at<S: RingSlot>(slots: &[S], at: u32) -> Slot
+pub(crate) fn item_of<S: RingSlot>(slots: &[S], at: u32) -> Item
     requires { at < length (map S.shown slots.now) }
-    ensures entry { slot_entry (entries (map S.shown slots.now)) at ≡ entry result.item result.count }
-    ensures older { slice_index (olders (map S.shown slots.now)) at ≡ result.older }
-    ensures newer { slice_index (newers (map S.shown slots.now)) at ≡ result.newer }
-    ensures queue { tag_at (tags (map S.shown slots.now)) at ≡ result.queue }
+    ensures { slot_item (entries (map S.shown slots.now)) at ≡ result }
 {
-    slots[at as usize].slot()
+    slots[at as usize].item()
 }
 
 /// The entry of a slot.
@@ -265,11 +312,38 @@ pub(crate) fn entry_of<S: RingSlot>(slots: &[S], at: u32) -> Entry
     requires { at < length (map S.shown slots.now) }
     ensures { slot_entry (entries (map S.shown slots.now)) at ≡ result }
 {
-    let slot = slot_at(slots, at);
+    let slot = &slots[at as usize];
     Entry {
-        item: slot.item,
-        count: slot.count,
+        item: slot.item(),
+        count: slot.count(),
     }
+}
+
+/// The queue of a slot in use.
+#[inline(always)]
+pub(crate) fn queue_of<S: RingSlot>(slots: &[S], at: u32) -> u8
+    requires { at < length (map S.shown slots.now) }
+    ensures { tag_at (tags (map S.shown slots.now)) at ≡ result }
+{
+    slots[at as usize].queue()
+}
+
+/// The older neighbour of a slot.
+#[inline(always)]
+pub(crate) fn older_than<S: RingSlot>(slots: &[S], at: u32) -> u32
+    requires { at < length (map S.shown slots.now) }
+    ensures { slice_index (olders (map S.shown slots.now)) at ≡ result }
+{
+    slots[at as usize].older()
+}
+
+/// The newer neighbour of a slot.
+#[inline(always)]
+pub(crate) fn newer_than<S: RingSlot>(slots: &[S], at: u32) -> u32
+    requires { at < length (map S.shown slots.now) }
+    ensures { slice_index (newers (map S.shown slots.now)) at ≡ result }
+{
+    slots[at as usize].newer()
 }
 
 #[inline(always)]

@@ -20,7 +20,7 @@ loop-at-preserved g c =
     record {
       indexed = e.indexed (slot_item (entries (map g.S.RingSlot.shown c.args.slots.now))) (slot_item (entries (map g.S.RingSlot.shown c.args.slots.now))) (λ k. count k (from_first (c.loop-at.at - FIRST))) (λ k. count k (from_first (c.loop-at.at + 1 - FIRST))) v.indexed record {
         absent = count-from_first (c.loop-at.at - FIRST) c.loop-at.at (omega arith);
-        its = ap (λ (e : Entry). e.item) c.slot_at.ensures.entry;
+        its = c.item_of.ensures;
         others = λ j _. refl;
         counted = from_first-next c.loop-at.at (c.loop-at.at - FIRST) (c.loop-at.at + 1 - FIRST) (omega arith) refl refl;
       };

@@ -6,4 +6,4 @@ use Rattle.queue_table.proofs.links.newest_free.Goals as goal
 pub returns : goal.returns
 returns g c =
     let s = (map g.S.RingSlot.shown c.args.slots.now) in
-    subst (λ (k : ℕ). 1 ≤ count k (order_of s 0)) c.slot_at.ensures.older (last-free s (order_of s) c.requires.queued c.requires.room)
+    subst (λ (k : ℕ). 1 ≤ count k (order_of s 0)) c.older_than.ensures (last-free s (order_of s) c.requires.queued c.requires.room)

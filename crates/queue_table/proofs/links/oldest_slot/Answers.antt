@@ -6,4 +6,4 @@ use Rattle.queue_table.proofs.links.oldest_slot.Goals as goal
 pub returns : goal.returns
 returns g c =
     let s = (map g.S.RingSlot.shown c.args.slots.now) in
-    first-slot s (suc c.args.queue) (order_of s) (omega (arith, c.requires.low)) c.requires.queued c.requires.some ∙ ap Some (ap (λ k. get_or (newers s) k 0) (sym c.slot_before.ensures) ∙ c.slot_at.ensures.newer)
+    first-slot s (suc c.args.queue) (order_of s) (omega (arith, c.requires.low)) c.requires.queued c.requires.some ∙ ap Some (ap (λ k. get_or (newers s) k 0) (sym c.slot_before.ensures) ∙ c.newer_than.ensures)

@@ -26,17 +26,17 @@ leave-from-requires-clause-slot g c =
     let a = (goal.at.leave-from-requires-clause-slot g c).After-deref_mut-slots in
     rw (lent g a) (can-leave _ _ _ (loose g a).kept c.args.at c.requires.used)
 
-pub slot_at-old-requires : goal.slot_at-old-requires
-slot_at-old-requires g c = let a = (goal.at.slot_at-old-requires g c).After-deref_mut-slots in rw (lent g a) (loose g a).within
+pub item_of-old-requires : goal.item_of-old-requires
+item_of-old-requires g c = let a = (goal.at.item_of-old-requires g c).After-deref_mut-slots in rw (lent g a) (loose g a).within
 
 -- the item that is read of it
-itself : (g : given.Over) (c : goal.After-deref_mut-slots g) (i : Item) (n : ℕ) → slot_entry (entries (map g.K.Slot.RingSlot.shown c.deref_mut-slots.result.now)) c.args.at ≡ entry i n → slot_item (entries c.args.self.now) c.args.at ≡ i
-itself g c i n read = ap (λ (s : List Slot). slot_item (entries s) c.args.at) (sym (ap (map g.K.Slot.RingSlot.shown) c.deref_mut-slots.ensures.value ∙ c.self.view_is)) ∙ ap (λ (e : Entry). e.item) read
+itself : (g : given.Over) (c : goal.After-deref_mut-slots g) (i : Item) → slot_item (entries (map g.K.Slot.RingSlot.shown c.deref_mut-slots.result.now)) c.args.at ≡ i → slot_item (entries c.args.self.now) c.args.at ≡ i
+itself g c i read = ap (λ (s : List Slot). slot_item (entries s) c.args.at) (sym (ap (map g.K.Slot.RingSlot.shown) c.deref_mut-slots.ensures.value ∙ c.self.view_is)) ∙ read
 
 pub remove-requires : goal.remove-requires
 remove-requires g c =
     let at = goal.at.remove-requires g c in
-    known _ _ c.args.at _ (itself g at.After-deref_mut-slots _ _ c.slot_at-old.ensures.entry) (loose g at.After-deref_mut-slots).held c.requires.used
+    known _ _ c.args.at _ (itself g at.After-deref_mut-slots _ c.item_of-old.ensures) (loose g at.After-deref_mut-slots).held c.requires.used
 
 pub release-requires : goal.release-requires
 release-requires g c = let a = (goal.at.release-requires g c).After-deref_mut-slots in rw (lent g a) (can-go _ _ _ _ _ (loose g a) 0 1 (inr refl))
@@ -49,7 +49,7 @@ invariant_of-self g c =
     let e = lent g at.After-deref_mut-slots in
     kept-left _ _ _ _ _ _ l m c.remove.new.self c.leave-from.new.lengths
     (c.remove.ensures.indexed (slot_item (entries c.args.self.now)) (λ j. count j (used (order_of c.args.self.now))) _ l.held.indexed
-    (leaves c.args.self.now (order_of c.args.self.now) c.args.at _ _ (itself g at.After-deref_mut-slots _ _ c.slot_at-old.ensures.entry) (used-left _ _ _ _ _ _ l m) c.requires.used))
+    (leaves c.args.self.now (order_of c.args.self.now) c.args.at _ _ (itself g at.After-deref_mut-slots _ c.item_of-old.ensures) (used-left _ _ _ _ _ _ l m) c.requires.used))
     (subst (λ (s : List Slot). IsCounted c.leave-from.new.lengths (sent c.args.at 0 1 (order_of s))) e (c.leave-from.ensures.counted 0 1 refl)) c.remove.ensures.bits
 
 pub returns-clause-place : goal.returns-clause-place

@@ -20,11 +20,11 @@ loose : (g : given.Over) (c : goal.After-deref_mut-slots g) → IsLoose c.args.s
 loose g c = used-loose _ _ _ (subst (λ (s : List Slot). IsKept s c.self.inside.index c.self.inside.lengths) c.self.view_is c.self.invariant) c.args.at c.requires.used
 
 -- the item that is read of it
-itself : (g : given.Over) (c : goal.After-deref_mut-slots g) (i : Item) (n : ℕ) → slot_entry (entries (map g.K.Slot.RingSlot.shown c.deref_mut-slots.result.now)) c.args.at ≡ entry i n → slot_item (entries c.args.self.now) c.args.at ≡ i
-itself g c i n read = ap (λ (s : List Slot). slot_item (entries s) c.args.at) (sym (ap (map g.K.Slot.RingSlot.shown) c.deref_mut-slots.ensures.value ∙ c.self.view_is)) ∙ ap (λ (e : Entry). e.item) read
+itself : (g : given.Over) (c : goal.After-deref_mut-slots g) (i : Item) → slot_item (entries (map g.K.Slot.RingSlot.shown c.deref_mut-slots.result.now)) c.args.at ≡ i → slot_item (entries c.args.self.now) c.args.at ≡ i
+itself g c i read = ap (λ (s : List Slot). slot_item (entries s) c.args.at) (sym (ap (map g.K.Slot.RingSlot.shown) c.deref_mut-slots.ensures.value ∙ c.self.view_is)) ∙ read
 
 -- the slot leaves the index, and goes to its place with another item
-without : (g : given.Over) (c : goal.After-remove g) → slot_item (entries c.args.self.now) c.args.at ≡ c.slot_at-old.result.item → IsIndexOf c.self.inside.index (entries c.args.self.now) (used (order_of c.args.self.now)) → IsIndexOf c.remove.new.self (entries c.args.self.now) (used (order_without c.args.at (order_of c.args.self.now)))
+without : (g : given.Over) (c : goal.After-remove g) → slot_item (entries c.args.self.now) c.args.at ≡ c.item_of-old.result → IsIndexOf c.self.inside.index (entries c.args.self.now) (used (order_of c.args.self.now)) → IsIndexOf c.remove.new.self (entries c.args.self.now) (used (order_without c.args.at (order_of c.args.self.now)))
 without g c i x =
     c.remove.ensures.indexed (slot_item (entries c.args.self.now)) (λ j. count j (used (order_of c.args.self.now))) _ x
     (leaves c.args.self.now (order_of c.args.self.now) c.args.at _ _ i refl c.requires.used)
@@ -40,13 +40,13 @@ leave-from-requires-clause-slot g c =
     let a = (goal.at.leave-from-requires-clause-slot g c).After-deref_mut-slots in
     rw (lent g a) (can-leave _ _ _ (loose g a).kept c.args.at c.requires.used)
 
-pub slot_at-old-requires : goal.slot_at-old-requires
-slot_at-old-requires g c = let a = (goal.at.slot_at-old-requires g c).After-deref_mut-slots in rw (lent g a) (loose g a).within
+pub item_of-old-requires : goal.item_of-old-requires
+item_of-old-requires g c = let a = (goal.at.item_of-old-requires g c).After-deref_mut-slots in rw (lent g a) (loose g a).within
 
 pub remove-requires : goal.remove-requires
 remove-requires g c =
     let at = goal.at.remove-requires g c in
-    known _ _ c.args.at _ (itself g at.After-deref_mut-slots _ _ c.slot_at-old.ensures.entry) (loose g at.After-deref_mut-slots).held c.requires.used
+    known _ _ c.args.at _ (itself g at.After-deref_mut-slots _ c.item_of-old.ensures) (loose g at.After-deref_mut-slots).held c.requires.used
 
 pub insert-requires-clause-at : goal.insert-requires-clause-at
 insert-requires-clause-at g c = rw c.remove.ensures.bits (in-index _ _ _ _ _ (loose g (goal.at.insert-requires-clause-at g c).After-deref_mut-slots))
@@ -54,7 +54,7 @@ insert-requires-clause-at g c = rw c.remove.ensures.bits (in-index _ _ _ _ _ (lo
 pub insert-requires-clause-absent : goal.insert-requires-clause-absent
 insert-requires-clause-absent g c =
     let at = goal.at.insert-requires-clause-absent g c in
-    lacks c.args.self.now _ (order_of c.args.self.now) c.args.at (without g at.After-remove (itself g at.After-deref_mut-slots _ _ c.slot_at-old.ensures.entry) (loose g at.After-deref_mut-slots).held.indexed)
+    lacks c.args.self.now _ (order_of c.args.self.now) c.args.at (without g at.After-remove (itself g at.After-deref_mut-slots _ c.item_of-old.ensures) (loose g at.After-deref_mut-slots).held.indexed)
 
 pub send-requires-clause-place : goal.send-requires-clause-place
 send-requires-clause-place g c =
@@ -68,7 +68,7 @@ invariant_of-self g c =
     let l = loose g at.After-deref_mut-slots in
     let m = moved g at.After-set_item l.within in
     kept-after _ _ _ _ _ _ _ _ _ l m c.insert.new.self c.leave-from.new.lengths (still-absent (g.K.TableItem.item c.args.item) i (lists c.args.self.now) (absent (g.K.TableItem.item c.args.item) (lists c.args.self.now) c.requires.absent))
-    (c.insert.ensures.indexed (slot_item (entries c.args.self.now)) _ _ _ (without g at.After-remove (itself g at.After-deref_mut-slots _ _ c.slot_at-old.ensures.entry) l.held.indexed) (rw c.item.ensures (joins _ _ _ _ _ _ _ _ _ l m)))
+    (c.insert.ensures.indexed (slot_item (entries c.args.self.now)) _ _ _ (without g at.After-remove (itself g at.After-deref_mut-slots _ c.item_of-old.ensures) l.held.indexed) (rw c.item.ensures (joins _ _ _ _ _ _ _ _ _ l m)))
     (subst (λ (s : List Slot). IsCounted c.leave-from.new.lengths (sent c.args.at (suc c.args.queue) c.slot_behind.result (order_of s))) (lent g at.After-deref_mut-slots) (c.leave-from.ensures.counted (suc c.args.queue) c.slot_behind.result c.section.ensures))
     (c.insert.ensures.bits ∙ c.remove.ensures.bits)
 
