@@ -193,8 +193,9 @@ impl<K: KeyName> KeyQueues<K> {
         }
     }
 
-    /// The oldest key of a queue, if it has one, goes out, and leaves room.
-    #[inline(always)]
+    /// The oldest key of a queue, if it has one, goes out, and leaves room. It is a call, since most keys leave by
+    /// `renew_oldest`: as a part of its callers it makes the steps of all policies too large to be part of their loops.
+    #[inline(never)]
     pub fn drop_oldest(&mut self, from: u8) -> Left
         requires from { from < QUEUES }
         ensures left { IsLeft (leaving from None) (queues self.old) (queues self.new) result }

@@ -1,6 +1,5 @@
 use Rattle.std.proofs.lemmas.Bool.Decides.{nat_tests}
-use Rattle.std.proofs.Common.{map, ◌∙◌, ◌+◌, ◌-◌, refl, ap, arith}
-use Rattle.queue_table.specs.Entries.{Entry}
+use Rattle.std.proofs.Common.{map, ◌∙◌, ◌+◌, ◌-◌, refl, arith}
 use Rattle.queue_table.specs.Ring.{FIRST, entries, slot_item, count}
 use Rattle.queue_table.specs.QueueTable.{from_first}
 use Rattle.queue_table.proofs.Holding.{count-from_first, from_first-next}

@@ -1,6 +1,5 @@
 use Rattle.std.proofs.lemmas.Grind.{elements}
 use Rattle.std.proofs.Common.{map, ◌≡◌, ◌≤◌, ◌+◌, ◌-◌, ◌∙◌, ◌++◌, ◌∷◌, [], get_or, ap, sym, arith}
-use Rattle.queue_table.specs.Entries.{Entry}
 use Rattle.queue_table.specs.Ring.{slot_item, entries, newers, order_of}
 use Rattle.queue_table.proofs.Ends.{newer-in, walk-on}
 use Rattle.queue_table.proofs.links.items_in.Goals as goal

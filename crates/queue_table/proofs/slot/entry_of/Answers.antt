@@ -1,4 +1,3 @@
-use Rattle.std.proofs.Common.{◌∙◌, ap, sym}
 use Rattle.queue_table.specs.Entries.{entry}
 use Rattle.queue_table.specs.Ring.{Slot}
 use Rattle.queue_table.proofs.SlotWrites.{shown-at}

@@ -1,7 +1,7 @@
-use Rattle.std.proofs.Common.{ap, map, ℕ, ◌≡◌, ◌∙◌, ◌++◌, sym, subst, arith, refl, List, Some, length, take, drop, inr}
-use Rattle.queue_table.specs.Entries.{Entry, Item, entry}
+use Rattle.std.proofs.Common.{ap, map, ◌≡◌, ◌∙◌, ◌++◌, sym, subst, arith, refl, List, Some, length, take, drop, inr}
+use Rattle.queue_table.specs.Entries.{Item}
 use Rattle.queue_table.specs.Queues.{after_removal, place_in}
-use Rattle.queue_table.specs.Ring.{Slot, entries, slot_entry, slot_item, count, used, order_of, sent, lists, IsFreed}
+use Rattle.queue_table.specs.Ring.{Slot, entries, slot_item, count, used, order_of, sent, lists, IsFreed}
 use Rattle.queue_table.specs.QueueTable.{IsCounted, IsKept}
 use Rattle.queue_table.proofs.Kept.{known, on_view}
 use Rattle.queue_table.proofs.Growing.{leaves}

@@ -1,8 +1,8 @@
-use Rattle.std.proofs.Common.{ap, map, ℕ, inr, ◌≡◌, ◌∙◌, ◌<◌, ◌++◌, sym, subst, arith, List, suc, length, take, drop, refl, Some}
+use Rattle.std.proofs.Common.{ap, map, inr, ◌≡◌, ◌∙◌, ◌<◌, ◌++◌, sym, subst, arith, List, suc, length, take, drop, refl, Some}
 use Rattle.std.proofs.lemmas.List.{length-map}
-use Rattle.queue_table.specs.Entries.{Entry, Item, entry}
+use Rattle.queue_table.specs.Entries.{Item, entry}
 use Rattle.queue_table.specs.Queues.{after_removal, place_in}
-use Rattle.queue_table.specs.Ring.{Slot, entries, slot_entry, slot_item, count, used, order_of, order_without, sent, lists, IsSent}
+use Rattle.queue_table.specs.Ring.{Slot, entries, slot_item, count, used, order_of, order_without, sent, lists, IsSent}
 use Rattle.queue_table.specs.QueueTable.{IsCounted, IsIndexOf, IsKept}
 use Rattle.queue_table.proofs.QueueLists.{absent, still-absent}
 use Rattle.queue_table.proofs.Kept.{known, on_view}
