@@ -74,8 +74,8 @@ pub fn command<
     // With status 1 a fault was found: one of the machine, or that of the words, the trace or the journal. Its line
     // was written to the fault output, whole unless a write or the flush of that output failed. What is found before
     // anything is written, as a faulty line of a trace, leaves the output as it was, and so does every fault of
-    // `run`, `sweep`, `intervals`, `part`, `compare` and `footprint` but a failed write. `sample` has written a beginning of its
-    // text. A run of workers that was stopped has its journal written. A call of the input or the output failed just
+    // `run`, `sweep`, `intervals`, `part`, `compare` and `footprint` but a failed write. `sample` has written a beginning
+    // of its text. A run of workers that was stopped has its journal written. A call of the input or the output failed just
     // where that fault says so. Or no fault was found, and `sample` wrote all of its text, but not its line: a call of
     // the fault output failed, which has a beginning of it.
     ensures faulted { result ≡ FAULT → EndsInFault (map (λ s. s.now) words.now) (F.known files.now)

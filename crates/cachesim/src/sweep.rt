@@ -29,8 +29,8 @@ const BY_NUMBERS_FROM: usize = 8;
 
 /// The reports of the policies that the arguments name at each of the capacities, as text: those of the first policy in
 /// the order of the capacities, then those of the second, and so on. A trace that is not long is kept where a policy goes
-/// by it whole, where many reports go by numbers of its keys, and where it takes less memory than all caches at once. Too many policies are reported only if the trace
-/// has no fault.
+/// by it whole, where many reports go by numbers of its keys, and where it takes less memory than all caches at once.
+/// Too many policies are reported only if the trace has no fault.
 pub fn sweep<T: Threads + Wait + Sync, R: CountedRead, P: Watch>(
     rt: &T,
     alloc: Global,

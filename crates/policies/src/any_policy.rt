@@ -179,8 +179,8 @@ impl AnyPolicy {
     }
 
     /// The keys that it holds: of a policy of queues, and of the adaptive window, those of the window, of probation and
-    /// of protected in that order, oldest first; of the optimal policy in ascending order; of the others queue by queue, oldest first. The
-    /// one error is that an allocation failed.
+    /// of protected in that order, oldest first; of the optimal policy in ascending order; of the others queue by queue,
+    /// oldest first. The one error is that an allocation failed.
     pub fn residents(&self, alloc: Global) -> Result<Vec<Key>, AllocError>
         ensures { IfOk result (λ keys. keys.items ≡ any_residents self.now) }
     {

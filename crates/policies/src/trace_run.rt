@@ -49,7 +49,8 @@ pub fn access_all(cache: &mut AnyPolicy, keys: &[Key]) -> Result<(), AllocError>
     }
 }
 
-/// The same, with the same error, in batches of `MAX_BATCH`. The gate is called before and after each, as worker 0, with the batch's number.
+/// The same, with the same error, in batches of `MAX_BATCH`. The gate is called before and after each, as worker 0, with
+/// the batch's number.
 pub fn access_in_batches<G: Gate>(
     cache: &mut AnyPolicy,
     keys: &[Key],

@@ -74,8 +74,8 @@ pub fn push_comparison(
     )
 }
 
-/// Adds a row of two jobs: what their policies are called, the capacity of the first, and numbers. The one error is that an allocation
-/// failed.
+/// Adds a row of two jobs: what their policies are called, the capacity of the first, and numbers. The one error is that
+/// an allocation failed.
 pub(crate) fn push_row(
     text: &mut Vec<u8>,
     first: &Job,
