@@ -112,15 +112,21 @@ pub(crate) fn evict_planned(
         let sent = send_oldest(segments, Queue::Window, Queue::Probation);
         return replacement(Outcome::Kept, came, None, sent);
     }
-    if let Some(victim) = segments.oldest(Queue::Probation) {
-        if admits(frequency, candidate.key, victim.key) {
-            let left = drop_oldest(segments, Queue::Probation);
-            let sent = send_oldest(segments, Queue::Window, Queue::Probation);
-            return replacement(Outcome::Evicted(victim.key), came, left, sent);
-        }
-    }
-    let left = drop_oldest(segments, Queue::Window);
-    replacement(Outcome::Rejected(candidate.key), came, left, None)
+    let loser = match segments.oldest(Queue::Probation) {
+        Some(victim) if admits(frequency, candidate.key, victim.key) => Some(victim),
+        _ => None,
+    };
+    // One call, since two would make this too large to be part of the loops over accesses.
+    let from = match loser {
+        Some(_) => Queue::Probation,
+        None => Queue::Window,
+    };
+    let left = drop_oldest(segments, from);
+    let Some(victim) = loser else {
+        return replacement(Outcome::Rejected(candidate.key), came, left, None);
+    };
+    let sent = send_oldest(segments, Queue::Window, Queue::Probation);
+    replacement(Outcome::Evicted(victim.key), came, left, sent)
 }
 
 // What a miss or an eviction came to, by what moved.
