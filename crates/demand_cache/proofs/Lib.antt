@@ -2,3 +2,4 @@ pub mod Keeping
 pub mod Engine
 mod Accesses
 mod KeyRows
+mod NarrowKeys

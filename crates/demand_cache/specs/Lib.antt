@@ -3,3 +3,4 @@ pub mod QueueRow
 pub mod DemandQueues
 pub mod DemandCache
 pub mod Theorems
+pub mod NarrowKeys

@@ -70,6 +70,20 @@ impl<K: KeyName> DemandCache<K> {
         }
     }
 
+    /// The same cache for keys of any width. The one error is that an allocation failed.
+    pub fn widened(self) -> Result<DemandCache, AllocError>
+        ensures { IfOk result (λ wide. wide ≡ self) }
+    {
+        let queues = self.queues.widened()?;
+        Ok(DemandCache {
+            policy: self.policy,
+            capacity: self.capacity,
+            own_number: self.own_number,
+            queues,
+            stats: self.stats,
+        })
+    }
+
     /// Reads ahead, for each few keys, what accesses to them read first, from the key at `i` on: to be called before
     /// each access of a loop over them. It changes nothing.
     #[inline(always)]

@@ -7,7 +7,9 @@
 
 mod demand_cache;
 mod demand_policy;
+mod narrow_cache;
 pub mod theorems;
 
 pub use demand_cache::{DemandCache, DemandRecord};
 pub use demand_policy::DemandPolicy;
+pub use narrow_cache::NarrowCache;

@@ -5,7 +5,7 @@ ghost use Rattle.std.proofs.lemmas.List.{map-id};
 ghost use Rattle.queue_moves.specs.Moves.{item_of};
 
 use engine_base::Key;
-use queue_table::TableItem;
+use queue_table::{NarrowKey, TableItem};
 
 /// What stands in the queues for a key: the key, or a number in its place.
 pub trait KeyName: TableItem {
@@ -52,4 +52,19 @@ impl KeyName for u32 {
     ghost item_is = { λ k. refl };
 
     ghost keys_are = { λ l. sym (map-id l) };
+}
+
+impl KeyName for NarrowKey {
+    ghost key = { λ k. k.key };
+
+    ghost keys = { λ l. map (λ k. k.key) l };
+
+    #[inline(always)]
+    fn key(self) -> Key {
+        u64::from(self.key)
+    }
+
+    ghost item_is = { λ k. refl };
+
+    ghost keys_are = { λ l. refl };
 }

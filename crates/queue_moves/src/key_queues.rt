@@ -53,6 +53,18 @@ impl<K: KeyName> KeyQueues<K> {
         }
     }
 
+    /// The same queues for keys of any width. The one error is that an allocation failed.
+    pub fn widened(self) -> Result<KeyQueues, AllocError>
+        ensures { IfOk result (λ wide. wide ≡ self) }
+    {
+        let table = self.table.widened(self.alloc)?;
+        Ok(KeyQueues {
+            alloc: self.alloc,
+            table,
+            read: self.read,
+        })
+    }
+
     /// What holds of any `KeyQueues`. This does nothing: its contract is the fact.
     #[inline(always)]
     pub fn tabled(&self)

@@ -7,7 +7,7 @@ ghost use Rattle.queue_table.specs.Index.{capacity, IsIndexed};
 ghost use Rattle.queue_table.specs.QueueTable.{bits_of_first, bits_of_wider, bits_once_begun, from_first, IsIndexOf, IsLoaded, IsInSlots, IsSound, IsSame};
 
 use crate::links::{FIRST_SLOT, link};
-use crate::slot::{RingSlot, item_of};
+use crate::slot::{RingSlot, TableItem, item_of};
 use crate::slot_index::SlotIndex;
 use std::alloc::{AllocError, Global};
 
@@ -47,27 +47,27 @@ fn first_bits(wished: u32) -> u32
 }
 
 /// Makes the first slots and buckets where there are none.
-fn begin<S: RingSlot>(
+fn begin<K: TableItem>(
     alloc: Global,
-    slots: &mut Vec<S>,
+    slots: &mut Vec<K::Slot>,
     index: &mut SlotIndex,
 ) -> Result<(), AllocError>
-    requires sound { IsSound (map S.shown slots.old.items) index.old }
-    requires few { length (map S.shown slots.old.items) < 2 ^ 32 }
-    requires load { IsLoaded (length (map S.shown slots.old.items)) index.old.bits }
-    ensures held { OnOk result (IsInSlots (map S.shown slots.new.items) index.new
-        (order_of (map S.shown slots.new.items))) }
-    ensures same { IsSame (map S.shown slots.old.items) (map S.shown slots.new.items) }
-    ensures load { IsLoaded (length (map S.shown slots.new.items)) index.new.bits }
-    ensures few { length (map S.shown slots.new.items) < 2 ^ 32 }
-    ensures bits { OnOk result (index.new.bits ≡ bits_once_begun (length (map S.shown slots.old.items)) index.old.bits) }
-    ensures err { OnErr result (IsSound (map S.shown slots.new.items) index.new) }
+    requires sound { IsSound (map K.Slot.shown slots.old.items) index.old }
+    requires few { length (map K.Slot.shown slots.old.items) < 2 ^ 32 }
+    requires load { IsLoaded (length (map K.Slot.shown slots.old.items)) index.old.bits }
+    ensures held { OnOk result (IsInSlots (map K.Slot.shown slots.new.items) index.new
+        (order_of (map K.Slot.shown slots.new.items))) }
+    ensures same { IsSame (map K.Slot.shown slots.old.items) (map K.Slot.shown slots.new.items) }
+    ensures load { IsLoaded (length (map K.Slot.shown slots.new.items)) index.new.bits }
+    ensures few { length (map K.Slot.shown slots.new.items) < 2 ^ 32 }
+    ensures bits { OnOk result (index.new.bits ≡ bits_once_begun (length (map K.Slot.shown slots.old.items)) index.old.bits) }
+    ensures err { OnErr result (IsSound (map K.Slot.shown slots.new.items) index.new) }
 {
     if !slots.is_empty() {
         return Ok(());
     }
     let bits = first_bits(index.bits());
-    *index = SlotIndex::new(alloc, bits, S::multiplier(bits))?;
+    *index = SlotIndex::new(alloc, bits, K::multiplier(bits))?;
     *slots = first_slots(alloc)?;
     Ok(())
 }
@@ -105,15 +105,19 @@ fn fill<S: RingSlot>(slots: &[S], index: &mut SlotIndex)
 
 /// Makes the index ready for one more slot: spreads the items over twice as many buckets where there are fewer than two
 /// for a slot. All slots are in use. Fails where there are MAX_SLOTS, or out of memory.
-fn widen<S: RingSlot>(alloc: Global, slots: &[S], index: &mut SlotIndex) -> Result<(), AllocError>
-    requires held { IsInSlots (map S.shown slots.now) index.old (order_of (map S.shown slots.now)) }
-    requires free { order_of (map S.shown slots.now) 0 ≡ [] }
-    requires load { IsLoaded (length (map S.shown slots.now)) index.old.bits }
-    ensures held { IsInSlots (map S.shown slots.now) index.new (order_of (map S.shown slots.now)) }
-    ensures few { OnOk result (length (map S.shown slots.now) < 2 ^ 30) }
-    ensures load { IsLoaded (length (map S.shown slots.now)) index.new.bits }
-    ensures bits { OnOk result (index.new.bits ≡ bits_of_wider (length (map S.shown slots.now)) index.old.bits) }
-    ensures roomy { OnOk result (2 * length (map S.shown slots.now) ≤ 2 ^ index.new.bits) }
+fn widen<K: TableItem>(
+    alloc: Global,
+    slots: &[K::Slot],
+    index: &mut SlotIndex,
+) -> Result<(), AllocError>
+    requires held { IsInSlots (map K.Slot.shown slots.now) index.old (order_of (map K.Slot.shown slots.now)) }
+    requires free { order_of (map K.Slot.shown slots.now) 0 ≡ [] }
+    requires load { IsLoaded (length (map K.Slot.shown slots.now)) index.old.bits }
+    ensures held { IsInSlots (map K.Slot.shown slots.now) index.new (order_of (map K.Slot.shown slots.now)) }
+    ensures few { OnOk result (length (map K.Slot.shown slots.now) < 2 ^ 30) }
+    ensures load { IsLoaded (length (map K.Slot.shown slots.now)) index.new.bits }
+    ensures bits { OnOk result (index.new.bits ≡ bits_of_wider (length (map K.Slot.shown slots.now)) index.old.bits) }
+    ensures roomy { OnOk result (2 * length (map K.Slot.shown slots.now) ≤ 2 ^ index.new.bits) }
 {
     if slots.len() >= MAX_SLOTS {
         return Err(AllocError);
@@ -123,7 +127,7 @@ fn widen<S: RingSlot>(alloc: Global, slots: &[S], index: &mut SlotIndex) -> Resu
     if slots.len() <= buckets / 2 || bits >= 31 {
         return Ok(());
     }
-    *index = SlotIndex::new(alloc, bits + 1, S::multiplier(bits + 1))?;
+    *index = SlotIndex::new(alloc, bits + 1, K::multiplier(bits + 1))?;
     fill(slots, index);
     Ok(())
 }
@@ -131,26 +135,26 @@ fn widen<S: RingSlot>(alloc: Global, slots: &[S], index: &mut SlotIndex) -> Resu
 /// Adds a free slot where there is none, and buckets where there are too few.
 #[cold]
 #[inline(never)]
-pub(crate) fn grow<S: RingSlot>(
+pub(crate) fn grow<K: TableItem>(
     alloc: Global,
-    slots: &mut Vec<S>,
+    slots: &mut Vec<K::Slot>,
     index: &mut SlotIndex,
 ) -> Result<(), AllocError>
-    requires sound { IsSound (map S.shown slots.old.items) index.old }
-    requires none { order_of (map S.shown slots.old.items) 0 ≡ [] }
-    requires few { length (map S.shown slots.old.items) < 2 ^ 32 }
-    requires load { IsLoaded (length (map S.shown slots.old.items)) index.old.bits }
-    ensures sound { IsSound (map S.shown slots.new.items) index.new }
-    ensures lists { lists (map S.shown slots.new.items) ≡ lists (map S.shown slots.old.items) }
-    ensures few { length (map S.shown slots.new.items) < 2 ^ 32 }
-    ensures ok { OnOk result ((s : ℕ) → length (order_of (map S.shown slots.new.items) s)
-        ≡ length (order_of (map S.shown slots.old.items) s) + cond (eqb s 0) 1 0) }
-    ensures err { OnErr result ((s : ℕ) → length (order_of (map S.shown slots.new.items) s) ≡ length (order_of (map S.shown slots.old.items) s)) }
-    ensures load { IsLoaded (length (map S.shown slots.new.items)) index.new.bits }
-    ensures bits { OnOk result (index.new.bits ≡ bits_of_wider (length (map S.shown slots.new.items) - 1)
-        (bits_once_begun (length (map S.shown slots.old.items)) index.old.bits)) }
+    requires sound { IsSound (map K.Slot.shown slots.old.items) index.old }
+    requires none { order_of (map K.Slot.shown slots.old.items) 0 ≡ [] }
+    requires few { length (map K.Slot.shown slots.old.items) < 2 ^ 32 }
+    requires load { IsLoaded (length (map K.Slot.shown slots.old.items)) index.old.bits }
+    ensures sound { IsSound (map K.Slot.shown slots.new.items) index.new }
+    ensures lists { lists (map K.Slot.shown slots.new.items) ≡ lists (map K.Slot.shown slots.old.items) }
+    ensures few { length (map K.Slot.shown slots.new.items) < 2 ^ 32 }
+    ensures ok { OnOk result ((s : ℕ) → length (order_of (map K.Slot.shown slots.new.items) s)
+        ≡ length (order_of (map K.Slot.shown slots.old.items) s) + cond (eqb s 0) 1 0) }
+    ensures err { OnErr result ((s : ℕ) → length (order_of (map K.Slot.shown slots.new.items) s) ≡ length (order_of (map K.Slot.shown slots.old.items) s)) }
+    ensures load { IsLoaded (length (map K.Slot.shown slots.new.items)) index.new.bits }
+    ensures bits { OnOk result (index.new.bits ≡ bits_of_wider (length (map K.Slot.shown slots.new.items) - 1)
+        (bits_once_begun (length (map K.Slot.shown slots.old.items)) index.old.bits)) }
 {
-    begin(alloc, slots, index)?;
-    widen(alloc, slots, index)?;
+    begin::<K>(alloc, slots, index)?;
+    widen::<K>(alloc, slots, index)?;
     add_slot(slots)
 }

@@ -35,4 +35,4 @@ mod slot_index;
 
 pub use queue_table::{AHEAD, QueueTable, push_keys};
 pub use records::{Entry, Found, Place};
-pub use slot::TableItem;
+pub use slot::{NarrowKey, TableItem};

@@ -17,7 +17,8 @@ use crate::links::{
 };
 use crate::records::{Entry, Found, Place};
 use crate::slot::{
-    RingItems, RingSlot, TableItem, entry_of, item_of, newer_than, queue_of, set_count, set_item,
+    RingItems, RingSlot, TableItem, entry_of, item_of, newer_than, push_widened, queue_of,
+    set_count, set_item,
 };
 use crate::slot_index::SlotIndex;
 use engine_base::{Item, Key};
@@ -98,6 +99,19 @@ impl<K: TableItem> QueueTable<K> {
         read
     }
 
+    /// The same queues for items of any width. The one error is that an allocation failed.
+    pub fn widened(self, alloc: Global) -> Result<QueueTable<Key>, AllocError>
+        ensures { IfOk result (λ wide. wide ≡ self) }
+    {
+        let mut slots = Vec::new(alloc);
+        push_widened(&mut slots, &self.slots)?;
+        Ok(QueueTable {
+            slots,
+            index: self.index,
+            lengths: self.lengths,
+        })
+    }
+
     /// Makes room for at least one more item; where there is room, it allocates nothing and returns Ok. The one error
     /// is out of memory; queues and room are then as before.
     #[inline(always)]
@@ -110,7 +124,7 @@ impl<K: TableItem> QueueTable<K> {
         if self.lengths.free() > 0 {
             return Ok(());
         }
-        grow(alloc, &mut self.slots, &mut self.index)?;
+        grow::<K>(alloc, &mut self.slots, &mut self.index)?;
         self.lengths.add_free();
         Ok(())
     }

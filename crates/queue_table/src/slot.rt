@@ -1,11 +1,12 @@
 //! What a slot keeps, and how it is read and written.
-ghost use Rattle.std.specs.Prelude.{◌≡◌, ◌<◌, length, map, slice_index, slice_set};
+ghost use Rattle.std.specs.Prelude.{◌≡◌, ◌<◌, ◌++◌, length, map, slice_index, slice_set, OnOk};
 ghost use Rattle.queue_table.specs.Entries.{Item, entry};
 ghost use Rattle.queue_table.specs.Ring.{Slot, entries, olders, newers, tags, slot_entry, slot_item, tag_at, bare_slot, ChangesOnlyLinks, ChangesOnlyEntry};
 
 use crate::records::Entry;
 use crate::slot_index::SlotItems;
 use engine_base::{Item, Key};
+use std::alloc::AllocError;
 
 /// A place for one item, with its neighbours in the ring of all slots.
 #[derive(Clone, Copy)]
@@ -29,13 +30,17 @@ pub struct NumberSlot {
     count: u8,
 }
 
+/// A key below 2^32, as most are, which takes the slot of a number.
+#[derive(Clone, Copy)]
+pub struct NarrowKey {
+    /// The key.
+    pub key: u32,
+}
+
 /// What a ring is made of: a slot, however it is kept.
 pub trait RingSlot: Copy {
     // the slot that definitions see
     ghost shown: { Self → Slot };
-
-    /// What an item is multiplied with for its bucket, of 2^bits. Any number will do.
-    fn multiplier(bits: u32) -> u64;
 
     /// A slot that holds no item.
     fn bare(older: u32, newer: u32) -> Self
@@ -86,6 +91,9 @@ pub trait TableItem: Copy {
     /// A slot that can hold it.
     type Slot: RingSlot;
 
+    /// What an item is multiplied with for its bucket, of 2^bits. Any number will do.
+    fn multiplier(bits: u32) -> u64;
+
     /// The item.
     fn item(self) -> Item
         ensures { result ≡ item self };
@@ -100,11 +108,6 @@ const MULTIPLIER: u64 = 11400714819323198485;
 
 impl RingSlot for Slot {
     ghost shown = { λ s. s };
-
-    #[inline(always)]
-    fn multiplier(_bits: u32) -> u64 {
-        MULTIPLIER
-    }
 
     #[inline(always)]
     fn bare(older: u32, newer: u32) -> Slot {
@@ -163,14 +166,8 @@ impl RingSlot for Slot {
     }
 }
 
-// Numbers in turn have buckets in turn: keys that come one after the other stand side by side.
 impl RingSlot for NumberSlot {
     ghost shown = { λ s. record { item = record { key = s.number; node = 0 }; older = s.older; newer = s.newer; queue = s.queue; count = s.count } };
-
-    #[inline(always)]
-    fn multiplier(bits: u32) -> u64 {
-        1 << (64u32.wrapping_sub(bits) % 64)
-    }
 
     #[inline(always)]
     fn bare(older: u32, newer: u32) -> NumberSlot {
@@ -235,6 +232,11 @@ impl TableItem for Item {
     type Slot = Slot;
 
     #[inline(always)]
+    fn multiplier(_bits: u32) -> u64 {
+        MULTIPLIER
+    }
+
+    #[inline(always)]
     fn item(self) -> Item {
         self
     }
@@ -251,6 +253,11 @@ impl TableItem for Key {
     type Slot = Slot;
 
     #[inline(always)]
+    fn multiplier(_bits: u32) -> u64 {
+        MULTIPLIER
+    }
+
+    #[inline(always)]
     fn item(self) -> Item {
         Item { key: self, node: 0 }
     }
@@ -261,10 +268,16 @@ impl TableItem for Key {
     }
 }
 
+// Numbers in turn have buckets in turn: keys that come one after the other stand side by side.
 impl TableItem for u32 {
     ghost item = { λ n. record { key = n; node = 0 } };
 
     type Slot = NumberSlot;
+
+    #[inline(always)]
+    fn multiplier(bits: u32) -> u64 {
+        1 << (64u32.wrapping_sub(bits) % 64)
+    }
 
     #[inline(always)]
     fn item(self) -> Item {
@@ -277,6 +290,27 @@ impl TableItem for u32 {
     #[inline(always)]
     fn put_in(self, slot: &mut NumberSlot) {
         slot.number = self;
+    }
+}
+
+impl TableItem for NarrowKey {
+    ghost item = { λ k. record { key = k.key; node = 0 } };
+
+    type Slot = NumberSlot;
+
+    #[inline(always)]
+    fn multiplier(_bits: u32) -> u64 {
+        MULTIPLIER
+    }
+
+    #[inline(always)]
+    fn item(self) -> Item {
+        self.key.item()
+    }
+
+    #[inline(always)]
+    fn put_in(self, slot: &mut NumberSlot) {
+        slot.number = self.key;
     }
 }
 
@@ -400,4 +434,21 @@ pub(crate) fn set_item<K: TableItem>(slots: &mut [K::Slot], at: usize, to: K)
 {
     let slot = &mut slots[at];
     to.put_in(slot);
+}
+
+/// Appends the same slots for items of any width. The one error is that an allocation failed; some slots may be appended
+/// then.
+pub(crate) fn push_widened<S: RingSlot>(wide: &mut Vec<Slot>, slots: &[S]) -> Result<(), AllocError>
+    ensures { OnOk result (wide.new.items ≡ wide.old.items ++ map S.shown slots.now) }
+{
+    for slot in slots {
+        wide.push(Slot {
+            item: slot.item(),
+            older: slot.older(),
+            newer: slot.newer(),
+            queue: slot.queue(),
+            count: slot.count(),
+        })?;
+    }
+    Ok(())
 }

@@ -8,13 +8,13 @@ use Rattle.queue_table.proofs.growth.grow.Given as given
 use Rattle.queue_table.proofs.growth.grow.Goals as goal
 use Rattle.queue_table.proofs.growth.grow.Goals.{After-add_slot}
 
-grown-here : (g : given.Over) (c : goal.After-add_slot g) → IsGrown c.add_slot.result (map g.S.RingSlot.shown c.args.slots.now.items) (map g.S.RingSlot.shown c.add_slot.new.slots.items) c.widen.new.index
+grown-here : (g : given.Over) (c : goal.After-add_slot g) → IsGrown c.add_slot.result (map g.K.Slot.RingSlot.shown c.args.slots.now.items) (map g.K.Slot.RingSlot.shown c.add_slot.new.slots.items) c.widen.new.index
 grown-here g c =
-    let lent = ap (map g.S.RingSlot.shown) c.deref.ensures.value in
+    let lent = ap (map g.K.Slot.RingSlot.shown) c.deref.ensures.value in
     let held = subst (λ (s : List Slot). IsInSlots s c.widen.new.index (order_of s)) lent c.widen.ensures.held in
     let roomy = subst (λ (s : List Slot). 2 * length s ≤ 2 ^ c.widen.new.index.bits) lent c.in_ok-widen.ensures.roomy in
     let e = c.add_slot.ensures in
-    grown c.add_slot.result (map g.S.RingSlot.shown c.args.slots.now.items) (map g.S.RingSlot.shown c.begin.new.slots.items) (map g.S.RingSlot.shown c.add_slot.new.slots.items) c.widen.new.index record { held = held; same = c.begin.ensures.same } (room_for _ _ roomy) e.ring e.entries e.tags e.err
+    grown c.add_slot.result (map g.K.Slot.RingSlot.shown c.args.slots.now.items) (map g.K.Slot.RingSlot.shown c.begin.new.slots.items) (map g.K.Slot.RingSlot.shown c.add_slot.new.slots.items) c.widen.new.index record { held = held; same = c.begin.ensures.same } (room_for _ _ roomy) e.ring e.entries e.tags e.err
 
 pub returns-clause-sound : goal.returns-clause-sound
 returns-clause-sound g c = (grown-here g (goal.at.returns-clause-sound g c).After-add_slot).sound
@@ -26,7 +26,7 @@ pub returns-clause-ok : goal.returns-clause-ok
 returns-clause-ok g c = (grown-here g (goal.at.returns-clause-ok g c).After-add_slot).ok
 
 pub widen-requires-clause-free : goal.widen-requires-clause-free
-widen-requires-clause-free g c = nil_from_length _ (ap (λ s. length (order_of (map g.S.RingSlot.shown s) 0)) c.deref.ensures.value ∙ (c.begin.ensures.same.lengths 0 ∙ ap length c.requires.none))
+widen-requires-clause-free g c = nil_from_length _ (ap (λ s. length (order_of (map g.K.Slot.RingSlot.shown s) 0)) c.deref.ensures.value ∙ (c.begin.ensures.same.lengths 0 ∙ ap length c.requires.none))
 
 pub returns-clause-few : goal.returns-clause-few
 returns-clause-few g c = grind (arith, common_steps)
@@ -35,7 +35,7 @@ pub returns-clause-load : goal.returns-clause-load
 returns-clause-load g c = grind (arith, common_steps)
 
 pub widen-requires-clause-held : goal.widen-requires-clause-held
-widen-requires-clause-held g c = subst (λ (s : List Slot). IsInSlots s c.begin.new.index (order_of s)) (sym (ap (map g.S.RingSlot.shown) c.deref.ensures.value)) c.in_ok-begin.ensures.held
+widen-requires-clause-held g c = subst (λ (s : List Slot). IsInSlots s c.begin.new.index (order_of s)) (sym (ap (map g.K.Slot.RingSlot.shown) c.deref.ensures.value)) c.in_ok-begin.ensures.held
 
 pub add_slot-requires-clause-ring : goal.add_slot-requires-clause-ring
 add_slot-requires-clause-ring g c = c.in_ok-begin.ensures.held.queued.linked
@@ -47,7 +47,7 @@ pub returns-in_err-begin-clause-lists : goal.returns-in_err-begin-clause-lists
 returns-in_err-begin-clause-lists g c = c.begin.ensures.same.lists
 
 pub returns-in_err-widen-clause-sound : goal.returns-in_err-widen-clause-sound
-returns-in_err-widen-clause-sound g c = λ _. subst (λ (s : List Slot). IsInSlots s c.widen.new.index (order_of s)) (ap (map g.S.RingSlot.shown) c.deref.ensures.value) c.widen.ensures.held
+returns-in_err-widen-clause-sound g c = λ _. subst (λ (s : List Slot). IsInSlots s c.widen.new.index (order_of s)) (ap (map g.K.Slot.RingSlot.shown) c.deref.ensures.value) c.widen.ensures.held
 
 pub returns-in_err-widen-clause-lists : goal.returns-in_err-widen-clause-lists
 returns-in_err-widen-clause-lists g c = c.begin.ensures.same.lists

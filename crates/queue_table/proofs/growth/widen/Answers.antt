@@ -8,7 +8,7 @@ use Rattle.queue_table.proofs.growth.widen.Goals as goal
 pub returns-clause-held : goal.returns-clause-held
 returns-clause-held g c =
     let h = c.requires.held in
-    held-spread (map g.S.RingSlot.shown c.args.slots.now) c.fill.new.index (order_of (map g.S.RingSlot.shown c.args.slots.now)) h.queued c.requires.free c.fill.ensures.indexed
+    held-spread (map g.K.Slot.RingSlot.shown c.args.slots.now) c.fill.new.index (order_of (map g.K.Slot.RingSlot.shown c.args.slots.now)) h.queued c.requires.free c.fill.ensures.indexed
     (wider_room _ c.args.index.now.bits _ (c.fill.ensures.bits ∙ (c.in_ok-index.ensures.bits ∙ ap (λ n. n + 1) c.bits-bits.ensures)) h.room)
 
 pub fill-requires-clause-few : goal.fill-requires-clause-few
