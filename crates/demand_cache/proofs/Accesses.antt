@@ -1,5 +1,5 @@
 -- Accesses in a loop over a list of keys.
-use Rattle.std.proofs.Common.{◌≡◌, ℕ, suc, ◌+◌, ◌++◌, ◌<◌, ◌≤◌, Some, None, List, [], ◌∷◌, map, take, drop, get_or, length, ap, sym, ◌∙◌, arith, drop-cons, take-append-drop}
+use Rattle.std.proofs.Common.{◌≡◌, ℕ, suc, ◌+◌, ◌++◌, ◌<◌, ◌≤◌, Some, None, List, [], ◌∷◌, map, take, drop, get_or, length, ap, sym, ◌∙◌, arith, append_assoc, drop-cons, length-drop, length-take, take-add, take-append-drop}
 use Rattle.std.specs.Prelude.{slice_index}
 use Rattle.std.proofs.lemmas.List.{take_more, take_all, get_or-map, length-map}
 use Rattle.engine_base.specs.declared.limits.TheConstants.{MAX_STEPS}
@@ -51,3 +51,39 @@ stops-next keys i start d below made asks = record {
   stands = made.state;
   asks = asks;
 }
+
+-- ---- pieces of the keys, one after the other
+
+pub counts-all : (keys : List ℕ) (d : DemandState) → demand_count (state_after_all demand_access d keys) ≡ demand_count d + length keys
+counts-all [] d = omega arith
+counts-all (k ∷ keys) d = let rest = counts-all keys (demand_access k d).1 in omega (arith, rest)
+
+-- the cache d made the first m of the keys, and the piece has the next ones
+module _ (keys piece : List ℕ) (m size : ℕ) (start d : DemandState) (was : d ≡ state_after_all demand_access start (take m keys)) (is : piece ≡ take size (drop m keys)) where
+  pub room-for-piece : demand_count start + length keys ≤ MAX_STEPS → m ≤ length keys → m + size ≤ length keys → demand_count d + length piece ≤ MAX_STEPS
+  room-for-piece room within fits =
+      let count = ap demand_count was ∙ counts-all (take m keys) start in
+      let long = ap (λ (l : List ℕ). length l) is in
+      omega (arith, count, long, length-take m keys, length-take size (drop m keys), length-drop m keys, room, within, fits)
+
+  pub piece-made : (e : DemandState) → e ≡ state_after_all demand_access d piece → e ≡ state_after_all demand_access start (take (m + size) keys)
+  piece-made e made =
+      made ∙ ap (λ (s : DemandState). state_after_all demand_access s piece) was
+      ∙ sym (state-append demand_access start (take m keys) piece)
+      ∙ ap (state_after_all demand_access start) (ap (λ (l : List ℕ). take m keys ++ l) is ∙ sym (take-add m size keys))
+
+  -- what stops in the piece stops in the keys
+  pub stopped-later : (e : DemandState) → DemandStops piece d e → DemandStops keys start e
+  stopped-later e s =
+      let rest = drop size (drop m keys) in
+      record {
+        made = take m keys ++ s.made;
+        next = s.next;
+        later = s.later ++ rest;
+        split = sym (take-append-drop m keys)
+            ∙ ap (λ l. take m keys ++ l) (sym (take-append-drop size (drop m keys)) ∙ ap (λ l. l ++ rest) (sym is ∙ s.split))
+            ∙ ap (λ l. take m keys ++ l) (append_assoc s.made (s.next ∷ s.later) rest)
+            ∙ sym (append_assoc (take m keys) s.made (s.next ∷ (s.later ++ rest)));
+        stands = s.stands ∙ ap (λ (x : DemandState). state_after_all demand_access x s.made) was ∙ sym (state-append demand_access start (take m keys) s.made);
+        asks = s.asks;
+      }
