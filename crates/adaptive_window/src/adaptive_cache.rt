@@ -5,8 +5,8 @@ ghost use Rattle.engine_base.specs.declared.limits.TheConstants.{MAX_STEPS};
 ghost use Rattle.engine_base.specs.Config.{config_fault};
 ghost use Rattle.named_queues.specs.SegmentQueues.{three_queues as three_queues_of};
 ghost use Rattle.segments.specs.Queues.{queue_holding, residents_in};
-ghost use Rattle.key_rows.specs.KeyRow.{row_of};
-ghost use Rattle.key_rows.specs.SegmentKeys.{AreKeys};
+ghost use Rattle.named_queues.specs.KeyRow.{row_of};
+ghost use Rattle.named_queues.specs.SegmentKeys.{AreKeys};
 ghost use Rattle.adaptive_window.specs.AdaptiveCache.{empty_cache, cache_act, cache_may_ask};
 
 use crate::adaptive_window::AdaptiveWindow;

@@ -5,7 +5,7 @@ use Rattle.std.proofs.lemmas.List.{at_drop_more, get_or-map, get_or-set_other, g
 use Rattle.engine_base.specs.declared.step.Call.TheVariants.{Read}
 use Rattle.engine_base.specs.History.{Entries}
 use Rattle.journal.specs.Session.{SessionState}
-use Rattle.walks.specs.WorkerEntries.{entries_of}
+use Rattle.shell_model.specs.WorkerEntries.{entries_of}
 use Rattle.workers.specs.Runs.{Step, Reply, Call, IsRun}
 use Rattle.cachesim.specs.WorkerReads.{reads_of, IsDealt, AreOfReads}
 

@@ -5,8 +5,8 @@ use Rattle.journal_text.specs.declared.fault.JournalFault.{JournalFault}
 use Rattle.journal_text.specs.declared.fault.JournalFault.TheVariants as reading
 pub use Rattle.debug_commands.specs.declared.fault.DebugFault.{DebugFault}
 use Rattle.debug_commands.specs.declared.fault.DebugFault.TheVariants as debug
-use Rattle.trace_sample.specs.declared.fault.SampleFault.{SampleFault}
-use Rattle.trace_sample.specs.declared.fault.SampleFault.TheVariants as sample
+use Rattle.trace_read.specs.declared.sample_fault.SampleFault.{SampleFault}
+use Rattle.trace_read.specs.declared.sample_fault.SampleFault.TheVariants as sample
 use Rattle.cachesim.specs.declared.files.FileFault.{FileFault}
 use Rattle.cachesim.specs.declared.files.FileFault.TheVariants as file
 pub use Rattle.cachesim.specs.declared.fault.Fault.{Fault}

@@ -5,9 +5,9 @@ use Rattle.std.specs.Io.KnownBytes.{Appends}
 use Rattle.streams.specs.Part.{AppendsPart}
 use Rattle.trace_read.specs.TraceText.{keys_in}
 use Rattle.trace_read.specs.declared.limits.TheConstants.Limits.{LONG}
-use Rattle.trace_sample.specs.Numbers.{numbers_text}
-use Rattle.trace_sample.specs.Sample.{block_count, sample_of}
-pub use Rattle.trace_sample.specs.declared.counts.SampleCounts.{SampleCounts}
+use Rattle.trace_read.specs.Numbers.{numbers_text}
+use Rattle.trace_read.specs.Sample.{block_count, sample_of}
+pub use Rattle.trace_read.specs.declared.sample_counts.SampleCounts.{SampleCounts}
 pub use Rattle.command_line.specs.declared.arguments.SampleArguments.{SampleArguments}
 use Rattle.cachesim.specs.TraceOutput.{IfFaultlessWithin}
 

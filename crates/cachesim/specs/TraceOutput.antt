@@ -15,9 +15,9 @@ use Rattle.policies.specs.AnyPolicy.{outcomes_on}
 use Rattle.policies.specs.Reports.{report_on}
 use Rattle.policies.specs.declared.job_checks.TheConstants.{MAX_ACTORS}
 use Rattle.sweeps.specs.Intervals.{Interval, intervals_on}
-use Rattle.trace_footprint.specs.Footprint.{footprint_of, footprint_text}
+use Rattle.trace_index.specs.Footprint.{footprint_of, footprint_text}
 use Rattle.report.specs.IntervalText.{intervals_text}
-use Rattle.policy_queues.specs.QueueRows.{queues_text}
+use Rattle.policy_comparison.specs.QueueRows.{queues_text}
 use Rattle.report.specs.Text.{Report, reports_text}
 use Rattle.policy_comparison.specs.ComparedIntervals.{compared_intervals_on, compared_intervals_text}
 use Rattle.policy_comparison.specs.Comparison.{compared_on, comparison_text}

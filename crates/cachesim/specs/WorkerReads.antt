@@ -3,8 +3,8 @@ use Rattle.std.specs.Prelude.{◌≡◌, ℕ, ◌+◌, ◌<◌, ◌≤◌, ◌%�
 use Rattle.std.specs.Prelude.{Option, Some, None, IfSome}
 use Rattle.engine_base.specs.declared.step.Call.TheVariants.{Read}
 use Rattle.engine_base.specs.History.{Entries}
-use Rattle.walks.specs.Walks.{Call, AreWalks}
-use Rattle.walks.specs.WorkerEntries.{entries_of}
+use Rattle.shell_model.specs.Walks.{Call, AreWalks}
+use Rattle.shell_model.specs.WorkerEntries.{entries_of}
 use Rattle.workers.specs.Runs.{AreWalksUpTo, first_cause, IsCauseIn}
 use Rattle.workers.specs.declared.run.Cause.{Cause}
 

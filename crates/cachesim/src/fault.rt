@@ -10,8 +10,7 @@ use policies::ActorFault;
 use std::alloc::AllocError;
 use std::fmt;
 use streams::WriteFault;
-use trace_read::TraceFault;
-use trace_sample::SampleFault;
+use trace_read::{SampleFault, TraceFault};
 
 /// Why a subcommand printed no result. It is displayed as the program prints it after `fault: `.
 #[derive(Clone, Copy)]

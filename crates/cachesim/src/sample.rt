@@ -10,7 +10,7 @@ use command_line::SampleArguments;
 use progress::Watch;
 use std::alloc::{AllocError, Global};
 use streams::{CountedRead, CountedWrite};
-use trace_sample::{SampleCounts, SampleRule, write_sample};
+use trace_read::{SampleCounts, SampleRule, write_sample};
 
 /// Writes the sample of the trace, and returns the line that says what it is.
 pub fn sample<R: CountedRead, W: CountedWrite, P: Watch>(

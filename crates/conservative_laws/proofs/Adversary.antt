@@ -10,7 +10,7 @@ use Rattle.engine_base.specs.Stats.{one_if}
 use Rattle.queue_cache.proofs.Recency.{IsDistinct}
 use Rattle.policy_page.specs.Residents.{times}
 use Rattle.policy_page.proofs.Residents.{times-none, times-some}
-use Rattle.optimality.specs.Strategy.{IsStrategy, strategy_hits, strategy_misses}
+use Rattle.policy_laws.specs.Strategy.{IsStrategy, strategy_hits, strategy_misses}
 use Rattle.std.proofs.Math.Nat.{mul-add, add-mul, mul-le-mul_left}
 use Rattle.policies.specs.AnyPolicy.{Job, stats_on}
 use Rattle.conservative_laws.specs.Conservative.{misses_on}

@@ -6,7 +6,7 @@ use Rattle.std.proofs.lemmas.Bool.Decides.{nat_tests}
 use Rattle.engine_base.specs.Keys.{has_key}
 use Rattle.engine_base.specs.Stats.{one_if}
 use Rattle.queue_cache.specs.Lru.{distinct_keys}
-use Rattle.optimality.specs.Strategy.{strategy_misses}
+use Rattle.policy_laws.specs.Strategy.{strategy_misses}
 use Rattle.engine_base.specs.Machine.{state_after_all}
 use Rattle.policy_page.specs.Residents.{times}
 use Rattle.policy_page.specs.CountedKeys.{CountedKey, keys_of, with_count, oldest_count, AreCounted}

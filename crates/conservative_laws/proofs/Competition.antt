@@ -8,8 +8,8 @@ use Rattle.engine_base.specs.Stats.{one_if}
 use Rattle.clairvoyant.proofs.Belady.{later}
 use Rattle.engine_base.proofs.Counting.{one-few}
 use Rattle.queue_cache.specs.Lru.{distinct_keys}
-use Rattle.optimality.specs.Strategy.{IsStrategy, strategy_misses}
-use Rattle.optimality.proofs.Optimal.{head-has}
+use Rattle.policy_laws.specs.Strategy.{IsStrategy, strategy_misses}
+use Rattle.policy_laws.proofs.Optimal.{head-has}
 use Rattle.conservative_laws.specs.Conservative.{stretch, IsConservative, FillsFirst}
 use Rattle.conservative_laws.specs.Theorems.{NeverBypasses, ConservativeCompetes, ConservativeCompetesWithoutBypass, FillingCompetes, FillingCompetesWithoutBypass}
 use Rattle.conservative_laws.proofs.Stretches.{misses-next, distinct-few, has-some, stretch-none, stretch-next, one-of}

@@ -24,8 +24,8 @@ use Rattle.policies.specs.Design.{design_of}
 use Rattle.policies.specs.AnyPolicy.{Job, demand_outcomes, outcomes_by, outcomes_on, stats_on}
 use Rattle.policies.specs.Theorems.{AnyCoversTrace}
 use Rattle.policies.proofs.Designs.{design-named}
-use Rattle.optimality.specs.Strategy.{IsStrategy, strategy_misses}
-use Rattle.optimality.specs.Theorems.{BeladyIsStrategy}
+use Rattle.policy_laws.specs.Strategy.{IsStrategy, strategy_misses}
+use Rattle.policy_laws.specs.Optimality.{BeladyIsStrategy}
 use Rattle.policy_laws.proofs.Beaten.{ActsAsStrategy, acts-as-strategy}
 use Rattle.policy_laws.proofs.Lru.{lru_at}
 use Rattle.policy_laws.proofs.Strategies.{IsOnline, strategy, hits-are, served}

@@ -9,7 +9,7 @@ use Rattle.engine_base.specs.declared.outcome.Outcome.TheVariants.{Hit, Kept, Ev
 use Rattle.clairvoyant.proofs.Belady.{later}
 use Rattle.queue_cache.specs.Lru.{distinct_keys, keys_since}
 use Rattle.queue_cache.proofs.Recency.{outcome-residents}
-use Rattle.optimality.specs.Strategy.{strategy_misses}
+use Rattle.policy_laws.specs.Strategy.{strategy_misses}
 use Rattle.policy_laws.proofs.Lru.{lru_at}
 use Rattle.conservative_laws.specs.Conservative.{stretch, IsConservative, FillsFirst}
 use Rattle.conservative_laws.proofs.Stretches.{misses-next, distinct-subset, stretch-next, has-last}

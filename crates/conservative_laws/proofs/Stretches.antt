@@ -7,7 +7,7 @@ use Rattle.std.proofs.Math.Seq.{drop-length, take-suc}
 use Rattle.engine_base.specs.Keys.{has_key}
 use Rattle.queue_cache.specs.Lru.{distinct_keys}
 use Rattle.replacement.proofs.Residents.{has-append}
-use Rattle.optimality.proofs.Optimal.{count_keys, count-short, count-subset, head-has}
+use Rattle.policy_laws.proofs.Optimal.{count_keys, count-short, count-subset, head-has}
 use Rattle.policy_page.specs.Residents.{times}
 use Rattle.policy_page.proofs.Residents.{no-times}
 use Rattle.conservative_laws.specs.Conservative.{stretch, IsConservative}
@@ -22,7 +22,7 @@ use Rattle.policies.specs.Design.{Job, queue_setup}
 use Rattle.policies.specs.AnyPolicy.{outcomes_on, stats_on}
 use Rattle.policies.specs.Theorems.{AnyCoversTrace}
 use Rattle.queue_cache.specs.Theorems.{LruStepLaw}
-use Rattle.optimality.specs.Strategy.{strategy_hits, strategy_misses}
+use Rattle.policy_laws.specs.Strategy.{strategy_hits, strategy_misses}
 use Rattle.policy_laws.proofs.Strategies.{IsOnline, hits-are}
 use Rattle.policy_laws.proofs.Lru.{queue_residents, lru-online, lru_at, hits-agree, lru-kept}
 

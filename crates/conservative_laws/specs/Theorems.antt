@@ -5,7 +5,7 @@ use Rattle.engine_base.specs.Keys.{has_key}
 use Rattle.step_record.specs.declared.job.Policy.TheVariants.{Lru, Fifo, Clock}
 use Rattle.policies.specs.AnyPolicy.{Job, stats_on}
 use Rattle.policies.specs.Design.{Policy, knows_trace}
-use Rattle.optimality.specs.Strategy.{IsStrategy, strategy_misses}
+use Rattle.policy_laws.specs.Strategy.{IsStrategy, strategy_misses}
 use Rattle.conservative_laws.specs.Conservative.{misses_on, IsConservative, FillsFirst}
 
 -- a strategy that never bypasses the cache: each accessed key is resident after its access

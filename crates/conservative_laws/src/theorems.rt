@@ -78,7 +78,7 @@ pub fn lru_fifo_clock_compete_with_any()
 {
     lru_fifo_clock_compete();
     policies::theorems::any_covers_trace();
-    optimality::theorems::belady_is_strategy();
+    policy_laws::optimality::belady_is_strategy();
 }
 
 /// So the reports of jobs over a trace, whichever call made them, obey laws that their reader can check: the counts add

@@ -1,7 +1,7 @@
 //! The buffers of the concurrent cache, filled.
 use super::assertions::assert_equal;
 use engine_base::Item;
-use shell_buffers::{Stripes, Task, WriteTasks};
+use shell_model::{Stripes, Task, WriteTasks};
 use std::test::Fail;
 
 #[test]

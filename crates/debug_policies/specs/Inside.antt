@@ -11,7 +11,7 @@ use Rattle.named_queues.specs.NamedQueue.{NamedQueueData}
 use Rattle.named_queues.specs.declared.named_queue.QueueKey.{QueueKey}
 use Rattle.policies.specs.AnyPolicy.{adaptive_engine}
 use Rattle.policies.specs.Design.{design_of, queue_setup}
-use Rattle.policy_queues.specs.QueuesAt.{queues_at}
+use Rattle.policy_comparison.specs.QueuesAt.{queues_at}
 use Rattle.policies.specs.declared.design.Design.{Design}
 use Rattle.policies.specs.declared.design.Design.TheVariants.{KnowsTrace, Queues, Demand, Adaptive}
 use Rattle.queue_cache.specs.QueueCache.{frequency_after}

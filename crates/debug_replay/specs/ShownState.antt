@@ -6,8 +6,8 @@ use Rattle.engine_base.specs.declared.drain.Drain.TheVariants as drain
 use Rattle.engine_base.specs.declared.drain.Phase.TheVariants.{Reads, Writes, Evictions}
 use Rattle.admission.specs.Frequency.{FrequencyData}
 use Rattle.streams.specs.Texts.{count_text}
-use Rattle.shell_buffers.specs.Buffers.{Item, stripe_at}
-use Rattle.shell_buffers.specs.declared.task.Task.TheVariants.{Add, Update, Remove}
+use Rattle.shell_model.specs.Buffers.{Item, stripe_at}
+use Rattle.shell_model.specs.declared.task.Task.TheVariants.{Add, Update, Remove}
 use Rattle.shell_model.specs.Shell.{Task, Phase, Drain, Shell}
 use Rattle.shell_model.specs.declared.holder.Holder.{Holder}
 use Rattle.shell_model.specs.declared.stats.ShellStats.{ShellStats}

@@ -11,8 +11,7 @@ use admission::Frequency;
 use engine_base::{Drain, Item, Phase};
 use maintenance::Shell;
 use segments::Queue;
-use shell_buffers::Task;
-use shell_model::ShellStats;
+use shell_model::{ShellStats, Task};
 use std::alloc::{AllocError, Global};
 use streams::{push_count, push_counts_line, push_pieces};
 

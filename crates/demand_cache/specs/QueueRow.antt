@@ -1,7 +1,7 @@
 -- What a policy shows under a name, from its queues by number and its own number.
 use Rattle.std.specs.Prelude.{◌≡◌, ℕ, ◌<◌, Option, List, [], ◌∷◌, map}
 use Rattle.engine_base.specs.Keys.{has_key}
-use Rattle.key_rows.specs.KeyRow.{is_number}
+use Rattle.named_queues.specs.KeyRow.{is_number}
 use Rattle.named_queues.specs.NamedQueue.{NamedQueueData, numbered_key, plain_queue}
 use Rattle.named_queues.specs.declared.named_queue.QueueKey.{QueueKey}
 use Rattle.policy_page.specs.QueueView.{counted_keys, counted_queue}

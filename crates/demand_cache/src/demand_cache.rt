@@ -7,7 +7,7 @@ ghost use Rattle.engine_base.specs.Machine.{state_after_all};
 ghost use Rattle.demand_cache.specs.DemandQueues.{empty_cache, queues_residents, queues_named};
 ghost use Rattle.demand_cache.specs.QueueRow.{named_row, numbered_keys, IsLowRow, IsQueueOf};
 ghost use Rattle.named_queues.specs.NamedQueue.{plain_key};
-ghost use Rattle.key_rows.specs.KeyRow.{has_named, is_number, row_of};
+ghost use Rattle.named_queues.specs.KeyRow.{has_named, is_number, row_of};
 ghost use Rattle.queue_moves.specs.Tabled.{keys_of};
 ghost use Rattle.queue_table.specs.Queues.{Queues};
 

@@ -3,5 +3,5 @@
 #![tactic(auto)]
 
 pub use quiet_run::{QuietFault, SettleFault, run_quiet, settle, theorems};
-pub use walks::{Local, Next, next_step};
+pub use shell_model::{Local, Next, next_step};
 pub use workers::{Cause, DriveFault, Driven, drive};

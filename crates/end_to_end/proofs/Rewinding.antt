@@ -8,8 +8,8 @@ use Rattle.shell_model.specs.Shell.{Shell, act}
 use Rattle.journal.specs.Session.{IsMovedTo}
 use Rattle.journal.specs.Faults.{StandsBack}
 use Rattle.journal.specs.declared.fault.BackFault.TheVariants as back
-use Rattle.walks.specs.Walks.{Call, AreWalks}
-use Rattle.walks.specs.WorkerEntries.{entries_of}
+use Rattle.shell_model.specs.Walks.{Call, AreWalks}
+use Rattle.shell_model.specs.WorkerEntries.{entries_of}
 use Rattle.workers.specs.Runs.{IsRun, IsRunUpTo, AreWalksUpTo, IsCauseIn, first_cause}
 use Rattle.workers.specs.WorkerStates.{ShellSession}
 use Rattle.workers.proofs.Turning.{legal_split, after_append}

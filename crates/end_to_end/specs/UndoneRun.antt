@@ -8,7 +8,7 @@ use Rattle.journal.specs.declared.fault.BackFault.TheVariants as back
 use Rattle.workers.specs.declared.run.DriveFault.{DriveFault}
 use Rattle.workers.specs.declared.run.DriveFault.TheVariants as drive
 pub use Rattle.workers.specs.declared.run.Cause.{Cause}
-use Rattle.walks.specs.WorkerEntries.{entries_of}
+use Rattle.shell_model.specs.WorkerEntries.{entries_of}
 use Rattle.workers.specs.Runs.{Call, AreWalksUpTo, IsCauseIn, first_cause}
 use Rattle.workers.specs.WorkerStates.{Entry, ShellSession}
 

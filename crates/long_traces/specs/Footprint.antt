@@ -1,6 +1,6 @@
 -- What a counter has of a trace whose accesses come in pieces.
 use Rattle.std.specs.Prelude.{ℕ, List, take}
-use Rattle.trace_footprint.specs.Counter.{HasCounted}
+use Rattle.trace_index.specs.FootprintCounter.{HasCounted}
 use Rattle.sweeps.specs.Taking.{Task}
 use Rattle.long_traces.specs.declared.footprints.CountedTrace.{CountedTrace}
 

@@ -1,8 +1,8 @@
 //! How large a trace is that is read.
 ghost use Rattle.std.specs.Prelude.{◌≡◌, ◌≤◌, [], Err, IfOk, IfSome};
 ghost use Rattle.streams.specs.Tally.{FailsWhere};
-ghost use Rattle.trace_footprint.specs.Counter.{HasCounted};
-ghost use Rattle.trace_footprint.specs.Footprint.{footprint_of};
+ghost use Rattle.trace_index.specs.FootprintCounter.{HasCounted};
+ghost use Rattle.trace_index.specs.Footprint.{footprint_of};
 ghost use Rattle.trace_read.specs.ReadTrace.{IsReadWithin};
 ghost use Rattle.trace_read.specs.TraceText.{keys_in};
 ghost use Rattle.trace_read.specs.declared.limits.TheConstants.{MAX_LONG_ACCESSES, MAX_LONG_TRACE_BYTES};
@@ -13,7 +13,7 @@ use std::thread::Threads;
 use step_record::{Key, Trace};
 use streams::CountedRead;
 use sweeps::Taker;
-use trace_footprint::{Footprint, FootprintCounter};
+use trace_index::{Footprint, FootprintCounter};
 use trace_read::{Format, Limits, TraceFault};
 
 /// How large the trace is that the reader gives. Beside a piece of it, memory has a number for each block.

@@ -8,8 +8,7 @@ ghost use Rattle.shell_model.specs.Shell.{after_write, after_read, held_by};
 
 use crate::shell_core::ShellCore;
 use engine_base::{Answer, Drain, Item, Key, Phase, Reply, Worker};
-use shell_buffers::{MAX_TASKS, Task};
-use shell_model::{Change, Holder};
+use shell_model::{Change, Holder, MAX_TASKS, Task};
 use std::alloc::AllocError;
 
 impl ShellCore {

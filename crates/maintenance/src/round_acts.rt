@@ -4,8 +4,8 @@ ghost use Rattle.std.specs.Prelude.{IfOk, IsSome, OnOk, OnErr};
 ghost use Rattle.engine_base.specs.declared.item.Item.{Item as ItemValue};
 ghost use Rattle.engine_base.specs.declared.limits.TheConstants.{MAX_STEPS};
 ghost use Rattle.engine_base.specs.declared.step.Act.TheVariants as act;
-ghost use Rattle.shell_buffers.specs.declared.task.Task.TheVariants.{Add};
-ghost use Rattle.shell_buffers.specs.Buffers.{stripe_at};
+ghost use Rattle.shell_model.specs.declared.task.Task.TheVariants.{Add};
+ghost use Rattle.shell_model.specs.Buffers.{stripe_at};
 ghost use Rattle.segments.specs.Queues.{IsDistinct, queue_holding};
 ghost use Rattle.replacement.specs.Plan.{candidate_of};
 ghost use Rattle.replacement.specs.Rules.{three_queues};
@@ -25,8 +25,7 @@ use admission::{FreqRecord, Frequency};
 use engine_base::{Drain, Item, Key, Outcome, Phase, Reply, Worker};
 use replacement::{Effect, Leaver, Moves, Rules};
 use segments::{MoveRecord, Queue, Segments};
-use shell_buffers::Task;
-use shell_model::{Change, EvictionRecord, Holder, UseRecord};
+use shell_model::{Change, EvictionRecord, Holder, Task, UseRecord};
 use std::alloc::AllocError;
 
 impl ShellCore {

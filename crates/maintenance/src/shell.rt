@@ -4,7 +4,7 @@ ghost use Rattle.std.specs.Prelude.{option_map};
 ghost use Rattle.engine_base.specs.declared.limits.TheConstants.{MAX_STRIPES};
 ghost use Rattle.engine_base.specs.Config.{config_fault};
 ghost use Rattle.segments.specs.Queues.{queue_of};
-ghost use Rattle.shell_buffers.specs.Buffers.{stripe_at};
+ghost use Rattle.shell_model.specs.Buffers.{stripe_at};
 ghost use Rattle.shell_model.specs.Shell.{node_of};
 ghost use Rattle.shell_model.specs.ReachableShell.{IsReachable};
 ghost use Rattle.maintenance.specs.EmptyShell.{IsOpened, holder_parts};
@@ -15,8 +15,7 @@ use admission::Frequency;
 use engine_base::{Config, Drain, Engine, Item, Key, Node, Phase, Reply, Step, StepFault, Worker};
 use replacement::Rules;
 use segments::{Queue, Segments};
-use shell_buffers::{Stripes, Task, WriteTasks};
-use shell_model::{Change, ShellRecord, ShellStats};
+use shell_model::{Change, ShellRecord, ShellStats, Stripes, Task, WriteTasks};
 use std::alloc::{AllocError, Global};
 use std::marker::Model;
 

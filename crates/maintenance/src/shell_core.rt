@@ -12,8 +12,7 @@ use admission::Frequency;
 use engine_base::{Act, Config, Drain, MAX_STEPS, Phase, Reply, Step, StepFault, Worker};
 use replacement::Rules;
 use segments::Segments;
-use shell_buffers::{Stripes, WriteTasks};
-use shell_model::{Change, Counted, Holder, ShellRecord, ShellStats};
+use shell_model::{Change, Counted, Holder, ShellRecord, ShellStats, Stripes, WriteTasks};
 use std::alloc::AllocError;
 use std::marker::Model;
 

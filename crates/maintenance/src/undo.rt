@@ -13,8 +13,7 @@ use crate::shell_core::ShellCore;
 use admission::{FreqRecord, Frequency};
 use engine_base::{Item, Phase};
 use segments::MoveRecord;
-use shell_buffers::Task;
-use shell_model::{Change, EvictionRecord, ShellRecord, UseRecord};
+use shell_model::{Change, EvictionRecord, ShellRecord, Task, UseRecord};
 use std::alloc::AllocError;
 
 impl ShellCore {

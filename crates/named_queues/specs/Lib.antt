@@ -1,2 +1,4 @@
 pub mod NamedQueue
 pub mod SegmentQueues
+pub mod KeyRow
+pub mod SegmentKeys

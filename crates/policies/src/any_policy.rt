@@ -2,7 +2,7 @@
 ghost use Rattle.std.specs.Prelude.{◌≡◌, ◌≤◌, ◌↔◌, ℕ, List, MatchOption, IfOk, OnErr};
 ghost use Rattle.std.specs.Prelude.{Ok, Err, Some, None, [], option_map, length, true};
 ghost use Rattle.demand_cache.specs.DemandCache.{demand_act, demand_may_ask};
-ghost use Rattle.key_rows.specs.KeyRow.{left_key, row_left};
+ghost use Rattle.named_queues.specs.KeyRow.{left_key, row_left};
 
 use crate::design::{Design, design_of};
 use adaptive_window::{AdaptiveCache, AdaptiveRecord};

@@ -3,3 +3,7 @@ pub mod Texts
 pub mod Compared
 pub mod CutHits
 pub mod Two
+pub mod QueuesAt
+pub mod Rows
+pub mod Ended
+pub mod LeftKeys

@@ -6,3 +6,7 @@ pub mod Comparison
 pub mod ComparedIntervals
 pub mod ComparedRows
 pub mod ComparedRun
+pub mod QueuesAt
+pub mod QueueRows
+pub mod LeftKeys
+pub mod QueueRun

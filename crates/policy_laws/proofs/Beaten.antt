@@ -11,8 +11,8 @@ use Rattle.policies.specs.AnyPolicy.{Stats, stats_in, stats_on, HasAccessed}
 use Rattle.policies.proofs.Designs.{optimal-is, optimal-knows}
 use Rattle.policies.proofs.Machines.{HasMachine, any_keeps, run_of, run-counted}
 use Rattle.policies.proofs.StepLaws.{optimal-outcomes}
-use Rattle.optimality.specs.Strategy.{IsStrategy, strategy_hits}
-use Rattle.optimality.specs.Theorems.{belady_hits, BeladyIsOptimal, BeladyIsStrategy, BeladyHitsGrow}
+use Rattle.policy_laws.specs.Strategy.{IsStrategy, strategy_hits}
+use Rattle.policy_laws.specs.Optimality.{belady_hits, BeladyIsOptimal, BeladyIsStrategy, BeladyHitsGrow}
 use Rattle.policy_laws.specs.Theorems.{AnyPolicy, NoPolicyBeatsBelady, BeladyLeads, OptimalHitsGrow}
 use Rattle.policy_laws.proofs.Strategies.{IsOnline, hits-by, strategy, hits-are, all-hits, served}
 

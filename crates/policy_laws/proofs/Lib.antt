@@ -1,3 +1,4 @@
+pub mod Optimal
 pub mod Strategies
 pub mod Beaten
 pub mod Lru

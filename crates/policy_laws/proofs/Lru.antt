@@ -18,7 +18,7 @@ use Rattle.queue_cache.specs.Theorems.{LruStepLaw}
 use Rattle.engine_base.proofs.Machine.{residents-fit}
 use Rattle.queue_cache.proofs.Balance.{queue-keeps}
 use Rattle.queue_cache.proofs.Recency.{has-drop}
-use Rattle.optimality.specs.Strategy.{strategy_hits}
+use Rattle.policy_laws.specs.Strategy.{strategy_hits}
 use Rattle.policy_laws.specs.Theorems.{LruHitsGrow}
 use Rattle.policy_laws.proofs.Strategies.{IsOnline, all-hits}
 use Rattle.policy_laws.proofs.Beaten.{online}

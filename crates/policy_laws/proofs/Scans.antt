@@ -20,7 +20,7 @@ use Rattle.queue_cache.specs.Design.{Rules, rules_of}
 use Rattle.queue_cache.specs.declared.design.QueueSetup.{QueueSetup}
 use Rattle.queue_cache.specs.QueueCache.{QueueState, queue_access, queue_machine, empty_queue_state, state_after, IsQueueState}
 use Rattle.queue_cache.proofs.Balance.{queue-keeps, after-stands}
-use Rattle.optimality.proofs.Optimal.{no}
+use Rattle.policy_laws.proofs.Optimal.{no}
 use Rattle.policy_laws.specs.Scans.{IsScan, ScansSpareProtected}
 
 -- ---- a miss of a policy whose new keys join probation

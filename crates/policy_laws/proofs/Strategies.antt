@@ -9,7 +9,7 @@ use Rattle.engine_base.specs.declared.outcome.Outcome.{Outcome}
 use Rattle.engine_base.specs.Machine.{Machine, after, outcomes, KeepsKeys}
 use Rattle.engine_base.specs.Stats.{is_hit, one_if}
 use Rattle.engine_base.proofs.Machine.{next, outcomes-append, stands, residents-fit}
-use Rattle.optimality.specs.Strategy.{IsStrategy, strategy_hits}
+use Rattle.policy_laws.specs.Strategy.{IsStrategy, strategy_hits}
 
 -- what a cache of capacity c holds after some accesses, and how many of them were hits: a hit is an access to a resident
 -- key, and no key comes in but the accessed one

@@ -1,3 +1,5 @@
+pub mod Strategy
+pub mod Optimality
 pub mod Theorems
 pub mod Scans
 pub mod Names

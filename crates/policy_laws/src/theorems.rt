@@ -8,8 +8,8 @@ ghost use Rattle.policy_laws.specs.Theorems.{NoPolicyBeatsBelady, BeladyLeads, O
 pub fn no_policy_beats_belady()
     ensures { NoPolicyBeatsBelady }
 {
-    optimality::theorems::belady_is_optimal();
-    optimality::theorems::belady_is_strategy();
+    crate::optimality::belady_is_optimal();
+    crate::optimality::belady_is_strategy();
 }
 
 /// So it is at each place of a trace, for two caches that made the same accesses.
@@ -17,7 +17,7 @@ pub fn no_policy_beats_belady()
 pub fn belady_leads()
     ensures { BeladyLeads }
 {
-    optimality::theorems::belady_is_optimal();
+    crate::optimality::belady_is_optimal();
 }
 
 /// At a larger capacity Belady's optimal policy has no fewer hits. (Mattson and others 1970.)
@@ -25,7 +25,7 @@ pub fn belady_leads()
 pub fn optimal_hits_grow()
     ensures { OptimalHitsGrow }
 {
-    optimality::theorems::belady_hits_grow();
+    crate::optimality::belady_hits_grow();
 }
 
 /// At a larger capacity Lru has no fewer hits, since it holds what it holds at a smaller one. (Mattson and others

@@ -6,9 +6,9 @@ use Rattle.engine_base.specs.History.{Entries, tail_after}
 use Rattle.engine_base.proofs.Undone.{tail_joined}
 use Rattle.shell_model.specs.ReachableShell.{Step, Reply, worker_of}
 use Rattle.maintenance.specs.EmptyShell.{Holder, Phase, holder_parts}
-use Rattle.walks.specs.declared.place.Local.{Local}
-use Rattle.walks.specs.WalkPlaces.{IsWalkFrom, phase_act}
-use Rattle.walks.specs.NextActs.{IsAheadOf}
+use Rattle.shell_model.specs.declared.place.Local.{Local}
+use Rattle.shell_model.specs.WalkPlaces.{IsWalkFrom, phase_act}
+use Rattle.shell_model.specs.NextActs.{IsAheadOf}
 use Rattle.quiet_run.specs.Outcomes.{Outcome, outcome_with_reply, outcome_from}
 use Rattle.quiet_run.specs.QuietWalks.{Entry, with_rounds}
 use Rattle.quiet_run.specs.Settle.{ShellSession, AddsSteps, IsAtStart, IsRestOfRound, IsRest}

@@ -12,16 +12,16 @@ use Rattle.shell_model.specs.Laws.{Phase, Act, Entry, is_ending}
 use Rattle.shell_model.specs.Shell.{Shell, held_by, act_reply, act as acted}
 use Rattle.shell_model.proofs.Engines.{hold_laws}
 use Rattle.shell_model.proofs.Reached.{reached-sound, reached-on}
-use Rattle.walks.specs.declared.place.Local.{Local}
-use Rattle.walks.specs.declared.next.Next.{Next}
-use Rattle.walks.specs.declared.next.Next.TheVariants as next_act
-use Rattle.walks.specs.Walks.{step_of}
-use Rattle.walks.specs.WalkPlaces.{IsWalkFrom, phase_act}
-use Rattle.walks.specs.NextActs.{IsAheadOf, AheadAfter, IsRestOfWalk, IsAskedNext}
-use Rattle.walks.proofs.Standing.{Standing, Stands, phase_of, next_of, ActFits, accepts, mine, own_step, other_step, not_of}
-use Rattle.walks.proofs.Asking.{follow, first_step, not_over}
-use Rattle.walks.proofs.Walking.{asked_of, completion, not_done, same_step}
-use Rattle.walks.proofs.Admitting.{at_start, no_node, starts, nobody}
+use Rattle.shell_model.specs.declared.place.Local.{Local}
+use Rattle.shell_model.specs.declared.next.Next.{Next}
+use Rattle.shell_model.specs.declared.next.Next.TheVariants as next_act
+use Rattle.shell_model.specs.Walks.{step_of}
+use Rattle.shell_model.specs.WalkPlaces.{IsWalkFrom, phase_act}
+use Rattle.shell_model.specs.NextActs.{IsAheadOf, AheadAfter, IsRestOfWalk, IsAskedNext}
+use Rattle.shell_model.proofs.Standing.{Standing, Stands, phase_of, next_of, ActFits, accepts, mine, own_step, other_step, not_of}
+use Rattle.shell_model.proofs.Asking.{follow, first_step, not_over}
+use Rattle.shell_model.proofs.Walking.{asked_of, completion, not_done, same_step}
+use Rattle.shell_model.proofs.Admitting.{at_start, no_node, starts, nobody}
 use Rattle.quiet_run.specs.QuietWalks.{reply_with_round, entry_with_round, with_rounds}
 use Rattle.quiet_run.specs.Settle.{Holder, IsAtStart}
 use Rattle.quiet_run.proofs.Rounds.{finish_rounds}

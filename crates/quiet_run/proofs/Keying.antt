@@ -5,7 +5,7 @@ use Rattle.engine_base.specs.declared.outcome.Outcome.TheVariants as outcome
 use Rattle.engine_base.specs.declared.step.Act.TheVariants as act
 use Rattle.engine_base.specs.declared.step.Reply.TheVariants as reply
 use Rattle.engine_base.specs.History.{Entries}
-use Rattle.walks.specs.Walks.{step_of}
+use Rattle.shell_model.specs.Walks.{step_of}
 use Rattle.quiet_run.specs.Outcomes.{Outcome, outcome_from}
 use Rattle.quiet_run.specs.QuietWalks.{IsQuietWalk, AreQuietWalks, BeginQuietWalks}
 

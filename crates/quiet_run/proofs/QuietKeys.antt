@@ -12,14 +12,14 @@ use Rattle.engine_base.specs.declared.drain.Phase.TheVariants.{Reads, Writes}
 use Rattle.admission.specs.Frequency.{FrequencyData}
 use Rattle.segments.specs.declared.records.Queue.TheVariants.{Window}
 use Rattle.segments.specs.Queues.{Queues, queues_after_push}
-use Rattle.shell_buffers.specs.declared.task.Task.TheVariants.{Add}
-use Rattle.shell_buffers.specs.Buffers.{Item, stripe_at}
+use Rattle.shell_model.specs.declared.task.Task.TheVariants.{Add}
+use Rattle.shell_model.specs.Buffers.{Item, stripe_at}
 use Rattle.shell_model.specs.declared.stats.ShellStats.{ShellStats}
 use Rattle.shell_model.specs.Frequency.{frequency_recorded}
 use Rattle.shell_model.specs.ShellStats.{shell_stats_after}
 use Rattle.replacement.specs.Table.{Outcome, after_hit}
 use Rattle.shell_model.specs.Shell.{Shell, window_size, shell_protected_size, node_of, table_with, unlisted_by}
-use Rattle.walks.specs.Walks.{Opens, FollowsLook, FollowsOffer, FollowsPut, FollowsReport, IsRound, FollowsBegin, IsWriting, FollowsDrainWrite}
+use Rattle.shell_model.specs.Walks.{Opens, FollowsLook, FollowsOffer, FollowsPut, FollowsReport, IsRound, FollowsBegin, IsWriting, FollowsDrainWrite}
 use Rattle.quiet_run.specs.QuietWalks.{with_rounds, IsQuietWalk}
 use Rattle.quiet_run.proofs.QuietSteps.{Leads, opens, opens-with, state, held, Leaves}
 use Rattle.quiet_run.proofs.Rounds.{round}

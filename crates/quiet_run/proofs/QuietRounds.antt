@@ -17,13 +17,13 @@ use Rattle.segments.proofs.QueueLists.{length-without}
 use Rattle.replacement.specs.Admission.{admits_in}
 use Rattle.replacement.specs.Rules.{Config, three_queues}
 use Rattle.replacement.specs.Table.{Outcome, Response, contest, trial, eviction}
-use Rattle.shell_buffers.specs.Buffers.{stripe_at}
+use Rattle.shell_model.specs.Buffers.{stripe_at}
 use Rattle.shell_model.specs.declared.stats.ShellStats.{ShellStats}
 use Rattle.shell_model.specs.ShellStats.{Reply, shell_stats_after}
 use Rattle.shell_model.specs.Shell.{Task, Phase, Shell, window_size, reply_by, unlisted_by, may_write}
 use Rattle.shell_model.proofs.Making.{evict-is}
 use Rattle.shell_model.proofs.Undoing.{first-queued}
-use Rattle.walks.specs.Walks.{Opens, IsEnding, FollowsEnd, IsEvicting, FollowsEvict, IsWriting, FollowsDrainWrite, IsReading, FollowsDrainRead}
+use Rattle.shell_model.specs.Walks.{Opens, IsEnding, FollowsEnd, IsEvicting, FollowsEvict, IsWriting, FollowsDrainWrite, IsReading, FollowsDrainRead}
 use Rattle.quiet_run.specs.Outcomes.{outcome_with_reply}
 use Rattle.quiet_run.proofs.Agreeing.{evictions-law}
 use Rattle.quiet_run.proofs.QuietSteps.{Leads, opens, over, state, held, Leaves}

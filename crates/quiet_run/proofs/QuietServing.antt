@@ -19,7 +19,7 @@ use Rattle.replacement.proofs.Balance.{hit-renewed}
 use Rattle.replacement.proofs.Planned.{access-at}
 use Rattle.queue_cache.specs.QueueCache.{QueueState, access_response, queue_access}
 use Rattle.queue_cache.specs.QueueStep.{queue_act}
-use Rattle.shell_buffers.specs.Buffers.{stripe_at}
+use Rattle.shell_model.specs.Buffers.{stripe_at}
 use Rattle.shell_model.specs.declared.stats.ShellStats.{ShellStats}
 use Rattle.shell_model.specs.Frequency.{frequency_recorded}
 use Rattle.shell_model.specs.Shell.{Shell, window_size, shell_protected_size, node_of, act}

@@ -4,9 +4,9 @@ use Rattle.engine_base.specs.declared.step.Act.TheVariants as act
 use Rattle.engine_base.specs.declared.step.Answer.TheVariants as answer
 use Rattle.engine_base.specs.declared.step.Reply.TheVariants as reply
 use Rattle.engine_base.specs.History.{Entries}
-use Rattle.walks.specs.Walks.{Step, Reply, Act, step_of, IsRound, FollowsBegin, IsReading, FollowsDrainRead, IsWriting, FollowsDrainWrite, IsEvicting, FollowsEvict, IsEnding, FollowsEnd}
-use Rattle.walks.specs.WalkPlaces.{IsWalkFrom, is_place}
-use Rattle.walks.proofs.Finishing.{finish}
+use Rattle.shell_model.specs.Walks.{Step, Reply, Act, step_of, IsRound, FollowsBegin, IsReading, FollowsDrainRead, IsWriting, FollowsDrainWrite, IsEvicting, FollowsEvict, IsEnding, FollowsEnd}
+use Rattle.shell_model.specs.WalkPlaces.{IsWalkFrom, is_place}
+use Rattle.shell_model.proofs.Finishing.{finish}
 use Rattle.quiet_run.specs.QuietWalks.{Entry, reply_with_round, with_rounds}
 
 none : (es : Entries) → (with_rounds es ≡ []) ↔ (es ≡ [])

@@ -9,9 +9,9 @@ use Rattle.engine_base.specs.History.{Entries}
 use Rattle.journal.specs.declared.fault.SessionFault.TheVariants as cause
 use Rattle.quiet_run.specs.declared.run.QuietFault.{QuietFault}
 use Rattle.quiet_run.specs.declared.run.QuietFault.TheVariants as fault
-use Rattle.walks.specs.Walks.{Step, Reply, IsWalk}
+use Rattle.shell_model.specs.Walks.{Step, Reply, IsWalk}
 use Rattle.quiet_run.specs.Outcomes.{Outcome, outcome_from}
-use Rattle.walks.specs.WorkerEntries.{IsUnfinished}
+use Rattle.shell_model.specs.WorkerEntries.{IsUnfinished}
 use Rattle.quiet_run.specs.Settle.{ShellSession, AddsSteps, IsRefusalCause}
 
 -- A round follows every report, whatever its reply: its Go is taken for a Drain.

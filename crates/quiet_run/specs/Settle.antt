@@ -10,9 +10,9 @@ pub use Rattle.shell_model.specs.declared.holder.Holder.{Holder}
 use Rattle.shell_model.specs.Shell.{Phase, Step, Reply, Act, Shell}
 use Rattle.quiet_run.specs.declared.round.SettleFault.{SettleFault}
 use Rattle.quiet_run.specs.declared.round.SettleFault.TheVariants as fault
-use Rattle.walks.specs.WalkPlaces.{phase_act}
-use Rattle.walks.specs.WorkerEntries.{IsUnfinished}
-use Rattle.walks.specs.Walks.{IsReading, IsWriting, IsEvicting}
+use Rattle.shell_model.specs.WalkPlaces.{phase_act}
+use Rattle.shell_model.specs.WorkerEntries.{IsUnfinished}
+use Rattle.shell_model.specs.Walks.{IsReading, IsWriting, IsEvicting}
 
 abbrev pub ShellSession : Type 0
 ShellSession = SessionState Shell Shell Step Reply

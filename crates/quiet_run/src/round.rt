@@ -1,17 +1,17 @@
 //! Finishing the maintenance that a worker holds.
 ghost use Rattle.std.specs.Prelude.{◌≡◌, ◌≢◌, ℕ, None, Some, IfOk, IfErr, OnOk, OnErr, length};
 ghost use Rattle.shell_model.specs.ReachableShell.{IsReachable, worker_of};
-ghost use Rattle.walks.specs.NextActs.{IsAheadOf};
+ghost use Rattle.shell_model.specs.NextActs.{IsAheadOf};
 ghost use Rattle.quiet_run.specs.Outcomes.{outcome_with_reply, outcome_from};
-ghost use Rattle.walks.specs.WorkerEntries.{IsUnfinished};
+ghost use Rattle.shell_model.specs.WorkerEntries.{IsUnfinished};
 ghost use Rattle.quiet_run.specs.Settle.{AddsSteps, IsAtStart, IsRefusalCause, IsRest, BeginsRest, cause_of, steps_before};
 ghost use Rattle.quiet_run.specs.QuietWalks.{reply_with_round, with_rounds};
 
 use engine_base::{Outcome, Reply, Step};
 use journal::{Session, SessionFault};
 use maintenance::Shell;
+use shell_model::{Local, Next, next_step};
 use thiserror::Error;
-use walks::{Local, Next, next_step};
 
 /// Why a maintenance was not finished. The steps that were made stay applied.
 #[derive(Clone, Copy, Debug, Error)]

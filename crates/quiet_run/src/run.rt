@@ -7,7 +7,7 @@ ghost use Rattle.shell_model.specs.ReachableShell.{IsReachable};
 ghost use Rattle.quiet_run.specs.Quiet.{Config, IsQuiet, quiet_setup};
 ghost use Rattle.maintenance.specs.EmptyShell.{IsOpened};
 ghost use Rattle.quiet_run.specs.Outcomes.{outcome_from};
-ghost use Rattle.walks.specs.WorkerEntries.{IsUnfinished};
+ghost use Rattle.shell_model.specs.WorkerEntries.{IsUnfinished};
 ghost use Rattle.quiet_run.specs.Settle.{AddsSteps, IsRefusalCause};
 ghost use Rattle.quiet_run.specs.QuietWalks.{AreQuietWalks, BeginQuietWalks, IsQuietWalk, LeavesQuietFault};
 ghost use Rattle.quiet_run.specs.QuietRuns.{QuietGoesOn, IsPolicysRun};
@@ -16,9 +16,9 @@ use super::round::finish_walk;
 use engine_base::{Call, Key, Outcome, Worker};
 use journal::{Session, SessionFault};
 use maintenance::Shell;
+use shell_model::Local;
 use std::alloc::Global;
 use thiserror::Error;
-use walks::Local;
 
 /// Why keys were not all accessed. The steps that were made stay applied.
 #[derive(Clone, Copy, Debug, Error)]

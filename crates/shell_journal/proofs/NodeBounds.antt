@@ -8,8 +8,8 @@ use Rattle.engine_base.specs.declared.step.Act.TheVariants as a
 use Rattle.engine_base.specs.declared.step.Reply.TheVariants as reply
 use Rattle.engine_base.specs.History.{next_data, data_after, IsLegal}
 use Rattle.segments.specs.Items.{Item, occurrences, oldest_of}
-use Rattle.shell_buffers.specs.declared.task.Task.TheVariants.{Add, Update, Remove}
-use Rattle.shell_buffers.specs.Buffers.{stripe_at}
+use Rattle.shell_model.specs.declared.task.Task.TheVariants.{Add, Update, Remove}
+use Rattle.shell_model.specs.Buffers.{stripe_at}
 use Rattle.shell_model.specs.Shell.{Task, Reply, Act, Shell, node_of, counted_up, act}
 use Rattle.replacement.specs.Counts.{queue_occurrences}
 use Rattle.shell_model.specs.Consistency.{IsConsistent}

@@ -11,7 +11,7 @@ use Rattle.segments.specs.Items.{Item, occurrences, items_without, oldest_of}
 use Rattle.segments.specs.Queues.{Queues, queues_after_move, queues_after_push, total_items, IsDistinct}
 use Rattle.segments.proofs.QueueLists.{length-without}
 use Rattle.admission.specs.Shape.{Shape}
-use Rattle.shell_buffers.specs.declared.task.Task.TheVariants.{Add, Update, Remove}
+use Rattle.shell_model.specs.declared.task.Task.TheVariants.{Add, Update, Remove}
 use Rattle.shell_model.specs.Frequency.{frequency_recorded}
 use Rattle.replacement.specs.Rules.{Config, three_queues}
 use Rattle.replacement.specs.Plan.{candidate_of}

@@ -16,7 +16,7 @@ use Rattle.shell_model.specs.declared.stats.Counted.TheVariants as counted
 use Rattle.shell_model.specs.Frequency.{frequency_recorded}
 use Rattle.shell_model.specs.ShellStats.{NONE, Reply, counted_of, count_of, shell_stats_with, raises, shell_stats_after}
 use Rattle.engine_base.specs.Stats.{one_if}
-use Rattle.shell_buffers.specs.Buffers.{stripe_at}
+use Rattle.shell_model.specs.Buffers.{stripe_at}
 use Rattle.shell_model.specs.Changes.{shell_after_touch}
 use Rattle.shell_model.specs.Shell.{Act, Shell, act}
 use Rattle.replacement.specs.Counts.{queue_occurrences}

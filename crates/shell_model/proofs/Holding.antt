@@ -10,7 +10,7 @@ use Rattle.admission.proofs.Doors.{part_16}
 use Rattle.admission.proofs.Weighing.{frequency_is}
 use Rattle.shell_model.specs.declared.stats.Counted.TheVariants as counted
 use Rattle.shell_model.specs.ShellStats.{Reply, raises}
-use Rattle.shell_buffers.specs.Buffers.{stripe_at}
+use Rattle.shell_model.specs.Buffers.{stripe_at}
 use Rattle.shell_model.specs.ShellState.{Holder, Phase, Config, holder_in_phase}
 use Rattle.shell_model.specs.Changes.{holder_after_task}
 use Rattle.shell_model.specs.Shell.{Act, Shell, may_write, act}

@@ -1,3 +1,4 @@
+pub mod OneStripe
 pub mod Counting
 pub mod Frequency
 pub mod Evicting
@@ -11,3 +12,10 @@ pub mod Reached
 pub mod Bounding
 pub mod Engines
 pub mod Striped
+pub mod Finishing
+pub mod Walking
+pub mod Joining
+pub mod Standing
+pub mod Asking
+pub mod Admitting
+pub mod Coming

@@ -8,8 +8,8 @@ use Rattle.engine_base.specs.declared.drain.Phase.TheVariants.{Writes, Evictions
 use Rattle.engine_base.specs.declared.step.Reply.TheVariants as reply
 use Rattle.replacement.specs.Rules.{three_queues}
 use Rattle.replacement.specs.Plan.{Item, Plan, candidate_of, eviction_plan}
-use Rattle.shell_buffers.specs.declared.task.Task.TheVariants.{Add, Update, Remove}
-use Rattle.shell_buffers.specs.Buffers.{stripe_at}
+use Rattle.shell_model.specs.declared.task.Task.TheVariants.{Add, Update, Remove}
+use Rattle.shell_model.specs.Buffers.{stripe_at}
 use Rattle.shell_model.specs.declared.record.Change.TheVariants as change
 use Rattle.shell_model.specs.Frequency.{admits}
 use Rattle.shell_model.specs.Changes.{Change, Holder, Task, after_change, shell_eviction}

@@ -10,8 +10,8 @@ use Rattle.segments.specs.Queues.{Queues, queue_holding, queues_after_push, queu
 use Rattle.segments.proofs.QueueLists.{same-refl, same-true, times-append, times-one, length-without, times-without, Stands, in_window, in_probation, in_protected, nowhere, stands}
 use Rattle.replacement.specs.Rules.{main_size}
 use Rattle.replacement.specs.Table.{Queue, with_recent, hit_in, after_hit}
-use Rattle.shell_buffers.specs.declared.task.Task.TheVariants.{Add, Update, Remove}
-use Rattle.shell_buffers.specs.Buffers.{stripe_at}
+use Rattle.shell_model.specs.declared.task.Task.TheVariants.{Add, Update, Remove}
+use Rattle.shell_model.specs.Buffers.{stripe_at}
 use Rattle.shell_model.specs.ShellState.{Holder, Task, Phase, Shell, node_of, table_with, queues_cleared, window_size, shell_protected_size, holder_in_phase, in_phase}
 use Rattle.shell_model.specs.Changes.{holder_after_task}
 use Rattle.shell_model.specs.Shell.{Reply, Act, act}

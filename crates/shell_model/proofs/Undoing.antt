@@ -17,10 +17,10 @@ use Rattle.replacement.specs.PlanMoves.{queues_after, response_of_plan, moves_of
 use Rattle.replacement.proofs.Carrying.{UndoesMove, removal-undone, hit-undone, join-undone, eviction-undone}
 use Rattle.replacement.proofs.Leaving.{leaver-of}
 use Rattle.replacement.proofs.Planned.{hits_planned, evictions_planned, evicts-first}
-use Rattle.shell_buffers.specs.declared.task.Task.TheVariants.{Add, Update, Remove}
+use Rattle.shell_model.specs.declared.task.Task.TheVariants.{Add, Update, Remove}
 use Rattle.shell_model.specs.declared.record.Change.TheVariants.{Nothing, Offered, Removed, Passed, Ended}
 use Rattle.shell_model.specs.Frequency.{frequency_unrecorded, admits}
-use Rattle.shell_buffers.specs.Buffers.{stripe_at, all_but_newest}
+use Rattle.shell_model.specs.Buffers.{stripe_at, all_but_newest}
 use Rattle.shell_model.specs.ShellState.{Holder, Task, Phase, Shell, shell_protected_size, is_over, node_of, is_listed, unlisted, unlisted_by, cleared_from, holder_in_phase}
 use Rattle.shell_model.specs.Changes.{Change, UseRecord, shell_after_touch, shell_after_task, holder_after_task, shell_eviction, after_change, holder_with_task, entered, before_change, IsNewest, FitsTouched, IsInPhase, HasLeft, IsOut, FitsChange}
 use Rattle.shell_model.specs.Shell.{Reply, Act, offer_reply, put_at, put_reply, remove_at, begin_reply, hit_moves, touched_of, added_of, cleared_of, read_reply, task_reply, write_reply, evict_effect, leaves_table, planned_change, evict_change, drain_at_end, end_reply, may_read, may_write, is_stripe, some_if, act_reply}

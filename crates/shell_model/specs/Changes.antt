@@ -13,11 +13,11 @@ use Rattle.replacement.specs.Rules.{three_queues}
 use Rattle.replacement.specs.Table.{Response, after_hit, eviction}
 use Rattle.replacement.specs.declared.record.Leaver.{Leaver}
 use Rattle.replacement.specs.PlanMoves.{leaver_in, undone_by, undone_moves, FitsBy, FitsMoves}
-use Rattle.shell_buffers.specs.Buffers.{stripe_at, all_but_newest}
-use Rattle.shell_buffers.specs.declared.stripes.TheConstants.{MAX_ITEMS}
-use Rattle.shell_buffers.specs.declared.write_tasks.TheConstants.{MAX_TASKS}
-pub use Rattle.shell_buffers.specs.declared.task.Task.{Task}
-use Rattle.shell_buffers.specs.declared.task.Task.TheVariants.{Add, Update, Remove}
+use Rattle.shell_model.specs.Buffers.{stripe_at, all_but_newest}
+use Rattle.shell_model.specs.declared.stripes.TheConstants.{MAX_ITEMS}
+use Rattle.shell_model.specs.declared.write_tasks.TheConstants.{MAX_TASKS}
+pub use Rattle.shell_model.specs.declared.task.Task.{Task}
+use Rattle.shell_model.specs.declared.task.Task.TheVariants.{Add, Update, Remove}
 pub use Rattle.shell_model.specs.declared.holder.Holder.{Holder}
 pub use Rattle.shell_model.specs.declared.record.UseRecord.{UseRecord}
 pub use Rattle.shell_model.specs.declared.record.EvictionRecord.{EvictionRecord}

@@ -1,14 +1,14 @@
 -- What holds of the shell after any steps.
 use Rattle.std.specs.Prelude.{◌≡◌, ℕ, ◌+◌, ◌<◌, ◌≤◌, if◌then◌else◌, Option, Some, None, List}
 use Rattle.std.specs.Prelude.{[], ◌∷◌, length}
-use Rattle.shell_buffers.specs.declared.stripes.TheConstants.{MAX_ITEMS}
-use Rattle.shell_buffers.specs.declared.write_tasks.TheConstants.{MAX_TASKS}
+use Rattle.shell_model.specs.declared.stripes.TheConstants.{MAX_ITEMS}
+use Rattle.shell_model.specs.declared.write_tasks.TheConstants.{MAX_TASKS}
 use Rattle.admission.specs.Frequency.{IsFrequency}
 use Rattle.segments.specs.Items.{Item, is_same_item, occurrences}
 use Rattle.segments.specs.Queues.{Queues}
-pub use Rattle.shell_buffers.specs.declared.task.Task.{Task}
-use Rattle.shell_buffers.specs.declared.task.Task.TheVariants.{Add, Update, Remove}
-use Rattle.shell_buffers.specs.Buffers.{stripe_at}
+pub use Rattle.shell_model.specs.declared.task.Task.{Task}
+use Rattle.shell_model.specs.declared.task.Task.TheVariants.{Add, Update, Remove}
+use Rattle.shell_model.specs.Buffers.{stripe_at}
 use Rattle.replacement.specs.Rules.{main_size}
 use Rattle.replacement.specs.Counts.{queue_occurrences, main_length}
 use Rattle.shell_model.specs.Shell.{Holder, Shell}

@@ -17,11 +17,11 @@ use Rattle.segments.specs.Items.{Item, occurrences}
 use Rattle.segments.specs.Queues.{empty_queues}
 use Rattle.admission.specs.Shape.{Shape, IsShape}
 use Rattle.admission.specs.Frequency.{frequency_of}
-use Rattle.shell_buffers.specs.declared.task.Task.TheVariants.{Add, Update, Remove}
+use Rattle.shell_model.specs.declared.task.Task.TheVariants.{Add, Update, Remove}
 use Rattle.shell_model.specs.declared.stats.Counted.TheVariants as counted
 use Rattle.shell_model.specs.ShellStats.{Counted, NONE, ShellStats, Reply, count_of, raises}
 use Rattle.engine_base.specs.Stats.{one_if}
-use Rattle.shell_buffers.specs.Buffers.{stripe_at}
+use Rattle.shell_model.specs.Buffers.{stripe_at}
 use Rattle.replacement.specs.Rules.{main_size}
 use Rattle.shell_model.specs.Shell.{Holder, Task, Step, Shell, act}
 use Rattle.replacement.specs.Counts.{queue_occurrences, main_length}

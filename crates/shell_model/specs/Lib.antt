@@ -1,3 +1,4 @@
+pub mod Buffers
 pub mod ShellStats
 pub mod Frequency
 pub mod ShellState
@@ -9,3 +10,8 @@ pub mod Consistency
 pub mod Laws
 pub mod ShellSteps
 pub mod ReachableShell
+pub mod Walks
+pub mod WalkPlaces
+pub mod NextActs
+pub mod WorkerEntries
+pub mod AdmittedSteps

@@ -28,11 +28,11 @@ use Rattle.replacement.specs.Rules.{three_queues}
 use Rattle.replacement.specs.Table.{Queue, Response}
 use Rattle.replacement.specs.Plan.{Plan, hit_plan, joining_plan, candidate_of, eviction_plan}
 use Rattle.replacement.specs.PlanMoves.{moves_of}
-use Rattle.shell_buffers.specs.Buffers.{stripe_at}
-use Rattle.shell_buffers.specs.declared.stripes.TheConstants.{MAX_ITEMS}
-use Rattle.shell_buffers.specs.declared.write_tasks.TheConstants.{MAX_TASKS}
-pub use Rattle.shell_buffers.specs.declared.task.Task.{Task}
-use Rattle.shell_buffers.specs.declared.task.Task.TheVariants.{Add, Update, Remove}
+use Rattle.shell_model.specs.Buffers.{stripe_at}
+use Rattle.shell_model.specs.declared.stripes.TheConstants.{MAX_ITEMS}
+use Rattle.shell_model.specs.declared.write_tasks.TheConstants.{MAX_TASKS}
+pub use Rattle.shell_model.specs.declared.task.Task.{Task}
+use Rattle.shell_model.specs.declared.task.Task.TheVariants.{Add, Update, Remove}
 pub use Rattle.shell_model.specs.declared.holder.Holder.{Holder}
 pub use Rattle.shell_model.specs.declared.record.Change.{Change}
 use Rattle.shell_model.specs.declared.record.Change.TheVariants as change

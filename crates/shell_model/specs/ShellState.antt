@@ -10,7 +10,7 @@ use Rattle.segments.specs.Items.{items_without}
 use Rattle.segments.specs.Queues.{Queues, queue_holding, queues_without}
 use Rattle.admission.specs.Frequency.{FrequencyData}
 use Rattle.replacement.specs.Rules.{three_queues}
-pub use Rattle.shell_buffers.specs.declared.task.Task.{Task}
+pub use Rattle.shell_model.specs.declared.task.Task.{Task}
 pub use Rattle.shell_model.specs.declared.holder.Holder.{Holder}
 use Rattle.shell_model.specs.declared.stats.ShellStats.{ShellStats}
 

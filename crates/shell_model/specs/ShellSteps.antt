@@ -4,10 +4,10 @@ use Rattle.engine_base.specs.declared.step.Act.TheVariants as a
 use Rattle.engine_base.specs.declared.step.Reply.TheVariants as reply
 use Rattle.engine_base.specs.declared.drain.Phase.TheVariants.{Writes, Evictions}
 use Rattle.segments.specs.Items.{Item, is_same_item}
-use Rattle.shell_buffers.specs.Buffers.{stripe_at}
-use Rattle.shell_buffers.specs.declared.stripes.TheConstants.{MAX_ITEMS}
-use Rattle.shell_buffers.specs.declared.write_tasks.TheConstants.{MAX_TASKS}
-use Rattle.shell_buffers.specs.declared.task.Task.TheVariants.{Add, Update, Remove}
+use Rattle.shell_model.specs.Buffers.{stripe_at}
+use Rattle.shell_model.specs.declared.stripes.TheConstants.{MAX_ITEMS}
+use Rattle.shell_model.specs.declared.write_tasks.TheConstants.{MAX_TASKS}
+use Rattle.shell_model.specs.declared.task.Task.TheVariants.{Add, Update, Remove}
 use Rattle.shell_model.specs.declared.record.Change.TheVariants as change
 use Rattle.shell_model.specs.Frequency.{admits}
 use Rattle.shell_model.specs.Changes.{Holder, Task, after_change}

@@ -22,7 +22,7 @@ fn the_queues_over_a_trace_that_is_kept(rt: HostRuntime) -> Result<(), Fail> {
     let alloc = rt.alloc();
     let trace = Trace::new(vec![in alloc; 1, 2, 3, 1, 4]?);
     let jobs = [online_job(Policy::Sieve, 3)?];
-    let text = policy_queues::queues_text(&rt, alloc, &trace, &jobs, 4, &OpenGate)?;
+    let text = policy_comparison::queues_text(&rt, alloc, &trace, &jobs, 4, &OpenGate)?;
     assert_equal(&rt, text.as_slice(), ROWS);
     Ok(())
 }

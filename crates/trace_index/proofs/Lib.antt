@@ -2,3 +2,4 @@ pub mod Uses
 pub mod Passes
 pub mod KeyCells
 pub mod Numbers
+mod Counts

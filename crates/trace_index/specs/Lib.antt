@@ -4,3 +4,5 @@ pub mod KeyNumbers
 pub mod KeyPlaces
 pub mod PackedKeys
 pub mod TraceNumbers
+pub mod Footprint
+pub mod FootprintCounter

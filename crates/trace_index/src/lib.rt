@@ -4,8 +4,15 @@
 //! greatest earlier one. Each is found in one pass over the trace, from its end and from its start, in which
 //! [`KeyPlaces`] has for each key the place that was put for it last. [`TraceNumbers`] gives the keys numbers, in the order
 //! in which they first come, no two the same.
+//!
+//! How large a trace is: how many accesses it has, how many distinct blocks, and how many of these are accessed once.
+//!
+//! [`FootprintCounter`] counts accesses that come piece by piece, and keeps a number for each block and nothing else of
+//! them. What it has counted after some accesses is what the definition gives for all of these.
 #![tactic(auto)]
 
+mod footprint;
+mod footprint_counter;
 mod key_cells;
 mod key_numbers;
 mod key_places;
@@ -16,6 +23,8 @@ mod previous_use;
 mod room;
 mod trace_numbers;
 
+pub use footprint::Footprint;
+pub use footprint_counter::FootprintCounter;
 pub use key_places::KeyPlaces;
 pub use next_use::NextUse;
 pub use next_use_finder::NextUseFinder;

@@ -11,6 +11,11 @@
 //! A file is read in one pass, piece by piece, and no bytes are kept but those of the last piece and of a line that a
 //! piece cut in two. The accesses of a line of many are made and given some hundreds at a time. `Read` and `TooLarge`
 //! come before the fault of a line.
+//!
+//! A sample of a trace: all accesses to some of its blocks, and none to the others, chosen by a hash of the block's number.
+//!
+//! `write_sample` reads a trace of any length and writes the accesses that it keeps while it reads: neither the trace nor
+//! the sample is ever whole in memory, which holds the blocks that are kept and some text.
 #![tactic(auto)]
 
 mod arc;
@@ -24,6 +29,11 @@ mod pending;
 mod pieces;
 mod reader;
 mod reading;
+mod sample_counts;
+mod sample_fault;
+mod sample_rule;
+mod sample_writer;
+mod sampled_accesses;
 mod scan;
 
 pub use engine_base::Trace;
@@ -32,3 +42,7 @@ pub use format::Format;
 pub use limits::{Limits, MAX_LONG_ACCESSES, MAX_LONG_TRACE_BYTES};
 pub use reader::{read_trace, read_trace_within};
 pub use reading::Reading;
+pub use sample_counts::SampleCounts;
+pub use sample_fault::SampleFault;
+pub use sample_rule::SampleRule;
+pub use sample_writer::write_sample;

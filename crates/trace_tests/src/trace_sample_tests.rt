@@ -4,8 +4,7 @@ use engine_base::OpenGate;
 use std::io::{self, Error, ErrorKind, Read, Write};
 use std::test::Fail;
 use streams::{CountedReader, CountedWriter};
-use trace_read::{Format, TraceFault};
-use trace_sample::{SampleFault, SampleRule, write_sample};
+use trace_read::{Format, SampleFault, SampleRule, TraceFault, write_sample};
 
 // A trace, its format and the rule; the sample; how many accesses it has, of how many, and how many blocks.
 type Row = (

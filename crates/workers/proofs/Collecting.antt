@@ -11,7 +11,7 @@ use Rattle.turn_book.specs.Passes.{BookId, PassState, InOrder, OwnAll, Ends}
 use Rattle.workers.specs.declared.run.WorkerState.{WorkerState}
 use Rattle.workers.specs.declared.run.Cause.TheVariants.{Memory, JournalFull}
 use Rattle.workers.specs.WorkerStates.{Call, Entry, ShellSession, HoldsPass, AreNumbered, HasWorked, entries_with}
-use Rattle.walks.specs.WorkerEntries.{entries_of}
+use Rattle.shell_model.specs.WorkerEntries.{entries_of}
 use Rattle.workers.specs.Runs.{Cause, IsRun, IsRunUpTo, AreWalksUpTo, IsCauseIn, first_cause}
 use Rattle.workers.specs.Walkers.{WasRefused}
 

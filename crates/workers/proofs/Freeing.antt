@@ -5,9 +5,9 @@ use Rattle.std.proofs.lemmas.Bool.Decides.{nat_tests}
 use Rattle.engine_base.specs.History.{data_after, IsLegal, Entries}
 use Rattle.shell_model.specs.Shell.{Shell, act}
 use Rattle.shell_model.specs.ReachableShell.{IsReachable}
-use Rattle.walks.specs.Walks.{Call, AreWalks}
-use Rattle.walks.specs.WorkerEntries.{entries_of}
-use Rattle.walks.proofs.Admitting.{shell_freed}
+use Rattle.shell_model.specs.Walks.{Call, AreWalks}
+use Rattle.shell_model.specs.WorkerEntries.{entries_of}
+use Rattle.shell_model.proofs.Admitting.{shell_freed}
 use Rattle.workers.specs.Runs.{Cause, IsRun, IsRunUpTo}
 use Rattle.workers.specs.WorkerStates.{ShellSession}
 use Rattle.workers.proofs.RunResults.{whole_run}

@@ -1,10 +1,10 @@
 -- What a run hands back.
 use Rattle.std.proofs.Common.{◌≡◌, ℕ, zero, suc, List, [], ◌∷◌, get_or, Option, Some, None, refl, sym, ◌∙◌, subst}
 use Rattle.std.specs.Prelude.{option_map}
-use Rattle.walks.specs.WorkerEntries.{entries_of}
+use Rattle.shell_model.specs.WorkerEntries.{entries_of}
 use Rattle.journal.specs.Session.{SessionState}
 use Rattle.shell_model.specs.declared.holder.Holder.{Holder}
-use Rattle.walks.specs.Walks.{Step, Reply, Call, AreWalks}
+use Rattle.shell_model.specs.Walks.{Step, Reply, Call, AreWalks}
 use Rattle.workers.specs.Runs.{Cause, IsRun, IsRunUpTo, AreWalksUpTo, first_cause}
 
 pub free_of : {X : Type 0} (f : Holder → X) (o : Option Holder) → option_map f o ≡ None → o ≡ None

@@ -4,8 +4,8 @@ use Rattle.std.proofs.lemmas.Bool.{cases_Bool}
 use Rattle.std.proofs.lemmas.List.{append_cancel_left}
 use Rattle.engine_base.specs.declared.entry.Entry.{Entry}
 use Rattle.engine_base.specs.History.{next_data, data_after, IsLegal, Entries}
-use Rattle.walks.specs.WorkerEntries.{entries_of}
-use Rattle.walks.specs.AdmittedSteps.{Step, Reply, AdmitsNext}
+use Rattle.shell_model.specs.WorkerEntries.{entries_of}
+use Rattle.shell_model.specs.AdmittedSteps.{Step, Reply, AdmitsNext}
 use Rattle.workers.specs.Draws.{IsWithin}
 use Rattle.turn_book.specs.Turns.{AddsInTurn, entries_by}
 use Rattle.turn_book.specs.Passes.{TurnState, PassState, Gives}

@@ -5,8 +5,8 @@ pub use Rattle.engine_base.specs.declared.step.Reply.{Reply}
 pub use Rattle.engine_base.specs.declared.step.Step.{Step}
 use Rattle.engine_base.specs.History.{Entries, tail_after}
 use Rattle.journal.specs.Session.{SessionState}
-use Rattle.walks.specs.Walks.{AreWalks}
-use Rattle.walks.specs.WorkerEntries.{entries_of, IsUnfinished}
+use Rattle.shell_model.specs.Walks.{AreWalks}
+use Rattle.shell_model.specs.WorkerEntries.{entries_of, IsUnfinished}
 pub use Rattle.workers.specs.declared.run.Cause.{Cause}
 use Rattle.workers.specs.declared.run.Cause.TheVariants.{Memory, JournalFull}
 

@@ -4,9 +4,9 @@ use Rattle.engine_base.specs.declared.limits.TheConstants.{MAX_STRIPES}
 use Rattle.engine_base.specs.History.{data_after, Entries}
 use Rattle.journal.specs.Session.{Entry, SessionState}
 use Rattle.turn_book.specs.Passes.{BookState, PassState, id_of}
-use Rattle.walks.specs.AdmittedSteps.{Step, Reply, Call, AdmitsWalks}
-use Rattle.walks.specs.Walks.{AreWalks}
-use Rattle.walks.specs.WorkerEntries.{entries_of}
+use Rattle.shell_model.specs.AdmittedSteps.{Step, Reply, Call, AdmitsWalks}
+use Rattle.shell_model.specs.Walks.{AreWalks}
+use Rattle.shell_model.specs.WorkerEntries.{entries_of}
 use Rattle.workers.specs.declared.run.Cause.{Cause}
 use Rattle.workers.specs.declared.run.Cause.TheVariants.{Memory, JournalFull}
 use Rattle.workers.specs.Draws.{IsWithin}

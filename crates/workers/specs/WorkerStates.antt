@@ -12,7 +12,7 @@ use Rattle.workers.specs.Runs.{Step, Reply, AreWalksUpTo}
 use Rattle.workers.specs.Walkers.{WasRefused}
 use Rattle.engine_base.specs.History.{data_after, Entries}
 use Rattle.shell_model.specs.Shell.{Shell, act}
-use Rattle.walks.specs.AdmittedSteps.{AdmitsWalks}
+use Rattle.shell_model.specs.AdmittedSteps.{AdmitsWalks}
 
 -- the calls of each worker, by its number
 abbrev pub calls_of : List (Vec Call) → ℕ → List Call

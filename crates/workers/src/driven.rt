@@ -1,6 +1,6 @@
 //! What a run of workers made.
 ghost use Rattle.std.specs.Prelude.{◌≡◌, ◌∷◌, ◌++◌, [], IfOk, OnOk, drop};
-ghost use Rattle.walks.specs.WorkerEntries.{entries_of};
+ghost use Rattle.shell_model.specs.WorkerEntries.{entries_of};
 
 use engine_base::{Entry, Reply, Step, Worker};
 use journal::Session;

@@ -9,9 +9,9 @@ ghost use Rattle.engine_base.specs.History.{IsLegal, data_after};
 ghost use Rattle.shell_model.specs.Shell.{act};
 ghost use Rattle.turn_book.specs.Turns.{Every};
 ghost use Rattle.turn_book.specs.Passes.{id_of};
-ghost use Rattle.walks.specs.Walks.{IsWalk, AreWalks};
-ghost use Rattle.walks.specs.AdmittedSteps.{AdmitsNext};
-ghost use Rattle.walks.specs.WorkerEntries.{Made, IsUnfinished};
+ghost use Rattle.shell_model.specs.Walks.{IsWalk, AreWalks};
+ghost use Rattle.shell_model.specs.AdmittedSteps.{AdmitsNext};
+ghost use Rattle.shell_model.specs.WorkerEntries.{Made, IsUnfinished};
 ghost use Rattle.workers.specs.DriveFaults.{CanRun, LeavesFault};
 ghost use Rattle.workers.specs.Draws.{IsWithin};
 ghost use Rattle.workers.specs.Runs.{IsRun, IsRunUpTo, first_cause};
@@ -22,12 +22,12 @@ use super::driven::Driven;
 use engine_base::{Call, Engine, Gate, MAX_WORKERS, Reply, Step, Worker};
 use journal::{Session, SessionFault};
 use maintenance::Shell;
+use shell_model::{Local, Next, next_step};
 use std::alloc::{AllocError, Global};
 use std::sync::Wait;
 use std::thread;
 use std::thread::Threads;
 use turn_book::{MAX_TURNS, OpenFault, Pass, TurnBook};
-use walks::{Local, Next, next_step};
 
 /// Why a worker was refused a step.
 #[derive(Clone, Copy, PartialEq, Eq)]

@@ -4,7 +4,7 @@ use Rattle.std.specs.Io.KnownBytes.{Appends}
 use Rattle.std.proofs.Math.Seq.{take-length}
 use Rattle.std.proofs.lemmas.Option.{IfSome_then}
 use Rattle.streams.specs.Part.{AppendsPart}
-use Rattle.trace_sample.specs.Written.{Counts}
+use Rattle.trace_read.specs.Written.{Counts}
 use Rattle.cachesim.specs.FaultLine.{Fault}
 use Rattle.cachesim.specs.SampleOutput.{SampleArguments, SampleCounts, counts_line, sample_line}
 use Rattle.cachesim.proofs.sample.sample.Goals as goal

@@ -1,6 +1,6 @@
 use Rattle.std.proofs.Common.{arith, ◌≡◌, ℕ, suc, ◌+◌, List, ◌++◌, ap, sym, ◌∙◌}
 use Rattle.std.proofs.lemmas.List.{append_assoc}
-use Rattle.shell_buffers.specs.Buffers.{Item, stripe_at}
+use Rattle.shell_model.specs.Buffers.{Item, stripe_at}
 use Rattle.debug_replay.specs.ShownState.{stripe_line, stripe_lines}
 use Rattle.debug_replay.proofs.shell_text.push_stripes.Goals as goal
 

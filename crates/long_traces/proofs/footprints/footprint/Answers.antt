@@ -1,7 +1,7 @@
 use Rattle.std.proofs.Common.{◌≡◌, [], List, ℕ, arith, length, subst, take_all}
 use Rattle.std.proofs.lemmas.Option.{IfSome_then}
 use Rattle.sweeps.specs.Taking.{Task}
-use Rattle.trace_footprint.specs.Counter.{HasCounted}
+use Rattle.trace_index.specs.FootprintCounter.{HasCounted}
 use Rattle.trace_read.specs.TraceText.{keys_in}
 use Rattle.long_traces.proofs.footprints.footprint.Goals as goal
 

@@ -7,10 +7,10 @@ use Rattle.journal.specs.declared.fault.SessionFault.TheVariants.{OutOfMemory, J
 use Rattle.shell_model.specs.declared.record.Change.{Change}
 use Rattle.shell_model.specs.Shell.{Reply, Act, Shell, act, act_reply, counted_reply, with_shell}
 use Rattle.shell_model.proofs.Engines.{answers_law}
-use Rattle.walks.specs.Walks.{step_of}
+use Rattle.shell_model.specs.Walks.{step_of}
 use Rattle.quiet_run.specs.Outcomes.{outcome_with_reply}
 use Rattle.quiet_run.specs.Settle.{SessionFault, ShellSession, IsRefusalCause}
-use Rattle.walks.proofs.Walking.{asked_of, asks_on, on_err, answered}
+use Rattle.shell_model.proofs.Walking.{asked_of, asks_on, on_err, answered}
 use Rattle.quiet_run.proofs.Alone.{alone_first, alone_next, alone_takes, alone_over, holds_first, holds_next, holds_now, round_answers, goes_on, goes_over, goes_begun}
 use Rattle.quiet_run.proofs.Adding.{adds_none, adds_more, adds_same, told_last}
 use Rattle.quiet_run.proofs.round.finish_walk.Goals as goal

@@ -1,5 +1,5 @@
 use Rattle.std.proofs.Common.{◌≡◌, ◌-◌, length}
-use Rattle.walks.specs.NextActs.{IsAskedNext}
+use Rattle.shell_model.specs.NextActs.{IsAskedNext}
 use Rattle.quiet_run.specs.Outcomes.{outcome_from}
 use Rattle.quiet_run.specs.Settle.{AddsSteps}
 use Rattle.quiet_run.proofs.Alone.{IsAlone, HoldsOn, GoesOn}

@@ -2,7 +2,7 @@ use Rattle.std.proofs.Common.{◌≡◌, ◌-◌, Some, length, option_map, sym,
 use Rattle.engine_base.specs.History.{Entries}
 use Rattle.shell_model.specs.Shell.{Shell}
 use Rattle.maintenance.specs.EmptyShell.{holder_parts}
-use Rattle.walks.specs.NextActs.{IsAheadOf}
+use Rattle.shell_model.specs.NextActs.{IsAheadOf}
 use Rattle.quiet_run.specs.QuietWalks.{with_rounds}
 use Rattle.quiet_run.specs.Settle.{IsRefusalCause, IsRest}
 use Rattle.quiet_run.proofs.Adding.{adds_counted, held_rest, held_start, held_worker}

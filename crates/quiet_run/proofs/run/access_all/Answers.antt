@@ -1,7 +1,7 @@
 use Rattle.std.proofs.Common.{◌≡◌, ◌≤◌, ◌+◌, ◌++◌, [], ◌∷◌, List, length, drop, sym, ap, subst, ◌∙◌, arith}
 use Rattle.std.proofs.lemmas.List.{drop_all}
 use Rattle.engine_base.specs.declared.outcome.Outcome.{Outcome}
-use Rattle.walks.proofs.Walking.{on_err}
+use Rattle.shell_model.proofs.Walking.{on_err}
 use Rattle.quiet_run.proofs.Adding.{adds_known, adds_joined}
 use Rattle.quiet_run.proofs.Keying.{drop_key, one_key, cut_here, cut_key, all_keys, Lacks}
 use Rattle.quiet_run.proofs.run.access_all.Goals as goal

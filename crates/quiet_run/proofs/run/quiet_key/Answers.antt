@@ -1,7 +1,7 @@
 use Rattle.std.proofs.Common.{ℕ, Option, ◌++◌, sym, subst}
 use Rattle.std.proofs.lemmas.Result.{IfOk-weaker, on_err_weaker}
 use Rattle.engine_base.specs.declared.step.Call.TheVariants as call
-use Rattle.walks.specs.Walks.{IsWalk}
+use Rattle.shell_model.specs.Walks.{IsWalk}
 use Rattle.quiet_run.specs.QuietWalks.{with_rounds}
 use Rattle.quiet_run.specs.Settle.{Holder, IsAtStart}
 use Rattle.quiet_run.proofs.Adding.{adds_known}

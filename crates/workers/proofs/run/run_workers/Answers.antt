@@ -6,8 +6,8 @@ use Rattle.workers.specs.Runs.{IsRunUpTo}
 use Rattle.engine_base.specs.History.{data_after}
 use Rattle.shell_model.specs.Shell.{act}
 use Rattle.shell_model.specs.ReachableShell.{IsReachable}
-use Rattle.walks.specs.AdmittedSteps.{AdmitsWalks}
-use Rattle.walks.proofs.Admitting.{shell_admits}
+use Rattle.shell_model.specs.AdmittedSteps.{AdmitsWalks}
+use Rattle.shell_model.proofs.Admitting.{shell_admits}
 use Rattle.workers.proofs.Collecting.{came_back, every_map, hold_passes, run_up_to}
 use Rattle.workers.proofs.Freeing.{run_frees}
 use Rattle.workers.proofs.RunResults.{moved_run}

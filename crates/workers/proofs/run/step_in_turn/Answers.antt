@@ -4,7 +4,7 @@ use Rattle.std.proofs.lemmas.List.{append-nil}
 use Rattle.engine_base.specs.declared.entry.Entry.{Entry}
 use Rattle.engine_base.specs.declared.step.Reply.{Reply}
 use Rattle.engine_base.specs.declared.step.Step.{Step}
-use Rattle.walks.specs.WorkerEntries.{entries_of}
+use Rattle.shell_model.specs.WorkerEntries.{entries_of}
 use Rattle.workers.proofs.Turning.{gained, leaves_same, not_refused, few_made, within_more, within_spent}
 use Rattle.workers.proofs.run.step_in_turn.Goals as goal
 

@@ -1,8 +1,8 @@
 use Rattle.std.proofs.lemmas.Grind.{common_steps}
 use Rattle.std.proofs.Common.{refl, sym, subst, ◌∙◌, arith}
-use Rattle.walks.specs.AdmittedSteps.{MayMake}
-use Rattle.walks.proofs.Coming.{may_make}
-use Rattle.walks.proofs.Walking.{nothing, stopped, stepped, over, known, asks_same, asks_on, Completes}
+use Rattle.shell_model.specs.AdmittedSteps.{MayMake}
+use Rattle.shell_model.proofs.Coming.{may_make}
+use Rattle.shell_model.proofs.Walking.{nothing, stopped, stepped, over, known, asks_same, asks_on, Completes}
 use Rattle.workers.proofs.Turning.{if_ok_at, if_err_at}
 use Rattle.workers.proofs.run.walk_in_turns.Goals as goal
 

@@ -1,9 +1,9 @@
 use Rattle.std.proofs.Common.{◌≡◌, ◌++◌}
 use Rattle.engine_base.specs.History.{Entries}
-use Rattle.walks.specs.Walks.{IsWalk}
-use Rattle.walks.specs.WorkerEntries.{Made}
+use Rattle.shell_model.specs.Walks.{IsWalk}
+use Rattle.shell_model.specs.WorkerEntries.{Made}
 use Rattle.workers.specs.Draws.{IsWithin}
-use Rattle.walks.specs.NextActs.{IsRestOfWalk, IsAskedNext}
+use Rattle.shell_model.specs.NextActs.{IsRestOfWalk, IsAskedNext}
 use Rattle.workers.proofs.run.walk_in_turns.Given as goal
 
 abbrev pub invariant-loop : goal.invariant-loop

@@ -1,9 +1,9 @@
 use Rattle.std.proofs.Common.{◌∙◌}
 use Rattle.std.proofs.lemmas.List.{drop_all}
-use Rattle.walks.proofs.Coming.{walked}
-use Rattle.walks.proofs.Joining.{joined, one_walk, cut_walk, all_walks, drop_item}
+use Rattle.shell_model.proofs.Coming.{walked}
+use Rattle.shell_model.proofs.Joining.{joined, one_walk, cut_walk, all_walks, drop_item}
 use Rattle.workers.proofs.Turning.{on_ok_at, if_err_at}
-use Rattle.walks.proofs.Walking.{known}
+use Rattle.shell_model.proofs.Walking.{known}
 use Rattle.workers.proofs.run.work_in_turns.Goals as goal
 
 pub loop-n-preserved : goal.loop-n-preserved

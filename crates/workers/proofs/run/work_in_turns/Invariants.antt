@@ -1,7 +1,7 @@
 use Rattle.std.proofs.Common.{◌≡◌, ◌++◌, List, drop}
 use Rattle.engine_base.specs.History.{Entries}
-use Rattle.walks.specs.Walks.{Call, AreWalks}
-use Rattle.walks.specs.WorkerEntries.{Made}
+use Rattle.shell_model.specs.Walks.{Call, AreWalks}
+use Rattle.shell_model.specs.WorkerEntries.{Made}
 use Rattle.workers.specs.Draws.{IsWithin}
 use Rattle.workers.proofs.run.work_in_turns.Given as goal
 

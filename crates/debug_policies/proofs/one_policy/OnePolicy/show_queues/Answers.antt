@@ -3,8 +3,8 @@ use Rattle.std.specs.Prelude.{OnOk}
 use Rattle.std.specs.List.{flat_map}
 use Rattle.named_queues.specs.NamedQueue.{NamedQueueData}
 use Rattle.policies.specs.AnyPolicy.{Job, any_queues}
-use Rattle.policy_queues.specs.QueuesAt.{queues_at}
-use Rattle.policy_queues.proofs.QueuesAt.{shown_queues}
+use Rattle.policy_comparison.specs.QueuesAt.{queues_at}
+use Rattle.policy_comparison.proofs.QueuesAt.{shown_queues}
 use Rattle.debug_policies.specs.Inside.{queue_line, queue_lines}
 use Rattle.debug_policies.specs.OnePolicy.{OnePolicyState}
 use Rattle.debug_policies.proofs.one_policy.OnePolicy.show_queues.Goals as goal

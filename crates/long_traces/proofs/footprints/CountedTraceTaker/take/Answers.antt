@@ -1,6 +1,6 @@
 use Rattle.std.proofs.Common.{◌≡◌, ◌++◌, ◌∙◌, ap, arith, length, length-take, List, ℕ, OnOk, subst, sym, take}
 use Rattle.std.proofs.Math.Seq.{take-add}
-use Rattle.trace_footprint.specs.Counter.{HasCounted}
+use Rattle.trace_index.specs.FootprintCounter.{HasCounted}
 use Rattle.long_traces.proofs.footprints.CountedTraceTaker.take.Goals as goal
 
 pub take-requires : goal.take-requires

@@ -1,5 +1,5 @@
 use Rattle.std.proofs.Common.{◌≡◌, ◌++◌, drop}
-use Rattle.walks.specs.WorkerEntries.{entries_of}
+use Rattle.shell_model.specs.WorkerEntries.{entries_of}
 use Rattle.workers.proofs.driven.Driven.list.Given as goal
 
 abbrev pub invariant-loop-n : goal.invariant-loop-n

@@ -1,2 +1,0 @@
-pub mod KeyRow
-pub mod SegmentKeys

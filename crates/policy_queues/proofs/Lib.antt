@@ -1,4 +1,0 @@
-pub mod QueuesAt
-pub mod Rows
-pub mod Ended
-pub mod LeftKeys

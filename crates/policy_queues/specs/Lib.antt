@@ -1,4 +1,0 @@
-pub mod QueuesAt
-pub mod QueueRows
-pub mod LeftKeys
-pub mod QueueRun

@@ -1,7 +1,0 @@
-use Rattle.std.proofs.lemmas.Grind.{common_steps}
-use Rattle.std.proofs.Common.{arith}
-use Rattle.shell_buffers.proofs.OneStripe.{written}
-use Rattle.shell_buffers.proofs.stripes.Stripes.unoffer.Goals as goal
-
-pub returns : goal.returns
-returns c = grind (arith, common_steps, written)

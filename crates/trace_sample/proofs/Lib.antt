@@ -1,3 +1,0 @@
-pub mod Sampling
-pub mod Sampled
-pub mod Ended
