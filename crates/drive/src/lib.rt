@@ -1,5 +1,5 @@
-//! `walks`, `workers` and `quiet_run` under one name. They are the walks of the workers' calls, their runs on threads,
-//! and finishing a maintenance and quiet runs.
+//! `workers` and `quiet_run` under one name, with the walks of `shell_model`. They are the walks of the workers' calls,
+//! their runs on threads, and finishing a maintenance and quiet runs.
 #![tactic(auto)]
 
 pub use quiet_run::{QuietFault, SettleFault, run_quiet, settle, theorems};

@@ -1,9 +1,8 @@
-//! The queues of a cache as its user names them: a name, and the keys, oldest first, each with the number that the policy
-//! keeps beside it.
+//! The queues of a cache as its user names them: a name, and the keys, oldest first, each with the number that the
+//! policy keeps beside it; and in which of them a key stands. That is the number of the first queue that has the key,
+//! counted from 0.
 //!
-//! In which of its queues under their names a cache has a key: the number of the first of them, counted from 0.
-//!
-//! Of the policies that go by the table of moves it is found by one search of the key, and not by a walk over the queues.
+//! For the policies that go by the table of moves one search of the key finds it, with no walk over the queues.
 #![tactic(auto)]
 
 mod named_queue;

@@ -1,17 +1,16 @@
-//! Where two policies part over a trace, and how often they hit together.
+//! Where two policies part over a trace, and how often they hit together; and the queues of a policy, interval by
+//! interval.
 //!
 //! `part` runs both policies side by side, once, and promises by their definitions over the whole trace: the access
 //! that it returns is the first at which just one of the two hits, and with `None` there is no such access. `compare`
 //! counts the accesses of the whole trace at which both hit, only one of them, or neither, by the same definitions,
 //! and `compare_intervals` those of each interval.
 //!
-//! The queues of a policy over a trace, as its definition has them once the first accesses are made (`QueuesAt`), and the
-//! rows of intervals with these queues.
-//!
-//! `queues_text` is the text of several jobs over a trace that is kept; `QueueRuns` takes the accesses piece by piece, also
-//! while a trace is read. Each row is that of the interval, once a queue, with how many keys the queue holds
-//! once the interval's last access is made, how many of these have their bit or count set, and how many keys left the
-//! queue over the interval.
+//! `queues_text` is the text of several jobs over a trace that is kept; `QueueRuns` takes the accesses piece by piece,
+//! also while a trace is read. The queues are those of the policy's definition once the first accesses are made
+//! (`QueuesAt`). Each row is that of the interval, once a queue, with how many keys the queue holds once the interval's
+//! last access is made, how many of these have their bit or count set, and how many keys left the queue over the
+//! interval.
 #![tactic(auto)]
 
 mod cache_access;

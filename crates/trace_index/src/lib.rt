@@ -1,14 +1,13 @@
-//! For each access, where its key comes next and came before, and the number of its key.
+//! For each access, where its key comes next and came before, and the number of its key; and how large a trace is.
 //!
 //! The crate promises that a [`NextUse`] gives the least later place of each access's key, and a [`PreviousUse`] the
 //! greatest earlier one. Each is found in one pass over the trace, from its end and from its start, in which
-//! [`KeyPlaces`] has for each key the place that was put for it last. [`TraceNumbers`] gives the keys numbers, in the order
-//! in which they first come, no two the same.
+//! [`KeyPlaces`] has for each key the place that was put for it last. [`TraceNumbers`] gives the keys numbers, in the
+//! order in which they first come, no two the same.
 //!
-//! How large a trace is: how many accesses it has, how many distinct blocks, and how many of these are accessed once.
-//!
-//! [`FootprintCounter`] counts accesses that come piece by piece, and keeps a number for each block and nothing else of
-//! them. What it has counted after some accesses is what the definition gives for all of these.
+//! [`FootprintCounter`] counts accesses that come piece by piece, their distinct blocks, and the blocks that are
+//! accessed once. It keeps a number for each block and nothing else of the accesses. What it has counted after some
+//! accesses is what the definition gives for all of these.
 #![tactic(auto)]
 
 mod footprint;
