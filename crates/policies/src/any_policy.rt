@@ -79,7 +79,7 @@ impl AnyPolicy {
 
     // An empty cache for a job, but where its policy is the optimal one.
     #[tactic(auto, using(crate::proofs::Machines::queues_opened))]
-    fn open_online(alloc: Global, job: &Job) -> Result<Option<AnyPolicy>, AllocError>
+    pub(crate) fn open_online(alloc: Global, job: &Job) -> Result<Option<AnyPolicy>, AllocError>
         requires { config_fault job.now.config ≡ Ok tt }
         ensures stands { IfOk result (λ r. MatchOption r (design_of job.now ≡ Design.KnowsTrace)
             (λ p. ((trace : List ℕ) → HasAccessed job.now trace [] p) × ((stats_in p).accesses ≡ 0))) }

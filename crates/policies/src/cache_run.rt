@@ -1,27 +1,35 @@
 //! A job's run over a trace whose accesses come in batches.
-ghost use Rattle.std.specs.Prelude.{◌≡◌, ◌++◌, [], ℕ, List, Ok, IfOk, IfSome, IsSome, OnOk, OnErr};
+ghost use Rattle.std.specs.Prelude.{◌≡◌, ◌++◌, [], ℕ, List, Ok, All, IfOk, IfSome, IsSome, OnOk, OnErr};
 ghost use Rattle.engine_base.specs.Config.{config_fault};
+ghost use Rattle.demand_cache.specs.DemandCache.{DemandState};
+ghost use Rattle.demand_cache.specs.NarrowKeys.{IsNarrow};
 ghost use Rattle.policies.specs.AnyPolicy.{Job, HasAccessed};
 ghost use Rattle.policies.specs.Accesses.{AnyPolicy, IsContinued, IsNext, IsStopped};
 ghost use Rattle.policies.specs.CacheRun.{CanTake, HasTaken};
 ghost use Rattle.policies.specs.Reports.{report_on};
 
 use crate::any_policy::AnyPolicy;
+use crate::design::{Design, design_of};
 use crate::report::Report;
 use crate::theorems;
 use crate::trace_run::{access_all, report_by};
 use clairvoyant::{NextUse, NextUseFinder};
+use demand_cache::NarrowCache;
 use std::alloc::{AllocError, Global};
-use step_record::{Job, Key, Policy, StepFault, Trace};
+use std::mem;
+use step_record::{Job, Key, StepFault};
 
 /// What takes the accesses of a trace, batch by batch, for the report of a job.
 ///
 /// Belady's policy goes by the whole trace: a run of it notes the accesses as they come, and makes them all at the end,
-/// once their next uses are found.
+/// once their next uses are found. A policy that keeps each missed key begins with a cache of half the bytes, which serves
+/// until a key comes that is 2^32 or more.
 #[derive(Drop)]
 pub enum CacheRun {
     /// A cache, which makes the accesses as they come.
     Cache(AnyPolicy),
+    /// A cache of a policy that keeps each missed key, all of whose keys were below 2^32.
+    Narrow(NarrowCache),
     /// The next uses of the accesses, which are made once all are there.
     NextUses(NextUseFinder),
     /// Nothing: there was no memory for the accesses.
@@ -34,15 +42,15 @@ impl CacheRun {
         requires checked { config_fault job.now.config ≡ Ok tt }
         ensures { (trace : List ℕ) → HasTaken job.now trace [] result }
     {
-        match job.policy {
-            Policy::Clairvoyant => CacheRun::NextUses(NextUseFinder::new(alloc)),
-            _ => {
-                let none = Trace::new(Vec::new(alloc));
-                match AnyPolicy::open(alloc, job, &none) {
-                    Ok(cache) => CacheRun::Cache(cache),
-                    Err(_) => CacheRun::OutOfMemory,
-                }
+        match design_of(job) {
+            Design::KnowsTrace => CacheRun::NextUses(NextUseFinder::new(alloc)),
+            Design::Demand(policy) => {
+                CacheRun::Narrow(NarrowCache::new(alloc, policy, job.config.capacity))
             }
+            _ => match AnyPolicy::open_online(alloc, job) {
+                Ok(Some(cache)) => CacheRun::Cache(cache),
+                _ => CacheRun::OutOfMemory,
+            },
         }
     }
 
@@ -51,17 +59,47 @@ impl CacheRun {
         requires { CanTake keys.now self.old }
         ensures taken { (j : Job) (trace done : List ℕ) → HasTaken j trace done self.old
             → HasTaken j trace (done ++ keys.now) self.new }
-        // A run that has a cache is out of memory only at an access that may ask for some.
+        // A run that has a cache is out of memory only at an access that may ask for some, or at a key that is the first of
+        // 2^32 or more.
         ensures memory { (d : AnyPolicy) → self.old ≡ CacheRun.Cache d → self.new ≡ CacheRun.OutOfMemory
             → (e : AnyPolicy) × IsStopped keys.now d e }
+        ensures narrow { (d : DemandState) → self.old ≡ CacheRun.Narrow d → self.new ≡ CacheRun.OutOfMemory
+            → All IsNarrow keys.now → (e : AnyPolicy) × IsStopped keys.now (AnyPolicy.Demand d) e }
     {
         let taken = match self {
+            CacheRun::Narrow(cache) => match cache.access_narrow(keys) {
+                Ok(made) => return self.take_left(&keys[made..]),
+                Err(fault) => Err(fault),
+            },
             CacheRun::Cache(cache) => access_all(cache, keys),
             CacheRun::NextUses(finder) => finder.take(keys),
             CacheRun::OutOfMemory => return,
         };
         if taken.is_err() {
             *self = CacheRun::OutOfMemory;
+        }
+    }
+
+    // Takes the keys that a cache of keys below 2^32 left, by one of keys of any width.
+    fn take_left(&mut self, keys: &[Key])
+        requires narrow { (d : DemandState) × (self.old ≡ CacheRun.Narrow d) }
+        requires next { CanTake keys.now self.old }
+        ensures taken { (j : Job) (trace done : List ℕ) → HasTaken j trace done self.old
+            → HasTaken j trace (done ++ keys.now) self.new }
+        ensures none { keys.now ≡ [] → self.new ≡ self.old }
+    {
+        if keys.is_empty() {
+            return;
+        }
+        let CacheRun::Narrow(cache) = mem::replace(self, CacheRun::OutOfMemory) else {
+            unreachable!()
+        };
+        let Ok(cache) = cache.widened() else {
+            return;
+        };
+        let mut cache = AnyPolicy::Demand(cache);
+        if access_all(&mut cache, keys).is_ok() {
+            *self = CacheRun::Cache(cache);
         }
     }
 
@@ -75,13 +113,23 @@ impl CacheRun {
             → IfSome result (λ r. r ≡ report_on job.now trace) }
         // A run that has a cache has a report.
         ensures some { (d : AnyPolicy) → self ≡ CacheRun.Cache d → IsSome result }
+        ensures narrow { (d : DemandState) → self ≡ CacheRun.Narrow d → IsSome result }
     {
         match self {
             CacheRun::Cache(cache) => Some(report_by(cache, job)),
+            CacheRun::Narrow(cache) => Some(report_by_narrow(cache, job)),
             CacheRun::NextUses(finder) => report_over_uses(alloc, finder, job).ok(),
             CacheRun::OutOfMemory => None,
         }
     }
+}
+
+// The report of a cache that ran its job over the whole trace, whose keys are below 2^32.
+fn report_by_narrow(cache: NarrowCache, job: &Job) -> Report
+    ensures { (trace : List ℕ) → HasAccessed job.now trace trace (AnyPolicy.Demand cache) → result ≡ report_on job.now trace }
+{
+    theorems::any_reports();
+    Report::of(job, cache.stats())
 }
 
 // The report of a job over a trace whose next uses were found: all accesses are made now.

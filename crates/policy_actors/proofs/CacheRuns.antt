@@ -6,7 +6,10 @@ use Rattle.engine_base.specs.declared.limits.TheConstants.{MAX_STEPS}
 use Rattle.policy_actors.specs.Following.{Job, CanFollow}
 use Rattle.policy_actors.specs.CacheRuns.{CacheRun, IsAfter}
 use Rattle.policies.specs.CacheRun.{CanTake, HasTaken}
-use Rattle.policies.specs.declared.cache_run.CacheRun.TheVariants.{Cache, NextUses, OutOfMemory}
+use Rattle.policies.specs.declared.cache_run.CacheRun.TheVariants.{Cache, Narrow, NextUses, OutOfMemory}
+use Rattle.policies.specs.declared.any_policy.AnyPolicy.TheVariants.{Demand}
+use Rattle.policies.specs.Accesses.{AnyPolicy, IsNext}
+use Rattle.policies.specs.AnyPolicy.{HasAccessed}
 use Rattle.policy_actors.specs.ChannelProtocol.{Batch, IsBatch}
 use Rattle.policies.proofs.Batches.{taken-more, all-taken}
 
@@ -25,18 +28,22 @@ module _ (known : Option (List ℕ)) (most : ℕ) (j : Job) (size k : ℕ) (b : 
       (λ (none : length b.keys ≤ 0). omega (arith, length-append done b.keys))
       (cases_lt 0 (length b.keys))
 
+  next : most ≤ MAX_STEPS → (d : AnyPolicy) (done : List ℕ) → length done ≤ k * size → length done ≤ most → ((trace : List ℕ) → HasAccessed j trace done d) → IsNext b.keys d
+  next room d done within few stands = record {
+    job = j;
+    trace = done ++ b.keys;
+    before = done;
+    rest = [];
+    stands = stands (done ++ b.keys);
+    ahead = ap (λ (l : List ℕ). done ++ l) (sym (append-nil b.keys));
+    few = omega (arith, room, few_more done within few);
+  }
+
   -- it is ready for the next batch
   pub ready : most ≤ MAX_STEPS → CanFollow most j → (run : CacheRun) → IsAfter known most j size k run → CanTake b.keys run
   ready room follows (NextUses found) s = omega (arith, length-append s.done b.keys, few_more s.done s.within s.few, follows (s.taken []).0, ap (λ (l : List ℕ). length l) (s.taken []).1)
-  ready room follows (Cache d) s = record {
-    job = j;
-    trace = s.done ++ b.keys;
-    before = s.done;
-    rest = [];
-    stands = s.taken (s.done ++ b.keys);
-    ahead = ap (λ (l : List ℕ). s.done ++ l) (sym (append-nil b.keys));
-    few = omega (arith, room, few_more s.done s.within s.few);
-  }
+  ready room follows (Cache d) s = next room d s.done s.within s.few s.taken
+  ready room follows (Narrow d) s = next room (Demand d) s.done s.within s.few s.taken
   ready room follows OutOfMemory s = tt
 
   first_more : (o : Option (List ℕ)) (done : List ℕ) → IfSome o (λ all. done ≡ take (k * size) all)

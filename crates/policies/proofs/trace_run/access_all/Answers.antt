@@ -1,24 +1,9 @@
-use Rattle.std.proofs.Common.{◌≡◌, ◌++◌, List, ℕ, Result, Ok, Err, OnOk, OnErr, sym, subst}
-use Rattle.engine_base.specs.Machine.{state_after_all}
-use Rattle.demand_cache.specs.DemandCache.{DemandState, DemandStops, demand_access}
+use Rattle.std.proofs.Common.{Result, Ok, Err, OnOk, OnErr, sym, subst}
 use Rattle.policies.specs.declared.any_policy.AnyPolicy.TheVariants.{Adaptive, Demand, Optimal, Queues}
 use Rattle.policies.specs.Accesses.{AnyPolicy, IsContinued, IsNext, IsStopped}
-use Rattle.policies.specs.AnyPolicy.{HasAccessed}
-use Rattle.policies.proofs.Machines.{demand-made, demand-next}
+use Rattle.policies.proofs.Machines.{demand-next}
+use Rattle.policies.proofs.Stretches.{demand-continued, demand-stopped}
 use Rattle.policies.proofs.trace_run.access_all.Goals as goal
-
-continued : (keys : List ℕ) (d e : DemandState) → e ≡ state_after_all demand_access d keys → IsContinued keys (Demand d) (Demand e)
-continued keys d e is j trace done s = subst (λ x. HasAccessed j trace (done ++ keys) (Demand x)) (sym is) (demand-made j trace done keys d s)
-
-stopped : (keys : List ℕ) (d e : DemandState) → DemandStops keys d e → IsStopped keys (Demand d) (Demand e)
-stopped keys d e h = record {
-  made = h.made;
-  next = h.next;
-  later = h.later;
-  split = h.split;
-  stands = continued h.made d e h.stands;
-  asks = h.asks;
-}
 
 on_ok : {T E P Q : Type 0} (r : Result T E) → (P → Q) → OnOk r P → OnOk r Q
 on_ok (Ok v) f h = f h
@@ -34,12 +19,12 @@ access_all-requires c = demand-next c.args.keys.now c.in-Demand.cache (subst (Is
 pub returns-in-Demand-clause-all : goal.returns-in-Demand-clause-all
 returns-in-Demand-clause-all c =
     subst (λ (d : AnyPolicy). OnOk c.access_all.result (IsContinued c.args.keys.now d (Demand c.access_all.new.self))) (sym c.in-Demand.is)
-    (on_ok c.access_all.result (continued c.args.keys.now c.in-Demand.cache c.access_all.new.self) c.access_all.ensures.all)
+    (on_ok c.access_all.result (demand-continued c.args.keys.now c.in-Demand.cache c.access_all.new.self) c.access_all.ensures.all)
 
 pub returns-in-Demand-clause-memory : goal.returns-in-Demand-clause-memory
 returns-in-Demand-clause-memory c =
     subst (λ (d : AnyPolicy). OnErr c.access_all.result (IsStopped c.args.keys.now d (Demand c.access_all.new.self))) (sym c.in-Demand.is)
-    (on_err c.access_all.result (stopped c.args.keys.now c.in-Demand.cache c.access_all.new.self) c.access_all.ensures.memory)
+    (on_err c.access_all.result (demand-stopped c.args.keys.now c.in-Demand.cache c.access_all.new.self) c.access_all.ensures.memory)
 
 pub returns-in-Queues-clause-all : goal.returns-in-Queues-clause-all
 returns-in-Queues-clause-all c =
