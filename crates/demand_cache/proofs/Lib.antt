@@ -2,4 +2,3 @@ pub mod Keeping
 pub mod Engine
 mod Accesses
 mod KeyRows
-mod NarrowKeys

@@ -13,6 +13,9 @@ use std::alloc::AllocError;
 /// A cache that holds keys below 2^32 alone.
 pub type NarrowCache = DemandCache<NarrowKey>;
 
+// The least key that is not narrow.
+const WIDE: u64 = 1 << 32;
+
 // How many keys are narrowed at once.
 const PIECE: usize = 512;
 
@@ -32,10 +35,9 @@ impl DemandCache<NarrowKey> {
         while made < keys.len() {
             let end = made + PIECE.min(keys.len() - made);
             let piece = &keys[made..end];
-            if !are_narrow(piece) {
+            if !are_narrow(&mut names, piece) {
                 break;
             }
-            write_narrow(&mut names, piece);
             self.access_all(&names[..piece.len()])?;
             made = end;
         }
@@ -43,30 +45,20 @@ impl DemandCache<NarrowKey> {
     }
 }
 
-// Whether each of so few keys is below 2^32: the sum of their upper halves is then 0. A loop with no way out in the middle
-// takes several keys at once.
-fn are_narrow(keys: &[Key]) -> bool
-    requires { length keys.now ≤ PIECE }
-    ensures some { result ≡ true → All IsNarrow keys.now }
+// Writes the lower halves of keys over the first names, and says whether the upper ones are all 0. A loop with no way out in
+// the middle takes several keys at once.
+fn are_narrow(names: &mut [NarrowKey], keys: &[Key]) -> bool
+    requires { length keys.now ≤ length names.old }
+    ensures len { length names.new ≡ length names.old }
+    ensures keys { result ≡ true → map (λ k. k.key) (take (length keys.now) names.new) ≡ keys.now }
     ensures all { All IsNarrow keys.now → result ≡ true }
 {
-    let mut sum = 0;
-    for key in keys {
-        sum += *key >> 32;
-    }
-    sum == 0
-}
-
-// Writes keys below 2^32 over the first names.
-fn write_narrow(names: &mut [NarrowKey], keys: &[Key])
-    requires narrow { All IsNarrow keys.now }
-    requires room { length keys.now ≤ length names.old }
-    ensures len { length names.new ≡ length names.old }
-    ensures keys { map (λ k. k.key) (take (length keys.now) names.new) ≡ keys.now }
-{
+    let mut bits = 0;
     for i in 0..keys.len() {
+        bits |= keys[i];
         names[i] = NarrowKey {
-            key: keys[i] as u32,
+            key: (keys[i] % WIDE) as u32,
         };
     }
+    bits < WIDE
 }

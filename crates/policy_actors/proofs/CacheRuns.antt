@@ -8,7 +8,8 @@ use Rattle.policy_actors.specs.CacheRuns.{CacheRun, IsAfter}
 use Rattle.policies.specs.CacheRun.{CanTake, HasTaken}
 use Rattle.policies.specs.declared.cache_run.CacheRun.TheVariants.{Cache, Narrow, NextUses, OutOfMemory}
 use Rattle.policies.specs.declared.any_policy.AnyPolicy.TheVariants.{Demand}
-use Rattle.policies.specs.Accesses.{AnyPolicy, IsNext}
+use Rattle.policies.specs.declared.any_policy.AnyPolicy.{AnyPolicy}
+use Rattle.policies.specs.Accesses.{IsNext}
 use Rattle.policies.specs.AnyPolicy.{HasAccessed}
 use Rattle.policy_actors.specs.ChannelProtocol.{Batch, IsBatch}
 use Rattle.policies.proofs.Batches.{taken-more, all-taken}

@@ -1,9 +1,10 @@
-use Rattle.std.proofs.Common.{◌≡◌, ◌≤◌, ◌*◌, ◌^◌, take, sum_by}
-use Rattle.demand_cache.proofs.NarrowKeys.{upper}
+use Rattle.std.proofs.Common.{◌≡◌, ◌<◌, ◌^◌, length, map, take, All}
+use Rattle.demand_cache.specs.NarrowKeys.{IsNarrow}
 use Rattle.demand_cache.proofs.narrow_cache.are_narrow.Given as goal
 
-abbrev pub invariant-loop-key : goal.invariant-loop-key
-invariant-loop-key l = record {
-  sum : l.sum ≡ sum_by upper (take l.key-index l.keys);
-  most : l.sum ≤ l.key-index * 2 ^ 32;
+abbrev pub invariant-loop-i : goal.invariant-loop-i
+invariant-loop-i l = record {
+  len : length l.names ≡ length l.initial.names;
+  keys : l.bits < 2 ^ 32 → map (λ k. k.key) (take l.i l.names) ≡ take l.i l.keys;
+  all : All IsNarrow (take l.i l.keys) → l.bits < 2 ^ 32;
 }

@@ -1,4 +1,4 @@
-use Rattle.std.proofs.Common.{◌≡◌, ◌<◌, ◌∙◌, ℕ, List, length, ap, sym, subst, arith, refl, Err}
+use Rattle.std.proofs.Common.{◌∙◌, ℕ, List, ap, sym, subst, arith, refl, Err}
 use Rattle.demand_cache.specs.DemandCache.{DemandState, DemandStops}
 use Rattle.demand_cache.proofs.Accesses.{HasMade, named-at, named-length, has-made-next, is-accepted, has-made-all, stops-next}
 use Rattle.demand_cache.proofs.demand_cache.DemandCache.access_all_by.Goals as goal

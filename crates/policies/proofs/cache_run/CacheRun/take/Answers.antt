@@ -1,7 +1,6 @@
 use Rattle.std.proofs.Common.{◌≡◌, ◌++◌, ◌-◌, ℕ, false, true, true≢false, List, length, Result, Ok, Err, OnErr, OnOk, take, drop, ap, sym, ◌∙◌, subst, rules, arith, append_assoc, length-drop, take-append-drop}
 use Rattle.std.proofs.lemmas.List.{take_all}
 use Rattle.std.specs.Result.{is_err}
-use Rattle.demand_cache.specs.DemandCache.{DemandState}
 use Rattle.policies.specs.Accesses.{AnyPolicy, IsStopped}
 use Rattle.policies.specs.CacheRun.{CanTake, HasTaken}
 use Rattle.policies.specs.declared.any_policy.AnyPolicy.TheVariants.{Demand}

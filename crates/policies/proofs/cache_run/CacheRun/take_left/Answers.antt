@@ -1,7 +1,6 @@
-use Rattle.std.proofs.Common.{◌≡◌, ◌++◌, false, true, true≢false, Result, Ok, Err, OnOk, sym, subst}
+use Rattle.std.proofs.Common.{◌≡◌, true, true≢false, Result, Ok, Err, OnOk, sym, subst}
 use Rattle.std.specs.Result.{is_ok}
 use Rattle.demand_cache.specs.DemandCache.{DemandState}
-use Rattle.policies.specs.Accesses.{AnyPolicy}
 use Rattle.policies.specs.AnyPolicy.{HasAccessed}
 use Rattle.policies.specs.CacheRun.{HasTaken}
 use Rattle.policies.specs.declared.any_policy.AnyPolicy.TheVariants.{Demand}
