@@ -1,11 +1,12 @@
 //! The words by which policies, formats, spreads and rates are named.
-ghost use Rattle.std.specs.Prelude.{◌≡◌, ◌≤◌, IfSome, find, option_map};
+ghost use Rattle.std.specs.Prelude.{◌≡◌, ◌≤◌, ℕ, IfSome, find, map, option_map};
 ghost use Rattle.std.specs.Str.{bytes_eq};
+ghost use Rattle.clap.specs.Words.{Text};
 ghost use Rattle.step_record.specs.Job.{word_of};
 ghost use Rattle.command_line.specs.Choices.{AreWords, format_named as format_by, format_words};
 ghost use Rattle.command_line.specs.Choices.{is_given as is_given_by, limits_named as limits_by};
 ghost use Rattle.command_line.specs.Choices.{policy_named as policy_by, spread_named as spread_by};
-ghost use Rattle.command_line.specs.Choices.{rate_named as rate_by, rate_words};
+ghost use Rattle.command_line.specs.Choices.{rate_named as rate_by, rate_words, rates};
 ghost use Rattle.command_line.specs.Choices.{spread_words};
 ghost use Rattle.trace_read.specs.declared.limits.TheConstants.{MAX_LONG_ACCESSES, MAX_LONG_TRACE_BYTES};
 
@@ -20,6 +21,30 @@ const PLAIN: &str = "plain";
 
 // What `clap` has as the value of an option that has none, where it is given.
 const GIVEN: &str = "true";
+
+// The rates of a sample: the word of each, and the number of blocks of which the sample has one.
+static RATES: [(&str, u32); 20] = [
+    ("1/2", 2),
+    ("1/4", 4),
+    ("1/8", 8),
+    ("1/16", 16),
+    ("1/32", 32),
+    ("1/64", 64),
+    ("1/128", 128),
+    ("1/256", 256),
+    ("1/512", 512),
+    ("1/1024", 1024),
+    ("1/2048", 2048),
+    ("1/4096", 4096),
+    ("1/8192", 8192),
+    ("1/16384", 16384),
+    ("1/32768", 32768),
+    ("1/65536", 65536),
+    ("1/131072", 131072),
+    ("1/262144", 262144),
+    ("1/524288", 524288),
+    ("1/1048576", 1048576),
+];
 
 /// The words that values are chosen from.
 #[derive(Clone, Copy)]
@@ -111,34 +136,30 @@ pub(crate) fn spread_named(word: Option<&str>) -> Spread
 }
 
 /// The number of blocks of which a sample has one, at the rate that the word names.
-#[tactic(auto, unfolding(crate::specs::Choices::rate_named))]
 pub(crate) fn rate_named(word: &str) -> Option<u32>
     ensures value { result ≡ rate_by word.now }
     ensures some { IfSome result (λ inverse. 2 ≤ inverse) }
 {
-    match word {
-        "1/2" => Some(2),
-        "1/4" => Some(4),
-        "1/8" => Some(8),
-        "1/16" => Some(16),
-        "1/32" => Some(32),
-        "1/64" => Some(64),
-        "1/128" => Some(128),
-        "1/256" => Some(256),
-        "1/512" => Some(512),
-        "1/1024" => Some(1024),
-        "1/2048" => Some(2048),
-        "1/4096" => Some(4096),
-        "1/8192" => Some(8192),
-        "1/16384" => Some(16384),
-        "1/32768" => Some(32768),
-        "1/65536" => Some(65536),
-        "1/131072" => Some(131072),
-        "1/262144" => Some(262144),
-        "1/524288" => Some(524288),
-        "1/1048576" => Some(1048576),
-        _ => None,
+    first_rate(rates(), word)
+}
+
+// The rates.
+fn rates() -> &'static [(&'static str, u32)]
+    ensures { map (λ rate. (rate.0.now, rate.1)) result.now ≡ rates }
+{
+    &RATES
+}
+
+// The number of the first of the rates that has this word.
+fn first_rate(rates: &[(&str, u32)], word: &str) -> Option<u32>
+    ensures { result ≡ option_map (λ (rate : Text × ℕ). rate.1)
+        (find (λ rate. bytes_eq word.now rate.0) (map (λ rate. (rate.0.now, rate.1)) rates.now)) }
+{
+    let (first, rest) = rates.split_first()?;
+    if word == first.0 {
+        return Some(first.1);
     }
+    first_rate(rest, word)
 }
 
 /// Whether an option that has no value is given, by what `clap` has as its value: `true` where it is.
