@@ -1,4 +1,4 @@
-use Rattle.std.proofs.Common.{◌≡◌, ◌∙◌, ◌+◌, length, ap, subst, refl, rules, arith}
+use Rattle.std.proofs.Common.{◌≡◌, ◌∙◌, ◌+◌, length, ap, subst, refl, arith}
 use Rattle.std.proofs.lemmas.Option.{IfSome_then}
 use Rattle.std.specs.Prelude.{IfSome}
 use Rattle.streams.proofs.Tallies.{further, later, unspent}
@@ -61,7 +61,7 @@ returns-then-not-more g c =
     let at = (goal.at.returns-then-not-more g c).After-pass_on in
     let last = next.gives.last c.if-not-more.true in
     let read = next.end (λ q. absurd (cc (q, c.if-not-more.true))) in
-    let len : c.len.result ≡ length c.next.new.keys.items = search rules in
+    let len : c.len.result ≡ length c.next.new.keys.items = c.len.ensures ∙ c.next.new.keys.ok.0 in
     let on = IfSome_then _ (kept g at) (λ b s. sampled_on _ _ _ _ c.add.new.self c.pass_on.new.sample _ _ _ c.pass_on.ensures.same.1 c.pass_on.ensures.same.2 c.in_default-pass_on.ensures.written s) in
     record {
       sound = read.ok;
@@ -81,7 +81,7 @@ pieces-preserved g c =
     let i = c.pieces.invariant in
     let next = c.in-Ok.ensures.next _ _ _ _ _ i.reading in
     let same = c.pass_on.ensures.same in
-    let len : c.len.result ≡ length c.next.new.keys.items = search rules in
+    let len : c.len.result ≡ length c.next.new.keys.items = c.len.ensures ∙ c.next.new.keys.ok.0 in
     let on = next.goes_on in
     let count : c.pieces.accesses + length c.next.new.keys.items ≡ c.pieces.accesses + c.len.result = omega (arith, len) in
     record {
