@@ -1,5 +1,5 @@
 -- A set that is shown as one test for each number.
-use Rattle.std.proofs.Common.{◌≡◌, ◌⊎◌, ℕ, ◌<◌, ◌≤◌, Bool, false, inl, inr}
+use Rattle.std.proofs.Common.{◌≡◌, ◌⊎◌, ℕ, ◌<◌, ◌≤◌, Bool, List, length, false, ap, arith, inl, inr}
 use Rattle.std.proofs.lemmas.Bool.{cases_lt}
 use Rattle.std.proofs.lemmas.Bool.Decides.{nat_tests}
 use Rattle.engine_base.proofs.Places.{length-by_place, get_or-by_place, past-by_place}
@@ -11,3 +11,9 @@ pub test-tells : (n : ℕ) (held : ℕ → Bool) (q : ℕ) → ((q < n) × (is_i
 test-tells n held q = elim (cases_lt q n) [ inl l ↦ inl (l, get_or-by_place n held q false l) | inr g ↦ inr (g, past-by_place n held q false g) ]
 
 pub ruleset shown_tests = (length-by_place, test-tells, nat_tests)
+
+-- below the size the set is what its test says
+pub shown_below : (n : ℕ) (held : ℕ → Bool) (tests : List Bool) (q : ℕ) → by_place n held ≡ tests → q < length tests → is_in_set tests q ≡ held q
+shown_below n held tests q is below =
+    let size = ap length is in
+    rw (← is) (get_or-by_place n held q false (omega (arith, size, length-by_place n held)))
