@@ -23,6 +23,9 @@ module _ (c : ℕ) (t : List ℕ) (i : ℕ) where
   pub stands : (d : OptimalRecord) → d ≡ record_at c t i → Stands c t i d
   stands d e = subst (λ x. Stands c t i x) (sym e) (accesses c t i (get_or t i 0) (belady_residents c t i))
 
+  pub record-hit : has_key (get_or t i 0) (belady_residents c t i) ≡ true → Hit ≡ record_at c t i
+  record-hit h = rw h refl
+
   module _ (h : has_key (get_or t i 0) (belady_residents c t i) ≡ false) where
     pub record-kept : length (belady_residents c t i) < c → Kept ≡ record_at c t i
     record-kept l = rw (h, lt-ltb (length (belady_residents c t i)) c l) refl

@@ -1,11 +1,12 @@
-use Rattle.std.proofs.lemmas.Grind.{common_steps}
-use Rattle.std.proofs.Common.{◌-◌, ◌*◌, false, arith, ap, ◌∙◌}
+use Rattle.std.proofs.Common.{◌-◌, ◌*◌, true, false, arith, ap, ◌∙◌}
 use Rattle.clairvoyant.specs.declared.optimal_record.OptimalRecord.TheVariants.{Evicted, Rejected}
-use Rattle.clairvoyant.proofs.Records.{stands, record-kept, record-rejected, record-evicted, tested, hit-tied, kept-tied, rejected-tied, none-out, evicted-tied, least-out}
+use Rattle.clairvoyant.proofs.Records.{stands, record-hit, record-kept, record-rejected, record-evicted, tested, hit-tied, kept-tied, rejected-tied, none-out, evicted-tied, least-out}
 use Rattle.clairvoyant.proofs.clairvoyant.OptimalCore.serve.Goals as goal
 
 pub returns-then-has-clause-record : goal.returns-then-has-clause-record
-returns-then-has-clause-record c = grind (arith, common_steps, tested)
+returns-then-has-clause-record c =
+    record-hit c.args.self.now.capacity c.args.self.now.uses c.args.place
+    (tested c.args.self.now.capacity c.args.self.now.uses c.args.place c.requires.place _ c.requires.tied true _ (ap (λ n. 2 * n - 1 - c.args.place) c.len.ensures.len) c.if-has.ensures)
 
 pub returns-then-has-clause-tied : goal.returns-then-has-clause-tied
 returns-then-has-clause-tied c =
@@ -18,7 +19,10 @@ returns-then-held-self-clause-record c =
     record-kept c.args.self.now.capacity c.args.self.now.uses c.args.place miss (omega (arith, c.requires.held))
 
 pub returns-then-held-self-clause-tied : goal.returns-then-held-self-clause-tied
-returns-then-held-self-clause-tied c = search (arith, kept-tied, stands, returns-then-held-self-clause-record c)
+returns-then-held-self-clause-tied c =
+    kept-tied c.args.self.now.capacity c.args.self.now.uses c.args.place c.requires.place _ _ c.rank-rank.ensures.rank
+    (stands c.args.self.now.capacity c.args.self.now.uses c.args.place _ (returns-then-held-self-clause-record c)) _
+    (record { size = c.put-then-held-self.ensures.size; tests = c.put-then-held-self.ensures.puts }) c.requires.tied
 
 pub returns-in-Some-clause-record : goal.returns-in-Some-clause-record
 returns-in-Some-clause-record c =
