@@ -67,7 +67,7 @@ pub returns-in_err-answer-clause-writes : goal.returns-in_err-answer-clause-writ
 returns-in_err-answer-clause-writes g c = grind (arith, common_steps)
 
 pub returns-in_err-write_all_within-clause-source : goal.returns-in_err-write_all_within-clause-source
-returns-in_err-write_all_within-clause-source g c = grind (arith, common_steps)
+returns-in_err-write_all_within-clause-source g c = c.answer.ensures.source ∙ c.lines.invariant.source
 
 pub returns-in_err-write_all_within-clause-usable : goal.returns-in_err-write_all_within-clause-usable
 returns-in_err-write_all_within-clause-usable g c = grind (arith, common_steps)
@@ -79,7 +79,7 @@ pub returns-then-is_last-clause-reads : goal.returns-then-is_last-clause-reads
 returns-then-is_last-clause-reads g c = grind (arith, common_steps)
 
 pub returns-then-is_last-clause-source : goal.returns-then-is_last-clause-source
-returns-then-is_last-clause-source g c = grind (arith, common_steps)
+returns-then-is_last-clause-source g c = c.answer.ensures.source ∙ c.lines.invariant.source
 
 pub returns-in_err-ended-clause-part : goal.returns-in_err-ended-clause-part
 returns-in_err-ended-clause-part g c = on_err c.from_residual.result (stops_here c.lines.invariant.ahead)
