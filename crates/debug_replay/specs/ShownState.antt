@@ -8,7 +8,8 @@ use Rattle.admission.specs.Frequency.{FrequencyData}
 use Rattle.streams.specs.Texts.{count_text}
 use Rattle.shell_model.specs.Buffers.{Item, stripe_at}
 use Rattle.shell_model.specs.declared.task.Task.TheVariants.{Add, Update, Remove}
-use Rattle.shell_model.specs.Shell.{Task, Phase, Drain, Shell}
+use Rattle.shell_model.specs.declared.task.Task.{Task}
+use Rattle.shell_model.specs.Shell.{Phase, Drain, Shell}
 use Rattle.shell_model.specs.declared.holder.Holder.{Holder}
 use Rattle.shell_model.specs.declared.stats.ShellStats.{ShellStats}
 

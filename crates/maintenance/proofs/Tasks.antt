@@ -4,7 +4,8 @@ use Rattle.std.proofs.lemmas.Bool.{cases_Bool, eqb-true}
 use Rattle.std.specs.Prelude.{get_or}
 use Rattle.engine_base.specs.declared.step.Act.TheVariants.{DrainWrite}
 use Rattle.shell_model.specs.declared.task.Task.TheVariants.{Add, Update, Remove}
-use Rattle.shell_model.specs.Changes.{Task, Phase, after_change, shell_after_task, without_task}
+use Rattle.shell_model.specs.declared.task.Task.{Task}
+use Rattle.shell_model.specs.Changes.{Phase, after_change, shell_after_task, without_task}
 use Rattle.shell_model.specs.Shell.{Shell, act_reply, held_by, may_write, task_reply}
 use Rattle.maintenance.specs.Performing.{Holder, HasTask}
 

@@ -20,7 +20,8 @@ use Rattle.replacement.specs.Table.{Outcome, Response, contest, trial, eviction}
 use Rattle.shell_model.specs.Buffers.{stripe_at}
 use Rattle.shell_model.specs.declared.stats.ShellStats.{ShellStats}
 use Rattle.shell_model.specs.ShellStats.{Reply, shell_stats_after}
-use Rattle.shell_model.specs.Shell.{Task, Phase, Shell, window_size, reply_by, unlisted_by, may_write}
+use Rattle.shell_model.specs.declared.task.Task.{Task}
+use Rattle.shell_model.specs.Shell.{Phase, Shell, window_size, reply_by, unlisted_by, may_write}
 use Rattle.shell_model.proofs.Making.{evict-is}
 use Rattle.shell_model.proofs.Undoing.{first-queued}
 use Rattle.shell_model.specs.Walks.{Opens, IsEnding, FollowsEnd, IsEvicting, FollowsEvict, IsWriting, FollowsDrainWrite, IsReading, FollowsDrainRead}

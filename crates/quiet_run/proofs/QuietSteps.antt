@@ -7,7 +7,8 @@ use Rattle.admission.specs.Frequency.{FrequencyData}
 use Rattle.segments.specs.Queues.{Queues}
 use Rattle.shell_model.specs.declared.holder.Holder.{Holder}
 use Rattle.shell_model.specs.declared.stats.ShellStats.{ShellStats}
-use Rattle.shell_model.specs.Shell.{Task, Phase, Drain, Reply, Act, Outcome, Item, Shell, act_effect, counted_up, act}
+use Rattle.shell_model.specs.declared.task.Task.{Task}
+use Rattle.shell_model.specs.Shell.{Phase, Drain, Reply, Act, Outcome, Item, Shell, act_effect, counted_up, act}
 use Rattle.shell_model.specs.Laws.{Config, MadeStep}
 use Rattle.shell_model.specs.Walks.{Opens, step_of}
 use Rattle.quiet_run.specs.Outcomes.{outcome_with_reply, outcome_from}

@@ -10,7 +10,8 @@ use Rattle.engine_base.specs.History.{next_data, data_after, IsLegal}
 use Rattle.segments.specs.Items.{Item, occurrences, oldest_of}
 use Rattle.shell_model.specs.declared.task.Task.TheVariants.{Add, Update, Remove}
 use Rattle.shell_model.specs.Buffers.{stripe_at}
-use Rattle.shell_model.specs.Shell.{Task, Reply, Act, Shell, node_of, counted_up, act}
+use Rattle.shell_model.specs.declared.task.Task.{Task}
+use Rattle.shell_model.specs.Shell.{Reply, Act, Shell, node_of, counted_up, act}
 use Rattle.replacement.specs.Counts.{queue_occurrences}
 use Rattle.shell_model.specs.Consistency.{IsConsistent}
 use Rattle.shell_model.specs.Laws.{Config, MadeStep, empty_shell}

@@ -10,7 +10,8 @@ use Rattle.segments.specs.Items.{Item, occurrences}
 use Rattle.segments.specs.Queues.{Queues, total_items}
 use Rattle.segments.proofs.QueueLists.{times-append}
 use Rattle.replacement.specs.Rules.{Config, main_size}
-use Rattle.shell_model.specs.Shell.{Task, Shell, window_size}
+use Rattle.shell_model.specs.declared.task.Task.{Task}
+use Rattle.shell_model.specs.Shell.{Shell, window_size}
 use Rattle.replacement.specs.Counts.{queue_occurrences}
 use Rattle.shell_model.specs.Consistency.{IsConsistent, waiting_adds}
 use Rattle.shell_model.specs.Laws.{empty_shell}

@@ -4,7 +4,8 @@ use Rattle.std.proofs.lemmas.Bool.{cases_Bool}
 use Rattle.segments.specs.Items.{Item, is_same_item, occurrences, items_without}
 use Rattle.segments.proofs.QueueLists.{same-refl, same-true, length-without}
 use Rattle.shell_model.specs.declared.task.Task.TheVariants.{Add, Update, Remove}
-use Rattle.shell_model.specs.Consistency.{Task, waiting_adds, leaving}
+use Rattle.shell_model.specs.declared.task.Task.{Task}
+use Rattle.shell_model.specs.Consistency.{waiting_adds, leaving}
 use Rattle.replacement.proofs.Counting.{unless-same}
 use Rattle.shell_laws.specs.Capacity.{items_added, items_removed}
 

@@ -16,7 +16,8 @@ use Rattle.shell_model.specs.Frequency.{frequency_recorded}
 use Rattle.replacement.specs.Rules.{Config, three_queues}
 use Rattle.replacement.specs.Plan.{candidate_of}
 use Rattle.replacement.specs.Table.{kept_in}
-use Rattle.shell_model.specs.ShellState.{Task, Phase, holder_in_phase}
+use Rattle.shell_model.specs.declared.task.Task.{Task}
+use Rattle.shell_model.specs.ShellState.{Phase, holder_in_phase}
 use Rattle.shell_model.specs.Changes.{shell_eviction}
 use Rattle.shell_model.proofs.Making.{evict-is}
 use Rattle.shell_model.specs.Shell.{Reply, Step, Act, Shell, held_by, in_phase, evicted_by, node_of, table_with, window_size, drain_at_end, may_write, act_effect, counted_up, act}
