@@ -1,4 +1,4 @@
-"""A demand policy made as the twin of one that is there: its crate, its row and its word, and its lines in the pages.
+"""A demand policy made as the twin of one that is there: its module, its row and its word, and its lines in the pages.
 
 The twin has the model's rule under another name, so all of it is proved; its maker then writes the rule anew. Nothing here
 knows a policy: each place that names the model has the twin named beside it.
@@ -7,11 +7,13 @@ import re
 from typing import NamedTuple
 
 JOB = "crates/step_record/specs/Job.antt"
+# Where each policy is a module, and the lists of modules there.
+PAGES = "crates/policy_pages"
+MODULES = [f"{PAGES}/{it}" for it in ("src/lib.rt", "specs/Lib.antt", "proofs/Lib.antt")]
 # What has a policy's row, and what has its word.
 ROW = ["crates/demand_cache/src/demand_policy.rt", "crates/demand_cache/specs/DemandPolicy.antt", "crates/demand_cache/proofs/Keeping.antt",
-       "crates/policy_laws/proofs/RenamedPlans.antt"]
+       "crates/demand_cache/proofs/RenamedPlans.antt"]
 WORD = ["crates/step_record/src/job.rt", JOB, "crates/policies/src/design.rt", "crates/policies/specs/Design.antt"]
-CODE = [*ROW, *WORD]
 # Where a step that requires a state has it.
 ANSWERS = [f"crates/demand_cache/proofs/demand_policy/DemandPolicy/{it}/Answers.antt"
            for it in ("count_out", "queue_rows", "step")]
@@ -19,14 +21,13 @@ OPTIONS = "crates/command_line/src/options.rt"
 EXAMPLES = "crates/policy_tests/src/example_tests.rt"
 REFERENCE = "checks/cache_reference/demand_policies.py"
 STYLES = "tools/lib/policies.py"
-ARCHITECTURE = "docs/ARCHITECTURE.md"
 GUIDE, SOURCES = "docs/GUIDE.md", "docs/SOURCES.md"
 NOT_YET = "to be written"
 
 
 class Policy(NamedTuple):
-    """A policy by its crate, its variant in code and definitions, and its word."""
-    crate: str
+    """A policy by its module, its variant in code and definitions, and its word."""
+    module: str
     variant: str
     word: str
 
@@ -35,10 +36,9 @@ def policy_of(top, word):
     """The demand policy that a word of the program names."""
     found = re.search(rf'^word_of (\w+) = codes "{re.escape(word)}"$', (top / JOB).read_text(), re.M)
     variant = found[1] if found else ""
-    crate = re.sub(r"(?<=[a-z0-9])(?=[A-Z])", "_", variant).lower()
-    if not (top / "crates" / crate / "specs/Plan.antt").exists():
-        raise ValueError(f"there is no policy {word} with a crate of its own")
-    return Policy(crate, variant, word)
+    if not (top / PAGES / f"specs/{variant}Plan.antt").exists():
+        raise ValueError(f"there is no policy {word} with a page of its own")
+    return Policy(re.sub(r"(?<=[a-z0-9])(?=[A-Z])", "_", variant).lower(), variant, word)
 
 
 def named(word):
@@ -57,9 +57,9 @@ class Twin:
     def __init__(self, model, own):
         self.model, self.own = model, own
         bounded = r"(?<![A-Za-z0-9]){}(?![A-Za-z0-9])"
-        dashed = model.crate.replace("_", "-")
+        dashed = model.module.replace("_", "-")
         pairs = [(rf'(["`]){re.escape(model.word)}(["`])', rf"\g<1>{own.word}\g<2>"),
-                 (bounded.format(rf"{dashed}(?=-)|(?<=-){dashed}"), own.crate.replace("_", "-")), (bounded.format(model.crate), own.crate),
+                 (bounded.format(rf"{dashed}(?=-)|(?<=-){dashed}"), own.module.replace("_", "-")), (bounded.format(model.module), own.module),
                  (bounded.format(re.escape(model.word.upper())), own.word.upper()), (rf"{model.variant}(?![a-z])", own.variant)]
         self.changes = [(re.compile(old), new) for old, new in pairs]
 
@@ -72,16 +72,17 @@ class Twin:
         return not is_comment(line) and self.renamed(line) != line
 
     def own_files(self, top):
-        """The files of the new crate. The mutations are the model's alone."""
-        folder = top / "crates" / self.model.crate
-        for path in sorted(folder.glob("*/**/*.*")):
-            if path.suffix in (".rt", ".antt") and "out" not in path.relative_to(folder).parts:
-                yield self.renamed(str(path.relative_to(top))), self.renamed(path.read_text())
+        """The files of the new module. The mutations are the model's alone."""
+        folder, variant = top / PAGES, self.model.variant
+        files = [folder / f"src/{self.model.module}.rt", *folder.glob(f"specs/{variant}*.antt"), *folder.glob(f"proofs/{variant}*.antt"),
+                 *folder.glob(f"proofs/{self.model.module}/**/*.antt")]
+        for path in sorted(files):
+            yield self.renamed(str(path.relative_to(top))), self.renamed(path.read_text())
 
     def shared_files(self, top):
         """The text of each file that policies share, with the new one in it."""
         files = {
-            "crates.txt": self.in_crates, ARCHITECTURE: self.in_architecture, **dict.fromkeys([*ROW, *ANSWERS, *WORD], self.beside),
+            **dict.fromkeys([*MODULES, *ROW, *ANSWERS, *WORD], self.beside),
             OPTIONS: self.in_options, EXAMPLES: self.in_examples, REFERENCE: self.in_reference, STYLES: self.in_styles,
             GUIDE: self.in_guide, SOURCES: self.in_sources}
         for file, change in files.items():
@@ -90,7 +91,7 @@ class Twin:
                 new = change(old)
             except ValueError as fault:
                 raise ValueError(f"{file}: {fault}") from fault
-            if new == old and file not in ANSWERS or file in CODE and self.own.variant not in new:
+            if new == old and file not in ANSWERS or file in [*ROW, *WORD] and self.own.variant not in new:
                 raise ValueError(f"{file} does not name {self.model.word} where its twin is to stand")
             yield file, new
 
@@ -135,22 +136,6 @@ class Twin:
         return re.sub(r"(?<=\[Policy; )\d+", lambda it: str(int(it[0]) + 1), "".join(made))
 
     # The other files
-
-    def in_crates(self, text):
-        """Its own line below the model's, and its name beside the model's in the lines of others."""
-        lines = []
-        for line in text.splitlines(keepends=True):
-            head, colon, below = line.partition(":")
-            if colon and head.split()[0] == self.model.crate:
-                lines += [line, self.renamed(line)]
-            else:
-                lines.append(head + colon + re.sub(rf"\b{self.model.crate}\b", f"{self.model.crate} {self.own.crate}", below))
-        return "".join(lines)
-
-    def in_architecture(self, text):
-        """The crate's row below the model's."""
-        row = self.row_of(text, f"| `{self.model.crate}` | ")
-        return text.replace(row, row + self.renamed(row).replace(f"`{self.own.word}`", f"`{self.own.crate}`"))
 
     def in_guide(self, text):
         """A row below the model's."""
@@ -220,15 +205,15 @@ def piece_end(lines, at):
 def files_of(top, model, own):
     """The text of each file of the new policy's own, and of each that it shares with others."""
     twin = Twin(policy_of(top, model), named(own))
-    if (top / "crates" / twin.own.crate).exists():
-        raise ValueError(f"there is a crate {twin.own.crate}")
+    if (top / PAGES / f"src/{twin.own.module}.rt").exists():
+        raise ValueError(f"there is a module {twin.own.module}")
     return dict(twin.own_files(top)), dict(twin.shared_files(top))
 
 
-def crates_above(texts, top, changed):
+def crates_above(top, changed):
     """The crates that change, and those that stand on them."""
     below = {}
-    for line in (texts.get("crates.txt") or (top / "crates.txt").read_text()).splitlines():
+    for line in (top / "crates.txt").read_text().splitlines():
         if re.match(r"\w", line):
             head, _, names = line.partition(":")
             below[head.split()[0]] = set(names.split())

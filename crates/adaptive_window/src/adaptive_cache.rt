@@ -3,19 +3,19 @@ ghost use Rattle.std.specs.Prelude.{◌≡◌, ◌≢◌, ◌≤◌, ◌<◌, �
 ghost use Rattle.std.specs.Prelude.{IfOk, OnOk, OnErr};
 ghost use Rattle.engine_base.specs.declared.limits.TheConstants.{MAX_STEPS};
 ghost use Rattle.engine_base.specs.Config.{config_fault};
-ghost use Rattle.named_queues.specs.SegmentQueues.{three_queues as three_queues_of};
+ghost use Rattle.segments.specs.SegmentQueues.{three_queues as three_queues_of};
 ghost use Rattle.segments.specs.Queues.{queue_holding, residents_in};
-ghost use Rattle.named_queues.specs.KeyRow.{row_of};
-ghost use Rattle.named_queues.specs.SegmentKeys.{AreKeys};
+ghost use Rattle.segments.specs.KeyRow.{row_of};
+ghost use Rattle.segments.specs.SegmentKeys.{AreKeys};
 ghost use Rattle.adaptive_window.specs.AdaptiveCache.{empty_cache, cache_act, cache_may_ask};
 
 use crate::adaptive_window::AdaptiveWindow;
 use crate::window_record::WindowRecord;
 use admission::{FreqRecord, Frequency};
 use engine_base::{Config, Engine, Item, Key, MAX_STEPS, Outcome, Stats, StepFault};
-use named_queues::NamedQueue;
 use queue_table::AHEAD;
 use replacement::open_frequency_without_doorkeeper;
+use segments::NamedQueue;
 use std::alloc::{AllocError, Global};
 use std::marker::Model;
 

@@ -2,10 +2,10 @@
 ghost use Rattle.std.specs.Prelude.{◌≡◌, ◌≤◌, Some, None, Ok, IfOk, OnOk, OnErr, length};
 ghost use Rattle.engine_base.specs.Config.{config_fault};
 ghost use Rattle.engine_base.specs.Stats.{is_hit as is_hit_of};
-ghost use Rattle.named_queues.specs.SegmentQueues.{three_queues as three_queues_of};
+ghost use Rattle.segments.specs.SegmentQueues.{three_queues as three_queues_of};
 ghost use Rattle.segments.specs.Queues.{queue_holding, residents_in};
-ghost use Rattle.named_queues.specs.KeyRow.{row_of};
-ghost use Rattle.named_queues.specs.SegmentKeys.{AreKeys};
+ghost use Rattle.segments.specs.KeyRow.{row_of};
+ghost use Rattle.segments.specs.SegmentKeys.{AreKeys};
 ghost use Rattle.replacement.specs.Admission.{admits_in};
 ghost use Rattle.replacement.specs.PlanMoves.{leaver_in, room_for};
 ghost use Rattle.adaptive_window.specs.Climber.{AreSmallRules, caffeine_rules, first_window};
@@ -17,9 +17,8 @@ use crate::resizing::{resize, size_before, undo_runs};
 use crate::window_record::WindowRecord;
 use admission::Frequency;
 use engine_base::{Config, Item, Key, Outcome};
-use named_queues::{NamedQueue, three_queues, three_queues_row};
 use replacement::{access, make_room, undo};
-use segments::{Queue, Segments};
+use segments::{NamedQueue, Queue, Segments, three_queues, three_queues_row};
 use std::alloc::{AllocError, Global};
 use std::marker::Model;
 

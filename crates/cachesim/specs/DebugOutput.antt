@@ -10,7 +10,7 @@ use Rattle.journal_text.specs.Journal.{IsJournalText}
 use Rattle.debug_commands.specs.Dialogue.{dialogue_of, WritesDialogue}
 use Rattle.debug_commands.specs.Timeline.{TimelineData}
 use Rattle.debug_policies.specs.TwoPolicies.{policies_timeline}
-use Rattle.debug_replay.specs.Replay.{replay_timeline}
+use Rattle.debug_commands.specs.Replay.{replay_timeline}
 use Rattle.cachesim.specs.TraceOutput.{IfFaultless}
 
 -- what is known of the bytes of the file at a path

@@ -16,11 +16,10 @@ use crate::perform::perform;
 use clap::Error;
 use clap::error::ErrorKind;
 use command_line::ParseFault;
-use progress::Watch;
 use std::alloc::Global;
 use std::sync::Wait;
 use std::thread::Threads;
-use streams::{CountedRead, CountedWrite};
+use streams::{CountedRead, CountedWrite, Watch};
 
 // The line of a number of read buffers that no cache has, which is a usage error.
 const STRIPES: &[u8] = b"fault: Stripes\n";

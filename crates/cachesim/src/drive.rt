@@ -18,12 +18,11 @@ use command_line::DriveArguments;
 use journal::Session;
 use journal_text::write_journal;
 use maintenance::Shell;
-use progress::Watch;
 use std::alloc::{AllocError, Global};
 use std::sync::Wait;
 use std::thread::Threads;
 use step_record::{Call, Config, Trace};
-use streams::{CountedRead, CountedWrite};
+use streams::{CountedRead, CountedWrite, Watch};
 use trace_read::read_trace;
 use workers::{Cause, DriveFault, Driven};
 

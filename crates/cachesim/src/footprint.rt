@@ -5,10 +5,9 @@ ghost use Rattle.cachesim.specs.Subcommand.{IsMade};
 
 use crate::fault::Fault;
 use command_line::FootprintArguments;
-use progress::Watch;
 use std::alloc::Global;
 use std::thread::Threads;
-use streams::CountedRead;
+use streams::{CountedRead, Watch};
 
 /// A header and a row: how many accesses, how many distinct blocks, and how many of these are accessed once.
 pub fn footprint<T: Threads + Sync, R: CountedRead, P: Watch>(

@@ -6,7 +6,6 @@ use crate::call::command;
 use crate::fault::Fault;
 use crate::fault_report::{REFUSED, report_fault, report_usage_error};
 use crate::files::{FileFault, Files, MAX_FILE_BYTES};
-use progress::{ProgressLine, Watch, WatchedInput};
 use std::alloc::{AllocError, Global};
 use std::env::Env;
 use std::io::{ErrorKind, IsTerminal, Read, Write};
@@ -14,7 +13,10 @@ use std::rt::Clock;
 use std::sync::Wait;
 use std::thread::Threads;
 use std::{env, fs};
-use streams::{CountedRead, CountedReader, CountedWrite, CountedWriter, ReadAllFault};
+use streams::{
+    CountedRead, CountedReader, CountedWrite, CountedWriter, ProgressLine, ReadAllFault, Watch,
+    WatchedInput,
+};
 
 // The line of a word that is no text, which is a usage error.
 const NOT_TEXT: &[u8] = b"error: a word of the call is not UTF-8 text\n";

@@ -16,11 +16,10 @@ use crate::reports::{compare, intervals, part, run};
 use crate::sample::sample;
 use crate::sweep::sweep;
 use command_line::Arguments;
-use progress::Watch;
 use std::alloc::Global;
 use std::sync::Wait;
 use std::thread::Threads;
-use streams::{CountedRead, CountedWrite};
+use streams::{CountedRead, CountedWrite, Watch};
 
 /// Does what the arguments ask for, over an input and an output, and returns the line that says what was done, which
 /// only `sample` has. `debug` and `replay` read a file too; all others are watched.

@@ -11,12 +11,11 @@ use command_line::{CompareArguments, IntervalsArguments, PartArguments, RunArgum
 use policies::MAX_ACTORS;
 use policy_actors::run_reading_within;
 use policy_comparison::{push_compared_intervals, push_comparison, push_part};
-use progress::Watch;
 use report::{intervals_text, reports_text};
 use std::alloc::Global;
 use std::sync::Wait;
 use std::thread::Threads;
-use streams::CountedRead;
+use streams::{CountedRead, Watch};
 
 /// The report of each policy that the arguments name, as text; each policy runs on a thread of its own while the trace
 /// is read. Here and below too many policies are reported only if the trace has no fault.

@@ -7,9 +7,8 @@ ghost use Rattle.cachesim.specs.Subcommand.{IsPerformed};
 
 use crate::fault::Fault;
 use command_line::SampleArguments;
-use progress::Watch;
 use std::alloc::{AllocError, Global};
-use streams::{CountedRead, CountedWrite};
+use streams::{CountedRead, CountedWrite, Watch};
 use trace_read::{SampleCounts, SampleRule, write_sample};
 
 /// Writes the sample of the trace, and returns the line that says what it is.

@@ -10,13 +10,12 @@ ghost use Rattle.cachesim.specs.TraceOutput.{AreFew, IsText};
 use crate::fault::{Fault, only_memory};
 use command_line::{JobArguments, SweepArguments};
 use policies::MAX_ACTORS;
-use progress::Watch;
 use report::reports_text;
 use std::alloc::Global;
 use std::sync::Wait;
 use std::thread::Threads;
 use step_record::{Job, Policy, Trace};
-use streams::CountedRead;
+use streams::{CountedRead, Watch};
 use sweeps::{jobs_over, sweep_batches, sweep_each};
 use trace_read::read_trace_within;
 

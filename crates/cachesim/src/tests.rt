@@ -1,8 +1,7 @@
 //! The program over words, streams and a file in memory.
 use super::{DONE, FAULT, FileInMemory, command};
-use progress::ProgressLine;
 use std::test::Fail;
-use streams::CountedWriter;
+use streams::{CountedWriter, ProgressLine};
 
 // The path of the trace of `debug`, the commands, and the status with what is written to the output and to the fault
 // output.

@@ -3,8 +3,8 @@ use Rattle.std.proofs.Common.{◌≡◌, ◌∙◌, ◌⊎◌, inl, inr, ℕ, ze
 use Rattle.std.specs.Prelude.{slice_index, slice_set}
 use Rattle.std.proofs.lemmas.Bool.{cases_eq, cases_lt}
 use Rattle.std.proofs.lemmas.Bool.Decides.{nat_tests}
-use Rattle.named_queues.specs.NamedQueue.{numbered_key}
-use Rattle.named_queues.specs.declared.named_queue.QueueKey.{QueueKey}
+use Rattle.segments.specs.NamedQueue.{numbered_key}
+use Rattle.segments.specs.declared.named_queue.QueueKey.{QueueKey}
 use Rattle.trace_index.specs.Uses.{next_from, next_place_in}
 use Rattle.clairvoyant.specs.Keys.{IsBelowAll, IsAscendingKeys}
 use Rattle.clairvoyant.specs.NextAccesses.{renumbered, with_next}

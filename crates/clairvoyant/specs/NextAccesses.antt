@@ -1,7 +1,7 @@
 -- When the keys of a cache that knows its trace come next.
 use Rattle.std.specs.Prelude.{ℕ, ◌==◌, if◌then◌else◌, List, [], ◌∷◌, codes, map}
-use Rattle.named_queues.specs.NamedQueue.{NamedQueueData, numbered_key}
-use Rattle.named_queues.specs.declared.named_queue.QueueKey.{QueueKey}
+use Rattle.segments.specs.NamedQueue.{NamedQueueData, numbered_key}
+use Rattle.segments.specs.declared.named_queue.QueueKey.{QueueKey}
 use Rattle.trace_index.specs.Uses.{next_from, number_of}
 use Rattle.clairvoyant.specs.Clairvoyant.{ClairvoyantState}
 

@@ -8,12 +8,12 @@ ghost use Rattle.clairvoyant.specs.Belady.{belady_residents};
 ghost use Rattle.clairvoyant.specs.OptimalRecord.{record_at};
 ghost use Rattle.clairvoyant.specs.Keys.{IsAscendingKeys};
 ghost use Rattle.clairvoyant.specs.NextAccesses.{renumbered};
-ghost use Rattle.named_queues.specs.NamedQueue.{numbered_key};
+ghost use Rattle.segments.specs.NamedQueue.{numbered_key};
 
 use crate::BitSet;
 use crate::optimal_record::{EvictedKey, OptimalRecord};
 use engine_base::{Engine, Key, Outcome, Stats, StepFault};
-use named_queues::{NamedQueue, QueueKey};
+use segments::{NamedQueue, QueueKey};
 use std::alloc::{AllocError, Global};
 use std::marker::Model;
 use trace_index::NextUse;

@@ -8,8 +8,8 @@ use Rattle.std.proofs.lemmas.Bool.Decides.{nat_tests}
 use Rattle.engine_base.specs.Keys.{has_key}
 use Rattle.engine_base.specs.Stats.{one_if}
 use Rattle.queue_cache.proofs.Recency.{IsDistinct}
-use Rattle.policy_page.specs.Residents.{times}
-use Rattle.policy_page.proofs.Residents.{times-none, times-some}
+use Rattle.policy_pages.specs.Residents.{times}
+use Rattle.policy_pages.proofs.Residents.{times-none, times-some}
 use Rattle.policy_laws.specs.Strategy.{IsStrategy, strategy_hits, strategy_misses}
 use Rattle.std.proofs.Math.Nat.{mul-add, add-mul, mul-le-mul_left}
 use Rattle.policies.specs.AnyPolicy.{Job, stats_on}

@@ -8,16 +8,16 @@ use Rattle.engine_base.specs.Stats.{one_if}
 use Rattle.queue_cache.specs.Lru.{distinct_keys}
 use Rattle.policy_laws.specs.Strategy.{strategy_misses}
 use Rattle.engine_base.specs.Machine.{state_after_all}
-use Rattle.policy_page.specs.Residents.{times}
-use Rattle.policy_page.specs.CountedKeys.{CountedKey, keys_of, with_count, oldest_count, AreCounted}
-use Rattle.policy_page.specs.Turns.{after_turn, turn_count_within, after_turns}
-use Rattle.clock.specs.Clock.{marked_key, clock_eviction, clock_act, IsClock}
-use Rattle.clock.specs.Plan.{clock_page}
-use Rattle.policy_page.specs.PolicyPage.{page_machine}
-use Rattle.policy_page.proofs.Residents.{times-none, no-times, page-keeps}
-use Rattle.policy_page.proofs.CountedKeys.{length-keys, keys-with}
-use Rattle.policy_page.proofs.Turns.{settled, turns-times, turns-length, turns-counted}
-use Rattle.clock.proofs.Keeping.{keeps}
+use Rattle.policy_pages.specs.Residents.{times}
+use Rattle.policy_pages.specs.CountedKeys.{CountedKey, keys_of, with_count, oldest_count, AreCounted}
+use Rattle.policy_pages.specs.Turns.{after_turn, turn_count_within, after_turns}
+use Rattle.policy_pages.specs.Clock.{marked_key, clock_eviction, clock_act, IsClock}
+use Rattle.policy_pages.specs.ClockPlan.{clock_page}
+use Rattle.policy_pages.specs.PolicyPage.{page_machine}
+use Rattle.policy_pages.proofs.Residents.{times-none, no-times, page-keeps}
+use Rattle.policy_pages.proofs.CountedKeys.{length-keys, keys-with}
+use Rattle.policy_pages.proofs.Turns.{settled, turns-times, turns-length, turns-counted}
+use Rattle.policy_pages.proofs.ClockKeeping.{keeps}
 use Rattle.conservative_laws.specs.Conservative.{stretch, IsConservative}
 use Rattle.conservative_laws.proofs.Stretches.{misses-next, once-few, in-stretch, next-is, stands-at}
 use Rattle.conservative_laws.proofs.Fifo.{once-more}

@@ -4,8 +4,8 @@ use Rattle.engine_base.specs.PartSize.{part_size}
 use Rattle.engine_base.specs.Stats.{is_miss}
 use Rattle.step_record.specs.declared.job.Policy.TheVariants.{Fifo, Clock, Sieve, S3Fifo}
 use Rattle.engine_base.specs.Machine.{outcomes_of_all}
-use Rattle.fifo.specs.Fifo.{fifo_act}
-use Rattle.clock.specs.Clock.{clock_act}
+use Rattle.policy_pages.specs.Fifo.{fifo_act}
+use Rattle.policy_pages.specs.Clock.{clock_act}
 use Rattle.demand_cache.specs.declared.demand_policy.DemandPolicy.TheVariants as sized
 use Rattle.demand_cache.specs.DemandPolicy.{outcomes_of_page}
 use Rattle.policies.specs.AnyPolicy.{Job, stats_on}

@@ -8,12 +8,12 @@ use Rattle.engine_base.specs.Stats.{one_if}
 use Rattle.queue_cache.specs.Lru.{distinct_keys}
 use Rattle.policy_laws.specs.Strategy.{strategy_misses}
 use Rattle.engine_base.specs.Machine.{state_after_all}
-use Rattle.policy_page.specs.Residents.{times, AreResidents}
-use Rattle.fifo.specs.Fifo.{fifo_eviction, fifo_act}
-use Rattle.fifo.specs.Plan.{fifo_page}
-use Rattle.policy_page.specs.PolicyPage.{page_machine}
-use Rattle.policy_page.proofs.Residents.{times-append, times-none, page-keeps}
-use Rattle.fifo.proofs.Keeping.{keeps}
+use Rattle.policy_pages.specs.Residents.{times, AreResidents}
+use Rattle.policy_pages.specs.Fifo.{fifo_eviction, fifo_act}
+use Rattle.policy_pages.specs.FifoPlan.{fifo_page}
+use Rattle.policy_pages.specs.PolicyPage.{page_machine}
+use Rattle.policy_pages.proofs.Residents.{times-append, times-none, page-keeps}
+use Rattle.policy_pages.proofs.FifoKeeping.{keeps}
 use Rattle.conservative_laws.specs.Conservative.{stretch, IsConservative}
 use Rattle.conservative_laws.proofs.Stretches.{misses-next, once-few, one-of, in-stretch, next-is, stands-at}
 

@@ -11,9 +11,9 @@ use Rattle.engine_base.specs.declared.outcome.Outcome.TheVariants.{Rejected}
 use Rattle.engine_base.proofs.Counting.{hits-misses, count-cons}
 use Rattle.engine_base.proofs.Machine.{outcomes-long}
 use Rattle.step_record.specs.declared.job.Policy.TheVariants.{Lru, Fifo, Clock}
-use Rattle.policy_page.specs.PolicyPage.{PolicyPage, page_machine}
-use Rattle.policy_page.specs.Residents.{IsAccess, AreResidents, KeepsResidents, Outcome}
-use Rattle.policy_page.proofs.Residents.{page-keeps}
+use Rattle.policy_pages.specs.PolicyPage.{PolicyPage, page_machine}
+use Rattle.policy_pages.specs.Residents.{IsAccess, AreResidents, KeepsResidents, Outcome}
+use Rattle.policy_pages.proofs.Residents.{page-keeps}
 use Rattle.demand_cache.specs.declared.demand_policy.DemandPolicy.TheVariants as sized
 use Rattle.demand_cache.specs.declared.demand_policy.DemandPolicy.{DemandPolicy}
 use Rattle.demand_cache.specs.DemandPolicy.{page_of, outcomes_of_page}

@@ -6,8 +6,8 @@ use Rattle.std.proofs.lemmas.Bool.Decides.{nat_tests}
 use Rattle.engine_base.specs.Keys.{has_key}
 use Rattle.clairvoyant.proofs.Belady.{later}
 use Rattle.queue_cache.proofs.Recency.{IsDistinct}
-use Rattle.policy_page.specs.Residents.{times}
-use Rattle.policy_page.proofs.Residents.{times-append}
+use Rattle.policy_pages.specs.Residents.{times}
+use Rattle.policy_pages.proofs.Residents.{times-append}
 
 -- how many of the accesses xs are to the keys ks
 abbrev pub load : List ℕ → List ℕ → ℕ

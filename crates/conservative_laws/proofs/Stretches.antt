@@ -8,8 +8,8 @@ use Rattle.engine_base.specs.Keys.{has_key}
 use Rattle.queue_cache.specs.Lru.{distinct_keys}
 use Rattle.replacement.proofs.Residents.{has-append}
 use Rattle.policy_laws.proofs.Optimal.{count_keys, count-short, count-subset, head-has}
-use Rattle.policy_page.specs.Residents.{times}
-use Rattle.policy_page.proofs.Residents.{no-times}
+use Rattle.policy_pages.specs.Residents.{times}
+use Rattle.policy_pages.proofs.Residents.{no-times}
 use Rattle.conservative_laws.specs.Conservative.{stretch, IsConservative}
 use Rattle.std.proofs.Math.Nat.{add-mul, mul-add, mul-le-mul_right, le_of_mul-le-mul_left}
 use Rattle.engine_base.specs.Stats.{one_if}

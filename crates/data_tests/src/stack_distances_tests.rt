@@ -1,7 +1,7 @@
 //! Curves and passes over the reuses.
 use super::assertions::assert_equal;
 use engine_base::{Stats, Trace};
-use stack_distances::{Curve, Reuses};
+use queue_cache::{Curve, Reuses};
 use std::alloc::{AllocError, Global};
 use std::process::Abort;
 use std::test::Fail;

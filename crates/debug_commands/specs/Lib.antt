@@ -7,3 +7,5 @@ pub mod AnswerText
 pub mod InputBytes
 pub mod Dialogue
 pub mod FaultText
+pub mod ShownState
+pub mod Replay

@@ -1,9 +1,12 @@
-//! Commands: grammar, breakpoints, answers over a `Timeline`. They are read and answered line by line.
+//! Commands of a debugger, and the debugger of a journal.
 //!
-//! The debugger walks a `Timeline`: steps that can be made and undone one by one. What it answers is a definition over
-//! the timeline's steps alone (`specs/Answers.antt`, `specs/Dialogue.antt`): a position, a list of breakpoints, and the
-//! lines for each command. `answer_commands` promises that with `Ok` it has written just these lines for the commands
-//! it read.
+//! A debugger walks a `Timeline`: steps that can be made and undone one by one. Commands are read and answered line by line.
+//! What is answered is a definition over the timeline's steps alone (`specs/Answers.antt`, `specs/Dialogue.antt`): a position, a
+//! list of breakpoints, and the lines for each command. `answer_commands` promises that with `Ok` it has written just these
+//! lines for the commands it read.
+//!
+//! `run_replay` walks the journal of a run of the concurrent cache back and forth and shows the cache at each step: what is
+//! shown is the state that the definition of the concurrent cache gives after the first steps of the session.
 #![tactic(auto)]
 
 mod breakpoint;
@@ -11,6 +14,8 @@ mod command;
 mod dialogue;
 mod fault;
 mod grammar;
+mod replay;
+mod shell_text;
 mod timeline;
 
 pub use breakpoint::{Breakpoint, StepFacts};
@@ -18,4 +23,5 @@ pub use command::{Command, Dialect, InputLine, View};
 pub use dialogue::{MAX_BREAKPOINTS, MAX_COMMAND_BYTES, answer_commands};
 pub use fault::DebugFault;
 pub use grammar::line;
+pub use replay::run_replay;
 pub use timeline::Timeline;

@@ -7,8 +7,8 @@ use Rattle.sketch.specs.Sketch.{least_counter}
 use Rattle.engine_base.specs.declared.outcome.Outcome.TheVariants.{Hit, Kept, Evicted, Rejected}
 use Rattle.engine_base.specs.Machine.{after}
 use Rattle.streams.specs.Texts.{count_text}
-use Rattle.named_queues.specs.NamedQueue.{NamedQueueData}
-use Rattle.named_queues.specs.declared.named_queue.QueueKey.{QueueKey}
+use Rattle.segments.specs.NamedQueue.{NamedQueueData}
+use Rattle.segments.specs.declared.named_queue.QueueKey.{QueueKey}
 use Rattle.policies.specs.AnyPolicy.{adaptive_engine}
 use Rattle.policies.specs.Design.{design_of, queue_setup}
 use Rattle.policy_comparison.specs.QueuesAt.{queues_at}

@@ -3,7 +3,7 @@ ghost use Rattle.std.specs.Prelude.{◌≡◌, ◌++◌, OnOk, codes};
 ghost use Rattle.std.specs.List.{flat_map};
 ghost use Rattle.debug_policies.specs.Inside.{estimate_text, key_text, outcome_text, queue_text};
 
-use named_queues::{NamedQueue, QueueKey};
+use segments::{NamedQueue, QueueKey};
 use std::alloc::AllocError;
 use step_record::Outcome;
 use streams::{push_count, push_counts_line, push_pieces};

@@ -5,7 +5,7 @@ use super::assertions::assert_equal;
 use super::pipe::{Pipe, ROOM};
 use super::policies_tests::answer_through as answer_of_policies;
 use super::replay_tests::{JOURNAL, empty, opened};
-use debug_replay::{DebugFault, run_replay};
+use debug_commands::{DebugFault, run_replay};
 use journal::Session;
 use journal_text::{JournalFault, read_journal};
 use maintenance::Shell;

@@ -3,7 +3,7 @@ ghost use Rattle.std.specs.Prelude.{◌≡◌, [], IfOk};
 
 use super::assertions::assert_equal;
 use super::pipe::ROOM;
-use debug_replay::{DebugFault, run_replay};
+use debug_commands::{DebugFault, run_replay};
 use journal::Session;
 use journal_text::read_journal;
 use maintenance::Shell;

@@ -5,7 +5,7 @@ use Rattle.std.proofs.lemmas.List.{take_more, take_all, get_or-map, length-map}
 use Rattle.engine_base.specs.declared.limits.TheConstants.{MAX_STEPS}
 use Rattle.engine_base.proofs.Limited.{accepted, refused}
 use Rattle.engine_base.specs.Machine.{state_after_all}
-use Rattle.policy_page.specs.Residents.{Outcome}
+use Rattle.policy_pages.specs.Residents.{Outcome}
 use Rattle.engine_base.proofs.Machine.{state-append}
 use Rattle.demand_cache.specs.DemandCache.{DemandState, demand_access, demand_act, demand_count, demand_may_ask, DemandStops}
 

@@ -5,20 +5,20 @@ use Rattle.engine_base.specs.Keys.{has_key}
 use Rattle.queue_table.specs.Queues.{Queues, empty_queues}
 use Rattle.engine_base.specs.Machine.{outcomes_of_all}
 use Rattle.engine_base.specs.Stats.{stats_of}
-use Rattle.policy_page.specs.Residents.{IsAccess}
-use Rattle.policy_page.proofs.Residents.{served, each-once}
+use Rattle.policy_pages.specs.Residents.{IsAccess}
+use Rattle.policy_pages.proofs.Residents.{served, each-once}
 use Rattle.queue_moves.specs.Moves.{item_of, Plan, after_all, outcome_of, IsLowPlan, Leaving, outcome_after, evicted}
 use Rattle.queue_moves.specs.Tabled.{IsTabled, keys_of}
 use Rattle.queue_moves.specs.Lists.{QueueLists, lists_of, queues_in}
 use Rattle.queue_moves.proofs.Tabled.{tabled-all, lists-shown}
-use Rattle.policy_page.specs.PolicyPage.{PolicyPage, keys_with, LeavesNone}
-use Rattle.fifo.proofs.Plan.{fifo-sound}
-use Rattle.clock.proofs.Plan.{clock-sound}
-use Rattle.sieve.proofs.Plan.{sieve-sound}
-use Rattle.s3_fifo.proofs.Plan.{s3-fifo-sound}
-use Rattle.two_q.proofs.Plan.{two-q-sound}
-use Rattle.arc.proofs.Plan.{arc-sound}
-use Rattle.car.proofs.Plan.{car-sound}
+use Rattle.policy_pages.specs.PolicyPage.{PolicyPage, keys_with, LeavesNone}
+use Rattle.policy_pages.proofs.FifoPlan.{fifo-sound}
+use Rattle.policy_pages.proofs.ClockPlan.{clock-sound}
+use Rattle.policy_pages.proofs.SievePlan.{sieve-sound}
+use Rattle.policy_pages.proofs.S3FifoPlan.{s3-fifo-sound}
+use Rattle.policy_pages.proofs.TwoQPlan.{two-q-sound}
+use Rattle.policy_pages.proofs.ArcPlan.{arc-sound}
+use Rattle.policy_pages.proofs.CarPlan.{car-sound}
 use Rattle.demand_cache.specs.declared.demand_policy.DemandPolicy.TheVariants.{Fifo, Clock, Sieve, S3Fifo, TwoQ, Arc, Car}
 use Rattle.demand_cache.specs.DemandQueues.{DemandPolicy, DemandQueues, queues_of, plan_of, queues_residents, queues_act, IsQueues}
 use Rattle.demand_cache.specs.DemandPolicy.{page_of, plan_by, residents_by, IsStateOf}

@@ -4,9 +4,9 @@ use Rattle.std.proofs.lemmas.Bool.Decides.{nat_tests}
 use Rattle.std.proofs.lemmas.Bool.{cases_eq}
 use Rattle.std.proofs.lemmas.List.{at_drop_more, at_drop_all}
 use Rattle.engine_base.specs.Keys.{has_key}
-use Rattle.named_queues.specs.NamedQueue.{NamedQueueData, plain_key}
-use Rattle.named_queues.specs.declared.named_queue.QueueKey.{QueueKey}
-use Rattle.named_queues.specs.KeyRow.{has_named, is_number, row_from}
+use Rattle.segments.specs.NamedQueue.{NamedQueueData, plain_key}
+use Rattle.segments.specs.declared.named_queue.QueueKey.{QueueKey}
+use Rattle.segments.specs.KeyRow.{has_named, is_number, row_from}
 use Rattle.queue_table.specs.Queues.{Queues, queue_holding}
 use Rattle.queue_moves.specs.Moves.{item_of, standing, standing_at}
 use Rattle.queue_moves.specs.Tabled.{Entry, IsTabled, keys_of}

@@ -1,4 +1,8 @@
 pub mod Keeping
 pub mod Engine
-mod Accesses
+pub mod Accesses
 mod KeyRows
+pub mod RenamedMachines
+pub mod RenamedQueues
+pub mod RenamedPlans
+pub mod RenamedDemandCache

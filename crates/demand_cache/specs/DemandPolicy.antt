@@ -1,18 +1,18 @@
 -- The policies that keep each missed key: the one table of them.
 use Rattle.std.specs.Prelude.{ℕ, List}
-use Rattle.named_queues.specs.NamedQueue.{NamedQueueData}
+use Rattle.segments.specs.NamedQueue.{NamedQueueData}
 use Rattle.queue_table.specs.Queues.{Queues}
 use Rattle.queue_moves.specs.Moves.{Plan}
 use Rattle.engine_base.specs.Machine.{outcomes_of_all}
-use Rattle.policy_page.specs.Residents.{Outcome}
-use Rattle.policy_page.specs.PolicyPage.{PolicyPage}
-use Rattle.fifo.specs.Plan.{fifo_page}
-use Rattle.clock.specs.Plan.{clock_page}
-use Rattle.sieve.specs.Plan.{sieve_page}
-use Rattle.s3_fifo.specs.Plan.{s3_fifo_page}
-use Rattle.two_q.specs.Plan.{two_q_page}
-use Rattle.arc.specs.Plan.{arc_page}
-use Rattle.car.specs.Plan.{car_page}
+use Rattle.policy_pages.specs.Residents.{Outcome}
+use Rattle.policy_pages.specs.PolicyPage.{PolicyPage}
+use Rattle.policy_pages.specs.FifoPlan.{fifo_page}
+use Rattle.policy_pages.specs.ClockPlan.{clock_page}
+use Rattle.policy_pages.specs.SievePlan.{sieve_page}
+use Rattle.policy_pages.specs.S3FifoPlan.{s3_fifo_page}
+use Rattle.policy_pages.specs.TwoQPlan.{two_q_page}
+use Rattle.policy_pages.specs.ArcPlan.{arc_page}
+use Rattle.policy_pages.specs.CarPlan.{car_page}
 pub use Rattle.demand_cache.specs.declared.demand_policy.DemandPolicy.{DemandPolicy}
 use Rattle.demand_cache.specs.declared.demand_policy.DemandPolicy.TheVariants.{Fifo, Clock, Sieve, S3Fifo, TwoQ, Arc, Car}
 

@@ -1,8 +1,8 @@
 -- One access to the queues of any of these policies, by the policy's plan; its record, and how the record undoes it.
 use Rattle.std.specs.Prelude.{◌≡◌, ℕ, ◌≤◌, List}
-use Rattle.named_queues.specs.NamedQueue.{NamedQueueData}
+use Rattle.segments.specs.NamedQueue.{NamedQueueData}
 use Rattle.queue_table.specs.Queues.{Queues, empty_queues}
-use Rattle.policy_page.specs.Residents.{Outcome}
+use Rattle.policy_pages.specs.Residents.{Outcome}
 pub use Rattle.queue_moves.specs.declared.records.Moves.{Moves}
 use Rattle.queue_moves.specs.Moves.{item_of, Plan, after_all, outcome_of}
 use Rattle.queue_moves.specs.Undoing.{record_of, before_all, FitsMoves, MovesAsk}

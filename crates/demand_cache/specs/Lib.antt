@@ -4,3 +4,5 @@ pub mod DemandQueues
 pub mod DemandCache
 pub mod Theorems
 pub mod NarrowKeys
+pub mod Names
+pub mod Renaming

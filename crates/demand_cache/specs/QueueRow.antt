@@ -1,11 +1,11 @@
 -- What a policy shows under a name, from its queues by number and its own number.
 use Rattle.std.specs.Prelude.{◌≡◌, ℕ, ◌<◌, Option, List, [], ◌∷◌, map}
 use Rattle.engine_base.specs.Keys.{has_key}
-use Rattle.named_queues.specs.KeyRow.{is_number}
-use Rattle.named_queues.specs.NamedQueue.{NamedQueueData, numbered_key, plain_queue}
-use Rattle.named_queues.specs.declared.named_queue.QueueKey.{QueueKey}
-use Rattle.policy_page.specs.QueueView.{counted_keys, counted_queue}
-use Rattle.policy_page.specs.CountedKeys.{CountedKey}
+use Rattle.segments.specs.KeyRow.{is_number}
+use Rattle.segments.specs.NamedQueue.{NamedQueueData, numbered_key, plain_queue}
+use Rattle.segments.specs.declared.named_queue.QueueKey.{QueueKey}
+use Rattle.policy_pages.specs.QueueView.{counted_keys, counted_queue}
+use Rattle.policy_pages.specs.CountedKeys.{CountedKey}
 use Rattle.queue_moves.specs.Tabled.{Entry, keys_of}
 use Rattle.queue_table.specs.Queues.{QUEUES, Queues}
 pub use Rattle.demand_cache.specs.declared.demand_policy.QueueRow.{QueueRow}

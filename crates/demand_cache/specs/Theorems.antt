@@ -3,8 +3,8 @@ use Rattle.std.specs.Prelude.{◌≡◌, ℕ, ◌≤◌, true, List}
 use Rattle.engine_base.specs.Stats.{is_eviction}
 use Rattle.engine_base.specs.declared.outcome.Outcome.TheVariants.{Hit}
 use Rattle.engine_base.specs.Machine.{outcomes, KeepsKeys, CountsResidents}
-use Rattle.policy_page.specs.Residents.{IsAccess}
-use Rattle.policy_page.specs.PolicyPage.{IsSoundPage, page_machine}
+use Rattle.policy_pages.specs.Residents.{IsAccess}
+use Rattle.policy_pages.specs.PolicyPage.{IsSoundPage, page_machine}
 use Rattle.demand_cache.specs.DemandQueues.{DemandPolicy, DemandQueues, IsQueues, queues_act, queues_record_of, queues_asks}
 use Rattle.demand_cache.specs.DemandQueues.{queues_residents}
 use Rattle.demand_cache.specs.DemandPolicy.{page_of, outcomes_of_page}

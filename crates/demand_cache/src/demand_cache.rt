@@ -6,16 +6,16 @@ ghost use Rattle.queue_table.specs.QueueTable.{queues as queues_at};
 ghost use Rattle.engine_base.specs.Machine.{state_after_all};
 ghost use Rattle.demand_cache.specs.DemandQueues.{empty_cache, queues_residents, queues_named};
 ghost use Rattle.demand_cache.specs.QueueRow.{named_row, numbered_keys, IsLowRow, IsQueueOf};
-ghost use Rattle.named_queues.specs.NamedQueue.{plain_key};
-ghost use Rattle.named_queues.specs.KeyRow.{has_named, is_number, row_of};
+ghost use Rattle.segments.specs.NamedQueue.{plain_key};
+ghost use Rattle.segments.specs.KeyRow.{has_named, is_number, row_of};
 ghost use Rattle.queue_moves.specs.Tabled.{keys_of};
 ghost use Rattle.queue_table.specs.Queues.{Queues};
 
 use crate::demand_policy::{DemandPolicy, QueueRow};
 use engine_base::{Engine, Key, MAX_STEPS, Outcome, Stats, StepFault};
-use named_queues::{NamedQueue, QueueKey};
 use queue_moves::{KeyName, KeyQueues, Moves};
 use queue_table::Entry;
+use segments::{NamedQueue, QueueKey};
 use std::alloc::{AllocError, Global};
 use std::marker::Model;
 

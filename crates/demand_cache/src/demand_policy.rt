@@ -12,9 +12,10 @@ ghost use Rattle.demand_cache.specs.DemandCache.{IsCountedBy, DemandStops, deman
 
 use crate::demand_cache::DemandCache;
 use engine_base::{Key, Outcome};
+use policy_pages::two_q::TwoQSizes;
+use policy_pages::{arc, car, clock, fifo, s3_fifo, sieve, two_q};
 use queue_moves::{Accessed, KeyName, KeyQueues};
 use std::alloc::{AllocError, Global};
-use two_q::TwoQSizes;
 
 /// A policy that keeps each missed key, with the sizes of its parts where they are a choice. Any sizes will do.
 #[derive(Clone, Copy, Debug, PartialEq, Eq)]

@@ -11,8 +11,8 @@ use Rattle.clairvoyant.specs.NextAccesses.{clairvoyant_queues}
 use Rattle.clairvoyant.specs.declared.optimal_record.OptimalRecord.{OptimalRecord}
 use Rattle.clairvoyant.proofs.Belady.{Accesses, hit, kept, rejected, evicted, accesses}
 use Rattle.clairvoyant.proofs.NextAccesses.{keys-kept}
-use Rattle.named_queues.specs.KeyRow.{left_key, row_left, row_of}
-use Rattle.named_queues.specs.SegmentKeys.{AreKeys}
+use Rattle.segments.specs.KeyRow.{left_key, row_left, row_of}
+use Rattle.segments.specs.SegmentKeys.{AreKeys}
 use Rattle.queue_cache.specs.QueueCache.{QueueState}
 use Rattle.policies.specs.declared.any_policy.AnyPolicy.TheVariants.{Queues, Optimal, Adaptive}
 use Rattle.policies.specs.AnyPolicy.{AnyPolicy, Outcome, any_queues}

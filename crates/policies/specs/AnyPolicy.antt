@@ -14,8 +14,8 @@ use Rattle.adaptive_window.specs.Residents.{adaptive_machine, cache_residents}
 use Rattle.clairvoyant.specs.Belady.{belady_outcomes}
 use Rattle.clairvoyant.specs.Clairvoyant.{ClairvoyantState, clairvoyant_at}
 use Rattle.clairvoyant.specs.NextAccesses.{clairvoyant_queues}
-use Rattle.named_queues.specs.NamedQueue.{NamedQueueData}
-use Rattle.named_queues.specs.SegmentQueues.{three_queues}
+use Rattle.segments.specs.NamedQueue.{NamedQueueData}
+use Rattle.segments.specs.SegmentQueues.{three_queues}
 pub use Rattle.demand_cache.specs.declared.demand_policy.DemandPolicy.{DemandPolicy}
 use Rattle.demand_cache.specs.DemandQueues.{queues_named, queues_residents}
 use Rattle.demand_cache.specs.DemandPolicy.{outcomes_of_page}

@@ -2,15 +2,15 @@
 ghost use Rattle.std.specs.Prelude.{◌≡◌, ◌≤◌, ◌↔◌, ℕ, List, MatchOption, IfOk, OnErr};
 ghost use Rattle.std.specs.Prelude.{Ok, Err, Some, None, [], option_map, length, true};
 ghost use Rattle.demand_cache.specs.DemandCache.{demand_act, demand_may_ask};
-ghost use Rattle.named_queues.specs.KeyRow.{left_key, row_left};
+ghost use Rattle.segments.specs.KeyRow.{left_key, row_left};
 
 use crate::design::{Design, design_of};
 use adaptive_window::{AdaptiveCache, AdaptiveRecord};
 use admission::Frequency;
 use clairvoyant::{Clairvoyant, NextUse, OptimalRecord};
 use demand_cache::{DemandCache, DemandRecord};
-use named_queues::NamedQueue;
 use queue_cache::{AccessRecord, AnyDesign, QueueCache};
+use segments::NamedQueue;
 use std::alloc::{AllocError, Global};
 use step_record::{Engine, Job, Key, Outcome, Stats, StepFault, Trace};
 

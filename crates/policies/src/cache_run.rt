@@ -2,10 +2,12 @@
 ghost use Rattle.std.specs.Prelude.{◌≡◌, ◌++◌, [], ℕ, List, Ok, All, IfOk, IfSome, IsSome, OnOk, OnErr};
 ghost use Rattle.engine_base.specs.Config.{config_fault};
 ghost use Rattle.demand_cache.specs.DemandCache.{DemandState};
+ghost use Rattle.demand_cache.specs.declared.demand_policy.DemandPolicy.{DemandPolicy};
 ghost use Rattle.demand_cache.specs.NarrowKeys.{IsNarrow};
 ghost use Rattle.policies.specs.AnyPolicy.{Job, HasAccessed};
 ghost use Rattle.policies.specs.Accesses.{AnyPolicy, IsContinued, IsNext, IsStopped};
 ghost use Rattle.policies.specs.CacheRun.{CanTake, HasTaken};
+ghost use Rattle.policies.specs.Design.{design_of};
 ghost use Rattle.policies.specs.Reports.{report_on};
 
 use crate::any_policy::AnyPolicy;
@@ -40,7 +42,9 @@ impl CacheRun {
     /// A run of a job, before the first access. It requires a configuration that `Config::check` accepts.
     pub fn open(alloc: Global, job: &Job) -> CacheRun
         requires checked { config_fault job.now.config ≡ Ok tt }
-        ensures { (trace : List ℕ) → HasTaken job.now trace [] result }
+        ensures taken { (trace : List ℕ) → HasTaken job.now trace [] result }
+        // That of a policy that keeps each missed key asks for no memory.
+        ensures narrow { (p : DemandPolicy) → design_of job.now ≡ Design.Demand p → (d : DemandState) × (result ≡ CacheRun.Narrow d) }
     {
         match design_of(job) {
             Design::KnowsTrace => CacheRun::NextUses(NextUseFinder::new(alloc)),
@@ -76,7 +80,7 @@ impl CacheRun {
             CacheRun::OutOfMemory => return,
         };
         if taken.is_err() {
-            *self = CacheRun::OutOfMemory;
+            drop(mem::replace(self, CacheRun::OutOfMemory));
         }
     }
 
@@ -94,17 +98,14 @@ impl CacheRun {
         let CacheRun::Narrow(cache) = mem::replace(self, CacheRun::OutOfMemory) else {
             unreachable!()
         };
-        let Ok(cache) = cache.widened() else {
-            return;
-        };
-        let mut cache = AnyPolicy::Demand(cache);
-        if access_all(&mut cache, keys).is_ok() {
-            *self = CacheRun::Cache(cache);
-        }
+        // What stands there owns nothing. A drop of it would be proved for all that a run may own.
+        mem::forget(mem::replace(self, widened_run(cache, keys)));
     }
 
     /// Ends a run that is given no more accesses.
-    pub fn abandon(self) {}
+    pub fn abandon(self) {
+        drop(self);
+    }
 
     /// The report of the job once all accesses were taken; `None` where there was no memory.
     pub fn finish(self, alloc: Global, job: &Job) -> Option<Report>
@@ -124,12 +125,33 @@ impl CacheRun {
     }
 }
 
+// The run of a cache of keys below 2^32 that takes these keys, of any width.
+fn widened_run(cache: NarrowCache, keys: &[Key]) -> CacheRun
+    requires { CanTake keys.now (CacheRun.Narrow cache) }
+    ensures { (j : Job) (trace done : List ℕ) → HasTaken j trace done (CacheRun.Narrow cache)
+        → HasTaken j trace (done ++ keys.now) result }
+{
+    let Ok(cache) = cache.widened() else {
+        return CacheRun::OutOfMemory;
+    };
+    let mut cache = AnyPolicy::Demand(cache);
+    match access_all(&mut cache, keys) {
+        Ok(()) => CacheRun::Cache(cache),
+        Err(_) => {
+            drop(cache);
+            CacheRun::OutOfMemory
+        }
+    }
+}
+
 // The report of a cache that ran its job over the whole trace, whose keys are below 2^32.
 fn report_by_narrow(cache: NarrowCache, job: &Job) -> Report
     ensures { (trace : List ℕ) → HasAccessed job.now trace trace (AnyPolicy.Demand cache) → result ≡ report_on job.now trace }
 {
     theorems::any_reports();
-    Report::of(job, cache.stats())
+    let stats = cache.stats();
+    drop(cache);
+    Report::of(job, stats)
 }
 
 // The report of a job over a trace whose next uses were found: all accesses are made now.

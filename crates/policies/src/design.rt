@@ -6,9 +6,9 @@ ghost use Rattle.engine_base.specs.PartSize.{part_size};
 ghost use Rattle.policies.specs.Design.{design_of};
 
 use demand_cache::DemandPolicy;
+use policy_pages::two_q::TwoQSizes;
 use queue_cache::QueueDesign;
 use step_record::{Job, Policy};
-use two_q::TwoQSizes;
 
 /// What a policy is.
 #[derive(Clone, Copy)]

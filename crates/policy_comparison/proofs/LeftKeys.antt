@@ -6,7 +6,7 @@ use Rattle.engine_base.specs.Stats.{one_if}
 use Rattle.engine_base.specs.declared.outcome.Outcome.TheVariants.{Kept}
 use Rattle.engine_base.proofs.Counting.{one-few}
 use Rattle.engine_base.proofs.Limited.{accepted-where}
-use Rattle.named_queues.specs.KeyRow.{is_number, row_left}
+use Rattle.segments.specs.KeyRow.{is_number, row_left}
 use Rattle.policies.specs.declared.any_policy.AnyPolicy.{AnyPolicy}
 use Rattle.policies.specs.AnyPolicy.{Job, Outcome, HasAccessed, any_queues, outcomes_on}
 use Rattle.policies.specs.AnyStep.{any_act}

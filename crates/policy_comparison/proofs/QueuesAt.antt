@@ -6,7 +6,7 @@ use Rattle.clairvoyant.specs.Clairvoyant.{clairvoyant_at}
 use Rattle.clairvoyant.specs.NextAccesses.{clairvoyant_queues}
 use Rattle.demand_cache.specs.DemandCache.{DemandState}
 use Rattle.demand_cache.specs.DemandQueues.{queues_named}
-use Rattle.named_queues.specs.SegmentQueues.{three_queues}
+use Rattle.segments.specs.SegmentQueues.{three_queues}
 use Rattle.queue_cache.specs.Design.{named_in}
 use Rattle.queue_cache.specs.QueueCache.{QueueState}
 use Rattle.policies.specs.AnyPolicy.{Job, any_queues, HasAccessed}

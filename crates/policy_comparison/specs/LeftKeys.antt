@@ -1,6 +1,6 @@
 -- From which queue of a cache a key leaves by an access, and how many keys left each.
 use Rattle.std.specs.Prelude.{◌≡◌, ℕ, ◌-◌, Option, Some, List, get_or}
-use Rattle.named_queues.specs.KeyRow.{Outcome, row_left}
+use Rattle.segments.specs.KeyRow.{Outcome, row_left}
 use Rattle.policies.specs.declared.any_policy.AnyPolicy.{AnyPolicy}
 use Rattle.policies.specs.AnyPolicy.{Job, any_queues}
 use Rattle.policies.specs.AnyStep.{any_act}

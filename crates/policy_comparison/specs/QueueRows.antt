@@ -8,8 +8,8 @@ use Rattle.std.specs.Fmt.{decimal}
 use Rattle.std.specs.Str.{bytes_eq}
 use Rattle.engine_base.specs.Stats.{one_if}
 use Rattle.engine_base.specs.declared.outcome.Outcome.TheVariants.{Kept}
-use Rattle.named_queues.specs.declared.named_queue.QueueKey.{QueueKey}
-use Rattle.named_queues.specs.KeyRow.{is_number, row_left}
+use Rattle.segments.specs.declared.named_queue.QueueKey.{QueueKey}
+use Rattle.segments.specs.KeyRow.{is_number, row_left}
 use Rattle.policies.specs.AnyPolicy.{outcomes_on}
 use Rattle.report.specs.IntervalText.{interval_fields}
 use Rattle.report.specs.Text.{line_text}

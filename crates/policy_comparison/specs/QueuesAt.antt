@@ -4,8 +4,8 @@ use Rattle.engine_base.specs.Machine.{after}
 use Rattle.clairvoyant.specs.Clairvoyant.{clairvoyant_at}
 use Rattle.clairvoyant.specs.NextAccesses.{clairvoyant_queues}
 use Rattle.demand_cache.specs.DemandQueues.{queues_named}
-pub use Rattle.named_queues.specs.NamedQueue.{NamedQueueData}
-use Rattle.named_queues.specs.SegmentQueues.{three_queues}
+pub use Rattle.segments.specs.NamedQueue.{NamedQueueData}
+use Rattle.segments.specs.SegmentQueues.{three_queues}
 use Rattle.policies.specs.AnyPolicy.{Job, adaptive_engine, demand_engine, queues_engine}
 use Rattle.policies.specs.Design.{design_of}
 use Rattle.policies.specs.declared.design.Design.{Design}

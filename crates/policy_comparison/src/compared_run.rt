@@ -57,7 +57,9 @@ impl ComparedRun {
             → HasCompared every first second trace (length trace) self
             → IfOk result (λ rows. rows.items ≡ compared_intervals_on every first second trace) }
     {
-        self.counted.into_rows()
+        let ComparedRun { pair, counted } = self;
+        drop(pair);
+        counted.into_rows()
     }
 
     // Takes the accesses. The one error is out of memory.

@@ -3,7 +3,7 @@ ghost use Rattle.std.specs.Prelude.{◌≡◌, ◌≢◌, ◌+◌, ◌<◌, ◌�
 ghost use Rattle.std.specs.Prelude.{IfOk, OnOk, ◌==◌, ◌^◌};
 ghost use Rattle.engine_base.specs.Stats.{is_eviction, one_if};
 ghost use Rattle.engine_base.specs.declared.outcome.Outcome.TheVariants.{Kept as KeptOf};
-ghost use Rattle.named_queues.specs.KeyRow.{row_left};
+ghost use Rattle.segments.specs.KeyRow.{row_left};
 ghost use Rattle.policies.specs.AnyPolicy.{Job, HasAccessed, outcomes_on};
 ghost use Rattle.policies.specs.AnyStep.{any_act, any_undone, AnyFits};
 ghost use Rattle.policy_comparison.specs.CacheAccess.{IsReadyFor, StandsAt};
@@ -65,6 +65,7 @@ fn access_key(cache: &mut AnyPolicy, key: Key) -> Result<Option<usize>, AllocErr
     if is_eviction(outcome) {
         access_again(cache, key, outcome, done)
     } else {
+        drop(done);
         Ok(None)
     }
 }
@@ -84,7 +85,8 @@ fn access_again(
 {
     undo(cache, done)?;
     let row = cache.row_left(outcome);
-    let _ = apply(cache, key)?;
+    let (_, done) = apply(cache, key)?;
+    drop(done);
     Ok(row)
 }
 
@@ -119,7 +121,10 @@ fn undo(cache: &mut AnyPolicy, done: AnyRecord) -> Result<(), AllocError>
 {
     match cache.undo(done) {
         Ok(()) => Ok(()),
-        Err(_) => Err(AllocError),
+        Err(done) => {
+            drop(done);
+            Err(AllocError)
+        }
     }
 }
 

@@ -7,9 +7,9 @@ ghost use Rattle.policy_comparison.specs.QueueRows.{cell, first_key, held_in, is
 ghost use Rattle.policy_comparison.specs.QueueRows.{queue_row, rows_from};
 ghost use Rattle.policy_comparison.specs.QueueRows.{queues_header as header_text};
 
-use named_queues::{NamedQueue, QueueKey};
 use policies::Interval;
 use report::{interval_numbers, rate_text};
+use segments::{NamedQueue, QueueKey};
 use std::alloc::{AllocError, Global};
 use step_record::push_name;
 use streams::{push_count, push_counts_line, push_pieces};

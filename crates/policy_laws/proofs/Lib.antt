@@ -3,9 +3,5 @@ pub mod Strategies
 pub mod Beaten
 pub mod Lru
 pub mod Scans
-pub mod RenamedMachines
-pub mod RenamedQueues
-pub mod RenamedPlans
-pub mod RenamedDemandCache
 pub mod RenamedSegments
 pub mod RenamedQueueCache

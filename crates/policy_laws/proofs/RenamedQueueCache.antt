@@ -10,9 +10,9 @@ use Rattle.replacement.specs.Shape.{shape_of}
 use Rattle.replacement.specs.Table.{Response, access}
 use Rattle.segments.specs.Items.{nodeless_item}
 use Rattle.admission.specs.Frequency.{FrequencyData}
-use Rattle.policy_laws.specs.Names.{renamed_outcome}
+use Rattle.demand_cache.specs.Names.{renamed_outcome}
 use Rattle.policy_laws.specs.Renaming.{QueuesIgnoreNames}
-use Rattle.policy_laws.proofs.RenamedMachines.{IsInjective, ignores-names, stats-with-renamed}
+use Rattle.demand_cache.proofs.RenamedMachines.{IsInjective, ignores-names, stats-with-renamed}
 use Rattle.policy_laws.proofs.RenamedSegments.{renamed_segments, renamed_response, access-renamed}
 
 abbrev renamed_state : (ℕ → ℕ) → QueueState → QueueState

@@ -15,9 +15,9 @@ use Rattle.replacement.specs.Table.{response_with_victim, miss_by, access_in, ac
 use Rattle.replacement.specs.declared.rules.Placement.{Placement}
 use Rattle.replacement.specs.declared.rules.Rules.{Rules}
 use Rattle.replacement.specs.declared.rules.Placement.TheVariants.{Direct, Windowed}
-use Rattle.policy_laws.specs.Names.{renamed_outcome}
-use Rattle.policy_laws.proofs.RenamedMachines.{IsInjective}
-use Rattle.policy_laws.proofs.RenamedQueues.{renamed_item, same-item}
+use Rattle.demand_cache.specs.Names.{renamed_outcome}
+use Rattle.demand_cache.proofs.RenamedMachines.{IsInjective}
+use Rattle.demand_cache.proofs.RenamedQueues.{renamed_item, same-item}
 
 abbrev pub renamed_segments : (ℕ → ℕ) → Queues → Queues
 renamed_segments f s =

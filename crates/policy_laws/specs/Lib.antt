@@ -2,5 +2,4 @@ pub mod Strategy
 pub mod Optimality
 pub mod Theorems
 pub mod Scans
-pub mod Names
 pub mod Renaming

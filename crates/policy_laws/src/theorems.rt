@@ -1,5 +1,5 @@
 //! What every policy keeps. Each of these functions does nothing of its own: its contract is the theorem.
-ghost use Rattle.policy_laws.specs.Renaming.{DemandIgnoresNames, QueuesIgnoreNames};
+ghost use Rattle.policy_laws.specs.Renaming.{QueuesIgnoreNames};
 ghost use Rattle.policy_laws.specs.Scans.{ScansSpareProtected};
 ghost use Rattle.policy_laws.specs.Theorems.{NoPolicyBeatsBelady, BeladyLeads, OptimalHitsGrow, LruHitsGrow};
 
@@ -44,13 +44,7 @@ pub fn scans_spare_protected()
     ensures { ScansSpareProtected }
 {}
 
-/// Each policy that keeps every missed key, with whatever sizes and capacity, ignores what keys are called.
-#[tactic(auto, using(crate::proofs::RenamedDemandCache::demand_ignores_names))]
-pub fn demand_ignores_names()
-    ensures { DemandIgnoresNames }
-{}
-
-/// So does each policy of queues that counts no keys, as LRU and segmented LRU.
+/// Each policy of queues that counts no keys, as LRU and segmented LRU, ignores what keys are called.
 #[tactic(auto, using(crate::proofs::RenamedQueueCache::queues_ignore_names))]
 pub fn queues_ignore_names()
     ensures { QueuesIgnoreNames }

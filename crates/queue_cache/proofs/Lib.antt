@@ -3,3 +3,10 @@ pub mod OneQueue
 pub mod Balance
 pub mod Reached
 pub mod Leaving
+pub mod Counting
+pub mod Bits
+pub mod Histories
+pub mod Prefix
+pub mod Reading
+pub mod Windows
+pub mod FenwickTree

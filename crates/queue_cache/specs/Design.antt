@@ -2,8 +2,8 @@
 -- the source.
 use Rattle.std.specs.Prelude.{◌≡◌, false, List}
 pub use Rattle.engine_base.specs.declared.config.Config.{Config}
-use Rattle.named_queues.specs.NamedQueue.{NamedQueueData}
-use Rattle.named_queues.specs.SegmentQueues.{one_queue, two_queues, three_queues}
+use Rattle.segments.specs.NamedQueue.{NamedQueueData}
+use Rattle.segments.specs.SegmentQueues.{one_queue, two_queues, three_queues}
 use Rattle.segments.specs.Queues.{Queues}
 use Rattle.segments.specs.declared.records.Queue.TheVariants.{Window, Probation}
 pub use Rattle.replacement.specs.declared.rules.Placement.{Placement}

@@ -9,3 +9,10 @@ pub mod QueueFields
 pub mod QueuePace
 pub mod SingleQueue
 pub mod Theorems
+pub mod Distances
+pub mod DistanceTheorems
+pub mod Sums
+pub mod FenwickTree
+pub mod Histogram
+pub mod Curve
+pub mod Window

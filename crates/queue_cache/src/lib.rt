@@ -1,5 +1,5 @@
 //! The policies of queues as one engine: LRU and segmented LRU, each also behind the TinyLFU admission filter, and
-//! W-TinyLFU. What a policy goes by is a value (`QueueDesign`).
+//! W-TinyLFU; and Lru over a trace without a cache. What a policy goes by is a value (`QueueDesign`).
 //!
 //! The engine's steps are accesses. Each policy promises that for every list of accesses that it made, an access
 //! answers the outcome that the policy's definition gives after the whole list, and leaves the cache with that access
@@ -7,22 +7,45 @@
 //! the table of moves of the crate `replacement`, one access after another (`specs/QueueCache.antt`); that of Lru is
 //! also the last distinct keys (`specs/Lru.antt`). The promises stand as the theorems below, over the steps alone, so
 //! that they reach callers that see a cache through a session.
+//!
+//! Without a cache Lru takes one pass over a trace for all capacities, by stack distances (Mattson, Gecsei, Slutz and
+//! Traiger, "Evaluation techniques for storage hierarchies", 1970): a cache of capacity c holds the c keys that were accessed
+//! last, so a larger cache holds what a smaller one does, and each access has one number, its stack distance, that decides at
+//! every capacity whether it is a hit: how many distinct keys were accessed since the last access to its key, that key
+//! included. A [`Curve`] is a histogram of the distances, with running sums, which has the hits at each capacity.
+//!
+//! At a few capacities a pass for each is shorter: Lru holds the keys of a window of the trace that ends at the latest
+//! access, and begins further on where a miss finds it full. With the place of each key's last access found once
+//! ([`Reuses`]), such a pass looks no key up, and writes a bit for each hit.
+//!
+//! A curve and the reuses of a trace give, at each capacity, the statistics that the definition of Lru gives over that trace.
+//! Making either asks for memory, and so does a pass over the reuses: a bit for each access.
 #![tactic(auto)]
 
+mod curve;
 mod design;
+pub mod distance_theorems;
+mod fenwick_tree;
 pub mod fixed_design;
+mod histogram;
+mod limits;
 mod lru;
+mod marks;
 mod queue_cache;
 mod record;
+mod reuses;
 mod segmented_lru;
 pub mod theorems;
 mod tiny_lfu;
+mod window;
 mod window_tiny_lfu;
 
+pub use curve::Curve;
 pub use design::{Layout, QueueDesign, QueueSetup};
 pub use lru::{Lru, LruMark};
 pub use queue_cache::{AnyDesign, QueueCache};
 pub use record::AccessRecord;
+pub use reuses::Reuses;
 pub use segmented_lru::{SegmentedLru, SegmentedLruMark};
 pub use tiny_lfu::{TinyLfu, TinyLfuMark};
 pub use window_tiny_lfu::{WindowTinyLfu, WindowTinyLfuMark};

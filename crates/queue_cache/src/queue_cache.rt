@@ -15,13 +15,12 @@ use crate::fixed_design::FixedDesign;
 use crate::record::AccessRecord;
 use admission::{FreqRecord, Frequency};
 use engine_base::{Config, Engine, Item, Key, MAX_STEPS, Outcome, Stats, StepFault};
-use named_queues::{
-    NamedQueue, one_queue, one_queue_row, three_queues, three_queues_row, two_queues,
-    two_queues_row,
-};
 use queue_table::AHEAD;
 use replacement::{Rules, access, make_room, open_frequency, undo};
-use segments::{Queue, Segments};
+use segments::{
+    NamedQueue, Queue, Segments, one_queue, one_queue_row, three_queues, three_queues_row,
+    two_queues, two_queues_row,
+};
 use std::alloc::{AllocError, Global};
 use std::marker::{Model, PhantomData};
 
@@ -64,8 +63,8 @@ impl<P> Model for QueueCache<P> {
 
 impl<P: Drop> QueueCache<P> {
     ghost use Rattle.segments.specs.Queues.{residents_in};
-    ghost use Rattle.named_queues.specs.KeyRow.{row_of};
-    ghost use Rattle.named_queues.specs.SegmentKeys.{AreKeys};
+    ghost use Rattle.segments.specs.KeyRow.{row_of};
+    ghost use Rattle.segments.specs.SegmentKeys.{AreKeys};
     ghost use Rattle.queue_cache.specs.Design.{named_in};
     ghost use Rattle.queue_cache.specs.QueueCache.{StandsFor};
     ghost use Rattle.queue_cache.specs.QueueStep.{queue_act, queue_record_of, queue_undone, queue_asks, QueueFits};

@@ -7,7 +7,7 @@ ghost use Rattle.queue_moves.specs.Moves.{item_of};
 use engine_base::Key;
 use queue_table::{NarrowKey, TableItem};
 
-/// What stands in the queues for a key: the key, or a number in its place.
+/// What stands in the queues for a key: the key, one below 2^32 in half the bytes, or a number in its place.
 pub trait KeyName: TableItem {
     // the key that definitions see
     ghost key: { Self → ℕ };

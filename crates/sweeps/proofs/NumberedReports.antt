@@ -1,10 +1,9 @@
 -- The report of a job of a policy that keeps each missed key has what a cache over the numbers of the keys counts.
-use Rattle.std.proofs.Common.{◌≡◌, Ok, List, [], ◌∷◌, ◌++◌, ◌+◌, ◌≤◌, ℕ, length, take, ap, sym, refl, arith, ◌∙◌, length-take, take-add}
+use Rattle.std.proofs.Common.{◌≡◌, Ok, List, [], ℕ, ap, sym, refl, ◌∙◌}
 use Rattle.engine_base.specs.Config.{config_fault}
 use Rattle.engine_base.specs.Machine.{after, state_after_all}
 use Rattle.engine_base.specs.Stats.{stats_of}
-use Rattle.engine_base.specs.declared.limits.TheConstants.{MAX_STEPS}
-use Rattle.engine_base.proofs.Machine.{counted, state-append}
+use Rattle.engine_base.proofs.Machine.{counted}
 use Rattle.demand_cache.specs.DemandCache.{DemandState, demand_access, demand_machine}
 use Rattle.demand_cache.specs.declared.demand_policy.DemandPolicy.{DemandPolicy}
 use Rattle.demand_cache.specs.DemandQueues.{empty_cache}
@@ -14,31 +13,9 @@ use Rattle.policies.specs.Design.{Job, design_of}
 use Rattle.policies.specs.AnyPolicy.{outcomes_by, stats_on}
 use Rattle.policies.specs.Reports.{report_of, report_on}
 use Rattle.policies.proofs.Machines.{with-room}
-use Rattle.policy_laws.specs.Renaming.{DemandIgnoresNames}
+use Rattle.demand_cache.specs.Renaming.{DemandIgnoresNames}
 use Rattle.trace_index.specs.TraceNumbers.{key_number, numbers_of}
 use Rattle.trace_index.proofs.Numbers.{numbers_differ}
-use Rattle.sweeps.specs.Taking.{AreNext}
-
--- ---- the accesses in batches
-
-counts-all : (keys : List ℕ) (d : DemandState) → (state_after_all demand_access d keys).stats.accesses ≡ d.stats.accesses + length keys
-counts-all [] d = omega arith
-counts-all (k ∷ keys) d = let rest = counts-all keys (demand_access k d).1 in omega (arith, rest)
-
-module _ (keys piece : List ℕ) (done : ℕ) (start d : DemandState) (was : d ≡ state_after_all demand_access start (take done keys)) (next : AreNext keys done piece) where
-  -- there is room in the count for the next piece of the keys
-  pub room-left : start.stats.accesses + length keys ≤ MAX_STEPS → d.stats.accesses + length piece ≤ MAX_STEPS
-  room-left room =
-      let count = ap (λ (s : DemandState). s.stats.accesses) was ∙ counts-all (take done keys) start in
-      omega (arith, count, length-take done keys, next.within, room)
-
-  pub piece-made : (e : DemandState) → e ≡ state_after_all demand_access d piece → e ≡ state_after_all demand_access start (take (done + length piece) keys)
-  piece-made e is =
-      is ∙ ap (λ (s : DemandState). state_after_all demand_access s piece) was
-      ∙ sym (state-append demand_access start (take done keys) piece)
-      ∙ ap (state_after_all demand_access start) (ap (λ (l : List ℕ). take done keys ++ l) next.piece ∙ sym (take-add done (length piece) keys))
-
--- ---- the report
 
 module _ (ignores : DemandIgnoresNames) (j : Job) (p : DemandPolicy) (ok : config_fault j.config ≡ Ok tt) (is : design_of j ≡ Demand p) where
   numbered-stats : (trace : List ℕ) → (after (demand_machine p j.config.capacity) (numbers_of trace)).stats ≡ stats_on j trace

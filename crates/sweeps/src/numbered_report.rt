@@ -8,9 +8,8 @@ ghost use Rattle.policies.specs.Design.{design_of};
 ghost use Rattle.policies.specs.Reports.{report_on};
 ghost use Rattle.trace_index.specs.TraceNumbers.{numbers_of};
 
-use demand_cache::{DemandCache, DemandPolicy};
+use demand_cache::{DemandCache, DemandPolicy, theorems};
 use policies::{Design, Report};
-use policy_laws::theorems;
 use std::alloc::{AllocError, Global};
 use step_record::{Gate, Job, MAX_BATCH};
 use trace_index::{Number, TraceNumbers};

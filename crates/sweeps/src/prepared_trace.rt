@@ -3,14 +3,14 @@ ghost use Rattle.std.specs.Prelude.{◌≡◌, ◌<◌, ◌≤◌, ◌↔◌, Ok
 ghost use Rattle.std.proofs.Props.{props};
 ghost use Rattle.engine_base.specs.Config.{config_fault};
 ghost use Rattle.policies.specs.Reports.{report_on};
-ghost use Rattle.stack_distances.specs.Curve.{curve_of};
+ghost use Rattle.queue_cache.specs.Curve.{curve_of};
 ghost use Rattle.sweeps.specs.Sweep.{AreAccepted, AsksFor, demand_jobs};
 ghost use Rattle.trace_index.specs.TraceNumbers.{numbers_of};
 
 use crate::numbered_report::report_by_numbers;
 use clairvoyant::NextUse;
 use policies::{Design, Report, design_of, report_over};
-use stack_distances::{Curve, Reuses};
+use queue_cache::{Curve, Reuses};
 use std::alloc::{AllocError, Global};
 use step_record::{Gate, Job, Policy, Trace};
 use trace_index::TraceNumbers;

@@ -1,6 +1,5 @@
 //! The line of progress: its text, and when it is drawn and cleared.
 use engine_base::Gate;
-use progress::{Progress, ProgressLine, ProgressText, Watch, WatchedInput};
 use std::fmt::{Display, Write};
 use std::io::Read;
 use std::rt::Clock;
@@ -9,6 +8,7 @@ use std::sync::atomic::Ordering::SeqCst;
 use std::test::Fail;
 use std::time::Duration;
 use std::{fmt, io};
+use streams::{Progress, ProgressLine, ProgressText, Watch, WatchedInput};
 
 // A runtime whose clock goes on by 100 milliseconds each time it is read, and whose standard error counts what it is
 // given: lines, and what clears them.

@@ -7,7 +7,7 @@ use Rattle.journal.specs.Session.{SessionState}
 use Rattle.journal_text.specs.Journal.{IsJournalText}
 use Rattle.debug_commands.specs.Dialogue.{dialogue_of, WritesDialogue}
 use Rattle.debug_commands.specs.Timeline.{TimelineData}
-use Rattle.debug_replay.specs.Replay.{replay_timeline}
+use Rattle.debug_commands.specs.Replay.{replay_timeline}
 use Rattle.cachesim.specs.DebugOutput.{Config, Answering, AnsweringBegun, IsReplayed}
 use Rattle.cachesim.specs.DriveOutput.{IsEmptySession}
 use Rattle.cachesim.specs.FaultCauses.{IsFoundInFile, IsOfReplay}

@@ -1,5 +1,5 @@
 use Rattle.std.proofs.Common.{◌≡◌, map, take}
-use Rattle.named_queues.specs.NamedQueue.{numbered_key}
+use Rattle.segments.specs.NamedQueue.{numbered_key}
 use Rattle.clairvoyant.proofs.clairvoyant.never_used.Given as goal
 
 abbrev pub invariant-loop-key : goal.invariant-loop-key

@@ -1,8 +1,8 @@
 use Rattle.std.proofs.Common.{◌≡◌, ◌∙◌, ◌++◌, [], ap, subst, List, ℕ}
 use Rattle.std.specs.List.{flat_map}
 use Rattle.std.specs.Prelude.{codes, OnOk}
-use Rattle.named_queues.specs.NamedQueue.{NamedQueueData}
-use Rattle.named_queues.specs.declared.named_queue.QueueKey.{QueueKey}
+use Rattle.segments.specs.NamedQueue.{NamedQueueData}
+use Rattle.segments.specs.declared.named_queue.QueueKey.{QueueKey}
 use Rattle.debug_policies.specs.Inside.{key_text}
 use Rattle.policy_comparison.proofs.Texts.{added_behind}
 use Rattle.debug_policies.proofs.inside.push_queue.Goals as goal

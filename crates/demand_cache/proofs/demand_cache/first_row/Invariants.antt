@@ -1,6 +1,6 @@
 use Rattle.std.proofs.Common.{◌≡◌, drop, map}
 use Rattle.queue_table.specs.Queues.{Queues}
-use Rattle.named_queues.specs.KeyRow.{row_from, row_of}
+use Rattle.segments.specs.KeyRow.{row_from, row_of}
 use Rattle.demand_cache.specs.QueueRow.{IsQueueOf, named_row}
 use Rattle.demand_cache.proofs.demand_cache.first_row.Given as goal
 

@@ -1,5 +1,5 @@
 use Rattle.std.proofs.Common.{◌≡◌, ◌++◌, map, take}
-use Rattle.named_queues.specs.NamedQueue.{plain_key}
+use Rattle.segments.specs.NamedQueue.{plain_key}
 use Rattle.queue_moves.specs.Tabled.{keys_of}
 use Rattle.demand_cache.proofs.demand_cache.push_plain.Given as goal
 

@@ -1,6 +1,6 @@
 use Rattle.engine_base.proofs.Machine.{residents-counted}
-use Rattle.policy_page.specs.PolicyPage.{page_machine}
-use Rattle.policy_page.proofs.Residents.{page-keeps}
+use Rattle.policy_pages.specs.PolicyPage.{page_machine}
+use Rattle.policy_pages.proofs.Residents.{page-keeps}
 use Rattle.demand_cache.specs.DemandPolicy.{page_of}
 use Rattle.demand_cache.proofs.Keeping.{pages-sound}
 use Rattle.demand_cache.proofs.theorems.pages_are_sound.Goals as goal

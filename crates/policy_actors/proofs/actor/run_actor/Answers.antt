@@ -21,4 +21,4 @@ loop-preserved g c = let known = g.S.FedTrace.known in let j = c.args.job in let
 pub loop-init : goal.loop-init
 loop-init g c = let known = g.S.FedTrace.known in let size = g.S.FedTrace.size in
     subst (λ (n : ℕ). IsAfter known g.S.FedTrace.most c.args.job size n c.open-run.result) (sym c.requires.start)
-    (begun known g.S.FedTrace.most c.args.job size c.open-run.result c.open-run.ensures)
+    (begun known g.S.FedTrace.most c.args.job size c.open-run.result c.open-run.ensures.taken)

@@ -1,5 +1,5 @@
 use Rattle.std.proofs.Common.{◌≡◌, ◌∙◌, ap, sym, subst, take}
-use Rattle.named_queues.specs.KeyRow.{row_left}
+use Rattle.segments.specs.KeyRow.{row_left}
 use Rattle.policies.specs.declared.any_policy.AnyPolicy.{AnyPolicy}
 use Rattle.policies.specs.AnyPolicy.{HasAccessed, any_queues}
 use Rattle.policies.specs.AnyStep.{any_act, any_undone}
@@ -13,7 +13,7 @@ returns c =
     let same : c.undo.new.cache ≡ before = c.in_ok-undo.ensures in
     record {
       outcome = c.args.outcome;
-      acts = made-again c.args.key before c.undo.new.cache c.args.cache.now c.apply.new.cache c.args.outcome _ same c.requires.made c.in_ok-apply.ensures.accepted;
+      acts = made-again c.args.key before c.undo.new.cache c.args.cache.now c.apply.new.cache c.args.outcome _ same c.requires.made c.in_ok-done.ensures.accepted;
       left = c.row_left-row.ensures record {
         job = ready.job;
         trace = ready.trace;

@@ -1,7 +1,7 @@
 use Rattle.std.proofs.Common.{◌≡◌, ◌∙◌, [], ◌∷◌, ◌++◌, ap, List, ℕ}
 use Rattle.std.specs.Fmt.{decimal}
-use Rattle.named_queues.specs.NamedQueue.{NamedQueueData}
-use Rattle.named_queues.specs.declared.named_queue.QueueKey.{QueueKey}
+use Rattle.segments.specs.NamedQueue.{NamedQueueData}
+use Rattle.segments.specs.declared.named_queue.QueueKey.{QueueKey}
 use Rattle.streams.proofs.Results.{at_success}
 use Rattle.policy_comparison.specs.QueueRows.{cell, held_in, marked_in}
 use Rattle.policy_comparison.proofs.Rows.{row-added}

@@ -1,6 +1,6 @@
 use Rattle.std.proofs.Common.{◌≡◌, ◌∙◌, ◌+◌, ◌-◌, ◌≤◌, ◌<◌, suc, List, ℕ, length, map, ap, sym, subst, arith}
 use Rattle.std.specs.Prelude.{slice_index}
-use Rattle.named_queues.specs.declared.named_queue.QueueKey.{QueueKey}
+use Rattle.segments.specs.declared.named_queue.QueueKey.{QueueKey}
 use Rattle.clairvoyant.specs.Clairvoyant.{ClairvoyantState}
 use Rattle.clairvoyant.specs.Keys.{IsAscendingKeys}
 use Rattle.clairvoyant.specs.NextAccesses.{next_accesses, renumbered, with_next}

@@ -1,7 +1,7 @@
 use Rattle.std.proofs.Common.{◌≡◌, ◌∙◌, ◌++◌, ap, subst, List, ℕ, length}
 use Rattle.std.specs.Prelude.{OnOk}
 use Rattle.std.specs.List.{flat_map}
-use Rattle.named_queues.specs.NamedQueue.{NamedQueueData}
+use Rattle.segments.specs.NamedQueue.{NamedQueueData}
 use Rattle.policies.specs.AnyPolicy.{Job, any_queues}
 use Rattle.policy_comparison.specs.QueuesAt.{queues_at}
 use Rattle.policy_comparison.proofs.QueuesAt.{shown_queues}

@@ -1,5 +1,5 @@
 use Rattle.std.proofs.Common.{◌∙◌, ap, sym, subst}
-use Rattle.named_queues.specs.KeyRow.{row_left}
+use Rattle.segments.specs.KeyRow.{row_left}
 use Rattle.policies.specs.declared.any_policy.AnyPolicy.{AnyPolicy}
 use Rattle.policies.specs.AnyPolicy.{any_queues}
 use Rattle.policies.specs.Accesses.{CanAnswer}

@@ -1,6 +1,6 @@
 use Rattle.std.proofs.Common.{rules, ◌≡◌, ◌∙◌, IfSome, subst}
 use Rattle.step_record.specs.declared.job.Policy.TheVariants.{Lru}
-use Rattle.stack_distances.specs.Curve.{curve_of}
+use Rattle.queue_cache.specs.Curve.{curve_of}
 use Rattle.queue_cache.specs.QueueCache.{state_after}
 use Rattle.queue_cache.proofs.Reached.{has-room}
 use Rattle.sweeps.proofs.LruReports.{lru-report}

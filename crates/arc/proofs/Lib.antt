@@ -1,3 +1,0 @@
-pub mod Cases
-pub mod Keeping
-pub mod Plan

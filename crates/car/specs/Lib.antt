@@ -1,4 +1,0 @@
-pub mod Car
-pub mod Plan
-pub mod Step
-pub mod Examples

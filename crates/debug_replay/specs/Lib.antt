@@ -1,2 +1,0 @@
-pub mod ShownState
-pub mod Replay

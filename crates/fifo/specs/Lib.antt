@@ -1,3 +1,0 @@
-pub mod Fifo
-pub mod Plan
-pub mod Examples

@@ -1,4 +1,0 @@
-pub mod NamedQueue
-pub mod SegmentQueues
-pub mod KeyRow
-pub mod SegmentKeys

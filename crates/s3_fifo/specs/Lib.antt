@@ -1,3 +1,0 @@
-pub mod S3Fifo
-pub mod Plan
-pub mod Examples

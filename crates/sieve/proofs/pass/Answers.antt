@@ -1,8 +1,0 @@
-use Rattle.std.proofs.lemmas.Bool.Decides.{nat_tests}
-use Rattle.std.proofs.Common.{arith}
-use Rattle.queue_moves.proofs.Runs.{no-due}
-use Rattle.sieve.proofs.pass.Goals.{then-stopped, else-stopped}
-use Rattle.sieve.proofs.pass.Goals as goal
-
-pub returns-clause-run : goal.returns-clause-run
-returns-clause-run g c = grind (arith, nat_tests, no-due)

@@ -1,4 +1,0 @@
-pub mod Sieve
-pub mod Plan
-pub mod SieveListing
-pub mod Examples

@@ -1,3 +1,0 @@
-pub mod TwoQ
-pub mod Plan
-pub mod Examples
