@@ -23,13 +23,24 @@ use std::marker::Model;
 
 /// Approximate access frequencies: a sketch behind a doorkeeper, both aged by halving. Contracts see the capacity, the
 /// table of the sketch, the doorkeeper, the age and the halvings.
-#[derive(Drop)]
 pub struct Frequency {
     capacity: u32,
     sketch: Sketch,
     door: Doorkeeper,
     age: u32,
     halvings: u64,
+}
+
+impl Drop for Frequency {
+    fn drop(self) {
+        let Frequency {
+            capacity: _,
+            sketch: _,
+            door: _,
+            age: _,
+            halvings: _,
+        } = self;
+    }
 }
 
 impl Model for Frequency {

@@ -65,9 +65,7 @@ pub fn replay<R: CountedRead, W: CountedWrite, F: Files>(
         (out.new ≡ out.old) (W.is_flushed out.new ≡ true) result }
 {
     let mut session = open_session(alloc, &arguments.config)?;
-    let answered = replay_in(alloc, arguments, &mut session, input, out, files);
-    drop(session);
-    answered
+    replay_in(alloc, arguments, &mut session, input, out, files)
 }
 
 // The same in a session of an empty cache, which its caller drops in one place.

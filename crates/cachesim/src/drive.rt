@@ -59,9 +59,7 @@ pub fn drive<T: Threads + Wait + Sync, R: CountedRead, W: CountedWrite, P: Watch
     watch.count(accesses);
     let run = workers::drive(rt, alloc, session, pieces, watch);
     watch.end();
-    let written = write_run(alloc, &run, out);
-    drop(run);
-    written
+    write_run(alloc, &run, out)
 }
 
 // An empty list of calls for each worker.

@@ -22,11 +22,20 @@ use trace_index::NextUse;
 /// residents and the new key the one whose next use is farthest leaves (Belady 1966): a key that
 /// is never used again counts as farther than any that is, and of several such keys the one whose
 /// last access is earliest leaves.
-#[derive(Drop)]
 pub struct Clairvoyant {
     core: OptimalCore,
     ranks: BitSet,
     stats: Stats,
+}
+
+impl Drop for Clairvoyant {
+    fn drop(self) {
+        let Clairvoyant {
+            core: _,
+            ranks: _,
+            stats: _,
+        } = self;
+    }
 }
 
 impl Model for Clairvoyant {

@@ -57,13 +57,20 @@ fn arguments(alloc: Global, matches: &ArgMatches<'_>) -> Result<Arguments, Parse
     if has_wrong_stripes(&asked) {
         return Err(ParseFault::Stripes);
     }
-    match arguments_of(alloc, name, &asked) {
-        Ok(arguments) if needs_whole_trace(&arguments) => Err(ParseFault::WholeTrace),
-        Ok(arguments) if has_long_intervals(&arguments) => Err(ParseFault::LongIntervals),
-        Ok(arguments) => Ok(arguments),
-        Err(ValueFault::OutOfMemory) => Err(ParseFault::OutOfMemory),
-        Err(ValueFault::Incomplete) => Err(ParseFault::Incomplete),
+    let arguments = match arguments_of(alloc, name, &asked) {
+        Ok(arguments) => arguments,
+        Err(ValueFault::OutOfMemory) => return Err(ParseFault::OutOfMemory),
+        Err(ValueFault::Incomplete) => return Err(ParseFault::Incomplete),
+    };
+    if needs_whole_trace(&arguments) {
+        drop(arguments);
+        return Err(ParseFault::WholeTrace);
     }
+    if has_long_intervals(&arguments) {
+        drop(arguments);
+        return Err(ParseFault::LongIntervals);
+    }
+    Ok(arguments)
 }
 
 // What the matches of the subcommand of this name ask for.

@@ -1,9 +1,9 @@
 //! A cache with an adaptive window: worked rows, and a session that goes over the ends of periods, halvings and a change of
 //! direction, and back.
 use super::assertions::assert_equal;
-use adaptive_window::AdaptiveCache;
 use engine_base::{Config, Key, Outcome, Spread};
 use journal::Session;
+use queue_cache::AdaptiveCache;
 use std::process::Abort;
 use std::test::Fail;
 

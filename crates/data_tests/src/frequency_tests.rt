@@ -4,10 +4,10 @@ ghost use Rattle.std.specs.Prelude.{◌≤◌};
 ghost use Rattle.engine_base.specs.declared.limits.TheConstants.{MAX_CAPACITY};
 
 use super::assertions::assert_equal;
-use adaptive_window::AdaptiveCache;
 use admission::Frequency;
 use engine_base::{Config, Key, Spread};
 use journal::Session;
+use queue_cache::AdaptiveCache;
 use std::alloc::{AllocError, Global};
 use std::process::Abort;
 use std::test::Fail;

@@ -1,8 +1,8 @@
 -- What a cache shows is what the definition of its policy gives.
 use Rattle.std.proofs.Common.{◌≡◌, ◌∙◌, ◌≤◌, ℕ, List, Some, length, take, option_map, ap, sym, subst, refl}
 use Rattle.std.proofs.lemmas.List.{length-take-le}
-use Rattle.adaptive_window.specs.AdaptiveCache.{AdaptiveCacheState}
-use Rattle.adaptive_window.specs.Residents.{cache_residents}
+use Rattle.queue_cache.specs.AdaptiveCache.{AdaptiveCacheState}
+use Rattle.queue_cache.specs.Residents.{cache_residents}
 use Rattle.clairvoyant.specs.Belady.{belady_residents}
 use Rattle.clairvoyant.specs.Clairvoyant.{ClairvoyantState}
 use Rattle.demand_cache.specs.DemandCache.{DemandState}

@@ -11,7 +11,7 @@ use Rattle.step_record.specs.Job.{name_of}
 use Rattle.engine_base.specs.Stats.{stats_of}
 use Rattle.admission.specs.Frequency.{FrequencyData}
 use Rattle.engine_base.specs.Machine.{after}
-use Rattle.adaptive_window.specs.Residents.{cache_residents}
+use Rattle.queue_cache.specs.Residents.{cache_residents}
 use Rattle.clairvoyant.specs.Belady.{belady_residents}
 use Rattle.streams.specs.Texts.{count_text}
 use Rattle.demand_cache.specs.DemandQueues.{queues_residents}

@@ -2,8 +2,8 @@
 use Rattle.std.specs.Prelude.{ℕ, List, ◌++◌, codes, take}
 pub use Rattle.step_record.specs.declared.job.Job.{Job}
 use Rattle.engine_base.specs.Machine.{after}
-use Rattle.adaptive_window.specs.AdaptiveCache.{Config}
-use Rattle.adaptive_window.specs.AdaptiveWindow.{AdaptiveState}
+use Rattle.queue_cache.specs.AdaptiveCache.{Config}
+use Rattle.queue_cache.specs.AdaptiveWindow.{AdaptiveState}
 use Rattle.streams.specs.Texts.{count_text}
 use Rattle.policies.specs.declared.any_policy.AnyPolicy.{AnyPolicy}
 use Rattle.policies.specs.declared.any_policy.AnyPolicy.TheVariants as cache

@@ -62,17 +62,24 @@ pub fn run_debug<T: Threads + Sync, R: CountedRead, W: CountedWrite>(
         return Err(DebugFault::Config { index: 1 });
     }
     let mut both = TwoPolicies::open(rt, alloc, trace, first, second)?;
-    let answered = answer_commands(alloc, &mut both, commands, out);
-    drop(both);
-    answered
+    answer_commands(alloc, &mut both, commands, out)
 }
 
 // Two policies over one trace, both with as many accesses made.
-#[derive(Drop)]
 struct TwoPolicies<'a, T> {
     rt: &'a T,
     first: OnePolicy<'a>,
     second: OnePolicy<'a>,
+}
+
+impl<'a, T> Drop for TwoPolicies<'a, T> {
+    fn drop(self) {
+        let TwoPolicies {
+            rt: _,
+            first: _,
+            second: _,
+        } = self;
+    }
 }
 
 impl<'a, T: Threads + Sync> TwoPolicies<'a, T> {
@@ -91,18 +98,11 @@ impl<'a, T: Threads + Sync> TwoPolicies<'a, T> {
         ensures start { IfOk result (λ w. w.first.at ≡ 0) }
         ensures whole { IfOk result (λ w. IsPartWalk w.first w.second) }
     {
-        let first_policy = OnePolicy::open(alloc, first, trace)?;
-        match OnePolicy::open(alloc, second, trace) {
-            Ok(second_policy) => Ok(TwoPolicies {
-                rt,
-                first: first_policy,
-                second: second_policy,
-            }),
-            Err(fault) => {
-                drop(first_policy);
-                Err(fault)
-            }
-        }
+        Ok(TwoPolicies {
+            rt,
+            first: OnePolicy::open(alloc, first, trace)?,
+            second: OnePolicy::open(alloc, second, trace)?,
+        })
     }
 }
 

@@ -20,11 +20,20 @@ use step_record::{Job, Key, MAX_JOURNAL_LIMIT, Outcome, Stats, Trace, push_name}
 use streams::{push_counts_line, push_numbers_line, push_pieces};
 
 /// A policy over a trace, and how many of the accesses are made.
-#[derive(Drop)]
 pub struct OnePolicy<'a> {
     job: Job,
     trace: &'a Trace,
     session: Session<AnyPolicy>,
+}
+
+impl Drop for OnePolicy<'_> {
+    fn drop(self) {
+        let OnePolicy {
+            job: _,
+            trace: _,
+            session: _,
+        } = self;
+    }
 }
 
 impl<'a> Model for OnePolicy<'a> {

@@ -6,12 +6,12 @@ use Rattle.engine_base.specs.declared.limits.TheConstants.{MAX_STEPS}
 use Rattle.engine_base.specs.Keys.{has_key}
 use Rattle.engine_base.specs.Stats.{stats_with}
 use Rattle.queue_table.specs.Queues.{Queues}
-use Rattle.queue_moves.specs.declared.records.Accessed.{Accessed}
-use Rattle.queue_moves.specs.Moves.{Outcome, item_of}
-use Rattle.queue_moves.specs.Undoing.{record_of, before_all, FitsMoves, IsAccessed}
-use Rattle.queue_moves.specs.Tabled.{IsTabled}
-use Rattle.queue_moves.specs.Lists.{lists_of, queues_in}
-use Rattle.queue_moves.proofs.Tabled.{lists-shown, tabled-all}
+use Rattle.queue_table.specs.declared.moves.Accessed.{Accessed}
+use Rattle.queue_table.specs.Moves.{Outcome, item_of}
+use Rattle.queue_table.specs.Undoing.{record_of, before_all, FitsMoves, IsAccessed}
+use Rattle.queue_table.specs.Tabled.{IsTabled}
+use Rattle.queue_table.specs.Lists.{lists_of, queues_in}
+use Rattle.queue_table.proofs.Tabled.{lists-shown, tabled-all}
 use Rattle.demand_cache.specs.DemandQueues.{DemandPolicy, Moves, DemandQueues, queues_residents, IsQueues, QueuesFits, queues_act, queues_record_of, queues_undone}
 use Rattle.demand_cache.specs.DemandPolicy.{plan_by, residents_by, IsStateOf}
 use Rattle.demand_cache.specs.DemandCache.{Stats, DemandState, demand_act, IsCountedBy}

@@ -7,10 +7,10 @@ use Rattle.engine_base.specs.Machine.{outcomes_of_all}
 use Rattle.engine_base.specs.Stats.{stats_of}
 use Rattle.policy_pages.specs.Residents.{IsAccess}
 use Rattle.policy_pages.proofs.Residents.{served, each-once}
-use Rattle.queue_moves.specs.Moves.{item_of, Plan, after_all, outcome_of, IsLowPlan, Leaving, outcome_after, evicted}
-use Rattle.queue_moves.specs.Tabled.{IsTabled, keys_of}
-use Rattle.queue_moves.specs.Lists.{QueueLists, lists_of, queues_in}
-use Rattle.queue_moves.proofs.Tabled.{tabled-all, lists-shown}
+use Rattle.queue_table.specs.Moves.{item_of, Plan, after_all, outcome_of, IsLowPlan, Leaving, outcome_after, evicted}
+use Rattle.queue_table.specs.Tabled.{IsTabled, keys_of}
+use Rattle.queue_table.specs.Lists.{QueueLists, lists_of, queues_in}
+use Rattle.queue_table.proofs.Tabled.{tabled-all, lists-shown}
 use Rattle.policy_pages.specs.PolicyPage.{PolicyPage, keys_with, LeavesNone}
 use Rattle.policy_pages.proofs.FifoPlan.{fifo-sound}
 use Rattle.policy_pages.proofs.ClockPlan.{clock-sound}
@@ -28,7 +28,7 @@ use Rattle.std.proofs.lemmas.Bool.{cases_Bool}
 use Rattle.engine_base.specs.declared.outcome.Outcome.TheVariants.{Hit}
 use Rattle.queue_table.specs.declared.records.Entry.{Entry}
 use Rattle.queue_table.specs.Entries.{oldest_of}
-use Rattle.queue_moves.specs.Undoing.{record_of, MovesAsk}
+use Rattle.queue_table.specs.Undoing.{record_of, MovesAsk}
 
 pub pages-sound : PagesAreSound
 pages-sound Fifo = fifo-sound

@@ -8,9 +8,10 @@ use Rattle.segments.specs.NamedQueue.{NamedQueueData, plain_key}
 use Rattle.segments.specs.declared.named_queue.QueueKey.{QueueKey}
 use Rattle.segments.specs.KeyRow.{has_named, is_number, row_from}
 use Rattle.queue_table.specs.Queues.{Queues, queue_holding}
-use Rattle.queue_moves.specs.Moves.{item_of, standing, standing_at}
-use Rattle.queue_moves.specs.Tabled.{Entry, IsTabled, keys_of}
-use Rattle.queue_moves.proofs.Tabled.{stands, stands-nowhere}
+use Rattle.queue_table.specs.Moves.{item_of, standing, standing_at}
+use Rattle.queue_table.specs.declared.records.Entry.{Entry}
+use Rattle.queue_table.specs.Tabled.{IsTabled, keys_of}
+use Rattle.queue_table.proofs.Tabled.{stands, stands-nowhere}
 use Rattle.demand_cache.specs.QueueRow.{QueueRow, IsQueueOf, named_row, numbered_keys}
 use Rattle.demand_cache.specs.declared.demand_policy.QueueRow.TheVariants.{Keys, Counts, OwnNumber}
 

@@ -3,8 +3,8 @@ use Rattle.std.proofs.Common.{◌≡◌, ℕ, zero, suc, ap, ◌∙◌, refl}
 use Rattle.std.proofs.Math.Path.{fun_ext}
 use Rattle.queue_table.specs.Queues.{Queues}
 use Rattle.engine_base.specs.declared.outcome.Outcome.{Outcome}
-use Rattle.queue_moves.specs.Moves.{item_of, Plan, outcome_of, after_all}
-use Rattle.queue_moves.specs.Lists.{QueueLists, lists_of, queues_in}
+use Rattle.queue_table.specs.Moves.{item_of, Plan, outcome_of, after_all}
+use Rattle.queue_table.specs.Lists.{QueueLists, lists_of, queues_in}
 use Rattle.demand_cache.specs.DemandPolicy.{plan_by}
 use Rattle.demand_cache.specs.DemandQueues.{DemandQueues, queues_of, plan_of, queues_act}
 use Rattle.engine_base.specs.declared.stats.Stats.{Stats}

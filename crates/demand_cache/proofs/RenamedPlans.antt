@@ -3,7 +3,8 @@
 use Rattle.std.proofs.Common.{◌≡◌, ℕ, Option, Some, None, List, [], ◌∷◌, map, refl}
 use Rattle.std.proofs.lemmas.List.{length-map}
 use Rattle.queue_table.specs.Queues.{Queues}
-use Rattle.queue_moves.specs.Moves.{Entry, item_of, standing}
+use Rattle.queue_table.specs.declared.records.Entry.{Entry}
+use Rattle.queue_table.specs.Moves.{item_of, standing}
 use Rattle.policy_pages.specs.Queues.{is_empty}
 use Rattle.policy_pages.specs.FifoPlan.{fifo_plan}
 use Rattle.policy_pages.specs.ClockPlan.{clock_plan}

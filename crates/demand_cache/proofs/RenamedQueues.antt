@@ -8,10 +8,10 @@ use Rattle.queue_table.specs.Entries.{Item, is_same_item, entry, occurrences, en
 use Rattle.queue_table.specs.Queues.{QUEUES, Queues, queue_below, queue_holding, after_push, after_removal, after_send}
 use Rattle.engine_base.specs.declared.outcome.Outcome.{Outcome}
 use Rattle.queue_table.specs.declared.records.Entry.{Entry}
-use Rattle.queue_moves.specs.declared.records.Run.{Run}
-use Rattle.queue_moves.specs.Moves.{item_of, count_of, standing_at, standing, turned, after_turn, after_turns, after_run, count_or, turns_due}
-use Rattle.queue_moves.specs.Moves.{Leaving, departed, after_leaving, Own, stays, counts, goes, after_own, Plan, after_runs, after_first, after_second, after_all}
-use Rattle.queue_moves.specs.Moves.{evicted, outcome_after, outcome_of}
+use Rattle.queue_table.specs.declared.moves.Run.{Run}
+use Rattle.queue_table.specs.Moves.{item_of, count_of, standing_at, standing, turned, after_turn, after_turns, after_run, count_or, turns_due}
+use Rattle.queue_table.specs.Moves.{Leaving, departed, after_leaving, Own, stays, counts, goes, after_own, Plan, after_runs, after_first, after_second, after_all}
+use Rattle.queue_table.specs.Moves.{evicted, outcome_after, outcome_of}
 use Rattle.demand_cache.specs.Names.{renamed_outcome}
 use Rattle.demand_cache.proofs.RenamedMachines.{IsInjective}
 

@@ -7,8 +7,8 @@ use Rattle.engine_base.specs.Stats.{stats_of, stats_with, stats_without, IsCount
 use Rattle.engine_base.specs.Limited.{limited}
 use Rattle.engine_base.specs.Machine.{Machine, StopsWithin, state_after_all}
 use Rattle.queue_table.specs.Queues.{Item, Queues}
-use Rattle.queue_moves.specs.Moves.{Outcome, Plan, outcome_of, after_all}
-use Rattle.queue_moves.specs.Lists.{QueueLists}
+use Rattle.queue_table.specs.Moves.{Outcome, Plan, outcome_of, after_all}
+use Rattle.queue_table.specs.Lists.{QueueLists}
 use Rattle.demand_cache.specs.declared.demand_cache.DemandRecord.{DemandRecord}
 use Rattle.demand_cache.specs.DemandQueues.{DemandQueues, queues_act, queues_record_of, queues_undone, queues_asks}
 use Rattle.demand_cache.specs.DemandQueues.{DemandPolicy, empty_cache, queues_residents, IsQueues, QueuesFits}

@@ -2,7 +2,7 @@
 use Rattle.std.specs.Prelude.{ℕ, List}
 use Rattle.segments.specs.NamedQueue.{NamedQueueData}
 use Rattle.queue_table.specs.Queues.{Queues}
-use Rattle.queue_moves.specs.Moves.{Plan}
+use Rattle.queue_table.specs.Moves.{Plan}
 use Rattle.engine_base.specs.Machine.{outcomes_of_all}
 use Rattle.policy_pages.specs.Residents.{Outcome}
 use Rattle.policy_pages.specs.PolicyPage.{PolicyPage}

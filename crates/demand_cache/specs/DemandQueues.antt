@@ -3,11 +3,11 @@ use Rattle.std.specs.Prelude.{◌≡◌, ℕ, ◌≤◌, List}
 use Rattle.segments.specs.NamedQueue.{NamedQueueData}
 use Rattle.queue_table.specs.Queues.{Queues, empty_queues}
 use Rattle.policy_pages.specs.Residents.{Outcome}
-pub use Rattle.queue_moves.specs.declared.records.Moves.{Moves}
-use Rattle.queue_moves.specs.Moves.{item_of, Plan, after_all, outcome_of}
-use Rattle.queue_moves.specs.Undoing.{record_of, before_all, FitsMoves, MovesAsk}
-use Rattle.queue_moves.specs.Tabled.{IsTabled}
-use Rattle.queue_moves.specs.Lists.{QueueLists, lists_of, queues_in}
+pub use Rattle.queue_table.specs.declared.moves.Moves.{Moves}
+use Rattle.queue_table.specs.Moves.{item_of, Plan, after_all, outcome_of}
+use Rattle.queue_table.specs.Undoing.{record_of, before_all, FitsMoves, MovesAsk}
+use Rattle.queue_table.specs.Tabled.{IsTabled}
+use Rattle.queue_table.specs.Lists.{QueueLists, lists_of, queues_in}
 pub use Rattle.demand_cache.specs.declared.demand_policy.DemandPolicy.{DemandPolicy}
 use Rattle.demand_cache.specs.DemandPolicy.{plan_by, named_by, residents_by, IsStateOf}
 

@@ -6,7 +6,8 @@ use Rattle.segments.specs.NamedQueue.{NamedQueueData, numbered_key, plain_queue}
 use Rattle.segments.specs.declared.named_queue.QueueKey.{QueueKey}
 use Rattle.policy_pages.specs.QueueView.{counted_keys, counted_queue}
 use Rattle.policy_pages.specs.CountedKeys.{CountedKey}
-use Rattle.queue_moves.specs.Tabled.{Entry, keys_of}
+use Rattle.queue_table.specs.declared.records.Entry.{Entry}
+use Rattle.queue_table.specs.Tabled.{keys_of}
 use Rattle.queue_table.specs.Queues.{QUEUES, Queues}
 pub use Rattle.demand_cache.specs.declared.demand_policy.QueueRow.{QueueRow}
 use Rattle.demand_cache.specs.declared.demand_policy.QueueRow.TheVariants.{Keys, Counts, OwnNumber}

@@ -8,13 +8,12 @@ ghost use Rattle.demand_cache.specs.DemandQueues.{empty_cache, queues_residents,
 ghost use Rattle.demand_cache.specs.QueueRow.{named_row, numbered_keys, IsLowRow, IsQueueOf};
 ghost use Rattle.segments.specs.NamedQueue.{plain_key};
 ghost use Rattle.segments.specs.KeyRow.{has_named, is_number, row_of};
-ghost use Rattle.queue_moves.specs.Tabled.{keys_of};
+ghost use Rattle.queue_table.specs.Tabled.{keys_of};
 ghost use Rattle.queue_table.specs.Queues.{Queues};
 
 use crate::demand_policy::{DemandPolicy, QueueRow};
 use engine_base::{Engine, Key, MAX_STEPS, Outcome, Stats, StepFault};
-use queue_moves::{KeyName, KeyQueues, Moves};
-use queue_table::Entry;
+use queue_table::{Entry, KeyName, KeyQueues, Moves};
 use segments::{NamedQueue, QueueKey};
 use std::alloc::{AllocError, Global};
 use std::marker::Model;
@@ -41,7 +40,7 @@ pub struct DemandRecord {
 
 impl<K: KeyName> Model for DemandCache<K> {
     ghost use Rattle.queue_table.specs.QueueTable.{queues as queues_at};
-    ghost use Rattle.queue_moves.specs.Lists.{lists_of};
+    ghost use Rattle.queue_table.specs.Lists.{lists_of};
     ghost use Rattle.demand_cache.specs.DemandCache.{DemandState, IsDemand, state_of};
 
     ghost Value = { DemandState };

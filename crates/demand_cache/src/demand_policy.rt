@@ -3,8 +3,8 @@ ghost use Rattle.std.specs.Prelude.{◌≡◌, Bool, ℕ, ◌+◌, ◌≤◌, �
 ghost use Rattle.engine_base.specs.declared.limits.TheConstants.{MAX_CAPACITY, MAX_STEPS};
 ghost use Rattle.queue_table.specs.QueueTable.{queues as queues_at};
 ghost use Rattle.queue_table.specs.Queues.{QUEUES, Item, Queues};
-ghost use Rattle.queue_moves.specs.Moves.{Plan, item_of};
-ghost use Rattle.queue_moves.specs.Undoing.{IsAccessed};
+ghost use Rattle.queue_table.specs.Moves.{Plan, item_of};
+ghost use Rattle.queue_table.specs.Undoing.{IsAccessed};
 ghost use Rattle.demand_cache.specs.DemandPolicy.{page_of, plan_by};
 ghost use Rattle.demand_cache.specs.QueueRow.{named_row, IsLowRow};
 ghost use Rattle.engine_base.specs.Machine.{state_after_all};
@@ -14,7 +14,7 @@ use crate::demand_cache::DemandCache;
 use engine_base::{Key, Outcome};
 use policy_pages::two_q::TwoQSizes;
 use policy_pages::{arc, car, clock, fifo, s3_fifo, sieve, two_q};
-use queue_moves::{Accessed, KeyName, KeyQueues};
+use queue_table::{Accessed, KeyName, KeyQueues};
 use std::alloc::{AllocError, Global};
 
 /// A policy that keeps each missed key, with the sizes of its parts where they are a choice. Any sizes will do.

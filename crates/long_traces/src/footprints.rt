@@ -48,9 +48,7 @@ pub fn footprint<T: Threads + Sync, R: CountedRead>(
             })
         },
     )?;
-    let footprint = counted.counter.footprint();
-    drop(counted);
-    Ok(footprint)
+    Ok(counted.counter.footprint())
 }
 
 // What is counted of a trace while it is read.

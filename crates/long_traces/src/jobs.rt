@@ -54,9 +54,7 @@ pub fn reports<T: Threads + Wait + Sync, R: CountedRead, G: Gate>(
 {
     if jobs.len() > MAX_ACTORS {
         let runs = runs_over(rt, alloc, reader, format, limits, jobs, usize::MAX)?;
-        let reports = runs.reports(alloc);
-        drop(runs);
-        return Ok(reports?);
+        return Ok(runs.reports(alloc)?);
     }
     run_reading_within(rt, alloc, reader, format, limits, jobs, BATCH, gate)
 }
@@ -85,9 +83,7 @@ pub fn intervals<T: Threads + Sync, R: CountedRead>(
     ensures tally { FailsWhere (result ≡ Err TraceFault.Read) (R.tally reader.old) (R.tally reader.new) }
 {
     let runs = runs_over(rt, alloc, reader, format, limits, jobs, every)?;
-    let rows = runs.rows(alloc);
-    drop(runs);
-    Ok(rows?)
+    Ok(runs.rows(alloc)?)
 }
 
 /// The text of the rows of each job and of its queues over the trace that the reader gives, cut into intervals of `every`
@@ -127,9 +123,7 @@ pub fn queues_text<T: Threads + Sync, R: CountedRead>(
                 → HaveQueueRows (record { jobs = jobs.entry.now; every = every }) other 0 runs) }
         { QueueRuns::open(alloc, trace, jobs, every) },
     )?;
-    let text = runs.text(alloc);
-    drop(runs);
-    Ok(text?)
+    Ok(runs.text(alloc)?)
 }
 
 // Runs of the jobs that have made all accesses of the trace that the reader gives, in intervals of `every` accesses.

@@ -46,9 +46,7 @@ pub fn compare<T: Threads + Sync, R: CountedRead>(
     ensures tally { FailsWhere (result ≡ Err TraceFault.Read) (R.tally reader.old) (R.tally reader.new) }
 {
     let run = compared_over(rt, alloc, reader, format, limits, first, second, usize::MAX)?;
-    let counts = run.counts();
-    drop(run);
-    Ok(counts)
+    Ok(run.counts())
 }
 
 /// What is counted of the policies of both jobs over the trace that the reader gives, cut into intervals of `every`
@@ -116,9 +114,7 @@ pub fn part<T: Threads + Sync, R: CountedRead>(
                 → HasParted first.entry.now second.entry.now other 0 run) }
         { PartRun::open(alloc, trace, first, second) },
     )?;
-    let found = run.found();
-    drop(run);
-    Ok(found)
+    Ok(run.found())
 }
 
 // A run of both jobs that has made all accesses of the trace that the reader gives, in intervals of `every` accesses.

@@ -17,7 +17,6 @@ use std::alloc::AllocError;
 use std::marker::Model;
 
 /// The state of a shell. Its invariant only bounds its numbers; the shell around it keeps that it is reachable.
-#[derive(Drop)]
 pub(crate) struct ShellCore {
     pub(crate) config: Config,
     pub(crate) rules: Rules,
@@ -31,6 +30,25 @@ pub(crate) struct ShellCore {
     pub(crate) holder: Option<Holder>,
     pub(crate) stats: ShellStats,
     pub(crate) applied: u64,
+}
+
+impl Drop for ShellCore {
+    fn drop(self) {
+        let ShellCore {
+            config: _,
+            rules: _,
+            table: _,
+            next: _,
+            queues: _,
+            stripes: _,
+            writes: _,
+            frequency: _,
+            drain: _,
+            holder: _,
+            stats: _,
+            applied: _,
+        } = self;
+    }
 }
 
 impl Model for ShellCore {

@@ -5,7 +5,7 @@ use Rattle.std.specs.Prelude.{option_and_then}
 use Rattle.engine_base.specs.Keys.{has_key}
 use Rattle.engine_base.specs.declared.outcome.Outcome.TheVariants.{Hit, Kept, Evicted, Rejected}
 use Rattle.engine_base.proofs.Limited.{accepted-where}
-use Rattle.adaptive_window.specs.AdaptiveCache.{AdaptiveCacheState}
+use Rattle.queue_cache.specs.AdaptiveCache.{AdaptiveCacheState}
 use Rattle.clairvoyant.specs.Clairvoyant.{ClairvoyantState, clairvoyant_access, clairvoyant_act, is_next}
 use Rattle.clairvoyant.specs.NextAccesses.{clairvoyant_queues}
 use Rattle.clairvoyant.specs.declared.optimal_record.OptimalRecord.{OptimalRecord}

@@ -9,7 +9,7 @@ use Rattle.engine_base.specs.declared.limits.TheConstants.{MAX_STEPS}
 use Rattle.engine_base.specs.declared.outcome.Outcome.TheVariants.{Rejected}
 use Rattle.engine_base.proofs.Limited.{accepted-in, refused-in}
 use Rattle.engine_base.proofs.Machine.{state-append, kept-from, answered, counted, made, first-counted, stands, residents-counted}
-use Rattle.adaptive_window.proofs.Fitting.{cache_keeps}
+use Rattle.queue_cache.proofs.Fitting.{cache_keeps}
 use Rattle.demand_cache.proofs.Keeping.{pages-sound, demand-keeps, page-outcomes}
 use Rattle.demand_cache.specs.DemandCache.{DemandState, demand_access, demand_machine}
 use Rattle.queue_cache.specs.declared.design.QueueDesign.{QueueDesign}

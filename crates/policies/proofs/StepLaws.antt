@@ -13,8 +13,8 @@ use Rattle.engine_base.specs.declared.outcome.Outcome.TheVariants.{Hit}
 use Rattle.engine_base.proofs.Counting.{hits-misses, one-few}
 use Rattle.engine_base.proofs.Limited.{accepted-in, accepted-where}
 use Rattle.engine_base.proofs.Machine.{outcomes-long, misses-fit}
-use Rattle.adaptive_window.specs.AdaptiveCache.{cache_access, cache_count}
-use Rattle.adaptive_window.specs.Residents.{CacheHitsAskNothing, CacheAsksWhereOneLeft}
+use Rattle.queue_cache.specs.AdaptiveCache.{cache_access, cache_count}
+use Rattle.queue_cache.specs.Residents.{CacheHitsAskNothing, CacheAsksWhereOneLeft}
 use Rattle.clairvoyant.specs.Belady.{Outcome, belady_outcomes, belady_outcome as outcome_at, belady_residents}
 use Rattle.clairvoyant.specs.Clairvoyant.{ClairvoyantState, clairvoyant_at, clairvoyant_act}
 use Rattle.clairvoyant.specs.Keys.{IsAscendingKeys}

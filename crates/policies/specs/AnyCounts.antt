@@ -5,7 +5,7 @@ use Rattle.engine_base.specs.declared.limits.TheConstants.{MAX_STEPS}
 use Rattle.engine_base.specs.Pace.{IsPaced, still-paced}
 use Rattle.engine_base.specs.Limited.{lifted}
 use Rattle.engine_base.proofs.Limited.{accepted-where, accepted-in, ended}
-use Rattle.adaptive_window.specs.AdaptiveCache.{Outcome, cache_access, cache_count, cache_pace}
+use Rattle.queue_cache.specs.AdaptiveCache.{Outcome, cache_access, cache_count, cache_pace}
 use Rattle.admission.proofs.Weighing.{recorded_paced}
 use Rattle.clairvoyant.specs.Clairvoyant.{ClairvoyantState, clairvoyant_act}
 use Rattle.clairvoyant.specs.StepCount.{act_counts as optimal_counts, act_ends as optimal_ends}

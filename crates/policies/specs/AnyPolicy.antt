@@ -10,7 +10,7 @@ use Rattle.engine_base.specs.Stats.{stats_of}
 use Rattle.admission.specs.Frequency.{FrequencyData, estimate}
 use Rattle.sketch.specs.Sketch.{least_counter}
 use Rattle.engine_base.specs.Machine.{Machine, after, outcomes}
-use Rattle.adaptive_window.specs.Residents.{adaptive_machine, cache_residents}
+use Rattle.queue_cache.specs.Residents.{adaptive_machine, cache_residents}
 use Rattle.clairvoyant.specs.Belady.{belady_outcomes}
 use Rattle.clairvoyant.specs.Clairvoyant.{ClairvoyantState, clairvoyant_at}
 use Rattle.clairvoyant.specs.NextAccesses.{clairvoyant_queues}

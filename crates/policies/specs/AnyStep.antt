@@ -3,8 +3,8 @@
 use Rattle.std.specs.Prelude.{ℕ, Option}
 use Rattle.engine_base.specs.Pace.{Pace, pace_without_sketch}
 use Rattle.engine_base.specs.Limited.{lifted}
-use Rattle.adaptive_window.specs.AdaptiveCache.{Outcome, cache_act, cache_record_of, cache_undone, cache_asks}
-use Rattle.adaptive_window.specs.AdaptiveCache.{cache_may_ask, cache_words, cache_pace, CacheFits}
+use Rattle.queue_cache.specs.AdaptiveCache.{Outcome, cache_act, cache_record_of, cache_undone, cache_asks}
+use Rattle.queue_cache.specs.AdaptiveCache.{cache_may_ask, cache_words, cache_pace, CacheFits}
 use Rattle.clairvoyant.specs.Clairvoyant.{clairvoyant_act}
 use Rattle.clairvoyant.specs.OptimalRecord.{outcome_of, record_at, clairvoyant_undone, ClairvoyantFits}
 use Rattle.demand_cache.specs.DemandCache.{DemandFits}

@@ -6,13 +6,12 @@ ghost use Rattle.policies.specs.Accesses.{IsContinued, IsNext, IsStopped};
 
 use crate::any_policy::AnyPolicy;
 use crate::theorems;
-use adaptive_window::AdaptiveCache;
 use clairvoyant::Clairvoyant;
 use queue_cache::fixed_design::{
     FixedDesign, LruDesign, SegmentedLruDesign, TinyLfuLruDesign, TinyLfuSegmentedDesign,
     WindowTinyLfuDesign,
 };
-use queue_cache::{Layout, QueueCache};
+use queue_cache::{AdaptiveCache, Layout, QueueCache};
 use std::alloc::AllocError;
 use step_record::{Engine, Key, StepFault};
 

@@ -5,17 +5,15 @@ ghost use Rattle.demand_cache.specs.DemandCache.{demand_act, demand_may_ask};
 ghost use Rattle.segments.specs.KeyRow.{left_key, row_left};
 
 use crate::design::{Design, design_of};
-use adaptive_window::{AdaptiveCache, AdaptiveRecord};
 use admission::Frequency;
 use clairvoyant::{Clairvoyant, NextUse, OptimalRecord};
 use demand_cache::{DemandCache, DemandRecord};
-use queue_cache::{AccessRecord, AnyDesign, QueueCache};
+use queue_cache::{AccessRecord, AdaptiveCache, AdaptiveRecord, AnyDesign, QueueCache};
 use segments::NamedQueue;
 use std::alloc::{AllocError, Global};
 use step_record::{Engine, Job, Key, Outcome, Stats, StepFault, Trace};
 
 /// A cache of any policy.
-#[derive(Drop)]
 pub enum AnyPolicy {
     /// A policy of queues.
     Queues(QueueCache),
@@ -25,6 +23,17 @@ pub enum AnyPolicy {
     Demand(DemandCache),
     /// W-TinyLFU with a window whose size follows the hits.
     Adaptive(AdaptiveCache),
+}
+
+impl Drop for AnyPolicy {
+    fn drop(self) {
+        match self {
+            AnyPolicy::Queues(_) => {}
+            AnyPolicy::Optimal(_) => {}
+            AnyPolicy::Demand(_) => {}
+            AnyPolicy::Adaptive(_) => {}
+        }
+    }
 }
 
 /// The undo record of an access to a cache of any policy.

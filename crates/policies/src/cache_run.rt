@@ -26,7 +26,6 @@ use step_record::{Job, Key, StepFault};
 /// Belady's policy goes by the whole trace: a run of it notes the accesses as they come, and makes them all at the end,
 /// once their next uses are found. A policy that keeps each missed key begins with a cache of half the bytes, which serves
 /// until a key comes that is 2^32 or more.
-#[derive(Drop)]
 pub enum CacheRun {
     /// A cache, which makes the accesses as they come.
     Cache(AnyPolicy),
@@ -36,6 +35,17 @@ pub enum CacheRun {
     NextUses(NextUseFinder),
     /// Nothing: there was no memory for the accesses.
     OutOfMemory,
+}
+
+impl Drop for CacheRun {
+    fn drop(self) {
+        match self {
+            CacheRun::Cache(_) => {}
+            CacheRun::Narrow(_) => {}
+            CacheRun::NextUses(_) => {}
+            CacheRun::OutOfMemory => {}
+        }
+    }
 }
 
 impl CacheRun {
@@ -80,7 +90,7 @@ impl CacheRun {
             CacheRun::OutOfMemory => return,
         };
         if taken.is_err() {
-            drop(mem::replace(self, CacheRun::OutOfMemory));
+            *self = CacheRun::OutOfMemory;
         }
     }
 
@@ -95,16 +105,27 @@ impl CacheRun {
         if keys.is_empty() {
             return;
         }
-        let CacheRun::Narrow(cache) = mem::replace(self, CacheRun::OutOfMemory) else {
-            unreachable!()
-        };
-        // What stands there owns nothing. A drop of it would be proved for all that a run may own.
-        mem::forget(mem::replace(self, widened_run(cache, keys)));
+        *self = mem::replace(self, CacheRun::OutOfMemory).widened(keys);
     }
 
-    /// Ends a run that is given no more accesses.
-    pub fn abandon(self) {
-        drop(self);
+    // The run that has taken these keys, of any width, by the cache of one over keys below 2^32.
+    fn widened(self, keys: &[Key]) -> CacheRun
+        requires narrow { (d : DemandState) × (self ≡ CacheRun.Narrow d) }
+        requires next { CanTake keys.now self }
+        ensures { (j : Job) (trace done : List ℕ) → HasTaken j trace done self
+            → HasTaken j trace (done ++ keys.now) result }
+    {
+        let CacheRun::Narrow(cache) = self else {
+            unreachable!()
+        };
+        let Ok(cache) = cache.widened() else {
+            return CacheRun::OutOfMemory;
+        };
+        let mut cache = AnyPolicy::Demand(cache);
+        match access_all(&mut cache, keys) {
+            Ok(()) => CacheRun::Cache(cache),
+            Err(_) => CacheRun::OutOfMemory,
+        }
     }
 
     /// The report of the job once all accesses were taken; `None` where there was no memory.
@@ -125,33 +146,12 @@ impl CacheRun {
     }
 }
 
-// The run of a cache of keys below 2^32 that takes these keys, of any width.
-fn widened_run(cache: NarrowCache, keys: &[Key]) -> CacheRun
-    requires { CanTake keys.now (CacheRun.Narrow cache) }
-    ensures { (j : Job) (trace done : List ℕ) → HasTaken j trace done (CacheRun.Narrow cache)
-        → HasTaken j trace (done ++ keys.now) result }
-{
-    let Ok(cache) = cache.widened() else {
-        return CacheRun::OutOfMemory;
-    };
-    let mut cache = AnyPolicy::Demand(cache);
-    match access_all(&mut cache, keys) {
-        Ok(()) => CacheRun::Cache(cache),
-        Err(_) => {
-            drop(cache);
-            CacheRun::OutOfMemory
-        }
-    }
-}
-
 // The report of a cache that ran its job over the whole trace, whose keys are below 2^32.
 fn report_by_narrow(cache: NarrowCache, job: &Job) -> Report
     ensures { (trace : List ℕ) → HasAccessed job.now trace trace (AnyPolicy.Demand cache) → result ≡ report_on job.now trace }
 {
     theorems::any_reports();
-    let stats = cache.stats();
-    drop(cache);
-    Report::of(job, stats)
+    Report::of(job, cache.stats())
 }
 
 // The report of a job over a trace whose next uses were found: all accesses are made now.
@@ -162,11 +162,8 @@ fn report_over_uses(alloc: Global, finder: NextUseFinder, job: &Job) -> Result<R
     let uses = finder.finish(alloc)?;
     uses.bounded();
     let mut cache = AnyPolicy::open_with(alloc, job, &uses)?;
-    let made = access_all_uses(&mut cache, &uses);
-    drop(uses);
-    let report = report_by(cache, job);
-    made?;
-    Ok(report)
+    access_all_uses(&mut cache, &uses)?;
+    Ok(report_by(cache, job))
 }
 
 // Makes all accesses of the trace that the next uses are of, in turn. The one error is out of memory.

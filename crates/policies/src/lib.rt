@@ -1,6 +1,6 @@
 //! All policies as one engine, `AnyPolicy`, with one table of what each of them is (`design_of`); a job over a trace and
 //! its report. A cache of any policy is one of queues (of the crate `queue_cache`), one that keeps each missed key
-//! (`demand_cache`), one whose window follows the hits (`adaptive_window`), or Belady's optimal policy (`clairvoyant`).
+//! (`demand_cache`), one whose window follows the hits (`AdaptiveCache`), or Belady's optimal policy (`clairvoyant`).
 //! What it promises over lists of accesses stands as the theorems below, over the steps alone, so that it reaches callers
 //! that see a cache through a session.
 //!

@@ -57,7 +57,7 @@ pub fn any_hits_keep_all()
     ensures { AnyHitsKeepAll }
 {
     demand_cache::theorems::hits_ask_nothing();
-    adaptive_window::theorems::cache_hits_ask_nothing();
+    queue_cache::adaptive_theorems::cache_hits_ask_nothing();
 }
 
 /// A cache of any policy never holds more keys than its capacity.
@@ -108,5 +108,5 @@ pub fn any_asks_where_one_left()
     ensures { AnyAsksWhereOneLeft }
 {
     demand_cache::theorems::asks_where_one_left();
-    adaptive_window::theorems::cache_asks_where_one_left();
+    queue_cache::adaptive_theorems::cache_asks_where_one_left();
 }

@@ -77,9 +77,7 @@ pub(crate) fn report_by(cache: AnyPolicy, job: &Job) -> Report
     ensures { (trace : List ℕ) → HasAccessed job.now trace trace cache → result ≡ report_on job.now trace }
 {
     theorems::any_reports();
-    let stats = cache.stats();
-    drop(cache);
-    Report::of(job, stats)
+    Report::of(job, cache.stats())
 }
 
 // An empty cache for the job over the trace.

@@ -34,10 +34,7 @@ pub fn run_actor<S: FedTrace, R: Wait, G: Gate>(
 {
     let mut run = CacheRun::open(alloc, &job);
     for _ in rt.forever() {
-        let Some(batch) = inbox.take(rt) else {
-            run.abandon();
-            return None;
-        };
+        let batch = inbox.take(rt)?;
         gate.before(who, batch.number);
         run.take(batch.keys.as_slice());
         if batch.last {

@@ -7,11 +7,20 @@ use crossbeam_channel::{Pass, RuledReceiver, RuledSender};
 use std::marker::PhantomData;
 
 /// A piece of the trace.
-#[derive(Drop)]
 pub struct Batch {
     pub number: u64,
     pub last: bool,
     pub keys: SharedKeys,
+}
+
+impl Drop for Batch {
+    fn drop(self) {
+        let Batch {
+            number: _,
+            last: _,
+            keys: _,
+        } = self;
+    }
 }
 
 // Ghost state of a channel end: whether it sends, whether it receives, and how many batches it has sent and received.

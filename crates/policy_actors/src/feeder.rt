@@ -23,7 +23,6 @@ const LONG_LUMP: usize = 262_144;
 const LUMP_ROOM: usize = 65_536;
 
 /// What gives the accesses of a trace to the actors, lump by lump.
-#[derive(Drop)]
 pub struct Feeder<'b, S: FedTrace, W: Wait> {
     rt: &'b W,
     pub alloc: Global,
@@ -35,6 +34,20 @@ pub struct Feeder<'b, S: FedTrace, W: Wait> {
     pub place: usize,
     // No actor is gone, and nothing was out of memory.
     is_open: bool,
+}
+
+impl<'b, S: FedTrace, W: Wait> Drop for Feeder<'b, S, W> {
+    fn drop(self) {
+        let Feeder {
+            rt: _,
+            alloc: _,
+            ends: _,
+            size: _,
+            finished: _,
+            place: _,
+            is_open: _,
+        } = self;
+    }
 }
 
 impl<'b, S: FedTrace, W: Wait> Feeder<'b, S, W> {

@@ -89,7 +89,6 @@ impl<S: FedTrace> BatchSize<S> {
 }
 
 /// Accesses that stand at one place of the trace that is fed, from which each actor is given its batches.
-#[derive(Drop)]
 pub struct Lump<S: FedTrace> {
     accesses: Arc<Vec<Key>>,
     place: usize,
@@ -103,6 +102,17 @@ pub struct Lump<S: FedTrace> {
         (λ all. is_end ≡ true → (arc_value accesses).items ≡ drop place all) } by { Prim.hlevel props },
     ghost before_end: { IfSome S.known (λ all. is_end ≡ false → 0 < length (arc_value accesses).items
         → place + length (arc_value accesses).items < length all) } by { Prim.hlevel props },
+}
+
+impl<S: FedTrace> Drop for Lump<S> {
+    fn drop(self) {
+        let Lump {
+            accesses: _,
+            place: _,
+            is_end: _,
+            size: _,
+        } = self;
+    }
 }
 
 impl<S: FedTrace> Lump<S> {

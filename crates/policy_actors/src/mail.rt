@@ -70,13 +70,22 @@ impl<S: FedTrace> Outboxes<S> {
 }
 
 /// The receiving end of an actor's channel.
-#[derive(Drop)]
 pub struct Inbox<S: FedTrace> {
     receiver: Receiver<S>,
     pass: ChannelPass,
     pub taken: u64,
     ghost seated: { IsSeatAt (receives_on receiver) pass },
     ghost viewed: { view pass ≡ channel_log false true 0 taken },
+}
+
+impl<S: FedTrace> Drop for Inbox<S> {
+    fn drop(self) {
+        let Inbox {
+            receiver: _,
+            pass: _,
+            taken: _,
+        } = self;
+    }
 }
 
 impl<S: FedTrace> Inbox<S> {
@@ -97,13 +106,22 @@ impl<S: FedTrace> Inbox<S> {
 }
 
 // The sending end of an actor's channel.
-#[derive(Drop)]
 pub struct Outbox<S: FedTrace> {
     sender: Sender<S>,
     pass: ChannelPass,
     sent: u64,
     ghost seated: { IsSeatAt (sends_on sender) pass },
     ghost viewed: { view pass ≡ channel_log true false sent 0 },
+}
+
+impl<S: FedTrace> Drop for Outbox<S> {
+    fn drop(self) {
+        let Outbox {
+            sender: _,
+            pass: _,
+            sent: _,
+        } = self;
+    }
 }
 
 impl<S: FedTrace> Outbox<S> {

@@ -1,7 +1,7 @@
 -- The queues that a cache shows are those of its policy's definition.
 use Rattle.std.proofs.Common.{◌≡◌, ◌∙◌, ◌≤◌, ℕ, List, length, take, ap, sym}
 use Rattle.std.proofs.lemmas.List.{length-take-le}
-use Rattle.adaptive_window.specs.AdaptiveCache.{AdaptiveCacheState}
+use Rattle.queue_cache.specs.AdaptiveCache.{AdaptiveCacheState}
 use Rattle.clairvoyant.specs.Clairvoyant.{clairvoyant_at}
 use Rattle.clairvoyant.specs.NextAccesses.{clairvoyant_queues}
 use Rattle.demand_cache.specs.DemandCache.{DemandState}

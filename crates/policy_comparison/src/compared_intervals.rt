@@ -32,9 +32,7 @@ pub fn compare<R: Threads + Sync, G: Gate>(
     ensures fault { ReturnsFault (faulty_in (first.now ∷ second.now ∷ [])) result }
 {
     let run = run_over(rt, alloc, trace, first, second, usize::MAX, gate)?;
-    let counts = run.counts();
-    drop(run);
-    Ok(counts)
+    Ok(run.counts())
 }
 
 /// What is counted of the policies of both jobs over the trace, cut into intervals of `every` accesses, of which the
@@ -120,11 +118,6 @@ fn run_over<R: Threads + Sync, G: Gate>(
 {
     check_jobs(&[*first, *second])?;
     let mut run = ComparedRun::open(alloc, trace, first, second, every)?;
-    match take_trace(rt, trace, &mut run, gate) {
-        Ok(()) => Ok(run),
-        Err(fault) => {
-            drop(run);
-            Err(ActorFault::from(fault))
-        }
-    }
+    take_trace(rt, trace, &mut run, gate)?;
+    Ok(run)
 }

@@ -15,10 +15,18 @@ use step_record::{Job, Key, Trace};
 use sweeps::Taker;
 
 /// Two caches, with what is counted of their accesses.
-#[derive(Drop)]
 pub struct ComparedRun {
     pair: Pair,
     counted: ComparedRows,
+}
+
+impl Drop for ComparedRun {
+    fn drop(self) {
+        let ComparedRun {
+            pair: _,
+            counted: _,
+        } = self;
+    }
 }
 
 impl ComparedRun {
@@ -57,8 +65,7 @@ impl ComparedRun {
             → HasCompared every first second trace (length trace) self
             → IfOk result (λ rows. rows.items ≡ compared_intervals_on every first second trace) }
     {
-        let ComparedRun { pair, counted } = self;
-        drop(pair);
+        let ComparedRun { pair: _, counted } = self;
         counted.into_rows()
     }
 

@@ -47,11 +47,8 @@ pub fn part_watched<R: Threads + Sync, G: Gate>(
 {
     check_jobs(&[*first, *second])?;
     let mut run = PartRun::open(alloc, trace, first, second)?;
-    let taken = take_trace(rt, trace, &mut run, gate);
-    let found = run.found();
-    drop(run);
-    taken?;
-    Ok(found)
+    take_trace(rt, trace, &mut run, gate)?;
+    Ok(run.found())
 }
 
 /// Adds the line of the access that `part` found, or of none. The one error is that an allocation failed.

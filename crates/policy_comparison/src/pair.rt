@@ -12,17 +12,30 @@ use std::thread::{Threads, join_mut};
 use step_record::{Job, Key, Trace};
 
 /// A cache, and which accesses of the last piece hit.
-#[derive(Drop)]
 pub(crate) struct NotedCache {
     cache: AnyPolicy,
     hits: Vec<bool>,
 }
 
+impl Drop for NotedCache {
+    fn drop(self) {
+        let NotedCache { cache: _, hits: _ } = self;
+    }
+}
+
 /// The caches of two jobs, which made the same accesses.
-#[derive(Drop)]
 pub(crate) struct Pair {
     first: NotedCache,
     second: NotedCache,
+}
+
+impl Drop for Pair {
+    fn drop(self) {
+        let Pair {
+            first: _,
+            second: _,
+        } = self;
+    }
 }
 
 impl Pair {
@@ -38,17 +51,10 @@ impl Pair {
         ensures { IfOk result (λ pair. (other : List ℕ) → RunsOver trace.now other first.now
             → RunsOver trace.now other second.now → HavePaired first.now second.now other 0 pair) }
     {
-        let one = NotedCache::open(alloc, trace, first)?;
-        match NotedCache::open(alloc, trace, second) {
-            Ok(other) => Ok(Pair {
-                first: one,
-                second: other,
-            }),
-            Err(fault) => {
-                drop(one);
-                Err(fault)
-            }
-        }
+        Ok(Pair {
+            first: NotedCache::open(alloc, trace, first)?,
+            second: NotedCache::open(alloc, trace, second)?,
+        })
     }
 
     /// Makes the accesses to the keys in both caches, side by side where a thread can be made, and notes which of them

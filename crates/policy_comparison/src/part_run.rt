@@ -14,13 +14,22 @@ use step_record::{Job, Key, Trace};
 use sweeps::Taker;
 
 /// Two caches, with the first access at which just one of them hit.
-#[derive(Drop)]
 pub struct PartRun {
     pair: Pair,
     // How many accesses they made.
     place: u64,
     // Once it is found they make no more.
     found: Option<u64>,
+}
+
+impl Drop for PartRun {
+    fn drop(self) {
+        let PartRun {
+            pair: _,
+            place: _,
+            found: _,
+        } = self;
+    }
 }
 
 impl PartRun {

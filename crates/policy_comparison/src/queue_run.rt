@@ -14,7 +14,6 @@ use step_record::{Job, Key, Trace};
 use sweeps::{CurrentInterval, Run};
 
 /// A cache of a job, with the rows of each interval that is over.
-#[derive(Drop)]
 pub(crate) struct QueueRun {
     pub(crate) job: Job,
     alloc: Global,
@@ -23,6 +22,19 @@ pub(crate) struct QueueRun {
     // How many keys left each queue by the accesses that were made of the current interval.
     left: Vec<u64>,
     rows: Vec<u8>,
+}
+
+impl Drop for QueueRun {
+    fn drop(self) {
+        let QueueRun {
+            job: _,
+            alloc: _,
+            cache: _,
+            current: _,
+            left: _,
+            rows: _,
+        } = self;
+    }
 }
 
 impl Run for QueueRun {

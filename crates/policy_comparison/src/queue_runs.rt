@@ -31,9 +31,7 @@ pub fn queues_text<T: Threads + Sync, G: Gate>(
 {
     let mut runs = QueueRuns::open(alloc, trace, jobs, every)?;
     take_trace(rt, trace, &mut runs, gate)?;
-    let text = runs.text(alloc);
-    drop(runs);
-    text
+    runs.text(alloc)
 }
 
 /// A run of each of several jobs, with the rows of each interval and each queue.

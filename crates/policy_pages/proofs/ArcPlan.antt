@@ -11,9 +11,10 @@ use Rattle.policy_pages.specs.Arc.{Outcome, ArcState, arc_residents, arc_total, 
 use Rattle.policy_pages.proofs.Ghost.{without-none}
 use Rattle.policy_pages.proofs.ArcCases.{new-cases}
 use Rattle.policy_pages.proofs.Weights.{has-append}
-use Rattle.queue_moves.specs.Moves.{Entry, item_of, standing, Leaving, leaving, after_leaving, IsLowLeaving, evicted, outcome_after, goes, Plan, own_plan}
-use Rattle.queue_moves.specs.Tabled.{IsTabled, keys_of, StandsAs}
-use Rattle.queue_moves.proofs.Tabled.{keys-append, absent-gone, stands, stands-nowhere, tabled-leaving}
+use Rattle.queue_table.specs.declared.records.Entry.{Entry}
+use Rattle.queue_table.specs.Moves.{item_of, standing, Leaving, leaving, after_leaving, IsLowLeaving, evicted, outcome_after, goes, Plan, own_plan}
+use Rattle.queue_table.specs.Tabled.{IsTabled, keys_of, StandsAs}
+use Rattle.queue_table.proofs.Tabled.{keys-append, absent-gone, stands, stands-nowhere, tabled-leaving}
 use Rattle.policy_pages.specs.Plans.{IsPlannedBy, miss_plan}
 use Rattle.policy_pages.specs.Leavers.{Leavers, no_leavers}
 use Rattle.policy_pages.specs.ArcPlan.{T1, T2, B1, B2, arc_of, total, step_size, gives_t1, replaced, new_key_leavers, new_key_plan, recall_plan, plan_in, plan_at, arc_page}

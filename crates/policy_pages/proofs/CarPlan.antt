@@ -6,11 +6,12 @@ use Rattle.engine_base.specs.Keys.{has_key}
 use Rattle.queue_table.specs.Entries.{Item, entry, oldest_of, occurrences, entries_counted}
 use Rattle.queue_table.specs.Queues.{QUEUES, Queues, with_queue, queue_holding, after_send}
 use Rattle.queue_table.proofs.QueueLists.{IsAbsent, is_absent, absent, queue-few, without-none as entries-none}
-use Rattle.queue_moves.specs.Moves.{Entry, item_of, standing, count_or, turns_due, after_turn, after_turns, after_run, Leaving, after_leaving, IsLowLeaving, outcome_after, Own, counts, goes, Plan, own_plan, IsLowOwn, IsLowPlan, after_runs}
-use Rattle.queue_moves.specs.Tabled.{IsTabled, keys_of, lowered_entry, StandsAs}
-use Rattle.queue_moves.specs.declared.records.Left.{Left}
-use Rattle.queue_moves.specs.Undoing.{outs, IsRun, IsLeft}
-use Rattle.queue_moves.proofs.Tabled.{keys-append, absent-gone, stands, stands-nowhere, tabled-leaving, tabled-runs, tabled-turn, tabled-turns, turn-is, elsewhere, has-occurs}
+use Rattle.queue_table.specs.declared.records.Entry.{Entry}
+use Rattle.queue_table.specs.Moves.{item_of, standing, count_or, turns_due, after_turn, after_turns, after_run, Leaving, after_leaving, IsLowLeaving, outcome_after, Own, counts, goes, Plan, own_plan, IsLowOwn, IsLowPlan, after_runs}
+use Rattle.queue_table.specs.Tabled.{IsTabled, keys_of, lowered_entry, StandsAs}
+use Rattle.queue_table.specs.declared.moves.Left.{Left}
+use Rattle.queue_table.specs.Undoing.{outs, IsRun, IsLeft}
+use Rattle.queue_table.proofs.Tabled.{keys-append, absent-gone, stands, stands-nowhere, tabled-leaving, tabled-runs, tabled-turn, tabled-turns, turn-is, elsewhere, has-occurs}
 use Rattle.policy_pages.specs.Residents.{Outcome}
 use Rattle.policy_pages.specs.CountedKeys as counted
 use Rattle.policy_pages.specs.CountedKeys.{CountedKey, AreCounted, total_count, oldest_count, uncounted_key, counted_less, with_count}

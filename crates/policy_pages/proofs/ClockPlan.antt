@@ -10,8 +10,9 @@ use Rattle.policy_pages.specs.Turns.{after_turns as page_turns, turn_count}
 use Rattle.policy_pages.specs.Clock.{marked_key, clock_eviction, IsClock}
 use Rattle.policy_pages.proofs.CountedKeys.{length-keys, total-few}
 use Rattle.policy_pages.proofs.ClockKeeping.{keeps}
-use Rattle.queue_moves.specs.Moves.{Entry, item_of, after_turns, turns_due, evicted, departed, leaving, after_leaving, counts}
-use Rattle.queue_moves.specs.Tabled.{IsTabled}
+use Rattle.queue_table.specs.declared.records.Entry.{Entry}
+use Rattle.queue_table.specs.Moves.{item_of, after_turns, turns_due, evicted, departed, leaving, after_leaving, counts}
+use Rattle.queue_table.specs.Tabled.{IsTabled}
 use Rattle.policy_pages.specs.QueueView.{counted_keys}
 use Rattle.policy_pages.specs.Plans.{IsWithin, IsPlannedWithin}
 use Rattle.policy_pages.specs.ClockPlan.{clock_of, clock_eviction_plan, clock_page}
@@ -19,7 +20,7 @@ use Rattle.policy_pages.specs.PolicyPage.{IsPlannedPage, IsSoundPage}
 use Rattle.policy_pages.proofs.Plans.{resident-alone, resident-full, not-less, resident-planned, first-count, first-send, first-turns, first-out}
 use Rattle.policy_pages.proofs.QueueView.{counted-length, keys-counted, counted-append, length-counted, key-counted, counted-with, turns-are}
 use Rattle.policy_pages.proofs.Leavers.{absent-turns}
-use Rattle.queue_moves.proofs.Tabled.{oldest-gone, tabled-turns}
+use Rattle.queue_table.proofs.Tabled.{oldest-gone, tabled-turns}
 
 -- ---- the oldest leaves, and the key joins
 

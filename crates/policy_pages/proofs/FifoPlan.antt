@@ -7,9 +7,10 @@ use Rattle.queue_table.specs.Queues.{Queues, after_send}
 use Rattle.queue_table.proofs.QueueLists.{IsAbsent}
 use Rattle.policy_pages.specs.Fifo.{Outcome, fifo_eviction}
 use Rattle.policy_pages.proofs.Ghost.{without-none}
-use Rattle.queue_moves.specs.Moves.{Entry, item_of, standing, evicted, leaving, after_leaving, no_run, stays, goes}
-use Rattle.queue_moves.specs.Tabled.{IsTabled, keys_of}
-use Rattle.queue_moves.proofs.Tabled.{has-occurs, tabled-leaving}
+use Rattle.queue_table.specs.declared.records.Entry.{Entry}
+use Rattle.queue_table.specs.Moves.{item_of, standing, evicted, leaving, after_leaving, no_run, stays, goes}
+use Rattle.queue_table.specs.Tabled.{IsTabled, keys_of}
+use Rattle.queue_table.proofs.Tabled.{has-occurs, tabled-leaving}
 use Rattle.policy_pages.specs.Plans.{IsWithin, leaver_plan, IsPlannedWithin}
 use Rattle.policy_pages.specs.Leavers.{one_leaver}
 use Rattle.policy_pages.specs.FifoPlan.{fifo_of, fifo_page}

@@ -7,13 +7,14 @@ use Rattle.engine_base.specs.declared.outcome.Outcome.TheVariants.{Kept, Evicted
 use Rattle.queue_table.specs.Entries.{Item, is_same_item, entry, occurrences, oldest_of}
 use Rattle.queue_table.specs.Queues.{QUEUES, Queues, with_queue, queue_holding, after_push}
 use Rattle.queue_table.proofs.QueueLists.{times-without, IsAbsent, absent, is_absent}
-use Rattle.queue_moves.specs.declared.records.Left.{Left}
-use Rattle.queue_moves.specs.declared.records.Run.{Run}
-use Rattle.queue_moves.specs.Moves.{Outcome, Entry, turned, after_turn, after_turns, after_run, after_runs, after_first, Leaving, departed, leaving, after_leaving, evicted, outcome_after, IsLowLeaving, IsLowPlan, Plan}
-use Rattle.queue_moves.specs.Tabled.{IsTabled}
-use Rattle.queue_moves.specs.Undoing.{IsLeft, IsRun}
-use Rattle.queue_moves.proofs.Laws.{first-other, off-after-send}
-use Rattle.queue_moves.proofs.Tabled.{oldest-gone, tabled-leaving, turns-within}
+use Rattle.queue_table.specs.declared.moves.Left.{Left}
+use Rattle.queue_table.specs.declared.moves.Run.{Run}
+use Rattle.queue_table.specs.declared.records.Entry.{Entry}
+use Rattle.queue_table.specs.Moves.{Outcome, turned, after_turn, after_turns, after_run, after_runs, after_first, Leaving, departed, leaving, after_leaving, evicted, outcome_after, IsLowLeaving, IsLowPlan, Plan}
+use Rattle.queue_table.specs.Tabled.{IsTabled}
+use Rattle.queue_table.specs.Undoing.{IsLeft, IsRun}
+use Rattle.queue_table.proofs.Laws.{first-other, off-after-send}
+use Rattle.queue_table.proofs.Tabled.{oldest-gone, tabled-leaving, turns-within}
 use Rattle.policy_pages.specs.Leavers.{Leavers, after_leavers, leavers_for_ghost}
 
 pub oldest-out : (s : Queues) → IsTabled s → (q : ℕ) (e : Entry) (l : List Entry) → s q ≡ e ∷ l → after_leaving (leaving q None) s ≡ with_queue q l s

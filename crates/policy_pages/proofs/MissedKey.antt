@@ -5,10 +5,11 @@ use Rattle.queue_table.specs.Entries.{Item, entry, occurrences}
 use Rattle.queue_table.specs.Queues.{QUEUES, queue_holding}
 use Rattle.queue_table.proofs.QueueLists.{absent}
 use Rattle.queue_table.specs.QueueTable.{queues, spare, HoldsAt}
-use Rattle.queue_moves.specs.declared.records.Left.{Left}
-use Rattle.queue_moves.specs.declared.records.Run.{Run}
-use Rattle.queue_moves.specs.Moves.{Entry, leaving, IsLowLeaving}
-use Rattle.queue_moves.specs.Undoing.{IsLeft, IsRun}
+use Rattle.queue_table.specs.declared.moves.Left.{Left}
+use Rattle.queue_table.specs.declared.moves.Run.{Run}
+use Rattle.queue_table.specs.declared.records.Entry.{Entry}
+use Rattle.queue_table.specs.Moves.{leaving, IsLowLeaving}
+use Rattle.queue_table.specs.Undoing.{IsLeft, IsRun}
 use Rattle.policy_pages.specs.MissedKey.{Slot, Found, CanEnter, IsOutside}
 use Rattle.policy_pages.proofs.Leavers.{absent-left, absent-run, off-run}
 use Rattle.policy_pages.proofs.Plans.{still-none}

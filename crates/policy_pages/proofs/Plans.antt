@@ -6,11 +6,12 @@ use Rattle.engine_base.specs.declared.outcome.Outcome.TheVariants.{Kept, Hit}
 use Rattle.queue_table.specs.Entries.{Item, entry, occurrences, oldest_of, entries_without, entries_counted}
 use Rattle.queue_table.specs.Queues.{QUEUES, Queues, queue_holding, after_send, after_removal, after_count, times_below}
 use Rattle.queue_table.proofs.QueueLists.{IsAbsent, absent, with-queue-other}
-use Rattle.queue_moves.specs.Moves.{Outcome, Entry, turned, after_turn, after_turns, departed, leaving, after_leaving, IsLowPlan, Own, Plan, own_plan, item_of, IsLowOwn, standing, after_own, goes, standing_at}
-use Rattle.queue_moves.specs.Tabled.{IsTabled}
-use Rattle.queue_moves.proofs.Tabled.{nowhere-standing, has-occurs, stands}
-use Rattle.queue_moves.specs.declared.records.Accessed.{Accessed}
-use Rattle.queue_moves.specs.Undoing.{IsAccessed}
+use Rattle.queue_table.specs.declared.records.Entry.{Entry}
+use Rattle.queue_table.specs.Moves.{Outcome, turned, after_turn, after_turns, departed, leaving, after_leaving, IsLowPlan, Own, Plan, own_plan, item_of, IsLowOwn, standing, after_own, goes, standing_at}
+use Rattle.queue_table.specs.Tabled.{IsTabled}
+use Rattle.queue_table.proofs.Tabled.{nowhere-standing, has-occurs, stands}
+use Rattle.queue_table.specs.declared.moves.Accessed.{Accessed}
+use Rattle.queue_table.specs.Undoing.{IsAccessed}
 use Rattle.policy_pages.specs.Plans.{resident_plan, miss_plan, IsWithin, IsPlannedWithin}
 use Rattle.policy_pages.specs.Leavers.{Leavers}
 use Rattle.policy_pages.specs.PolicyPage.{LeavesNone, LeavesWhere}

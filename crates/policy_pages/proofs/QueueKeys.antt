@@ -6,9 +6,10 @@ use Rattle.std.proofs.lemmas.Bool.{lt-ltb}
 use Rattle.engine_base.specs.Keys.{has_key, keys_without}
 use Rattle.queue_table.specs.Entries.{entry, entries_without}
 use Rattle.queue_table.specs.Queues.{Queues, with_queue, after_send}
-use Rattle.queue_moves.specs.Moves.{Entry, leaving, after_leaving, item_of}
-use Rattle.queue_moves.specs.Tabled.{IsTabled, keys_of, HasKeys, nodes_of}
-use Rattle.queue_moves.proofs.Tabled.{keys-taken, keys-append}
+use Rattle.queue_table.specs.declared.records.Entry.{Entry}
+use Rattle.queue_table.specs.Moves.{leaving, after_leaving, item_of}
+use Rattle.queue_table.specs.Tabled.{IsTabled, keys_of, HasKeys, nodes_of}
+use Rattle.queue_table.proofs.Tabled.{keys-taken, keys-append}
 use Rattle.policy_pages.specs.Ghost.{ghost_with}
 use Rattle.policy_pages.proofs.Ghost.{without-none, without-length}
 use Rattle.policy_pages.proofs.Leavers.{any-out, any-sent, ghost_entries}

@@ -7,9 +7,10 @@ use Rattle.engine_base.specs.Keys.{has_key}
 use Rattle.queue_table.specs.Entries.{occurrences, oldest_of, entries_counted}
 use Rattle.queue_table.specs.Queues.{QUEUES, Queues}
 use Rattle.queue_table.proofs.QueueLists.{with-queue-other, times-append, with-queue-same}
-use Rattle.queue_moves.specs.Moves.{Entry, after_turn, after_turns, item_of, count_or, turns_due}
-use Rattle.queue_moves.specs.Tabled.{IsTabled, nodes_of, StandsAs, keys_of as entry_keys}
-use Rattle.queue_moves.proofs.Tabled.{turns-within, has-occurs, same-key, counted-none, tabled-turn, turn-is, turn-none}
+use Rattle.queue_table.specs.declared.records.Entry.{Entry}
+use Rattle.queue_table.specs.Moves.{after_turn, after_turns, item_of, count_or, turns_due}
+use Rattle.queue_table.specs.Tabled.{IsTabled, nodes_of, StandsAs, keys_of as entry_keys}
+use Rattle.queue_table.proofs.Tabled.{turns-within, has-occurs, same-key, counted-none, tabled-turn, turn-is, turn-none}
 use Rattle.policy_pages.specs.QueueView.{counted_keys, counted_key}
 use Rattle.policy_pages.specs.CountedKeys.{CountedKey, keys_of, count_of, with_count, oldest_count, total_count}
 use Rattle.policy_pages.proofs.Weights.{has-append}

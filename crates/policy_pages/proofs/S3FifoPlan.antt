@@ -12,10 +12,11 @@ use Rattle.policy_pages.proofs.CountedKeys.{length-keys, total-append, total-few
 use Rattle.policy_pages.proofs.S3FifoKeeping as page
 use Rattle.policy_pages.proofs.S3FifoKeeping.{made, IsMoved, unmoved, join-times, room-made, keeps}
 use Rattle.policy_pages.proofs.Turns.{turned-length}
-use Rattle.queue_moves.specs.Moves.{Entry, count_or, turns_due, leaving, after_leaving, evicted, outcome_after, after_run, Plan, item_of, standing, no_run, counts, goes, own_plan, after_runs, IsLowRun, IsLowOwn, IsLowPlan}
-use Rattle.queue_moves.specs.Moves as moves
-use Rattle.queue_moves.specs.Tabled.{IsTabled, keys_of, lowered_entry, StandsAs, HasKeys}
-use Rattle.queue_moves.proofs.Tabled.{tabled-turn, turn-is, stands, stands-nowhere, tabled-turns, tabled-runs, has-occurs}
+use Rattle.queue_table.specs.declared.records.Entry.{Entry}
+use Rattle.queue_table.specs.Moves.{count_or, turns_due, leaving, after_leaving, evicted, outcome_after, after_run, Plan, item_of, standing, no_run, counts, goes, own_plan, after_runs, IsLowRun, IsLowOwn, IsLowPlan}
+use Rattle.queue_table.specs.Moves as moves
+use Rattle.queue_table.specs.Tabled.{IsTabled, keys_of, lowered_entry, StandsAs, HasKeys}
+use Rattle.queue_table.proofs.Tabled.{tabled-turn, turn-is, stands, stands-nowhere, tabled-turns, tabled-runs, has-occurs}
 use Rattle.policy_pages.specs.QueueView.{counted_keys}
 use Rattle.policy_pages.specs.Plans.{Run, run_plan, IsPlannedBy}
 use Rattle.policy_pages.specs.Leavers.{after_leavers, leavers_for_ghost, Leavers, no_leavers, one_leaver}

@@ -8,9 +8,10 @@ use Rattle.queue_table.proofs.QueueLists.{with-queue-same, with-queue-other, IsA
 use Rattle.policy_pages.specs.CountedKeys.{AreCounted, total_count, oldest_count}
 use Rattle.policy_pages.specs.Sieve.{SieveState, after_wrap, after_pass, pass_count_within, pass_count, after_passes, Outcome, sieve_residents, sieve_with_key, sieve_eviction, HasAhead, IsSieve, sieve_with_count}
 use Rattle.policy_pages.proofs.SieveKeeping.{whole, past-total, keeps}
-use Rattle.queue_moves.specs.Moves.{Entry, count_or, after_turn, after_turns, turns_due, item_of, standing, evicted, departed, counts, goes, leaving, Plan, after_run, after_leaving}
-use Rattle.queue_moves.specs.Tabled.{IsTabled}
-use Rattle.queue_moves.proofs.Tabled.{tabled-turn, turn-is, oldest-gone, tabled-turns}
+use Rattle.queue_table.specs.declared.records.Entry.{Entry}
+use Rattle.queue_table.specs.Moves.{count_or, after_turn, after_turns, turns_due, item_of, standing, evicted, departed, counts, goes, leaving, Plan, after_run, after_leaving}
+use Rattle.queue_table.specs.Tabled.{IsTabled}
+use Rattle.queue_table.proofs.Tabled.{tabled-turn, turn-is, oldest-gone, tabled-turns}
 use Rattle.policy_pages.specs.SievePlan.{passed_queue, sieve_of, queue_ahead, pass_run, after_early, ahead_late, after_late, after_leaver, ahead_new, sieve_eviction_plan, sieve_page, Run}
 use Rattle.policy_pages.specs.QueueView.{counted_keys}
 use Rattle.policy_pages.proofs.QueueView.{counted-append, length-counted, oldest-counted, key-both, counted-with, both-counted, both-length as shown-length}
@@ -22,7 +23,7 @@ use Rattle.policy_pages.specs.Plans.{IsWithin, resident_plan, IsPlannedWithin, l
 use Rattle.policy_pages.specs.PolicyPage.{IsPlannedPage, IsSoundPage}
 use Rattle.policy_pages.proofs.Plans.{resident-alone, resident-full, not-less, resident-planned, first-count, first-send, first-turns, first-out}
 use Rattle.policy_pages.proofs.Leavers.{absent-turns, any-out}
-use Rattle.queue_moves.proofs.Runs.{turns-stop}
+use Rattle.queue_table.proofs.Runs.{turns-stop}
 
 -- ---- the hand of SIEVE by runs from the queue ahead of it to the other one
 

@@ -8,9 +8,10 @@ use Rattle.queue_table.specs.Queues.{with_queue, QUEUES, Queues, after_send}
 use Rattle.policy_pages.specs.TwoQ.{TwoQLeaver, NoLeaver, FromA1in, FromAm, TwoQState, two_q_residents, leaver_of_a1in, leaver_of_am, two_q_after_recall, two_q_after_eviction, two_q_after_join, two_q_outcome, two_q_act, IsTwoQ}
 use Rattle.policy_pages.proofs.Ghost.{without-none}
 use Rattle.policy_pages.proofs.Weights.{has-append}
-use Rattle.queue_moves.specs.Moves.{Entry, item_of, standing, leaving, evicted, outcome_after, stays, goes, own_plan}
-use Rattle.queue_moves.specs.Tabled.{HasKeys, IsTabled, keys_of, StandsAs}
-use Rattle.queue_moves.proofs.Tabled.{stands, stands-nowhere}
+use Rattle.queue_table.specs.declared.records.Entry.{Entry}
+use Rattle.queue_table.specs.Moves.{item_of, standing, leaving, evicted, outcome_after, stays, goes, own_plan}
+use Rattle.queue_table.specs.Tabled.{HasKeys, IsTabled, keys_of, StandsAs}
+use Rattle.queue_table.proofs.Tabled.{stands, stands-nowhere}
 use Rattle.policy_pages.specs.Plans.{IsPlannedBy, miss_plan}
 use Rattle.policy_pages.specs.Leavers.{Leavers, no_leavers, one_leaver, leavers_for_ghost, after_leavers}
 use Rattle.policy_pages.specs.TwoQPlan.{TwoQSizes, A1IN, A1OUT, AM, two_q_of, joins, two_q_miss, plan_at, two_q_page}

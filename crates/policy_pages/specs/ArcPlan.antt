@@ -4,8 +4,8 @@ use Rattle.std.specs.Prelude.{if◌then◌else◌, Option, Some, None, List, [],
 use Rattle.queue_table.specs.Queues.{Queues}
 use Rattle.segments.specs.NamedQueue.{NamedQueueData, plain_queue}
 use Rattle.policy_pages.specs.Arc.{ArcState, empty_arc, arc_residents, arc_act, IsArc}
-use Rattle.queue_moves.specs.Moves.{item_of, standing, Leaving, leaving, goes, Plan, own_plan}
-use Rattle.queue_moves.specs.Tabled.{keys_of}
+use Rattle.queue_table.specs.Moves.{item_of, standing, Leaving, leaving, goes, Plan, own_plan}
+use Rattle.queue_table.specs.Tabled.{keys_of}
 use Rattle.policy_pages.specs.Leavers.{Leavers, no_leavers}
 use Rattle.policy_pages.specs.Plans.{miss_plan}
 use Rattle.policy_pages.specs.PolicyPage.{PolicyPage}

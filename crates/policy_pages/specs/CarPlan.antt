@@ -6,10 +6,10 @@ use Rattle.std.specs.Prelude.{Option, Some, None, List, [], ◌∷◌, codes, le
 use Rattle.queue_table.specs.Queues.{Queues}
 use Rattle.segments.specs.NamedQueue.{NamedQueueData, plain_queue}
 use Rattle.policy_pages.specs.Car.{CarState, empty_car, car_residents, car_act, IsCar}
-pub use Rattle.queue_moves.specs.declared.records.Run.{Run}
-use Rattle.queue_moves.specs.Moves.{item_of, standing, run, turns_due, after_run, Leaving, leaving, after_leaving}
-use Rattle.queue_moves.specs.Moves.{Own, counts, goes, Plan, own_plan}
-use Rattle.queue_moves.specs.Tabled.{keys_of}
+pub use Rattle.queue_table.specs.declared.moves.Run.{Run}
+use Rattle.queue_table.specs.Moves.{item_of, standing, run, turns_due, after_run, Leaving, leaving, after_leaving}
+use Rattle.queue_table.specs.Moves.{Own, counts, goes, Plan, own_plan}
+use Rattle.queue_table.specs.Tabled.{keys_of}
 use Rattle.policy_pages.specs.QueueView.{counted_keys, counted_queue}
 use Rattle.policy_pages.specs.Plans.{run_plan}
 use Rattle.policy_pages.specs.PolicyPage.{PolicyPage}

@@ -1,10 +1,10 @@
 -- What the calls owe by which a key leaves, and by which another one joins.
 use Rattle.std.specs.Prelude.{◌≡◌, ℕ, ◌≤◌, Option}
 use Rattle.queue_table.specs.Queues.{Item, Queues}
-use Rattle.queue_moves.specs.Moves.{Leaving, after_leaving, Own}
-use Rattle.queue_moves.specs.declared.records.KeyMove.{KeyMove}
-use Rattle.queue_moves.specs.declared.records.Left.{Left}
-use Rattle.queue_moves.specs.Undoing.{outs, IsRun, IsLeft, IsOwn}
+use Rattle.queue_table.specs.Moves.{Leaving, after_leaving, Own}
+use Rattle.queue_table.specs.declared.moves.KeyMove.{KeyMove}
+use Rattle.queue_table.specs.declared.moves.Left.{Left}
+use Rattle.queue_table.specs.Undoing.{outs, IsRun, IsLeft, IsOwn}
 use Rattle.policy_pages.specs.declared.car.Replaced.{Replaced}
 use Rattle.policy_pages.specs.CarPlan.{promotions, after_promotions, giver, giver_turns, after_giver_turns, leaver}
 

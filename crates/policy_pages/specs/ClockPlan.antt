@@ -4,7 +4,7 @@ use Rattle.queue_table.specs.Queues.{Queues}
 use Rattle.segments.specs.NamedQueue.{NamedQueueData}
 use Rattle.policy_pages.specs.CountedKeys.{CountedKey, keys_of}
 use Rattle.policy_pages.specs.Clock.{clock_act, IsClock}
-use Rattle.queue_moves.specs.Moves.{item_of, standing, run, no_run, turns_due, leaving, counts, goes, Plan}
+use Rattle.queue_table.specs.Moves.{item_of, standing, run, no_run, turns_due, leaving, counts, goes, Plan}
 use Rattle.policy_pages.specs.QueueView.{counted_keys, counted_queue}
 use Rattle.policy_pages.specs.Plans.{IsWithin, leaver_plan, resident_plan}
 use Rattle.policy_pages.specs.PolicyPage.{PolicyPage}

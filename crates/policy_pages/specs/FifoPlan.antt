@@ -4,8 +4,8 @@ use Rattle.queue_table.specs.Queues.{Queues}
 use Rattle.segments.specs.NamedQueue.{NamedQueueData, plain_queue}
 use Rattle.policy_pages.specs.Fifo.{fifo_act}
 use Rattle.policy_pages.specs.Residents.{AreResidents}
-use Rattle.queue_moves.specs.Moves.{item_of, standing, no_run, leaving, stays, goes, Plan}
-use Rattle.queue_moves.specs.Tabled.{keys_of}
+use Rattle.queue_table.specs.Moves.{item_of, standing, no_run, leaving, stays, goes, Plan}
+use Rattle.queue_table.specs.Tabled.{keys_of}
 use Rattle.policy_pages.specs.Plans.{IsWithin, leaver_plan, resident_plan}
 use Rattle.policy_pages.specs.PolicyPage.{PolicyPage}
 

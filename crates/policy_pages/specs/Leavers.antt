@@ -1,9 +1,9 @@
 -- The keys that leave their queues at a miss, and the accessed key that moves then.
 use Rattle.std.specs.Prelude.{ℕ, ◌+◌, ◌≤◌, nat_lt, ◌||◌, Bool, if◌then◌else◌, Option, Some, None, length}
 use Rattle.queue_table.specs.Queues.{Item, Queues}
-use Rattle.queue_moves.specs.declared.records.KeyMove.{KeyMove}
-use Rattle.queue_moves.specs.Moves.{Leaving, leaving, after_leaving, Own}
-use Rattle.queue_moves.specs.Undoing.{outs, IsLeft, IsOwn}
+use Rattle.queue_table.specs.declared.moves.KeyMove.{KeyMove}
+use Rattle.queue_table.specs.Moves.{Leaving, leaving, after_leaving, Own}
+use Rattle.queue_table.specs.Undoing.{outs, IsLeft, IsOwn}
 use Rattle.policy_pages.specs.declared.accesses.LeftKeys.{LeftKeys}
 
 -- in turn

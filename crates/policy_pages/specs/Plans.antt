@@ -1,9 +1,9 @@
 -- Plans of policies that keep each missed key, and what it is that a plan is the access of a policy's definition.
 use Rattle.std.specs.Prelude.{◌≡◌, ℕ, ◌≤◌, Bool, [], true, false, if◌then◌else◌, Option, Some, None}
 use Rattle.queue_table.specs.Queues.{Queues}
-pub use Rattle.queue_moves.specs.declared.records.Run.{Run}
-use Rattle.queue_moves.specs.Moves.{Outcome, item_of, no_run, Leaving, Own, Plan, own_plan}
-use Rattle.queue_moves.specs.Moves.{after_all, outcome_of, IsLowPlan}
+pub use Rattle.queue_table.specs.declared.moves.Run.{Run}
+use Rattle.queue_table.specs.Moves.{Outcome, item_of, no_run, Leaving, Own, Plan, own_plan}
+use Rattle.queue_table.specs.Moves.{after_all, outcome_of, IsLowPlan}
 use Rattle.policy_pages.specs.Leavers.{Leavers}
 
 -- an access to a key by where it stands, and by whether there is room for one more

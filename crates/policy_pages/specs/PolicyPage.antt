@@ -4,8 +4,8 @@ use Rattle.engine_base.specs.Keys.{has_key}
 use Rattle.engine_base.specs.Machine.{Machine}
 use Rattle.queue_table.specs.Queues.{Queues, empty_queues}
 use Rattle.policy_pages.specs.Residents.{Outcome, KeepsResidents}
-use Rattle.queue_moves.specs.Moves.{item_of, Plan, after_all}
-use Rattle.queue_moves.specs.Tabled.{IsTabled, keys_of}
+use Rattle.queue_table.specs.Moves.{item_of, Plan, after_all}
+use Rattle.queue_table.specs.Tabled.{IsTabled, keys_of}
 use Rattle.segments.specs.NamedQueue.{NamedQueueData}
 use Rattle.policy_pages.specs.Plans.{IsPlannedBy}
 

@@ -8,10 +8,10 @@ use Rattle.queue_table.specs.Queues.{Queues}
 use Rattle.segments.specs.NamedQueue.{NamedQueueData, plain_queue}
 use Rattle.policy_pages.specs.S3Fifo.{S3FifoState, s3_fifo_main_size, hit_count}
 use Rattle.policy_pages.specs.S3Fifo.{empty_s3_fifo, s3_fifo_residents, s3_fifo_act, IsS3Fifo}
-pub use Rattle.queue_moves.specs.declared.records.Run.{Run}
-use Rattle.queue_moves.specs.Moves.{item_of, standing, run, no_run, turns_due, after_run, leaving, counts, goes}
-use Rattle.queue_moves.specs.Moves.{Plan, own_plan}
-use Rattle.queue_moves.specs.Tabled.{keys_of}
+pub use Rattle.queue_table.specs.declared.moves.Run.{Run}
+use Rattle.queue_table.specs.Moves.{item_of, standing, run, no_run, turns_due, after_run, leaving, counts, goes}
+use Rattle.queue_table.specs.Moves.{Plan, own_plan}
+use Rattle.queue_table.specs.Tabled.{keys_of}
 use Rattle.policy_pages.specs.QueueView.{counted_keys, counted_queue}
 use Rattle.policy_pages.specs.Leavers.{one_leaver, leavers_for_ghost}
 use Rattle.policy_pages.specs.Plans.{run_plan}

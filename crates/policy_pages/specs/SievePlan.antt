@@ -5,9 +5,9 @@ use Rattle.queue_table.specs.Queues.{Queues}
 use Rattle.segments.specs.NamedQueue.{NamedQueueData}
 use Rattle.policy_pages.specs.Queues.{is_empty}
 use Rattle.policy_pages.specs.Sieve.{SieveState, empty_sieve, sieve_residents, sieve_act, IsSieve}
-pub use Rattle.queue_moves.specs.declared.records.Run.{Run}
-use Rattle.queue_moves.specs.Moves.{item_of, standing, run, turns_due, after_run, leaving, after_leaving, counts, goes}
-use Rattle.queue_moves.specs.Moves.{Plan}
+pub use Rattle.queue_table.specs.declared.moves.Run.{Run}
+use Rattle.queue_table.specs.Moves.{item_of, standing, run, turns_due, after_run, leaving, after_leaving, counts, goes}
+use Rattle.queue_table.specs.Moves.{Plan}
 use Rattle.policy_pages.specs.QueueView.{counted_keys, counted_queue}
 use Rattle.policy_pages.specs.Plans.{IsWithin, leaver_plan, resident_plan}
 use Rattle.policy_pages.specs.PolicyPage.{PolicyPage}

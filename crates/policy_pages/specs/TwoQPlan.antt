@@ -5,8 +5,8 @@ use Rattle.queue_table.specs.Queues.{Queues}
 use Rattle.segments.specs.NamedQueue.{NamedQueueData, plain_queue}
 pub use Rattle.policy_pages.specs.declared.two_q.TwoQSizes.{TwoQSizes}
 use Rattle.policy_pages.specs.TwoQ.{TwoQState, empty_two_q, two_q_residents, two_q_act, IsTwoQ}
-use Rattle.queue_moves.specs.Moves.{item_of, standing, leaving, stays, goes, Plan, own_plan}
-use Rattle.queue_moves.specs.Tabled.{keys_of}
+use Rattle.queue_table.specs.Moves.{item_of, standing, leaving, stays, goes, Plan, own_plan}
+use Rattle.queue_table.specs.Tabled.{keys_of}
 use Rattle.policy_pages.specs.Leavers.{Leavers, no_leavers, one_leaver, leavers_for_ghost}
 use Rattle.policy_pages.specs.Plans.{miss_plan}
 use Rattle.policy_pages.specs.PolicyPage.{PolicyPage}

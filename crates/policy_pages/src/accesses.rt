@@ -1,13 +1,13 @@
 //! Accesses of a policy that keeps each missed key, from the parts of their plans that were carried out.
 ghost use Rattle.std.specs.Prelude.{◌≡◌, ◌≤◌, ℕ, Option, true, false};
 ghost use Rattle.queue_table.specs.Queues.{Item, Queues};
-ghost use Rattle.queue_moves.specs.Moves.{Leaving, Own, own_plan};
-ghost use Rattle.queue_moves.specs.Undoing.{IsRun, IsLeft, IsOwn, IsAccessed, outs};
+ghost use Rattle.queue_table.specs.Moves.{Leaving, Own, own_plan};
+ghost use Rattle.queue_table.specs.Undoing.{IsRun, IsLeft, IsOwn, IsAccessed, outs};
 ghost use Rattle.policy_pages.specs.Leavers.{Leavers, one_leaver, AreLeft};
 ghost use Rattle.policy_pages.specs.Plans.{Run, run_plan, miss_plan, leaver_plan};
 
 use engine_base::Outcome;
-use queue_moves::{Accessed, KeyMove, Left, Moves, Run};
+use queue_table::{Accessed, KeyMove, Left, Moves, Run};
 
 /// A hit.
 #[inline(always)]

@@ -7,8 +7,9 @@ ghost use Rattle.engine_base.specs.declared.limits.TheConstants.{MAX_CAPACITY};
 ghost use Rattle.queue_table.specs.Entries.{entry, occurrences};
 ghost use Rattle.queue_table.specs.Queues.{queue_holding};
 ghost use Rattle.queue_table.specs.QueueTable.{queues, spare, HoldsAt};
-ghost use Rattle.queue_moves.specs.Moves.{Entry, item_of, goes};
-ghost use Rattle.queue_moves.specs.Undoing.{IsLeft, IsAccessed, outs};
+ghost use Rattle.queue_table.specs.declared.records.Entry.{Entry};
+ghost use Rattle.queue_table.specs.Moves.{item_of, goes};
+ghost use Rattle.queue_table.specs.Undoing.{IsLeft, IsAccessed, outs};
 ghost use Rattle.policy_pages.specs.Arc.{IsArc};
 ghost use Rattle.policy_pages.specs.Plans.{miss_plan};
 ghost use Rattle.policy_pages.specs.ArcPlan.{T1, T2, B1, B2, arc_of, total, step_size, replaced, full_l1_leavers};
@@ -16,8 +17,7 @@ ghost use Rattle.policy_pages.specs.ArcPlan.{open_l1_leavers, new_key_plan, reca
 ghost use Rattle.policy_pages.specs.ArcExamples.{WorkedExamples};
 
 use crate::accesses::{LeftKeys, hit, miss_without_runs};
-use queue_moves::{Accessed, KeyName, KeyQueues, Left};
-use queue_table::Found;
+use queue_table::{Accessed, Found, KeyName, KeyQueues, Left};
 use std::alloc::AllocError;
 
 const T1: u8 = 0;

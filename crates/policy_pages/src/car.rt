@@ -6,8 +6,9 @@ ghost use Rattle.engine_base.specs.declared.limits.TheConstants.{MAX_CAPACITY};
 ghost use Rattle.queue_table.specs.Entries.{entry, occurrences};
 ghost use Rattle.queue_table.specs.Queues.{queue_holding};
 ghost use Rattle.queue_table.specs.QueueTable.{queues, spare, HoldsAt};
-ghost use Rattle.queue_moves.specs.Moves.{Entry, item_of, goes};
-ghost use Rattle.queue_moves.specs.Undoing.{IsAccessed};
+ghost use Rattle.queue_table.specs.declared.records.Entry.{Entry};
+ghost use Rattle.queue_table.specs.Moves.{item_of, goes};
+ghost use Rattle.queue_table.specs.Undoing.{IsAccessed};
 ghost use Rattle.policy_pages.specs.Car.{IsCar};
 ghost use Rattle.policy_pages.specs.CarPlan.{T1, T2, car_of, giver, forgotten, target_after, is_resident};
 ghost use Rattle.policy_pages.specs.CarPlan.{new_key_plan, recall_plan, car_plan};
@@ -15,8 +16,7 @@ ghost use Rattle.policy_pages.specs.CarStep.{IsReplaced, IsJoined};
 ghost use Rattle.policy_pages.specs.CarExamples.{WorkedExamples};
 
 use crate::accesses::{LeftKeys, hit, kept, miss_after_runs};
-use queue_moves::{Accessed, KeyMove, KeyName, KeyQueues, Left, Run};
-use queue_table::Found;
+use queue_table::{Accessed, Found, KeyMove, KeyName, KeyQueues, Left, Run};
 use std::alloc::AllocError;
 
 const T1: u8 = 0;

@@ -4,8 +4,8 @@
 ghost use Rattle.std.specs.Prelude.{◌≡◌, ◌≤◌, ℕ, List, false, None, IfOk, OnErr};
 ghost use Rattle.queue_table.specs.Queues.{queue_holding};
 ghost use Rattle.queue_table.specs.QueueTable.{queues, spare};
-ghost use Rattle.queue_moves.specs.Moves.{item_of};
-ghost use Rattle.queue_moves.specs.Undoing.{IsAccessed};
+ghost use Rattle.queue_table.specs.Moves.{item_of};
+ghost use Rattle.queue_table.specs.Undoing.{IsAccessed};
 ghost use Rattle.policy_pages.specs.ClockPlan.{clock_plan, clock_eviction_plan};
 ghost use Rattle.policy_pages.specs.CountedKeys.{CountedKey, oldest_count};
 ghost use Rattle.policy_pages.specs.Turns.{turn_count, after_turns};
@@ -13,7 +13,7 @@ ghost use Rattle.policy_pages.specs.Clock.{IsClock};
 ghost use Rattle.policy_pages.specs.ClockExamples.{WorkedExamples};
 
 use crate::accesses::{evicted, hit, kept};
-use queue_moves::{Accessed, KeyName, KeyQueues, Run};
+use queue_table::{Accessed, KeyName, KeyQueues, Run};
 use std::alloc::AllocError;
 
 const QUEUE: u8 = 0;

@@ -3,13 +3,13 @@
 
 ghost use Rattle.std.specs.Prelude.{◌≡◌, false, IfOk, OnErr};
 ghost use Rattle.queue_table.specs.QueueTable.{queues};
-ghost use Rattle.queue_moves.specs.Moves.{item_of};
-ghost use Rattle.queue_moves.specs.Undoing.{IsAccessed};
+ghost use Rattle.queue_table.specs.Moves.{item_of};
+ghost use Rattle.queue_table.specs.Undoing.{IsAccessed};
 ghost use Rattle.policy_pages.specs.FifoPlan.{fifo_plan};
 ghost use Rattle.policy_pages.specs.FifoExamples.{WorkedExamples};
 
 use crate::accesses::{evicted, hit, kept};
-use queue_moves::{Accessed, KeyMove, KeyName, KeyQueues, Run};
+use queue_table::{Accessed, KeyMove, KeyName, KeyQueues, Run};
 use std::alloc::AllocError;
 
 const QUEUE: u8 = 0;

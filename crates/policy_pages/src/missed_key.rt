@@ -3,14 +3,13 @@ ghost use Rattle.std.specs.Prelude.{◌≡◌, ◌<◌, ◌≤◌, ◌||◌, nat
 ghost use Rattle.queue_table.specs.Entries.{occurrences};
 ghost use Rattle.queue_table.specs.Queues.{QUEUES};
 ghost use Rattle.queue_table.specs.QueueTable.{queues};
-ghost use Rattle.queue_moves.specs.Moves.{item_of, leaving, after_leaving, goes};
-ghost use Rattle.queue_moves.specs.Undoing.{IsLeft, IsOwn, outs};
+ghost use Rattle.queue_table.specs.Moves.{item_of, leaving, after_leaving, goes};
+ghost use Rattle.queue_table.specs.Undoing.{IsLeft, IsOwn, outs};
 ghost use Rattle.policy_pages.specs.Leavers.{leavers_for_ghost, IsEntered};
 ghost use Rattle.policy_pages.specs.MissedKey.{CanEnter};
 
 use crate::accesses::LeftKeys;
-use queue_moves::{KeyMove, KeyName, KeyQueues, Left};
-use queue_table::Found;
+use queue_table::{Found, KeyMove, KeyName, KeyQueues, Left};
 
 /// The key goes to the recent end of a queue. One that stands nowhere takes room.
 ///

@@ -6,8 +6,8 @@ ghost use Rattle.engine_base.specs.declared.limits.TheConstants.{MAX_CAPACITY};
 ghost use Rattle.queue_table.specs.Queues.{Queues};
 ghost use Rattle.queue_table.specs.QueueTable.{queues};
 ghost use Rattle.policy_pages.specs.S3Fifo.{s3_fifo_main_size, hit_count, IsS3Fifo};
-ghost use Rattle.queue_moves.specs.Moves.{item_of};
-ghost use Rattle.queue_moves.specs.Undoing.{IsRun, IsAccessed};
+ghost use Rattle.queue_table.specs.Moves.{item_of};
+ghost use Rattle.queue_table.specs.Undoing.{IsRun, IsAccessed};
 ghost use Rattle.policy_pages.specs.MissedKey.{IsOutside};
 ghost use Rattle.policy_pages.specs.S3FifoPlan.{SMALL as SmallQueue, MAIN as MainQueue, GHOST as GhostQueue, s3_fifo_of};
 ghost use Rattle.policy_pages.specs.S3FifoPlan.{joins, gives_main, eviction_plan, is_resident, s3_fifo_miss, s3_fifo_plan};
@@ -15,8 +15,7 @@ ghost use Rattle.policy_pages.specs.S3FifoExamples.{WorkedExamples};
 
 use crate::accesses::{LeftKeys, hit, kept, miss_after_runs};
 use crate::missed_key::{enter_apart, enter_for_oldest, enter_for_remembered};
-use queue_moves::{Accessed, KeyName, KeyQueues, Run};
-use queue_table::Found;
+use queue_table::{Accessed, Found, KeyName, KeyQueues, Run};
 use std::alloc::AllocError;
 
 const SMALL: u8 = 0;

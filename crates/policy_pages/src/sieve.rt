@@ -5,8 +5,8 @@ ghost use Rattle.std.specs.Prelude.{◌≡◌, ◌≤◌, ◌+◌, ℕ, List, tr
 ghost use Rattle.queue_table.specs.Entries.{oldest_of};
 ghost use Rattle.queue_table.specs.Queues.{Queues, queue_holding};
 ghost use Rattle.queue_table.specs.QueueTable.{queues, spare};
-ghost use Rattle.queue_moves.specs.Moves.{item_of, count_or, leaving, after_leaving};
-ghost use Rattle.queue_moves.specs.Undoing.{IsRun, IsAccessed};
+ghost use Rattle.queue_table.specs.Moves.{item_of, count_or, leaving, after_leaving};
+ghost use Rattle.queue_table.specs.Undoing.{IsRun, IsAccessed};
 ghost use Rattle.policy_pages.specs.SievePlan.{queue_ahead, pass_run, sieve_plan, sieve_eviction_plan};
 ghost use Rattle.policy_pages.specs.CountedKeys.{oldest_count};
 ghost use Rattle.engine_base.specs.Machine.{outcomes_of_all};
@@ -15,7 +15,7 @@ ghost use Rattle.policy_pages.specs.SieveListing.{empty_listing, listing_act};
 ghost use Rattle.policy_pages.specs.SieveExamples.{WorkedExamples};
 
 use crate::accesses::{evicted, hit, kept};
-use queue_moves::{Accessed, KeyName, KeyQueues, Run};
+use queue_table::{Accessed, KeyName, KeyQueues, Run};
 use std::alloc::AllocError;
 
 /// An access to a key: a hit sets its visited bit; in a full cache the hand passes over the keys whose bits are set,

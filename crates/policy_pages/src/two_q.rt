@@ -3,16 +3,15 @@
 
 ghost use Rattle.std.specs.Prelude.{◌≡◌, ◌≤◌, nat_lt, ◌==◌, ◌||◌, false, length, IfOk, OnErr};
 ghost use Rattle.queue_table.specs.QueueTable.{queues};
-ghost use Rattle.queue_moves.specs.Moves.{item_of};
-ghost use Rattle.queue_moves.specs.Undoing.{IsAccessed};
+ghost use Rattle.queue_table.specs.Moves.{item_of};
+ghost use Rattle.queue_table.specs.Undoing.{IsAccessed};
 ghost use Rattle.policy_pages.specs.MissedKey.{IsOutside};
 ghost use Rattle.policy_pages.specs.TwoQPlan.{A1IN, A1OUT, AM, joins, two_q_miss, two_q_plan};
 ghost use Rattle.policy_pages.specs.TwoQExamples.{WorkedExamples};
 
 use crate::accesses::{LeftKeys, hit, kept, miss_without_runs};
 use crate::missed_key::{enter_apart, enter_for_oldest, enter_for_remembered};
-use queue_moves::{Accessed, KeyMove, KeyName, KeyQueues};
-use queue_table::Found;
+use queue_table::{Accessed, Found, KeyMove, KeyName, KeyQueues};
 use std::alloc::AllocError;
 
 const A1IN: u8 = 0;

@@ -10,3 +10,10 @@ pub mod Prefix
 pub mod Reading
 pub mod Windows
 pub mod FenwickTree
+pub mod Climbing
+pub mod Protected
+pub mod SizeChanges
+pub mod Steps
+pub mod Keeping
+pub mod Worked
+pub mod Fitting

@@ -16,3 +16,12 @@ pub mod FenwickTree
 pub mod Histogram
 pub mod Curve
 pub mod Window
+pub mod Climber
+pub mod Resizing
+pub mod AdaptiveWindow
+pub mod WindowRecord
+pub mod AdaptiveCache
+pub mod Residents
+pub mod AdaptiveTheorems
+pub mod Steps
+pub mod AdaptiveExamples

@@ -8,6 +8,11 @@
 //! also the last distinct keys (`specs/Lru.antt`). The promises stand as the theorems below, over the steps alone, so
 //! that they reach callers that see a cache through a session.
 //!
+//! With an adaptive window ([`AdaptiveCache`]) the size of W-TinyLFU's window follows the hits, as in Caffeine: a hill
+//! climber (the one of Caffeine's BoundedLocalCache, in whole numbers) says how large the window is to be, and the window
+//! goes there at once, by 1,000 entries in an access at most. Each access is that of a fixed window of the size in force
+//! (`specs/AdaptiveWindow.antt`). The rules of the climber are a parameter of what `adaptive_theorems` says.
+//!
 //! Without a cache Lru takes one pass over a trace for all capacities, by stack distances (Mattson, Gecsei, Slutz and
 //! Traiger, "Evaluation techniques for storage hierarchies", 1970): a cache of capacity c holds the c keys that were accessed
 //! last, so a larger cache holds what a smaller one does, and each access has one number, its stack distance, that decides at
@@ -22,6 +27,10 @@
 //! Making either asks for memory, and so does a pass over the reuses: a bit for each access.
 #![tactic(auto)]
 
+mod adaptive_cache;
+pub mod adaptive_theorems;
+mod adaptive_window;
+mod climber;
 mod curve;
 mod design;
 pub mod distance_theorems;
@@ -33,19 +42,26 @@ mod lru;
 mod marks;
 mod queue_cache;
 mod record;
+mod resizing;
 mod reuses;
 mod segmented_lru;
 pub mod theorems;
 mod tiny_lfu;
 mod window;
+mod window_record;
 mod window_tiny_lfu;
 
+pub use adaptive_cache::{AdaptiveCache, AdaptiveRecord, COLUMNS};
+pub use adaptive_window::AdaptiveWindow;
+pub use climber::{ClimbRules, Climber};
 pub use curve::Curve;
 pub use design::{Layout, QueueDesign, QueueSetup};
 pub use lru::{Lru, LruMark};
 pub use queue_cache::{AnyDesign, QueueCache};
 pub use record::AccessRecord;
+pub use resizing::MAX_SIZE_CHANGE;
 pub use reuses::Reuses;
 pub use segmented_lru::{SegmentedLru, SegmentedLruMark};
 pub use tiny_lfu::{TinyLfu, TinyLfuMark};
+pub use window_record::{SizeChange, WindowRecord};
 pub use window_tiny_lfu::{WindowTinyLfu, WindowTinyLfuMark};

@@ -35,7 +35,6 @@ const AHEAD_FROM_WHERE_COUNTING: usize = 4096;
 pub struct AnyDesign;
 
 /// A cache of a policy of queues. `P` marks the types of single policies, as `Lru`, and is nothing to the cache.
-#[derive(Drop)]
 pub struct QueueCache<P = AnyDesign> {
     setup: QueueSetup,
     rules: Rules,
@@ -43,6 +42,19 @@ pub struct QueueCache<P = AnyDesign> {
     frequency: Option<Frequency>,
     stats: Stats,
     policy: PhantomData<P>,
+}
+
+impl<P> Drop for QueueCache<P> {
+    fn drop(self) {
+        let QueueCache {
+            setup: _,
+            rules: _,
+            segments: _,
+            frequency: _,
+            stats: _,
+            policy: _,
+        } = self;
+    }
 }
 
 impl<P> Model for QueueCache<P> {

@@ -13,7 +13,7 @@ use Rattle.queue_table.proofs.Contents.{alone, placed-at, has-entry}
 use Rattle.queue_table.proofs.Indexing.{same-map}
 use Rattle.queue_table.proofs.Growing.{written-entry, other-entry, same-items, keeps-others}
 use Rattle.queue_table.proofs.Kept.{kept-on}
-use Rattle.queue_table.proofs.Moves.{IsLoose}
+use Rattle.queue_table.proofs.Moving.{IsLoose}
 use Rattle.std.specs.List.{Contains}
 use Rattle.queue_table.proofs.Holding.{tag-stands, tag-low}
 

@@ -16,5 +16,10 @@ pub mod Tables
 pub mod Growing
 pub mod Calls
 pub mod Kept
-pub mod Moves
+pub mod Moving
 pub mod Counting
+pub mod Laws
+pub mod Runs
+pub mod Carried
+pub mod Tabled
+pub mod Beside

@@ -7,3 +7,7 @@ pub mod Places
 pub mod Index
 pub mod Walks
 pub mod QueueTable
+pub mod Moves
+pub mod Undoing
+pub mod Tabled
+pub mod Lists

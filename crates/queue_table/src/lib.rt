@@ -23,16 +23,28 @@
 //!                              /       \        a bit of key and node a level says left or right
 //!                          6:A           10:D
 //! ```
+//!
+//! Above the table stand moves of keys between queues ([`KeyQueues`]). A policy says what an access does as a plan: runs of
+//! oldest keys, keys that leave the old end of a queue, and what becomes of the accessed key. Each call carries out one part
+//! of a plan and returns its part of the undo record; the whole record fits the queues after the access, and leads back to
+//! those before it. So a policy has no way back of its own.
 #![tactic(auto)]
 
 mod growth;
+mod key_name;
+mod key_queues;
 mod lengths;
 mod links;
+mod moves;
 mod queue_table;
 mod records;
 mod slot;
 mod slot_index;
+mod undo;
 
+pub use key_name::KeyName;
+pub use key_queues::KeyQueues;
+pub use moves::{Accessed, Change, Departure, KeyMove, Left, Moves, Run};
 pub use queue_table::{AHEAD, QueueTable, push_keys};
 pub use records::{Entry, Found, Place};
 pub use slot::{NarrowKey, TableItem};

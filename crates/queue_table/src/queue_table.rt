@@ -27,11 +27,20 @@ use std::marker::Model;
 
 /// Queues by number, each item once, with a count beside it. A call that works on an item takes its slot, as `find`,
 /// `oldest` and `newest` give it.
-#[derive(Drop)]
 pub struct QueueTable<K: TableItem = Item> {
     slots: Vec<K::Slot>,
     index: SlotIndex,
     lengths: Lengths,
+}
+
+impl<K: TableItem> Drop for QueueTable<K> {
+    fn drop(self) {
+        let QueueTable {
+            slots: _,
+            index: _,
+            lengths: _,
+        } = self;
+    }
 }
 
 impl<K: TableItem> Model for QueueTable<K> {
@@ -103,12 +112,17 @@ impl<K: TableItem> QueueTable<K> {
     pub fn widened(self, alloc: Global) -> Result<QueueTable<Key>, AllocError>
         ensures { IfOk result (λ wide. wide ≡ self) }
     {
-        let mut slots = Vec::new(alloc);
-        push_widened(&mut slots, &self.slots)?;
-        Ok(QueueTable {
+        let QueueTable {
             slots,
-            index: self.index,
-            lengths: self.lengths,
+            index,
+            lengths,
+        } = self;
+        let mut wide = Vec::new(alloc);
+        push_widened(&mut wide, &slots)?;
+        Ok(QueueTable {
+            slots: wide,
+            index,
+            lengths,
         })
     }
 

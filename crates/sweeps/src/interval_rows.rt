@@ -52,7 +52,5 @@ fn rows<R: Threads + Sync, G: Gate>(
 {
     let mut runs = JobRuns::open(alloc, trace, jobs, every)?;
     take_trace(rt, trace, &mut runs, gate)?;
-    let rows = runs.rows(alloc);
-    drop(runs);
-    rows
+    runs.rows(alloc)
 }

@@ -13,12 +13,22 @@ use std::alloc::{AllocError, Global};
 use step_record::{Job, Key, Trace};
 
 /// A cache of a job, with a row for each interval that is over.
-#[derive(Drop)]
 pub(crate) struct JobRun {
     pub(crate) job: Job,
     cache: AnyPolicy,
     current: CurrentInterval,
     rows: Vec<Interval>,
+}
+
+impl Drop for JobRun {
+    fn drop(self) {
+        let JobRun {
+            job: _,
+            cache: _,
+            current: _,
+            rows: _,
+        } = self;
+    }
 }
 
 impl Run for JobRun {

@@ -30,11 +30,8 @@ pub(crate) fn report_by_numbers<G: Gate>(
 {
     theorems::demand_ignores_names();
     let mut cache = DemandCache::<Number>::new(alloc, policy, job.config.capacity);
-    let made = access_in_batches(&mut cache, numbers.as_slice(), gate);
-    let stats = cache.stats();
-    drop(cache);
-    made?;
-    Ok(Report::of(job, stats))
+    access_in_batches(&mut cache, numbers.as_slice(), gate)?;
+    Ok(Report::of(job, cache.stats()))
 }
 
 // Makes the accesses in turn, in batches of `MAX_BATCH`. The gate is called before and after each, as worker 0, with the

@@ -26,7 +26,6 @@ const NUMBERS_FROM: usize = 4;
 
 /// A trace, with what several reports need, computed once: the next uses of its keys, for Lru the reuses or the curve,
 /// and for the policies that keep each missed key the keys' numbers.
-#[derive(Drop)]
 pub struct PreparedTrace<'a> {
     pub trace: &'a Trace,
     uses: Option<NextUse>,
@@ -37,6 +36,18 @@ pub struct PreparedTrace<'a> {
     ghost noted: { IfSome reuses (λ r. r ≡ trace.now) } by { Prim.hlevel props },
     ghost found: { IfSome curve (λ c. c ≡ curve_of trace.now) } by { Prim.hlevel props },
     ghost numbered: { IfSome numbers (λ n. n ≡ numbers_of trace.now) } by { Prim.hlevel props },
+}
+
+impl Drop for PreparedTrace<'_> {
+    fn drop(self) {
+        let PreparedTrace {
+            trace: _,
+            uses: _,
+            reuses: _,
+            curve: _,
+            numbers: _,
+        } = self;
+    }
 }
 
 impl<'a> PreparedTrace<'a> {

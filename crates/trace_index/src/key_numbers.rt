@@ -12,11 +12,16 @@ use std::collections::BTreeMap;
 
 /// A number for each key that was put. Nearly all have theirs in a table; those that find no cell near their home, which
 /// are few unless keys are chosen against the hash, have theirs in a balanced tree.
-#[derive(Drop)]
 pub(crate) struct KeyNumbers {
     cells: KeyCells,
     // What the table has of a key comes before what the tree has.
     rest: BTreeMap<Key, u32>,
+}
+
+impl Drop for KeyNumbers {
+    fn drop(self) {
+        let KeyNumbers { cells: _, rest: _ } = self;
+    }
 }
 
 impl KeyNumbers {

@@ -15,7 +15,6 @@ use std::mem;
 ///
 /// The table grows as such keys come. A key that came before the table reached it has its place by its hash until it is
 /// put again; from then on that one is not read any more.
-#[derive(Drop)]
 pub struct KeyPlaces {
     // One more than the place of each key below the table's length, or 0.
     low: Vec<u32>,
@@ -24,6 +23,16 @@ pub struct KeyPlaces {
     // The table takes keys below this: TABLE_START, and KEY_SHARE more for each key that came past it and that the access
     // alone would let in. So a few high keys do not make it long.
     reach: u64,
+}
+
+impl Drop for KeyPlaces {
+    fn drop(self) {
+        let KeyPlaces {
+            low: _,
+            high: _,
+            reach: _,
+        } = self;
+    }
 }
 
 // An access lets keys below ACCESS_SHARE * place + TABLE_START into the table.

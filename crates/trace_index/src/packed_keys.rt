@@ -9,10 +9,18 @@ use std::alloc::{AllocError, Global};
 
 /// The keys of a trace's accesses, in order: in 4 bytes each while all of them fit, as the numbers
 /// of blocks mostly do, else in 8.
-#[derive(Drop)]
 pub(crate) enum PackedKeys {
     Short(Vec<u32>),
     Long(Vec<Key>),
+}
+
+impl Drop for PackedKeys {
+    fn drop(self) {
+        match self {
+            PackedKeys::Short(_) => {}
+            PackedKeys::Long(_) => {}
+        }
+    }
 }
 
 impl PackedKeys {

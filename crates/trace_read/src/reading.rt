@@ -24,7 +24,6 @@ const CHUNK: usize = 65_536;
 
 /// A trace that is read as its caller asks for accesses. It keeps the bytes of one piece, and of a line that a piece cut
 /// in two.
-#[derive(Drop)]
 pub struct Reading {
     format: Format,
     limits: Limits,
@@ -38,6 +37,22 @@ pub struct Reading {
     end: usize,
     // Whether the last line was ended.
     is_at_end: bool,
+}
+
+impl Drop for Reading {
+    fn drop(self) {
+        let Reading {
+            format: _,
+            limits: _,
+            scan: _,
+            run: _,
+            pieces: _,
+            chunk: _,
+            at: _,
+            end: _,
+            is_at_end: _,
+        } = self;
+    }
 }
 
 impl Reading {

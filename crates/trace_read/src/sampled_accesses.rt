@@ -13,12 +13,22 @@ use std::collections::HashSet;
 use std::hash::{BuildHasherDefault, FoldHasher};
 
 /// What a sample has so far: the blocks, how many accesses, and the text of the last of these.
-#[derive(Drop)]
 pub struct SampledAccesses {
     test: BlockTest,
     pub blocks: HashSet<Key, BuildHasherDefault<FoldHasher>, Global>,
     pub accesses: u64,
     pub text: Vec<u8>,
+}
+
+impl Drop for SampledAccesses {
+    fn drop(self) {
+        let SampledAccesses {
+            test: _,
+            blocks: _,
+            accesses: _,
+            text: _,
+        } = self;
+    }
 }
 
 impl SampledAccesses {

@@ -33,7 +33,6 @@ pub struct Taken {
 ///
 /// What it says is what the whole file comes to, for each list of bytes that may still follow: so
 /// no contract names the bytes that it took.
-#[derive(Drop)]
 pub struct Scan {
     alloc: Global,
     format: Format,
@@ -46,6 +45,20 @@ pub struct Scan {
     line: u64,
     // What is there of that line.
     partial_line: Vec<u8>,
+}
+
+impl Drop for Scan {
+    fn drop(self) {
+        let Scan {
+            alloc: _,
+            format: _,
+            max_accesses: _,
+            keys: _,
+            handed_on: _,
+            line: _,
+            partial_line: _,
+        } = self;
+    }
 }
 
 impl Scan {

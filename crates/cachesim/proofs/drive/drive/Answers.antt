@@ -120,7 +120,7 @@ returns g c =
     let first = c.in_ok-session.ensures in
     let pieces = map (λ p. p.items) c.in_ok-pieces.pieces.items in
     let run = c.drive-run.ensures in
-    let written = c.write_run-written in
+    let written = c.write_run in
     record {
       done = on_ok_weaker written.result (λ done. held c.drive-run.result done run.run run.legal (λ driven written run legal.
           journal_of_run arguments.config arguments.workers arguments.format input _ _ _ session first _ c.in_ok-trace.ensures.ok c.in_ok-pieces.ensures
@@ -138,8 +138,8 @@ returns g c =
       flushed = written.ensures.flushed;
     }
 
-pub write_run-written-requires : goal.write_run-written-requires
-write_run-written-requires g c =
+pub write_run-requires : goal.write_run-requires
+write_run-requires g c =
     let first = c.in_ok-session.ensures in
     let pieces = map (λ p. p.items) c.in_ok-pieces.pieces.items in
     let n : length pieces ≡ c.args.arguments.now.workers = c.in_ok-pieces.ensures.many in

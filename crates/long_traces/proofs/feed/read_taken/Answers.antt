@@ -3,7 +3,7 @@ use Rattle.sweeps.specs.Taking.{AreNext, Task}
 use Rattle.trace_read.proofs.Nexts.{ended, failed, gave_up, kept_on}
 use Rattle.long_traces.specs.Feed.{HasBegun, IsFed}
 use Rattle.long_traces.proofs.Fed.{AreWaiting, at_end, begun, more, none_wait, ready, taken_some, taken_to_end}
-use Rattle.long_traces.proofs.feed.read_taken.Goals.{After-drop-reading-3, After-len}
+use Rattle.long_traces.proofs.feed.read_taken.Goals.{After-drop-reading-2, After-len}
 use Rattle.long_traces.proofs.feed.read_taken.Goals as goal
 
 pub pieces-init : goal.pieces-init
@@ -109,7 +109,7 @@ returns-in_err-take-2 g c =
     record { some = search rules; taken = search rules; read = whole.read; tally = whole.tally }
 
 -- all that came is taken
-fed_all : (g : _) (c : After-drop-reading-3 g) (task : Task) → HasBegun (g.K.Taker.has_taken task) c.args.taker.now
+fed_all : (g : _) (c : After-drop-reading-2 g) (task : Task) → HasBegun (g.K.Taker.has_taken task) c.args.taker.now
     → IsFed (g.K.Taker.has_taken task) c.args.format (g.R.CountedRead.remaining c.args.reader.now) (c.pieces.invariant.place + length c.pieces.waiting.items) c.take-2.new.self
 fed_all g c task start =
     let i = c.pieces.invariant in

@@ -15,5 +15,5 @@ taken_by-requires-clause-begins g c κs within = (none, λ opened taker made tra
 pub returns-clause-footprint : goal.returns-clause-footprint
 returns-clause-footprint g c = IfSome_then (g.R.CountedRead.remaining c.args.reader.now) c.in_ok-counted.ensures.taken (λ b has.
     let all = keys_in c.args.format b in
-    c.footprint-footprint.ensures all
+    c.footprint.ensures all
     (subst (λ (keys : List ℕ). HasCounted keys c.in_ok-counted.counted.counter) (take_all (length all) all (omega arith)) (has none (λ opened taker made trace over. made))))

@@ -3,8 +3,8 @@ use Rattle.sweeps.specs.Taking.{Task}
 use Rattle.trace_read.specs.TraceText.{keys_in}
 use Rattle.long_traces.proofs.jobs.intervals.Goals as goal
 
-pub rows-rows-requires : goal.rows-rows-requires
-rows-rows-requires g c =
+pub rows-requires : goal.rows-requires
+rows-requires g c =
     let task : Task = record { jobs = c.args.jobs.now; every = c.args.every } in (task, c.in_ok-runs.ensures.some)
 
 pub returns-clause-rows : goal.returns-clause-rows

@@ -15,8 +15,8 @@ taken_by-requires-clause-begins g c κs within = (
   λ opened taker made trace over. made trace (over-each opened.now trace c.args.jobs.now _ c.some_know_trace-is_kept.ensures over),
 )
 
-pub text-text-requires : goal.text-text-requires
-text-text-requires g c =
+pub text-requires : goal.text-requires
+text-requires g c =
     let task : Task = record { jobs = c.args.jobs.now; every = c.args.every } in (
       task,
       c.in_ok-runs.ensures.some task (λ opened taker made trace over.

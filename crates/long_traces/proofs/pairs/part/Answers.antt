@@ -22,5 +22,5 @@ taken_by-requires-clause-begins g c κs within = (
 
 pub returns-clause-part : goal.returns-clause-part
 returns-clause-part g c = IfSome_then (g.R.CountedRead.remaining c.args.reader.now) c.in_ok-run.ensures.taken (λ b has.
-    c.found-found.ensures c.args.first.now c.args.second.now (keys_in c.args.format b) (has (both c.args.first.now c.args.second.now) (λ opened taker made trace over.
+    c.found.ensures c.args.first.now c.args.second.now (keys_in c.args.format b) (has (both c.args.first.now c.args.second.now) (λ opened taker made trace over.
     let each = over-both opened.now trace c.args.first.now c.args.second.now _ c.some_know_trace-is_kept.ensures over in made trace each.0 each.1)))

@@ -1,5 +1,5 @@
 use Rattle.std.proofs.Common.{ap, ◌∙◌, sym, subst, arith, Err}
-use Rattle.adaptive_window.specs.AdaptiveCache.{AdaptiveCacheState}
+use Rattle.queue_cache.specs.AdaptiveCache.{AdaptiveCacheState}
 use Rattle.engine_base.specs.Limited.{lifted}
 use Rattle.policies.specs.declared.any_policy.AnyPolicy.TheVariants.{Adaptive}
 use Rattle.policies.specs.Accesses.{IsStopped}

@@ -9,6 +9,6 @@ pub take_trace-requires-after_bounds : goal.take_trace-requires-after_bounds
 take_trace-requires-after_bounds g c κs within =
     (both c.args.first.now c.args.second.now c.args.every, c.in_ok-run.ensures c.args.trace.now (inl refl) (inl refl))
 
-pub returns-in-Ok-clause-run : goal.returns-in-Ok-clause-run
-returns-in-Ok-clause-run g c =
-    c.in-Ok.ensures (both c.args.first.now c.args.second.now c.args.every) (c.in_ok-run.ensures c.args.trace.now (inl refl) (inl refl))
+pub returns-clause-run : goal.returns-clause-run
+returns-clause-run g c =
+    c.in_ok-take_trace.ensures (both c.args.first.now c.args.second.now c.args.every) (c.in_ok-run.ensures c.args.trace.now (inl refl) (inl refl))

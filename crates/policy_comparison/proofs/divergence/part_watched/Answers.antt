@@ -6,11 +6,11 @@ use Rattle.policy_comparison.proofs.divergence.part_watched.Goals as goal
 abbrev both : Job → Job → Task
 both first second = record { jobs = first ∷ second ∷ []; every = 1 }
 
-pub take_trace-taken-requires-after_bounds : goal.take_trace-taken-requires-after_bounds
-take_trace-taken-requires-after_bounds g c κs within =
+pub take_trace-requires-after_bounds : goal.take_trace-requires-after_bounds
+take_trace-requires-after_bounds g c κs within =
     (both c.args.first.now c.args.second.now, c.in_ok-run.ensures c.args.trace.now (inl refl) (inl refl))
 
 pub returns-clause-part : goal.returns-clause-part
 returns-clause-part g c =
-    c.found-found.ensures c.args.first.now c.args.second.now c.args.trace.now
-    (c.in_ok-taken.ensures (both c.args.first.now c.args.second.now) (c.in_ok-run.ensures c.args.trace.now (inl refl) (inl refl)))
+    c.found.ensures c.args.first.now c.args.second.now c.args.trace.now
+    (c.in_ok-take_trace.ensures (both c.args.first.now c.args.second.now) (c.in_ok-run.ensures c.args.trace.now (inl refl) (inl refl)))

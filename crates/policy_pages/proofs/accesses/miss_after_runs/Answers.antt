@@ -1,6 +1,6 @@
 use Rattle.std.proofs.lemmas.Bool.Decides.{nat_tests}
 use Rattle.std.proofs.Common.{arith}
-use Rattle.queue_moves.proofs.Carried.{carried}
+use Rattle.queue_table.proofs.Carried.{carried}
 use Rattle.policy_pages.proofs.accesses.miss_after_runs.Goals as goal
 
 pub returns : goal.returns

@@ -1,6 +1,6 @@
 use Rattle.std.proofs.Common.{refl}
-use Rattle.queue_moves.specs.Moves.{no_run}
-use Rattle.queue_moves.proofs.Carried.{no-run}
+use Rattle.queue_table.specs.Moves.{no_run}
+use Rattle.queue_table.proofs.Carried.{no-run}
 use Rattle.policy_pages.proofs.accesses.miss_without_runs.Goals as goal
 
 pub returns : goal.returns

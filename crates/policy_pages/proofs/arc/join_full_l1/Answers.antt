@@ -1,7 +1,7 @@
 use Rattle.std.proofs.Common.{None, false, length, arith}
 use Rattle.std.proofs.lemmas.Bool.{lt-ltb, le-ltb}
 use Rattle.queue_table.specs.QueueTable.{queues}
-use Rattle.queue_moves.specs.Moves.{item_of, leaving, goes}
+use Rattle.queue_table.specs.Moves.{item_of, leaving, goes}
 use Rattle.policy_pages.specs.ArcPlan.{T1, B1, replaced}
 use Rattle.policy_pages.proofs.ArcPlan.{leaver-low}
 use Rattle.policy_pages.proofs.Leavers.{absent-left}

@@ -2,8 +2,8 @@ use Rattle.std.proofs.Common.{◌*◌, None, false, ◌∙◌, arith}
 use Rattle.std.proofs.lemmas.Bool.{lt-ltb, le-ltb, eq-eqb, ne_eqb}
 use Rattle.queue_table.specs.Queues.{Queues}
 use Rattle.queue_table.specs.QueueTable.{queues}
-use Rattle.queue_moves.specs.Moves.{item_of, leaving, goes}
-use Rattle.queue_moves.proofs.Laws.{nothing-left}
+use Rattle.queue_table.specs.Moves.{item_of, leaving, goes}
+use Rattle.queue_table.proofs.Laws.{nothing-left}
 use Rattle.policy_pages.specs.Leavers.{no_leavers}
 use Rattle.policy_pages.specs.ArcPlan.{T1, B2, total, replaced}
 use Rattle.policy_pages.proofs.ArcPlan.{leaver-low}

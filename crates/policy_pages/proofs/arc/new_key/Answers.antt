@@ -1,7 +1,7 @@
 use Rattle.std.proofs.Common.{◌≤◌, ◌*◌, sym, subst}
 use Rattle.queue_table.specs.QueueTable.{queues}
-use Rattle.queue_moves.specs.Moves.{item_of}
-use Rattle.queue_moves.specs.Undoing.{IsAccessed}
+use Rattle.queue_table.specs.Moves.{item_of}
+use Rattle.queue_table.specs.Undoing.{IsAccessed}
 use Rattle.policy_pages.specs.ArcPlan.{total, new_key_plan}
 use Rattle.policy_pages.proofs.Plans.{still-none}
 use Rattle.policy_pages.proofs.arc.new_key.Goals as goal

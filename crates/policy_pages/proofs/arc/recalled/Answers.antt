@@ -1,7 +1,7 @@
 use Rattle.std.proofs.Common.{arith}
 use Rattle.queue_table.specs.Entries.{entry}
 use Rattle.queue_table.specs.QueueTable.{queues}
-use Rattle.queue_moves.specs.Moves.{item_of, goes}
+use Rattle.queue_table.specs.Moves.{item_of, goes}
 use Rattle.policy_pages.specs.Leavers.{one_leaver}
 use Rattle.policy_pages.specs.ArcPlan.{T2, replaced}
 use Rattle.policy_pages.proofs.arc.recalled.Goals as goal

@@ -2,8 +2,8 @@ use Rattle.std.proofs.Common.{◌≡◌, arith, ◌∙◌, subst, sym}
 use Rattle.std.proofs.lemmas.Bool.Decides.{nat_tests}
 use Rattle.std.specs.Prelude.{◌==◌}
 use Rattle.queue_table.specs.QueueTable.{queues}
-use Rattle.queue_moves.specs.Moves.{Plan, item_of, goes}
-use Rattle.queue_moves.specs.Undoing.{IsAccessed}
+use Rattle.queue_table.specs.Moves.{Plan, item_of, goes}
+use Rattle.queue_table.specs.Undoing.{IsAccessed}
 use Rattle.policy_pages.specs.ArcPlan.{T2, B2, recall_plan, plan_in, plan_at}
 use Rattle.policy_pages.proofs.Plans.{found-accessed}
 use Rattle.policy_pages.proofs.arc.step.Goals.{then-in_b2, else-in_b2}

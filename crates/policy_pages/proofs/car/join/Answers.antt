@@ -1,9 +1,9 @@
 use Rattle.std.proofs.Common.{◌≡◌, ◌+◌, ◌*◌, length, arith, subst}
 use Rattle.queue_table.specs.Queues.{Queues}
 use Rattle.queue_table.specs.QueueTable.{queues}
-use Rattle.queue_moves.specs.Moves.{item_of, goes}
-use Rattle.queue_moves.specs.Undoing.{nothing_left}
-use Rattle.queue_moves.proofs.Laws.{nothing-left}
+use Rattle.queue_table.specs.Moves.{item_of, goes}
+use Rattle.queue_table.specs.Undoing.{nothing_left}
+use Rattle.queue_table.proofs.Laws.{nothing-left}
 use Rattle.policy_pages.specs.CarPlan.{T1, B1, total}
 use Rattle.policy_pages.specs.CarStep.{IsJoined}
 use Rattle.policy_pages.proofs.CarPlan.{forgets-none}

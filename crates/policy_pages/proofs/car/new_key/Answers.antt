@@ -2,8 +2,8 @@ use Rattle.std.proofs.Common.{◌+◌, length, arith, subst}
 use Rattle.std.proofs.lemmas.Bool.{lt-ltb, le-ltb}
 use Rattle.queue_table.specs.Queues.{Queues}
 use Rattle.queue_table.specs.QueueTable.{queues}
-use Rattle.queue_moves.specs.Moves.{item_of, goes}
-use Rattle.queue_moves.specs.Undoing.{IsAccessed}
+use Rattle.queue_table.specs.Moves.{item_of, goes}
+use Rattle.queue_table.specs.Undoing.{IsAccessed}
 use Rattle.policy_pages.specs.CarPlan.{T1, T2, promotions, after_promotions, giver, giver_turns, after_giver_turns, leaver, forgotten, full_plan}
 use Rattle.policy_pages.proofs.CarPlan.{replaced-none}
 use Rattle.policy_pages.proofs.car.new_key.Goals as goal

@@ -2,8 +2,8 @@ use Rattle.std.proofs.Common.{arith, ap, subst, ◌∙◌, None}
 use Rattle.queue_table.specs.Queues.{Queues}
 use Rattle.queue_table.specs.Entries.{entry}
 use Rattle.queue_table.specs.QueueTable.{queues}
-use Rattle.queue_moves.specs.Moves.{item_of, goes}
-use Rattle.queue_moves.specs.Undoing.{IsAccessed}
+use Rattle.queue_table.specs.Moves.{item_of, goes}
+use Rattle.queue_table.specs.Undoing.{IsAccessed}
 use Rattle.policy_pages.specs.Leavers.{one_leaver}
 use Rattle.policy_pages.specs.CarPlan.{T2, promotions, after_promotions, giver, giver_turns, after_giver_turns, leaver, target_after, full_plan}
 use Rattle.policy_pages.proofs.car.recalled.Goals as goal

@@ -1,7 +1,7 @@
 use Rattle.std.proofs.Common.{arith, ◌+◌, ◌≤◌, ◌∙◌, sym, subst, length}
 use Rattle.queue_table.specs.Queues.{Queues}
 use Rattle.queue_table.specs.QueueTable.{queues}
-use Rattle.queue_moves.specs.Moves.{item_of, counts}
+use Rattle.queue_table.specs.Moves.{item_of, counts}
 use Rattle.policy_pages.proofs.Plans.{still-none, found-accessed, new-accessed}
 use Rattle.policy_pages.proofs.QueueView.{length-counted}
 use Rattle.policy_pages.specs.CarPlan.{T1, T2, plan_at}

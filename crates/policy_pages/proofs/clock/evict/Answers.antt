@@ -1,7 +1,7 @@
 use Rattle.std.proofs.Common.{arith, None, refl}
 use Rattle.queue_table.specs.QueueTable.{queues}
-use Rattle.queue_moves.specs.Moves.{leaving, no_run, goes}
-use Rattle.queue_moves.proofs.Carried.{no-run}
+use Rattle.queue_table.specs.Moves.{leaving, no_run, goes}
+use Rattle.queue_table.proofs.Carried.{no-run}
 use Rattle.policy_pages.specs.ClockPlan.{clock_eviction_plan}
 use Rattle.policy_pages.proofs.Leavers.{absent-run}
 use Rattle.policy_pages.proofs.clock.evict.Goals as goal

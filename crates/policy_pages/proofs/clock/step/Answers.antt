@@ -1,7 +1,7 @@
 use Rattle.std.proofs.Common.{refl, arith}
 use Rattle.std.proofs.lemmas.Bool.{lt-ltb, le-ltb}
 use Rattle.queue_table.specs.QueueTable.{queues}
-use Rattle.queue_moves.specs.Moves.{item_of, counts, goes}
+use Rattle.queue_table.specs.Moves.{item_of, counts, goes}
 use Rattle.policy_pages.specs.ClockPlan.{clock_plan, clock_eviction_plan}
 use Rattle.policy_pages.proofs.Plans.{by-plan, still-none, hit-plan, join-plan, full-plan}
 use Rattle.policy_pages.proofs.clock.step.Goals as goal

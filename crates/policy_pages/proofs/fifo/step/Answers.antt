@@ -1,8 +1,8 @@
 use Rattle.std.proofs.Common.{None, refl, arith}
 use Rattle.std.proofs.lemmas.Bool.{lt-ltb, le-ltb}
 use Rattle.queue_table.specs.QueueTable.{queues}
-use Rattle.queue_moves.specs.Moves.{item_of, leaving, no_run, stays, goes}
-use Rattle.queue_moves.proofs.Carried.{no-run}
+use Rattle.queue_table.specs.Moves.{item_of, leaving, no_run, stays, goes}
+use Rattle.queue_table.proofs.Carried.{no-run}
 use Rattle.policy_pages.specs.Plans.{leaver_plan}
 use Rattle.policy_pages.specs.FifoPlan.{QUEUE, fifo_plan}
 use Rattle.policy_pages.proofs.Plans.{by-plan, still-none, hit-plan, join-plan, full-plan}

@@ -2,8 +2,8 @@ use Rattle.std.proofs.Common.{Option, subst}
 use Rattle.queue_table.specs.Entries.{entry}
 use Rattle.queue_table.specs.Queues.{Queues}
 use Rattle.queue_table.specs.QueueTable.{queues}
-use Rattle.queue_moves.specs.Moves.{item_of, goes}
-use Rattle.queue_moves.specs.Undoing.{IsOwn}
+use Rattle.queue_table.specs.Moves.{item_of, goes}
+use Rattle.queue_table.specs.Undoing.{IsOwn}
 use Rattle.policy_pages.specs.MissedKey.{Found, CanEnter}
 use Rattle.policy_pages.proofs.missed_key.enter_for_oldest.Goals as goal
 

@@ -3,7 +3,7 @@ use Rattle.std.proofs.Common.{nat_lt, Some, length, ◌∙◌, sym, arith}
 use Rattle.std.proofs.lemmas.Bool.{or_parts}
 use Rattle.queue_table.specs.Queues.{Queues}
 use Rattle.queue_table.specs.QueueTable.{queues}
-use Rattle.queue_moves.specs.Moves.{item_of, leaving}
+use Rattle.queue_table.specs.Moves.{item_of, leaving}
 use Rattle.policy_pages.proofs.MissedKey.{enters-after-leaver}
 use Rattle.policy_pages.proofs.Leavers.{none-left}
 use Rattle.policy_pages.proofs.missed_key.enter_for_remembered.Goals as goal

@@ -1,8 +1,8 @@
 use Rattle.std.proofs.Common.{arith, rules, ◌≡◌, None, ap, ◌∙◌, sym, refl}
 use Rattle.queue_table.specs.Queues.{Queues}
 use Rattle.queue_table.specs.QueueTable.{queues}
-use Rattle.queue_moves.specs.Moves.{item_of, no_run, leaving, goes}
-use Rattle.queue_moves.proofs.Carried.{no-run}
+use Rattle.queue_table.specs.Moves.{item_of, no_run, leaving, goes}
+use Rattle.queue_table.proofs.Carried.{no-run}
 use Rattle.policy_pages.specs.Plans.{Run}
 use Rattle.policy_pages.specs.Leavers.{one_leaver, leavers_for_ghost}
 use Rattle.policy_pages.specs.S3FifoPlan.{SMALL, MAIN, GHOST, main_turns}

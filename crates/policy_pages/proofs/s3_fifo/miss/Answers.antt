@@ -3,7 +3,7 @@ use Rattle.std.proofs.Common.{rules, sym, ◌+◌, length, ap, arith}
 use Rattle.std.proofs.lemmas.Bool.{lt-ltb, le-ltb}
 use Rattle.queue_table.specs.Queues.{Queues}
 use Rattle.queue_table.specs.QueueTable.{queues}
-use Rattle.queue_moves.specs.Moves.{item_of, goes}
+use Rattle.queue_table.specs.Moves.{item_of, goes}
 use Rattle.policy_pages.specs.S3FifoPlan.{Run, SMALL, MAIN, GHOST}
 use Rattle.policy_pages.proofs.MissedKey.{outside-after-run}
 use Rattle.policy_pages.proofs.S3FifoPlan.{resident-count, main-few}

@@ -2,8 +2,8 @@ use Rattle.std.proofs.Common.{false, ◌∙◌, sym, subst, arith}
 use Rattle.queue_table.specs.Queues.{Queues}
 use Rattle.queue_table.specs.QueueTable.{queues}
 use Rattle.policy_pages.specs.S3Fifo.{hit_count, IsS3Fifo}
-use Rattle.queue_moves.specs.Moves.{item_of, counts}
-use Rattle.queue_moves.specs.Undoing.{IsOwn}
+use Rattle.queue_table.specs.Moves.{item_of, counts}
+use Rattle.queue_table.specs.Undoing.{IsOwn}
 use Rattle.policy_pages.specs.S3FifoPlan.{SMALL, MAIN, GHOST, s3_fifo_of, plan_at}
 use Rattle.policy_pages.proofs.MissedKey.{new-outside}
 use Rattle.policy_pages.proofs.Plans.{found-accessed, new-accessed}

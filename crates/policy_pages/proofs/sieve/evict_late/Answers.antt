@@ -1,7 +1,7 @@
 use Rattle.std.proofs.Common.{arith, None, refl, subst}
 use Rattle.queue_table.specs.QueueTable.{queues}
-use Rattle.queue_moves.specs.Moves.{item_of, leaving, after_leaving, goes}
-use Rattle.queue_moves.specs.Undoing.{IsAccessed}
+use Rattle.queue_table.specs.Moves.{item_of, leaving, after_leaving, goes}
+use Rattle.queue_table.specs.Undoing.{IsAccessed}
 use Rattle.policy_pages.specs.SievePlan.{pass_run, sieve_eviction_plan}
 use Rattle.policy_pages.proofs.SievePlan.{eviction}
 use Rattle.policy_pages.proofs.Leavers.{absent-run}

@@ -1,6 +1,6 @@
 use Rattle.std.proofs.lemmas.Bool.Decides.{nat_tests}
 use Rattle.std.proofs.Common.{arith}
-use Rattle.queue_moves.proofs.Runs.{no-due}
+use Rattle.queue_table.proofs.Runs.{no-due}
 use Rattle.policy_pages.proofs.sieve.pass.Goals.{then-stopped, else-stopped}
 use Rattle.policy_pages.proofs.sieve.pass.Goals as goal
 

@@ -1,6 +1,6 @@
 use Rattle.std.proofs.Common.{sym, ◌∙◌, refl}
 use Rattle.queue_table.specs.QueueTable.{queues}
-use Rattle.queue_moves.specs.Moves.{item_of, counts, goes}
+use Rattle.queue_table.specs.Moves.{item_of, counts, goes}
 use Rattle.policy_pages.specs.SievePlan.{sieve_plan, sieve_eviction_plan}
 use Rattle.policy_pages.proofs.Plans.{by-plan, still-none, hit-plan, join-plan, full-plan}
 use Rattle.policy_pages.proofs.sieve.step.Goals as goal

@@ -2,7 +2,7 @@ use Rattle.std.proofs.Common.{◌≡◌, ◌+◌, ◌||◌, ◌==◌, nat_lt, tr
 use Rattle.std.proofs.lemmas.Bool.{lt-ltb, le-ltb}
 use Rattle.queue_table.specs.Queues.{Queues}
 use Rattle.queue_table.specs.QueueTable.{queues}
-use Rattle.queue_moves.specs.Moves.{item_of, leaving, goes}
+use Rattle.queue_table.specs.Moves.{item_of, leaving, goes}
 use Rattle.policy_pages.specs.Leavers.{one_leaver, leavers_for_ghost}
 use Rattle.policy_pages.specs.TwoQPlan.{A1IN, A1OUT, AM}
 use Rattle.policy_pages.proofs.two_q.miss.Goals as goal

@@ -1,7 +1,7 @@
 use Rattle.std.proofs.Common.{false, arith}
 use Rattle.std.proofs.lemmas.Bool.{eq-eqb}
 use Rattle.queue_table.specs.QueueTable.{queues}
-use Rattle.queue_moves.specs.Moves.{item_of, stays, goes}
+use Rattle.queue_table.specs.Moves.{item_of, stays, goes}
 use Rattle.policy_pages.specs.TwoQPlan.{A1IN, A1OUT, AM, plan_at}
 use Rattle.policy_pages.proofs.MissedKey.{new-outside}
 use Rattle.policy_pages.proofs.Plans.{found-accessed, new-accessed}

@@ -10,12 +10,12 @@ pub take_trace-requires-after_bounds : goal.take_trace-requires-after_bounds
 take_trace-requires-after_bounds g c κs within =
     let task : Task = record { jobs = c.args.jobs.now; every = c.args.every } in (task, c.in_ok-runs.ensures c.args.trace.now (λ k d lt. inl refl))
 
-pub rows-rows-requires : goal.rows-rows-requires
-rows-rows-requires g c =
+pub rows-requires : goal.rows-requires
+rows-requires g c =
     let task : Task = record { jobs = c.args.jobs.now; every = c.args.every } in
     (task, record { trace = c.args.trace.now; taken = c.in_ok-take_trace.ensures task (c.in_ok-runs.ensures c.args.trace.now (λ k d lt. inl refl)) })
 
 pub returns : goal.returns
 returns g c =
     let task : Task = record { jobs = c.args.jobs.now; every = c.args.every } in
-    c.rows-rows.ensures task c.args.trace.now (c.in_ok-take_trace.ensures task (c.in_ok-runs.ensures c.args.trace.now (λ k d lt. inl refl)))
+    c.rows.ensures task c.args.trace.now (c.in_ok-take_trace.ensures task (c.in_ok-runs.ensures c.args.trace.now (λ k d lt. inl refl)))

@@ -5,6 +5,6 @@ use Rattle.sweeps.proofs.numbered_report.report_by_numbers.Goals as goal
 
 pub returns : goal.returns
 returns g c trace are =
-    c.of.ensures ∙ ap (report_of c.args.job.now) c.stats-stats.ensures
-    ∙ numbered-report c.demand_ignores_names.ensures c.args.job.now c.args.policy c.requires.checked c.requires.policy trace c.as_slice.result.now c.new-cache.result c.access_in_batches-made.new.cache
-    c.new-cache.ensures.queues c.new-cache.ensures.stats (c.as_slice.ensures.numbers ∙ are) c.in_ok-made.ensures
+    c.of.ensures ∙ ap (report_of c.args.job.now) c.stats.ensures
+    ∙ numbered-report c.demand_ignores_names.ensures c.args.job.now c.args.policy c.requires.checked c.requires.policy trace c.as_slice.result.now c.new-cache.result c.access_in_batches.new.cache
+    c.new-cache.ensures.queues c.new-cache.ensures.stats (c.as_slice.ensures.numbers ∙ are) c.in_ok-access_in_batches.ensures

@@ -1,8 +1,8 @@
 use Rattle.std.proofs.Common.{◌≡◌, ◌∙◌, false, rules, ap, sym, subst}
 use Rattle.engine_base.specs.Keys.{has_key}
 use Rattle.queue_table.specs.QueueTable.{queues}
-use Rattle.queue_moves.specs.Lists.{lists_of}
-use Rattle.queue_moves.specs.Moves.{item_of}
+use Rattle.queue_table.specs.Lists.{lists_of}
+use Rattle.queue_table.specs.Moves.{item_of}
 use Rattle.demand_cache.specs.DemandQueues.{queues_residents}
 use Rattle.demand_cache.specs.DemandPolicy.{page_of, plan_by}
 use Rattle.demand_cache.specs.DemandCache.{DemandState, IsDemand, IsCountedBy, state_of, demand_act}

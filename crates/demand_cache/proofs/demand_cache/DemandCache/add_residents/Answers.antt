@@ -1,6 +1,6 @@
 use Rattle.std.proofs.Common.{◌≡◌, ◌++◌, ◌∙◌, OnOk, List, ℕ, ap, sym, subst, append_assoc}
 use Rattle.queue_table.specs.QueueTable.{queues}
-use Rattle.queue_moves.specs.Tabled.{keys_of}
+use Rattle.queue_table.specs.Tabled.{keys_of}
 use Rattle.policy_pages.specs.PolicyPage.{keys_with}
 use Rattle.demand_cache.specs.DemandCache.{DemandState}
 use Rattle.demand_cache.specs.DemandQueues.{queues_residents}

@@ -2,7 +2,7 @@ use Rattle.std.proofs.Common.{◌∙◌, ap, sym}
 use Rattle.queue_table.specs.QueueTable.{queues}
 use Rattle.queue_table.specs.Queues.{Queues}
 use Rattle.segments.specs.KeyRow.{row_of}
-use Rattle.queue_moves.proofs.Tabled.{lists-shown}
+use Rattle.queue_table.proofs.Tabled.{lists-shown}
 use Rattle.demand_cache.specs.DemandCache.{DemandState}
 use Rattle.demand_cache.specs.DemandPolicy.{named_by}
 use Rattle.demand_cache.specs.DemandQueues.{queues_named}

@@ -1,7 +1,7 @@
 use Rattle.std.proofs.Common.{◌≡◌, ◌∙◌, false, rules, ap, sym, subst}
 use Rattle.engine_base.specs.Keys.{has_key}
 use Rattle.queue_table.specs.QueueTable.{queues}
-use Rattle.queue_moves.specs.Lists.{lists_of}
+use Rattle.queue_table.specs.Lists.{lists_of}
 use Rattle.demand_cache.specs.DemandQueues.{queues_residents, queues_record_of}
 use Rattle.demand_cache.specs.DemandCache.{DemandState, IsDemand, state_of, demand_act, demand_record_of}
 use Rattle.demand_cache.proofs.Keeping.{pages-sound}

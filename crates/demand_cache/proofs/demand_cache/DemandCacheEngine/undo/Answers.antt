@@ -1,7 +1,7 @@
 use Rattle.std.proofs.lemmas.Bool.Decides.{nat_tests}
 use Rattle.std.proofs.Common.{arith, ◌∙◌, ap, sym, subst}
 use Rattle.queue_table.specs.QueueTable.{queues}
-use Rattle.queue_moves.specs.Lists.{lists_of}
+use Rattle.queue_table.specs.Lists.{lists_of}
 use Rattle.demand_cache.specs.DemandQueues.{DemandQueues, queues_undone}
 use Rattle.demand_cache.specs.DemandCache.{DemandState, IsDemand, state_of, demand_undone, DemandFits}
 use Rattle.demand_cache.proofs.Engine.{undone-shown, moves-fit}

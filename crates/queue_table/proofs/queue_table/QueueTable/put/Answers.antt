@@ -10,7 +10,7 @@ use Rattle.queue_table.proofs.Calls.{counted-sent, some-counted}
 use Rattle.queue_table.proofs.Tables.{section-kept, place-free}
 use Rattle.queue_table.proofs.Kept.{some-slots, distinct-in, on_view, section-few as fits}
 use Rattle.queue_table.proofs.Growing.{lacks}
-use Rattle.queue_table.proofs.Moves.{IsLoose, with-item, free-loose, free-index, can-go, in-index, recent-after, back-after, spare-taken, slots-stay, joins, kept-after}
+use Rattle.queue_table.proofs.Moving.{IsLoose, with-item, free-loose, free-index, can-go, in-index, recent-after, back-after, spare-taken, slots-stay, joins, kept-after}
 use Rattle.queue_table.proofs.queue_table.QueueTable.put.Given as given
 use Rattle.queue_table.proofs.queue_table.QueueTable.put.Goals as goal
 use Rattle.queue_table.proofs.queue_table.QueueTable.put.Goals.{After-deref_mut-slots, After-newest_free-at, After-set_item}

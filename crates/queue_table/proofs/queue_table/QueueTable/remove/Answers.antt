@@ -5,7 +5,7 @@ use Rattle.queue_table.specs.Ring.{Slot, entries, slot_item, count, used, order_
 use Rattle.queue_table.specs.QueueTable.{IsCounted, IsKept}
 use Rattle.queue_table.proofs.Kept.{known, on_view}
 use Rattle.queue_table.proofs.Growing.{leaves}
-use Rattle.queue_table.proofs.Moves.{IsLoose, used-loose, can-leave, can-go, lists-left, used-left, spare-left, others-left, kept-left}
+use Rattle.queue_table.proofs.Moving.{IsLoose, used-loose, can-leave, can-go, lists-left, used-left, spare-left, others-left, kept-left}
 use Rattle.queue_table.proofs.queue_table.QueueTable.remove.Given as given
 use Rattle.queue_table.proofs.queue_table.QueueTable.remove.Goals as goal
 use Rattle.queue_table.proofs.queue_table.QueueTable.remove.Goals.{After-deref_mut-slots, After-release}

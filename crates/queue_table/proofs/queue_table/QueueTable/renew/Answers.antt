@@ -7,7 +7,7 @@ use Rattle.queue_table.specs.QueueTable.{IsCounted, IsIndexOf, IsKept}
 use Rattle.queue_table.proofs.QueueLists.{absent, still-absent}
 use Rattle.queue_table.proofs.Kept.{known, on_view}
 use Rattle.queue_table.proofs.Growing.{leaves, lacks}
-use Rattle.queue_table.proofs.Moves.{IsLoose, with-item, used-loose, can-leave, can-go, in-index, recent-after, spare-same, others-stay, joins, kept-after}
+use Rattle.queue_table.proofs.Moving.{IsLoose, with-item, used-loose, can-leave, can-go, in-index, recent-after, spare-same, others-stay, joins, kept-after}
 use Rattle.queue_table.proofs.queue_table.QueueTable.renew.Given as given
 use Rattle.queue_table.proofs.queue_table.QueueTable.renew.Goals as goal
 use Rattle.queue_table.proofs.queue_table.QueueTable.renew.Goals.{After-deref_mut-slots, After-remove, After-set_item}

@@ -5,7 +5,7 @@ use Rattle.queue_table.specs.Ring.{Slot, entries, slot_item, lists, Order, Chang
 use Rattle.queue_table.specs.QueueTable.{IsKept}
 use Rattle.queue_table.proofs.Counting.{order-counted, lists-counted, others-counted, kept-counted}
 use Rattle.queue_table.proofs.Kept.{on_view}
-use Rattle.queue_table.proofs.Moves.{IsLoose, used-loose}
+use Rattle.queue_table.proofs.Moving.{IsLoose, used-loose}
 use Rattle.queue_table.proofs.queue_table.QueueTable.set_count.Given as given
 use Rattle.queue_table.proofs.queue_table.QueueTable.set_count.Goals as goal
 use Rattle.queue_table.proofs.queue_table.QueueTable.set_count.Goals.{After-deref_mut-slots, After-set_count}

@@ -5,7 +5,7 @@ use Rattle.queue_table.specs.Ring.{Slot, entries, slot_item, order_of, sent, lis
 use Rattle.queue_table.specs.QueueTable.{IsCounted, IsKept}
 use Rattle.queue_table.proofs.QueueLists.{absent-taken}
 use Rattle.queue_table.proofs.Kept.{on_view}
-use Rattle.queue_table.proofs.Moves.{IsLoose, used-loose, can-leave, can-go, recent-after, back-after, spare-same, others-stay, stays, kept-after}
+use Rattle.queue_table.proofs.Moving.{IsLoose, used-loose, can-leave, can-go, recent-after, back-after, spare-same, others-stay, stays, kept-after}
 use Rattle.queue_table.proofs.queue_table.QueueTable.shift.Given as given
 use Rattle.queue_table.proofs.queue_table.QueueTable.shift.Goals as goal
 use Rattle.queue_table.proofs.queue_table.QueueTable.shift.Goals.{After-deref_mut-slots, After-send}

@@ -1,4 +1,0 @@
-pub mod Moves
-pub mod Undoing
-pub mod Tabled
-pub mod Lists
